@@ -1,0 +1,2 @@
+pub mod Oid
+pub mod Syntax

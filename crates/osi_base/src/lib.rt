@@ -1,0 +1,24 @@
+//! The words that all layers of the stack share: octets, names, object identifiers, transfer
+//! syntaxes, pairs, kinds of fault, and the traits of the outside.
+#![tactic(auto)]
+
+mod copied;
+mod fault;
+mod list;
+mod name;
+mod octets;
+mod oid;
+mod syntax;
+mod words;
+
+pub use copied::Copied;
+pub use fault::NoMemory;
+pub use list::ListOf;
+pub use name::{Name, Words};
+pub use octets::Octets;
+pub use oid::{Oid, are_oid};
+pub use syntax::{Pair, Syntax};
+pub use words::{
+    AddAnswer, AddAnswers, Answers, Ids, Indices, Kind, Layer, Oids, Problem, ProblemKind,
+    Proposal, Proposals, RestoredItem, RestoredList, SetItem, SetList, Side, Status,
+};

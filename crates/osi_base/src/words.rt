@@ -1,0 +1,161 @@
+//! Small words between the layers.
+
+use crate::copied::Copied;
+use crate::fault::NoMemory;
+use crate::list::ListOf;
+use crate::octets::Octets;
+use crate::oid::Oid;
+use crate::syntax::Pair;
+use std::alloc::Global;
+
+/// Numbers of contexts, as a list.
+pub type Ids = ListOf<u32>;
+/// Places in a table, as a list.
+pub type Indices = ListOf<u32>;
+/// Object identifiers, as a list.
+pub type Oids = ListOf<Oid>;
+
+/// One of the two ends.
+#[derive(Clone, Copy, Debug, PartialEq, Eq)]
+pub enum Side {
+    A,
+    B,
+}
+
+/// How a field breaks a grammar.
+#[derive(Clone, Copy, Debug, PartialEq, Eq)]
+pub enum Kind {
+    /// It begins with what may not stand there.
+    Tag,
+    /// What must stand there lacks.
+    Missing,
+    /// It stands where nothing may follow.
+    Extra,
+    /// Its length can't be.
+    Length,
+    /// Its contents break the rule of its type.
+    Content,
+    /// It isn't in the one form that is asked for.
+    Form,
+}
+
+/// The layer that found a fault.
+#[derive(Clone, Copy, Debug, PartialEq, Eq)]
+pub enum Layer {
+    Transport,
+    Session,
+    Presentation,
+    Acse,
+    Rtse,
+    Rose,
+}
+
+/// What a reject speaks of (X.880 8.4).
+#[derive(Clone, Copy, Debug, PartialEq, Eq)]
+pub enum ProblemKind {
+    General,
+    Invoke,
+    Result,
+    Error,
+}
+
+/// The problem that a reject carries (X.880 8.4).
+#[derive(Clone, Copy, Debug, PartialEq, Eq)]
+pub struct Problem {
+    pub kind: ProblemKind,
+    pub number: i64,
+}
+
+/// How a run of the program ended.
+#[derive(Clone, Copy, Debug, PartialEq, Eq)]
+pub enum Status {
+    /// The command's work is whole.
+    Done,
+    /// The words aren't a command.
+    Usage,
+    /// A file could not be read.
+    ReadFault,
+    /// The output could not be written.
+    WriteFault,
+    /// The line could not be opened.
+    LineFault,
+    /// The module was refused.
+    ModuleRefused,
+    /// The second file was refused.
+    ScriptRefused,
+    /// The association ended before the script did.
+    Ended,
+    /// A connection brought more octets than are read.
+    Spent,
+    /// An allocation was refused.
+    NoMemory,
+}
+
+/// A context of a set: its identifier, and what it stands for (X.216 3.3.15).
+#[derive(Debug, Drop)]
+pub struct SetItem {
+    pub id: u32,
+    pub pair: Pair,
+}
+
+/// A set of contexts, by rising identifier.
+pub type SetList = ListOf<SetItem>;
+
+/// An item of the list that a restart carries (X.226 7.9).
+#[derive(Debug, Drop)]
+pub struct RestoredItem {
+    pub id: u32,
+    pub transfer: Oid,
+}
+
+/// The list that a restart carries, as it stood on the wire.
+pub type RestoredList = ListOf<RestoredItem>;
+
+/// A proposed context: its identifier, its abstract syntax and the transfer syntaxes that are
+/// offered for it (X.226 7.2.3).
+#[derive(Debug, Drop)]
+pub struct Proposal {
+    pub id: u32,
+    pub abstract_name: Oid,
+    pub transfers: Oids,
+}
+
+/// Proposed contexts, in the order in which they are answered.
+pub type Proposals = ListOf<Proposal>;
+
+/// The answer to one addition: 0 accepted, 1 rejected by the user, 2 by the provider (X.226 8.2).
+#[derive(Debug, Drop)]
+pub struct AddAnswer {
+    pub result: u8,
+    pub transfer: Option<Oid>,
+    pub reason: Option<u8>,
+}
+
+/// Answers to additions, in the order of the proposals.
+pub type AddAnswers = ListOf<AddAnswer>;
+
+/// The answers to an alteration: one for each addition, and 0 or 1 for each deletion.
+#[derive(Debug, Drop)]
+pub struct Answers {
+    pub added: AddAnswers,
+    pub deleted: Octets,
+}
+
+impl Copied for SetItem {
+    fn copy(&self, alloc: Global) -> Result<SetItem, NoMemory> {
+        Ok(SetItem {
+            id: self.id,
+            pair: self.pair.copy(alloc)?,
+        })
+    }
+}
+
+impl Copied for Proposal {
+    fn copy(&self, alloc: Global) -> Result<Proposal, NoMemory> {
+        Ok(Proposal {
+            id: self.id,
+            abstract_name: self.abstract_name.copy(alloc)?,
+            transfers: self.transfers.copy(alloc)?,
+        })
+    }
+}
