@@ -1,2 +1,3 @@
 pub mod Oid
+pub mod Outside
 pub mod Syntax

@@ -4,19 +4,23 @@
 
 mod copied;
 mod fault;
+mod files;
 mod list;
 mod name;
 mod octets;
 mod oid;
+mod sink;
 mod syntax;
 mod words;
 
 pub use copied::Copied;
 pub use fault::NoMemory;
+pub use files::{FILE_MOST, FileFault, Files};
 pub use list::ListOf;
 pub use name::{Name, Words};
 pub use octets::Octets;
 pub use oid::{Oid, are_oid};
+pub use sink::{Sink, SinkFault, write_all};
 pub use syntax::{Pair, Syntax};
 pub use words::{
     AddAnswer, AddAnswers, Answers, Ids, Indices, Kind, Layer, Oids, Problem, ProblemKind,

@@ -1,0 +1,37 @@
+-- What the objects outside tell: counts of faults, octets written, logs of calls.
+use Rattle.std.specs.Prelude.{Option, ◌≡◌, ℕ, ◌+◌, ◌<◌, ◌≤◌, min, List, ◌∷◌, ◌++◌, length, take, None, Some, IsSomeAnd, IfSome}
+
+-- the last value of a count, which has 64 bits
+abbrev pub last_count : ℕ
+last_count = 18446744073709551615
+
+-- a count of faults rose by one or more, or stands at its last value
+abbrev pub Rose : ℕ → ℕ → Type 0
+Rose old new = min (old + 1) last_count ≤ new
+
+-- the opposite of a rise: the object didn't fail
+abbrev pub IsCalm : ℕ → ℕ → Type 0
+IsCalm old new = new < min (old + 1) last_count
+
+-- the contents of files by their names
+abbrev pub FileMap : Type 0
+FileMap = List ℕ → Option (List ℕ)
+
+-- a map of files is told, and has no file of this name
+abbrev pub Lacks : Option FileMap → List ℕ → Type 0
+Lacks told name = IsSomeAnd told (λ files. files name ≡ None)
+
+-- a map of files is told, and has these contents under the name
+abbrev pub Holds : Option FileMap → List ℕ → List ℕ → Type 0
+Holds told name contents = IsSomeAnd told (λ files. files name ≡ Some contents)
+
+-- what is told once these octets were put at the end
+abbrev pub grown : Option (List ℕ) → List ℕ → Option (List ℕ)
+grown None bytes = None
+grown (Some octets) bytes = Some (octets ++ bytes)
+
+-- what is told grew by a beginning of these octets
+pub record GrewPart (old new : Option (List ℕ)) (bytes : List ℕ) : Type 0 where
+  pub count : ℕ
+  pub within : count ≤ length bytes
+  pub told : new ≡ grown old (take count bytes)

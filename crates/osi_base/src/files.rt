@@ -1,0 +1,67 @@
+//! Files that are read by name.
+
+ghost use Rattle.std.specs.Prelude.{Option, ◌≡◌, ◌≤◌, ℕ, List, length, IfOk, IfSome, IsErrOf};
+
+ghost use Rattle.osi_base.specs.Outside.{Rose, FileMap, Lacks};
+ghost use Rattle.osi_base.specs.declared.files.FileFault.TheVariants.{NoMemory};
+
+use crate::fault;
+use crate::name::Name;
+use crate::octets::Octets;
+use std::alloc::{AllocError, Global};
+
+/// How many octets of a file are handed up at most: one more than any file that is read whole
+/// may have, so that a file which is too long is seen to be.
+pub const FILE_MOST: usize = 16_777_217;
+
+/// Why a file could not be read.
+#[derive(Clone, Copy, Debug, PartialEq, Eq)]
+pub enum FileFault {
+    /// Reading failed.
+    Failed,
+    /// There is no file of this name.
+    Missing,
+    /// An allocation was refused.
+    NoMemory,
+}
+
+impl From<fault::NoMemory> for FileFault {
+    ghost from_gives = { λ _ fault. fault ≡ NoMemory };
+
+    fn from(_error: fault::NoMemory) -> FileFault {
+        FileFault::NoMemory
+    }
+}
+
+impl From<AllocError> for FileFault {
+    ghost from_gives = { λ _ fault. fault ≡ NoMemory };
+
+    fn from(_error: AllocError) -> FileFault {
+        FileFault::NoMemory
+    }
+}
+
+/// Files that are read by name. An object may tell their contents; then `Missing` comes exactly
+/// where it tells that there is no such file, and else never.
+pub trait Files {
+    // How often reading failed: a count that never falls, and stands still at its last value.
+    ghost faults: { Self → ℕ };
+
+    // The contents by name, where the object tells them.
+    ghost told: { Self → Option FileMap };
+
+    /// The contents of the file of this name, or the first `FILE_MOST` octets of them.
+    fn read(&mut self, alloc: Global, name: &Name) -> Result<Octets, FileFault>
+        ensures count { faults self.old ≤ faults self.new }
+        ensures kept { told self.new ≡ told self.old }
+
+        // What is handed up
+        ensures contents { IfOk result (λ octets. IfSome (told self.old) (λ files. files name.now ≡ Some octets)) }
+        ensures bounded { IfOk result (λ octets. length octets ≤ FILE_MOST) }
+        ensures told_bounded { IfSome (told self.old) (λ files. IfSome (files name.now) (λ octets. length octets ≤ FILE_MOST)) }
+
+        // Why nothing is
+        ensures failed { IsErrOf result FileFault.Failed → Rose (faults self.old) (faults self.new) }
+        ensures missing { IsErrOf result FileFault.Missing → Lacks (told self.old) name.now }
+        ensures no_memory { IsErrOf result FileFault.NoMemory → faults self.new ≡ faults self.old };
+}
