@@ -1,3 +1,4 @@
+pub mod Memory
 pub mod Oid
 pub mod Outside
 pub mod Syntax

@@ -35,3 +35,12 @@ pub record GrewPart (old new : Option (List ℕ)) (bytes : List ℕ) : Type 0 wh
   pub count : ℕ
   pub within : count ≤ length bytes
   pub told : new ≡ grown old (take count bytes)
+
+-- a log of calls, the newest first, once this call was made
+abbrev pub logged : {Call : Type 0} → Call → Option (List Call) → Option (List Call)
+logged call None = None
+logged call (Some log) = Some (call ∷ log)
+
+-- how many octets were read, once so many more are: the number stands still at its last value
+abbrev pub counted : ℕ → ℕ → ℕ
+counted old more = min (old + more) last_count

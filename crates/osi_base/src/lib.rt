@@ -3,9 +3,11 @@
 #![tactic(auto)]
 
 mod copied;
+mod failing;
 mod fault;
 mod files;
 mod list;
+mod memory;
 mod name;
 mod octets;
 mod oid;
@@ -14,9 +16,11 @@ mod syntax;
 mod words;
 
 pub use copied::Copied;
+pub use failing::FailingCalls;
 pub use fault::NoMemory;
 pub use files::{FILE_MOST, FileFault, Files};
 pub use list::ListOf;
+pub use memory::{MemFile, MemFiles, MemSink, SureFiles, SureSink};
 pub use name::{Name, Words};
 pub use octets::Octets;
 pub use oid::{Oid, are_oid};

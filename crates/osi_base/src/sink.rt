@@ -5,6 +5,7 @@ ghost use Rattle.std.specs.Prelude.{Option, ◌≡◌, ◌<◌, ◌≤◌, ℕ, 
 ghost use Rattle.osi_base.specs.Outside.{Rose, grown, GrewPart};
 ghost use Rattle.osi_base.specs.declared.sink.SinkFault.TheVariants.{NoMemory};
 
+use crate::fault;
 use std::alloc::AllocError;
 
 /// Why octets could not be written.
@@ -14,6 +15,14 @@ pub enum SinkFault {
     Failed,
     /// An allocation was refused.
     NoMemory,
+}
+
+impl From<fault::NoMemory> for SinkFault {
+    ghost from_gives = { λ _ fault. fault ≡ NoMemory };
+
+    fn from(_error: fault::NoMemory) -> SinkFault {
+        SinkFault::NoMemory
+    }
 }
 
 impl From<AllocError> for SinkFault {

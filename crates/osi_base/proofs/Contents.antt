@@ -1,0 +1,20 @@
+-- Contents of files that are handed up.
+use Rattle.std.proofs.Common.{Option, None, Some, ◌≤◌, ℕ, List, length, take, IfSome, find, min, length-take, arith}
+use Rattle.std.specs.Option.{option_map}
+use Rattle.std.specs.Str.{bytes_eq}
+use Rattle.osi_base.specs.Memory.{contents_in}
+use Rattle.osi_base.specs.declared.files.TheConstants.{FILE_MOST}
+use Rattle.osi_base.specs.declared.memory.MemFile.{MemFile}
+
+cut_short : (most : ℕ) (octets : List ℕ) → length (take most octets) ≤ most
+cut_short most octets = rw length-take (omega arith)
+
+-- a cut content is short enough
+cut_bounded : (found : Option MemFile)
+    → IfSome (option_map (λ file. take FILE_MOST file.contents) found) (λ octets. length octets ≤ FILE_MOST)
+cut_bounded None = tt
+cut_bounded (Some file) = cut_short FILE_MOST file.contents
+
+pub contents_in_bounded : (files : List MemFile) (name : List ℕ)
+    → IfSome (contents_in files name) (λ octets. length octets ≤ FILE_MOST)
+contents_in_bounded files name = cut_bounded (find (λ file. bytes_eq file.name name) files)
