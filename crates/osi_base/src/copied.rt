@@ -17,3 +17,12 @@ impl Copied for u32 {
         Ok(*self)
     }
 }
+
+impl<T: Copied + Drop> Copied for Option<T> {
+    fn copy(&self, alloc: Global) -> Result<Option<T>, NoMemory> {
+        match self {
+            Some(value) => Ok(Some(value.copy(alloc)?)),
+            None => Ok(None),
+        }
+    }
+}

@@ -6,12 +6,15 @@ mod copied;
 mod failing;
 mod fault;
 mod files;
+mod line;
 mod list;
 mod memory;
 mod name;
 mod octets;
 mod oid;
+mod real;
 mod sink;
+mod sure_line;
 mod syntax;
 mod words;
 
@@ -19,12 +22,15 @@ pub use copied::Copied;
 pub use failing::FailingCalls;
 pub use fault::NoMemory;
 pub use files::{FILE_MOST, FileFault, Files};
+pub use line::{Failed, Line, LineCall, LineFault, Outcome};
 pub use list::ListOf;
 pub use memory::{MemFile, MemFiles, MemSink, SureFiles, SureSink};
 pub use name::{Name, Words};
 pub use octets::Octets;
 pub use oid::{Oid, are_oid};
+pub use real::{DiskFiles, StdSink};
 pub use sink::{Sink, SinkFault, write_all};
+pub use sure_line::SureLine;
 pub use syntax::{Pair, Syntax};
 pub use words::{
     AddAnswer, AddAnswers, Answers, Ids, Indices, Kind, Layer, Oids, Problem, ProblemKind,

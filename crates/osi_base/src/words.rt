@@ -159,3 +159,31 @@ impl Copied for Proposal {
         })
     }
 }
+
+impl Copied for RestoredItem {
+    fn copy(&self, alloc: Global) -> Result<RestoredItem, NoMemory> {
+        Ok(RestoredItem {
+            id: self.id,
+            transfer: self.transfer.copy(alloc)?,
+        })
+    }
+}
+
+impl Copied for AddAnswer {
+    fn copy(&self, alloc: Global) -> Result<AddAnswer, NoMemory> {
+        Ok(AddAnswer {
+            result: self.result,
+            transfer: self.transfer.copy(alloc)?,
+            reason: self.reason,
+        })
+    }
+}
+
+impl Copied for Answers {
+    fn copy(&self, alloc: Global) -> Result<Answers, NoMemory> {
+        Ok(Answers {
+            added: self.added.copy(alloc)?,
+            deleted: self.deleted.copy(alloc)?,
+        })
+    }
+}
