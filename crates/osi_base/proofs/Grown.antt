@@ -33,9 +33,9 @@ grown_append (Some octets) first second = ap (λ octets. Some octets) (append_as
 pub part_after : (told new : Option (List ℕ)) (first second third : List ℕ)
     → GrewPart (grown told first) new second → GrewPart told new (first ++ (second ++ third))
 part_after told new first second third part = record {
-    count = length first + part.count;
-    within = rw (length-append first (second ++ third)) (rw (length-append second third) (omega (arith, part.within)));
-    told = part.told ∙ grown_append told first (take part.count second)
-        ∙ ap (λ octets. grown told octets) (sym (take-append-add first (second ++ third) part.count
-            ∙ ap (λ octets. first ++ octets) (take-append-le part.count second third part.within)))
-    }
+  count = length first + part.count;
+  within = rw (length-append first (second ++ third)) (rw (length-append second third) (omega (arith, part.within)));
+  told = part.told ∙ grown_append told first (take part.count second)
+      ∙ ap (λ octets. grown told octets) (sym (take-append-add first (second ++ third) part.count
+      ∙ ap (λ octets. first ++ octets) (take-append-le part.count second third part.within)));
+}

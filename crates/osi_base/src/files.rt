@@ -1,7 +1,6 @@
 //! Files that are read by name.
 
 ghost use Rattle.std.specs.Prelude.{Option, ◌≡◌, ◌≤◌, ℕ, List, length, IfOk, IfSome, IsErrOf};
-
 ghost use Rattle.osi_base.specs.Outside.{Rose, FileMap, Lacks};
 ghost use Rattle.osi_base.specs.declared.files.FileFault.TheVariants.{NoMemory};
 

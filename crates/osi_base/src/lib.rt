@@ -16,6 +16,8 @@ mod real;
 mod sink;
 mod sure_line;
 mod syntax;
+#[cfg(test)]
+mod tests;
 mod words;
 
 pub use copied::Copied;

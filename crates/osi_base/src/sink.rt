@@ -1,7 +1,6 @@
 //! What octets are written to.
 
 ghost use Rattle.std.specs.Prelude.{Option, ◌≡◌, ◌<◌, ◌≤◌, ℕ, List, length, take, IfOk, OnOk, OnErr, IsErrOf};
-
 ghost use Rattle.osi_base.specs.Outside.{Rose, grown, GrewPart};
 ghost use Rattle.osi_base.specs.declared.sink.SinkFault.TheVariants.{NoMemory};
 
