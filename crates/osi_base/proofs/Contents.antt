@@ -1,5 +1,5 @@
 -- Contents of files that are handed up.
-use Rattle.std.proofs.Common.{Option, None, Some, ◌≤◌, ℕ, List, length, take, IfSome, find, min, length-take, arith}
+use Rattle.std.proofs.Common.{Option, None, Some, ◌≤◌, ℕ, List, length, take, IfSome, find, length-take, arith}
 use Rattle.std.specs.Option.{option_map}
 use Rattle.std.specs.Str.{bytes_eq}
 use Rattle.osi_base.specs.Memory.{contents_in}

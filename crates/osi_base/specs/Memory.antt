@@ -1,5 +1,5 @@
 -- Files that are held in memory.
-use Rattle.std.specs.Prelude.{List, ℕ, take, find}
+use Rattle.std.specs.Prelude.{List, take, find}
 use Rattle.std.specs.Option.{option_map}
 use Rattle.std.specs.Str.{bytes_eq}
 use Rattle.osi_base.specs.Outside.{FileMap}

@@ -1,5 +1,5 @@
 -- What the objects outside tell: counts of faults, octets written, logs of calls.
-use Rattle.std.specs.Prelude.{Option, ◌≡◌, ℕ, ◌+◌, ◌<◌, ◌≤◌, min, List, ◌∷◌, ◌++◌, length, take, None, Some, IsSomeAnd, IfSome}
+use Rattle.std.specs.Prelude.{Option, ◌≡◌, ℕ, ◌+◌, ◌<◌, ◌≤◌, min, List, ◌∷◌, ◌++◌, length, take, None, Some, IsSomeAnd}
 
 -- the last value of a count, which has 64 bits
 abbrev pub last_count : ℕ

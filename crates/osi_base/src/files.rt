@@ -40,8 +40,8 @@ impl From<AllocError> for FileFault {
     }
 }
 
-/// Files that are read by name. An object may tell their contents; then `Missing` comes exactly
-/// where it tells that there is no such file, and else never.
+/// Files that are read by name. An object may tell their contents. `Missing` comes only where it
+/// tells that there is no such file.
 pub trait Files {
     // How often reading failed: a count that never falls, and stands still at its last value.
     ghost faults: { Self → ℕ };

@@ -109,7 +109,9 @@ impl MemSink {
     /// and the others take `most` octets at most.
     pub fn new(alloc: Global, most: usize, failing: FailingCalls) -> MemSink
         requires { 0 < most }
-        ensures { result.written ≡ [] }
+        ensures empty { result.written ≡ [] }
+        ensures most { result.most ≡ most }
+        ensures failing { result.failing ≡ failing }
     {
         MemSink {
             written: Octets::new(alloc),
