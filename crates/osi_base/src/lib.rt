@@ -15,6 +15,7 @@ mod oid;
 mod real;
 mod sink;
 mod sure_line;
+mod session_word;
 mod syntax;
 #[cfg(test)]
 mod tests;
@@ -33,6 +34,7 @@ pub use oid::{Oid, are_oid};
 pub use real::{DiskFiles, StdSink};
 pub use sink::{Sink, SinkFault, write_all};
 pub use sure_line::SureLine;
+pub use session_word::{SessionConnect, SessionWord, Spdu, Spdus};
 pub use syntax::{Pair, Syntax};
 pub use words::{
     AddAnswer, AddAnswers, Answers, Ids, Indices, Kind, Layer, Oids, Problem, ProblemKind,

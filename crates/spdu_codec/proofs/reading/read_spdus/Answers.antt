@@ -1,0 +1,10 @@
+use Rattle.std.proofs.Common.{arith, subst}
+use Rattle.spdu_codec.specs.Reading.{Gives}
+use Rattle.spdu_codec.proofs.WireLaws.{found_of, all_again}
+use Rattle.spdu_codec.proofs.reading.read_spdus.Goals as goal
+
+pub returns-clause-found : goal.returns-clause-found
+returns-clause-found c = found_of c.units_at.result c.args.tsdu.now (λ i. omega (arith, c.type_inv.tsdu i)) c.units_at.ensures
+
+pub returns-clause-only : goal.returns-clause-only
+returns-clause-only c = λ words a. subst (Gives c.units_at.result) (all_again c.args.tsdu.now words a) c.units_at.ensures

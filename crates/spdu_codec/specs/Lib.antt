@@ -1,0 +1,7 @@
+pub mod Values
+pub mod Tables
+pub mod Parameters
+pub mod Words
+pub mod Reading
+pub mod Wire
+pub mod Written

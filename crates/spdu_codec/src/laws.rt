@@ -1,0 +1,31 @@
+//! Laws of session units: each is the contract of a function that does nothing.
+
+ghost use Rattle.std.specs.Prelude.{◌≡◌, ◌≤◌, ◌+◌, ℕ, List, length, Ok};
+ghost use Rattle.osi_base.specs.declared.session_word.SessionWord.{SessionWord};
+ghost use Rattle.spdu_codec.specs.Reading.{units_at};
+ghost use Rattle.spdu_codec.specs.Wire.{AreUnits, IsOctets};
+ghost use Rattle.spdu_codec.specs.Written.{spelled, parameters_written, units_written, AreFields, AreWritable, octets_in};
+
+/// What is written is spelled so, and is read back as the same words.
+pub fn written_is_read()
+    ensures spelled { (words : List SessionWord) → AreWritable words
+        → AreUnits words (units_written words) }
+    ensures read { (words : List SessionWord) → AreWritable words
+        → units_at (units_written words) ≡ Ok words }
+{}
+
+/// Octets are the units that are read from them, and no others.
+pub fn one_reading()
+    ensures found { (octets : List ℕ) (words : List SessionWord) → IsOctets octets
+        → units_at octets ≡ Ok words → AreUnits words octets }
+    ensures only { (octets : List ℕ) (words : List SessionWord) → AreUnits words octets
+        → units_at octets ≡ Ok words }
+    ensures one { (octets : List ℕ) (words others : List SessionWord) → AreUnits words octets
+        → AreUnits others octets → words ≡ others }
+{}
+
+/// The parameters of a unit are at most 80 octets more than those that any octets may fill.
+pub fn written_length()
+    ensures { (word : SessionWord) → AreFields word
+        → length (spelled (parameters_written word)) ≤ 80 + octets_in word }
+{}

@@ -1,0 +1,20 @@
+//! The units of the session protocol (X.225) as octets, and back.
+#![tactic(auto)]
+
+mod fault;
+mod kind;
+pub mod laws;
+mod parameters;
+mod reading;
+mod scan;
+mod spelling;
+mod values;
+mod words;
+mod writing;
+
+pub use fault::SFault;
+pub use reading::read_spdus;
+pub use writing::write_spdus;
+
+#[cfg(test)]
+mod tests;

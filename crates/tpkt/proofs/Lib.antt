@@ -1,0 +1,10 @@
+pub mod Results
+pub mod Fuel
+pub mod ReaderLaws
+pub mod ParameterLaws
+pub mod HeaderLaws
+pub mod ShortLaws
+pub mod StaysLaws
+pub mod UnitLaws
+pub mod StreamLaws
+pub mod WrittenLaws

@@ -1,0 +1,5 @@
+pub mod Wire
+pub mod Header
+pub mod Reader
+pub mod Stream
+pub mod Written

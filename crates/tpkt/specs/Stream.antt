@@ -1,0 +1,43 @@
+-- A stream of packets, read from its front, and what a reader makes of it.
+use Rattle.std.specs.Prelude.{◌≡◌, ℕ, ◌+◌, ◌*◌, ◌<◌, List, [], length, take, drop, slice_index, Option, Some, None, Result, Ok, Err, nat_lt, if◌then◌else◌}
+use Rattle.tpkt.specs.declared.packet.TFault.{TFault}
+use Rattle.tpkt.specs.declared.header.Header.{Header}
+use Rattle.tpkt.specs.declared.header.Header.TheVariants.{Control, Data}
+use Rattle.tpkt.specs.declared.stop.Stop.{Stop}
+use Rattle.tpkt.specs.declared.stop.Stop.TheVariants.{Short, At}
+use Rattle.tpkt.specs.Wire.{Tpdu, Whole, Part, Splits, begun_by, handed}
+use Rattle.tpkt.specs.Header.{◌>>=◌, header_at}
+use Rattle.tpkt.specs.Reader.{Fed, on}
+
+-- each number is an octet
+abbrev pub IsOctets : List ℕ → Type 0
+IsOctets xs = (i : ℕ) → slice_index xs i < 256
+
+-- how many octets a packet says that it has
+abbrev pub stated_length : List ℕ → ℕ
+stated_length xs = 256 * slice_index xs 2 + slice_index xs 3
+
+-- the unit behind its header, and what follows it
+abbrev pub unit_behind : List ℕ → Header → Result (Tpdu × List ℕ) Stop
+unit_behind xs (Control p) = Ok (Whole p, drop (stated_length xs) xs)
+unit_behind xs (Data left last) = if nat_lt (length (drop 7 xs)) left then Err Short else Ok (Part last (take left (drop 7 xs)), drop left (drop 7 xs))
+
+-- the unit at the front of a stream, where the data of a TSDU has begun, and what follows it
+unfoldable pub unit_at : List ℕ → List ℕ → Result (Tpdu × List ℕ) Stop
+unit_at begun xs = header_at (length begun) xs >>= unit_behind xs
+
+-- Where the next unit isn't there: nothing is wrong yet, or it is this fault, counted from where the unit begins.
+abbrev pub IsStop : Result (Tpdu × List ℕ) Stop → ℕ → Option TFault → Type 0
+IsStop (Err Short) start None = Unit {0}
+IsStop (Err (At offset kind)) start (Some fault) = (fault.place ≡ on start offset) × (fault.kind ≡ kind)
+IsStop _ start fault = ⊥
+
+-- What was made of a stream: the packets of its units, and its first fault if there is one.
+pub record Reads (stream : List ℕ) (f : Fed) : Type 0 where
+  pub units : List Tpdu
+  pub start : ℕ
+  pub rest : List ℕ
+  pub splits : Splits [] stream units rest
+  pub starts : start + length rest ≡ length stream
+  pub packets : f.packets ≡ handed [] units
+  pub stop : IsStop (unit_at (begun_by [] units) rest) start f.held.fault

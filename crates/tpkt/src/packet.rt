@@ -1,0 +1,100 @@
+//! What a stream of packets carries.
+
+ghost use Rattle.std.specs.Prelude.{◌≡◌, ◌≤◌, ◌+◌, ◌↔◌, ℕ, length, IsTrue};
+ghost use Rattle.std.specs.List.{flat_map};
+ghost use Rattle.tpkt.specs.Wire.{parameter};
+ghost use Rattle.tpkt.specs.Written.{size_parameter, selector_parameter, connection_fields, HasRoom};
+
+use osi_base::{Kind, ListOf, Octets};
+
+/// The fields of a connection request or confirm (X.224 13.3, 13.4).
+#[derive(Debug, Drop)]
+pub struct Ends {
+    /// The reference of the end that the unit goes to; 0 in a request.
+    pub destination: u16,
+    /// The reference of the end that sends the unit.
+    pub source: u16,
+    /// The code of the proposed or agreed size of a unit, where there is one: its logarithm.
+    pub size: Option<u8>,
+    /// The selector of the calling end; empty where there is none.
+    pub calling: Octets,
+    /// The selector of the called end; empty where there is none.
+    pub called: Octets,
+}
+
+/// What is handed up from a stream.
+#[derive(Debug, Drop)]
+pub enum Packet {
+    /// A connection request, CR.
+    Connect(Ends),
+    /// A connection confirm, CC.
+    Confirm(Ends),
+    /// A disconnect request, DR.
+    Disconnect,
+    /// A unit that tells an error, ER.
+    Problem,
+    /// A whole transport service data unit, the data of one or more DTs.
+    Tsdu(Octets),
+}
+
+/// Packets in the order in which they ended.
+pub type Packets = ListOf<Packet>;
+
+/// Where a stream first leaves the grammar.
+#[derive(Clone, Copy, Debug, PartialEq, Eq)]
+pub struct TFault {
+    /// The offset of the field from the first octet of the connection; it stands still at the
+    /// last value of its type.
+    pub place: u64,
+    /// How the field breaks the grammar.
+    pub kind: Kind,
+}
+
+/// What a feed gave: the packets that ended in it, and the fault if the stream has one by now.
+#[derive(Debug, Drop)]
+pub struct TFed {
+    pub packets: Packets,
+    pub fault: Option<TFault>,
+}
+
+fn selector_len(selector: &Octets) -> usize
+    requires { length selector.now ≤ 254 }
+    ensures len { (code : ℕ)
+        → result ≡ length (flat_map parameter (selector_parameter code selector.now)) }
+    ensures bound { result ≤ 256 }
+{
+    if selector.len() == 0 {
+        return 0;
+    }
+    selector.len() + 2
+}
+
+fn size_len(size: Option<u8>) -> usize
+    ensures len { result ≡ length (flat_map parameter (size_parameter size)) }
+    ensures bound { result ≤ 3 }
+{
+    match size {
+        None => 0,
+        Some(_) => 3,
+    }
+}
+
+fn fields_len(ends: &Ends) -> usize
+    requires calling { length ends.now.calling ≤ 254 }
+    requires called { length ends.now.called ≤ 254 }
+    ensures { result ≡ length (connection_fields 0 ends.now) }
+{
+    6 + size_len(ends.size) + selector_len(&ends.calling) + selector_len(&ends.called)
+}
+
+impl Ends {
+    /// Whether a header has room for these fields: it has at most 254 octets.
+    pub fn has_room(&self) -> bool
+        ensures { IsTrue result ↔ HasRoom self.now }
+    {
+        if self.calling.len() > 254 || self.called.len() > 254 {
+            return false;
+        }
+        fields_len(self) <= 254
+    }
+}

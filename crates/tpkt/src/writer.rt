@@ -1,0 +1,135 @@
+//! Writes packets in their one spelling.
+
+ghost use Rattle.std.specs.Prelude.{◌≡◌, ◌+◌, ◌≤◌, ◌<◌, ◌++◌, [], ◌∷◌, length, true, false, OnOk, IfOk};
+ghost use Rattle.std.specs.List.{flat_map};
+ghost use Rattle.tpkt.specs.Wire.{two, packet, header, parameter};
+ghost use Rattle.tpkt.specs.Written.{part_packet, written_tsdu, size_parameter, selector_parameter, connection_fields, control_packet, HasRoom};
+
+use crate::numbers::push_number;
+use crate::packet::Ends;
+use osi_base::{NoMemory, Octets};
+use std::alloc::Global;
+
+fn push_part(out: &mut Octets, octets: &[u8], last: bool) -> Result<(), NoMemory>
+    requires { length octets.now ≤ 65528 }
+    ensures { OnOk result (out.new ≡ out.old ++ part_packet (last, octets.now)) }
+{
+    out.extend(&[3, 0])?;
+    push_number(out, octets.len() as u16 + 7)?;
+    out.extend(&[2, 0xF0])?;
+    out.push(if last { 0x80 } else { 0 })?;
+    out.extend(octets)
+}
+
+/// The packets of a TSDU: DTs of at most `size` octets, of which three are header.
+pub fn write_tsdu(alloc: Global, tsdu: &[u8], size: u32) -> Result<Octets, NoMemory>
+    requires least { 128 ≤ size }
+    requires most { size ≤ 65531 }
+    ensures { IfOk result (λ octets. octets ≡ written_tsdu size tsdu.now) }
+{
+    let most = size as usize - 3;
+    let mut out = Octets::new(alloc);
+    let mut rest = tsdu;
+    while rest.len() > most {
+        let (part, more) = rest.split_at(most);
+        push_part(&mut out, part, false)?;
+        rest = more;
+    }
+    push_part(&mut out, rest, true)?;
+    Ok(out)
+}
+
+fn push_size(out: &mut Octets, size: Option<u8>) -> Result<(), NoMemory>
+    ensures { OnOk result (out.new ≡ out.old ++ flat_map parameter (size_parameter size)) }
+{
+    match size {
+        None => Ok(()),
+        Some(size) => out.extend(&[0xC0, 1, size]),
+    }
+}
+
+fn push_selector(out: &mut Octets, code: u8, selector: &[u8]) -> Result<(), NoMemory>
+    requires { length selector.now ≤ 255 }
+    ensures { OnOk result (out.new
+        ≡ out.old ++ flat_map parameter (selector_parameter code selector.now)) }
+{
+    if selector.is_empty() {
+        return Ok(());
+    }
+    out.extend(&[code, selector.len() as u8])?;
+    out.extend(selector)
+}
+
+/// A packet of a unit whose header has these fields and fills it.
+fn control(alloc: Global, fields: &[u8]) -> Result<Octets, NoMemory>
+    requires { length fields.now ≤ 254 }
+    ensures { IfOk result (λ octets. octets ≡ control_packet fields.now) }
+{
+    let mut out = Octets::new(alloc);
+    out.extend(&[3, 0])?;
+    push_number(&mut out, fields.len() as u16 + 5)?;
+    out.push(fields.len() as u8)?;
+    out.extend(fields)?;
+    Ok(out)
+}
+
+fn connection(alloc: Global, code: u8, ends: &Ends) -> Result<Octets, NoMemory>
+    requires { HasRoom ends.now }
+    ensures { IfOk result (λ octets. octets ≡ control_packet (connection_fields code ends.now)) }
+{
+    let mut fields = Octets::new(alloc);
+    fields.push(code)?;
+    push_number(&mut fields, ends.destination)?;
+    push_number(&mut fields, ends.source)?;
+    fields.push(0)?;
+    push_size(&mut fields, ends.size)?;
+    push_selector(&mut fields, 0xC1, ends.calling.as_slice())?;
+    push_selector(&mut fields, 0xC2, ends.called.as_slice())?;
+    control(alloc, fields.as_slice())
+}
+
+/// The packet of a connection request, CR.
+pub fn write_connect(alloc: Global, ends: &Ends) -> Result<Octets, NoMemory>
+    requires { HasRoom ends.now }
+    ensures { IfOk result (λ octets. octets ≡ control_packet (connection_fields 224 ends.now)) }
+{
+    connection(alloc, 0xE0, ends)
+}
+
+/// The packet of a connection confirm, CC.
+pub fn write_confirm(alloc: Global, ends: &Ends) -> Result<Octets, NoMemory>
+    requires { HasRoom ends.now }
+    ensures { IfOk result (λ octets. octets ≡ control_packet (connection_fields 208 ends.now)) }
+{
+    connection(alloc, 0xD0, ends)
+}
+
+/// The packet of a disconnect request, DR, without parameters.
+pub fn write_disconnect(
+    alloc: Global,
+    destination: u16,
+    source: u16,
+    reason: u8,
+) -> Result<Octets, NoMemory>
+    ensures { IfOk result (λ octets. octets
+        ≡ control_packet (128 ∷ two destination ++ two source ++ reason ∷ [])) }
+{
+    let mut fields = Octets::new(alloc);
+    fields.push(0x80)?;
+    push_number(&mut fields, destination)?;
+    push_number(&mut fields, source)?;
+    fields.push(reason)?;
+    control(alloc, fields.as_slice())
+}
+
+/// The packet of a unit that tells an error, ER, without parameters.
+pub fn write_problem(alloc: Global, destination: u16, cause: u8) -> Result<Octets, NoMemory>
+    ensures { IfOk result (λ octets. octets
+        ≡ control_packet (112 ∷ two destination ++ cause ∷ [])) }
+{
+    let mut fields = Octets::new(alloc);
+    fields.push(0x70)?;
+    push_number(&mut fields, destination)?;
+    fields.push(cause)?;
+    control(alloc, fields.as_slice())
+}
