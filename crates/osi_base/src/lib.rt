@@ -13,9 +13,9 @@ mod name;
 mod octets;
 mod oid;
 mod real;
+mod session_word;
 mod sink;
 mod sure_line;
-mod session_word;
 mod syntax;
 #[cfg(test)]
 mod tests;
@@ -32,9 +32,9 @@ pub use name::{Name, Words};
 pub use octets::Octets;
 pub use oid::{Oid, are_oid};
 pub use real::{DiskFiles, StdSink};
+pub use session_word::{SessionConnect, SessionWord, Spdu, Spdus};
 pub use sink::{Sink, SinkFault, write_all};
 pub use sure_line::SureLine;
-pub use session_word::{SessionConnect, SessionWord, Spdu, Spdus};
 pub use syntax::{Pair, Syntax};
 pub use words::{
     AddAnswer, AddAnswers, Answers, Ids, Indices, Kind, Layer, Oids, Problem, ProblemKind,

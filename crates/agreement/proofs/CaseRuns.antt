@@ -1,0 +1,269 @@
+-- The worked cases are runs.
+use Rattle.std.proofs.Common.{◌≡◌, ℕ, true, false, List, [], ◌∷◌, ◌++◌, refl, sym, ap, ◌∙◌, arith, true≢false}
+use Rattle.std.specs.Prelude.{Some, None, Contains}
+use Rattle.agreement.specs.Sets.{Pair}
+use Rattle.agreement.specs.Messages.{Apdu}
+use Rattle.agreement.specs.Messages.Apdu.{Invoke, Outcome, Reject}
+use Rattle.agreement.specs.Messages.Mode.{Direct, Reliable}
+use Rattle.agreement.specs.State.{Phase, Handed}
+use Rattle.agreement.specs.State.Phase.{Up, Broken, Recovering, Over}
+use Rattle.agreement.specs.State.Progress.{Running, Ending, Suspended}
+use Rattle.agreement.specs.Cases.{IsFaithful, written_plainly, value_of_parts, apdu_of, is_over, Happens, marked_once, begun, collision, use_rejected, addition_dropped, lower_wins, tie_won, read_by_mark, interrupted, discarded, resumed_from_mark, resumed_from_nothing, completed_resumed, giving_lost, giving_taken, recovery_broken}
+
+apdu-read : (a : Apdu) → apdu_of (written_plainly a) ≡ Some a
+apdu-read (Invoke number operation None argument) = refl
+apdu-read (Invoke number operation (Some link) argument) = refl
+apdu-read (Outcome number content) = refl
+apdu-read (Reject number true) = refl
+apdu-read (Reject number false) = refl
+
+pub faithful : IsFaithful
+faithful set value e =
+    ap (λ p. value_of_parts value.identifier p (apdu_of (written_plainly value.apdu))) e ∙ ap (value_of_parts value.identifier (Some value.pair)) (apdu-read value.apdu)
+
+-- what is told apart, for the search
+not-over : (p : Phase) → is_over p ≡ false → p ≡ Over → ⊥
+not-over p h e = true≢false (sym (ap is_over e) ∙ h)
+
+up-alive : Up ≡ Over → ⊥
+up-alive e = cc
+
+broken-alive : Broken ≡ Over → ⊥
+broken-alive e = cc
+
+recovering-alive : Recovering ≡ Over → ⊥
+recovering-alive e = cc
+
+not-reliable : Direct ≡ Reliable → ⊥
+not-reliable e = cc
+
+not-none : (p : Pair) → Some p ≡ None → ⊥
+not-none p e = cc
+
+not-nil : (x : Handed) (xs : List Handed) → x ∷ xs ≡ [] → ⊥
+not-nil x xs e = cc
+
+running-ending : Running ≡ Ending → ⊥
+running-ending e = cc
+
+running-suspended : Running ≡ Suspended → ⊥
+running-suspended e = cc
+
+ending-suspended : Ending ≡ Suspended → ⊥
+ending-suspended e = cc
+
+first-offer : (p : Pair) → Contains (p ∷ []) p
+first-offer p = (0, omega arith, refl)
+
+-- what is left of the octets: nothing, the third part, or the second and the third
+rest-none : (x y : List ℕ) → x ++ [] ≡ y → (rest : List ℕ) × (x ++ rest ≡ y)
+rest-none x y e = ([], e)
+
+rest-third : (x y : List ℕ) → x ++ (5 ∷ []) ≡ y → (rest : List ℕ) × (x ++ rest ≡ y)
+rest-third x y e = (5 ∷ [], e)
+
+rest-second : (x y : List ℕ) → x ++ (1 ∷ 0 ∷ 5 ∷ []) ≡ y → (rest : List ℕ) × (x ++ rest ≡ y)
+rest-second x y e = (1 ∷ 0 ∷ 5 ∷ [], e)
+
+ruleset told = (refl, tt, arith, not-over, not-reliable, not-none, not-nil, running-ending, running-suspended, ending-suspended, first-offer, rest-none, rest-third, rest-second)
+
+run-marked_once : Happens Direct marked_once
+run-marked_once f = search told
+
+run-begun : Happens Reliable begun
+run-begun f = search told
+
+pub run-collision : Happens Direct collision
+run-collision f = search told
+
+pub run-use_rejected : Happens Direct use_rejected
+run-use_rejected f = search told
+
+pub run-addition_dropped : Happens Direct addition_dropped
+run-addition_dropped f = search told
+
+pub run-lower_wins : Happens Direct lower_wins
+run-lower_wins f = search told
+
+pub run-tie_won : Happens Direct tie_won
+run-tie_won f = search told
+
+pub run-read_by_mark : Happens Direct read_by_mark
+run-read_by_mark f = (search told, (search told, (search told, (search told, (search told, (search told, (search told, (search told, (search told, (search told, (search told, run-marked_once f)))))))))))
+
+pub run-interrupted : Happens Reliable interrupted
+run-interrupted f = search told
+
+pub run-discarded : Happens Reliable discarded
+run-discarded f = search told
+
+pub run-giving_lost : Happens Reliable giving_lost
+run-giving_lost f = search told
+
+pub run-giving_taken : Happens Reliable giving_taken
+run-giving_taken f = search told
+
+pub run-recovery_broken : Happens Reliable recovery_broken
+run-recovery_broken f = search told
+
+pub run-resumed_from_mark : Happens Reliable resumed_from_mark
+run-resumed_from_mark f = (
+  record { comes = refl; is_alive = up-alive; is_kept = refl; is_choice = tt },
+  (
+    record { comes = refl; is_alive = up-alive; is_kept = refl; is_choice = tt },
+    (
+      record { comes = refl; is_alive = up-alive; is_kept = refl; is_choice = tt },
+      (
+        record { comes = refl; is_alive = up-alive; is_kept = refl; is_choice = tt },
+        (
+          record { comes = refl; is_alive = up-alive; is_kept = refl; is_choice = tt },
+          (
+            record { comes = refl; is_alive = up-alive; is_kept = refl; is_choice = tt },
+            (
+              record { comes = refl; is_alive = up-alive; is_kept = refl; is_choice = tt },
+              (
+                record { by_transfers = refl; leads = record { is_free = record { is_up = refl; is_calm = refl }; has_turn = refl; is_settled = refl }; is_whole = (refl, refl) },
+                (
+                  record { by_transfers = refl; leads = record { is_free = record { is_up = refl; is_calm = refl }; has_turn = refl; is_settled = refl }; is_next = (refl, ([], refl)) },
+                  (
+                    record { leads = record { is_free = record { is_up = refl; is_calm = refl }; has_turn = refl; is_settled = refl }; in_mode = (refl, tt) },
+                    (
+                      record { by_transfers = refl; leads = record { is_free = record { is_up = refl; is_calm = refl }; has_turn = refl; is_settled = refl }; is_next = (refl, (5 ∷ [], refl)) },
+                      (
+                        record { by_transfers = refl; leads = record { is_free = record { is_up = refl; is_calm = refl }; has_turn = refl; is_settled = refl }; rests = refl },
+                        (
+                          record { comes = refl; is_alive = recovering-alive; is_kept = refl; is_choice = tt },
+                          (
+                            record { comes = refl; is_alive = broken-alive; is_kept = refl; is_choice = record { is_known = refl; is_set = search told } },
+                            (
+                              record { initiates = refl; is_broken = refl },
+                              (
+                                tt,
+                                (
+                                  record { by_transfers = refl; leads = record { is_free = record { is_up = refl; is_calm = refl }; has_turn = refl; is_settled = refl }; is_whole = (refl, refl) },
+                                  (
+                                    record { by_transfers = refl; leads = record { is_free = record { is_up = refl; is_calm = refl }; has_turn = refl; is_settled = refl }; is_next = (refl, ([], refl)) },
+                                    (
+                                      record { leads = record { is_free = record { is_up = refl; is_calm = refl }; has_turn = refl; is_settled = refl }; in_mode = (refl, tt) },
+                                      (
+                                        record { by_transfers = refl; leads = record { is_free = record { is_up = refl; is_calm = refl }; has_turn = refl; is_settled = refl }; is_next = (refl, (5 ∷ [], refl)) },
+                                        (
+                                          record { comes = refl; is_alive = up-alive; is_kept = refl; is_choice = tt },
+                                          run-begun f,
+                                        ),
+                                      ),
+                                    ),
+                                  ),
+                                ),
+                              ),
+                            ),
+                          ),
+                        ),
+                      ),
+                    ),
+                  ),
+                ),
+              ),
+            ),
+          ),
+        ),
+      ),
+    ),
+  ),
+)
+
+pub run-resumed_from_nothing : Happens Reliable resumed_from_nothing
+run-resumed_from_nothing f = (
+  record { comes = refl; is_alive = up-alive; is_kept = refl; is_choice = tt },
+  (
+    record { comes = refl; is_alive = up-alive; is_kept = refl; is_choice = tt },
+    (
+      record { comes = refl; is_alive = up-alive; is_kept = refl; is_choice = tt },
+      (
+        record { comes = refl; is_alive = up-alive; is_kept = refl; is_choice = tt },
+        (
+          record { by_transfers = refl; leads = record { is_free = record { is_up = refl; is_calm = refl }; has_turn = refl; is_settled = refl }; is_whole = (refl, refl) },
+          (
+            record { by_transfers = refl; leads = record { is_free = record { is_up = refl; is_calm = refl }; has_turn = refl; is_settled = refl }; is_next = (refl, ([], refl)) },
+            (
+              record { by_transfers = refl; leads = record { is_free = record { is_up = refl; is_calm = refl }; has_turn = refl; is_settled = refl }; is_due = (refl, refl); is_there = not-none _ },
+              (
+                record { by_transfers = refl; leads = record { is_free = record { is_up = refl; is_calm = refl }; has_turn = refl; is_settled = refl }; rests = refl },
+                (
+                  record { comes = refl; is_alive = recovering-alive; is_kept = refl; is_choice = tt },
+                  (
+                    record { comes = refl; is_alive = broken-alive; is_kept = refl; is_choice = record { is_known = refl; is_set = search told } },
+                    (
+                      record { initiates = refl; is_broken = refl },
+                      (
+                        tt,
+                        run-begun f,
+                      ),
+                    ),
+                  ),
+                ),
+              ),
+            ),
+          ),
+        ),
+      ),
+    ),
+  ),
+)
+
+pub run-completed_resumed : Happens Reliable completed_resumed
+run-completed_resumed f = (
+  record { comes = refl; is_alive = up-alive; is_kept = refl; is_choice = tt },
+  (
+    record { comes = refl; is_alive = up-alive; is_kept = refl; is_choice = tt },
+    (
+      record { comes = refl; is_alive = up-alive; is_kept = refl; is_choice = tt },
+      (
+        record { comes = refl; is_alive = up-alive; is_kept = refl; is_choice = tt },
+        (
+          record { by_transfers = refl; leads = record { is_free = record { is_up = refl; is_calm = refl }; has_turn = refl; is_settled = refl }; is_whole = (refl, refl) },
+          (
+            record { by_transfers = refl; leads = record { is_free = record { is_up = refl; is_calm = refl }; has_turn = refl; is_settled = refl }; is_next = (refl, ([], refl)) },
+            (
+              record { by_transfers = refl; leads = record { is_free = record { is_up = refl; is_calm = refl }; has_turn = refl; is_settled = refl }; rests = refl },
+              (
+                record { comes = refl; is_alive = recovering-alive; is_kept = refl; is_choice = tt },
+                (
+                  record { comes = refl; is_alive = broken-alive; is_kept = refl; is_choice = record { is_known = refl; is_set = search told } },
+                  (
+                    record { initiates = refl; is_broken = refl },
+                    (
+                      tt,
+                      (
+                        record { comes = refl; is_alive = up-alive; is_kept = refl; is_choice = tt },
+                        (
+                          record { comes = refl; is_alive = up-alive; is_kept = refl; is_choice = tt },
+                          (
+                            record { comes = refl; is_alive = up-alive; is_kept = refl; is_choice = tt },
+                            (
+                              record { by_transfers = refl; leads = record { is_free = record { is_up = refl; is_calm = refl }; has_turn = refl; is_settled = refl }; is_whole = (refl, refl) },
+                              (
+                                record { by_transfers = refl; leads = record { is_free = record { is_up = refl; is_calm = refl }; has_turn = refl; is_settled = refl }; is_next = (refl, ([], refl)) },
+                                (
+                                  record { by_transfers = refl; leads = record { is_free = record { is_up = refl; is_calm = refl }; has_turn = refl; is_settled = refl }; is_next = (refl, (5 ∷ [], refl)) },
+                                  (
+                                    record { comes = refl; is_alive = up-alive; is_kept = refl; is_choice = tt },
+                                    run-begun f,
+                                  ),
+                                ),
+                              ),
+                            ),
+                          ),
+                        ),
+                      ),
+                    ),
+                  ),
+                ),
+              ),
+            ),
+          ),
+        ),
+      ),
+    ),
+  ),
+)

@@ -1,0 +1,543 @@
+-- What is on its way to an end in direct mode, as that end will read it.
+use Rattle.std.proofs.Common.{◌≡◌, ℕ, suc, ◌≤◌, ◌%◌, Bool, true, false, List, [], ◌∷◌, ◌++◌, refl, sym, ap, ◌∙◌, arith, true≢false, inl, inr, ◌⊎◌, subst}
+use Rattle.std.specs.Prelude.{Some, None, is_some}
+use Rattle.std.proofs.lemmas.Bool.Decides.{nat_tests}
+use Rattle.agreement.specs.Sets.{Role, other, parity, Pair, ContextSet, Item, Result, Fits, changed, altered, lookup, IsRising, AreDistinct, identifier_of, identifiers, Saved, below, next_number}
+use Rattle.agreement.specs.Sets.Role.{Initiator, Responder}
+use Rattle.agreement.specs.Sets.Item.{Addition, Deletion}
+use Rattle.agreement.specs.Sets.Result.{Rejected, Accepted, AcceptedAs}
+use Rattle.agreement.specs.Takings.{OnFirst, altered_first, later}
+use Rattle.agreement.proofs.Order.{put-put, put-remove, remove-remove, rising-put, rising-remove, lookup-put_other, lookup-remove_other}
+
+pub data Entry : Type 0 where
+  AValue : (shared : ContextSet) → (identifier : ℕ) → (pair : Pair) → Entry
+  AnAsk : (shared : ContextSet) → (items : List Item) → Entry
+  AnAnswer : (results : List Result) → Entry
+  AMark : (shared : ContextSet) → (number : ℕ) → Entry
+  AGive : Entry
+  ARelease : Entry
+  AQuiet : Entry
+  ABad : Entry
+
+-- the items are sound over a set: additions of what is absent, under the asker's parity, and
+-- deletions of what is there
+abbrev pub IsSound : Role → ContextSet → Item → Type 0
+IsSound role set (Addition k offers) = (k % 2 ≡ parity role) × (lookup set k ≡ None)
+IsSound role set (Deletion k) = is_some (lookup set k) ≡ true
+
+abbrev pub AreSound : Role → ContextSet → List Item → Type 0
+AreSound role set [] = Unit {0}
+AreSound role set (item ∷ items) = IsSound role set item × AreSound role set items
+
+-- items that commute: an addition is of another context than the other item
+abbrev pub IsApart : Item → Item → Type 0
+IsApart (Addition j offers) item = j ≡ identifier_of item → ⊥
+IsApart (Deletion j) (Addition k offers) = j ≡ k → ⊥
+IsApart (Deletion j) (Deletion k) = Unit {0}
+
+abbrev pub IsApartFrom : Item → List Item → Type 0
+IsApartFrom item [] = Unit {0}
+IsApartFrom item (first ∷ items) = IsApart item first × IsApartFrom item items
+
+abbrev pub AreApart : List Item → List Item → Type 0
+AreApart [] others = Unit {0}
+AreApart (item ∷ items) others = IsApartFrom item others × AreApart items others
+
+-- each own alteration is apart from the items
+abbrev pub AllApart : List (List Item) → List Item → Type 0
+AllApart [] items = Unit {0}
+AllApart (own ∷ rest) items = AreApart own items × AllApart rest items
+
+-- How a taker with this set and these own alterations reads a flight from the end of this role: each
+-- value under the set, and in the end, however it answers, it holds the shared set.
+abbrev pub Reads : Role → ContextSet → List (List Item) → List Entry → ContextSet → Type 0
+Reads from held own [] shared = held ≡ shared
+Reads from held own (AValue at k p ∷ flight) shared =
+    (lookup held k ≡ Some p) × (lookup at k ≡ Some p) × Reads from held own flight shared
+Reads from held own (AnAsk at items ∷ flight) shared =
+    (held ≡ at) × AreSound from held items × AreDistinct (identifiers items) × AllApart own items ×
+    ((results : List Result) → Fits items results → Reads from (altered items results held) own flight (altered items results shared))
+Reads from held own (AnAnswer results ∷ flight) shared =
+    OnFirst (λ items. Fits items results) own × Reads from (altered_first own results held) (later own) flight shared
+Reads from held own (AMark at number ∷ flight) shared = (held ≡ at) × Reads from held own flight shared
+Reads from held own (AGive ∷ flight) shared = Reads from held own flight shared
+Reads from held own (ARelease ∷ flight) shared = (from ≡ Initiator) × Reads from held own flight shared
+Reads from held own (AQuiet ∷ flight) shared = Reads from held own flight shared
+Reads from held own (ABad ∷ flight) shared = ⊥
+
+-- the alterations in a flight, and those of the taker that it doesn't answer
+abbrev pub asked : List Entry → List (List Item)
+asked [] = []
+asked (AValue at k p ∷ flight) = asked flight
+asked (AnAsk at items ∷ flight) = items ∷ asked flight
+asked (AnAnswer results ∷ flight) = asked flight
+asked (AMark at number ∷ flight) = asked flight
+asked (AGive ∷ flight) = asked flight
+asked (ARelease ∷ flight) = asked flight
+asked (AQuiet ∷ flight) = asked flight
+asked (ABad ∷ flight) = asked flight
+
+abbrev pub unanswered : List Entry → List (List Item) → List (List Item)
+unanswered [] own = own
+unanswered (AValue at k p ∷ flight) own = unanswered flight own
+unanswered (AnAsk at items ∷ flight) own = unanswered flight own
+unanswered (AnAnswer results ∷ flight) own = unanswered flight (later own)
+unanswered (AMark at number ∷ flight) own = unanswered flight own
+unanswered (AGive ∷ flight) own = unanswered flight own
+unanswered (ARelease ∷ flight) own = unanswered flight own
+unanswered (AQuiet ∷ flight) own = unanswered flight own
+unanswered (ABad ∷ flight) own = unanswered flight own
+
+-- at most one own alteration
+abbrev pub IsOne : List (List Item) → Type 0
+IsOne [] = Unit {0}
+IsOne (items ∷ []) = Unit {0}
+IsOne (items ∷ more ∷ rest) = ⊥
+
+-- a context that no item names
+abbrev pub IsUntouched : ℕ → List Item → Type 0
+IsUntouched k [] = Unit {0}
+IsUntouched k (item ∷ items) = (identifier_of item ≡ k → ⊥) × IsUntouched k items
+
+abbrev pub AllUntouched : ℕ → List (List Item) → Type 0
+AllUntouched k [] = Unit {0}
+AllUntouched k (items ∷ rest) = IsUntouched k items × AllUntouched k rest
+
+-- changes that are apart commute
+changed-changed : (i j : Item) (r q : Result) (set : ContextSet) → IsApart i j → IsRising set → changed i r (changed j q set) ≡ changed j q (changed i r set)
+changed-changed (Addition i o) (Addition j u) (AcceptedAs p) (AcceptedAs s) set a h = put-put i j p s set a h
+changed-changed (Addition i o) (Addition j u) (AcceptedAs p) Rejected set a h = refl
+changed-changed (Addition i o) (Addition j u) (AcceptedAs p) Accepted set a h = refl
+changed-changed (Addition i o) (Deletion j) (AcceptedAs p) Accepted set a h = put-remove i j p set a h
+changed-changed (Addition i o) (Deletion j) (AcceptedAs p) Rejected set a h = refl
+changed-changed (Addition i o) (Deletion j) (AcceptedAs p) (AcceptedAs s) set a h = refl
+changed-changed (Addition i o) j Rejected q set a h = refl
+changed-changed (Addition i o) j Accepted q set a h = refl
+changed-changed (Deletion i) (Addition j u) Accepted (AcceptedAs s) set a h = sym (put-remove j i s set (λ e. a (sym e)) h)
+changed-changed (Deletion i) (Addition j u) Accepted Rejected set a h = refl
+changed-changed (Deletion i) (Addition j u) Accepted Accepted set a h = refl
+changed-changed (Deletion i) (Deletion j) Accepted Accepted set a h = remove-remove i j set h
+changed-changed (Deletion i) (Deletion j) Accepted Rejected set a h = refl
+changed-changed (Deletion i) (Deletion j) Accepted (AcceptedAs s) set a h = refl
+changed-changed (Deletion i) j Rejected q set a h = refl
+changed-changed (Deletion i) j (AcceptedAs p) q set a h = refl
+
+rising-changed : (i : Item) (r : Result) (set : ContextSet) → IsRising set → IsRising (changed i r set)
+rising-changed (Addition k o) (AcceptedAs p) set h = rising-put k p set h
+rising-changed (Addition k o) Rejected set h = h
+rising-changed (Addition k o) Accepted set h = h
+rising-changed (Deletion k) Accepted set h = rising-remove k set h
+rising-changed (Deletion k) Rejected set h = h
+rising-changed (Deletion k) (AcceptedAs p) set h = h
+
+pub rising-altered : (items : List Item) (results : List Result) (set : ContextSet) → IsRising set → IsRising (altered items results set)
+rising-altered [] rs set h = h
+rising-altered (i ∷ is) [] set h = h
+rising-altered (i ∷ is) (r ∷ rs) set h = rising-altered is rs (changed i r set) (rising-changed i r set h)
+
+changed-altered : (i : Item) (r : Result) (items : List Item) (results : List Result) (set : ContextSet) → IsApartFrom i items → IsRising set → changed i r (altered items results set) ≡ altered items results (changed i r set)
+changed-altered i r [] qs set a h = refl
+changed-altered i r (j ∷ js) [] set a h = refl
+changed-altered i r (j ∷ js) (q ∷ qs) set a h =
+    changed-altered i r js qs (changed j q set) a.1 (rising-changed j q set h) ∙ ap (altered js qs) (changed-changed i j r q set a.0 h)
+
+pub altered-altered : (xs : List Item) (rs : List Result) (ys : List Item) (qs : List Result) (set : ContextSet) → AreApart xs ys → IsRising set → altered xs rs (altered ys qs set) ≡ altered ys qs (altered xs rs set)
+altered-altered [] rs ys qs set a h = refl
+altered-altered (x ∷ xs) [] ys qs set a h = refl
+altered-altered (x ∷ xs) (r ∷ rs) ys qs set a h =
+    ap (altered xs rs) (changed-altered x r ys qs set a.0 h) ∙ altered-altered xs rs ys qs (changed x r set) a.1 (rising-changed x r set h)
+
+-- all items rejected: nothing changes
+pub rejections : List Item → List Result
+rejections [] = []
+rejections (item ∷ items) = Rejected ∷ rejections items
+
+pub rejections-fit : (items : List Item) → Fits items (rejections items)
+unfolding rejections
+rejections-fit [] = tt
+rejections-fit (Addition k o ∷ items) = (tt, rejections-fit items)
+rejections-fit (Deletion k ∷ items) = (tt, rejections-fit items)
+
+pub rejections-altered : (items : List Item) (set : ContextSet) → altered items (rejections items) set ≡ set
+unfolding rejections
+rejections-altered [] set = refl
+rejections-altered (Addition k o ∷ items) set = rejections-altered items set
+rejections-altered (Deletion k ∷ items) set = rejections-altered items set
+
+-- an end with no own alteration holds the shared set, but for alterations that it has yet to answer
+pub reads-settled : (from : Role) (held : ContextSet) (flight : List Entry) (shared : ContextSet) → Reads from held [] flight shared → held ≡ shared
+reads-settled from held [] shared h = h
+reads-settled from held (AValue at k p ∷ flight) shared h = reads-settled from held flight shared h.2
+reads-settled from held (AnAsk at items ∷ flight) shared h =
+    let rest = h.4 (rejections items) (rejections-fit items) in
+    let e = rejections-altered items held in
+    let f = rejections-altered items shared in
+    reads-settled from held flight shared (subst (λ s. Reads from held [] flight s) f (subst (λ s. Reads from s [] flight (altered items (rejections items) shared)) e rest))
+reads-settled from held (AnAnswer results ∷ flight) shared h = absurd h.0
+reads-settled from held (AMark at number ∷ flight) shared h = reads-settled from held flight shared h.1
+reads-settled from held (AGive ∷ flight) shared h = reads-settled from held flight shared h
+reads-settled from held (ARelease ∷ flight) shared h = reads-settled from held flight shared h.1
+reads-settled from held (AQuiet ∷ flight) shared h = reads-settled from held flight shared h
+reads-settled from held (ABad ∷ flight) shared h = absurd h
+
+lookup-changed : (i : Item) (r : Result) (k : ℕ) (set : ContextSet) → (identifier_of i ≡ k → ⊥) → lookup (changed i r set) k ≡ lookup set k
+lookup-changed (Addition j o) (AcceptedAs p) k set n = lookup-put_other k j p set (λ e. n (sym e))
+lookup-changed (Addition j o) Rejected k set n = refl
+lookup-changed (Addition j o) Accepted k set n = refl
+lookup-changed (Deletion j) Accepted k set n = lookup-remove_other k j set (λ e. n (sym e))
+lookup-changed (Deletion j) Rejected k set n = refl
+lookup-changed (Deletion j) (AcceptedAs p) k set n = refl
+
+pub lookup-altered : (items : List Item) (results : List Result) (k : ℕ) (set : ContextSet) → IsUntouched k items → lookup (altered items results set) k ≡ lookup set k
+lookup-altered [] rs k set n = refl
+lookup-altered (i ∷ is) [] k set n = refl
+lookup-altered (i ∷ is) (r ∷ rs) k set n = lookup-altered is rs k (changed i r set) n.1 ∙ lookup-changed i r k set n.0
+
+-- what an end may send on is in the shared set
+pub reads-lookup : (from : Role) (held : ContextSet) (own : List (List Item)) (flight : List Entry) (shared : ContextSet) (k : ℕ) (p : Pair) → Reads from held own flight shared → lookup held k ≡ Some p → AllUntouched k own → lookup shared k ≡ Some p
+reads-lookup from held own [] shared k p h e u = subst (λ s. lookup s k ≡ Some p) h e
+reads-lookup from held own (AValue at j q ∷ flight) shared k p h e u = reads-lookup from held own flight shared k p h.2 e u
+reads-lookup from held own (AnAsk at items ∷ flight) shared k p h e u =
+    let rest = h.4 (rejections items) (rejections-fit items) in
+    let f = rejections-altered items held in
+    let g = rejections-altered items shared in
+    reads-lookup from held own flight shared k p (subst (λ s. Reads from held own flight s) g (subst (λ s. Reads from s own flight (altered items (rejections items) shared)) f rest)) e u
+reads-lookup from held [] (AnAnswer results ∷ flight) shared k p h e u = absurd h.0
+reads-lookup from held (items ∷ own) (AnAnswer results ∷ flight) shared k p h e u =
+    reads-lookup from (altered items results held) own flight shared k p h.1 (lookup-altered items results k held u.0 ∙ e) u.1
+reads-lookup from held own (AMark at number ∷ flight) shared k p h e u = reads-lookup from held own flight shared k p h.1 e u
+reads-lookup from held own (AGive ∷ flight) shared k p h e u = reads-lookup from held own flight shared k p h e u
+reads-lookup from held own (ARelease ∷ flight) shared k p h e u = reads-lookup from held own flight shared k p h.1 e u
+reads-lookup from held own (AQuiet ∷ flight) shared k p h e u = reads-lookup from held own flight shared k p h e u
+reads-lookup from held own (ABad ∷ flight) shared k p h e u = absurd h
+
+-- a value joins a flight
+pub push-value : (from : Role) (held : ContextSet) (own : List (List Item)) (flight : List Entry) (shared at : ContextSet) (k : ℕ) (p : Pair) → Reads from held own flight shared → lookup at k ≡ Some p → lookup shared k ≡ Some p → AllUntouched k (asked flight) → Reads from held own (flight ++ (AValue at k p ∷ [])) shared
+push-value from held own [] shared at k p h a e u = (subst (λ s. lookup s k ≡ Some p) (sym h) e, a, h)
+push-value from held own (AValue bt j q ∷ flight) shared at k p h a e u = (h.0, h.1, push-value from held own flight shared at k p h.2 a e u)
+push-value from held own (AnAsk bt items ∷ flight) shared at k p h a e u =
+    (h.0, h.1, h.2, h.3, λ results fits. push-value from (altered items results held) own flight (altered items results shared) at k p (h.4 results fits) a (lookup-altered items results k shared u.0 ∙ e) u.1)
+push-value from held own (AnAnswer results ∷ flight) shared at k p h a e u = (h.0, push-value from (altered_first own results held) (later own) flight shared at k p h.1 a e u)
+push-value from held own (AMark bt number ∷ flight) shared at k p h a e u = (h.0, push-value from held own flight shared at k p h.1 a e u)
+push-value from held own (AGive ∷ flight) shared at k p h a e u = push-value from held own flight shared at k p h a e u
+push-value from held own (ARelease ∷ flight) shared at k p h a e u = (h.0, push-value from held own flight shared at k p h.1 a e u)
+push-value from held own (AQuiet ∷ flight) shared at k p h a e u = push-value from held own flight shared at k p h a e u
+push-value from held own (ABad ∷ flight) shared at k p h a e u = absurd h
+
+later-none : (flight : List Entry) → unanswered flight [] ≡ []
+later-none [] = refl
+later-none (AValue bt j q ∷ flight) = later-none flight
+later-none (AnAsk bt items ∷ flight) = later-none flight
+later-none (AnAnswer results ∷ flight) = later-none flight
+later-none (AMark bt number ∷ flight) = later-none flight
+later-none (AGive ∷ flight) = later-none flight
+later-none (ARelease ∷ flight) = later-none flight
+later-none (AQuiet ∷ flight) = later-none flight
+later-none (ABad ∷ flight) = later-none flight
+
+pub unanswered-one : (flight : List Entry) (first : List Item) → (unanswered flight (first ∷ []) ≡ first ∷ []) ⊎ (unanswered flight (first ∷ []) ≡ [])
+unanswered-one [] first = inl refl
+unanswered-one (AValue bt j q ∷ flight) first = unanswered-one flight first
+unanswered-one (AnAsk bt items ∷ flight) first = unanswered-one flight first
+unanswered-one (AnAnswer results ∷ flight) first = inr (later-none flight)
+unanswered-one (AMark bt number ∷ flight) first = unanswered-one flight first
+unanswered-one (AGive ∷ flight) first = unanswered-one flight first
+unanswered-one (ARelease ∷ flight) first = unanswered-one flight first
+unanswered-one (AQuiet ∷ flight) first = unanswered-one flight first
+unanswered-one (ABad ∷ flight) first = unanswered-one flight first
+
+unanswered-head : (flight : List Entry) (first items : List Item) (more : List (List Item)) → unanswered flight (first ∷ []) ≡ items ∷ more → first ≡ items
+unanswered-head flight first items more e = go (unanswered-one flight first)
+  where
+    go : (unanswered flight (first ∷ []) ≡ first ∷ []) ⊎ (unanswered flight (first ∷ []) ≡ []) → first ≡ items
+    go (inl f) = cc
+    go (inr f) = cc
+
+-- an answer joins the flight to the end that asked for these items
+pub push-answer : (from : Role) (held : ContextSet) (own : List (List Item)) (flight : List Entry) (shared : ContextSet) (items : List Item) (more : List (List Item)) (results : List Result) → Reads from held own flight shared → IsRising shared → IsOne own → unanswered flight own ≡ items ∷ more → Fits items results → Reads from held own (flight ++ (AnAnswer results ∷ [])) (altered items results shared)
+push-answer from held [] [] shared items more results h r o e fits = absurd (cc)
+push-answer from held (first ∷ []) [] shared items more results h r o e fits =
+    let same : first ≡ items = cc in
+    (subst (λ i. Fits i results) (sym same) fits, ap (altered first results) h ∙ ap (λ i. altered i results shared) same)
+push-answer from held (first ∷ second ∷ own) [] shared items more results h r o e fits = absurd o
+push-answer from held own (AValue bt j q ∷ flight) shared items more results h r o e fits = (h.0, h.1, push-answer from held own flight shared items more results h.2 r o e fits)
+push-answer from held [] (AnAsk bt asks ∷ flight) shared items more results h r o e fits = absurd (let n = later-none flight in cc)
+push-answer from held (first ∷ []) (AnAsk bt asks ∷ flight) shared items more results h r o e fits = (
+  h.0,
+  h.1,
+  h.2,
+  h.3,
+  λ qs fit.
+      subst (λ s. Reads from (altered asks qs held) (first ∷ []) (flight ++ (AnAnswer results ∷ [])) s)
+      (altered-altered items results asks qs shared (subst (λ i. AreApart i asks) (unanswered-head flight first items more e) h.3.0) r)
+      (push-answer from (altered asks qs held) (first ∷ []) flight (altered asks qs shared) items more results (h.4 qs fit) (rising-altered asks qs shared r) o e fits),
+)
+push-answer from held (first ∷ second ∷ own) (AnAsk bt asks ∷ flight) shared items more results h r o e fits = absurd o
+push-answer from held [] (AnAnswer rs ∷ flight) shared items more results h r o e fits = absurd h.0
+push-answer from held (first ∷ []) (AnAnswer rs ∷ flight) shared items more results h r o e fits = absurd (let n = later-none flight in cc)
+push-answer from held (first ∷ second ∷ own) (AnAnswer rs ∷ flight) shared items more results h r o e fits = absurd o
+push-answer from held own (AMark bt number ∷ flight) shared items more results h r o e fits = (h.0, push-answer from held own flight shared items more results h.1 r o e fits)
+push-answer from held own (AGive ∷ flight) shared items more results h r o e fits = push-answer from held own flight shared items more results h r o e fits
+push-answer from held own (ARelease ∷ flight) shared items more results h r o e fits = (h.0, push-answer from held own flight shared items more results h.1 r o e fits)
+push-answer from held own (AQuiet ∷ flight) shared items more results h r o e fits = push-answer from held own flight shared items more results h r o e fits
+push-answer from held own (ABad ∷ flight) shared items more results h r o e fits = absurd h
+
+-- sound items of one end are apart from those of the other, over one set
+sound-apart_item : (role : Role) (set : ContextSet) (i j : Item) → IsSound role set i → IsSound (other role) set j → IsApart i j
+sound-apart_item role set (Addition i o) (Addition j u) h g = λ e. parities role (sym h.0 ∙ ap (λ k. k % 2) e ∙ g.0)
+  where
+    parities : (r : Role) → parity r ≡ parity (other r) → ⊥
+    parities Initiator e = grind arith
+    parities Responder e = grind arith
+sound-apart_item role set (Addition i o) (Deletion j) h g = λ e. true≢false (sym g ∙ ap (λ k. is_some (lookup set k)) (sym e) ∙ ap is_some h.1)
+sound-apart_item role set (Deletion i) (Addition j u) h g = λ e. true≢false (sym h ∙ ap (λ k. is_some (lookup set k)) e ∙ ap is_some g.1)
+sound-apart_item role set (Deletion i) (Deletion j) h g = tt
+
+sound-apart_from : (role : Role) (set : ContextSet) (i : Item) (js : List Item) → IsSound role set i → AreSound (other role) set js → IsApartFrom i js
+sound-apart_from role set i [] h g = tt
+sound-apart_from role set i (j ∷ js) h g = (sound-apart_item role set i j h g.0, sound-apart_from role set i js h g.1)
+
+pub sound-apart : (role : Role) (set : ContextSet) (is js : List Item) → AreSound role set is → AreSound (other role) set js → AreApart is js
+sound-apart role set [] js h g = tt
+sound-apart role set (i ∷ is) js h g = (sound-apart_from role set i js h.0 g, sound-apart role set is js h.1 g)
+
+-- an alteration joins a flight
+pub push-ask : (from : Role) (held : ContextSet) (own : List (List Item)) (flight : List Entry) (shared at : ContextSet) (items : List Item) → Reads from held own flight shared → asked flight ≡ [] → shared ≡ at → AreSound from at items → AreDistinct (identifiers items) → AllApart (unanswered flight own) items → Reads from held own (flight ++ (AnAsk at items ∷ [])) shared
+push-ask from held own [] shared at items h n a s d u =
+    (h ∙ a, subst (λ x. AreSound from x items) (sym (h ∙ a)) s, d, u, λ results fits. ap (altered items results) h)
+push-ask from held own (AValue bt j q ∷ flight) shared at items h n a s d u = (h.0, h.1, push-ask from held own flight shared at items h.2 n a s d u)
+push-ask from held own (AnAsk bt asks ∷ flight) shared at items h n a s d u = absurd (cc)
+push-ask from held own (AnAnswer results ∷ flight) shared at items h n a s d u = (h.0, push-ask from (altered_first own results held) (later own) flight shared at items h.1 n a s d u)
+push-ask from held own (AMark bt number ∷ flight) shared at items h n a s d u = (h.0, push-ask from held own flight shared at items h.1 n a s d u)
+push-ask from held own (AGive ∷ flight) shared at items h n a s d u = push-ask from held own flight shared at items h n a s d u
+push-ask from held own (ARelease ∷ flight) shared at items h n a s d u = (h.0, push-ask from held own flight shared at items h.1 n a s d u)
+push-ask from held own (AQuiet ∷ flight) shared at items h n a s d u = push-ask from held own flight shared at items h n a s d u
+push-ask from held own (ABad ∷ flight) shared at items h n a s d u = absurd h
+
+-- a mark joins a flight
+pub push-mark : (from : Role) (held : ContextSet) (own : List (List Item)) (flight : List Entry) (shared at : ContextSet) (number : ℕ) → Reads from held own flight shared → asked flight ≡ [] → shared ≡ at → Reads from held own (flight ++ (AMark at number ∷ [])) shared
+push-mark from held own [] shared at number h n a = (h ∙ a, h)
+push-mark from held own (AValue bt j q ∷ flight) shared at number h n a = (h.0, h.1, push-mark from held own flight shared at number h.2 n a)
+push-mark from held own (AnAsk bt asks ∷ flight) shared at number h n a = absurd (cc)
+push-mark from held own (AnAnswer results ∷ flight) shared at number h n a = (h.0, push-mark from (altered_first own results held) (later own) flight shared at number h.1 n a)
+push-mark from held own (AMark bt m ∷ flight) shared at number h n a = (h.0, push-mark from held own flight shared at number h.1 n a)
+push-mark from held own (AGive ∷ flight) shared at number h n a = push-mark from held own flight shared at number h n a
+push-mark from held own (ARelease ∷ flight) shared at number h n a = (h.0, push-mark from held own flight shared at number h.1 n a)
+push-mark from held own (AQuiet ∷ flight) shared at number h n a = push-mark from held own flight shared at number h n a
+push-mark from held own (ABad ∷ flight) shared at number h n a = absurd h
+
+-- an entry that asks nothing of the sets
+abbrev pub IsPlain : Role → Entry → Type 0
+IsPlain from AGive = Unit {0}
+IsPlain from AQuiet = Unit {0}
+IsPlain from ARelease = from ≡ Initiator
+IsPlain from entry = ⊥
+
+plain-end : (from : Role) (held : ContextSet) (own : List (List Item)) (shared : ContextSet) (e : Entry) → IsPlain from e → held ≡ shared → Reads from held own (e ∷ []) shared
+plain-end from held own shared AGive p h = h
+plain-end from held own shared AQuiet p h = h
+plain-end from held own shared ARelease p h = (p, h)
+plain-end from held own shared (AValue bt j q) p h = absurd p
+plain-end from held own shared (AnAsk bt asks) p h = absurd p
+plain-end from held own shared (AnAnswer results) p h = absurd p
+plain-end from held own shared (AMark bt m) p h = absurd p
+plain-end from held own shared ABad p h = absurd p
+
+pub push-plain : (from : Role) (held : ContextSet) (own : List (List Item)) (flight : List Entry) (shared : ContextSet) (e : Entry) → Reads from held own flight shared → IsPlain from e → Reads from held own (flight ++ (e ∷ [])) shared
+push-plain from held own [] shared e h p = plain-end from held own shared e p h
+push-plain from held own (AValue bt j q ∷ flight) shared e h p = (h.0, h.1, push-plain from held own flight shared e h.2 p)
+push-plain from held own (AnAsk bt asks ∷ flight) shared e h p =
+    (h.0, h.1, h.2, h.3, λ results fits. push-plain from (altered asks results held) own flight (altered asks results shared) e (h.4 results fits) p)
+push-plain from held own (AnAnswer results ∷ flight) shared e h p = (h.0, push-plain from (altered_first own results held) (later own) flight shared e h.1 p)
+push-plain from held own (AMark bt m ∷ flight) shared e h p = (h.0, push-plain from held own flight shared e h.1 p)
+push-plain from held own (AGive ∷ flight) shared e h p = push-plain from held own flight shared e h p
+push-plain from held own (ARelease ∷ flight) shared e h p = (h.0, push-plain from held own flight shared e h.1 p)
+push-plain from held own (AQuiet ∷ flight) shared e h p = push-plain from held own flight shared e h p
+push-plain from held own (ABad ∷ flight) shared e h p = absurd h
+
+-- an end asks: what comes to it is read as before
+pub ask-none : (from : Role) (held : ContextSet) (items : List Item) (flight : List Entry) (shared : ContextSet) → Reads from held [] flight shared → asked flight ≡ [] → Reads from held (items ∷ []) flight shared
+ask-none from held items [] shared h n = h
+ask-none from held items (AValue bt j q ∷ flight) shared h n = (h.0, h.1, ask-none from held items flight shared h.2 n)
+ask-none from held items (AnAsk bt asks ∷ flight) shared h n = absurd (cc)
+ask-none from held items (AnAnswer results ∷ flight) shared h n = absurd h.0
+ask-none from held items (AMark bt m ∷ flight) shared h n = (h.0, ask-none from held items flight shared h.1 n)
+ask-none from held items (AGive ∷ flight) shared h n = ask-none from held items flight shared h n
+ask-none from held items (ARelease ∷ flight) shared h n = (h.0, ask-none from held items flight shared h.1 n)
+ask-none from held items (AQuiet ∷ flight) shared h n = ask-none from held items flight shared h n
+ask-none from held items (ABad ∷ flight) shared h n = absurd h
+
+pub ask-one : (role : Role) (held : ContextSet) (items : List Item) (flight : List Entry) (shared : ContextSet) → Reads (other role) held [] flight shared → IsOne (asked flight) → AreSound role held items → Reads (other role) held (items ∷ []) flight shared
+ask-one role held items [] shared h o s = h
+ask-one role held items (AValue bt j q ∷ flight) shared h o s = (h.0, h.1, ask-one role held items flight shared h.2 o s)
+ask-one role held items (AnAsk bt asks ∷ flight) shared h o s = (
+  h.0,
+  h.1,
+  h.2,
+  (sound-apart role held items asks s h.1, tt),
+  λ results fits. ask-none (other role) (altered asks results held) items flight (altered asks results shared) (h.4 results fits) (none (asked flight) o),
+)
+  where
+    none : (xs : List (List Item)) → IsOne (asks ∷ xs) → xs ≡ []
+    none [] o = refl
+    none (x ∷ xs) o = absurd o
+ask-one role held items (AnAnswer results ∷ flight) shared h o s = absurd h.0
+ask-one role held items (AMark bt m ∷ flight) shared h o s = (h.0, ask-one role held items flight shared h.1 o s)
+ask-one role held items (AGive ∷ flight) shared h o s = ask-one role held items flight shared h o s
+ask-one role held items (ARelease ∷ flight) shared h o s = (h.0, ask-one role held items flight shared h.1 o s)
+ask-one role held items (AQuiet ∷ flight) shared h o s = ask-one role held items flight shared h o s
+ask-one role held items (ABad ∷ flight) shared h o s = absurd h
+
+-- no answer is in a flight to an end with no own alteration
+pub no-answers : (from : Role) (held : ContextSet) (flight : List Entry) (shared : ContextSet) (own : List (List Item)) → Reads from held [] flight shared → unanswered flight own ≡ own
+no-answers from held [] shared own h = refl
+no-answers from held (AValue bt j q ∷ flight) shared own h = no-answers from held flight shared own h.2
+no-answers from held (AnAsk bt asks ∷ flight) shared own h =
+    no-answers from (altered asks (rejections asks) held) flight (altered asks (rejections asks) shared) own (h.4 (rejections asks) (rejections-fit asks))
+no-answers from held (AnAnswer results ∷ flight) shared own h = absurd h.0
+no-answers from held (AMark bt m ∷ flight) shared own h = no-answers from held flight shared own h.1
+no-answers from held (AGive ∷ flight) shared own h = no-answers from held flight shared own h
+no-answers from held (ARelease ∷ flight) shared own h = no-answers from held flight shared own h.1
+no-answers from held (AQuiet ∷ flight) shared own h = no-answers from held flight shared own h
+no-answers from held (ABad ∷ flight) shared own h = absurd h
+
+pub asked-append : (flight more : List Entry) → asked (flight ++ more) ≡ asked flight ++ asked more
+asked-append [] more = refl
+asked-append (AValue bt j q ∷ flight) more = asked-append flight more
+asked-append (AnAsk bt asks ∷ flight) more = ap (λ xs. asks ∷ xs) (asked-append flight more)
+asked-append (AnAnswer results ∷ flight) more = asked-append flight more
+asked-append (AMark bt m ∷ flight) more = asked-append flight more
+asked-append (AGive ∷ flight) more = asked-append flight more
+asked-append (ARelease ∷ flight) more = asked-append flight more
+asked-append (AQuiet ∷ flight) more = asked-append flight more
+asked-append (ABad ∷ flight) more = asked-append flight more
+
+pub unanswered-append : (flight more : List Entry) (own : List (List Item)) → unanswered (flight ++ more) own ≡ unanswered more (unanswered flight own)
+unanswered-append [] more own = refl
+unanswered-append (AValue bt j q ∷ flight) more own = unanswered-append flight more own
+unanswered-append (AnAsk bt asks ∷ flight) more own = unanswered-append flight more own
+unanswered-append (AnAnswer results ∷ flight) more own = unanswered-append flight more (later own)
+unanswered-append (AMark bt m ∷ flight) more own = unanswered-append flight more own
+unanswered-append (AGive ∷ flight) more own = unanswered-append flight more own
+unanswered-append (ARelease ∷ flight) more own = unanswered-append flight more own
+unanswered-append (AQuiet ∷ flight) more own = unanswered-append flight more own
+unanswered-append (ABad ∷ flight) more own = unanswered-append flight more own
+
+-- marks and the token: a mark carries the next number and comes from the token's holder
+abbrev pub Paced : ℕ → Bool → List Saved → List Entry → Type 0
+Paced most turn saved [] = Unit {0}
+Paced most turn saved (AValue bt j q ∷ flight) = Paced most turn saved flight
+Paced most turn saved (AnAsk bt asks ∷ flight) = Paced most turn saved flight
+Paced most turn saved (AnAnswer results ∷ flight) = Paced most turn saved flight
+Paced most turn saved (AMark at number ∷ flight) =
+    (turn ≡ false) × (number ≡ next_number saved) × (number ≤ most) × Paced most turn (record { number = number; set = at } ∷ saved) flight
+Paced most turn saved (AGive ∷ flight) = (turn ≡ false) × Paced most true saved flight
+Paced most turn saved (ARelease ∷ flight) = Paced most turn saved flight
+Paced most turn saved (AQuiet ∷ flight) = Paced most turn saved flight
+Paced most turn saved (ABad ∷ flight) = Paced most turn saved flight
+
+abbrev pub turn_after : Bool → List Entry → Bool
+turn_after turn [] = turn
+turn_after turn (AValue bt j q ∷ flight) = turn_after turn flight
+turn_after turn (AnAsk bt asks ∷ flight) = turn_after turn flight
+turn_after turn (AnAnswer results ∷ flight) = turn_after turn flight
+turn_after turn (AMark at number ∷ flight) = turn_after turn flight
+turn_after turn (AGive ∷ flight) = turn_after true flight
+turn_after turn (ARelease ∷ flight) = turn_after turn flight
+turn_after turn (AQuiet ∷ flight) = turn_after turn flight
+turn_after turn (ABad ∷ flight) = turn_after turn flight
+
+abbrev pub saved_after : List Saved → List Entry → List Saved
+saved_after saved [] = saved
+saved_after saved (AValue bt j q ∷ flight) = saved_after saved flight
+saved_after saved (AnAsk bt asks ∷ flight) = saved_after saved flight
+saved_after saved (AnAnswer results ∷ flight) = saved_after saved flight
+saved_after saved (AMark at number ∷ flight) = saved_after (record { number = number; set = at } ∷ saved) flight
+saved_after saved (AGive ∷ flight) = saved_after saved flight
+saved_after saved (ARelease ∷ flight) = saved_after saved flight
+saved_after saved (AQuiet ∷ flight) = saved_after saved flight
+saved_after saved (ABad ∷ flight) = saved_after saved flight
+
+-- no mark and no giving is on its way to the token's holder
+pub record IsStill (most : ℕ) (flight : List Entry) : Type 0 where
+  pub paced : (turn : Bool) (saved : List Saved) → Paced most turn saved flight
+  pub turn : (turn : Bool) → turn_after turn flight ≡ turn
+  pub marks : (saved : List Saved) → saved_after saved flight ≡ saved
+
+still-same : (most : ℕ) (flight : List Entry) (e : Entry) → ((turn : Bool) (saved : List Saved) → Paced most turn saved flight → Paced most turn saved (e ∷ flight)) → ((turn : Bool) → turn_after turn (e ∷ flight) ≡ turn_after turn flight) → ((saved : List Saved) → saved_after saved (e ∷ flight) ≡ saved_after saved flight) → IsStill most flight → IsStill most (e ∷ flight)
+still-same most flight e p t m s =
+    record { paced = λ turn saved. p turn saved (s.paced turn saved); turn = λ turn. t turn ∙ s.turn turn; marks = λ saved. m saved ∙ s.marks saved }
+
+pub paced-holder : (most : ℕ) (saved : List Saved) (flight : List Entry) → Paced most true saved flight → IsStill most flight
+paced-holder most saved [] p = record { paced = λ turn saved. tt; turn = λ turn. refl; marks = λ saved. refl }
+paced-holder most saved (AValue bt j q ∷ flight) p = still-same most flight _ (λ t v h. h) (λ t. refl) (λ v. refl) (paced-holder most saved flight p)
+paced-holder most saved (AnAsk bt asks ∷ flight) p = still-same most flight _ (λ t v h. h) (λ t. refl) (λ v. refl) (paced-holder most saved flight p)
+paced-holder most saved (AnAnswer results ∷ flight) p = still-same most flight _ (λ t v h. h) (λ t. refl) (λ v. refl) (paced-holder most saved flight p)
+paced-holder most saved (AMark at number ∷ flight) p = absurd (true≢false p.0)
+paced-holder most saved (AGive ∷ flight) p = absurd (true≢false p.0)
+paced-holder most saved (ARelease ∷ flight) p = still-same most flight _ (λ t v h. h) (λ t. refl) (λ v. refl) (paced-holder most saved flight p)
+paced-holder most saved (AQuiet ∷ flight) p = still-same most flight _ (λ t v h. h) (λ t. refl) (λ v. refl) (paced-holder most saved flight p)
+paced-holder most saved (ABad ∷ flight) p = still-same most flight _ (λ t v h. h) (λ t. refl) (λ v. refl) (paced-holder most saved flight p)
+
+pub paced-append : (most : ℕ) (turn : Bool) (saved : List Saved) (flight more : List Entry) → Paced most turn saved flight → Paced most (turn_after turn flight) (saved_after saved flight) more → Paced most turn saved (flight ++ more)
+paced-append most turn saved [] more p q = q
+paced-append most turn saved (AValue bt j s ∷ flight) more p q = paced-append most turn saved flight more p q
+paced-append most turn saved (AnAsk bt asks ∷ flight) more p q = paced-append most turn saved flight more p q
+paced-append most turn saved (AnAnswer results ∷ flight) more p q = paced-append most turn saved flight more p q
+paced-append most turn saved (AMark at number ∷ flight) more p q = (p.0, p.1, p.2, paced-append most turn (record { number = number; set = at } ∷ saved) flight more p.3 q)
+paced-append most turn saved (AGive ∷ flight) more p q = (p.0, paced-append most true saved flight more p.1 q)
+paced-append most turn saved (ARelease ∷ flight) more p q = paced-append most turn saved flight more p q
+paced-append most turn saved (AQuiet ∷ flight) more p q = paced-append most turn saved flight more p q
+paced-append most turn saved (ABad ∷ flight) more p q = paced-append most turn saved flight more p q
+
+pub turn-append : (turn : Bool) (flight more : List Entry) → turn_after turn (flight ++ more) ≡ turn_after (turn_after turn flight) more
+turn-append turn [] more = refl
+turn-append turn (AValue bt j s ∷ flight) more = turn-append turn flight more
+turn-append turn (AnAsk bt asks ∷ flight) more = turn-append turn flight more
+turn-append turn (AnAnswer results ∷ flight) more = turn-append turn flight more
+turn-append turn (AMark at number ∷ flight) more = turn-append turn flight more
+turn-append turn (AGive ∷ flight) more = turn-append true flight more
+turn-append turn (ARelease ∷ flight) more = turn-append turn flight more
+turn-append turn (AQuiet ∷ flight) more = turn-append turn flight more
+turn-append turn (ABad ∷ flight) more = turn-append turn flight more
+
+pub saved-append : (saved : List Saved) (flight more : List Entry) → saved_after saved (flight ++ more) ≡ saved_after (saved_after saved flight) more
+saved-append saved [] more = refl
+saved-append saved (AValue bt j s ∷ flight) more = saved-append saved flight more
+saved-append saved (AnAsk bt asks ∷ flight) more = saved-append saved flight more
+saved-append saved (AnAnswer results ∷ flight) more = saved-append saved flight more
+saved-append saved (AMark at number ∷ flight) more = saved-append (record { number = number; set = at } ∷ saved) flight more
+saved-append saved (AGive ∷ flight) more = saved-append saved flight more
+saved-append saved (ARelease ∷ flight) more = saved-append saved flight more
+saved-append saved (AQuiet ∷ flight) more = saved-append saved flight more
+saved-append saved (ABad ∷ flight) more = saved-append saved flight more
+
+-- what is saved below a number that was reached stays, whatever marks come
+pub below-after : (most : ℕ) (turn : Bool) (saved : List Saved) (flight : List Entry) (n : ℕ) → Paced most turn saved flight → n ≤ next_number saved → below n (saved_after saved flight) ≡ below n saved
+below-after most turn saved [] n p h = refl
+below-after most turn saved (AValue bt j s ∷ flight) n p h = below-after most turn saved flight n p h
+below-after most turn saved (AnAsk bt asks ∷ flight) n p h = below-after most turn saved flight n p h
+below-after most turn saved (AnAnswer results ∷ flight) n p h = below-after most turn saved flight n p h
+below-after most turn saved (AMark at number ∷ flight) n p h =
+    let e = p.1 in
+    let high : n ≤ suc number = omega arith in
+    let low : n ≤ number = omega arith in
+    let skip : below n (record { number = number; set = at } ∷ saved) ≡ below n saved = grind (arith, nat_tests) in
+    below-after most turn (record { number = number; set = at } ∷ saved) flight n p.3 high ∙ skip
+below-after most turn saved (AGive ∷ flight) n p h = below-after most true saved flight n p.1 h
+below-after most turn saved (ARelease ∷ flight) n p h = below-after most turn saved flight n p h
+below-after most turn saved (AQuiet ∷ flight) n p h = below-after most turn saved flight n p h
+below-after most turn saved (ABad ∷ flight) n p h = below-after most turn saved flight n p h
+
+pub next-after : (most : ℕ) (turn : Bool) (saved : List Saved) (flight : List Entry) (n : ℕ) → Paced most turn saved flight → n ≤ next_number saved → n ≤ next_number (saved_after saved flight)
+next-after most turn saved [] n p h = h
+next-after most turn saved (AValue bt j s ∷ flight) n p h = next-after most turn saved flight n p h
+next-after most turn saved (AnAsk bt asks ∷ flight) n p h = next-after most turn saved flight n p h
+next-after most turn saved (AnAnswer results ∷ flight) n p h = next-after most turn saved flight n p h
+next-after most turn saved (AMark at number ∷ flight) n p h =
+    let e = p.1 in
+    next-after most turn (record { number = number; set = at } ∷ saved) flight n p.3 (omega arith)
+next-after most turn saved (AGive ∷ flight) n p h = next-after most true saved flight n p.1 h
+next-after most turn saved (ARelease ∷ flight) n p h = next-after most turn saved flight n p h
+next-after most turn saved (AQuiet ∷ flight) n p h = next-after most turn saved flight n p h
+next-after most turn saved (ABad ∷ flight) n p h = next-after most turn saved flight n p h

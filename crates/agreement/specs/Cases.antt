@@ -1,0 +1,232 @@
+-- Worked cases: short lists of events, whose outcome the definitions compute.
+use Rattle.std.specs.Prelude.{◌≡◌, ℕ, zero, suc, Bool, true, false, if◌then◌else◌, ◌++◌, List, [], ◌∷◌, Option, Some, None}
+use Rattle.agreement.specs.Sets.{Pair, Context, ContextSet, Role, lookup}
+use Rattle.agreement.specs.Sets.Role.{Initiator, Responder}
+use Rattle.agreement.specs.Sets.Item.{Addition, Deletion}
+use Rattle.agreement.specs.Sets.Result.{Rejected, Accepted, AcceptedAs}
+use Rattle.agreement.specs.Messages.{Apdu, Value, Mode, Setup, Message, Act, Choice}
+use Rattle.agreement.specs.Messages.Apdu.{Invoke, Outcome, Reject}
+use Rattle.agreement.specs.Messages.Act.{Connects, Recovers, Says, Queues, Alters, Marks, Gives, Restarts, Starts, Encodes, Sends, Ends, Interrupts, Discards, Resumes}
+use Rattle.agreement.specs.Messages.Choice.{Nothing, Accepting, Results}
+use Rattle.agreement.specs.State.{Phase, State}
+use Rattle.agreement.specs.State.Phase.{Over}
+use Rattle.agreement.specs.Takings.{is_purged}
+use Rattle.agreement.specs.Worlds.{Step, World, state_of, Sending, flight_to, IsRun}
+use Rattle.agreement.specs.Worlds.Step.{Acts, Takes, Passes}
+use Rattle.agreement.specs.Worlds.Moment.{By, Break}
+use Rattle.agreement.specs.Laws.{arrived, invoked}
+
+-- an end does something, or takes or passes over what comes next, or the connection breaks
+pub data Event : Type 0 where
+  Does : (role : Role) → (act : Act) → Event
+  Gets : (role : Role) → (choice : Choice) → Event
+  Cut : Event
+
+abbrev pub is_over : Phase → Bool
+is_over Over = true
+is_over phase = false
+
+abbrev pub step_of : Role → State → Message → Choice → Step
+step_of role state message choice =
+    if is_over state.phase then Passes message else if is_purged role state.awaits message then Passes message else Takes message choice
+
+abbrev pub comes_to : Role → State → List Sending → Choice → World → World
+comes_to role state [] choice world = world
+comes_to role state (sending ∷ rest) choice world = By role (step_of role state sending.message choice) ∷ world
+
+abbrev pub after_event : Setup → World → Event → World
+after_event setup world (Does role act) = By role (Acts act) ∷ world
+after_event setup world (Gets role choice) = comes_to role (state_of setup role world) (flight_to setup role world) choice world
+after_event setup world Cut = Break ∷ world
+
+abbrev pub played_on : Setup → World → List Event → World
+played_on setup world [] = world
+played_on setup world (event ∷ events) = played_on setup (after_event setup world event) events
+
+-- the world that these events make, the oldest first
+abbrev pub played : Setup → List Event → World
+played setup events = played_on setup [] events
+
+-- a plain codec: the context, then the APDU
+abbrev pub link_code : Option ℕ → ℕ
+link_code None = 0
+link_code (Some link) = suc link
+
+abbrev pub written_plainly : Apdu → List ℕ
+written_plainly (Invoke number operation link argument) = 0 ∷ number ∷ operation ∷ link_code link ∷ argument ∷ []
+written_plainly (Outcome number content) = 1 ∷ number ∷ content ∷ []
+written_plainly (Reject number true) = 2 ∷ number ∷ []
+written_plainly (Reject number false) = 3 ∷ number ∷ []
+
+abbrev pub link_of : ℕ → Option ℕ
+link_of zero = None
+link_of (suc link) = Some link
+
+abbrev pub apdu_of : List ℕ → Option Apdu
+apdu_of (zero ∷ number ∷ operation ∷ link ∷ argument ∷ []) = Some (Invoke number operation (link_of link) argument)
+apdu_of (suc zero ∷ number ∷ content ∷ []) = Some (Outcome number content)
+apdu_of (suc (suc zero) ∷ number ∷ []) = Some (Reject number true)
+apdu_of (suc (suc (suc zero)) ∷ number ∷ []) = Some (Reject number false)
+apdu_of octets = None
+
+abbrev pub value_of_parts : ℕ → Option Pair → Option Apdu → Option Value
+value_of_parts identifier (Some pair) (Some apdu) = Some (record { identifier = identifier; pair = pair; apdu = apdu })
+value_of_parts identifier pair apdu = None
+
+abbrev pub read_plainly : ContextSet → List ℕ → Option Value
+read_plainly set [] = None
+read_plainly set (identifier ∷ octets) = value_of_parts identifier (lookup set identifier) (apdu_of octets)
+
+abbrev pub IsFaithful : Type 0
+IsFaithful = (set : ContextSet) (value : Value) → lookup set value.identifier ≡ Some value.pair → read_plainly set (value.identifier ∷ written_plainly value.apdu) ≡ Some value
+
+abbrev pub case_setup : Mode → IsFaithful → Setup
+case_setup mode faithful =
+    record {
+      mode = mode;
+      codec = record { written = λ value. value.identifier ∷ written_plainly value.apdu; read = read_plainly; faithful = faithful };
+      silent = λ operation. false;
+      links = λ parent child. true;
+      bare_context = record { identifier = 0; pair = record { abstract_syntax = 2 ∷ 999 ∷ 7 ∷ 1 ∷ []; transfer_syntax = 2 ∷ 1 ∷ 1 ∷ [] } };
+      most_marks = 4096;
+    }
+
+abbrev pub module_in : List ℕ → Pair
+module_in syntax = record { abstract_syntax = 2 ∷ 999 ∷ 7 ∷ 1 ∷ []; transfer_syntax = syntax }
+
+abbrev pub in_ber : Pair
+in_ber = module_in (2 ∷ 1 ∷ 1 ∷ [])
+
+abbrev pub in_packed : Pair
+in_packed = module_in (2 ∷ 999 ∷ 5 ∷ 1 ∷ [])
+
+abbrev pub acse_in_ber : Context
+acse_in_ber = record { identifier = 1; pair = record { abstract_syntax = 2 ∷ 2 ∷ 1 ∷ 0 ∷ 1 ∷ []; transfer_syntax = 2 ∷ 1 ∷ 1 ∷ [] } }
+
+abbrev pub with_five : Pair → ContextSet
+with_five pair = acse_in_ber ∷ record { identifier = 5; pair = pair } ∷ []
+
+-- the opening with contexts 1 and 5
+abbrev pub opening : List Event
+opening = Does Initiator Connects ∷ Gets Responder (Accepting (with_five in_ber)) ∷ Gets Initiator Nothing ∷ []
+
+abbrev pub invocation : ℕ → Pair → Value
+invocation number pair = record { identifier = 5; pair = pair; apdu = Invoke number 1 None 5 }
+
+-- both delete context 5 before either takes the other's alteration
+abbrev pub collision : List Event
+collision =
+    opening ++ Does Initiator (Alters (Deletion 5 ∷ [])) ∷ Does Responder (Alters (Deletion 5 ∷ [])) ∷
+    Gets Responder (Results (Accepted ∷ [])) ∷ Gets Initiator (Results (Accepted ∷ [])) ∷ Gets Initiator Nothing ∷ Gets Responder Nothing ∷ []
+
+-- the initiator deletes context 5, on which the responder has an invocation on its way: rejected
+abbrev pub use_rejected : List Event
+use_rejected =
+    opening ++ Does Responder (Says (invocation 1 in_ber)) ∷ Does Initiator (Alters (Deletion 5 ∷ [])) ∷
+    Gets Responder (Results (Rejected ∷ [])) ∷ Gets Initiator Nothing ∷ Gets Initiator Nothing ∷ []
+
+abbrev pub marked_once : List Event
+marked_once = opening ++ Does Initiator Marks ∷ Gets Responder Nothing ∷ []
+
+-- the initiator adds context 7, and the responder restarts before it takes that
+abbrev pub addition_dropped : List Event
+addition_dropped =
+    marked_once ++ Does Initiator (Alters (Addition 7 (in_packed ∷ []) ∷ [])) ∷ Does Responder (Restarts 2) ∷
+    Gets Responder Nothing ∷ Gets Initiator Nothing ∷ Gets Responder Nothing ∷ []
+
+abbrev pub marked_twice : List Event
+marked_twice = marked_once ++ Does Initiator Marks ∷ Gets Responder Nothing ∷ []
+
+-- restarts to 3 and to 2 cross: the lower mark wins
+abbrev pub lower_wins : List Event
+lower_wins =
+    marked_twice ++ Does Initiator (Restarts 3) ∷ Does Responder (Restarts 2) ∷ Gets Responder Nothing ∷ Gets Initiator Nothing ∷ Gets Responder Nothing ∷ []
+
+-- restarts to 2 and to 2 cross: the initiator's wins
+abbrev pub tie_won : List Event
+tie_won =
+    marked_twice ++ Does Initiator (Restarts 2) ∷ Does Responder (Restarts 2) ∷ Gets Initiator Nothing ∷ Gets Responder Nothing ∷ Gets Initiator Nothing ∷ []
+
+-- context 5 is deleted and added again after mark 1, and a restart to 2 brings back the first pair
+abbrev pub read_by_mark : List Event
+read_by_mark =
+    marked_once ++ Does Initiator (Alters (Deletion 5 ∷ [])) ∷ Gets Responder (Results (Accepted ∷ [])) ∷ Gets Initiator Nothing ∷
+    Does Initiator (Alters (Addition 5 (in_packed ∷ []) ∷ [])) ∷ Gets Responder (Results (AcceptedAs in_packed ∷ [])) ∷ Gets Initiator Nothing ∷
+    Does Responder (Restarts 2) ∷ Gets Initiator Nothing ∷ Gets Responder Nothing ∷ Does Initiator (Says (invocation 1 in_ber)) ∷ Gets Responder Nothing ∷ []
+
+-- the initiator's first transfer, in three parts with two marks
+abbrev pub first_part : List ℕ
+first_part = 5 ∷ 0 ∷ 1 ∷ []
+
+abbrev pub second_part : List ℕ
+second_part = 1 ∷ 0 ∷ []
+
+abbrev pub third_part : List ℕ
+third_part = 5 ∷ []
+
+abbrev pub begun : List Event
+begun =
+    opening ++ Does Initiator (Queues 5 (Invoke 1 1 None 5)) ∷ Does Initiator Starts ∷ Does Initiator (Encodes 5) ∷
+    Does Initiator (Sends first_part) ∷ Does Initiator Marks ∷ Gets Responder Nothing ∷ Gets Responder Nothing ∷ Gets Responder Nothing ∷ []
+
+-- an interrupt: the confirmation of mark 1 is passed over
+abbrev pub interrupted : List Event
+interrupted = begun ++ Does Initiator Interrupts ∷ Gets Responder Nothing ∷ Gets Initiator Nothing ∷ Gets Initiator Nothing ∷ []
+
+abbrev pub discarded : List Event
+discarded = begun ++ Does Initiator Discards ∷ Gets Responder Nothing ∷ Gets Initiator Nothing ∷ Gets Initiator Nothing ∷ []
+
+abbrev pub recovered : List Event
+recovered = Cut ∷ Does Initiator Recovers ∷ Gets Responder (Accepting (with_five in_ber)) ∷ Gets Initiator Nothing ∷ []
+
+-- mark 1 is confirmed, the rest is lost with the connection; the transfer is resumed from mark 1
+abbrev pub resumed_from_mark : List Event
+resumed_from_mark =
+    begun ++ Gets Initiator Nothing ∷ Does Initiator (Sends second_part) ∷ Does Initiator Marks ∷ Does Initiator (Sends third_part) ∷ Does Initiator Ends ∷
+    (recovered ++ Does Initiator Resumes ∷ Does Initiator (Sends second_part) ∷ Does Initiator Marks ∷ Does Initiator (Sends third_part) ∷ Does Initiator Ends ∷
+    Gets Responder Nothing ∷ Gets Responder Nothing ∷ Gets Responder Nothing ∷ Gets Responder Nothing ∷ Gets Responder Nothing ∷
+    Gets Initiator Nothing ∷ Gets Initiator Nothing ∷ [])
+
+-- nothing is confirmed: the transfer is encoded anew
+abbrev pub resumed_from_nothing : List Event
+resumed_from_nothing =
+    begun ++ (recovered ++ Does Initiator Resumes ∷ Does Initiator (Encodes 5) ∷ Does Initiator (Sends (first_part ++ second_part ++ third_part)) ∷ Does Initiator Ends ∷
+    Gets Responder Nothing ∷ Gets Responder Nothing ∷ Gets Responder Nothing ∷ Gets Initiator Nothing ∷ [])
+
+-- all has come, and the confirmation of the end is lost: what is resumed isn't handed up again
+abbrev pub completed_resumed : List Event
+completed_resumed =
+    begun ++ Gets Initiator Nothing ∷ Does Initiator (Sends second_part) ∷ Does Initiator (Sends third_part) ∷ Does Initiator Ends ∷
+    Gets Responder Nothing ∷ Gets Responder Nothing ∷ Gets Responder Nothing ∷
+    (recovered ++ Does Initiator Resumes ∷ Does Initiator (Sends (second_part ++ third_part)) ∷ Does Initiator Ends ∷
+    Gets Responder Nothing ∷ Gets Responder Nothing ∷ Gets Responder Nothing ∷ Gets Initiator Nothing ∷ [])
+
+-- a giving that a break cuts, before it is taken or after
+abbrev pub giving_lost : List Event
+giving_lost = opening ++ Does Initiator Gives ∷ recovered
+
+abbrev pub giving_taken : List Event
+giving_taken = opening ++ Does Initiator Gives ∷ Gets Responder Nothing ∷ recovered
+
+-- a recovery whose acceptance is lost, and another one
+abbrev pub recovery_broken : List Event
+recovery_broken = begun ++ Cut ∷ Does Initiator Recovers ∷ Gets Responder (Accepting (with_five in_ber)) ∷ (recovered ++ Does Initiator Resumes ∷ Gets Responder Nothing ∷ [])
+
+-- the state of an end after these events
+abbrev pub end_of : Mode → IsFaithful → Role → List Event → State
+end_of mode faithful role events = state_of (case_setup mode faithful) role (played (case_setup mode faithful) events)
+
+abbrev pub Happens : Mode → List Event → Type 0
+Happens mode events = (faithful : IsFaithful) → IsRun (case_setup mode faithful) (played (case_setup mode faithful) events)
+
+-- P holds of the two ends after these events
+abbrev pub Leaves : Mode → List Event → (State → State → Type 0) → Type 0
+Leaves mode events P = (faithful : IsFaithful) → P (end_of mode faithful Initiator events) (end_of mode faithful Responder events)
+
+-- the transfers that the responder handed up after these events are those of these activities, and the
+-- invocations that it accepted have these numbers, the newest first
+abbrev pub Arrive : Mode → List Event → List ℕ → List ℕ → Type 0
+Arrive mode events activities invocations =
+    (faithful : IsFaithful) →
+    (arrived (case_setup mode faithful) Responder (played (case_setup mode faithful) events) ≡ activities) ×
+    (invoked (case_setup mode faithful) Responder (played (case_setup mode faithful) events) ≡ invocations)

@@ -1,0 +1,248 @@
+-- The laws of two ends, over every world that they can reach.
+use Rattle.std.specs.Prelude.{◌≡◌, ℕ, ◌<◌, true, false, if◌then◌else◌, ◌⊎◌, ◌++◌, List, [], ◌∷◌, Option, Some, None}
+use Rattle.agreement.specs.Sets.{Pair, Role, ContextSet, other, lookup, AreDistinct}
+use Rattle.agreement.specs.Sets.Role.{Initiator, Responder}
+use Rattle.agreement.specs.Messages.{Apdu, Value, Setup, Message, Choice}
+use Rattle.agreement.specs.Messages.Message.{Accept, Connect, End}
+use Rattle.agreement.specs.Messages.Act.{Gives, Says, Queues, Encodes}
+use Rattle.agreement.specs.Messages.Choice.{Accepting}
+use Rattle.agreement.specs.Messages.Apdu.{Invoke, Outcome, Reject}
+use Rattle.agreement.specs.State.{Awaited, Transfer, State, Calls}
+use Rattle.agreement.specs.State.Phase.{Up}
+use Rattle.agreement.specs.State.Awaited.{RestartOf}
+use Rattle.agreement.specs.Takings.{MayTake, value_of, handed_up}
+use Rattle.agreement.specs.Calls.{is_open, is_accepted}
+use Rattle.agreement.specs.Worlds.{Step, World, if_same, state_of, Sending, sent_by_step, shared_at, pair_under, IsRun}
+use Rattle.agreement.specs.Worlds.Step.{Acts, Takes, Passes}
+use Rattle.agreement.specs.Worlds.Moment.{By, Break}
+
+-- a message with the pair of its presentation value
+pub record Mail : Type 0 where
+  pub message : Message
+  pub pair : Option Pair
+
+-- what was sent to an end on this connection, the oldest first, each with the pair that the shared
+-- set gave just before the sending
+abbrev pub mails : List Sending → List Mail
+mails [] = []
+mails (sending ∷ rest) = record { message = sending.message; pair = pair_under sending.shared sending.message } ∷ mails rest
+
+abbrev pub mail_to : Setup → Role → World → List Mail
+mail_to setup role [] = []
+mail_to setup role (Break ∷ world) = []
+mail_to setup role (By who step ∷ world) =
+    if_same role who (mail_to setup role world) (mail_to setup role world ++ mails (sent_by_step setup who world step))
+
+-- what an end took of it, each with the pair that its own set gave; nothing where it passed it over
+abbrev pub read_in : State → Step → List (Option Mail)
+read_in state (Acts act) = []
+read_in state (Takes message choice) = Some (record { message = message; pair = pair_under state.sets.held message }) ∷ []
+read_in state (Passes message) = None ∷ []
+
+abbrev pub readings : Setup → Role → World → List (Option Mail)
+readings setup role [] = []
+readings setup role (Break ∷ world) = []
+readings setup role (By who step ∷ world) =
+    if_same role who (readings setup role world ++ read_in (state_of setup role world) step) (readings setup role world)
+
+-- each reading is the mail in its place
+abbrev pub AreAsSent : List (Option Mail) → List Mail → Type 0
+AreAsSent [] mail = Unit {0}
+AreAsSent (reading ∷ readings) [] = ⊥
+AreAsSent (None ∷ readings) (first ∷ mail) = AreAsSent readings mail
+AreAsSent (Some reading ∷ readings) (first ∷ mail) = (reading ≡ first) × AreAsSent readings mail
+
+-- taken as sent: each message taken is the one sent in its place of the connection, and each value
+-- was read under the pair that the shared set gave its context at its sending
+abbrev pub TakenAsSent : Setup → Type 0
+TakenAsSent setup = (world : World) → IsRun setup world → (role : Role) → AreAsSent (readings setup role world) (mail_to setup role world)
+
+-- no abort of itself: each message taken, and not passed over, may be taken
+abbrev pub NoAbortOfItself : Setup → Type 0
+NoAbortOfItself setup =
+    (world : World) (role : Role) (message : Message) (choice : Choice) → IsRun setup (By role (Takes message choice) ∷ world) →
+    MayTake setup role (state_of setup role world) message
+
+-- an end holds the turn where it is up and doesn't wait for a restart
+abbrev pub IsNotRestarting : Awaited → Type 0
+IsNotRestarting (RestartOf number) = ⊥
+IsNotRestarting awaited = Unit {0}
+
+abbrev pub HoldsTurn : State → Type 0
+HoldsTurn state = (state.turn ≡ true) × (state.phase ≡ Up) × IsNotRestarting state.awaits
+
+-- one holder of the turn
+abbrev pub OneHolder : Setup → Type 0
+OneHolder setup =
+    (world : World) → IsRun setup world → HoldsTurn (state_of setup Initiator world) → HoldsTurn (state_of setup Responder world) → ⊥
+
+-- since its acceptance an end has given the turn to nobody
+abbrev pub HasNotGiven : World → Type 0
+HasNotGiven [] = Unit {0}
+HasNotGiven (By Initiator (Acts Gives) ∷ later) = ⊥
+HasNotGiven (moment ∷ later) = HasNotGiven later
+
+-- after an acceptance that the initiator took, of an opening or of a recovery, it has the turn
+-- whenever it is up, until it gives
+abbrev pub InitiatorLeads : Setup → Type 0
+InitiatorLeads setup =
+    (later earlier : World) (set : ContextSet) (choice : Choice) → HasNotGiven later →
+    (state_of setup Initiator (later ++ (By Initiator (Takes (Accept set) choice) ∷ earlier))).phase ≡ Up →
+    (state_of setup Initiator (later ++ (By Initiator (Takes (Accept set) choice) ∷ earlier))).turn ≡ true
+
+-- the invocation that an APDU is the outcome of, as it is told: of a result, an error, or a reject of
+-- the invocation (X.880 9)
+abbrev pub outcome_in : Apdu → List ℕ
+outcome_in (Invoke number operation link argument) = []
+outcome_in (Outcome number content) = number ∷ []
+outcome_in (Reject number true) = number ∷ []
+outcome_in (Reject number false) = []
+
+abbrev pub told_by : Setup → State → Option Value → List ℕ
+told_by setup state None = []
+told_by setup state (Some value) = if is_accepted setup state.calls value.apdu then outcome_in value.apdu else []
+
+-- the outcomes that an end was told since its association began, the newest first
+abbrev pub told_after : Setup → State → Step → List ℕ → List ℕ
+told_after setup state (Acts act) told = told
+told_after setup state (Passes message) told = told
+told_after setup state (Takes Connect (Accepting set)) told = []
+told_after setup state (Takes message choice) told = told_by setup state (value_of setup state message) ++ told
+
+abbrev pub told : Setup → Role → World → List ℕ
+told setup role [] = []
+told setup role (Break ∷ world) = told setup role world
+told setup role (By who step ∷ world) =
+    if_same role who (told_after setup (state_of setup role world) step (told setup role world)) (told setup role world)
+
+-- one outcome: no invocation gets two
+abbrev pub OneOutcome : Setup → Type 0
+OneOutcome setup = (world : World) → IsRun setup world → (role : Role) → AreDistinct (told setup role world)
+
+-- what was handed in at an end, the newest first
+abbrev pub handed_by : Step → List Apdu
+handed_by (Acts (Says value)) = value.apdu ∷ []
+handed_by (Acts (Queues context apdu)) = apdu ∷ []
+handed_by step = []
+
+abbrev pub all_handed : Role → World → List Apdu
+all_handed role [] = []
+all_handed role (Break ∷ world) = all_handed role world
+all_handed role (By who step ∷ world) = if_same role who (handed_by step ++ all_handed role world) (all_handed role world)
+
+abbrev pub IsAmong : Apdu → List Apdu → Type 0
+IsAmong apdu [] = ⊥
+IsAmong apdu (first ∷ rest) = (first ≡ apdu) ⊎ IsAmong apdu rest
+
+-- an invocation or an outcome was handed in; a reject is made by the end itself
+abbrev pub IsHandedIn : List Apdu → Apdu → Type 0
+IsHandedIn handed (Invoke number operation link argument) = IsAmong (Invoke number operation link argument) handed
+IsHandedIn handed (Outcome number content) = IsAmong (Outcome number content) handed
+IsHandedIn handed (Reject number is_of_invocation) = Unit {0}
+
+-- the other side's own: each invocation and each outcome that is handed up is one that was handed in
+-- at the other end
+abbrev pub TheOthersOwn : Setup → Type 0
+TheOthersOwn setup =
+    (world : World) (role : Role) (message : Message) (choice : Choice) (value : Value) → IsRun setup (By role (Takes message choice) ∷ world) →
+    value_of setup (state_of setup role world) message ≡ Some value → IsHandedIn (all_handed (other role) world) value.apdu
+
+-- an item as it was encoded: its activity, its APDU, its context, and the pair that the shared set
+-- gave that just then
+pub record Encoding : Type 0 where
+  pub activity : ℕ
+  pub apdu : Apdu
+  pub identifier : ℕ
+  pub pair : Option Pair
+
+abbrev pub encoding_of : Option Transfer → ℕ → ContextSet → ℕ → List Encoding
+encoding_of None activity shared context = []
+encoding_of (Some transfer) activity shared context =
+    record { activity = activity; apdu = transfer.item.apdu; identifier = context; pair = lookup shared context } ∷ []
+
+abbrev pub encoded_by : State → ContextSet → Step → List Encoding
+encoded_by state shared (Acts (Encodes context)) = encoding_of state.outgoing.transfer state.outgoing.started shared context
+encoded_by state shared step = []
+
+-- what an end encoded, the newest first
+abbrev pub encodings : Setup → Role → World → List Encoding
+encodings setup role [] = []
+encodings setup role (Break ∷ world) = encodings setup role world
+encodings setup role (By who step ∷ world) =
+    if_same role who (encoded_by (state_of setup role world) (shared_at setup world).set step ++ encodings setup role world) (encodings setup role world)
+
+abbrev pub IsNewest : Encoding → List Encoding → Type 0
+IsNewest encoding [] = ⊥
+IsNewest encoding (first ∷ rest) = first ≡ encoding
+
+-- transfers arrive whole: what is handed up at the end of an activity is the item of that activity,
+-- as it was last encoded, read under the pair that the shared set gave then
+abbrev pub ArriveWhole : Setup → Type 0
+ArriveWhole setup =
+    (world : World) (role : Role) (number : ℕ) (choice : Choice) (value : Value) → IsRun setup (By role (Takes (End number) choice) ∷ world) →
+    handed_up setup (state_of setup role world).sets.held (state_of setup role world).incoming ≡ Some value →
+    IsNewest (record { activity = (state_of setup role world).incoming.last; apdu = value.apdu; identifier = value.identifier; pair = Some value.pair }) (encodings setup (other role) world)
+
+-- the activities whose transfers were handed up at an end since its association began, the newest first
+abbrev pub arrived_of : Option Value → ℕ → List ℕ
+arrived_of None activity = []
+arrived_of (Some value) activity = activity ∷ []
+
+abbrev pub arrived_after : Setup → State → Step → List ℕ → List ℕ
+arrived_after setup state (Takes (End number) choice) arrived =
+    arrived_of (handed_up setup state.sets.held state.incoming) state.incoming.last ++ arrived
+arrived_after setup state (Takes Connect (Accepting set)) arrived = []
+arrived_after setup state step arrived = arrived
+
+abbrev pub arrived : Setup → Role → World → List ℕ
+arrived setup role [] = []
+arrived setup role (Break ∷ world) = arrived setup role world
+arrived setup role (By who step ∷ world) =
+    if_same role who (arrived_after setup (state_of setup role world) step (arrived setup role world)) (arrived setup role world)
+
+abbrev pub AreFalling : List ℕ → Type 0
+AreFalling [] = Unit {0}
+AreFalling (n ∷ []) = Unit {0}
+AreFalling (n ∷ m ∷ rest) = (m < n) × AreFalling (m ∷ rest)
+
+-- transfers arrive at most once, in rising numbers
+abbrev pub ArriveOnce : Setup → Type 0
+ArriveOnce setup = (world : World) → IsRun setup world → (role : Role) → AreFalling (arrived setup role world)
+
+-- what an accepted APDU names: an invocation whose number isn't open yet, and whose link is an open
+-- invocation of the taker; an outcome or a reject of an open invocation of the taker (X.880 8.3, 9)
+abbrev pub NamesOpen : Calls → Apdu → Type 0
+NamesOpen calls (Invoke number operation None argument) = is_open number calls.peer_open ≡ false
+NamesOpen calls (Invoke number operation (Some parent) argument) =
+    (is_open number calls.peer_open ≡ false) × (is_open parent calls.own_open ≡ true)
+NamesOpen calls (Outcome number content) = is_open number calls.own_open ≡ true
+NamesOpen calls (Reject number is_of_invocation) = is_open number calls.own_open ≡ true
+
+-- what is accepted names what is open
+abbrev pub AcceptedNamesOpen : Setup → Type 0
+AcceptedNamesOpen setup = (calls : Calls) (apdu : Apdu) → is_accepted setup calls apdu ≡ true → NamesOpen calls apdu
+
+-- the numbers of the invocations that an end accepted since its association began, the newest first
+abbrev pub invocation_in : Apdu → List ℕ
+invocation_in (Invoke number operation link argument) = number ∷ []
+invocation_in apdu = []
+
+abbrev pub invoked_by : Setup → State → Option Value → List ℕ
+invoked_by setup state None = []
+invoked_by setup state (Some value) = if is_accepted setup state.calls value.apdu then invocation_in value.apdu else []
+
+abbrev pub invoked_after : Setup → State → Step → List ℕ → List ℕ
+invoked_after setup state (Acts act) invoked = invoked
+invoked_after setup state (Passes message) invoked = invoked
+invoked_after setup state (Takes Connect (Accepting set)) invoked = []
+invoked_after setup state (Takes message choice) invoked = invoked_by setup state (value_of setup state message) ++ invoked
+
+abbrev pub invoked : Setup → Role → World → List ℕ
+invoked setup role [] = []
+invoked setup role (Break ∷ world) = invoked setup role world
+invoked setup role (By who step ∷ world) =
+    if_same role who (invoked_after setup (state_of setup role world) step (invoked setup role world)) (invoked setup role world)
+
+-- each invocation is taken at most once: their numbers rise
+abbrev pub InvokedOnce : Setup → Type 0
+InvokedOnce setup = (world : World) → IsRun setup world → (role : Role) → AreFalling (invoked setup role world)

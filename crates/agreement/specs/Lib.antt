@@ -1,0 +1,9 @@
+pub mod Sets
+pub mod Messages
+pub mod State
+pub mod Calls
+pub mod Acts
+pub mod Takings
+pub mod Worlds
+pub mod Laws
+pub mod Cases

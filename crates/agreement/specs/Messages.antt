@@ -1,0 +1,94 @@
+-- The messages of an association, with their values kept abstract (X.225, X.226, X.227, X.228, X.880).
+use Rattle.std.specs.Prelude.{◌≡◌, ℕ, Bool, List, Option, Some}
+use Rattle.agreement.specs.Sets.{Pair, Context, ContextSet, Item, Result, Listed, lookup}
+
+-- an APDU of remote operations (X.880 9): an invocation with its number, operation and link, an
+-- outcome (a result or an error) with its number, or a reject
+pub data Apdu : Type 0 where
+  Invoke : (number : ℕ) → (operation : ℕ) → (link : Option ℕ) → (argument : ℕ) → Apdu
+  Outcome : (number : ℕ) → (content : ℕ) → Apdu
+  Reject : (number : ℕ) → (is_of_invocation : Bool) → Apdu
+
+-- a presentation value: an APDU on a context, with the pair that it is written under
+pub record Value : Type 0 where
+  pub identifier : ℕ
+  pub pair : Pair
+  pub apdu : Apdu
+
+-- how values stand in octets: what is written under the pair that a set gives its context is read
+-- under that set as the same value
+pub record Codec : Type 0 where
+  pub written : Value → List ℕ
+  pub read : ContextSet → List ℕ → Option Value
+  pub faithful : (set : ContextSet) (value : Value) → lookup set value.identifier ≡ Some value.pair → read set (written value) ≡ Some value
+
+pub data Mode : Type 0 where
+  Bare : Mode
+  Direct : Mode
+  Reliable : Mode
+
+-- what the two ends have in common: the mode, the codec, which operations have no outcome, which
+-- operation may be linked to an invocation of which (X.880 8), the one context of bare mode, the most marks
+pub record Setup : Type 0 where
+  pub mode : Mode
+  pub codec : Codec
+  pub silent : ℕ → Bool
+  pub links : ℕ → ℕ → Bool
+  pub bare_context : Context
+  pub most_marks : ℕ
+
+pub data Message : Type 0 where
+  Connect : Message  -- CN (X.225 8.3.1) for a new association
+  Recover : Message  -- CN that recovers one (X.228)
+  Accept : (set : ContextSet) → Message  -- AC (X.225 8.3.4), the accepted contexts
+  Refuse : Message  -- RF (X.225 8.3.5)
+  Data : (value : Value) → Message  -- DT (X.225 8.3.11)
+  Alter : (items : List Item) → Message  -- alter context (X.226 8.4.2)
+  AlterAnswer : (results : List Result) → Message  -- its acknowledgement (X.226 8.4.3)
+  Mark : (number : ℕ) → Message  -- MIP, a minor synchronization point (X.225 8.3.21)
+  MarkAnswer : (number : ℕ) → Message  -- MIA (X.225 8.3.22)
+  Restart : (number : ℕ) → (list : List Listed) → Message  -- RS (X.225 8.3.26)
+  RestartAnswer : (number : ℕ) → (list : List Listed) → Message  -- RA (X.225 8.3.27)
+  Start : (activity : ℕ) → Message  -- AS (X.225 8.3.31)
+  Resume : (activity : ℕ) → (mark : ℕ) → Message  -- AR (X.225 8.3.32)
+  Chunk : (octets : List ℕ) → Message  -- DT with a part of a transfer (X.228)
+  End : (number : ℕ) → Message  -- AE (X.225 8.3.37)
+  EndAnswer : (number : ℕ) → Message  -- AEA (X.225 8.3.38)
+  Interrupt : Message  -- AI (X.225 8.3.33)
+  InterruptAnswer : Message  -- AIA (X.225 8.3.34)
+  Discard : Message  -- AD (X.225 8.3.35)
+  DiscardAnswer : Message  -- ADA (X.225 8.3.36)
+  Give : Message  -- GT, in reliable mode GTC (X.225 8.3.16, 8.3.18)
+  GiveAnswer : Message  -- GTA (X.225 8.3.19)
+  Please : (priority : ℕ) → Message  -- PT (X.225 8.3.17)
+  Release : Message  -- FN (X.225 8.3.6)
+  ReleaseAnswer : Message  -- DN (X.225 8.3.7)
+  UserAbort : Message  -- AB (X.225 8.3.9)
+
+-- what an end does of itself
+pub data Act : Type 0 where
+  Connects : Act
+  Recovers : Act
+  Says : (value : Value) → Act
+  Queues : (context : ℕ) → (apdu : Apdu) → Act  -- reliable mode: hands an APDU in
+  Alters : (items : List Item) → Act
+  Marks : Act
+  Gives : Act
+  Pleads : (priority : ℕ) → Act
+  Restarts : (number : ℕ) → Act
+  Starts : Act
+  Encodes : (context : ℕ) → Act  -- encodes the item of the current transfer
+  Sends : (octets : List ℕ) → Act
+  Ends : Act
+  Interrupts : Act
+  Discards : Act
+  Resumes : Act
+  Releases : Act
+  Aborts : Act
+
+-- what the taker of a message decides: the contexts that it accepts, that it refuses, or the results
+pub data Choice : Type 0 where
+  Nothing : Choice
+  Accepting : (set : ContextSet) → Choice
+  Refusing : Choice
+  Results : (results : List Result) → Choice

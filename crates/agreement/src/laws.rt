@@ -1,0 +1,61 @@
+//! Each law is the contract of a function with an empty body.
+
+ghost use Rattle.std.specs.Prelude.{◌≡◌};
+ghost use Rattle.agreement.specs.Messages.{Setup};
+ghost use Rattle.agreement.specs.Laws.{TakenAsSent, NoAbortOfItself, OneHolder, InitiatorLeads, OneOutcome, TheOthersOwn, AcceptedNamesOpen, ArriveWhole, ArriveOnce, InvokedOnce};
+
+/// Taken as sent: each message that an end took, and did not pass over, is the one that was sent in its
+/// place of the connection, and its value was read under the pair that the shared set gave at the sending.
+pub fn taken_as_sent()
+    ensures law { (setup : Setup) → TakenAsSent setup }
+{}
+
+/// No abort of itself: each message that comes next and is not passed over may be taken; no list of a
+/// restart differs, and an answer answers what was asked.
+pub fn no_abort_of_itself()
+    ensures law { (setup : Setup) → NoAbortOfItself setup }
+{}
+
+/// One holder: at no moment do both ends hold the turn.
+pub fn one_holder()
+    ensures law { (setup : Setup) → OneHolder setup }
+{}
+
+/// After an acceptance that the initiator took, also that of a recovery, it holds the turn whenever it is
+/// up, until it gives.
+pub fn initiator_leads()
+    ensures law { (setup : Setup) → InitiatorLeads setup }
+{}
+
+/// One outcome: an end is told at most one outcome of an invocation, and only while it is open.
+pub fn one_outcome()
+    ensures law { (setup : Setup) → OneOutcome setup }
+{}
+
+/// The other side's own: each invocation and each outcome that is handed up was handed in at the other end.
+pub fn the_others_own()
+    ensures law { (setup : Setup) → TheOthersOwn setup }
+{}
+
+/// What is accepted names what is open: an outcome an open invocation, and a link an open invocation of the
+/// taker.
+pub fn accepted_names_open()
+    ensures law { (setup : Setup) → AcceptedNamesOpen setup }
+{}
+
+/// Transfers arrive whole: what is handed up at the end of an activity is the item of that activity as it was
+/// last encoded, read under the pair that the shared set gave then.
+pub fn transfers_arrive_whole()
+    ensures law { (setup : Setup) → ArriveWhole setup }
+{}
+
+/// Transfers arrive at most once: the activities whose transfers are handed up have rising numbers, through
+/// interrupts, discards, resumptions, breaks and recoveries.
+pub fn transfers_arrive_once()
+    ensures law { (setup : Setup) → ArriveOnce setup }
+{}
+
+/// Each invocation is taken at most once: the numbers of the invocations that an end accepts rise.
+pub fn invoked_once()
+    ensures law { (setup : Setup) → InvokedOnce setup }
+{}

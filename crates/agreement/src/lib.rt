@@ -1,0 +1,17 @@
+//! Agreement of two ends at message level: the model of an association and its laws.
+#![tactic(auto)]
+
+mod cases;
+mod laws;
+
+pub use cases::{
+    alterations_collide, completed_activity_resumed, deletion_rejected_for_use, discard_forgets,
+    giving_lost_in_a_break, giving_taken_before_a_break, initiator_wins_a_tie,
+    interrupt_passes_over_confirmations, lower_restart_wins, plain_codec_is_faithful,
+    recovery_that_breaks, restart_brings_back_a_pair, restart_drops_an_addition,
+    resumption_from_a_mark, resumption_from_nothing,
+};
+pub use laws::{
+    accepted_names_open, initiator_leads, invoked_once, no_abort_of_itself, one_holder,
+    one_outcome, taken_as_sent, the_others_own, transfers_arrive_once, transfers_arrive_whole,
+};
