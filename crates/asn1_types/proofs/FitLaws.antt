@@ -1,0 +1,108 @@
+-- Which values fit a row goes by the rows that it names.
+use Rattle.std.proofs.Common.{◌≡◌, ◌≢◌, ℕ, zero, suc, ◌+◌, ◌<◌, ◌≤◌, Bool, true, false, ◌&&◌, List, [], ◌∷◌, length, drop, get_or, Option, Some, None, refl, sym, ap, ◌∙◌, subst, arith}
+use Rattle.std.specs.Prelude.{slice_get, nat_lt}
+use Rattle.std.specs.List.{AllByRecursion, list_all}
+use Rattle.std.proofs.lemmas.Bool.{lt-ltb, ltb-true, ltb-false}
+use Rattle.asn1_types.specs.declared.row.Part.{Part}
+use Rattle.asn1_types.specs.declared.row.TypeRow.{TypeRow}
+use Rattle.asn1_types.specs.declared.row.TypeRow.TheVariants.{Boolean, Integer, Enumerated, Null, OctetString, BitString, ObjectId, Text, Sequence, Set, SequenceOf, Choice, Tagged, Any}
+use Rattle.asn1_types.specs.Rows.{of_row, along, names_of, rows_of_parts}
+use Rattle.asn1_types.specs.Table.{IsSound}
+use Rattle.asn1_types.specs.Value.{Value, MaybeValues, no_parts, absent, present}
+use Rattle.asn1_types.specs.ValueView.{parts_of}
+use Rattle.asn1_types.specs.Fits.{has_32_bits, part_fits, parts_fit, sequence_fits, alternative_fits, choice_fits, fits_by, nothing_fits, fits}
+use Rattle.asn1_types.proofs.Along.{settled}
+use Rattle.asn1_types.proofs.Sound.{is_down}
+
+module _ (f g : ℕ → Value → Bool) where
+  parts_same : (ps : List Part) → AllByRecursion (λ m. f m ≡ g m) (rows_of_parts ps) → (vs : MaybeValues) → parts_fit f ps vs ≡ parts_fit g ps vs
+  parts_same [] h no_parts = refl
+  parts_same [] h (absent vs) = refl
+  parts_same [] h (present v vs) = refl
+  parts_same (p ∷ ps) h no_parts = refl
+  parts_same (p ∷ ps) h (absent vs) = ap (λ b. p.optional && b) (parts_same ps h.1 vs)
+  parts_same (p ∷ ps) h (present v vs) = λ i. h.0 i v && parts_same ps h.1 vs i
+
+  alternative_same : (ps : List Part) → AllByRecursion (λ m. f m ≡ g m) (rows_of_parts ps) → (which : ℕ) → alternative_fits f (slice_get ps which) ≡ alternative_fits g (slice_get ps which)
+  alternative_same [] h which = refl
+  alternative_same (p ∷ ps) h zero = h.0
+  alternative_same (p ∷ ps) h (suc which) = alternative_same ps h.1 which
+
+pub fits_cong : (row : TypeRow) (f g : ℕ → Value → Bool) → AllByRecursion (λ m. f m ≡ g m) (names_of row) → fits_by f row ≡ fits_by g row
+fits_cong Boolean f g h = refl
+fits_cong (Integer low high) f g h = refl
+fits_cong (Enumerated items) f g h = refl
+fits_cong Null f g h = refl
+fits_cong (OctetString most) f g h = refl
+fits_cong BitString f g h = refl
+fits_cong ObjectId f g h = refl
+fits_cong (Text kind) f g h = refl
+fits_cong (Sequence ps) f g h = ap sequence_fits (λ i vs. parts_same f g ps h vs i)
+fits_cong (Set ps) f g h = refl
+fits_cong (SequenceOf inner) f g h = refl
+fits_cong (Choice ps) f g h = ap choice_fits (λ i which. alternative_same f g ps h which i)
+fits_cong (Tagged class number explicit inner) f g h = λ i v. has_32_bits number && h.0 i v
+fits_cong Any f g h = refl
+
+-- which values fit a row, by the row
+pub fits_at : (rows : List TypeRow) → IsSound rows → (n : ℕ) (row : TypeRow) → slice_get rows n ≡ Some row → fits rows n ≡ fits_by (fits rows) row
+unfolding fits
+fits_at rows sound n row e = settled nothing_fits fits_by fits_cong rows (is_down rows sound) n row e
+
+no_row : (rows : List TypeRow) (n : ℕ) → length rows ≤ n → slice_get rows n ≡ None
+no_row [] n le = refl
+no_row (row ∷ rows) zero le = absurd (omega arith)
+no_row (row ∷ rows) (suc n) le = no_row rows n (omega arith)
+
+along_past : (rows : List TypeRow) (turns n : ℕ) (v : Value) → length rows ≤ n → along nothing_fits fits_by rows turns n v ≡ false
+along_past rows zero n v le = refl
+along_past rows (suc turns) n v le = rw (no_row rows n le) refl
+
+pub fits_past : (rows : List TypeRow) (n : ℕ) (v : Value) → length rows ≤ n → false ≡ fits rows n v
+unfolding fits
+fits_past rows n v le = sym (along_past rows (length rows) n v le)
+
+pub parts_short : (f : ℕ → Value → Bool) (ps : List Part) (vs : List (Option Value)) → length ps ≢ length vs → false ≡ parts_fit f ps (parts_of vs)
+parts_short f [] [] ne = absurd (ne refl)
+parts_short f [] (None ∷ vs) ne = refl
+parts_short f [] (Some v ∷ vs) ne = refl
+parts_short f (p ∷ ps) [] ne = refl
+parts_short f (p ∷ ps) (None ∷ vs) ne = and_false p.optional (parts_short f ps vs (λ e. ne (ap suc e)))
+  where
+    and_false : (a : Bool) {b : Bool} → false ≡ b → false ≡ (a && b)
+    and_false true e = e
+    and_false false e = refl
+parts_short f (p ∷ ps) (Some v ∷ vs) ne = and_false (f p.inner.0 v) (parts_short f ps vs (λ e. ne (ap suc e)))
+  where
+    and_false : (a : Bool) {b : Bool} → false ≡ b → false ≡ (a && b)
+    and_false true e = e
+    and_false false e = refl
+
+-- parts one after the other, as a loop goes
+pub parts_step : (f : ℕ → Value → Bool) (ps : List Part) (vs : List (Option Value)) (i : ℕ) (p : Part) (o : Option Value) → length ps ≡ length vs → i < length ps → p ≡ get_or ps i p → o ≡ get_or vs i o
+    → parts_fit f (drop i ps) (parts_of (drop i vs)) ≡ (part_fits f p o && parts_fit f (drop (suc i) ps) (parts_of (drop (suc i) vs)))
+parts_step f [] vs i p o same lt e d = absurd (omega arith)
+parts_step f (q ∷ ps) [] i p o same lt e d = absurd (omega arith)
+parts_step f (q ∷ ps) (None ∷ vs) zero p o same lt e d = rw (e, d) refl
+parts_step f (q ∷ ps) (Some v ∷ vs) zero p o same lt e d = rw (e, d) refl
+parts_step f (q ∷ ps) (w ∷ vs) (suc i) p o same lt e d = parts_step f ps vs i p o (omega arith) (omega arith) e d
+
+pub all_small : (ns : List ℕ) → ((i : ℕ) → get_or ns i 0 < 4294967296) → true ≡ list_all has_32_bits ns
+all_small [] h = refl
+all_small (n ∷ ns) h = rw (lt-ltb n 4294967296 (h 0)) (all_small ns (λ i. h (suc i)))
+
+
+pub not_within : (len n : ℕ) → (n < len → ⊥) → len ≤ n
+not_within len n h = by_test (nat_lt n len) refl
+  where
+    by_test : (b : Bool) → nat_lt n len ≡ b → len ≤ n
+    by_test true e = absurd (h (ltb-true n len e))
+    by_test false e = ltb-false n len e
+
+pub false_not : false ≡ true → ⊥
+false_not e = cc
+
+pub each_slot : (P : ℕ → Type 0) (ps : List Part) (i : ℕ) (p : Part) → AllByRecursion P (rows_of_parts ps) → slice_get ps i ≡ Some p → P p.inner.0
+each_slot P [] i p h e = absurd cc
+each_slot P (q ∷ ps) zero p h e = let same : q ≡ p = cc in subst (λ (x : Part). P x.inner.0) same h.0
+each_slot P (q ∷ ps) (suc i) p h e = each_slot P ps i p h.1 e

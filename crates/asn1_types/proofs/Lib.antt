@@ -1,0 +1,6 @@
+pub mod Depths
+pub mod Along
+pub mod Sound
+pub mod Names
+pub mod Adding
+pub mod FitLaws

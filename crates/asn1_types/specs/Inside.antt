@@ -1,0 +1,10 @@
+-- What a table keeps beside its rows.
+use Rattle.std.specs.Prelude.{◌≡◌, ℕ, ◌<◌, List, length, slice_get, slice_index, Some}
+use Rattle.asn1_types.specs.declared.row.TypeRow.{TypeRow}
+use Rattle.asn1_types.specs.Rows.{nesting}
+use Rattle.asn1_types.specs.Table.{IsSound}
+
+pub record IsKept (rows : List TypeRow) (nestings : List ℕ) : Type 0 where
+  pub sound : IsSound rows
+  pub len : length nestings ≡ length rows
+  pub each : (n : ℕ) → n < length rows → slice_index nestings n ≡ nesting rows n

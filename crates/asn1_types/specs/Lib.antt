@@ -1,0 +1,9 @@
+pub mod Value
+pub mod ValueCode
+pub mod ValueView
+pub mod ValueFalls
+pub mod Rows
+pub mod Table
+pub mod Inside
+pub mod Whole
+pub mod Fits

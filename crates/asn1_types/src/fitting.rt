@@ -1,0 +1,151 @@
+//! Which values fit which types.
+
+ghost use Rattle.std.specs.Prelude.{◌≡◌, ◌&&◌, ◌<◌, ◌≤◌, Some, length, slice_get};
+ghost use Rattle.std.specs.List.{list_all, AllByRecursion};
+ghost use Rattle.osi_base.specs.Oid.{is_oid};
+ghost use Rattle.asn1_types.specs.Rows.{rows_of_parts};
+ghost use Rattle.asn1_types.specs.Table.{IsSound};
+ghost use Rattle.asn1_types.specs.ValueView.{parts_of};
+ghost use Rattle.asn1_types.specs.Fits.{has_32_bits, integer_fits, null_fits, object_id_fits, part_fits, parts_fit, sequence_fits, alternative_fits, choice_fits, any_fits, fits_by, fits};
+
+use crate::row::{Part, Parts, TypeId, TypeRow};
+use crate::table::TypeTable;
+use crate::value::{Node, Val};
+use crate::whole::is_whole;
+use osi_base::are_oid;
+
+fn integer_fits(low: i64, high: i64, value: &Val) -> bool
+    ensures { result ≡ integer_fits low high value.now }
+{
+    match &value.node {
+        Node::Int(number) => low <= *number && *number <= high,
+        _ => false,
+    }
+}
+
+fn null_fits(value: &Val) -> bool
+    ensures { result ≡ null_fits value.now }
+{
+    match &value.node {
+        Node::Null => true,
+        _ => false,
+    }
+}
+
+/// Arcs have 32 bits.
+fn arcs_fit(arcs: &[u32]) -> bool
+    ensures { result ≡ list_all has_32_bits arcs.now }
+{
+    true
+}
+
+/// Tag numbers have 32 bits.
+fn number_fits(number: u32) -> bool
+    ensures { result ≡ has_32_bits number }
+{
+    true
+}
+
+fn object_id_fits(value: &Val) -> bool
+    ensures { result ≡ object_id_fits value.now }
+{
+    match &value.node {
+        Node::ObjectId(oid) => are_oid(oid.arcs()) && arcs_fit(oid.arcs()),
+        _ => false,
+    }
+}
+
+fn any_fits(value: &Val) -> bool
+    ensures { result ≡ any_fits value.now }
+{
+    match &value.node {
+        Node::Any(octets) => is_whole(octets.as_slice()),
+        _ => false,
+    }
+}
+
+/// Whether a value fits a row of a table: an INTEGER in its range, an OBJECT IDENTIFIER, of a
+/// SEQUENCE as many parts as the row has, each there unless it is optional, of a CHOICE an
+/// alternative that is there, and in an `Any` one whole value (X.690 8.1). Nothing fits a row that is
+/// not there. Only INTEGER, NULL, OBJECT IDENTIFIER, SEQUENCE, CHOICE, tagged types and `Any` are
+/// supported: nothing fits a row of any other type.
+#[cycle(fitting)]
+pub fn fits(table: &TypeTable, of: TypeId, value: &Val) -> bool
+    ensures { result ≡ fits table.now of.0 value.now }
+{
+    table.has(of) && fits_row(table, of, table.row(of), value)
+}
+
+#[cycle(fitting)]
+fn fits_row(table: &TypeTable, of: TypeId, row: &TypeRow, value: &Val) -> bool
+    requires row { slice_get table.now of.0 ≡ Some row.now }
+    requires sound { IsSound table.now }
+    ensures { result ≡ fits_by (fits table.now) row.now value.now }
+{
+    match row {
+        TypeRow::Integer { low, high } => integer_fits(*low, *high, value),
+        TypeRow::Null => null_fits(value),
+        TypeRow::ObjectId => object_id_fits(value),
+        TypeRow::Sequence(parts) => sequence_fits(table, of, parts.as_slice(), value),
+        TypeRow::Choice(alternatives) => choice_fits(table, of, alternatives, value),
+        TypeRow::Tagged { number, inner, .. } => number_fits(*number) && fits(table, *inner, value),
+        TypeRow::Any => any_fits(value),
+        _ => false,
+    }
+}
+
+#[cycle(fitting)]
+fn sequence_fits(table: &TypeTable, of: TypeId, parts: &[Part], value: &Val) -> bool
+    requires below { AllByRecursion (λ m. m < of.0) (rows_of_parts parts.now) }
+    requires within { of.0 ≤ length table.now }
+    ensures { result ≡ sequence_fits (parts_fit (fits table.now) parts.now) value.now }
+{
+    match &value.node {
+        Node::Parts(values) => parts_fit(table, of, parts, values),
+        _ => false,
+    }
+}
+
+#[cycle(fitting)]
+fn parts_fit(table: &TypeTable, of: TypeId, parts: &[Part], values: &[Option<Val>]) -> bool
+    requires below { AllByRecursion (λ m. m < of.0) (rows_of_parts parts.now) }
+    requires within { of.0 ≤ length table.now }
+    ensures { result ≡ parts_fit (fits table.now) parts.now (parts_of values.now) }
+{
+    if parts.len() != values.len() {
+        return false;
+    }
+    for (index, part) in parts.iter().enumerate() {
+        if !part_fits(table, of, part, &values[index]) {
+            return false;
+        }
+    }
+    true
+}
+
+#[cycle(fitting)]
+fn part_fits(table: &TypeTable, of: TypeId, part: &Part, value: &Option<Val>) -> bool
+    requires below { part.now.inner.0 < of.0 }
+    requires within { of.0 ≤ length table.now }
+    ensures { result ≡ part_fits (fits table.now) part.now value.now }
+{
+    match value {
+        Some(value) => fits(table, part.inner, value),
+        None => part.optional,
+    }
+}
+
+#[cycle(fitting)]
+fn choice_fits(table: &TypeTable, of: TypeId, alternatives: &Parts, value: &Val) -> bool
+    requires below { AllByRecursion (λ m. m < of.0) (rows_of_parts alternatives.now) }
+    requires within { of.0 ≤ length table.now }
+    ensures { result ≡ choice_fits (λ which. alternative_fits (fits table.now) (slice_get alternatives.now which)) value.now }
+{
+    match &value.node {
+        Node::Chosen { which, value } => match alternatives.get(*which as usize) {
+            Some(part) => fits(table, part.inner, value),
+            None => false,
+        },
+        _ => false,
+    }
+}

@@ -1,0 +1,22 @@
+//! Types and values of ASN.1 (X.680), below every transfer syntax: the value type, rows and
+//! tables of types, and which values fit.
+#![tactic(auto)]
+
+mod check;
+mod clash;
+mod fitting;
+mod nesting;
+mod opening;
+mod refusal;
+mod row;
+mod table;
+mod value;
+mod whole;
+
+pub use fitting::fits;
+pub use opening::{begins, is_no_tag, same_class};
+pub use refusal::RowRefusal;
+pub use row::{Class, Item, Named, Part, Parts, TextKind, TypeId, TypeRow};
+pub use table::TypeTable;
+pub use value::{MaybeVals, Node, Val, Vals};
+pub use whole::is_whole;

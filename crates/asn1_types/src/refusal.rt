@@ -1,0 +1,41 @@
+//! Why a row isn't added to a table.
+
+ghost use Rattle.std.specs.Prelude.{◌≡◌};
+ghost use Rattle.asn1_types.specs.declared.refusal.RowRefusal.TheVariants.{NoMemory as no_room};
+
+use osi_base::NoMemory;
+use std::alloc::AllocFailed;
+
+/// Why a row isn't added to a table.
+#[derive(Clone, Copy, Debug, PartialEq, Eq)]
+pub enum RowRefusal {
+    /// The row names this row, and there is no such row yet.
+    NoSuchRow(u32),
+    /// A range whose low end is above its high end, an ENUMERATED or CHOICE without an item, a
+    /// CHOICE of more than 256 alternatives, or the tag UNIVERSAL 0.
+    BadRange,
+    /// Two parts or items have one name, or two items one number.
+    DoubleName,
+    /// The row would nest more than 32 deep.
+    TooNested,
+    /// A tag doesn't tell the parts apart.
+    TagsNotDistinct,
+    /// Memory was refused.
+    NoMemory,
+}
+
+impl<T: Drop> From<AllocFailed<T>> for RowRefusal {
+    ghost from_gives = { λ _ e. e ≡ no_room };
+
+    fn from(_error: AllocFailed<T>) -> RowRefusal {
+        RowRefusal::NoMemory
+    }
+}
+
+impl From<NoMemory> for RowRefusal {
+    ghost from_gives = { λ _ e. e ≡ no_room };
+
+    fn from(_error: NoMemory) -> RowRefusal {
+        RowRefusal::NoMemory
+    }
+}

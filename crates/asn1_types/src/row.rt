@@ -1,0 +1,94 @@
+//! Rows of types (X.680): what a type is made of.
+
+ghost use Rattle.std.specs.Prelude.{◌≡◌};
+
+use osi_base::{ListOf, Name};
+
+/// The number of a row in its table.
+#[derive(Clone, Copy, Debug, PartialEq, Eq)]
+pub struct TypeId(pub u32);
+
+/// An item of an ENUMERATED (X.680 20).
+#[derive(Debug, Drop)]
+pub struct Item {
+    pub name: Name,
+    pub number: i64,
+}
+
+/// The items of an ENUMERATED, as a list.
+pub type Named = ListOf<Item>;
+
+/// A part of a SEQUENCE or SET, or an alternative of a CHOICE. Of an alternative `optional` means
+/// nothing.
+#[derive(Debug, Drop)]
+pub struct Part {
+    pub name: Name,
+    pub inner: TypeId,
+    pub optional: bool,
+}
+
+/// The parts of a SEQUENCE or SET, or the alternatives of a CHOICE, as a list.
+pub type Parts = ListOf<Part>;
+
+/// The kinds of text (X.680 41).
+#[derive(Clone, Copy, Debug, PartialEq, Eq)]
+pub enum TextKind {
+    /// UTF8String.
+    Utf8,
+    /// IA5String: the octets `00` to `7F`.
+    Ia5,
+    /// VisibleString: the octets `20` to `7E`.
+    Visible,
+    /// PrintableString: letters, digits, space and `'()+,-./:=?`.
+    Printable,
+    /// NumericString: digits and space.
+    Numeric,
+}
+
+/// The class of a tag (X.680 8.1).
+#[derive(Clone, Copy, Debug, PartialEq, Eq)]
+pub enum Class {
+    Universal,
+    Application,
+    Context,
+    Private,
+}
+
+/// A type. It names the types that it is made of by their rows.
+#[derive(Debug, Drop)]
+pub enum TypeRow {
+    /// BOOLEAN.
+    Boolean,
+    /// INTEGER from `low` to `high`, both included.
+    Integer { low: i64, high: i64 },
+    /// ENUMERATED.
+    Enumerated(Named),
+    /// NULL.
+    Null,
+    /// OCTET STRING of at most `most` octets.
+    OctetString { most: u32 },
+    /// BIT STRING.
+    BitString,
+    /// OBJECT IDENTIFIER.
+    ObjectId,
+    /// The kinds of text.
+    Text(TextKind),
+    /// SEQUENCE.
+    Sequence(Parts),
+    /// SET.
+    Set(Parts),
+    /// SEQUENCE OF.
+    SequenceOf(TypeId),
+    /// CHOICE.
+    Choice(Parts),
+    /// A type with a tag of its own, around the inner type's (explicit) or in its place. Over an
+    /// untagged CHOICE or an `Any` each tag is explicit, also where `explicit` is false.
+    Tagged {
+        class: Class,
+        number: u32,
+        explicit: bool,
+        inner: TypeId,
+    },
+    /// One whole BER value, kept as octets.
+    Any,
+}

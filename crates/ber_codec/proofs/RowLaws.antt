@@ -1,0 +1,167 @@
+-- Each row: what is read is spelled so, and what is spelled so is read.
+use Rattle.std.proofs.Common.{◌≡◌, ◌≢◌, ℕ, zero, suc, ◌+◌, ◌^◌, ◌≤◌, ◌<◌, Bool, true, false, not, ◌&&◌, ◌||◌, cond, List, [], ◌∷◌, ◌++◌, length, Option, Some, None, Result, Ok, Err, refl, sym, ap, ◌∙◌, subst, arith, ◌⊎◌, inl, inr}
+use Rattle.std.specs.Prelude.{slice_get, nat_eq}
+use Rattle.std.specs.List.{list_any, flat_map}
+use Rattle.std.proofs.lemmas.List.Folds.{list_any-append}
+use Rattle.asn1_types.specs.declared.row.Class.{Class}
+use Rattle.asn1_types.specs.declared.row.Class.TheVariants.{Universal}
+use Rattle.asn1_types.specs.declared.row.Part.{Part}
+use Rattle.asn1_types.specs.declared.row.TypeRow.{TypeRow}
+use Rattle.asn1_types.specs.declared.row.TypeRow.TheVariants as row
+use Rattle.asn1_types.specs.Rows.{Opening, tag, every, of_row, along, begins, openings, openings_by, is_no_tag, same_class, allows}
+use Rattle.asn1_types.specs.Table.{IsSound, has_clash, is_bad_range, clash, clashes_in_sequence, agrees_later}
+use Rattle.asn1_types.proofs.Sound.{IsSoundRow, sound_row}
+use Rattle.asn1_types.specs.Value.{Value}
+use Rattle.ber_codec.specs.declared.fault.ReadFault.TheVariants as faults
+use Rattle.ber_codec.specs.declared.spot.Scope.{Scope}
+use Rattle.ber_codec.specs.declared.spot.Tag as tags
+use Rattle.ber_codec.specs.Octets.{AreOctets}
+use Rattle.ber_codec.specs.Reading.{Spot, Opened, Reading}
+use Rattle.ber_codec.specs.Rules.{Reader, dead, tag_or, read_by, or_explicit, tagged_at, explicit_at, choice_at, any_at, primitive_at, integer_rule, null_rule, object_id_rule, sequence_at}
+use Rattle.ber_codec.specs.Spelling.{Spelled, RowIs, RowOr, SpelledBy, OrExplicit, TaggedIs, ChoiceIs, SequenceIs, AnyIs, IntegerIs, NullIs, ObjectIdIs}
+use Rattle.ber_codec.proofs.Steady.{Run, Relation, Found, Only, only_wider, OfTag, prim_found, prim_only, class_itself, eqb_itself}
+use Rattle.ber_codec.proofs.Constructed.{Body, constructed_at, ConstructedBy, constructed_found, constructed_only, explicit_body, explicit_found, explicit_only, explicit_same}
+use Rattle.ber_codec.proofs.Sequences.{sequence_body, sequence_found, choice_at_found}
+use Rattle.ber_codec.proofs.SequencesBack.{sequence_only, choice_only}
+use Rattle.ber_codec.proofs.Distinct.{begins_by, AnyAllows}
+use Rattle.ber_codec.proofs.Anys.{any_found, any_only, IsTagged}
+use Rattle.ber_codec.proofs.Contents.{integer_sound, integer_complete, null_sound, null_complete}
+use Rattle.ber_codec.proofs.Oids.{object_id_sound, object_id_complete}
+
+-- ---- what is read is spelled so
+
+dead_found : (t : Option tags.Tag) → Found (dead t) (λ strict levels v text. ⊥)
+dead_found t = record { found = λ scope place rest o s v to are opens e. absurd cc }
+
+pub tagged_found : (run : Run) (P : Relation) (t : tags.Tag) → Found run P → Found (explicit_at run t) (ConstructedBy t P)
+tagged_found run P t h = subst (λ (r : Run). Found r (ConstructedBy t P)) (explicit_same run t) (constructed_found (explicit_body run) t P (explicit_found run P h))
+
+or_found : (run : Run) (P : Relation) (t : Option tags.Tag) → Found run P → Found (or_explicit run t) (OrExplicit P t)
+or_found run P None h = h
+or_found run P (Some t) h = tagged_found run P t h
+
+module _ (rows : List TypeRow) where
+  row_found : (inner : ℕ → Reader) (rel : ℕ → Spelled) → ((n : ℕ) (t : Option tags.Tag) → Found (inner n t) (rel n t)) → (r : TypeRow) (t : Option tags.Tag) → Found (read_by (begins rows) inner r t) (RowIs rel r t)
+  unfolding sequence_at
+  row_found inner rel h row.Boolean t = dead_found t
+  row_found inner rel h (row.Integer low high) t = prim_found (integer_rule low high) (tag_or t Universal 2) (IntegerIs low high) (integer_sound low high)
+  row_found inner rel h (row.Enumerated items) t = dead_found t
+  row_found inner rel h row.Null t = prim_found null_rule (tag_or t Universal 5) NullIs null_sound
+  row_found inner rel h (row.OctetString most) t = dead_found t
+  row_found inner rel h row.BitString t = dead_found t
+  row_found inner rel h row.ObjectId t = prim_found object_id_rule (tag_or t Universal 6) ObjectIdIs object_id_sound
+  row_found inner rel h (row.Text kind) t = dead_found t
+  row_found inner rel h (row.Sequence ps) t =
+      constructed_found (sequence_body (begins rows) inner ps) (tag_or t Universal 16) (λ strict levels v c. SequenceIs rel strict ps v levels c) (sequence_found (begins rows) inner rel (λ n. h n None) ps)
+  row_found inner rel h (row.Set ps) t = dead_found t
+  row_found inner rel h (row.SequenceOf of) t = dead_found t
+  row_found inner rel h (row.Choice ps) t = or_found (choice_at (begins rows) inner 0 ps) (ChoiceIs rel ps) t (choice_at_found (begins rows) inner rel (λ n. h n None) ps ps 0 (λ i p e. let none : 0 + i ≡ i = omega arith in ap (slice_get ps) none ∙ e))
+  row_found inner rel h (row.Tagged class number true of) t = tagged_found (inner of.0 None) (rel of.0 None) (tag_or t class number) (h of.0 None)
+  row_found inner rel h (row.Tagged class number false of) t = h of.0 (Some (tag_or t class number))
+  row_found inner rel h row.Any t = or_found any_at (λ strict. AnyIs) t any_found
+
+  of_found : (inner : ℕ → Reader) (rel : ℕ → Spelled) → ((n : ℕ) (t : Option tags.Tag) → Found (inner n t) (rel n t)) → (o : Option TypeRow) (t : Option tags.Tag)
+      → Found (of_row dead (read_by (begins rows) inner) o t) (λ strict levels v text. RowOr (RowIs rel) o t strict levels v text)
+  of_found inner rel h None t = dead_found t
+  of_found inner rel h (Some r) t = row_found inner rel h r t
+
+  pub along_found : (turns n : ℕ) (t : Option tags.Tag) → Found (along dead (read_by (begins rows)) rows turns n t) (λ strict levels v text. SpelledBy rows turns n t strict levels v text)
+  along_found zero n t = dead_found t
+  along_found (suc turns) n t = of_found (along dead (read_by (begins rows)) rows turns) (SpelledBy rows turns) (λ m u. along_found turns m u) (slice_get rows n) t
+
+-- ---- what is spelled so is read
+
+-- the identifiers that a value of row n may have, under another tag if one is given
+abbrev pub Allowed : List TypeRow → ℕ → Option tags.Tag → Class → ℕ → Type 0
+Allowed rows n None class number = begins rows n class number ≡ true
+Allowed rows n (Some t) class number = OfTag t class number
+
+-- another tag is no UNIVERSAL 0
+abbrev pub OkTag : Option tags.Tag → Type 0
+OkTag None = Unit {0}
+OkTag (Some t) = is_no_tag t.class t.number ≡ false
+
+tag_ok : (t : Option tags.Tag) (class : Class) (number : ℕ) → OkTag t → is_no_tag class number ≡ false → is_no_tag (tag_or t class number).class (tag_or t class number).number ≡ false
+tag_ok None class number h e = e
+tag_ok (Some t) class number h e = h
+
+nothing : (B : Class → ℕ → Type 0) (r : Run) → Only B r (λ strict levels v text. ⊥)
+nothing B r = record { only = λ scope place v text rest p here. absurd p }
+
+tagged_only : (B : Class → ℕ → Type 0) (run : Run) (P : Relation) (t : tags.Tag) → is_no_tag t.class t.number ≡ false → Only B run P → Only (OfTag t) (explicit_at run t) (ConstructedBy t P)
+tagged_only B run P t e h = subst (λ (r : Run). Only (OfTag t) r (ConstructedBy t P)) (explicit_same run t) (constructed_only (explicit_body run) t P e (explicit_only B run P h))
+
+or_true : (a b : Bool) → (a && b) ≡ true → (a ≡ true) × (b ≡ true)
+or_true true b e = (refl, e)
+or_true false b e = absurd cc
+
+or_left : (a b : Bool) → a ≡ true → (a || b) ≡ true
+or_left true b e = refl
+or_left false b e = absurd cc
+
+or_right : (a b : Bool) → b ≡ true → (a || b) ≡ true
+or_right true b e = refl
+or_right false b e = e
+
+module _ (rows : List TypeRow) (n : ℕ) where
+  own_begins : (c : Class) (k : ℕ) → openings rows n ≡ tag c k ∷ [] → is_no_tag c k ≡ false → (class : Class) (number : ℕ) → (class ≡ c) × (number ≡ k) → begins rows n class number ≡ true
+  own_begins c k o e class number same = rw (o, same.0, same.1, e, class_itself c, eqb_itself k) refl
+
+  own : (c : Class) (k : ℕ) → openings rows n ≡ tag c k ∷ [] → is_no_tag c k ≡ false → (t : Option tags.Tag) (r : Run) (P : Relation) → Only (OfTag (tag_or t c k)) r P → Only (Allowed rows n t) r P
+  own c k o e None r P h = only_wider (OfTag (record { class = c; number = k })) (Allowed rows n None) r P (λ class number same. own_begins c k o e class number same) h
+  own c k o e (Some t) r P h = h
+
+  flat_some : (ps : List Part) (class : Class) (number : ℕ) → AnyAllows (openings rows) ps class number
+      → (not (is_no_tag class number) ≡ true) × (list_any (allows class number) (flat_map (λ (p : Part). openings rows p.inner.0) ps) ≡ true)
+  flat_some [] class number h = absurd h
+  flat_some (p ∷ ps) class number (inl h) =
+      let t = or_true (not (is_no_tag class number)) (list_any (allows class number) (openings rows p.inner.0)) h in
+      (t.0, rw (list_any-append (allows class number) (openings rows p.inner.0) (flat_map (λ (q : Part). openings rows q.inner.0) ps)) (or_left _ _ t.1))
+  flat_some (p ∷ ps) class number (inr h) =
+      let t = flat_some ps class number h in
+      (t.0, rw (list_any-append (allows class number) (openings rows p.inner.0) (flat_map (λ (q : Part). openings rows q.inner.0) ps)) (or_right _ _ t.1))
+
+  choice_begins : (ps : List Part) → openings rows n ≡ flat_map (λ (p : Part). openings rows p.inner.0) ps → (class : Class) (number : ℕ) → AnyAllows (openings rows) ps class number → begins rows n class number ≡ true
+  choice_begins ps o class number h = let t = flat_some ps class number h in rw (o, t.0, t.1) refl
+
+  any_begins : openings rows n ≡ every ∷ [] → (class : Class) (number : ℕ) → IsTagged class number → begins rows n class number ≡ true
+  any_begins o class number h = rw (o, h) refl
+
+  or_only : (B : Class → ℕ → Type 0) (run : Run) (P : Relation) (t : Option tags.Tag) → OkTag t → ((c : Class) (k : ℕ) → B c k → begins rows n c k ≡ true) → Only B run P → Only (Allowed rows n t) (or_explicit run t) (OrExplicit P t)
+  or_only B run P None ok w h = only_wider B (Allowed rows n None) run P w h
+  or_only B run P (Some t) ok w h = tagged_only B run P t ok h
+
+  row_only : (inner : ℕ → Reader) (rel : ℕ → Spelled) → ((m : ℕ) (t : Option tags.Tag) → OkTag t → Only (Allowed rows m t) (inner m t) (rel m t))
+      → (r : TypeRow) → IsSoundRow rows n r → (t : Option tags.Tag) → OkTag t → Only (Allowed rows n t) (read_by (begins rows) inner r t) (RowIs rel r t)
+  unfolding sequence_at
+  row_only inner rel h row.Boolean s t ok = nothing (Allowed rows n t) (dead t)
+  row_only inner rel h (row.Integer low high) s t ok =
+      own Universal 2 s.opens refl t _ _ (prim_only (integer_rule low high) (tag_or t Universal 2) (IntegerIs low high) (tag_ok t Universal 2 ok refl) (integer_complete low high))
+  row_only inner rel h (row.Enumerated items) s t ok = nothing (Allowed rows n t) (dead t)
+  row_only inner rel h row.Null s t ok = own Universal 5 s.opens refl t _ _ (prim_only null_rule (tag_or t Universal 5) NullIs (tag_ok t Universal 5 ok refl) null_complete)
+  row_only inner rel h (row.OctetString most) s t ok = nothing (Allowed rows n t) (dead t)
+  row_only inner rel h row.BitString s t ok = nothing (Allowed rows n t) (dead t)
+  row_only inner rel h row.ObjectId s t ok = own Universal 6 s.opens refl t _ _ (prim_only object_id_rule (tag_or t Universal 6) ObjectIdIs (tag_ok t Universal 6 ok refl) object_id_complete)
+  row_only inner rel h (row.Text kind) s t ok = nothing (Allowed rows n t) (dead t)
+  row_only inner rel h (row.Sequence ps) s t ok =
+      own Universal 16 s.opens refl t _ _
+        (constructed_only (sequence_body (begins rows) inner ps) (tag_or t Universal 16) (λ strict levels v c. SequenceIs rel strict ps v levels c) (tag_ok t Universal 16 ok refl)
+          (sequence_only (openings rows) inner rel (λ m. h m None tt) ps s.apart))
+  row_only inner rel h (row.Set ps) s t ok = nothing (Allowed rows n t) (dead t)
+  row_only inner rel h (row.SequenceOf of) s t ok = nothing (Allowed rows n t) (dead t)
+  row_only inner rel h (row.Choice ps) s t ok =
+      or_only (AnyAllows (openings rows) ps) (choice_at (begins rows) inner 0 ps) (ChoiceIs rel ps) t ok (λ c k a. choice_begins ps s.opens c k a) (choice_only (openings rows) inner rel (λ m. h m None tt) ps s.apart)
+  row_only inner rel h (row.Tagged class number true of) s t ok =
+      own class number s.opens s.range t _ _ (tagged_only (Allowed rows of.0 None) (inner of.0 None) (rel of.0 None) (tag_or t class number) (tag_ok t class number ok s.range) (h of.0 None tt))
+  row_only inner rel h (row.Tagged class number false of) s t ok =
+      own class number s.opens s.range t _ _ (h of.0 (Some (tag_or t class number)) (tag_ok t class number ok s.range))
+  row_only inner rel h row.Any s t ok = or_only IsTagged any_at (λ strict. AnyIs) t ok (λ c k a. any_begins s.opens c k a) any_only
+
+  of_only : IsSound rows → (inner : ℕ → Reader) (rel : ℕ → Spelled) → ((m : ℕ) (t : Option tags.Tag) → OkTag t → Only (Allowed rows m t) (inner m t) (rel m t))
+      → (o : Option TypeRow) → slice_get rows n ≡ o → (t : Option tags.Tag) → OkTag t → Only (Allowed rows n t) (of_row dead (read_by (begins rows) inner) o t) (λ strict levels v text. RowOr (RowIs rel) o t strict levels v text)
+  of_only sound inner rel h None e t ok = nothing (Allowed rows n t) (dead t)
+  of_only sound inner rel h (Some r) e t ok = row_only inner rel h r (sound_row rows sound n r e) t ok
+
+pub along_only : (rows : List TypeRow) → IsSound rows → (turns n : ℕ) (t : Option tags.Tag) → OkTag t → Only (Allowed rows n t) (along dead (read_by (begins rows)) rows turns n t) (λ strict levels v text. SpelledBy rows turns n t strict levels v text)
+along_only rows sound zero n t ok = nothing (Allowed rows n t) (dead t)
+along_only rows sound (suc turns) n t ok = of_only rows n sound (along dead (read_by (begins rows)) rows turns) (SpelledBy rows turns) (λ m u k. along_only rows sound turns m u k) (slice_get rows n) refl t ok

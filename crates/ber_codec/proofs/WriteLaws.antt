@@ -1,0 +1,89 @@
+-- What a row is written as goes by its rule.
+use Rattle.std.proofs.Common.{◌≡◌, ℕ, zero, suc, ◌+◌, ◌<◌, ◌≤◌, min, Bool, true, false, List, [], ◌∷◌, ◌++◌, length, drop, get_or, Option, Some, None, refl, sym, ap, ◌∙◌, subst, arith, append_assoc, ◌⊎◌, inl, inr}
+use Rattle.std.specs.Prelude.{slice_get}
+use Rattle.std.specs.List.{AllByRecursion, flat_map}
+use Rattle.std.proofs.lemmas.Option.{slice_get_past}
+use Rattle.std.proofs.lemmas.Bool.{cases_lt}
+use Rattle.asn1_types.specs.declared.row.Class.TheVariants.{Universal}
+use Rattle.asn1_types.specs.declared.row.Part.{Part}
+use Rattle.asn1_types.specs.declared.row.TypeRow.{TypeRow}
+use Rattle.asn1_types.specs.declared.row.TypeRow.TheVariants.{Boolean, Integer, Enumerated, Null, OctetString, BitString, ObjectId, Text, Sequence, Set, SequenceOf, Choice, Tagged, Any}
+use Rattle.asn1_types.specs.Rows.{of_row, along, names_of, rows_of_parts}
+use Rattle.asn1_types.specs.Table.{IsSound}
+use Rattle.asn1_types.specs.Value.{Value, MaybeValues, no_parts, absent, present}
+use Rattle.asn1_types.specs.ValueView.{parts_of}
+use Rattle.asn1_types.proofs.Along.{settled}
+use Rattle.asn1_types.proofs.Sound.{is_down}
+use Rattle.ber_codec.specs.declared.spot.Tag as tags
+use Rattle.ber_codec.specs.Rules.{tag_or}
+use Rattle.ber_codec.specs.Writing.{Writer, part_contents, parts_contents, sequence_contents, alternative_written, choice_written, definite, under, tagged_written, nothing_written, write_by, writes, base_128}
+
+module _ (f g : ℕ → Writer) where
+  parts_same : (ps : List Part) → AllByRecursion (λ m. f m ≡ g m) (rows_of_parts ps) → (vs : MaybeValues) → parts_contents f ps vs ≡ parts_contents g ps vs
+  parts_same [] h vs = refl
+  parts_same (p ∷ ps) h no_parts = refl
+  parts_same (p ∷ ps) h (absent vs) = parts_same ps h.1 vs
+  parts_same (p ∷ ps) h (present v vs) = λ i. h.0 i None v ++ parts_same ps h.1 vs i
+
+  alternative_same : (ps : List Part) → AllByRecursion (λ m. f m ≡ g m) (rows_of_parts ps) → (which : ℕ) → alternative_written f (slice_get ps which) ≡ alternative_written g (slice_get ps which)
+  alternative_same [] h which = refl
+  alternative_same (p ∷ ps) h zero = λ i. h.0 i None
+  alternative_same (p ∷ ps) h (suc which) = alternative_same ps h.1 which
+
+pub write_cong : (row : TypeRow) (f g : ℕ → Writer) → AllByRecursion (λ m. f m ≡ g m) (names_of row) → write_by f row ≡ write_by g row
+write_cong Boolean f g h = refl
+write_cong (Integer low high) f g h = refl
+write_cong (Enumerated items) f g h = refl
+write_cong Null f g h = refl
+write_cong (OctetString most) f g h = refl
+write_cong BitString f g h = refl
+write_cong ObjectId f g h = refl
+write_cong (Text kind) f g h = refl
+write_cong (Sequence ps) f g h = λ i tag v. definite true (tag_or tag Universal 16) (sequence_contents (λ vs. parts_same f g ps h vs i) v)
+write_cong (Set ps) f g h = refl
+write_cong (SequenceOf inner) f g h = refl
+write_cong (Choice ps) f g h = λ i. under (choice_written (λ which. alternative_same f g ps h which i))
+write_cong (Tagged class number true inner) f g h = λ i. tagged_written true (h.0 i) class number
+write_cong (Tagged class number false inner) f g h = λ i. tagged_written false (h.0 i) class number
+write_cong Any f g h = refl
+
+pub writes_at : (rows : List TypeRow) → IsSound rows → (n : ℕ) (row : TypeRow) → slice_get rows n ≡ Some row → writes rows n ≡ write_by (writes rows) row
+unfolding writes
+writes_at rows sound n row e = settled nothing_written write_by write_cong rows (is_down rows sound) n row e
+
+along_past : (rows : List TypeRow) (turns n : ℕ) (tag : Option tags.Tag) (v : Value) → length rows ≤ n → along nothing_written write_by rows turns n tag v ≡ []
+along_past rows zero n tag v le = refl
+along_past rows (suc turns) n tag v le = rw (slice_get_past rows n le) refl
+
+pub writes_past : (rows : List TypeRow) (n : ℕ) (tag : Option tags.Tag) (v : Value) → length rows ≤ n → writes rows n tag v ≡ []
+unfolding writes
+writes_past rows n tag v le = along_past rows (length rows) n tag v le
+
+-- parts and numbers one before the other
+pub parts_before : (f : ℕ → Writer) (ps : List Part) (vs : List (Option Value)) (i : ℕ) (p : Part) (o : Option Value) → i < length ps → i < length vs → p ≡ get_or ps i p → o ≡ get_or vs i o
+    → parts_contents f (drop i ps) (parts_of (drop i vs)) ≡ part_contents f p o ++ parts_contents f (drop (suc i) ps) (parts_of (drop (suc i) vs))
+parts_before f [] vs i p o lt more e d = absurd (omega arith)
+parts_before f (q ∷ ps) [] i p o lt more e d = absurd (omega arith)
+parts_before f (q ∷ ps) (None ∷ vs) zero p o lt more e d = rw (e, d) refl
+parts_before f (q ∷ ps) (Some v ∷ vs) zero p o lt more e d = rw (e, d) refl
+parts_before f (q ∷ ps) (w ∷ vs) (suc i) p o lt more e d = parts_before f ps vs i p o (omega arith) (omega arith) e d
+
+pub parts_none : (f : ℕ → Writer) (ps : List Part) (vs : List (Option Value)) (i : ℕ) → (length ps ≤ i) ⊎ (length vs ≤ i) → parts_contents f (drop i ps) (parts_of (drop i vs)) ≡ []
+parts_none f [] vs zero h = refl
+parts_none f [] vs (suc i) h = refl
+parts_none f (p ∷ ps) [] zero h = refl
+parts_none f (p ∷ ps) [] (suc i) h = by_rest (drop i ps)
+  where
+    by_rest : (qs : List Part) → parts_contents f qs no_parts ≡ []
+    by_rest [] = refl
+    by_rest (q ∷ qs) = refl
+parts_none f (p ∷ ps) (v ∷ vs) zero (inl h) = absurd (omega arith)
+parts_none f (p ∷ ps) (v ∷ vs) zero (inr h) = absurd (omega arith)
+parts_none f (p ∷ ps) (v ∷ vs) (suc i) (inl h) = parts_none f ps vs i (inl (omega arith))
+parts_none f (p ∷ ps) (v ∷ vs) (suc i) (inr h) = parts_none f ps vs i (inr (omega arith))
+
+pub parts_begin : (f : ℕ → Writer) (ps : List Part) (vs : List (Option Value)) (old : List ℕ) (i : ℕ) → i ≡ min (length ps) (length vs) → old ≡ parts_contents f (drop i ps) (parts_of (drop i vs)) ++ old
+parts_begin f ps vs old i e = ap (λ (x : List ℕ). x ++ old) (sym (parts_none f ps vs i (past (length ps) (length vs) i e)))
+  where
+    past : (a b i : ℕ) → i ≡ min a b → (a ≤ i) ⊎ (b ≤ i)
+    past a b i e = elim (cases_lt a b) [ | inl lt ↦ inl (omega arith) | inr ge ↦ inr (omega arith) ]

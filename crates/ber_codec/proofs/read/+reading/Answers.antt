@@ -1,0 +1,75 @@
+use Rattle.std.proofs.Common.{◌≡◌, ◌<◌, ◌≤◌, ◌+◌, sym, ap, ◌∙◌, subst, arith, length}
+use Rattle.std.specs.List.{AllByRecursion}
+use Rattle.std.proofs.lemmas.Option.{slice_get_within}
+use Rattle.asn1_types.specs.declared.row.TypeRow.TheVariants.{Sequence, Choice, Tagged}
+use Rattle.asn1_types.specs.Rows.{begins, rows_of_parts}
+use Rattle.asn1_types.proofs.Sound.{each_part, down_as, choice_few}
+use Rattle.ber_codec.specs.Reading.{Gives, opened_of, spot_of, ahead_of}
+use Rattle.ber_codec.specs.Rules.{reads}
+use Rattle.ber_codec.proofs.Rows.{reads_at}
+use Rattle.ber_codec.proofs.Loops.{parts_go_on, goes_then}
+use Rattle.ber_codec.proofs.read.+reading.Goals as goal
+
+pub choice-begins-requires : goal.choice-begins-requires
+choice-begins-requires t c =
+    let lt : c.index-alternatives-which.result.inner.0 < c.args.of.0 = each_part (λ m. m < c.args.of.0) c.args.alternatives.now c.loop-which.which c.index-alternatives-which.result c.requires.below c.loop-which-test.true c.index-alternatives-which.is in
+    omega arith
+
+pub choice-value-requires : goal.choice-value-requires
+choice-value-requires t c =
+    let lt : c.index-alternatives-which.result.inner.0 < c.args.of.0 = each_part (λ m. m < c.args.of.0) c.args.alternatives.now c.loop-which.which c.index-alternatives-which.result c.requires.below c.loop-which-test.true c.index-alternatives-which.is in
+    (omega arith, (omega arith, (c.requires.whole, c.requires.start)))
+
+pub parts_of-part_of-requires : goal.parts_of-part_of-requires
+parts_of-part_of-requires t c =
+    let lt : c.part-item.result.inner.0 < c.args.of.0 = each_part (λ m. m < c.args.of.0) c.args.parts.now c.loop-part.part-index c.part-item.result c.requires.below c.loop-part-test.true c.part-item.is in
+    (omega arith, (lt, (c.requires.row, c.loop-part.invariant.start)))
+
+pub parts_of-loop-part-preserved : goal.parts_of-loop-part-preserved
+parts_of-loop-part-preserved t c = record {
+  start = c.in_ok-value.ensures.start;
+  onward = goes_then c.loop-part.invariant.onward c.in_ok-value.ensures.stops;
+  so_far = rw c.in_ok-push.ensures.items (parts_go_on (begins c.args.table.now) (reads c.args.table.now) c.args.scope.now c.args.parts.now c.loop-part.part-index c.part-item.result c.loop-part.found.items (ahead_of c.loop-part.ahead) c.in_ok-value.value (ahead_of c.in_ok-value.next) _ c.loop-part-test.true c.part-item.is c.in_ok-value.ensures.gives c.loop-part.invariant.so_far);
+}
+
+pub tagged_choice-choice-requires : goal.tagged_choice-choice-requires
+tagged_choice-choice-requires t c =
+    (omega arith, (rw c.as_slice.ensures c.requires.below, (c.requires.row, (rw c.as_slice.ensures c.requires.few, (omega (arith, c.in_ok-inside.ensures.onward.whole), c.in_ok-inside.ensures.stops)))))
+
+pub value-returns-clause-gives : goal.value-returns-clause-gives
+value-returns-clause-gives t c =
+    rw (reads_at c.args.table.now c.row.ensures.sound c.args.of.0 c.row.result.now c.row.ensures.value) c.value_as.ensures.gives
+
+pub value_as-sequence-requires : goal.value_as-sequence-requires
+value_as-sequence-requires t c =
+    let lt = slice_get_within c.args.table.now c.args.of.0 c.args.row.now c.requires.row in
+    let down = down_as c.args.table.now c.args.of.0 c.args.row.now (Sequence c.in-Sequence.parts) c.requires.sound c.requires.row c.in-Sequence.is in
+    (omega arith, (down, (omega arith, c.requires.whole)))
+
+pub value_as-choice-requires : goal.value_as-choice-requires
+value_as-choice-requires t c =
+    let lt = slice_get_within c.args.table.now c.args.of.0 c.args.row.now c.requires.row in
+    let down = down_as c.args.table.now c.args.of.0 c.args.row.now (Choice c.in-Choice.alternatives) c.requires.sound c.requires.row c.in-Choice.is in
+    let few = choice_few c.args.table.now c.args.of.0 c.args.row.now c.in-Choice.alternatives c.requires.sound c.requires.row c.in-Choice.is in
+    (omega arith, (rw c.as_slice.ensures down, (omega arith, (rw c.as_slice.ensures (omega arith), (c.requires.whole, c.requires.start)))))
+
+pub value_as-tagged_choice-requires : goal.value_as-tagged_choice-requires
+value_as-tagged_choice-requires t c =
+    let lt = slice_get_within c.args.table.now c.args.of.0 c.args.row.now c.requires.row in
+    let down = down_as c.args.table.now c.args.of.0 c.args.row.now (Choice c.in-Choice.alternatives) c.requires.sound c.requires.row c.in-Choice.is in
+    let few = choice_few c.args.table.now c.args.of.0 c.args.row.now c.in-Choice.alternatives c.requires.sound c.requires.row c.in-Choice.is in
+    (omega arith, (down, (omega arith, (omega arith, c.requires.whole))))
+
+pub value_as-tagged-requires : goal.value_as-tagged-requires
+value_as-tagged-requires t c =
+    let lt = slice_get_within c.args.table.now c.args.of.0 c.args.row.now c.requires.row in
+    let down = down_as c.args.table.now c.args.of.0 c.args.row.now (Tagged c.in-Tagged.class c.in-Tagged.number c.in-Tagged.explicit c.in-Tagged.inner) c.requires.sound c.requires.row c.in-Tagged.is in
+    let below : c.in-Tagged.inner.0 < c.args.of.0 = down.0 in
+    (omega arith, (below, (omega arith, c.requires.whole)))
+
+pub value_as-value-requires : goal.value_as-value-requires
+value_as-value-requires t c =
+    let lt = slice_get_within c.args.table.now c.args.of.0 c.args.row.now c.requires.row in
+    let down = down_as c.args.table.now c.args.of.0 c.args.row.now (Tagged c.in-Tagged.class c.in-Tagged.number c.in-Tagged.explicit c.in-Tagged.inner) c.requires.sound c.requires.row c.in-Tagged.is in
+    let below : c.in-Tagged.inner.0 < c.args.of.0 = down.0 in
+    (omega arith, (omega arith, (c.requires.whole, c.requires.start)))

@@ -1,0 +1,42 @@
+use Rattle.std.proofs.Common.{◌≡◌, ◌+◌, ◌*◌, drop}
+use Rattle.asn1_types.specs.Rows.{begins}
+use Rattle.ber_codec.specs.Reading.{opened_of, spot_of, ahead_of, IsBefore, Follows, spot_in}
+use Rattle.ber_codec.specs.Rules.{choice_at, parts_at, reads}
+use Rattle.ber_codec.proofs.Loops.{parts_behind}
+use Rattle.ber_codec.proofs.read.+reading.Given as goal
+
+abbrev pub decreases-value : goal.decreases-value
+decreases-value l = 8 * l.of.0 + 7
+
+abbrev pub decreases-value_as : goal.decreases-value_as
+decreases-value_as l = 8 * l.of.0 + 6
+
+abbrev pub decreases-tagged_choice : goal.decreases-tagged_choice
+decreases-tagged_choice l = 8 * l.of.0 + 5
+
+abbrev pub decreases-tagged : goal.decreases-tagged
+decreases-tagged l = 8 * l.of.0 + 4
+
+abbrev pub decreases-choice : goal.decreases-choice
+decreases-choice l = 8 * l.of.0 + 4
+
+abbrev pub decreases-sequence : goal.decreases-sequence
+decreases-sequence l = 8 * l.of.0 + 5
+
+abbrev pub decreases-parts_of : goal.decreases-parts_of
+decreases-parts_of l = 8 * l.of.0 + 4
+
+abbrev pub decreases-part_of : goal.decreases-part_of
+decreases-part_of l = 8 * l.of.0 + 3
+
+abbrev pub invariant-choice-loop-which : goal.invariant-choice-loop-which
+invariant-choice-loop-which l =
+    choice_at (begins l.table) (reads l.table) l.which (drop l.which l.alternatives) l.scope (opened_of l.opened) (spot_of l.spot)
+    ≡ choice_at (begins l.table) (reads l.table) 0 l.alternatives l.scope (opened_of l.opened) (spot_of l.spot)
+
+abbrev pub invariant-parts_of-loop-part : goal.invariant-parts_of-loop-part
+invariant-parts_of-loop-part l = record {
+  start : IsBefore l.ahead;
+  onward : Follows l.fn.ahead (spot_in l.ahead);
+  so_far : parts_behind l.found.items (parts_at (begins l.table) (reads l.table) l.scope (ahead_of l.ahead) (drop l.part-index l.parts)) ≡ parts_at (begins l.table) (reads l.table) l.scope (ahead_of l.fn.ahead) l.parts;
+}

@@ -1,0 +1,38 @@
+use Rattle.std.proofs.Common.{◌≡◌, ◌≤◌, ◌+◌, ◌*◌, ◌++◌, drop, length}
+use Rattle.asn1_types.specs.ValueView.{parts_of}
+use Rattle.ber_codec.specs.Writing.{parts_contents, writes}
+use Rattle.ber_codec.proofs.write.+writing.Given as goal
+
+abbrev pub decreases-put_value : goal.decreases-put_value
+decreases-put_value l = 6 * l.of.0 + 5
+
+abbrev pub decreases-put_row : goal.decreases-put_row
+decreases-put_row l = 6 * l.of.0 + 4
+
+abbrev pub decreases-put_explicit : goal.decreases-put_explicit
+decreases-put_explicit l = 6 * l.of.0 + 3
+
+abbrev pub decreases-put_choice : goal.decreases-put_choice
+decreases-put_choice l = 6 * l.of.0 + 3
+
+abbrev pub decreases-put_alternative : goal.decreases-put_alternative
+decreases-put_alternative l = 6 * l.of.0 + 2
+
+abbrev pub decreases-put_sequence : goal.decreases-put_sequence
+decreases-put_sequence l = 6 * l.of.0 + 3
+
+abbrev pub decreases-put_parts : goal.decreases-put_parts
+decreases-put_parts l = 6 * l.of.0 + 2
+
+abbrev pub decreases-put_part : goal.decreases-put_part
+decreases-put_part l = 6 * l.of.0 + 1
+
+abbrev pub decreases-put_parts-loop-index : goal.decreases-put_parts-loop-index
+decreases-put_parts-loop-index l = l.index
+
+abbrev pub invariant-put_parts-loop-index : goal.invariant-put_parts-loop-index
+invariant-put_parts-loop-index l = record {
+  parts : l.index ≤ length l.parts;
+  values : l.index ≤ length l.values;
+  so_far : l.out ≡ parts_contents (writes l.table) (drop l.index l.parts) (parts_of (drop l.index l.values)) ++ l.fn.out;
+}

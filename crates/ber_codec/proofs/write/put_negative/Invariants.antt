@@ -1,0 +1,9 @@
+use Rattle.std.proofs.Common.{◌≡◌, ◌≤◌, ◌++◌, ◌-◌, [], map, drop, length}
+use Rattle.ber_codec.specs.Writing.{natural_octets}
+use Rattle.ber_codec.proofs.write.put_negative.Given as goal
+
+abbrev pub decreases-loop-high : goal.decreases-loop-high
+decreases-loop-high l = l.high
+
+abbrev pub invariant-loop-high : goal.invariant-loop-high
+invariant-loop-high l = map (λ octet. 255 - octet) (natural_octets l.high l.high []) ++ l.out ≡ map (λ octet. 255 - octet) (natural_octets l.number l.number []) ++ l.fn.out

@@ -1,0 +1,53 @@
+-- The laws of reading and of spellings.
+use Rattle.std.specs.Prelude.{◌≡◌, ◌≢◌, ℕ, ◌+◌, ◌<◌, ◌≤◌, ◌^◌, Bool, true, List, ◌++◌, length, take, Option, Some, None, Result, Ok, Err, MatchResult}
+use Rattle.osi_base.specs.declared.words.Kind.{Kind}
+use Rattle.asn1_types.specs.declared.row.TypeRow.{TypeRow}
+use Rattle.asn1_types.specs.Table.{IsSound}
+use Rattle.asn1_types.specs.Value.{Value}
+use Rattle.asn1_types.specs.Fits.{fits}
+use Rattle.ber_codec.specs.declared.fault.ReadFault.{ReadFault}
+use Rattle.ber_codec.specs.declared.fault.ReadFault.TheVariants.{NotSpelled, Short, TooDeep, TooLong, NoMemory}
+use Rattle.ber_codec.specs.declared.public.Read.{Read}
+use Rattle.ber_codec.specs.Octets.{AreOctets}
+use Rattle.ber_codec.specs.Rules.{read_at}
+use Rattle.ber_codec.specs.Spelling.{Spells}
+use Rattle.ber_codec.specs.Writing.{written}
+
+-- unless memory is refused, a call gave this value with this many octets
+abbrev pub IsRead : Result Read ReadFault → Value → ℕ → Type 0
+IsRead result v used = MatchResult result (λ r. (r.value ≡ v) × (r.used ≡ used)) (λ e. e ≡ NoMemory)
+
+-- what is read is spelled by its octets
+abbrev pub ReadIsSpelled : Type 0
+ReadIsSpelled = (rows : List TypeRow) (n : ℕ) (strict : Bool) (limit : ℕ) (bytes : List ℕ) (v : Value) (used : ℕ) → AreOctets bytes
+    → read_at rows n strict limit bytes ≡ Ok (v, used) → (used ≤ length bytes) × Spells rows n strict limit v (take used bytes)
+
+-- what is spelled is read, whatever follows
+abbrev pub SpelledIsRead : Type 0
+SpelledIsRead = (rows : List TypeRow) (n : ℕ) (strict : Bool) (limit : ℕ) (v : Value) (spelled rest : List ℕ) → IsSound rows
+    → Spells rows n strict limit v spelled → read_at rows n strict limit (spelled ++ rest) ≡ Ok (v, length spelled)
+
+-- no spelling of a row's values begins another, and each spells one value
+abbrev pub NoneBegins : Type 0
+NoneBegins = (rows : List TypeRow) (n : ℕ) (strict : Bool) (limit : ℕ) (v w : Value) (a b x y : List ℕ) → IsSound rows
+    → Spells rows n strict limit v a → Spells rows n strict limit w b → a ++ x ≡ b ++ y → (a ≡ b) × (v ≡ w)
+
+-- what was read stays so, whatever follows
+abbrev pub ReadStays : Type 0
+ReadStays = (rows : List TypeRow) (n : ℕ) (strict : Bool) (limit : ℕ) (bytes more : List ℕ) (v : Value) (used : ℕ)
+    → read_at rows n strict limit bytes ≡ Ok (v, used) → read_at rows n strict limit (bytes ++ more) ≡ Ok (v, used)
+
+-- a fault stays so, whatever follows
+abbrev pub FaultStays : Type 0
+FaultStays = (rows : List TypeRow) (n : ℕ) (strict : Bool) (limit : ℕ) (bytes more : List ℕ) (fault : ReadFault)
+    → fault ≢ Short → read_at rows n strict limit bytes ≡ Err fault → read_at rows n strict limit (bytes ++ more) ≡ Err fault
+
+-- a proper beginning of a spelling is too short
+abbrev pub BeginningIsShort : Type 0
+BeginningIsShort = (rows : List TypeRow) (n : ℕ) (strict : Bool) (limit : ℕ) (v : Value) (front back : List ℕ) → IsSound rows → AreOctets (front ++ back)
+    → Spells rows n strict limit v (front ++ back) → 0 < length back → read_at rows n strict limit front ≡ Err Short
+
+-- What is written of a value that fits is spelled so, as far as lengths have 8 octets.
+abbrev pub WrittenIsSpelled : Type 0
+WrittenIsSpelled = (rows : List TypeRow) (n : ℕ) (v : Value) → IsSound rows → fits rows n v ≡ true
+    → (strict : Bool) (limit : ℕ) → limit < 2 ^ 64 → length (written rows n v) ≤ limit → Spells rows n strict limit v (written rows n v)

@@ -1,0 +1,222 @@
+-- The spellings of values (X.690 8 and 10): which octets spell which value of which row. A scope of `strict`
+-- means DER. Levels are how many more values may stand inside one another.
+use Rattle.std.specs.Prelude.{◌≡◌, ◌≢◌, ℕ, zero, suc, ◌+◌, ◌-◌, ◌*◌, ◌/◌, ◌%◌, ◌^◌, ◌<◌, ◌≤◌, ◌⊎◌, ℤ, ◌≤ℤ◌, Bool, true, false, Option, Some, None, List, [], ◌∷◌, ◌++◌, length, nat_lt, nat_eq, slice_index, slice_get, if◌then◌else◌, IsTrue}
+use Rattle.std.specs.List.{AllByRecursion}
+use Rattle.osi_base.specs.Oid.{IsOid}
+use Rattle.asn1_types.specs.declared.row.Class.{Class}
+use Rattle.asn1_types.specs.declared.row.Class.TheVariants.{Universal, Application, Context, Private}
+use Rattle.asn1_types.specs.declared.row.Part.{Part}
+use Rattle.asn1_types.specs.declared.row.TypeRow.{TypeRow}
+use Rattle.asn1_types.specs.declared.row.TypeRow.TheVariants as row
+use Rattle.asn1_types.specs.Rows.{class_number, is_no_tag}
+use Rattle.asn1_types.specs.Value.{Value, boolean, integer, null, octets, bits, object_id, text, parts, list, chosen, any, MaybeValues, no_parts, absent, present, Values, no_values, value}
+use Rattle.ber_codec.specs.declared.spot.Tag as tags
+use Rattle.ber_codec.specs.Octets.{AreOctets}
+use Rattle.ber_codec.specs.Fields.{number_from}
+use Rattle.ber_codec.specs.Primitives.{is_padded, signed_of}
+use Rattle.ber_codec.specs.Rules.{tag_or}
+
+-- ---- numbers in digits of seven bits (X.690 8.1.2.4.2, 8.19.2)
+
+-- bit 8 is set in all digits but the last
+abbrev pub AreDigits : List ℕ → Type 0
+AreDigits [] = ⊥
+AreDigits (last ∷ []) = last < 128
+AreDigits (digit ∷ next ∷ digits) = (128 ≤ digit) × (digit < 256) × AreDigits (next ∷ digits)
+
+abbrev pub low_bits : ℕ → ℕ
+low_bits digit = if nat_lt digit 128 then digit else digit - 128
+
+abbrev pub number_128 : ℕ → List ℕ → ℕ
+number_128 number [] = number
+number_128 number (digit ∷ digits) = number_128 (128 * number + low_bits digit) digits
+
+-- no leading zero digit
+pub record IsBase128 (digits : List ℕ) (n : ℕ) : Type 0 where
+  pub are : AreDigits digits
+  pub shortest : slice_index digits 0 ≢ 128
+  pub number : number_128 0 digits ≡ n
+
+-- ---- identifiers (X.690 8.1.2)
+
+-- class and form, bits 8 to 6
+abbrev pub leading : Class → Bool → ℕ
+leading class constructed = 64 * class_number class + (if constructed then 32 else 0)
+
+-- numbers below 31 in the first octet, others in digits
+abbrev pub IsIdentifier : Class → Bool → ℕ → List ℕ → Type 0
+IsIdentifier class constructed number [] = ⊥
+IsIdentifier class constructed number (first ∷ digits) =
+    ((number < 31) × (first ≡ leading class constructed + number) × (digits ≡ []))
+    ⊎ ((31 ≤ number) × (first ≡ leading class constructed + 31) × IsBase128 digits number)
+
+-- ---- lengths (X.690 8.1.3, 10.1)
+
+-- behind the first octet in the long form: 1 to 8 octets of the number, in DER no more than it needs
+pub record IsLong (strict : Bool) (first : ℕ) (digits : List ℕ) (n : ℕ) : Type 0 where
+  pub size : first ≡ 128 + length digits
+  pub some : 1 ≤ length digits
+  pub few : length digits ≤ 8
+  pub number : number_from 0 digits ≡ n
+  pub shortest : strict ≡ true → (128 ≤ n) × (0 < slice_index digits 0)
+
+abbrev pub IsLength : Bool → List ℕ → ℕ → Type 0
+IsLength strict [] n = ⊥
+IsLength strict (first ∷ digits) n = ((first < 128) × (digits ≡ []) × (n ≡ first)) ⊎ IsLong strict first digits n
+
+-- ---- values of either form
+
+-- identifier, length, contents (X.690 8.1.1)
+pub record IsDefinite (strict constructed : Bool) (tag : tags.Tag) (P : List ℕ → Type 0) (spelled : List ℕ) : Type 0 where
+  pub head : List ℕ
+  pub size : List ℕ
+  pub contents : List ℕ
+  pub is_identifier : IsIdentifier tag.class constructed tag.number head
+  pub is_length : IsLength strict size (length contents)
+  pub holds : P contents
+  pub are : spelled ≡ head ++ (size ++ contents)
+
+-- identifier, `80`, contents, end-of-contents (X.690 8.1.3.6, 8.1.5); not in DER
+pub record IsIndefinite (tag : tags.Tag) (P : List ℕ → Type 0) (spelled : List ℕ) : Type 0 where
+  pub head : List ℕ
+  pub contents : List ℕ
+  pub is_identifier : IsIdentifier tag.class true tag.number head
+  pub holds : P contents
+  pub are : spelled ≡ head ++ (128 ∷ (contents ++ (0 ∷ 0 ∷ [])))
+
+pub record IsPrimitive (tag : tags.Tag) (strict : Bool) (levels : ℕ) (P : List ℕ → Type 0) (spelled : List ℕ) : Type 0 where
+  pub level : 0 < levels
+  pub small : tag.number < 2 ^ 32
+  pub form : IsDefinite strict false tag P spelled
+
+-- the contents have one level less
+pub record IsConstructed (tag : tags.Tag) (strict : Bool) (levels : ℕ) (P : ℕ → List ℕ → Type 0) (spelled : List ℕ) : Type 0 where
+  pub inner : ℕ
+  pub level : levels ≡ suc inner
+  pub small : tag.number < 2 ^ 32
+  pub form : IsDefinite strict true tag (P inner) spelled ⊎ ((strict ≡ false) × IsIndefinite tag (P inner) spelled)
+
+-- ---- contents of primitive values
+
+-- X.690 8.3: 1 to 8 octets, no more than two's complement needs
+pub record IsInteger (contents : List ℕ) (z : ℤ) : Type 0 where
+  pub some : 1 ≤ length contents
+  pub few : length contents ≤ 8
+  pub shortest : is_padded contents ≡ false
+  pub number : signed_of contents ≡ z
+
+abbrev pub IntegerIs : ℤ → ℤ → Value → List ℕ → Type 0
+IntegerIs low high (integer z) contents = IsInteger contents z × (low ≤ℤ z) × (z ≤ℤ high)
+IntegerIs low high v contents = ⊥
+
+abbrev pub NullIs : Value → List ℕ → Type 0
+NullIs null contents = contents ≡ []
+NullIs v contents = ⊥
+
+-- X.690 8.19: the first two arcs make one subidentifier
+abbrev pub subidentifiers : List ℕ → List ℕ
+subidentifiers [] = []
+subidentifiers (root ∷ []) = root ∷ []
+subidentifiers (root ∷ second ∷ arcs) = (40 * root + second) ∷ arcs
+
+abbrev pub AreSubidentifiers : List ℕ → List ℕ → Type 0
+AreSubidentifiers [] contents = contents ≡ []
+AreSubidentifiers (n ∷ ns) contents =
+    (first : List ℕ) × (others : List ℕ) × (contents ≡ first ++ others) × IsBase128 first n × AreSubidentifiers ns others
+
+pub record IsObjectId (arcs contents : List ℕ) : Type 0 where
+  pub is_oid : IsOid arcs
+  pub small : AllByRecursion (λ arc. arc < 2 ^ 32) arcs
+  pub are : AreSubidentifiers (subidentifiers arcs) contents
+
+abbrev pub ObjectIdIs : Value → List ℕ → Type 0
+ObjectIdIs (object_id arcs) contents = IsObjectId arcs contents
+ObjectIdIs v contents = ⊥
+
+-- ---- any one whole value (X.690 8.1)
+
+-- any identifier but UNIVERSAL 0, a length, and that many octets
+pub record IsWhole (spelled : List ℕ) : Type 0 where
+  pub class : Class
+  pub constructed : Bool
+  pub number : ℕ
+  pub is_tag : is_no_tag class number ≡ false
+  pub head : List ℕ
+  pub size : List ℕ
+  pub contents : List ℕ
+  pub is_identifier : IsIdentifier class constructed number head
+  pub is_length : IsLength false size (length contents)
+  pub are : spelled ≡ head ++ (size ++ contents)
+
+abbrev pub AnyIs : ℕ → Value → List ℕ → Type 0
+AnyIs levels (any os) spelled = (0 < levels) × (spelled ≡ os) × IsWhole os
+AnyIs levels v spelled = ⊥
+
+-- ---- each row, from what the rows that it names are spelled as
+
+-- which octets spell which value, with so many levels, under another tag if one is given
+abbrev pub Spelled : Type 1
+Spelled = Option tags.Tag → Bool → ℕ → Value → List ℕ → Type 0
+
+-- the parts that are there, in the order of the notation (X.690 8.9)
+abbrev pub PartsAre : (ℕ → Spelled) → Bool → ℕ → List Part → MaybeValues → List ℕ → Type 0
+PartsAre inner strict levels [] no_parts contents = contents ≡ []
+PartsAre inner strict levels (p ∷ ps) (absent vs) contents = (p.optional ≡ true) × PartsAre inner strict levels ps vs contents
+PartsAre inner strict levels (p ∷ ps) (present v vs) contents =
+    (first : List ℕ) × (others : List ℕ) × (contents ≡ first ++ others) × inner p.inner.0 None strict levels v first × PartsAre inner strict levels ps vs others
+PartsAre inner strict levels ps vs contents = ⊥
+
+abbrev pub SequenceIs : (ℕ → Spelled) → Bool → List Part → Value → ℕ → List ℕ → Type 0
+SequenceIs inner strict ps (parts vs) levels contents = PartsAre inner strict levels ps vs contents
+SequenceIs inner strict ps v levels contents = ⊥
+
+-- a value of the alternative (X.690 8.13)
+abbrev pub ChoiceIs : (ℕ → Spelled) → List Part → Bool → ℕ → Value → List ℕ → Type 0
+ChoiceIs inner ps strict levels (chosen which v) spelled = (p : Part) × (slice_get ps which ≡ Some p) × inner p.inner.0 None strict levels v spelled
+ChoiceIs inner ps strict levels v spelled = ⊥
+
+-- Over an untagged CHOICE or an `Any` each tag is explicit (X.680 31.2.7).
+abbrev pub OrExplicit : (Bool → ℕ → Value → List ℕ → Type 0) → Spelled
+OrExplicit P None strict levels v spelled = P strict levels v spelled
+OrExplicit P (Some tag) strict levels v spelled = IsConstructed tag strict levels (λ inner contents. P strict inner v contents) spelled
+
+-- X.690 8.14
+abbrev pub TaggedIs : Bool → Spelled → Class → ℕ → Spelled
+TaggedIs true inner class number tag strict levels v spelled = IsConstructed (tag_or tag class number) strict levels (λ l contents. inner None strict l v contents) spelled
+TaggedIs false inner class number tag strict levels v spelled = inner (Some (tag_or tag class number)) strict levels v spelled
+
+abbrev pub RowIs : (ℕ → Spelled) → TypeRow → Spelled
+RowIs inner row.Boolean tag strict levels v spelled = ⊥
+RowIs inner (row.Integer low high) tag strict levels v spelled = IsPrimitive (tag_or tag Universal 2) strict levels (IntegerIs low high v) spelled
+RowIs inner (row.Enumerated items) tag strict levels v spelled = ⊥
+RowIs inner row.Null tag strict levels v spelled = IsPrimitive (tag_or tag Universal 5) strict levels (NullIs v) spelled
+RowIs inner (row.OctetString most) tag strict levels v spelled = ⊥
+RowIs inner row.BitString tag strict levels v spelled = ⊥
+RowIs inner row.ObjectId tag strict levels v spelled = IsPrimitive (tag_or tag Universal 6) strict levels (ObjectIdIs v) spelled
+RowIs inner (row.Text kind) tag strict levels v spelled = ⊥
+RowIs inner (row.Sequence ps) tag strict levels v spelled = IsConstructed (tag_or tag Universal 16) strict levels (SequenceIs inner strict ps v) spelled
+RowIs inner (row.Set ps) tag strict levels v spelled = ⊥
+RowIs inner (row.SequenceOf of) tag strict levels v spelled = ⊥
+RowIs inner (row.Choice ps) tag strict levels v spelled = OrExplicit (ChoiceIs inner ps) tag strict levels v spelled
+RowIs inner (row.Tagged class number explicit of) tag strict levels v spelled = TaggedIs explicit (inner of.0) class number tag strict levels v spelled
+RowIs inner row.Any tag strict levels v spelled = OrExplicit (λ s. AnyIs) tag strict levels v spelled
+
+abbrev pub RowOr : (TypeRow → Spelled) → Option TypeRow → Spelled
+RowOr rule None tag strict levels v spelled = ⊥
+RowOr rule (Some r) tag strict levels v spelled = rule r tag strict levels v spelled
+
+-- Each row names only lower rows, so as many turns as there are rows are enough.
+abbrev pub SpelledBy : List TypeRow → ℕ → ℕ → Spelled
+SpelledBy rows zero n tag strict levels v spelled = ⊥
+SpelledBy rows (suc turns) n tag strict levels v spelled = RowOr (RowIs (SpelledBy rows turns)) (slice_get rows n) tag strict levels v spelled
+
+-- octets spell a value of row n of a table, within a limit on their number (X.690; `strict` is DER)
+pub record Spells (rows : List TypeRow) (n : ℕ) (strict : Bool) (limit : ℕ) (v : Value) (spelled : List ℕ) : Type 0 where
+  pub by : SpelledBy rows (length rows) n None strict 32 v spelled
+  pub within : length spelled ≤ limit
+
+abbrev pub Ber : List TypeRow → ℕ → Value → List ℕ → Type 0
+Ber rows n v spelled = Spells rows n false 262144 v spelled
+
+abbrev pub Der : List TypeRow → ℕ → Value → List ℕ → Type 0
+Der rows n v spelled = Spells rows n true 262144 v spelled

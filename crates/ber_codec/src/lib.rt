@@ -1,0 +1,17 @@
+//! BER and DER (X.690) for the types of `asn1_types`.
+#![tactic(auto)]
+
+mod backward;
+mod fault;
+mod fields;
+mod primitives;
+mod laws;
+mod public;
+mod read;
+mod spot;
+mod write;
+
+pub use fault::ReadFault;
+pub use laws::{beginning_is_short, fault_stays, none_begins, read_is_spelled, read_stays, spelled_is_read, written_is_spelled};
+pub use write::ber_octets;
+pub use public::{LIMIT, Read, ber_read, ber_read_within, der_read};

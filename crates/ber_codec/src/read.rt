@@ -1,0 +1,344 @@
+//! Reading values, row by row.
+
+ghost use Rattle.std.specs.Prelude.{◌≡◌, ◌+◌, ◌≤◌, ◌<◌, ◌^◌, length, Some, None, slice_get, IfOk, List};
+ghost use Rattle.std.specs.List.{AllByRecursion};
+ghost use Rattle.asn1_types.specs.Rows.{begins, rows_of_parts, names_of};
+ghost use Rattle.asn1_types.specs.Table.{IsSound};
+ghost use Rattle.ber_codec.specs.Reading.{Gives, spot_of, opened_of, ahead_of, LiesIn, GoesOn, spot_in, IsBefore, Follows};
+ghost use Rattle.ber_codec.specs.Rules.{tag_or, is_opened, expect_at, primitive_at, integer_rule, null_rule, object_id_rule, first_of, last_of, open_at, close_at, is_part, place_of, part_at, parts_at, sequence_at, choice_at, any_at, explicit_at, or_explicit, tagged_at, read_by, reads};
+
+use crate::fault::ReadFault;
+use crate::fields::{contents, extent, look, refusal};
+use crate::primitives::{arcs_of, integer_of};
+use crate::spot::{Ahead, Opened, Scope, Spot, Tag};
+use asn1_types::{Class, MaybeVals, Node, Part, Parts, TypeId, TypeRow, TypeTable, Val, begins, is_no_tag, same_class};
+use osi_base::{Kind, Octets};
+use std::alloc::Global;
+
+pub(crate) fn tag_or(tag: Option<Tag>, class: Class, number: u32) -> Tag
+    ensures { result ≡ tag_or tag class number }
+{
+    match tag {
+        None => Tag { class, number },
+        Some(tag) => tag,
+    }
+}
+
+/// Whether this identifier is of this tag and form.
+fn expect(tag: Tag, constructed: bool, opened: &Opened) -> Result<(), ReadFault>
+    ensures { Gives (λ x. x) result (expect_at tag constructed (opened_of opened.now)) }
+{
+    if same_class(opened.class, tag.class) && opened.number == tag.number as u64 && opened.constructed == constructed {
+        Ok(())
+    } else {
+        Err(refusal(opened.start.place, Kind::Tag))
+    }
+}
+
+/// An INTEGER from `low` to `high`.
+#[tactic(auto, unfolding(crate::specs::Rules::primitive_at))]
+fn integer<'a>(low: i64, high: i64, tag: Tag, scope: &Scope, opened: &Opened<'a>, spot: Spot<'a>) -> Result<(Val, Spot<'a>), ReadFault>
+    requires { spot.place + length spot.rest.now < 2 ^ 63 }
+    ensures gives { Gives (λ x. (x.0, spot_of x.1)) result (primitive_at (integer_rule low high) tag scope.now (opened_of opened.now) (spot_of spot.entry)) }
+    ensures stops { IfOk result (λ x. GoesOn spot.entry.place (length spot.entry.rest.now) x.1) }
+{
+    expect(tag, false, opened)?;
+    let (place, octets, after) = contents(scope, spot)?;
+    match integer_of(octets) {
+        Some(number) if low <= number && number <= high => Ok((
+            Val {
+                node: Node::Int(number),
+            },
+            after,
+        )),
+        _ => Err(refusal(place, Kind::Content)),
+    }
+}
+
+/// A NULL.
+#[tactic(auto, unfolding(crate::specs::Rules::primitive_at))]
+fn null<'a>(tag: Tag, scope: &Scope, opened: &Opened<'a>, spot: Spot<'a>) -> Result<(Val, Spot<'a>), ReadFault>
+    requires { spot.place + length spot.rest.now < 2 ^ 63 }
+    ensures gives { Gives (λ x. (x.0, spot_of x.1)) result (primitive_at null_rule tag scope.now (opened_of opened.now) (spot_of spot.entry)) }
+    ensures stops { IfOk result (λ x. GoesOn spot.entry.place (length spot.entry.rest.now) x.1) }
+{
+    expect(tag, false, opened)?;
+    let (place, octets, after) = contents(scope, spot)?;
+    match octets {
+        [] => Ok((Val { node: Node::Null }, after)),
+        _ => Err(refusal(place, Kind::Content)),
+    }
+}
+
+/// An OBJECT IDENTIFIER.
+#[tactic(auto, unfolding(crate::specs::Rules::primitive_at))]
+fn object_id<'a>(alloc: Global, tag: Tag, scope: &Scope, opened: &Opened<'a>, spot: Spot<'a>) -> Result<(Val, Spot<'a>), ReadFault>
+    requires { spot.place + length spot.rest.now < 2 ^ 63 }
+    ensures gives { Gives (λ x. (x.0, spot_of x.1)) result (primitive_at object_id_rule tag scope.now (opened_of opened.now) (spot_of spot.entry)) }
+    ensures stops { IfOk result (λ x. GoesOn spot.entry.place (length spot.entry.rest.now) x.1) }
+{
+    expect(tag, false, opened)?;
+    let (place, octets, after) = contents(scope, spot)?;
+    match arcs_of(alloc, octets)? {
+        Some(oid) => Ok((
+            Val {
+                node: Node::ObjectId(oid),
+            },
+            after,
+        )),
+        None => Err(refusal(place, Kind::Content)),
+    }
+}
+
+/// Opens a constructed value that holds one value.
+#[tactic(auto, unfolding(crate::specs::Rules::open_at))]
+fn open<'a>(tag: Tag, scope: &Scope, opened: &Opened<'a>, spot: Spot<'a>) -> Result<(Scope, Opened<'a>, Spot<'a>), ReadFault>
+    requires { spot.place + length spot.rest.now < 2 ^ 63 }
+    ensures gives { Gives (λ x. (x.0, opened_of x.1, spot_of x.2)) result (open_at tag scope.now (opened_of opened.now) (spot_of spot.entry)) }
+    ensures stops { IfOk result (λ x. GoesOn x.1.start.place (length x.1.start.rest.now) x.2) }
+    ensures onward { IfOk result (λ x. GoesOn spot.entry.place (length spot.entry.rest.now) x.2) }
+{
+    expect(tag, true, opened)?;
+    let (inside, spot) = extent(scope, spot)?;
+    match look(&inside, spot)? {
+        Ahead::Ended { place, .. } => Err(refusal(place, Kind::Missing)),
+        Ahead::Begun(first, after) => Ok((inside, first, after)),
+    }
+}
+
+/// Closes a constructed value that holds one value.
+#[tactic(auto, unfolding(crate::specs::Rules::close_at))]
+fn close<'a>(scope: &Scope, spot: Spot<'a>) -> Result<Spot<'a>, ReadFault>
+    requires { spot.place + length spot.rest.now < 2 ^ 63 }
+    ensures gives { Gives (λ x. spot_of x) result (close_at scope.now (spot_of spot.entry)) }
+    ensures stops { IfOk result (λ x. GoesOn spot.entry.place (length spot.entry.rest.now) x) }
+{
+    match look(scope, spot)? {
+        Ahead::Ended { after, .. } => Ok(after),
+        Ahead::Begun(opened, _) => Err(refusal(opened.start.place, Kind::Extra)),
+    }
+}
+
+/// Any one value, as octets.
+#[tactic(auto, unfolding(crate::specs::Rules::any_at))]
+fn any<'a>(alloc: Global, scope: &Scope, opened: &Opened<'a>, spot: Spot<'a>) -> Result<(Val, Spot<'a>), ReadFault>
+    requires whole { spot.place + length spot.rest.now < 2 ^ 63 }
+    requires start { GoesOn opened.now.start.place (length opened.now.start.rest.now) spot }
+    ensures gives { Gives (λ x. (x.0, spot_of x.1)) result (any_at scope.now (opened_of opened.now) (spot_of spot.entry)) }
+    ensures stops { IfOk result (λ x. GoesOn spot.entry.place (length spot.entry.rest.now) x.1) }
+{
+    if is_no_tag(opened.class, opened.number) {
+        return Err(refusal(opened.start.place, Kind::Tag));
+    }
+    let anew = Scope {
+        levels: 32,
+        limit: scope.limit,
+        end: scope.end,
+        marked: scope.marked,
+        strict: false,
+    };
+    let (_, _, after) = contents(&anew, spot)?;
+    let whole = opened.start.rest;
+    let octets = Octets::from_slice(alloc, &whole[..whole.len() - after.rest.len()])?;
+    Ok((
+        Val {
+            node: Node::Any(octets),
+        },
+        after,
+    ))
+}
+
+/// What stands behind an identifier, as a value of this row, under another tag if one is given.
+#[cycle(reading)]
+pub(crate) fn value<'a>(alloc: Global, table: &TypeTable, of: TypeId, tag: Option<Tag>, scope: &Scope, opened: &Opened<'a>, spot: Spot<'a>) -> Result<(Val, Spot<'a>), ReadFault>
+    requires row { of.0 < length table.now }
+    requires whole { spot.place + length spot.rest.now < 2 ^ 63 }
+    requires start { GoesOn opened.now.start.place (length opened.now.start.rest.now) spot }
+    ensures gives { Gives (λ x. (x.0, spot_of x.1)) result (reads table.now of.0 tag scope.now (opened_of opened.now) (spot_of spot.entry)) }
+    ensures stops { IfOk result (λ x. GoesOn spot.entry.place (length spot.entry.rest.now) x.1) }
+{
+    value_as(alloc, table, of, table.row(of), tag, scope, opened, spot)
+}
+
+#[cycle(reading)]
+fn value_as<'a>(alloc: Global, table: &TypeTable, of: TypeId, row: &TypeRow, tag: Option<Tag>, scope: &Scope, opened: &Opened<'a>, spot: Spot<'a>) -> Result<(Val, Spot<'a>), ReadFault>
+    requires row { slice_get table.now of.0 ≡ Some row.now }
+    requires sound { IsSound table.now }
+    requires whole { spot.place + length spot.rest.now < 2 ^ 63 }
+    requires start { GoesOn opened.now.start.place (length opened.now.start.rest.now) spot }
+    ensures gives { Gives (λ x. (x.0, spot_of x.1)) result (read_by (begins table.now) (reads table.now) row.now tag scope.now (opened_of opened.now) (spot_of spot.entry)) }
+    ensures stops { IfOk result (λ x. GoesOn spot.entry.place (length spot.entry.rest.now) x.1) }
+{
+    match row {
+        TypeRow::Integer { low, high } => {
+            integer(*low, *high, tag_or(tag, Class::Universal, 2), scope, opened, spot)
+        }
+        TypeRow::Null => null(tag_or(tag, Class::Universal, 5), scope, opened, spot),
+        TypeRow::ObjectId => {
+            object_id(alloc, tag_or(tag, Class::Universal, 6), scope, opened, spot)
+        }
+        TypeRow::Sequence(parts) => sequence(
+            alloc,
+            table,
+            of,
+            parts,
+            tag_or(tag, Class::Universal, 16),
+            scope,
+            opened,
+            spot,
+        ),
+        TypeRow::Choice(alternatives) => match tag {
+            None => choice(alloc, table, of, alternatives.as_slice(), scope, opened, spot),
+            Some(tag) => tagged_choice(alloc, table, of, alternatives, tag, scope, opened, spot),
+        },
+        TypeRow::Tagged { class, number, explicit, inner } => {
+            let tag = tag_or(tag, *class, *number);
+            if *explicit {
+                tagged(alloc, table, of, *inner, tag, scope, opened, spot)
+            } else {
+                value(alloc, table, *inner, Some(tag), scope, opened, spot)
+            }
+        }
+        TypeRow::Any => match tag {
+            None => any(alloc, scope, opened, spot),
+            Some(tag) => tagged_any(alloc, tag, scope, opened, spot),
+        },
+        _ => Err(refusal(opened.start.place, Kind::Tag)),
+    }
+}
+
+#[tactic(auto, unfolding(crate::specs::Rules::explicit_at))]
+fn tagged_any<'a>(alloc: Global, tag: Tag, scope: &Scope, opened: &Opened<'a>, spot: Spot<'a>) -> Result<(Val, Spot<'a>), ReadFault>
+    requires { spot.place + length spot.rest.now < 2 ^ 63 }
+    ensures gives { Gives (λ x. (x.0, spot_of x.1)) result (explicit_at any_at tag scope.now (opened_of opened.now) (spot_of spot.entry)) }
+    ensures stops { IfOk result (λ x. GoesOn spot.entry.place (length spot.entry.rest.now) x.1) }
+{
+    let (inside, first, spot) = open(tag, scope, opened, spot)?;
+    let (value, spot) = any(alloc, &inside, &first, spot)?;
+    Ok((value, close(&inside, spot)?))
+}
+
+#[cycle(reading)]
+#[tactic(auto, unfolding(crate::specs::Rules::explicit_at))]
+fn tagged<'a>(alloc: Global, table: &TypeTable, of: TypeId, inner: TypeId, tag: Tag, scope: &Scope, opened: &Opened<'a>, spot: Spot<'a>) -> Result<(Val, Spot<'a>), ReadFault>
+    requires below { inner.0 < of.0 }
+    requires row { of.0 ≤ length table.now }
+    requires whole { spot.place + length spot.rest.now < 2 ^ 63 }
+    ensures gives { Gives (λ x. (x.0, spot_of x.1)) result (explicit_at (reads table.now inner.0 None) tag scope.now (opened_of opened.now) (spot_of spot.entry)) }
+    ensures stops { IfOk result (λ x. GoesOn spot.entry.place (length spot.entry.rest.now) x.1) }
+{
+    let (inside, first, spot) = open(tag, scope, opened, spot)?;
+    let (value, spot) = value(alloc, table, inner, None, &inside, &first, spot)?;
+    Ok((value, close(&inside, spot)?))
+}
+
+#[cycle(reading)]
+#[tactic(auto, unfolding(crate::specs::Rules::explicit_at))]
+fn tagged_choice<'a>(alloc: Global, table: &TypeTable, of: TypeId, alternatives: &Parts, tag: Tag, scope: &Scope, opened: &Opened<'a>, spot: Spot<'a>) -> Result<(Val, Spot<'a>), ReadFault>
+    requires below { AllByRecursion (λ m. m < of.0) (rows_of_parts alternatives.now) }
+    requires row { of.0 ≤ length table.now }
+    requires few { length alternatives.now < 2 ^ 32 }
+    requires whole { spot.place + length spot.rest.now < 2 ^ 63 }
+    ensures gives { Gives (λ x. (x.0, spot_of x.1)) result (explicit_at (choice_at (begins table.now) (reads table.now) 0 alternatives.now) tag scope.now (opened_of opened.now) (spot_of spot.entry)) }
+    ensures stops { IfOk result (λ x. GoesOn spot.entry.place (length spot.entry.rest.now) x.1) }
+{
+    let (inside, first, spot) = open(tag, scope, opened, spot)?;
+    let (value, spot) = choice(alloc, table, of, alternatives.as_slice(), &inside, &first, spot)?;
+    Ok((value, close(&inside, spot)?))
+}
+
+/// The alternative of a CHOICE that begins with this identifier.
+#[cycle(reading)]
+#[tactic(auto, unfolding(crate::specs::Rules::choice_at))]
+fn choice<'a>(alloc: Global, table: &TypeTable, of: TypeId, alternatives: &[Part], scope: &Scope, opened: &Opened<'a>, spot: Spot<'a>) -> Result<(Val, Spot<'a>), ReadFault>
+    requires below { AllByRecursion (λ m. m < of.0) (rows_of_parts alternatives.now) }
+    requires row { of.0 ≤ length table.now }
+    requires few { length alternatives.now < 2 ^ 32 }
+    requires whole { spot.place + length spot.rest.now < 2 ^ 63 }
+    requires start { GoesOn opened.now.start.place (length opened.now.start.rest.now) spot }
+    ensures gives { Gives (λ x. (x.0, spot_of x.1)) result (choice_at (begins table.now) (reads table.now) 0 alternatives.now scope.now (opened_of opened.now) (spot_of spot.entry)) }
+    ensures stops { IfOk result (λ x. GoesOn spot.entry.place (length spot.entry.rest.now) x.1) }
+{
+    for (which, part) in alternatives.iter().enumerate() {
+        if begins(table, part.inner, opened.class, opened.number) {
+            let (value, after) = value(alloc, table, part.inner, None, scope, opened, spot)?;
+            let node = Node::Chosen {
+                which: which as u32,
+                value: Box::new(alloc, value)?,
+            };
+            return Ok((Val { node }, after));
+        }
+    }
+    Err(refusal(opened.start.place, Kind::Tag))
+}
+
+#[cycle(reading)]
+#[tactic(auto, unfolding(crate::specs::Rules::sequence_at))]
+fn sequence<'a>(alloc: Global, table: &TypeTable, of: TypeId, parts: &Parts, tag: Tag, scope: &Scope, opened: &Opened<'a>, spot: Spot<'a>) -> Result<(Val, Spot<'a>), ReadFault>
+    requires below { AllByRecursion (λ m. m < of.0) (rows_of_parts parts.now) }
+    requires row { of.0 ≤ length table.now }
+    requires whole { spot.place + length spot.rest.now < 2 ^ 63 }
+    ensures gives { Gives (λ x. (x.0, spot_of x.1)) result (sequence_at (begins table.now) (reads table.now) parts.now tag scope.now (opened_of opened.now) (spot_of spot.entry)) }
+    ensures stops { IfOk result (λ x. GoesOn spot.entry.place (length spot.entry.rest.now) x.1) }
+{
+    expect(tag, true, opened)?;
+    let (inside, spot) = extent(scope, spot)?;
+    let ahead = look(&inside, spot)?;
+    let (found, after) = parts_of(alloc, table, of, parts.as_slice(), &inside, ahead)?;
+    Ok((
+        Val {
+            node: Node::Parts(found),
+        },
+        after,
+    ))
+}
+
+/// The parts of a SEQUENCE in their order, from what stands ahead to the end of its contents.
+#[cycle(reading)]
+#[tactic(auto, unfolding(crate::specs::Rules::parts_at))]
+fn parts_of<'a>(alloc: Global, table: &TypeTable, of: TypeId, parts: &[Part], scope: &Scope, ahead: Ahead<'a>) -> Result<(MaybeVals, Spot<'a>), ReadFault>
+    requires below { AllByRecursion (λ m. m < of.0) (rows_of_parts parts.now) }
+    requires row { of.0 ≤ length table.now }
+    requires start { IsBefore ahead }
+    ensures gives { Gives (λ x. (x.0.items, spot_of x.1)) result (parts_at (begins table.now) (reads table.now) scope.now (ahead_of ahead.entry) parts.now) }
+    ensures stops { IfOk result (λ x. Follows ahead.entry x.1) }
+{
+    let mut found = Vec::new(alloc);
+    let mut ahead = ahead;
+    for part in parts {
+        let (value, next) = part_of(alloc, table, of, part, scope, ahead)?;
+        found.push(value)?;
+        ahead = next;
+    }
+    match ahead {
+        Ahead::Ended { after, .. } => Ok((found, after)),
+        Ahead::Begun(opened, _) => Err(refusal(opened.start.place, Kind::Extra)),
+    }
+}
+
+/// One part of a SEQUENCE, if it is there, and what stands behind it.
+#[cycle(reading)]
+#[tactic(auto, unfolding(crate::specs::Rules::part_at))]
+fn part_of<'a>(alloc: Global, table: &TypeTable, of: TypeId, part: &Part, scope: &Scope, ahead: Ahead<'a>) -> Result<(Option<Val>, Ahead<'a>), ReadFault>
+    requires below { part.now.inner.0 < of.0 }
+    requires row { of.0 ≤ length table.now }
+    requires start { IsBefore ahead }
+    ensures gives { Gives (λ x. (x.0, ahead_of x.1)) result (part_at (begins table.now) (reads table.now part.now.inner.0) part.now scope.now (ahead_of ahead.entry)) }
+    ensures stops { IfOk result (λ x. Follows ahead.entry (spot_in x.1)) }
+    ensures start { IfOk result (λ x. IsBefore x.1) }
+{
+    if let Ahead::Begun(opened, after) = ahead {
+        if begins(table, part.inner, opened.class, opened.number) {
+            let (value, after) = value(alloc, table, part.inner, None, scope, &opened, after)?;
+            return Ok((Some(value), look(scope, after)?));
+        }
+    }
+    if part.optional {
+        return Ok((None, ahead));
+    }
+    let place = match ahead {
+        Ahead::Ended { place, .. } => place,
+        Ahead::Begun(opened, _) => opened.start.place,
+    };
+    Err(refusal(place, Kind::Missing))
+}

@@ -1,0 +1,51 @@
+//! Where reading stands, and what it stands in.
+
+use asn1_types::Class;
+
+/// A place in the octets, and what stands from there on.
+#[derive(Clone, Copy)]
+pub struct Spot<'a> {
+    pub place: usize,
+    pub rest: &'a [u8],
+}
+
+/// What encloses a field.
+#[derive(Clone, Copy)]
+pub struct Scope {
+    /// How many levels may still be opened.
+    pub levels: u32,
+    /// How many octets the whole value may have.
+    pub limit: u32,
+    /// Where the enclosing contents of definite length end, if there are any.
+    pub end: Option<usize>,
+    /// The contents end at end-of-contents octets, and not at `end`.
+    pub marked: bool,
+    /// Only DER is taken.
+    pub strict: bool,
+}
+
+/// An identifier that was read (X.690 8.1.2). A number past 32 bits is kept as 2 ^ 32.
+#[derive(Clone, Copy)]
+pub struct Opened<'a> {
+    /// Where the identifier begins.
+    pub start: Spot<'a>,
+    pub class: Class,
+    pub constructed: bool,
+    pub number: u64,
+}
+
+/// A tag that stands in the place of a type's own.
+#[derive(Clone, Copy)]
+pub struct Tag {
+    pub class: Class,
+    pub number: u32,
+}
+
+/// What stands next in contents.
+#[derive(Clone, Copy)]
+pub enum Ahead<'a> {
+    /// The contents end at this place, and reading goes on behind their end.
+    Ended { place: usize, after: Spot<'a> },
+    /// A value begins with this identifier, and goes on here.
+    Begun(Opened<'a>, Spot<'a>),
+}

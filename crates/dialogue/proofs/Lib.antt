@@ -1,0 +1,12 @@
+pub mod Lists
+pub mod Keys
+pub mod Reading
+pub mod Flights
+pub mod Pipes
+pub mod Accepts
+pub mod Tallies
+pub mod Live
+pub mod Called
+pub mod Calling
+pub mod Taken
+pub mod Worlds

@@ -1,0 +1,9 @@
+pub mod Config
+pub mod Message
+pub mod State
+pub mod Calls
+pub mod Taking
+pub mod History
+pub mod Feeding
+pub mod World
+pub mod Laws

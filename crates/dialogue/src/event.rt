@@ -1,0 +1,55 @@
+//! The events of a schedule, and the transcript of a run.
+
+use crate::call::{Call, CallRefusal};
+use crate::config::{Mode, Phase};
+use crate::indication::Indications;
+use osi_base::{ListOf, Octets, Side};
+
+/// An event of a schedule.
+#[derive(Debug, Drop)]
+pub enum Event {
+    /// A call at one side.
+    Call { side: Side, call: Call },
+    /// At most so many octets that wait at that side, or all, go to the other side.
+    Carry { side: Side, most: Option<u32> },
+    /// The connection breaks.
+    Break,
+}
+
+/// Events in their order.
+pub type Events = ListOf<Event>;
+
+/// What a carry did: the octets that it moved, and what the other side indicated.
+#[derive(Debug, Drop)]
+pub struct Carried {
+    pub octets: Octets,
+    pub shown: Indications,
+}
+
+/// An event with what came of it.
+#[derive(Debug, Drop)]
+pub enum Entry {
+    Call {
+        side: Side,
+        call: Call,
+        answer: Result<Option<i64>, CallRefusal>,
+    },
+    Carry {
+        side: Side,
+        most: Option<u32>,
+        carried: Carried,
+    },
+    Break,
+}
+
+/// Entries in their order.
+pub type Entries = ListOf<Entry>;
+
+/// The transcript of a run: each event with what came of it, and both phases at the end.
+#[derive(Debug, Drop)]
+pub struct Transcript {
+    pub mode: Mode,
+    pub entries: Entries,
+    pub a: Phase,
+    pub b: Phase,
+}

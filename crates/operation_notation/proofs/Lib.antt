@@ -1,0 +1,17 @@
+pub mod Numbers
+pub mod Names
+pub mod Loops
+pub mod Levels
+pub mod Means
+pub mod Starts
+pub mod Cutting
+pub mod Spans
+pub mod Chains
+pub mod TypeLaws
+pub mod OidLaws
+pub mod ModuleLaws
+pub mod Well
+pub mod Rises
+pub mod Longest
+pub mod Local
+pub mod LocalRules

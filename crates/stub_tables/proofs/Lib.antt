@@ -1,0 +1,2 @@
+pub mod OwnCodes
+pub mod Readings

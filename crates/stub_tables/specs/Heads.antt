@@ -1,0 +1,78 @@
+-- The heads of APDUs of remote operations as rows of types (X.880 9, X.882 9). What an operation or
+-- an error carries stands in them as one whole value of any type.
+use Rattle.std.specs.Prelude.{ℕ, ℤ, pos, negsuc, Bool, true, false, List, [], ◌∷◌, Option, Some, None, codes}
+use Rattle.asn1_types.specs.declared.row.Part.{Part}
+use Rattle.asn1_types.specs.declared.row.Class.TheVariants.{Context}
+use Rattle.asn1_types.specs.declared.row.TypeRow.{TypeRow}
+use Rattle.asn1_types.specs.declared.row.TypeRow.TheVariants.{Integer, ObjectId, Sequence, Choice, Tagged, Any}
+use Rattle.asn1_types.specs.Value.{Value, integer, object_id, parts, chosen, any, MaybeValues, no_parts, absent, present}
+use Rattle.stub_tables.specs.declared.operation.Code.{Code}
+use Rattle.stub_tables.specs.declared.operation.Code.TheVariants.{Local, Global}
+use Rattle.stub_tables.specs.declared.apdu.Returned.{Returned}
+
+abbrev pub part : List ℕ → ℕ → Part
+part name row = record { name = name; inner = record { 0 = row }; optional = false }
+
+abbrev pub optional_part : List ℕ → ℕ → Part
+optional_part name row = record { name = name; inner = record { 0 = row }; optional = true }
+
+-- the row of one whole value of any type, and the row of all APDUs
+abbrev pub any_row : ℕ
+any_row = 5
+
+abbrev pub apdu_row : ℕ
+apdu_row = 13
+
+abbrev pub head_rows : List TypeRow
+head_rows =
+    -- 0: an identifier of an invocation
+    Integer (negsuc 2147483647) (pos 2147483647)
+    -- 1 to 3: a code
+    ∷ Integer (negsuc 9223372036854775807) (pos 9223372036854775807)
+    ∷ ObjectId
+    ∷ Choice (part (codes "local") 1 ∷ part (codes "global") 2 ∷ [])
+    -- 4: the identifier that an invocation is linked to
+    ∷ Tagged Context 0 false (record { 0 = 0 })
+    -- 5: what is carried
+    ∷ Any
+    -- 6, 7: an invocation
+    ∷ Sequence (part (codes "invokeId") 0 ∷ optional_part (codes "linkedId") 4 ∷ part (codes "opcode") 3 ∷ optional_part (codes "argument") any_row ∷ [])
+    ∷ Tagged Context 1 false (record { 0 = 6 })
+    -- 8 to 10: a result
+    ∷ Sequence (part (codes "opcode") 3 ∷ part (codes "result") any_row ∷ [])
+    ∷ Sequence (part (codes "invokeId") 0 ∷ optional_part (codes "result") 8 ∷ [])
+    ∷ Tagged Context 2 false (record { 0 = 9 })
+    -- 11, 12: an error
+    ∷ Sequence (part (codes "invokeId") 0 ∷ part (codes "errcode") 3 ∷ optional_part (codes "parameter") any_row ∷ [])
+    ∷ Tagged Context 3 false (record { 0 = 11 })
+    -- 13: any of them
+    ∷ Choice (part (codes "invoke") 7 ∷ part (codes "returnResult") 10 ∷ part (codes "returnError") 12 ∷ [])
+    ∷ []
+
+-- ---- their values
+
+abbrev pub code_value : Code → Value
+code_value (Local number) = chosen 0 (integer number)
+code_value (Global arcs) = chosen 1 (object_id arcs)
+
+abbrev pub linked_part : Option ℤ → MaybeValues → MaybeValues
+linked_part None more = absent more
+linked_part (Some id) more = present (integer id) more
+
+abbrev pub any_part : Option (List ℕ) → MaybeValues
+any_part None = absent no_parts
+any_part (Some octets) = present (any octets) no_parts
+
+abbrev pub invoke_value : ℤ → Option ℤ → Code → Option (List ℕ) → Value
+invoke_value id linked code argument = chosen 0 (parts (present (integer id) (linked_part linked (present (code_value code) (any_part argument)))))
+
+-- what is returned, whose value these octets spell
+abbrev pub returned_part : Option Returned → List ℕ → MaybeValues
+returned_part None octets = absent no_parts
+returned_part (Some r) octets = present (parts (present (code_value r.code) (present (any octets) no_parts))) no_parts
+
+abbrev pub result_value : ℤ → Option Returned → List ℕ → Value
+result_value id returned octets = chosen 1 (parts (present (integer id) (returned_part returned octets)))
+
+abbrev pub error_value : ℤ → Code → Option (List ℕ) → Value
+error_value id code parameter = chosen 2 (parts (present (integer id) (present (code_value code) (any_part parameter))))

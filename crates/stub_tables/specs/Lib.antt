@@ -1,0 +1,5 @@
+pub mod Codes
+pub mod Lookup
+pub mod Uses
+pub mod Heads
+pub mod Apdus
