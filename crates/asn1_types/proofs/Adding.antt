@@ -43,11 +43,13 @@ push_cases (x ∷ rows) row r (suc n) e =
     ]
 
 pub sound_push : (rows : List TypeRow) (row : TypeRow) → IsSound rows → refusal rows row ≡ None → IsSound (rows ++ row ∷ [])
-sound_push rows row s e = record { each = λ n r g.
-  elim (push_cases rows row r n g) [
-    | inl t ↦ let lt = t.0 in ap (λ (x : List TypeRow). refusal x r) (take-append-le n rows (row ∷ []) (omega arith)) ∙ s.each n r t.1
-    | inr t ↦ ap (λ (x : List TypeRow). refusal x r) (take_at rows (row ∷ []) n (sym t.0)) ∙ ap (refusal rows) (sym t.1) ∙ e
-  ] }
+sound_push rows row s e = record {
+  each = λ n r g.
+      elim (push_cases rows row r n g) [
+        | inl t ↦ let lt = t.0 in ap (λ (x : List TypeRow). refusal x r) (take-append-le n rows (row ∷ []) (omega arith)) ∙ s.each n r t.1
+        | inr t ↦ ap (λ (x : List TypeRow). refusal x r) (take_at rows (row ∷ []) n (sym t.0)) ∙ ap (refusal rows) (sym t.1) ∙ e
+      ];
+}
 
 same_push : (rows : List TypeRow) (row : TypeRow) (n : ℕ) → n < length rows → SameTo (rows ++ row ∷ []) rows n
 same_push rows row n lt = record { same = λ m le. slice_get-push rows row m (omega arith) }
@@ -87,7 +89,7 @@ kept_push rows nestings row x k e same =
       each = λ n lt. elim (cases_lt n (length rows)) [
         | inl l ↦ index_push nestings x n (omega (arith, k.len)) ∙ k.each n l ∙ sym (nesting_push rows row s n l)
         | inr g ↦
-          let at : n ≡ length rows = omega (arith, length-append rows (row ∷ [])) in
-          index_last nestings x n (omega (arith, k.len)) ∙ same ∙ sym (nesting_last rows row s names) ∙ ap (nesting (rows ++ row ∷ [])) (sym at)
+            let at : n ≡ length rows = omega (arith, length-append rows (row ∷ [])) in
+            index_last nestings x n (omega (arith, k.len)) ∙ same ∙ sym (nesting_last rows row s names) ∙ ap (nesting (rows ++ row ∷ [])) (sym at)
       ];
     }

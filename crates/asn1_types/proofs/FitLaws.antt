@@ -91,7 +91,6 @@ pub all_small : (ns : List ℕ) → ((i : ℕ) → get_or ns i 0 < 4294967296) �
 all_small [] h = refl
 all_small (n ∷ ns) h = rw (lt-ltb n 4294967296 (h 0)) (all_small ns (λ i. h (suc i)))
 
-
 pub not_within : (len n : ℕ) → (n < len → ⊥) → len ≤ n
 not_within len n h = by_test (nat_lt n len) refl
   where

@@ -48,8 +48,10 @@ names_below count n (m ∷ ns) le e =
     named false o m e = absurd cc
 
 pub is_down : (rows : List TypeRow) → IsSound rows → IsDown rows
-is_down rows sound = record { lower = λ n row e.
-  names_below (length (take n rows)) n (names_of row) (omega (arith, length-take n rows)) (taken (take n rows) row (sound.each n row e)).names }
+is_down rows sound = record {
+  lower = λ n row e.
+      names_below (length (take n rows)) n (names_of row) (omega (arith, length-take n rows)) (taken (take n rows) row (sound.each n row e)).names;
+}
 
 -- ---- openings and nesting go by the rows that are named
 

@@ -24,7 +24,11 @@ pub(crate) fn first_missing(count: usize, row: &TypeRow) -> Option<u32>
 fn missing(count: usize, row: u32) -> Option<u32>
     ensures { result ≡ first_from count (row ∷ []) }
 {
-    if (row as usize) < count { None } else { Some(row) }
+    if (row as usize) < count {
+        None
+    } else {
+        Some(row)
+    }
 }
 
 fn missing_part(count: usize, parts: &[Part]) -> Option<u32>

@@ -64,7 +64,11 @@ fn opens_row(table: &TypeTable, of: TypeId, row: &TypeRow, class: Class, number:
 {
     let own = match row {
         TypeRow::Choice(parts) => return any_opens(table, of, parts.as_slice(), class, number),
-        TypeRow::Tagged { class: own, number: own_number, .. } => {
+        TypeRow::Tagged {
+            class: own,
+            number: own_number,
+            ..
+        } => {
             return is_tag(class, number, *own, *own_number);
         }
         TypeRow::Any => return true,

@@ -60,13 +60,18 @@ pub enum TypeRow {
     /// BOOLEAN.
     Boolean,
     /// INTEGER from `low` to `high`, both included.
-    Integer { low: i64, high: i64 },
+    Integer {
+        low: i64,
+        high: i64,
+    },
     /// ENUMERATED.
     Enumerated(Named),
     /// NULL.
     Null,
     /// OCTET STRING of at most `most` octets.
-    OctetString { most: u32 },
+    OctetString {
+        most: u32,
+    },
     /// BIT STRING.
     BitString,
     /// OBJECT IDENTIFIER.

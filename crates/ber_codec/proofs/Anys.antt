@@ -32,25 +32,30 @@ no_tag_capped class n = ap (λ (b : Bool). same_class class Universal && b) (by_
 
 pub any_found : Found any_at (λ strict. AnyIs)
 unfolding any_at
-any_found = record { found = λ scope place rest o s v to are opens e.
-  let i = identifier_found scope place rest o s are opens in
-  let u = unless_ok (is_no_tag o.class o.number) (faults.NotSpelled o.start.place Tag) _ (v, to) e in
-  let b = bind_ok (contents_at (anew scope) s.place s.rest) (λ c. Ok (any (take (length o.start.rest - length c.2.rest) o.start.rest), c.2)) (v, to) u.1 in
-  let inner : List ℕ = b.0.1 in
-  let after : Spot = b.0.2 in
-  let c = contents_found (anew scope) s.place s.rest b.0.0 inner after b.1 in
-  let spelled : List ℕ = i.head ++ (c.size ++ inner) in
-  let taken = taken_then place rest i.head (c.size ++ inner) s after i.taken c.taken in
-  let kept : take (length o.start.rest - length after.rest) o.start.rest ≡ spelled =
-    ap (λ (x : Spot). take (length x.rest - length after.rest) x.rest) i.start ∙ ap (λ (x : List ℕ). take (length x - length after.rest) x) taken.parts ∙ take_at spelled after.rest (length (spelled ++ after.rest) - length after.rest) (omega (arith, length-append spelled after.rest)) in
-  let tagged : is_no_tag o.class i.number ≡ false = sym (no_tag_capped o.class i.number) ∙ ap (is_no_tag o.class) (sym i.capped_number) ∙ u.0 in
-  let whole : IsWhole spelled = record { class = o.class; constructed = o.constructed; number = i.number; is_tag = tagged; head = i.head; size = c.size; contents = inner; is_identifier = i.is_identifier; is_length = c.is_length; are = refl } in
-  let same = ok_is {A = Value × Spot} (any (take (length o.start.rest - length after.rest) o.start.rest), after) (v, to) b.2 in
-  let v-is : any spelled ≡ v = ap any (sym kept) ∙ ap (λ (x : Value × Spot). x.0) same in
-  let to-is : after ≡ to = ap (λ (x : Value × Spot). x.1) same in
-  subst (λ (y : Value). ReadAs (λ strict. AnyIs) scope place rest y to) v-is (subst (λ (y : Spot). ReadAs (λ strict. AnyIs) scope place rest (any spelled) y) to-is (record {
-    text = spelled; taken = taken; spelled = (i.level, refl, whole); is_in = record { limit = c.is_in.limit; end = c.is_in.end };
-  })) }
+any_found = record {
+  found = λ scope place rest o s v to are opens e.
+      let i = identifier_found scope place rest o s are opens in
+      let u = unless_ok (is_no_tag o.class o.number) (faults.NotSpelled o.start.place Tag) _ (v, to) e in
+      let b = bind_ok (contents_at (anew scope) s.place s.rest) (λ c. Ok (any (take (length o.start.rest - length c.2.rest) o.start.rest), c.2)) (v, to) u.1 in
+      let inner : List ℕ = b.0.1 in
+      let after : Spot = b.0.2 in
+      let c = contents_found (anew scope) s.place s.rest b.0.0 inner after b.1 in
+      let spelled : List ℕ = i.head ++ (c.size ++ inner) in
+      let taken = taken_then place rest i.head (c.size ++ inner) s after i.taken c.taken in
+      let kept : take (length o.start.rest - length after.rest) o.start.rest ≡ spelled =
+      ap (λ (x : Spot). take (length x.rest - length after.rest) x.rest) i.start ∙ ap (λ (x : List ℕ). take (length x - length after.rest) x) taken.parts ∙ take_at spelled after.rest (length (spelled ++ after.rest) - length after.rest) (omega (arith, length-append spelled after.rest)) in
+      let tagged : is_no_tag o.class i.number ≡ false = sym (no_tag_capped o.class i.number) ∙ ap (is_no_tag o.class) (sym i.capped_number) ∙ u.0 in
+      let whole : IsWhole spelled = record { class = o.class; constructed = o.constructed; number = i.number; is_tag = tagged; head = i.head; size = c.size; contents = inner; is_identifier = i.is_identifier; is_length = c.is_length; are = refl } in
+      let same = ok_is {A = Value × Spot} (any (take (length o.start.rest - length after.rest) o.start.rest), after) (v, to) b.2 in
+      let v-is : any spelled ≡ v = ap any (sym kept) ∙ ap (λ (x : Value × Spot). x.0) same in
+      let to-is : after ≡ to = ap (λ (x : Value × Spot). x.1) same in
+      subst (λ (y : Value). ReadAs (λ strict. AnyIs) scope place rest y to) v-is (subst (λ (y : Spot). ReadAs (λ strict. AnyIs) scope place rest (any spelled) y) to-is (record {
+        text = spelled;
+        taken = taken;
+        spelled = (i.level, refl, whole);
+        is_in = record { limit = c.is_in.limit; end = c.is_in.end };
+      }));
+}
 
 regroup : (head size contents rest : List ℕ) → (head ++ (size ++ contents)) ++ rest ≡ head ++ (size ++ (contents ++ rest))
 regroup head size contents rest = simp append_assoc

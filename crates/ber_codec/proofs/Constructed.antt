@@ -105,18 +105,20 @@ marked_found body tag Q h scope place rest v to x s m head octets taken level sm
     }
 
 pub constructed_found : (body : Body) (tag : tags.Tag) (Q : Relation) → BodyFound body Q → Found (constructed_at body tag) (ConstructedBy tag Q)
-constructed_found body tag Q h = record { found = λ scope place rest o s v to octets opens e.
-  let i = identifier_found scope place rest o s octets opens in
-  let b1 = bind_ok (expect_at tag true o) _ (v, to) e in
-  let is = opened_as tag true o b1.0 b1.1 in
-  let b2 = bind_ok (extent_at scope s.place s.rest) (λ x. body x.0 x.1) (v, to) b1.2 in
-  let x : Scope = b2.0.0 in
-  let m : Spot = b2.0.1 in
-  let identifier = tag_is tag true o i.number i.head is i.capped_number i.is_identifier in
-  elim (extent_found scope s.place s.rest x m b2.1) [
-    | inl u ↦ until_found body tag Q h scope place rest v to x s m i.head octets i.taken i.level is.small identifier u b2.2
-    | inr u ↦ marked_found body tag Q h scope place rest v to x s m i.head octets i.taken i.level is.small identifier u u.is_in b2.2
-  ] }
+constructed_found body tag Q h = record {
+  found = λ scope place rest o s v to octets opens e.
+      let i = identifier_found scope place rest o s octets opens in
+      let b1 = bind_ok (expect_at tag true o) _ (v, to) e in
+      let is = opened_as tag true o b1.0 b1.1 in
+      let b2 = bind_ok (extent_at scope s.place s.rest) (λ x. body x.0 x.1) (v, to) b1.2 in
+      let x : Scope = b2.0.0 in
+      let m : Spot = b2.0.1 in
+      let identifier = tag_is tag true o i.number i.head is i.capped_number i.is_identifier in
+      elim (extent_found scope s.place s.rest x m b2.1) [
+        | inl u ↦ until_found body tag Q h scope place rest v to x s m i.head octets i.taken i.level is.small identifier u b2.2
+        | inr u ↦ marked_found body tag Q h scope place rest v to x s m i.head octets i.taken i.level is.small identifier u u.is_in b2.2
+      ];
+}
 
 regroup : (head size contents rest : List ℕ) → (head ++ (size ++ contents)) ++ rest ≡ head ++ (size ++ (contents ++ rest))
 regroup head size contents rest = simp append_assoc
@@ -126,7 +128,6 @@ regroup_marked head contents rest = simp append_assoc
 
 module _ (body : Body) (tag : tags.Tag) (Q : Relation) (h : BodyOnly body Q) (tagged : is_no_tag tag.class tag.number ≡ false) (scope : Scope) (place : ℕ) (v : Value) (text rest : List ℕ)
     (inner : ℕ) (level : scope.levels ≡ suc inner) (small : tag.number < 2 ^ 32) (here : IsIn scope (place + length text)) where
-
   one_less : scope.levels - 1 ≡ inner
   one_less = omega (arith, level)
 
@@ -186,11 +187,13 @@ module _ (body : Body) (tag : tags.Tag) (Q : Relation) (h : BodyOnly body Q) (ta
       }
 
 pub constructed_only : (body : Body) (tag : tags.Tag) (Q : Relation) → is_no_tag tag.class tag.number ≡ false → BodyOnly body Q → Only (OfTag tag) (constructed_at body tag) (ConstructedBy tag Q)
-constructed_only body tag Q tagged h = record { only = λ scope place v text rest p here.
-  elim p.form [
-    | inl f ↦ until_only body tag Q h tagged scope place v text rest p.inner p.level p.small here f
-    | inr f ↦ marked_only body tag Q h tagged scope place v text rest p.inner p.level p.small here f.0 f.1
-  ] }
+constructed_only body tag Q tagged h = record {
+  only = λ scope place v text rest p here.
+      elim p.form [
+        | inl f ↦ until_only body tag Q h tagged scope place v text rest p.inner p.level p.small here f
+        | inr f ↦ marked_only body tag Q h tagged scope place v text rest p.inner p.level p.small here f.0 f.1
+      ];
+}
 
 -- ---- one value in constructed contents
 
@@ -245,23 +248,25 @@ close_found scope s to here e =
     record { place_is = refl; taken = g.taken; closes = g.closes; is_in = g.is_in }
 
 pub explicit_found : (run : Run) (P : Relation) → Found run P → BodyFound (explicit_body run) P
-explicit_found run P h = record { found = λ scope s v to octets here e.
-  let b1 = bind_ok (look_at scope s.place s.rest) _ (v, to) e in
-  let b2 = bind_ok (first_of b1.0) _ (v, to) b1.2 in
-  let a-is = first_begun b1.0 b2.0 b2.1 in
-  let f : BeginFound scope s.place s.rest b2.0.0 b2.0.1 = subst (AheadFound scope s.place s.rest) a-is (look_found scope s.place s.rest b1.0 here b1.1) in
-  let b3 = bind_ok (run scope b2.0.0 b2.0.1) _ (v, to) b2.2 in
-  let r = h.found scope s.place s.rest b2.0.0 b2.0.1 b3.0.0 b3.0.1 octets f.opens b3.1 in
-  let b4 = bind_ok (close_at scope b3.0.1) _ (v, to) b3.2 in
-  let c = close_found scope b3.0.1 b4.0 r.is_in b4.1 in
-  let same = ok_is {A = Value × Spot} (b3.0.0, b4.0) (v, to) b4.2 in
-  subst (λ (y : Value × Spot). ContentsAs P scope s.place s.rest y.0 y.1) same (record {
-    contents = r.text;
-    taken = taken_then s.place s.rest r.text (closing scope.marked) b3.0.1 b4.0 r.taken c.taken;
-    spelled = r.spelled;
-    closes = subst (Closes scope) r.taken.onward c.closes;
-    is_in = c.is_in;
-  }) }
+explicit_found run P h = record {
+  found = λ scope s v to octets here e.
+      let b1 = bind_ok (look_at scope s.place s.rest) _ (v, to) e in
+      let b2 = bind_ok (first_of b1.0) _ (v, to) b1.2 in
+      let a-is = first_begun b1.0 b2.0 b2.1 in
+      let f : BeginFound scope s.place s.rest b2.0.0 b2.0.1 = subst (AheadFound scope s.place s.rest) a-is (look_found scope s.place s.rest b1.0 here b1.1) in
+      let b3 = bind_ok (run scope b2.0.0 b2.0.1) _ (v, to) b2.2 in
+      let r = h.found scope s.place s.rest b2.0.0 b2.0.1 b3.0.0 b3.0.1 octets f.opens b3.1 in
+      let b4 = bind_ok (close_at scope b3.0.1) _ (v, to) b3.2 in
+      let c = close_found scope b3.0.1 b4.0 r.is_in b4.1 in
+      let same = ok_is {A = Value × Spot} (b3.0.0, b4.0) (v, to) b4.2 in
+      subst (λ (y : Value × Spot). ContentsAs P scope s.place s.rest y.0 y.1) same (record {
+        contents = r.text;
+        taken = taken_then s.place s.rest r.text (closing scope.marked) b3.0.1 b4.0 r.taken c.taken;
+        spelled = r.spelled;
+        closes = subst (Closes scope) r.taken.onward c.closes;
+        is_in = c.is_in;
+      });
+}
 
 pub close_again : (scope : Scope) (place : ℕ) (rest : List ℕ) → Closes scope place → close_at scope (record { place = place; rest = closing scope.marked ++ rest }) ≡ Ok (record { place = place + length (closing scope.marked); rest = rest })
 unfolding close_at
@@ -275,6 +280,8 @@ begun_again B run scope place text rest v r here =
     ap (look_at scope place) shape ∙ look_begun scope place (place + length text) r.first (r.others ++ rest) r.opened r.spot r.some some here (ap (identifier_at scope place) (sym shape) ∙ r.opens)
 
 pub explicit_only : (B : Class → ℕ → Type 0) (run : Run) (P : Relation) → Only B run P → BodyOnly (explicit_body run) P
-explicit_only B run P h = record { only = λ scope place v contents rest p here closes.
-  let r = h.only scope place v contents (closing scope.marked ++ rest) p here in
-  rw (begun_again B run scope place contents (closing scope.marked ++ rest) v r here, r.reads, close_again scope (place + length contents) rest closes) refl }
+explicit_only B run P h = record {
+  only = λ scope place v contents rest p here closes.
+      let r = h.only scope place v contents (closing scope.marked ++ rest) p here in
+      rw (begun_again B run scope place contents (closing scope.marked ++ rest) v r here, r.reads, close_again scope (place + length contents) rest closes) refl;
+}

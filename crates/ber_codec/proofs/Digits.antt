@@ -80,7 +80,7 @@ high_first zero (suc n) b le h = absurd (omega arith)
 high_first (suc t) (suc n) b le h =
     let s = split_128 (suc n) in
     subst (λ (l : List ℕ). slice_index l 0 ≢ 128) (sym (high_some t (suc n) b (omega arith)))
-      (high_first t (suc n / 128) ((128 + suc n % 128) ∷ b) (omega arith) (λ e f. omega arith))
+    (high_first t (suc n / 128) ((128 + suc n % 128) ∷ b) (omega arith) (λ e f. omega arith))
 
 pub base_128_is : (n : ℕ) → IsBase128 (base_128 n) n
 unfolding base_128
@@ -138,7 +138,7 @@ low_first zero (suc n) b le h = absurd (omega arith)
 low_first (suc t) (suc n) b le h =
     let s = split_256 (suc n) in
     subst (λ (l : List ℕ). 0 < slice_index l 0) (sym (low_some t (suc n) b (omega arith)))
-      (low_first t (suc n / 256) ((suc n % 256) ∷ b) (omega arith) (λ e. omega arith))
+    (low_first t (suc n / 256) ((suc n % 256) ∷ b) (omega arith) (λ e. omega arith))
 
 low_few : (k t n : ℕ) (b : List ℕ) → n ≤ t → n < 256 ^ k → length (digits_256 t n b) ≤ k + length b
 low_few k t zero b le lt = rw (low_none t b) (omega arith)

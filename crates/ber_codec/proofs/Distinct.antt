@@ -72,7 +72,7 @@ module _ (openings : ℕ → List Opening) (c : Class) (k : ℕ) where
   pub apart : (p q : Part) → clash openings p q ≡ false → begins_by openings q.inner.0 c k ≡ true → begins_by openings p.inner.0 c k ≡ false
   apart p q e b =
       no_both (not (is_no_tag c k)) (list_any (allows c k) (openings q.inner.0)) (list_any (allows c k) (openings p.inner.0)) b
-        (λ t. not_first (list_any (allows c k) (openings p.inner.0)) p q refl e t)
+      (λ t. not_first (list_any (allows c k) (openings p.inner.0)) p q refl e t)
 
   -- a part allows the identifier, and those before it may be left out
   abbrev pub RunAllows : List Part → Type 0

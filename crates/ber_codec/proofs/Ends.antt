@@ -69,10 +69,10 @@ second_found scope place first [] a m z e = absurd (let no : Err faults.Short �
 second_found scope place first (second ∷ rest) a m z e =
     elim (chosen_ok (nat_eq second 0) _ _ a e) [
       | inl t ↦
-        let b = bind_ok (within scope place (place + 2)) (λ _. Ok (ended place (record { place = place + 2; rest = rest }))) a t.1 in
-        let same = ok_is (ended place (record { place = place + 2; rest = rest })) a b.2 in
-        let zeros : (0 ∷ 0 ∷ rest) ≡ (first ∷ second ∷ rest) = rw (z, eqb-true second 0 t.0) refl in
-        subst (λ (y : Ahead). AheadFound scope place (first ∷ second ∷ rest) y) same
+          let b = bind_ok (within scope place (place + 2)) (λ _. Ok (ended place (record { place = place + 2; rest = rest }))) a t.1 in
+          let same = ok_is (ended place (record { place = place + 2; rest = rest })) a b.2 in
+          let zeros : (0 ∷ 0 ∷ rest) ≡ (first ∷ second ∷ rest) = rw (z, eqb-true second 0 t.0) refl in
+          subst (λ (y : Ahead). AheadFound scope place (first ∷ second ∷ rest) y) same
           (subst (λ (octets : List ℕ). EndFound scope place octets place (record { place = place + 2; rest = rest })) zeros (marked_end scope place rest m (is_in scope place (place + 2) b.0 b.1)))
       | inr t ↦ begin_found scope place (first ∷ second ∷ rest) a t.1
     ]

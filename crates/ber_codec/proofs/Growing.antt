@@ -121,24 +121,24 @@ digits_grow scope place number from [] more =
     rw first.1 (Grows-same (with_spot more) (within scope place (from + 1)) (λ _. Err faults.Short) first.0 (λ x e. tt))
 digits_grow scope place number from (d ∷ ds) more =
     Grows-same (with_spot more) (within scope place (from + 1)) _ _ (λ x e.
-      Grows-cond (with_spot more) (nat_lt d 128) _ _ _ _ (λ t. refl) (λ t. digits_grow scope place (capped (128 * number + (d - 128))) (from + 1) ds more))
+    Grows-cond (with_spot more) (nat_lt d 128) _ _ _ _ (λ t. refl) (λ t. digits_grow scope place (capped (128 * number + (d - 128))) (from + 1) ds more))
 
 high_grows : (scope : Scope) (place first : ℕ) (rest more : List ℕ) → Grows (with_opened more) (high_at scope place first rest) (high_at scope place first (rest ++ more))
 unfolding high_at digits_at
 high_grows scope place first [] more =
     Grows-bind (with_spot more) (with_opened more) (digits_at scope place 0 (place + 1) []) (digits_at scope place 0 (place + 1) more) _ _ (digits_grow scope place 0 (place + 1) [] more)
-      (λ x e. absurd (short_not_ok (within scope place (place + 1 + 1)) x e))
+    (λ x e. absurd (short_not_ok (within scope place (place + 1 + 1)) x e))
 high_grows scope place first (d ∷ ds) more =
     Grows-bind (with_spot more) (with_opened more) (digits_at scope place 0 (place + 1) (d ∷ ds)) (digits_at scope place 0 (place + 1) (d ∷ (ds ++ more))) _ _ (digits_grow scope place 0 (place + 1) (d ∷ ds) more)
-      (λ x e. Grows-cond (with_opened more) (is_lax (d ∷ ds) x.0) _ _ _ _ (λ t. refl) (λ t. refl))
+    (λ x e. Grows-cond (with_opened more) (is_lax (d ∷ ds) x.0) _ _ _ _ (λ t. refl) (λ t. refl))
 
 pub identifier_grows : (scope : Scope) (place : ℕ) (rest more : List ℕ) → Grows (with_opened more) (identifier_at scope place rest) (identifier_at scope place (rest ++ more))
 unfolding identifier_at
 identifier_grows scope place [] more = tt
 identifier_grows scope place (first ∷ rest) more =
     Grows-cond (with_opened more) (nat_eq scope.levels 0) _ _ _ _ (λ t. refl) (λ t.
-      Grows-same (with_opened more) (within scope place (place + 1)) _ _ (λ x e.
-        Grows-cond (with_opened more) (nat_eq (first % 32) 31) _ _ _ _ (λ t. high_grows scope place first rest more) (λ t. refl)))
+    Grows-same (with_opened more) (within scope place (place + 1)) _ _ (λ x e.
+    Grows-cond (with_opened more) (nat_eq (first % 32) 31) _ _ _ _ (λ t. high_grows scope place first rest more) (λ t. refl)))
 
 -- ---- lengths
 
@@ -151,8 +151,8 @@ pub long_grows : (scope : Scope) (place size : ℕ) (rest more : List ℕ) → G
 unfolding long_at
 long_grows scope place size rest more =
     Grows-same (with_spot more) (within scope place (place + 1 + size)) _ _ (λ x e.
-      Grows-enough (with_spot more) rest more size _ _ (λ le.
-        rw (take-append-le size rest more le, drop-append-le size rest more le) (Grows-cond (with_spot more) (nat_lt 8 size) _ _ _ _ (λ t. refl) (λ t. announced_grows scope place (number_from 0 (take size rest)) _ (place + 1 + size) (drop size rest) more))))
+    Grows-enough (with_spot more) rest more size _ _ (λ le.
+    rw (take-append-le size rest more le, drop-append-le size rest more le) (Grows-cond (with_spot more) (nat_lt 8 size) _ _ _ _ (λ t. refl) (λ t. announced_grows scope place (number_from 0 (take size rest)) _ (place + 1 + size) (drop size rest) more))))
 
 pub definite_grows : (scope : Scope) (place : ℕ) (rest more : List ℕ) → Grows (with_spot more) (definite_at scope place rest) (definite_at scope place (rest ++ more))
 unfolding definite_at
@@ -160,8 +160,8 @@ definite_grows scope place [] [] = lacking_same (with_spot []) scope place
 definite_grows scope place [] (o ∷ more) = lacking_first (with_spot (o ∷ more)) scope place _ _ refl
 definite_grows scope place (first ∷ rest) more =
     Grows-same (with_spot more) (within scope place (place + 1)) _ _ (λ x e.
-      Grows-cond (with_spot more) (nat_lt first 128) _ _ _ _ (λ t. announced_grows scope place first true (place + 1) rest more) (λ t.
-        Grows-cond (with_spot more) (nat_eq first 128 || nat_eq first 255) _ _ _ _ (λ t. refl) (λ t. long_grows scope place (first - 128) rest more)))
+    Grows-cond (with_spot more) (nat_lt first 128) _ _ _ _ (λ t. announced_grows scope place first true (place + 1) rest more) (λ t.
+    Grows-cond (with_spot more) (nat_eq first 128 || nat_eq first 255) _ _ _ _ (λ t. refl) (λ t. long_grows scope place (first - 128) rest more)))
 
 join : {A B C : Type 0} (c : Bool) (w : Reading A) (f : A → Reading C) (g : A → Reading B) (h : B → Reading C) → cond c (w >>= f) ((w >>= g) >>= h) ≡ (w >>= λ x. cond c (f x) (g x >>= h))
 join true (Ok x) f g h = refl
@@ -176,8 +176,8 @@ extent_grows scope place [] (o ∷ more) =
     lacking_first (with_spot (o ∷ more)) scope place _ _ (join (nat_eq o 128) (within scope place (place + 1)) _ _ _)
 extent_grows scope place (first ∷ rest) more =
     Grows-cond (with_spot more) (nat_eq first 128) _ _ _ _
-      (λ t. Grows-same (with_spot more) (within scope place (place + 1)) _ _ (λ x e. Grows-cond (with_spot more) scope.strict _ _ _ _ (λ t. refl) (λ t. refl)))
-      (λ t. Grows-bind (with_spot more) (with_spot more) (definite_at scope place (first ∷ rest)) (definite_at scope place (first ∷ (rest ++ more))) _ _ (definite_grows scope place (first ∷ rest) more) (λ x e. refl))
+    (λ t. Grows-same (with_spot more) (within scope place (place + 1)) _ _ (λ x e. Grows-cond (with_spot more) scope.strict _ _ _ _ (λ t. refl) (λ t. refl)))
+    (λ t. Grows-bind (with_spot more) (with_spot more) (definite_at scope place (first ∷ rest)) (definite_at scope place (first ∷ (rest ++ more))) _ _ (definite_grows scope place (first ∷ rest) more) (λ x e. refl))
 
 abbrev pub with_contents : List ℕ → ℕ × List ℕ × Spot → ℕ × List ℕ × Spot
 with_contents more x = (x.0, x.1, grown more x.2)
@@ -186,7 +186,7 @@ pub contents_grow : (scope : Scope) (place : ℕ) (rest more : List ℕ) → Gro
 unfolding contents_at
 contents_grow scope place rest more =
     Grows-bind (with_spot more) (with_contents more) (definite_at scope place rest) (definite_at scope place (rest ++ more)) _ _ (definite_grows scope place rest more) (λ x e.
-      Grows-enough (with_contents more) x.1.rest more x.0 _ _ (λ le. rw (take-append-le x.0 x.1.rest more le, drop-append-le x.0 x.1.rest more le) refl))
+    Grows-enough (with_contents more) x.1.rest more x.0 _ _ (λ le. rw (take-append-le x.0 x.1.rest more le, drop-append-le x.0 x.1.rest more le) refl))
 
 -- ---- the ends of contents
 
@@ -203,12 +203,12 @@ mark_grows : (scope : Scope) (place : ℕ) (rest more : List ℕ) → Grows (gro
 mark_grows scope place [] more = tt
 mark_grows scope place (first ∷ rest) more =
     Grows-cond (grown_ahead more) (nat_eq first 0) _ _ _ _
-      (λ t. Grows-cond (grown_ahead more) (is_past scope.end (place + 2)) _ _ _ _ (λ t. Grows-same (grown_ahead more) (within scope place (place + 2)) _ _ (λ x e. tt)) (λ t. second_grows scope place (first ∷ rest) rest more))
-      (λ t. begin_grows scope place (first ∷ rest) more)
+    (λ t. Grows-cond (grown_ahead more) (is_past scope.end (place + 2)) _ _ _ _ (λ t. Grows-same (grown_ahead more) (within scope place (place + 2)) _ _ (λ x e. tt)) (λ t. second_grows scope place (first ∷ rest) rest more))
+    (λ t. begin_grows scope place (first ∷ rest) more)
 
 pub look_grows : (scope : Scope) (place : ℕ) (rest more : List ℕ) → Grows (grown_ahead more) (look_at scope place rest) (look_at scope place (rest ++ more))
 unfolding look_at
 look_grows scope place rest more =
     Grows-cond (grown_ahead more) scope.marked _ _ _ _
-      (λ t. Grows-cond (grown_ahead more) (is_end scope.end place) _ _ _ _ (λ t. Grows-same (grown_ahead more) (within scope place (place + 1)) _ _ (λ x e. tt)) (λ t. mark_grows scope place rest more))
-      (λ t. Grows-cond (grown_ahead more) (is_end scope.end place) _ _ _ _ (λ t. refl) (λ t. begin_grows scope place rest more))
+    (λ t. Grows-cond (grown_ahead more) (is_end scope.end place) _ _ _ _ (λ t. Grows-same (grown_ahead more) (within scope place (place + 1)) _ _ (λ x e. tt)) (λ t. mark_grows scope place rest more))
+    (λ t. Grows-cond (grown_ahead more) (is_end scope.end place) _ _ _ _ (λ t. refl) (λ t. begin_grows scope place rest more))

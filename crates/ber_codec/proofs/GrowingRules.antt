@@ -25,10 +25,12 @@ pub record GrowsRun (r : Run) : Type 0 where
 
 pub prim_grows : (rule : List ℕ → Option Value) (tag : tags.Tag) → GrowsRun (primitive_at rule tag)
 unfolding primitive_at
-prim_grows rule tag = record { grows = λ scope o s more.
-  Grows-same (with_spot more) (expect_at tag false o) _ _ (λ u e.
-    Grows-bind (with_contents more) (with_spot more) (contents_at scope s.place s.rest) (contents_at scope s.place (s.rest ++ more)) _ _ (contents_grow scope s.place s.rest more) (λ c e.
-      Grows-same (with_spot more) (judge c.0 (λ (x : Value). x) (rule c.1)) _ _ (λ v e. refl))) }
+prim_grows rule tag = record {
+  grows = λ scope o s more.
+      Grows-same (with_spot more) (expect_at tag false o) _ _ (λ u e.
+      Grows-bind (with_contents more) (with_spot more) (contents_at scope s.place s.rest) (contents_at scope s.place (s.rest ++ more)) _ _ (contents_grow scope s.place s.rest more) (λ c e.
+      Grows-same (with_spot more) (judge c.0 (λ (x : Value). x) (rule c.1)) _ _ (λ v e. refl)));
+}
 
 first_grows : (a : Ahead) (more : List ℕ) → Grows (with_opened more) (first_of a) (first_of (grown_ahead more a))
 first_grows (ended place after) more = refl
@@ -45,9 +47,9 @@ open_grows : (tag : tags.Tag) (scope : Scope) (o : Opened) (s : Spot) (more : Li
 unfolding open_at
 open_grows tag scope o s more =
     Grows-same (with_open more) (expect_at tag true o) _ _ (λ u e.
-      Grows-bind (with_spot more) (with_open more) (extent_at scope s.place s.rest) (extent_at scope s.place (s.rest ++ more)) _ _ (extent_grows scope s.place s.rest more) (λ x e.
-        Grows-bind (grown_ahead more) (with_open more) (look_at x.0 x.1.place x.1.rest) (look_at x.0 x.1.place (x.1.rest ++ more)) _ _ (look_grows x.0 x.1.place x.1.rest more) (λ a e.
-          Grows-bind (with_opened more) (with_open more) (first_of a) (first_of (grown_ahead more a)) _ _ (first_grows a more) (λ f e. refl))))
+    Grows-bind (with_spot more) (with_open more) (extent_at scope s.place s.rest) (extent_at scope s.place (s.rest ++ more)) _ _ (extent_grows scope s.place s.rest more) (λ x e.
+    Grows-bind (grown_ahead more) (with_open more) (look_at x.0 x.1.place x.1.rest) (look_at x.0 x.1.place (x.1.rest ++ more)) _ _ (look_grows x.0 x.1.place x.1.rest more) (λ a e.
+    Grows-bind (with_opened more) (with_open more) (first_of a) (first_of (grown_ahead more a)) _ _ (first_grows a more) (λ f e. refl))))
 
 close_grows : (scope : Scope) (s : Spot) (more : List ℕ) → Grows (grown more) (close_at scope s) (close_at scope (grown more s))
 unfolding close_at
@@ -56,17 +58,21 @@ close_grows scope s more =
 
 pub explicit_grows : (run : Run) (tag : tags.Tag) → GrowsRun run → GrowsRun (explicit_at run tag)
 unfolding explicit_at
-explicit_grows run tag h = record { grows = λ scope o s more.
-  Grows-bind (with_open more) (with_spot more) (open_at tag scope o s) (open_at tag scope (grown_opened more o) (grown more s)) _ _ (open_grows tag scope o s more) (λ x e.
-    Grows-bind (with_spot more) (with_spot more) (run x.0 x.1 x.2) (run x.0 (grown_opened more x.1) (grown more x.2)) _ _ (h.grows x.0 x.1 x.2 more) (λ v e.
-      Grows-bind (grown more) (with_spot more) (close_at x.0 v.1) (close_at x.0 (grown more v.1)) _ _ (close_grows x.0 v.1 more) (λ t e. refl))) }
+explicit_grows run tag h = record {
+  grows = λ scope o s more.
+      Grows-bind (with_open more) (with_spot more) (open_at tag scope o s) (open_at tag scope (grown_opened more o) (grown more s)) _ _ (open_grows tag scope o s more) (λ x e.
+      Grows-bind (with_spot more) (with_spot more) (run x.0 x.1 x.2) (run x.0 (grown_opened more x.1) (grown more x.2)) _ _ (h.grows x.0 x.1 x.2 more) (λ v e.
+      Grows-bind (grown more) (with_spot more) (close_at x.0 v.1) (close_at x.0 (grown more v.1)) _ _ (close_grows x.0 v.1 more) (λ t e. refl)));
+}
 
 pub any_grows : GrowsRun any_at
 unfolding any_at
-any_grows = record { grows = λ scope o s more.
-  Grows-cond (with_spot more) (is_no_tag o.class o.number) _ _ _ _ (λ t. refl) (λ t.
-    Grows-bind (with_contents more) (with_spot more) (contents_at (anew scope) s.place s.rest) (contents_at (anew scope) s.place (s.rest ++ more)) _ _ (contents_grow (anew scope) s.place s.rest more) (λ c e.
-      kept o.start.rest c.2 more)) }
+any_grows = record {
+  grows = λ scope o s more.
+      Grows-cond (with_spot more) (is_no_tag o.class o.number) _ _ _ _ (λ t. refl) (λ t.
+      Grows-bind (with_contents more) (with_spot more) (contents_at (anew scope) s.place s.rest) (contents_at (anew scope) s.place (s.rest ++ more)) _ _ (contents_grow (anew scope) s.place s.rest more) (λ c e.
+      kept o.start.rest c.2 more));
+}
   where
     kept : (rest : List ℕ) (after : Spot) (more : List ℕ) → ◌≡◌ {A = Reading (Value × Spot)} (Ok (Rattle.asn1_types.specs.Value.any (take (length (rest ++ more) - length (after.rest ++ more)) (rest ++ more)), grown more after)) (Ok (Rattle.asn1_types.specs.Value.any (take (length rest - length after.rest) rest), grown more after))
     kept rest after more =
@@ -86,37 +92,41 @@ module _ (begins : ℕ → Class → ℕ → Bool) (inner : ℕ → Reader) (h :
   present_grows n scope (ended place after) more = refl
   present_grows n scope (begun o s) more =
       Grows-bind (with_spot more) (with_ahead more) (inner n None scope o s) (inner n None scope (grown_opened more o) (grown more s)) _ _ ((h n).grows scope o s more) (λ v e.
-        Grows-bind (grown_ahead more) (with_ahead more) (look_at scope v.1.place v.1.rest) (look_at scope v.1.place (v.1.rest ++ more)) _ _ (look_grows scope v.1.place v.1.rest more) (λ a e. refl))
+      Grows-bind (grown_ahead more) (with_ahead more) (look_at scope v.1.place v.1.rest) (look_at scope v.1.place (v.1.rest ++ more)) _ _ (look_grows scope v.1.place v.1.rest more) (λ a e. refl))
 
   part_grows : (p : Part) (scope : Scope) (a : Ahead) (more : List ℕ) → Grows (with_ahead more) (part_at begins (inner p.inner.0) p scope a) (part_at begins (inner p.inner.0) p scope (grown_ahead more a))
   unfolding part_at
   part_grows p scope (ended place after) more = Grows-cond (with_ahead more) p.optional _ _ _ _ (λ t. refl) (λ t. refl)
   part_grows p scope (begun o s) more =
       Grows-cond (with_ahead more) (begins p.inner.0 o.class o.number) _ _ _ _ (λ t. present_grows p.inner.0 scope (begun o s) more)
-        (λ t. Grows-cond (with_ahead more) p.optional _ _ _ _ (λ t. refl) (λ t. refl))
+      (λ t. Grows-cond (with_ahead more) p.optional _ _ _ _ (λ t. refl) (λ t. refl))
 
   parts_grow : (ps : List Part) (scope : Scope) (a : Ahead) (more : List ℕ) → Grows (with_parts more) (parts_at begins inner scope a ps) (parts_at begins inner scope (grown_ahead more a) ps)
   unfolding parts_at
   parts_grow [] scope a more = Grows-bind (grown more) (with_parts more) (last_of a) (last_of (grown_ahead more a)) _ _ (last_grows a more) (λ t e. refl)
   parts_grow (p ∷ ps) scope a more =
       Grows-bind (with_ahead more) (with_parts more) (part_at begins (inner p.inner.0) p scope a) (part_at begins (inner p.inner.0) p scope (grown_ahead more a)) _ _ (part_grows p scope a more) (λ x e.
-        Grows-bind (with_parts more) (with_parts more) (parts_at begins inner scope x.1 ps) (parts_at begins inner scope (grown_ahead more x.1) ps) _ _ (parts_grow ps scope x.1 more) (λ y e. refl))
+      Grows-bind (with_parts more) (with_parts more) (parts_at begins inner scope x.1 ps) (parts_at begins inner scope (grown_ahead more x.1) ps) _ _ (parts_grow ps scope x.1 more) (λ y e. refl))
 
   pub sequence_grows : (ps : List Part) (tag : tags.Tag) → GrowsRun (sequence_at begins inner ps tag)
   unfolding sequence_at
-  sequence_grows ps tag = record { grows = λ scope o s more.
-    Grows-same (with_spot more) (expect_at tag true o) _ _ (λ u e.
-      Grows-bind (with_spot more) (with_spot more) (extent_at scope s.place s.rest) (extent_at scope s.place (s.rest ++ more)) _ _ (extent_grows scope s.place s.rest more) (λ x e.
+  sequence_grows ps tag = record {
+    grows = λ scope o s more.
+        Grows-same (with_spot more) (expect_at tag true o) _ _ (λ u e.
+        Grows-bind (with_spot more) (with_spot more) (extent_at scope s.place s.rest) (extent_at scope s.place (s.rest ++ more)) _ _ (extent_grows scope s.place s.rest more) (λ x e.
         Grows-bind (grown_ahead more) (with_spot more) (look_at x.0 x.1.place x.1.rest) (look_at x.0 x.1.place (x.1.rest ++ more)) _ _ (look_grows x.0 x.1.place x.1.rest more) (λ a e.
-          Grows-bind (with_parts more) (with_spot more) (parts_at begins inner x.0 a ps) (parts_at begins inner x.0 (grown_ahead more a) ps) _ _ (parts_grow ps x.0 a more) (λ y e. refl)))) }
+        Grows-bind (with_parts more) (with_spot more) (parts_at begins inner x.0 a ps) (parts_at begins inner x.0 (grown_ahead more a) ps) _ _ (parts_grow ps x.0 a more) (λ y e. refl))));
+  }
 
   pub choice_grows : (which : ℕ) (ps : List Part) → GrowsRun (choice_at begins inner which ps)
   unfolding choice_at
   choice_grows which [] = record { grows = λ scope o s more. refl }
-  choice_grows which (p ∷ ps) = record { grows = λ scope o s more.
-    Grows-cond (with_spot more) (begins p.inner.0 o.class o.number) _ _ _ _
-      (λ t. Grows-bind (with_spot more) (with_spot more) (inner p.inner.0 None scope o s) (inner p.inner.0 None scope (grown_opened more o) (grown more s)) _ _ ((h p.inner.0).grows scope o s more) (λ v e. refl))
-      (λ t. (choice_grows (suc which) ps).grows scope o s more) }
+  choice_grows which (p ∷ ps) = record {
+    grows = λ scope o s more.
+        Grows-cond (with_spot more) (begins p.inner.0 o.class o.number) _ _ _ _
+        (λ t. Grows-bind (with_spot more) (with_spot more) (inner p.inner.0 None scope o s) (inner p.inner.0 None scope (grown_opened more o) (grown more s)) _ _ ((h p.inner.0).grows scope o s more) (λ v e. refl))
+        (λ t. (choice_grows (suc which) ps).grows scope o s more);
+  }
 
 or_grows : (run : Run) (t : Option tags.Tag) → GrowsRun run → GrowsRun (or_explicit run t)
 or_grows run None h = h

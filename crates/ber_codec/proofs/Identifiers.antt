@@ -126,28 +126,28 @@ digits_found scope place a from (d ∷ ds) n s octets e =
     let b = bind_ok (within scope place (from + 1)) _ (n, s) e in
     elim (chosen_ok (nat_lt d 128) _ _ (n, s) b.2) [
       | inl t ↦
-        let lt : d < 128 = ltb-true d 128 t.0 in
-        let same = ok_is (capped (128 * capped a + d), record { place = from + 1; rest = ds }) (n, s) t.1 in
-        let n-is : capped (128 * capped a + d) ≡ n = ap (λ (x : ℕ × Spot). x.0) same in
-        let s-is : record { place = from + 1; rest = ds } ≡ s = ap (λ (x : ℕ × Spot). x.1) same in
-        subst (λ (z : Spot). DigitsFound scope a from (d ∷ ds) n z) s-is (record {
-          text = d ∷ [];
-          taken = record { parts = refl; onward = refl };
-          digits = lt;
-          number = sym n-is ∙ capped_digit a d ∙ ap (λ (k : ℕ). capped (128 * a + k)) (sym (low_small d lt));
-          is_in = is_in scope place (from + 1) b.0 b.1;
-        })
+          let lt : d < 128 = ltb-true d 128 t.0 in
+          let same = ok_is (capped (128 * capped a + d), record { place = from + 1; rest = ds }) (n, s) t.1 in
+          let n-is : capped (128 * capped a + d) ≡ n = ap (λ (x : ℕ × Spot). x.0) same in
+          let s-is : record { place = from + 1; rest = ds } ≡ s = ap (λ (x : ℕ × Spot). x.1) same in
+          subst (λ (z : Spot). DigitsFound scope a from (d ∷ ds) n z) s-is (record {
+            text = d ∷ [];
+            taken = record { parts = refl; onward = refl };
+            digits = lt;
+            number = sym n-is ∙ capped_digit a d ∙ ap (λ (k : ℕ). capped (128 * a + k)) (sym (low_small d lt));
+            is_in = is_in scope place (from + 1) b.0 b.1;
+          })
       | inr t ↦
-        let le : 128 ≤ d = ltb-false d 128 t.0 in
-        let read : digits_at scope place (capped (128 * a + (d - 128))) (from + 1) ds ≡ Ok (n, s) = ap (λ (k : ℕ). digits_at scope place k (from + 1) ds) (sym (capped_digit a (d - 128))) ∙ t.1 in
-        let f = digits_found scope place (128 * a + (d - 128)) (from + 1) ds n s (octets_tail d ds octets) read in
-        record {
-          text = d ∷ f.text;
-          taken = record { parts = ap (λ (x : List ℕ). d ∷ x) f.taken.parts; onward = omega (arith, f.taken.onward) };
-          digits = digits_more d f.text le (octets.each 0) f.digits;
-          number = f.number ∙ ap (λ (k : ℕ). capped (number_128 (128 * a + k) f.text)) (sym (low_large d le));
-          is_in = f.is_in;
-        }
+          let le : 128 ≤ d = ltb-false d 128 t.0 in
+          let read : digits_at scope place (capped (128 * a + (d - 128))) (from + 1) ds ≡ Ok (n, s) = ap (λ (k : ℕ). digits_at scope place k (from + 1) ds) (sym (capped_digit a (d - 128))) ∙ t.1 in
+          let f = digits_found scope place (128 * a + (d - 128)) (from + 1) ds n s (octets_tail d ds octets) read in
+          record {
+            text = d ∷ f.text;
+            taken = record { parts = ap (λ (x : List ℕ). d ∷ x) f.taken.parts; onward = omega (arith, f.taken.onward) };
+            digits = digits_more d f.text le (octets.each 0) f.digits;
+            number = f.number ∙ ap (λ (k : ℕ). capped (number_128 (128 * a + k) f.text)) (sym (low_large d le));
+            is_in = f.is_in;
+          }
     ]
 
 digits_again : (scope : Scope) (place a from : ℕ) (text rest : List ℕ) → AreDigits text → IsIn scope (from + length text) → digits_at scope place (capped a) from (text ++ rest) ≡ Ok (capped (number_128 a text), record { place = from + length text; rest = rest })
@@ -159,8 +159,8 @@ digits_again scope place a from (d ∷ e ∷ text) rest h in_here =
     let one : IsIn scope (from + 1) = in_before scope (from + 1) (from + length (d ∷ e ∷ text)) (omega arith) in_here in
     let there : from + length (d ∷ e ∷ text) ≡ from + 1 + length (e ∷ text) = omega arith in
     rw (in_is scope place (from + 1) one, le-ltb d 128 h.0, capped_digit a (d - 128))
-      (digits_again scope place (128 * a + (d - 128)) (from + 1) (e ∷ text) rest h.2 (rw there at in_here)
-        ∙ ap (λ (k : ℕ). Ok (capped (number_128 (128 * a + (d - 128)) (e ∷ text)), record { place = k; rest = rest })) (sym there))
+    (digits_again scope place (128 * a + (d - 128)) (from + 1) (e ∷ text) rest h.2 (rw there at in_here)
+    ∙ ap (λ (k : ℕ). Ok (capped (number_128 (128 * a + (d - 128)) (e ∷ text)), record { place = k; rest = rest })) (sym there))
 
 -- ---- identifiers
 
@@ -252,7 +252,7 @@ low_again scope place class constructed number rest lt level in_here =
     let ne : number ≢ 31 = omega arith in
     let cap : number ≡ capped number = omega arith in
     rw (no_levels scope.levels level, in_is scope place (place + 1) in_here, low_at class constructed number less, ne_eqb number 31 ne, class_at class constructed number less, form_at class constructed number less)
-      (ap (λ (k : ℕ). Ok (record { start = record { place = place; rest = (leading class constructed + number) ∷ rest }; class = class; constructed = constructed; number = k }, record { place = place + 1; rest = rest })) cap)
+    (ap (λ (k : ℕ). Ok (record { start = record { place = place; rest = (leading class constructed + number) ∷ rest }; class = class; constructed = constructed; number = k }, record { place = place + 1; rest = rest })) cap)
 
 high_again : (scope : Scope) (place : ℕ) (class : Class) (constructed : Bool) (number : ℕ) (digits rest : List ℕ) → 31 ≤ number → IsBase128 digits number → 0 < scope.levels → IsIn scope (place + suc (length digits))
     → identifier_at scope place ((leading class constructed + 31) ∷ (digits ++ rest)) ≡ Ok (record { start = record { place = place; rest = (leading class constructed + 31) ∷ (digits ++ rest) }; class = class; constructed = constructed; number = capped number }, record { place = place + suc (length digits); rest = rest })
@@ -265,7 +265,7 @@ high_again scope place class constructed number digits rest ge base level in_her
     let lead : slice_index (digits ++ rest) 0 ≢ 128 = λ e. base.shortest (sym (first_same digits rest (digits ++ rest) base.are refl) ∙ e) in
     let large : 31 ≤ capped (number_128 0 digits) = omega (arith, base.number) in
     rw (no_levels scope.levels level, in_is scope place (place + 1) one, low_at class constructed 31 less, read, le-ltb (capped (number_128 0 digits)) 31 large, ne_eqb (slice_index (digits ++ rest) 0) 128 lead, class_at class constructed 31 less, form_at class constructed 31 less)
-      (rw (base.number, there) refl)
+    (rw (base.number, there) refl)
 
 pub identifier_again : (scope : Scope) (place : ℕ) (class : Class) (constructed : Bool) (number : ℕ) (head rest : List ℕ)
     → IsIdentifier class constructed number head → 0 < scope.levels → IsIn scope (place + length head)
@@ -274,7 +274,7 @@ identifier_again scope place class constructed number [] rest h level in_here = 
 identifier_again scope place class constructed number (first ∷ d ∷ digits) rest (inl h) level in_here = absurd (let e : (d ∷ digits) ≡ [] = h.2 in cc)
 identifier_again scope place class constructed number (first ∷ []) rest (inl h) level in_here =
     subst (λ (f : ℕ). identifier_at scope place (f ∷ rest) ≡ Ok (record { start = record { place = place; rest = f ∷ rest }; class = class; constructed = constructed; number = capped number }, record { place = place + 1; rest = rest }))
-      (sym h.1) (low_again scope place class constructed number rest h.0 level in_here)
+    (sym h.1) (low_again scope place class constructed number rest h.0 level in_here)
 identifier_again scope place class constructed number (first ∷ digits) rest (inr h) level in_here =
     subst (λ (f : ℕ). identifier_at scope place (f ∷ (digits ++ rest)) ≡ Ok (record { start = record { place = place; rest = f ∷ (digits ++ rest) }; class = class; constructed = constructed; number = capped number }, record { place = place + suc (length digits); rest = rest }))
-      (sym h.1) (high_again scope place class constructed number digits rest h.0 h.2 level in_here)
+    (sym h.1) (high_again scope place class constructed number digits rest h.0 h.2 level in_here)

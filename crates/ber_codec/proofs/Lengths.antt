@@ -83,7 +83,7 @@ long_found scope place first rest n s large e =
         few = omega arith;
         number = sym a.number;
         shortest = λ h. let t = and_true _ _ (a.shortest h) in
-          (let le = leb-true 128 (number_from 0 (take size rest)) t.0 in omega (arith, a.number), ltb-true 0 (slice_index (take size rest) 0) t.1);
+            (let le = leb-true 128 (number_from 0 (take size rest)) t.0 in omega (arith, a.number), ltb-true 0 (slice_index (take size rest) 0) t.1);
       });
       is_in = rw (a.place, a.number) a.is_in;
     }
@@ -95,18 +95,18 @@ definite_found scope place (first ∷ rest) n s e =
     let b = bind_ok (within scope place (place + 1)) _ (n, s) e in
     elim (chosen_ok (nat_lt first 128) _ _ (n, s) b.2) [
       | inl t ↦
-        let a = announced_found scope place first true (place + 1) rest n s t.1 in
-        record {
-          size = first ∷ [];
-          taken = record { parts = ap (λ (x : List ℕ). first ∷ x) (sym a.behind); onward = a.place };
-          is_length = inl (ltb-true first 128 t.0, refl, a.number);
-          is_in = rw (a.place, a.number) a.is_in;
-        }
+          let a = announced_found scope place first true (place + 1) rest n s t.1 in
+          record {
+            size = first ∷ [];
+            taken = record { parts = ap (λ (x : List ℕ). first ∷ x) (sym a.behind); onward = a.place };
+            is_length = inl (ltb-true first 128 t.0, refl, a.number);
+            is_in = rw (a.place, a.number) a.is_in;
+          }
       | inr t ↦
-        let u = unless_ok (nat_eq first 128 || nat_eq first 255) (faults.NotSpelled place Length) _ (n, s) t.1 in
-        let ge : 128 ≤ first = ltb-false first 128 t.0 in
-        let ne : first ≢ 128 = eqb-false first 128 (or_false (nat_eq first 128) (nat_eq first 255) u.0).0 in
-        long_found scope place first rest n s (omega arith) u.1
+          let u = unless_ok (nat_eq first 128 || nat_eq first 255) (faults.NotSpelled place Length) _ (n, s) t.1 in
+          let ge : 128 ≤ first = ltb-false first 128 t.0 in
+          let ne : first ≢ 128 = eqb-false first 128 (or_false (nat_eq first 128) (nat_eq first 255) u.0).0 in
+          long_found scope place first rest n s (omega arith) u.1
     ]
   where
     or_false : (a b : Bool) → (a || b) ≡ false → (a ≡ false) × (b ≡ false)
@@ -122,9 +122,15 @@ unfolding long_at
 long_again scope place first digits rest n h here =
     let enough : length digits ≤ length (digits ++ rest) = omega (arith, length-append digits rest) in
     let few : length digits ≤ 8 = h.few in
-    rw (in_is scope place (place + 1 + length digits) (in_before scope (place + 1 + length digits) (place + 1 + length digits + n) (omega arith) here), le-ltb (length (digits ++ rest)) (length digits) enough, le-ltb 8 (length digits) few,
-      take_at digits rest (length digits) refl, drop_at digits rest (length digits) refl, h.number)
-      (announced_again scope place n _ (place + 1 + length digits) rest here (minimal_ok scope.strict n (slice_index digits 0) h.shortest))
+    rw (
+      in_is scope place (place + 1 + length digits) (in_before scope (place + 1 + length digits) (place + 1 + length digits + n) (omega arith) here),
+      le-ltb (length (digits ++ rest)) (length digits) enough,
+      le-ltb 8 (length digits) few,
+      take_at digits rest (length digits) refl,
+      drop_at digits rest (length digits) refl,
+      h.number,
+    )
+    (announced_again scope place n _ (place + 1 + length digits) rest here (minimal_ok scope.strict n (slice_index digits 0) h.shortest))
 
 pub definite_again : (scope : Scope) (place : ℕ) (size rest : List ℕ) (n : ℕ) → IsLength scope.strict size n → IsIn scope (place + length size + n) → definite_at scope place (size ++ rest) ≡ Ok (n, record { place = place + length size; rest = rest })
 unfolding definite_at long_at
@@ -133,7 +139,7 @@ definite_again scope place (first ∷ d ∷ digits) rest n (inl h) here = absurd
 definite_again scope place (first ∷ []) rest n (inl h) here =
     let there : place + 1 + n ≡ place + 1 + first = omega (arith, h.2) in
     rw (in_is scope place (place + 1) (in_before scope (place + 1) (place + 1 + n) (omega arith) here), lt-ltb first 128 h.0, h.2)
-      (announced_again scope place first true (place + 1) rest (rw there at here) (no scope.strict))
+    (announced_again scope place first true (place + 1) rest (rw there at here) (no scope.strict))
   where
     no : (s : Bool) → (s && not true) ≡ false
     no true = refl
@@ -146,7 +152,7 @@ definite_again scope place (first ∷ digits) rest n (inr h) here =
     let ne255 : first ≢ 255 = let few = h.few in let size = h.size in λ e. omega arith in
     let size : first - 128 ≡ length digits = omega (arith, h.size) in
     rw (in_is scope place (place + 1) (in_before scope (place + 1) (place + suc (length digits) + n) (omega arith) here), le-ltb first 128 large, ne_eqb first 128 ne128, ne_eqb first 255 ne255, size, moved)
-      (long_again scope place first digits rest n h (rw there at here))
+    (long_again scope place first digits rest n h (rw there at here))
 
 -- ---- contents of primitives
 
@@ -206,22 +212,27 @@ extent_found scope place [] x s e = absurd (lacking_not_ok scope place (x, s) e)
 extent_found scope place (first ∷ rest) x s e =
     elim (chosen_ok (nat_eq first 128) _ _ (x, s) e) [
       | inl t ↦
-        let b = bind_ok (within scope place (place + 1)) _ (x, s) t.1 in
-        let u = unless_ok scope.strict (faults.NotSpelled place Form) (Ok (inside scope, record { place = place + 1; rest = rest })) (x, s) b.2 in
-        let same = ok_is {A = Scope × Spot} (inside scope, record { place = place + 1; rest = rest }) (x, s) u.1 in
-        inr (subst (λ (y : Scope × Spot). Marked scope place (first ∷ rest) y.0 y.1) same (record {
-          taken = record { parts = ap (λ (o : ℕ). o ∷ rest) (eqb-true first 128 t.0); onward = refl };
-          lax = u.0;
-          is_in = is_in scope place (place + 1) b.0 b.1;
-          are = refl;
-        }))
+          let b = bind_ok (within scope place (place + 1)) _ (x, s) t.1 in
+          let u = unless_ok scope.strict (faults.NotSpelled place Form) (Ok (inside scope, record { place = place + 1; rest = rest })) (x, s) b.2 in
+          let same = ok_is {A = Scope × Spot} (inside scope, record { place = place + 1; rest = rest }) (x, s) u.1 in
+          inr (subst (λ (y : Scope × Spot). Marked scope place (first ∷ rest) y.0 y.1) same (record {
+            taken = record { parts = ap (λ (o : ℕ). o ∷ rest) (eqb-true first 128 t.0); onward = refl };
+            lax = u.0;
+            is_in = is_in scope place (place + 1) b.0 b.1;
+            are = refl;
+          }))
       | inr t ↦
-        let b = bind_ok (definite_at scope place (first ∷ rest)) _ (x, s) t.1 in
-        let f = definite_found scope place (first ∷ rest) b.0.0 b.0.1 b.1 in
-        let same = ok_is {A = Scope × Spot} (inside_until scope (b.0.1.place + b.0.0), b.0.1) (x, s) b.2 in
-        inl (subst (λ (y : Scope × Spot). Until scope place (first ∷ rest) y.0 y.1) same (record {
-          size = f.size; count = b.0.0; taken = f.taken; is_length = f.is_length; is_in = f.is_in; are = refl;
-        }))
+          let b = bind_ok (definite_at scope place (first ∷ rest)) _ (x, s) t.1 in
+          let f = definite_found scope place (first ∷ rest) b.0.0 b.0.1 b.1 in
+          let same = ok_is {A = Scope × Spot} (inside_until scope (b.0.1.place + b.0.0), b.0.1) (x, s) b.2 in
+          inl (subst (λ (y : Scope × Spot). Until scope place (first ∷ rest) y.0 y.1) same (record {
+            size = f.size;
+            count = b.0.0;
+            taken = f.taken;
+            is_length = f.is_length;
+            is_in = f.is_in;
+            are = refl;
+          }))
     ]
 
 length_first : (strict : Bool) (first : ℕ) (digits : List ℕ) (n : ℕ) → IsLength strict (first ∷ digits) n → nat_eq first 128 ≡ false

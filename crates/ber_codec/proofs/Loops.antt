@@ -24,7 +24,7 @@ unfolding parts_at
 parts_go_on begins inner scope parts i p front ahead o next total lt at read so_far =
     let cell : drop i parts ≡ p ∷ drop (i + 1) parts = rw (add-one, drop-cons parts i p lt, ← at) refl in
     let one : parts_behind front (parts_at begins inner scope ahead (drop i parts)) ≡ parts_behind (front ++ o ∷ []) (parts_at begins inner scope next (drop (i + 1) parts)) =
-      rw (cell, read) (parts_regroup front o (parts_at begins inner scope next (drop (i + 1) parts))) in
+    rw (cell, read) (parts_regroup front o (parts_at begins inner scope next (drop (i + 1) parts))) in
     sym one ∙ so_far
 
 pub goes_then : {place len : ℕ} {mid to : code.Spot} → GoesOn place len mid → GoesOn mid.place (length mid.rest.now) to → GoesOn place len to

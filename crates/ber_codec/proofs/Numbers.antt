@@ -90,7 +90,7 @@ signed_high_by n above p lt sum large le =
 pub signed_high : (os : List ℕ) (above : ℕ) → AreOctets os → 1 ≤ length os → length os ≤ 8 → 128 ≤ slice_index os 0 → above + 256 ^ length os ≡ 2 ^ 64 → cast_signed w64 (number_from 0 os + above) ≡ signed_of os
 signed_high os above h some le ge sum =
     rw (le-ltb (slice_index os 0) 128 ge)
-      (signed_high_by (number_from 0 os) above (256 ^ length os) (omega (arith, number_high 0 os h)) sum (number_large os some ge) (few_256 (length os) le))
+    (signed_high_by (number_from 0 os) above (256 ^ length os) (omega (arith, number_high 0 os h)) sum (number_large os some ge) (few_256 (length os) le))
 
 pub again : (r : ℤ) (n m : ℕ) → r ≡ cast_signed w64 n → n < 2 ^ 64 → n ≡ m → cast_signed w64 (cast_unsigned w64 r) ≡ cast_signed w64 m
 again r n m e lt same = ap (λ z. cast_signed w64 (cast_unsigned w64 z)) e ∙ ap (cast_signed w64) (of_z-to_z w64 n lt ∙ same)

@@ -61,22 +61,33 @@ digit_found : (a d : ℕ) (ds ns : List ℕ) → AreOctets (d ∷ ds) → cond (
 digit_found a d ds ns are e begun free =
     elim (chosen_some (nat_lt d 128) _ _ ns e) [
       | inl t ↦
-        let lt : d < 128 = ltb-true d 128 t.0 in
-        let p = pushed (sized (128 * sized a + d)) (subidentifiers_of 0 false ds) ns t.1 in
-        record {
-          n = sized (128 * sized a + d); more = p.0; piece = d ∷ []; others = ds; are = p.2; parts = refl; is_digits = lt;
-          number = sized_digit a d ∙ ap (λ (k : ℕ). sized (128 * a + k)) (sym (low_small d lt));
-          rest = free p.0 p.1;
-        }
+          let lt : d < 128 = ltb-true d 128 t.0 in
+          let p = pushed (sized (128 * sized a + d)) (subidentifiers_of 0 false ds) ns t.1 in
+          record {
+            n = sized (128 * sized a + d);
+            more = p.0;
+            piece = d ∷ [];
+            others = ds;
+            are = p.2;
+            parts = refl;
+            is_digits = lt;
+            number = sized_digit a d ∙ ap (λ (k : ℕ). sized (128 * a + k)) (sym (low_small d lt));
+            rest = free p.0 p.1;
+          }
       | inr t ↦
-        let le : 128 ≤ d = ltb-false d 128 t.0 in
-        let g = begun (128 * a + (d - 128)) ns (ap (λ (k : ℕ). subidentifiers_of k true ds) (sym (sized_digit a (d - 128))) ∙ t.1) in
-        record {
-          n = g.n; more = g.more; piece = d ∷ g.piece; others = g.others; are = g.are; parts = ap (λ (x : List ℕ). d ∷ x) g.parts;
-          is_digits = digits_more d g.piece le (are.each 0) g.is_digits;
-          number = g.number ∙ ap (λ (k : ℕ). sized (number_128 (128 * a + k) g.piece)) (sym (low_large d le));
-          rest = g.rest;
-        }
+          let le : 128 ≤ d = ltb-false d 128 t.0 in
+          let g = begun (128 * a + (d - 128)) ns (ap (λ (k : ℕ). subidentifiers_of k true ds) (sym (sized_digit a (d - 128))) ∙ t.1) in
+          record {
+            n = g.n;
+            more = g.more;
+            piece = d ∷ g.piece;
+            others = g.others;
+            are = g.are;
+            parts = ap (λ (x : List ℕ). d ∷ x) g.parts;
+            is_digits = digits_more d g.piece le (are.each 0) g.is_digits;
+            number = g.number ∙ ap (λ (k : ℕ). sized (number_128 (128 * a + k) g.piece)) (sym (low_large d le));
+            rest = g.rest;
+          }
     ]
 
 first_is : (d : ℕ) (ds piece others : List ℕ) → AreDigits piece → (d ∷ ds) ≡ piece ++ others → slice_index piece 0 ≡ d
@@ -86,7 +97,7 @@ first_is d ds (p ∷ piece) others h e = let same : d ≡ p = cc in sym same
 goes_sized : (d : ℕ) (ds ns : List ℕ) → d ≢ 128 → Goes 0 (d ∷ ds) ns → AreSized ns (d ∷ ds)
 goes_sized d ds ns ne g =
     subst (λ (x : List ℕ). AreSized x (d ∷ ds)) (sym g.are)
-      (g.piece, g.others, number_128 0 g.piece, g.parts, record { are = g.is_digits; shortest = λ e. ne (sym (first_is d ds g.piece g.others g.is_digits g.parts) ∙ e); number = refl }, g.number, g.rest)
+    (g.piece, g.others, number_128 0 g.piece, g.parts, record { are = g.is_digits; shortest = λ e. ne (sym (first_is d ds g.piece g.others g.is_digits g.parts) ∙ e); number = refl }, g.number, g.rest)
 
 test_or : (b : Bool) → (b && true) ≡ b
 test_or true = refl
@@ -105,8 +116,8 @@ mutual
       elim (chosen_some (nat_eq d 128 && true) None _ ns e) [
         | inl t ↦ absurd (let none : None ≡ Some ns = t.1 in cc)
         | inr t ↦
-          let ne : d ≢ 128 = eqb-false d 128 (sym (test_or (nat_eq d 128)) ∙ t.0) in
-          goes_sized d ds ns ne (digit_found 0 d ds ns are t.1 (λ b ms f. begun_found b ds ms (octets_tail d ds are) f) (λ ms f. free_found ds ms (octets_tail d ds are) f))
+            let ne : d ≢ 128 = eqb-false d 128 (sym (test_or (nat_eq d 128)) ∙ t.0) in
+            goes_sized d ds ns ne (digit_found 0 d ds ns are t.1 (λ b ms f. begun_found b ds ms (octets_tail d ds are) f) (λ ms f. free_found ds ms (octets_tail d ds are) f))
       ]
 
 -- ---- the other way
@@ -233,9 +244,9 @@ judged None arcs e = absurd cc
 judged (Some ns) arcs e =
     elim (chosen_some (list_all is_arc (arcs_from ns) && is_oid (arcs_from ns)) (Some (arcs_from ns)) None arcs e) [
       | inl t ↦
-        let same : arcs_from ns ≡ arcs = let s : Some (arcs_from ns) ≡ Some arcs = t.1 in cc in
-        let u = and_true (list_all is_arc (arcs_from ns)) (is_oid (arcs_from ns)) t.0 in
-        (ns, refl, same, ap (list_all is_arc) (sym same) ∙ u.0, ap is_oid (sym same) ∙ u.1)
+          let same : arcs_from ns ≡ arcs = let s : Some (arcs_from ns) ≡ Some arcs = t.1 in cc in
+          let u = and_true (list_all is_arc (arcs_from ns)) (is_oid (arcs_from ns)) t.0 in
+          (ns, refl, same, ap (list_all is_arc) (sym same) ∙ u.0, ap is_oid (sym same) ∙ u.1)
       | inr t ↦ absurd (let none : None ≡ Some arcs = t.1 in cc)
     ]
 

@@ -145,8 +145,8 @@ module _ (rows : List TypeRow) (n : ℕ) where
   row_only inner rel h (row.Text kind) s t ok = nothing (Allowed rows n t) (dead t)
   row_only inner rel h (row.Sequence ps) s t ok =
       own Universal 16 s.opens refl t _ _
-        (constructed_only (sequence_body (begins rows) inner ps) (tag_or t Universal 16) (λ strict levels v c. SequenceIs rel strict ps v levels c) (tag_ok t Universal 16 ok refl)
-          (sequence_only (openings rows) inner rel (λ m. h m None tt) ps s.apart))
+      (constructed_only (sequence_body (begins rows) inner ps) (tag_or t Universal 16) (λ strict levels v c. SequenceIs rel strict ps v levels c) (tag_ok t Universal 16 ok refl)
+      (sequence_only (openings rows) inner rel (λ m. h m None tt) ps s.apart))
   row_only inner rel h (row.Set ps) s t ok = nothing (Allowed rows n t) (dead t)
   row_only inner rel h (row.SequenceOf of) s t ok = nothing (Allowed rows n t) (dead t)
   row_only inner rel h (row.Choice ps) s t ok =

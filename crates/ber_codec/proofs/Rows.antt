@@ -24,13 +24,13 @@ module _ (begins : ℕ → Class → ℕ → Bool) (f g : ℕ → Reader) where
   unfolding parts_at
   parts_cong [] h = refl
   parts_cong (p ∷ ps) h = λ i scope ahead.
-    part_at begins (h.0 i) p scope ahead >>= λ x. parts_cong ps h.1 i scope x.1 >>= λ more. Ok (x.0 ∷ more.0, more.1)
+      part_at begins (h.0 i) p scope ahead >>= λ x. parts_cong ps h.1 i scope x.1 >>= λ more. Ok (x.0 ∷ more.0, more.1)
 
   choice_cong : (which : ℕ) (ps : List Part) → AllByRecursion (λ m. f m ≡ g m) (rows_of_parts ps) → choice_at begins f which ps ≡ choice_at begins g which ps
   unfolding choice_at
   choice_cong which [] h = refl
   choice_cong which (p ∷ ps) h = λ i scope opened spot.
-    cond (begins p.inner.0 opened.class opened.number) (h.0 i None scope opened spot >>= λ v. Ok (chosen which v.0, v.1)) (choice_cong (suc which) ps h.1 i scope opened spot)
+      cond (begins p.inner.0 opened.class opened.number) (h.0 i None scope opened spot >>= λ v. Ok (chosen which v.0, v.1)) (choice_cong (suc which) ps h.1 i scope opened spot)
 
   read_cong : (row : TypeRow) → AllByRecursion (λ m. f m ≡ g m) (names_of row) → read_by begins f row ≡ read_by begins g row
   unfolding sequence_at
@@ -43,7 +43,7 @@ module _ (begins : ℕ → Class → ℕ → Bool) (f g : ℕ → Reader) where
   read_cong ObjectId h = refl
   read_cong (Text kind) h = refl
   read_cong (Sequence ps) h = λ i tag scope opened spot.
-    expect_at (tag_or tag Universal 16) true opened >>= λ _. extent_at scope spot.place spot.rest >>= λ x. look_at x.0 x.1.place x.1.rest >>= λ a.
+      expect_at (tag_or tag Universal 16) true opened >>= λ _. extent_at scope spot.place spot.rest >>= λ x. look_at x.0 x.1.place x.1.rest >>= λ a.
       parts_cong ps h i x.0 a >>= λ found. Ok (parts (parts_of found.0), found.1)
   read_cong (Set ps) h = refl
   read_cong (SequenceOf of) h = refl

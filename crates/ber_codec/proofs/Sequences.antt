@@ -40,7 +40,6 @@ pub record PartsAs (rel : ℕ → Spelled) (ps : List Part) (scope : Scope) (pla
   pub is_in : IsIn scope to.place
 
 module _ (begins : Begins) (inner : ℕ → Reader) (rel : ℕ → Spelled) (h : (n : ℕ) → Found (inner n None) (rel n None)) where
-
   no_more : (scope : Scope) (place : ℕ) (rest : List ℕ) (a : Ahead) (vs : List (Option Value)) (to : Spot) → AheadFound scope place rest a → parts_at begins inner scope a [] ≡ Ok (vs, to) → PartsAs rel [] scope place rest vs to
   unfolding parts_at
   no_more scope place rest a vs to f e =
@@ -94,11 +93,15 @@ module _ (begins : Begins) (inner : ℕ → Reader) (rel : ℕ → Spelled) (h :
   absent_found p ps scope place rest a next o vs to e others =
       elim (chosen_ok {A = Option Value × Ahead} p.optional (Ok (None, a)) (Err (faults.NotSpelled (place_of a) Missing)) (o, next) e) [
         | inl t ↦
-          let same = ok_is {A = Option Value × Ahead} (None, a) (o, next) t.1 in
-          let ih = others (ap (λ (x : Option Value × Ahead). x.1) (sym same)) in
-          subst (λ (y : Option Value × Ahead). PartsAs rel (p ∷ ps) scope place rest (y.0 ∷ vs) to) same (record {
-            contents = ih.contents; taken = ih.taken; spelled = (t.0, ih.spelled); closes = ih.closes; is_in = ih.is_in;
-          })
+            let same = ok_is {A = Option Value × Ahead} (None, a) (o, next) t.1 in
+            let ih = others (ap (λ (x : Option Value × Ahead). x.1) (sym same)) in
+            subst (λ (y : Option Value × Ahead). PartsAs rel (p ∷ ps) scope place rest (y.0 ∷ vs) to) same (record {
+              contents = ih.contents;
+              taken = ih.taken;
+              spelled = (t.0, ih.spelled);
+              closes = ih.closes;
+              is_in = ih.is_in;
+            })
         | inr t ↦ absurd (let wrong : Err (faults.NotSpelled (place_of a) Missing) ≡ done {A = Option Value × Ahead} (o, next) = t.1 in cc)
       ]
 
@@ -112,36 +115,47 @@ module _ (begins : Begins) (inner : ℕ → Reader) (rel : ℕ → Spelled) (h :
       let c = bind_ok (parts_at begins inner scope next ps) _ (vs, to) b.2 in
       let same = ok_is {A = List (Option Value) × Spot} (b.0.0 ∷ c.0.0, c.0.1) (vs, to) c.2 in
       subst (λ (y : List (Option Value) × Spot). PartsAs rel (p ∷ ps) scope place rest y.0 y.1) same
-        (elim (chosen_ok (is_part begins p a) (present_at (inner p.inner.0) scope a) _ b.0 b.1) [
-          | inl t ↦ present_found p ps scope place rest a next b.0.0 c.0.0 c.0.1 are here (look_found scope place rest a here look) t.0 t.1
-              (λ mid o i l. parts_found ps scope mid.place mid.rest next c.0.0 c.0.1 o i l c.1)
-          | inr t ↦ absent_found p ps scope place rest a next b.0.0 c.0.0 c.0.1 t.1
-              (λ n. parts_found ps scope place rest a c.0.0 c.0.1 are here look (ap (λ (x : Ahead). parts_at begins inner scope x ps) (sym n) ∙ c.1))
-        ])
+      (elim (chosen_ok (is_part begins p a) (present_at (inner p.inner.0) scope a) _ b.0 b.1) [
+        | inl t ↦ present_found p ps scope place rest a next b.0.0 c.0.0 c.0.1 are here (look_found scope place rest a here look) t.0 t.1
+            (λ mid o i l. parts_found ps scope mid.place mid.rest next c.0.0 c.0.1 o i l c.1)
+        | inr t ↦ absent_found p ps scope place rest a next b.0.0 c.0.0 c.0.1 t.1
+            (λ n. parts_found ps scope place rest a c.0.0 c.0.1 are here look (ap (λ (x : Ahead). parts_at begins inner scope x ps) (sym n) ∙ c.1))
+      ])
 
   pub sequence_found : (ps : List Part) → BodyFound (sequence_body begins inner ps) (λ strict levels v c. SequenceIs rel strict ps v levels c)
-  sequence_found ps = record { found = λ scope s v to are here e.
-    let b = bind_ok (look_at scope s.place s.rest) _ (v, to) e in
-    let c = bind_ok (parts_at begins inner scope b.0 ps) (λ found. Ok (parts (parts_of found.0), found.1)) (v, to) b.2 in
-    let same = ok_is {A = Value × Spot} (parts (parts_of c.0.0), c.0.1) (v, to) c.2 in
-    let f = parts_found ps scope s.place s.rest b.0 c.0.0 c.0.1 are here b.1 c.1 in
-    subst (λ (y : Value × Spot). ContentsAs (λ strict levels v c. SequenceIs rel strict ps v levels c) scope s.place s.rest y.0 y.1) same (record {
-      contents = f.contents; taken = f.taken; spelled = f.spelled; closes = f.closes; is_in = f.is_in;
-    }) }
+  sequence_found ps = record {
+    found = λ scope s v to are here e.
+        let b = bind_ok (look_at scope s.place s.rest) _ (v, to) e in
+        let c = bind_ok (parts_at begins inner scope b.0 ps) (λ found. Ok (parts (parts_of found.0), found.1)) (v, to) b.2 in
+        let same = ok_is {A = Value × Spot} (parts (parts_of c.0.0), c.0.1) (v, to) c.2 in
+        let f = parts_found ps scope s.place s.rest b.0 c.0.0 c.0.1 are here b.1 c.1 in
+        subst (λ (y : Value × Spot). ContentsAs (λ strict levels v c. SequenceIs rel strict ps v levels c) scope s.place s.rest y.0 y.1) same (record {
+          contents = f.contents;
+          taken = f.taken;
+          spelled = f.spelled;
+          closes = f.closes;
+          is_in = f.is_in;
+        });
+  }
 
   -- the alternative that was read, counted from `which`
   pub choice_at_found : (all ps : List Part) (which : ℕ) → ((i : ℕ) (p : Part) → slice_get ps i ≡ Some p → slice_get all (which + i) ≡ Some p)
       → Found (choice_at begins inner which ps) (ChoiceIs rel all)
   unfolding choice_at
   choice_at_found all [] which there = record { found = λ scope place rest o s v to are opens e. absurd cc }
-  choice_at_found all (p ∷ ps) which there = record { found = λ scope place rest o s v to are opens e.
-    elim (chosen_ok (begins p.inner.0 o.class o.number) _ _ (v, to) e) [
-      | inl t ↦
-        let b = bind_ok (inner p.inner.0 None scope o s) (λ x. Ok (chosen which x.0, x.1)) (v, to) t.1 in
-        let same = ok_is {A = Value × Spot} (chosen which b.0.0, b.0.1) (v, to) b.2 in
-        let r = (h p.inner.0).found scope place rest o s b.0.0 b.0.1 are opens b.1 in
-        subst (λ (y : Value × Spot). ReadAs (ChoiceIs rel all) scope place rest y.0 y.1) same (record {
-          text = r.text; taken = r.taken; spelled = (p, (let zero_is : which ≡ which + 0 = omega arith in ap (slice_get all) zero_is ∙ there 0 p refl), r.spelled); is_in = r.is_in;
-        })
-      | inr t ↦ (choice_at_found all ps (suc which) (λ i q g. let next_is : suc which + i ≡ which + suc i = omega arith in ap (slice_get all) next_is ∙ there (suc i) q g)).found scope place rest o s v to are opens t.1
-    ] }
+  choice_at_found all (p ∷ ps) which there = record {
+    found = λ scope place rest o s v to are opens e.
+        elim (chosen_ok (begins p.inner.0 o.class o.number) _ _ (v, to) e) [
+          | inl t ↦
+              let b = bind_ok (inner p.inner.0 None scope o s) (λ x. Ok (chosen which x.0, x.1)) (v, to) t.1 in
+              let same = ok_is {A = Value × Spot} (chosen which b.0.0, b.0.1) (v, to) b.2 in
+              let r = (h p.inner.0).found scope place rest o s b.0.0 b.0.1 are opens b.1 in
+              subst (λ (y : Value × Spot). ReadAs (ChoiceIs rel all) scope place rest y.0 y.1) same (record {
+                text = r.text;
+                taken = r.taken;
+                spelled = (p, (let zero_is : which ≡ which + 0 = omega arith in ap (slice_get all) zero_is ∙ there 0 p refl), r.spelled);
+                is_in = r.is_in;
+              })
+          | inr t ↦ (choice_at_found all ps (suc which) (λ i q g. let next_is : suc which + i ≡ which + suc i = omega arith in ap (slice_get all) next_is ∙ there (suc i) q g)).found scope place rest o s v to are opens t.1
+        ];
+  }

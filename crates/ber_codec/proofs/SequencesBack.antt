@@ -31,7 +31,6 @@ parts_list (absent vs) = ap absent (parts_list vs)
 parts_list (present v vs) = ap (present v) (parts_list vs)
 
 module _ (openings : ℕ → List Opening) (inner : ℕ → Reader) (rel : ℕ → Spelled) (h : (n : ℕ) → Only (λ c k. begins_by openings n c k ≡ true) (inner n None) (rel n None)) where
-
   -- what stands ahead begins a part of the run
   abbrev pub Starts : List Part → Ahead → Type 0
   Starts ps (ended place after) = Unit {0}
@@ -141,7 +140,7 @@ module _ (openings : ℕ → List Opening) (inner : ℕ → Reader) (rel : ℕ �
   chosen_reads (r ∷ ps) d which (suc i) q g scope o s v to b e =
       let t = or_false (list_any (clash openings r) ps) (agrees_later (clash openings) ps) d in
       rw (not_before o.class o.number r ps i q t.0 g b)
-        (chosen_reads ps t.1 (suc which) i q g scope o s v to b e ∙ (let next : suc which + i ≡ which + suc i = omega arith in ap (λ (n : ℕ). Ok (chosen n v, to)) next))
+      (chosen_reads ps t.1 (suc which) i q g scope o s v to b e ∙ (let next : suc which + i ≡ which + suc i = omega arith in ap (λ (n : ℕ). Ok (chosen n v, to)) next))
 
   pub choice_only : (ps : List Part) → agrees_later (clash openings) ps ≡ false → Only (AnyAllows openings ps) (choice_at (begins_by openings) inner 0 ps) (ChoiceIs rel ps)
   choice_only ps d = record { only = λ scope place v text rest p here. by_value ps d scope place v text rest p here }
@@ -152,7 +151,13 @@ module _ (openings : ℕ → List Opening) (inner : ℕ → Reader) (rel : ℕ �
           let q : Part = p.0 in
           let r = (h q.inner.0).only scope place v spelled rest p.2 here in
           record {
-            opened = r.opened; spot = r.spot; first = r.first; others = r.others; begins = r.begins; some = r.some; opens = r.opens;
+            opened = r.opened;
+            spot = r.spot;
+            first = r.first;
+            others = r.others;
+            begins = r.begins;
+            some = r.some;
+            opens = r.opens;
             allowed = any_allows r.opened.class r.opened.number ps which q p.1 r.allowed;
             reads = chosen_reads ps d 0 which q p.1 scope r.opened r.spot v (record { place = place + length spelled; rest = rest }) r.allowed r.reads ∙ (let none : 0 + which ≡ which = omega arith in ap (λ (n : ℕ). Ok (chosen n v, record { place = place + length spelled; rest = rest })) none);
           }

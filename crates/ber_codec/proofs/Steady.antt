@@ -57,9 +57,11 @@ pub record Only (B : Class → ℕ → Type 0) (r : Run) (P : Relation) : Type 0
       → P scope.strict scope.levels v text → IsIn scope (place + length text) → ReadBack B r scope place text rest v
 
 pub only_wider : (B D : Class → ℕ → Type 0) (r : Run) (P : Relation) → ((c : Class) (k : ℕ) → B c k → D c k) → Only B r P → Only D r P
-only_wider B D r P w h = record { only = λ scope place v text rest p here.
-  let x = h.only scope place v text rest p here in
-  record { opened = x.opened; spot = x.spot; first = x.first; others = x.others; begins = x.begins; some = x.some; opens = x.opens; allowed = w x.opened.class x.opened.number x.allowed; reads = x.reads } }
+only_wider B D r P w h = record {
+  only = λ scope place v text rest p here.
+      let x = h.only scope place v text rest p here in
+      record { opened = x.opened; spot = x.spot; first = x.first; others = x.others; begins = x.begins; some = x.some; opens = x.opens; allowed = w x.opened.class x.opened.number x.allowed; reads = x.reads };
+}
 
 -- ---- octets in parts
 
@@ -133,10 +135,10 @@ pub opened_as : (tag : tags.Tag) (constructed : Bool) (o : Opened) (x : Unit {0}
 opened_as tag constructed o x e =
     elim (chosen_ok (is_opened tag constructed o) (Ok tt) (refuse o.start.place Tag) x e) [
       | inl t ↦
-        let a = and_true _ (cond constructed o.constructed (not o.constructed)) t.0 in
-        let b = and_true _ (nat_lt tag.number (2 ^ 32)) a.0 in
-        let c = and_true (same_class o.class tag.class) (nat_eq o.number tag.number) b.0 in
-        record { class = same_classes o.class tag.class c.0; number = eqb-true o.number tag.number c.1; small = ltb-true tag.number (2 ^ 32) b.1; form = form_is constructed o.constructed a.1 }
+          let a = and_true _ (cond constructed o.constructed (not o.constructed)) t.0 in
+          let b = and_true _ (nat_lt tag.number (2 ^ 32)) a.0 in
+          let c = and_true (same_class o.class tag.class) (nat_eq o.number tag.number) b.0 in
+          record { class = same_classes o.class tag.class c.0; number = eqb-true o.number tag.number c.1; small = ltb-true tag.number (2 ^ 32) b.1; form = form_is constructed o.constructed a.1 }
       | inr t ↦ absurd (let wrong : Err (faults.NotSpelled o.start.place Tag) ≡ done x = t.1 in cc)
     ]
 
@@ -187,29 +189,31 @@ pub prim_found : (rule : List ℕ → Option Value) (tag : tags.Tag) (P : Value 
     → ((c : List ℕ) (v : Value) → AreOctets c → rule c ≡ Some v → P v c)
     → Found (primitive_at rule tag) (λ strict levels v text. IsPrimitive tag strict levels (P v) text)
 unfolding primitive_at
-prim_found rule tag P sound = record { found = λ scope place rest o s v to octets opens e.
-  let i = identifier_found scope place rest o s octets opens in
-  let b1 = bind_ok (expect_at tag false o) _ (v, to) e in
-  let is = opened_as tag false o b1.0 b1.1 in
-  let b2 = bind_ok (contents_at scope s.place s.rest) _ (v, to) b1.2 in
-  let c = contents_found scope s.place s.rest b2.0.0 b2.0.1 b2.0.2 b2.1 in
-  let b3 = bind_ok (judge b2.0.0 (λ (x : Value). x) (rule b2.0.1)) _ (v, to) b2.2 in
-  let same = ok_is {A = Value × Spot} (b3.0, b2.0.2) (v, to) b3.2 in
-  let v-is : b3.0 ≡ v = ap (λ (x : Value × Spot). x.0) same in
-  let to-is : b2.0.2 ≡ to = ap (λ (x : Value × Spot). x.1) same in
-  let ruled : rule b2.0.1 ≡ Some v = judge_is b2.0.0 (rule b2.0.1) b3.0 b3.1 ∙ ap (λ (y : Value). Some y) v-is in
-  let behind : AreOctets s.rest = taken_octets place rest i.head s i.taken octets in
-  let inner : AreOctets b2.0.1 = octets_right c.size b2.0.1 (octets_left (c.size ++ b2.0.1) b2.0.2.rest (subst AreOctets c.taken.parts behind)) in
-  subst (λ (y : Spot). ReadAs (λ strict levels v text. IsPrimitive tag strict levels (P v) text) scope place rest v y) to-is (record {
-    text = i.head ++ (c.size ++ b2.0.1);
-    taken = taken_then place rest i.head (c.size ++ b2.0.1) s b2.0.2 i.taken c.taken;
-    spelled = record {
-      level = i.level;
-      small = is.small;
-      form = record { head = i.head; size = c.size; contents = b2.0.1; is_identifier = tag_is tag false o i.number i.head is i.capped_number i.is_identifier; is_length = c.is_length; holds = sound b2.0.1 v inner ruled; are = refl };
-    };
-    is_in = c.is_in;
-  }) }
+prim_found rule tag P sound = record {
+  found = λ scope place rest o s v to octets opens e.
+      let i = identifier_found scope place rest o s octets opens in
+      let b1 = bind_ok (expect_at tag false o) _ (v, to) e in
+      let is = opened_as tag false o b1.0 b1.1 in
+      let b2 = bind_ok (contents_at scope s.place s.rest) _ (v, to) b1.2 in
+      let c = contents_found scope s.place s.rest b2.0.0 b2.0.1 b2.0.2 b2.1 in
+      let b3 = bind_ok (judge b2.0.0 (λ (x : Value). x) (rule b2.0.1)) _ (v, to) b2.2 in
+      let same = ok_is {A = Value × Spot} (b3.0, b2.0.2) (v, to) b3.2 in
+      let v-is : b3.0 ≡ v = ap (λ (x : Value × Spot). x.0) same in
+      let to-is : b2.0.2 ≡ to = ap (λ (x : Value × Spot). x.1) same in
+      let ruled : rule b2.0.1 ≡ Some v = judge_is b2.0.0 (rule b2.0.1) b3.0 b3.1 ∙ ap (λ (y : Value). Some y) v-is in
+      let behind : AreOctets s.rest = taken_octets place rest i.head s i.taken octets in
+      let inner : AreOctets b2.0.1 = octets_right c.size b2.0.1 (octets_left (c.size ++ b2.0.1) b2.0.2.rest (subst AreOctets c.taken.parts behind)) in
+      subst (λ (y : Spot). ReadAs (λ strict levels v text. IsPrimitive tag strict levels (P v) text) scope place rest v y) to-is (record {
+        text = i.head ++ (c.size ++ b2.0.1);
+        taken = taken_then place rest i.head (c.size ++ b2.0.1) s b2.0.2 i.taken c.taken;
+        spelled = record {
+          level = i.level;
+          small = is.small;
+          form = record { head = i.head; size = c.size; contents = b2.0.1; is_identifier = tag_is tag false o i.number i.head is i.capped_number i.is_identifier; is_length = c.is_length; holds = sound b2.0.1 v inner ruled; are = refl };
+        };
+        is_in = c.is_in;
+      });
+}
 
 abbrev pub OfTag : tags.Tag → Class → ℕ → Type 0
 OfTag tag class number = (class ≡ tag.class) × (number ≡ tag.number)
@@ -231,26 +235,28 @@ pub prim_only : (rule : List ℕ → Option Value) (tag : tags.Tag) (P : Value �
     → ((c : List ℕ) (v : Value) → P v c → rule c ≡ Some v)
     → Only (OfTag tag) (primitive_at rule tag) (λ strict levels v text. IsPrimitive tag strict levels (P v) text)
 unfolding primitive_at
-prim_only rule tag P tagged complete = record { only = λ scope place v text rest p here.
-  let f = p.form in
-  let h = head_some tag.class false tag.number f.head tagged f.is_identifier in
-  let len : length text ≡ length f.head + (length f.size + length f.contents) = ap length f.are ∙ length-append f.head (f.size ++ f.contents) ∙ ap (λ (n : ℕ). length f.head + n) (length-append f.size f.contents) in
-  let whole : text ++ rest ≡ f.head ++ (f.size ++ (f.contents ++ rest)) = ap (λ (x : List ℕ). x ++ rest) f.are ∙ regroup f.head f.size f.contents rest in
-  let start : Spot = record { place = place; rest = f.head ++ (f.size ++ (f.contents ++ rest)) } in
-  let o : Opened = record { start = start; class = tag.class; constructed = false; number = tag.number } in
-  let at : ℕ = place + length f.head in
-  let to-is : place + length text ≡ at + length f.size + length f.contents = omega arith in
-  let opens = tag_again scope place tag false f.head (f.size ++ (f.contents ++ rest)) f.is_identifier p.small p.level (in_before scope at (place + length text) (omega arith) here) in
-  let contents = contents_again scope at f.size f.contents rest f.is_length (subst (IsIn scope) to-is here) in
-  record {
-    opened = o;
-    spot = record { place = at; rest = f.size ++ (f.contents ++ rest) };
-    first = h.first;
-    others = h.others ++ (f.size ++ f.contents);
-    begins = f.are ∙ ap (λ (x : List ℕ). x ++ (f.size ++ f.contents)) h.are;
-    some = h.some;
-    opens = ap (identifier_at scope place) whole ∙ opens;
-    allowed = (refl, refl);
-    reads = rw (expected tag false start p.small, contents, complete f.contents v f.holds)
-      (ap (λ (n : ℕ). Ok (v, record { place = n; rest = rest })) (sym to-is));
-  } }
+prim_only rule tag P tagged complete = record {
+  only = λ scope place v text rest p here.
+      let f = p.form in
+      let h = head_some tag.class false tag.number f.head tagged f.is_identifier in
+      let len : length text ≡ length f.head + (length f.size + length f.contents) = ap length f.are ∙ length-append f.head (f.size ++ f.contents) ∙ ap (λ (n : ℕ). length f.head + n) (length-append f.size f.contents) in
+      let whole : text ++ rest ≡ f.head ++ (f.size ++ (f.contents ++ rest)) = ap (λ (x : List ℕ). x ++ rest) f.are ∙ regroup f.head f.size f.contents rest in
+      let start : Spot = record { place = place; rest = f.head ++ (f.size ++ (f.contents ++ rest)) } in
+      let o : Opened = record { start = start; class = tag.class; constructed = false; number = tag.number } in
+      let at : ℕ = place + length f.head in
+      let to-is : place + length text ≡ at + length f.size + length f.contents = omega arith in
+      let opens = tag_again scope place tag false f.head (f.size ++ (f.contents ++ rest)) f.is_identifier p.small p.level (in_before scope at (place + length text) (omega arith) here) in
+      let contents = contents_again scope at f.size f.contents rest f.is_length (subst (IsIn scope) to-is here) in
+      record {
+        opened = o;
+        spot = record { place = at; rest = f.size ++ (f.contents ++ rest) };
+        first = h.first;
+        others = h.others ++ (f.size ++ f.contents);
+        begins = f.are ∙ ap (λ (x : List ℕ). x ++ (f.size ++ f.contents)) h.are;
+        some = h.some;
+        opens = ap (identifier_at scope place) whole ∙ opens;
+        allowed = (refl, refl);
+        reads = rw (expected tag false start p.small, contents, complete f.contents v f.holds)
+            (ap (λ (n : ℕ). Ok (v, record { place = n; rest = rest })) (sym to-is));
+      };
+}

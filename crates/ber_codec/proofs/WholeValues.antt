@@ -35,7 +35,7 @@ read_is_spelled rows n strict limit bytes v used are e =
     let front : take to.place bytes ≡ r.text = ap (take to.place) r.taken.parts ∙ take_at r.text to.rest to.place (sym len) in
     let whole : to.place ≤ length bytes = omega (arith, ap length r.taken.parts, length-append r.text to.rest) in
     subst (λ (y : Value × ℕ). (y.1 ≤ length bytes) × Spells rows n strict limit y.0 (take y.1 bytes)) same
-      (whole, record { by = subst (λ (x : List ℕ). SpelledBy rows (length rows) n None strict 32 w x) (sym front) r.spelled; within = rw front (omega (arith, r.is_in.limit)) })
+    (whole, record { by = subst (λ (x : List ℕ). SpelledBy rows (length rows) n None strict 32 w x) (sym front) r.spelled; within = rw front (omega (arith, r.is_in.limit)) })
 
 pub spelled_is_read : SpelledIsRead
 unfolding read_at value_at reads
@@ -66,8 +66,8 @@ unfolding read_at value_at reads
 read_grows rows n strict limit bytes more =
     let scope = outermost limit strict in
     Grows-bind (with_spot more) (λ x. x) (value_at rows n scope 0 bytes) (value_at rows n scope 0 (bytes ++ more)) _ _
-      (Grows-bind (with_opened more) (with_spot more) (identifier_at scope 0 bytes) (identifier_at scope 0 (bytes ++ more)) _ _ (identifier_grows scope 0 bytes more) (λ x e.
-        (along_grows rows (length rows) n None).grows scope x.0 x.1 more)) (λ x e. refl)
+    (Grows-bind (with_opened more) (with_spot more) (identifier_at scope 0 bytes) (identifier_at scope 0 (bytes ++ more)) _ _ (identifier_grows scope 0 bytes more) (λ x e.
+    (along_grows rows (length rows) n None).grows scope x.0 x.1 more)) (λ x e. refl)
 
 grown_ok : (r s : Reading (Value × ℕ)) (x : Value × ℕ) → Grows (λ x. x) r s → r ≡ Ok x → s ≡ Ok x
 grown_ok r s x g e = let h : Grows (λ x. x) (Ok x) s = subst (λ (t : Reading (Value × ℕ)). Grows (λ x. x) t s) e g in h

@@ -54,7 +54,8 @@ sized (first ∷ rest) e = by_test (nat_lt first 128) refl e
         let behind : length (drop n rest) ≡ length rest - n = length-drop n rest in
         let number : number_256 0 (take n rest) ≡ length rest - n = eqb-true (number_256 0 (take n rest)) (length rest - n) a.1 in
         record {
-          size = first ∷ take n rest; contents = drop n rest;
+          size = first ∷ take n rest;
+          contents = drop n rest;
           is_length = inr (record { size = omega arith; some = omega arith; few = omega arith; number = sym (same_number 0 (take n rest)) ∙ number ∙ sym behind; shortest = λ f. absurd cc });
           are = ap (λ (x : List ℕ). first ∷ x) (sym (take-append-drop n rest));
         }
@@ -121,7 +122,8 @@ high_of (d ∷ ds) rest e =
     by_list d ds rest (x ∷ xs) ne le h p =
         let same : d ≡ x = cc in
         record {
-          digits = x ∷ xs; number = number_128 0 (x ∷ xs);
+          digits = x ∷ xs;
+          number = number_128 0 (x ∷ xs);
           base = record { are = h; shortest = λ f. ne (same ∙ f); number = refl };
           large = large_digits x xs (λ f. ne (same ∙ f)) (omega arith) h;
           parts = p;
@@ -137,7 +139,7 @@ no_tag first ne more = by_test (nat_lt first 64) refl (nat_lt first 128) (nat_lt
     by_test true t b c = let lt : first < 64 = ltb-true first 64 t in ne_eqb (first % 32) 0 (λ e. two first ne more lt e)
       where
         two : (k : ℕ) → k ≢ 0 → k ≢ 32 → k < 64 → k % 32 ≡ 0 → ⊥
-        two k ne more lt e = elim (cases_lt k 32) [ | inl low ↦ ne (omega arith) | inr high ↦ more (omega arith) ]
+        two k ne more lt e = elim (cases_lt k 32) [ inl low ↦ ne (omega arith) | inr high ↦ more (omega arith) ]
     by_test false t true c = refl
     by_test false t false true = refl
     by_test false t false false = refl
@@ -171,7 +173,11 @@ identified (first ∷ more) rest e =
         let h = high_of more rest e in
         let k : first % 32 ≡ 31 = eqb-true (first % 32) 31 t in
         record {
-          class = class_of first; constructed = is_constructed first; number = h.number; is_tag = high_tag (class_of first) h.number h.large; head = first ∷ h.digits;
+          class = class_of first;
+          constructed = is_constructed first;
+          number = h.number;
+          is_tag = high_tag (class_of first) h.number h.large;
+          head = first ∷ h.digits;
           is_identifier = inr (h.large, first_is first lt ∙ ap (λ (n : ℕ). leading (class_of first) (is_constructed first) + n) k, h.base);
           parts = ap (λ (x : List ℕ). first ∷ x) h.parts;
         }
@@ -179,13 +185,17 @@ identified (first ∷ more) rest e =
         let same : more ≡ rest = cc in
         let k : first % 32 ≢ 31 = eqb-false (first % 32) 31 t in
         record {
-          class = class_of first; constructed = is_constructed first; number = first % 32; is_tag = no_tag first ne two; head = first ∷ [];
+          class = class_of first;
+          constructed = is_constructed first;
+          number = first % 32;
+          is_tag = no_tag first ne two;
+          head = first ∷ [];
           is_identifier = inl (below (first % 32) (omega arith) k, first_is first lt, refl);
           parts = ap (λ (x : List ℕ). first ∷ x) same;
         }
       where
         below : (k : ℕ) → k < 32 → k ≢ 31 → k < 31
-        below k lt ne = elim (cases_lt k 31) [ | inl low ↦ low | inr high ↦ absurd (ne (omega arith)) ]
+        below k lt ne = elim (cases_lt k 31) [ inl low ↦ low | inr high ↦ absurd (ne (omega arith)) ]
 
 pub whole_is : (os : List ℕ) → is_whole os ≡ true → IsWhole os
 unfolding is_whole
@@ -197,7 +207,14 @@ whole_is os e = by_rest (behind_identifier os) refl e
         let i = identified os rest t in
         let s = sized rest e in
         record {
-          class = i.class; constructed = i.constructed; number = i.number; is_tag = i.is_tag; head = i.head; size = s.size; contents = s.contents;
-          is_identifier = i.is_identifier; is_length = s.is_length;
+          class = i.class;
+          constructed = i.constructed;
+          number = i.number;
+          is_tag = i.is_tag;
+          head = i.head;
+          size = s.size;
+          contents = s.contents;
+          is_identifier = i.is_identifier;
+          is_length = s.is_length;
           are = i.parts ∙ ap (λ (x : List ℕ). i.head ++ x) s.are;
         }

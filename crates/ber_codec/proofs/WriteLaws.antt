@@ -86,4 +86,4 @@ pub parts_begin : (f : ℕ → Writer) (ps : List Part) (vs : List (Option Value
 parts_begin f ps vs old i e = ap (λ (x : List ℕ). x ++ old) (sym (parts_none f ps vs i (past (length ps) (length vs) i e)))
   where
     past : (a b i : ℕ) → i ≡ min a b → (a ≤ i) ⊎ (b ≤ i)
-    past a b i e = elim (cases_lt a b) [ | inl lt ↦ inl (omega arith) | inr ge ↦ inr (omega arith) ]
+    past a b i e = elim (cases_lt a b) [ inl lt ↦ inl (omega arith) | inr ge ↦ inr (omega arith) ]

@@ -232,7 +232,7 @@ module _ (whole : (os : List ℕ) → is_whole os ≡ true → IsWhole os) where
         let l = lower (greatest nest (rows_of_parts ps)) levels (some_level t (greatest nest (rows_of_parts ps)) levels le) in
         let c : List ℕ = sequence_contents (parts_contents write ps) v in
         constructed_is strict (tag_or t Universal 16) levels l.0 (SequenceIs rel strict ps v) c l.1 (tag_ok t Universal 16 ok (omega arith)) short
-          (sequence_written fit write rel nest each strict l.0 ps v l.2 e (contents_short true (tag_or t Universal 16) c Most short))
+        (sequence_written fit write rel nest each strict l.0 ps v l.2 e (contents_short true (tag_or t Universal 16) c Most short))
     row_is (row.Set ps) t strict levels v ok le e short = absurd cc
     row_is (row.SequenceOf of) t strict levels v ok le e short = absurd cc
     row_is (row.Choice ps) t strict levels v ok le e short = choice_is ps t strict levels v ok le e short
@@ -241,7 +241,7 @@ module _ (whole : (os : List ℕ) → is_whole os ≡ true → IsWhole os) where
         let l = lower (nest of.0) levels (omega (arith, some_level t (greatest nest (of.0 ∷ [])) levels le)) in
         let c : List ℕ = write of.0 None v in
         constructed_is strict (tag_or t class number) levels l.0 (λ k contents. rel of.0 None strict k v contents) c l.1 (tag_ok t class number ok (ltb-true number (2 ^ 32) f.0)) short
-          ((each of.0).is None strict l.0 v tt l.2 f.1 (contents_short true (tag_or t class number) c Most short))
+        ((each of.0).is None strict l.0 v tt l.2 f.1 (contents_short true (tag_or t class number) c Most short))
     row_is (row.Tagged class number false of) t strict levels v ok le e short =
         let f = and_true (has_32_bits number) (fit of.0 v) e in
         (each of.0).is (Some (tag_or t class number)) strict levels v (tag_ok t class number ok (ltb-true number (2 ^ 32) f.0)) (omega (arith, some_level t (greatest nest (of.0 ∷ [])) levels le)) f.1 short

@@ -53,8 +53,8 @@ definite_is strict constructed tag P c lt p = record {
 
 nat_number : (n : ℕ) → number_from 0 (natural_octets n n []) ≡ n
 nat_number n = by_turns (λ m b l. number_from 0 l ≡ number_from m b)
-  (λ m b lt. let same : 256 * 0 + m ≡ m = omega arith in ap (λ (k : ℕ). number_from k b) same)
-  (λ m b l le h. let s = split_256 m in h ∙ ap (λ (k : ℕ). number_from k b) s.0) n n [] (omega arith)
+    (λ m b lt. let same : 256 * 0 + m ≡ m = omega arith in ap (λ (k : ℕ). number_from k b) same)
+    (λ m b l le h. let s = split_256 m in h ∙ ap (λ (k : ℕ). number_from k b) s.0) n n [] (omega arith)
 
 nat_first : (n : ℕ) → slice_index (natural_octets n n []) 0 < 128
 nat_first n = by_turns (λ m b l. slice_index l 0 < 128) (λ m b lt. lt) (λ m b l le h. h) n n [] (omega arith)
@@ -149,13 +149,17 @@ unfolding integer_octets
 integer_is (pos n) lt =
     let first : slice_index (natural_octets n n []) 0 < 128 = nat_first n in
     record {
-      some = nat_some n; few = nat_few n lt; shortest = nat_fresh n;
+      some = nat_some n;
+      few = nat_few n lt;
+      shortest = nat_fresh n;
       number = rw (lt-ltb (slice_index (natural_octets n n []) 0) 128 first) (ap pos (nat_number n));
     }
 integer_is (negsuc n) lt =
     let len : length (turned (natural_octets n n [])) ≡ length (natural_octets n n []) = turned_length (natural_octets n n []) in
     record {
-      some = omega (arith, nat_some n); few = omega (arith, nat_few n lt); shortest = turned_fresh (natural_octets n n []) (nat_first n) (nat_small n) (nat_fresh n);
+      some = omega (arith, nat_some n);
+      few = omega (arith, nat_few n lt);
+      shortest = turned_fresh (natural_octets n n []) (nat_first n) (nat_small n) (nat_fresh n);
       number = turned_signed n;
     }
 

@@ -26,7 +26,7 @@ digits_at scope place number from [] = do
 digits_at scope place number from (digit ∷ rest) = do
   _ ← within scope place (from + 1)
   if nat_lt digit 128 then Ok (capped (128 * number + digit), record { place = from + 1; rest = rest })
-    else digits_at scope place (capped (128 * number + (digit - 128))) (from + 1) rest
+      else digits_at scope place (capped (128 * number + (digit - 128))) (from + 1) rest
 
 abbrev pub opened_at : ℕ → List ℕ → ℕ → ℕ → Opened
 opened_at place rest first number = record { start = record { place = place; rest = rest }; class = class_of first; constructed = is_constructed first; number = number }
@@ -46,7 +46,7 @@ identifier_at scope place (first ∷ rest) =
     if nat_eq scope.levels 0 then Err (TooDeep place) else (do
       _ ← within scope place (place + 1)
       if nat_eq (first % 32) 31 then high_at scope place first rest
-        else Ok (opened_at place (first ∷ rest) first (first % 32), record { place = place + 1; rest = rest }))
+          else Ok (opened_at place (first ∷ rest) first (first % 32), record { place = place + 1; rest = rest }))
 
 -- the number that octets are, most significant first
 abbrev pub number_from : ℕ → List ℕ → ℕ
@@ -64,8 +64,8 @@ unfoldable pub long_at : Scope → ℕ → ℕ → List ℕ → Reading (ℕ × 
 long_at scope place size rest = do
   _ ← within scope place (place + 1 + size)
   if nat_lt (length rest) size then Err Short
-    else (if nat_lt 8 size then refuse place Length
-    else announced_at scope place (number_from 0 (take size rest))
+      else (if nat_lt 8 size then refuse place Length
+      else announced_at scope place (number_from 0 (take size rest))
       (nat_le 128 (number_from 0 (take size rest)) && nat_lt 0 (slice_index (take size rest) 0)) (place + 1 + size) (drop size rest))
 
 -- a field that the end of the enclosing contents cuts off
@@ -89,8 +89,8 @@ definite_at scope place [] = lacking scope place
 definite_at scope place (first ∷ rest) = do
   _ ← within scope place (place + 1)
   if nat_lt first 128 then announced_at scope place first true (place + 1) rest
-    else (if nat_eq first 128 || nat_eq first 255 then refuse place Length
-    else long_at scope place (first - 128) rest)
+      else (if nat_eq first 128 || nat_eq first 255 then refuse place Length
+      else long_at scope place (first - 128) rest)
 
 abbrev pub inside : Scope → Scope
 inside scope = record { levels = scope.levels - 1; limit = scope.limit; end = scope.end; marked = true; strict = scope.strict }
@@ -114,7 +114,7 @@ unfoldable pub contents_at : Scope → ℕ → List ℕ → Reading (ℕ × List
 contents_at scope place rest = do
   n ← definite_at scope place rest
   if nat_lt (length n.1.rest) n.0 then Err Short
-    else Ok (n.1.place, take n.0 n.1.rest, record { place = n.1.place + n.0; rest = drop n.0 n.1.rest })
+      else Ok (n.1.place, take n.0 n.1.rest, record { place = n.1.place + n.0; rest = drop n.0 n.1.rest })
 
 -- ---- the ends of contents
 
@@ -136,7 +136,7 @@ abbrev pub mark_at : Scope → ℕ → List ℕ → Reading Ahead
 mark_at scope place [] = Err Short
 mark_at scope place (first ∷ rest) =
     if nat_eq first 0 then
-      (if is_past scope.end (place + 2) then cut_off scope place (place + 2) else second_zero_at scope place (first ∷ rest) rest)
+    (if is_past scope.end (place + 2) then cut_off scope place (place + 2) else second_zero_at scope place (first ∷ rest) rest)
     else begin_at scope place (first ∷ rest)
 
 -- whether contents end, or what begins there

@@ -98,7 +98,12 @@ fn digits<'a>(scope: &Scope, place: usize, digits: &'a [u8]) -> Result<(u64, Spo
 
 /// The identifier at this spot (X.690 8.1.2).
 #[tactic(auto, unfolding(crate::specs::Fields::high_at))]
-fn high<'a>(scope: &Scope, start: Spot<'a>, first: u8, digits_of: &'a [u8]) -> Result<(Opened<'a>, Spot<'a>), ReadFault>
+fn high<'a>(
+    scope: &Scope,
+    start: Spot<'a>,
+    first: u8,
+    digits_of: &'a [u8],
+) -> Result<(Opened<'a>, Spot<'a>), ReadFault>
     requires whole { start.place + length digits_of.now + 1 < 2 ^ 63 }
     requires first { start.rest.now ≡ first ∷ digits_of.now }
     ensures gives { Gives (λ x. (opened_of x.0, spot_of x.1)) result (high_at scope.now start.entry.place first digits_of.now) }
@@ -119,7 +124,10 @@ fn high<'a>(scope: &Scope, start: Spot<'a>, first: u8, digits_of: &'a [u8]) -> R
 
 /// The identifier at this spot (X.690 8.1.2).
 #[tactic(auto, unfolding(crate::specs::Fields::identifier_at))]
-pub(crate) fn identifier<'a>(scope: &Scope, start: Spot<'a>) -> Result<(Opened<'a>, Spot<'a>), ReadFault>
+pub(crate) fn identifier<'a>(
+    scope: &Scope,
+    start: Spot<'a>,
+) -> Result<(Opened<'a>, Spot<'a>), ReadFault>
     requires { start.place + length start.rest.now < 2 ^ 63 }
     ensures gives { Gives (λ x. (opened_of x.0, spot_of x.1)) result (identifier_at scope.now start.entry.place start.entry.rest.now) }
     ensures stops { IfOk result (λ x. Opens start.entry.place (length start.entry.rest.now) x.0 x.1) }
@@ -179,7 +187,13 @@ fn check_reach(scope: &Scope, place: usize, from: usize, count: u64) -> Result<(
 
 /// A length whose field ends before `rest`.
 #[tactic(auto, unfolding(crate::specs::Fields::announced_at))]
-fn announced<'a>(scope: &Scope, place: usize, count: u64, minimal: bool, spot: Spot<'a>) -> Result<(u64, Spot<'a>), ReadFault>
+fn announced<'a>(
+    scope: &Scope,
+    place: usize,
+    count: u64,
+    minimal: bool,
+    spot: Spot<'a>,
+) -> Result<(u64, Spot<'a>), ReadFault>
     requires { spot.place < 2 ^ 63 }
     ensures gives { Gives (λ x. (x.0, spot_of x.1)) result (announced_at scope.now place count minimal spot.entry.place spot.entry.rest.now) }
     ensures stops { IfOk result (λ x. (x.1.place ≡ spot.entry.place) × (x.1.rest.now ≡ spot.entry.rest.now) × (spot.entry.place + x.0 ≤ scope.now.limit)) }
@@ -193,7 +207,12 @@ fn announced<'a>(scope: &Scope, place: usize, count: u64, minimal: bool, spot: S
 
 /// A length in the long form, behind its first octet, which says `size` octets (X.690 8.1.3.5).
 #[tactic(auto, unfolding(crate::specs::Fields::long_at))]
-fn long<'a>(scope: &Scope, place: usize, size: u8, rest: &'a [u8]) -> Result<(u64, Spot<'a>), ReadFault>
+fn long<'a>(
+    scope: &Scope,
+    place: usize,
+    size: u8,
+    rest: &'a [u8],
+) -> Result<(u64, Spot<'a>), ReadFault>
     requires { place + 1 + length rest.now < 2 ^ 63 }
     ensures gives { Gives (λ x. (x.0, spot_of x.1)) result (long_at scope.now place size rest.now) }
     ensures stops { IfOk result (λ x. GoesOn (place + 1) (length rest.now) x.1) }
@@ -263,7 +282,10 @@ fn definite<'a>(scope: &Scope, spot: Spot<'a>) -> Result<(u64, Spot<'a>), ReadFa
 
 /// The octets of a primitive value, behind their length.
 #[tactic(auto, unfolding(crate::specs::Fields::contents_at))]
-pub(crate) fn contents<'a>(scope: &Scope, spot: Spot<'a>) -> Result<(usize, &'a [u8], Spot<'a>), ReadFault>
+pub(crate) fn contents<'a>(
+    scope: &Scope,
+    spot: Spot<'a>,
+) -> Result<(usize, &'a [u8], Spot<'a>), ReadFault>
     requires { spot.place + length spot.rest.now < 2 ^ 63 }
     ensures gives { Gives (λ x. (x.0, x.1.now, spot_of x.2)) result (contents_at scope.now spot.entry.place spot.entry.rest.now) }
     ensures stops { IfOk result (λ x. GoesOn spot.entry.place (length spot.entry.rest.now) x.2) }

@@ -5,42 +5,35 @@ ghost use Rattle.ber_codec.specs.Laws.{ReadIsSpelled, SpelledIsRead, NoneBegins,
 /// What is read is spelled by the octets used.
 pub fn read_is_spelled()
     ensures { ReadIsSpelled }
-{
-}
+{}
 
 /// What is spelled is read, whatever follows.
 pub fn spelled_is_read()
     ensures { SpelledIsRead }
-{
-}
+{}
 
 /// No spelling of a row's values begins another, and each spells one value.
 pub fn none_begins()
     ensures { NoneBegins }
-{
-}
+{}
 
 /// What was read stays so, whatever follows.
 pub fn read_stays()
     ensures { ReadStays }
-{
-}
+{}
 
 /// A fault stays so, whatever follows.
 pub fn fault_stays()
     ensures { FaultStays }
-{
-}
+{}
 
 /// A proper beginning of a spelling is `Short`.
 pub fn beginning_is_short()
     ensures { BeginningIsShort }
-{
-}
+{}
 
 /// What is written of a value that fits is spelled so, in DER too. So, with `none_begins`, it is
 /// the value's only DER spelling.
 pub fn written_is_spelled()
     ensures { WrittenIsSpelled }
-{
-}
+{}

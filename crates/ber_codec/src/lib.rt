@@ -4,14 +4,17 @@
 mod backward;
 mod fault;
 mod fields;
-mod primitives;
 mod laws;
+mod primitives;
 mod public;
 mod read;
 mod spot;
 mod write;
 
 pub use fault::ReadFault;
-pub use laws::{beginning_is_short, fault_stays, none_begins, read_is_spelled, read_stays, spelled_is_read, written_is_spelled};
-pub use write::ber_octets;
+pub use laws::{
+    beginning_is_short, fault_stays, none_begins, read_is_spelled, read_stays, spelled_is_read,
+    written_is_spelled,
+};
 pub use public::{LIMIT, Read, ber_read, ber_read_within, der_read};
+pub use write::ber_octets;

@@ -122,4 +122,3 @@ fn read_whole(
     let _rows = table.len();
     read_all(alloc, table, of, bytes, limit, strict)
 }
-

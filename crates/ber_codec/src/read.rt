@@ -11,7 +11,10 @@ use crate::fault::ReadFault;
 use crate::fields::{contents, extent, look, refusal};
 use crate::primitives::{arcs_of, integer_of};
 use crate::spot::{Ahead, Opened, Scope, Spot, Tag};
-use asn1_types::{Class, MaybeVals, Node, Part, Parts, TypeId, TypeRow, TypeTable, Val, begins, is_no_tag, same_class};
+use asn1_types::{
+    Class, MaybeVals, Node, Part, Parts, TypeId, TypeRow, TypeTable, Val, begins, is_no_tag,
+    same_class,
+};
 use osi_base::{Kind, Octets};
 use std::alloc::Global;
 
@@ -28,7 +31,10 @@ pub(crate) fn tag_or(tag: Option<Tag>, class: Class, number: u32) -> Tag
 fn expect(tag: Tag, constructed: bool, opened: &Opened) -> Result<(), ReadFault>
     ensures { Gives (λ x. x) result (expect_at tag constructed (opened_of opened.now)) }
 {
-    if same_class(opened.class, tag.class) && opened.number == tag.number as u64 && opened.constructed == constructed {
+    if same_class(opened.class, tag.class)
+        && opened.number == tag.number as u64
+        && opened.constructed == constructed
+    {
         Ok(())
     } else {
         Err(refusal(opened.start.place, Kind::Tag))
@@ -37,7 +43,14 @@ fn expect(tag: Tag, constructed: bool, opened: &Opened) -> Result<(), ReadFault>
 
 /// An INTEGER from `low` to `high`.
 #[tactic(auto, unfolding(crate::specs::Rules::primitive_at))]
-fn integer<'a>(low: i64, high: i64, tag: Tag, scope: &Scope, opened: &Opened<'a>, spot: Spot<'a>) -> Result<(Val, Spot<'a>), ReadFault>
+fn integer<'a>(
+    low: i64,
+    high: i64,
+    tag: Tag,
+    scope: &Scope,
+    opened: &Opened<'a>,
+    spot: Spot<'a>,
+) -> Result<(Val, Spot<'a>), ReadFault>
     requires { spot.place + length spot.rest.now < 2 ^ 63 }
     ensures gives { Gives (λ x. (x.0, spot_of x.1)) result (primitive_at (integer_rule low high) tag scope.now (opened_of opened.now) (spot_of spot.entry)) }
     ensures stops { IfOk result (λ x. GoesOn spot.entry.place (length spot.entry.rest.now) x.1) }
@@ -57,7 +70,12 @@ fn integer<'a>(low: i64, high: i64, tag: Tag, scope: &Scope, opened: &Opened<'a>
 
 /// A NULL.
 #[tactic(auto, unfolding(crate::specs::Rules::primitive_at))]
-fn null<'a>(tag: Tag, scope: &Scope, opened: &Opened<'a>, spot: Spot<'a>) -> Result<(Val, Spot<'a>), ReadFault>
+fn null<'a>(
+    tag: Tag,
+    scope: &Scope,
+    opened: &Opened<'a>,
+    spot: Spot<'a>,
+) -> Result<(Val, Spot<'a>), ReadFault>
     requires { spot.place + length spot.rest.now < 2 ^ 63 }
     ensures gives { Gives (λ x. (x.0, spot_of x.1)) result (primitive_at null_rule tag scope.now (opened_of opened.now) (spot_of spot.entry)) }
     ensures stops { IfOk result (λ x. GoesOn spot.entry.place (length spot.entry.rest.now) x.1) }
@@ -72,7 +90,13 @@ fn null<'a>(tag: Tag, scope: &Scope, opened: &Opened<'a>, spot: Spot<'a>) -> Res
 
 /// An OBJECT IDENTIFIER.
 #[tactic(auto, unfolding(crate::specs::Rules::primitive_at))]
-fn object_id<'a>(alloc: Global, tag: Tag, scope: &Scope, opened: &Opened<'a>, spot: Spot<'a>) -> Result<(Val, Spot<'a>), ReadFault>
+fn object_id<'a>(
+    alloc: Global,
+    tag: Tag,
+    scope: &Scope,
+    opened: &Opened<'a>,
+    spot: Spot<'a>,
+) -> Result<(Val, Spot<'a>), ReadFault>
     requires { spot.place + length spot.rest.now < 2 ^ 63 }
     ensures gives { Gives (λ x. (x.0, spot_of x.1)) result (primitive_at object_id_rule tag scope.now (opened_of opened.now) (spot_of spot.entry)) }
     ensures stops { IfOk result (λ x. GoesOn spot.entry.place (length spot.entry.rest.now) x.1) }
@@ -92,7 +116,12 @@ fn object_id<'a>(alloc: Global, tag: Tag, scope: &Scope, opened: &Opened<'a>, sp
 
 /// Opens a constructed value that holds one value.
 #[tactic(auto, unfolding(crate::specs::Rules::open_at))]
-fn open<'a>(tag: Tag, scope: &Scope, opened: &Opened<'a>, spot: Spot<'a>) -> Result<(Scope, Opened<'a>, Spot<'a>), ReadFault>
+fn open<'a>(
+    tag: Tag,
+    scope: &Scope,
+    opened: &Opened<'a>,
+    spot: Spot<'a>,
+) -> Result<(Scope, Opened<'a>, Spot<'a>), ReadFault>
     requires { spot.place + length spot.rest.now < 2 ^ 63 }
     ensures gives { Gives (λ x. (x.0, opened_of x.1, spot_of x.2)) result (open_at tag scope.now (opened_of opened.now) (spot_of spot.entry)) }
     ensures stops { IfOk result (λ x. GoesOn x.1.start.place (length x.1.start.rest.now) x.2) }
@@ -121,7 +150,12 @@ fn close<'a>(scope: &Scope, spot: Spot<'a>) -> Result<Spot<'a>, ReadFault>
 
 /// Any one value, as octets.
 #[tactic(auto, unfolding(crate::specs::Rules::any_at))]
-fn any<'a>(alloc: Global, scope: &Scope, opened: &Opened<'a>, spot: Spot<'a>) -> Result<(Val, Spot<'a>), ReadFault>
+fn any<'a>(
+    alloc: Global,
+    scope: &Scope,
+    opened: &Opened<'a>,
+    spot: Spot<'a>,
+) -> Result<(Val, Spot<'a>), ReadFault>
     requires whole { spot.place + length spot.rest.now < 2 ^ 63 }
     requires start { GoesOn opened.now.start.place (length opened.now.start.rest.now) spot }
     ensures gives { Gives (λ x. (x.0, spot_of x.1)) result (any_at scope.now (opened_of opened.now) (spot_of spot.entry)) }
@@ -150,7 +184,15 @@ fn any<'a>(alloc: Global, scope: &Scope, opened: &Opened<'a>, spot: Spot<'a>) ->
 
 /// What stands behind an identifier, as a value of this row, under another tag if one is given.
 #[cycle(reading)]
-pub(crate) fn value<'a>(alloc: Global, table: &TypeTable, of: TypeId, tag: Option<Tag>, scope: &Scope, opened: &Opened<'a>, spot: Spot<'a>) -> Result<(Val, Spot<'a>), ReadFault>
+pub(crate) fn value<'a>(
+    alloc: Global,
+    table: &TypeTable,
+    of: TypeId,
+    tag: Option<Tag>,
+    scope: &Scope,
+    opened: &Opened<'a>,
+    spot: Spot<'a>,
+) -> Result<(Val, Spot<'a>), ReadFault>
     requires row { of.0 < length table.now }
     requires whole { spot.place + length spot.rest.now < 2 ^ 63 }
     requires start { GoesOn opened.now.start.place (length opened.now.start.rest.now) spot }
@@ -161,7 +203,16 @@ pub(crate) fn value<'a>(alloc: Global, table: &TypeTable, of: TypeId, tag: Optio
 }
 
 #[cycle(reading)]
-fn value_as<'a>(alloc: Global, table: &TypeTable, of: TypeId, row: &TypeRow, tag: Option<Tag>, scope: &Scope, opened: &Opened<'a>, spot: Spot<'a>) -> Result<(Val, Spot<'a>), ReadFault>
+fn value_as<'a>(
+    alloc: Global,
+    table: &TypeTable,
+    of: TypeId,
+    row: &TypeRow,
+    tag: Option<Tag>,
+    scope: &Scope,
+    opened: &Opened<'a>,
+    spot: Spot<'a>,
+) -> Result<(Val, Spot<'a>), ReadFault>
     requires row { slice_get table.now of.0 ≡ Some row.now }
     requires sound { IsSound table.now }
     requires whole { spot.place + length spot.rest.now < 2 ^ 63 }
@@ -171,7 +222,14 @@ fn value_as<'a>(alloc: Global, table: &TypeTable, of: TypeId, row: &TypeRow, tag
 {
     match row {
         TypeRow::Integer { low, high } => {
-            integer(*low, *high, tag_or(tag, Class::Universal, 2), scope, opened, spot)
+            integer(
+                *low,
+                *high,
+                tag_or(tag, Class::Universal, 2),
+                scope,
+                opened,
+                spot,
+            )
         }
         TypeRow::Null => null(tag_or(tag, Class::Universal, 5), scope, opened, spot),
         TypeRow::ObjectId => {
@@ -188,10 +246,23 @@ fn value_as<'a>(alloc: Global, table: &TypeTable, of: TypeId, row: &TypeRow, tag
             spot,
         ),
         TypeRow::Choice(alternatives) => match tag {
-            None => choice(alloc, table, of, alternatives.as_slice(), scope, opened, spot),
+            None => choice(
+                alloc,
+                table,
+                of,
+                alternatives.as_slice(),
+                scope,
+                opened,
+                spot,
+            ),
             Some(tag) => tagged_choice(alloc, table, of, alternatives, tag, scope, opened, spot),
         },
-        TypeRow::Tagged { class, number, explicit, inner } => {
+        TypeRow::Tagged {
+            class,
+            number,
+            explicit,
+            inner,
+        } => {
             let tag = tag_or(tag, *class, *number);
             if *explicit {
                 tagged(alloc, table, of, *inner, tag, scope, opened, spot)
@@ -208,7 +279,13 @@ fn value_as<'a>(alloc: Global, table: &TypeTable, of: TypeId, row: &TypeRow, tag
 }
 
 #[tactic(auto, unfolding(crate::specs::Rules::explicit_at))]
-fn tagged_any<'a>(alloc: Global, tag: Tag, scope: &Scope, opened: &Opened<'a>, spot: Spot<'a>) -> Result<(Val, Spot<'a>), ReadFault>
+fn tagged_any<'a>(
+    alloc: Global,
+    tag: Tag,
+    scope: &Scope,
+    opened: &Opened<'a>,
+    spot: Spot<'a>,
+) -> Result<(Val, Spot<'a>), ReadFault>
     requires { spot.place + length spot.rest.now < 2 ^ 63 }
     ensures gives { Gives (λ x. (x.0, spot_of x.1)) result (explicit_at any_at tag scope.now (opened_of opened.now) (spot_of spot.entry)) }
     ensures stops { IfOk result (λ x. GoesOn spot.entry.place (length spot.entry.rest.now) x.1) }
@@ -220,7 +297,16 @@ fn tagged_any<'a>(alloc: Global, tag: Tag, scope: &Scope, opened: &Opened<'a>, s
 
 #[cycle(reading)]
 #[tactic(auto, unfolding(crate::specs::Rules::explicit_at))]
-fn tagged<'a>(alloc: Global, table: &TypeTable, of: TypeId, inner: TypeId, tag: Tag, scope: &Scope, opened: &Opened<'a>, spot: Spot<'a>) -> Result<(Val, Spot<'a>), ReadFault>
+fn tagged<'a>(
+    alloc: Global,
+    table: &TypeTable,
+    of: TypeId,
+    inner: TypeId,
+    tag: Tag,
+    scope: &Scope,
+    opened: &Opened<'a>,
+    spot: Spot<'a>,
+) -> Result<(Val, Spot<'a>), ReadFault>
     requires below { inner.0 < of.0 }
     requires row { of.0 ≤ length table.now }
     requires whole { spot.place + length spot.rest.now < 2 ^ 63 }
@@ -234,7 +320,16 @@ fn tagged<'a>(alloc: Global, table: &TypeTable, of: TypeId, inner: TypeId, tag: 
 
 #[cycle(reading)]
 #[tactic(auto, unfolding(crate::specs::Rules::explicit_at))]
-fn tagged_choice<'a>(alloc: Global, table: &TypeTable, of: TypeId, alternatives: &Parts, tag: Tag, scope: &Scope, opened: &Opened<'a>, spot: Spot<'a>) -> Result<(Val, Spot<'a>), ReadFault>
+fn tagged_choice<'a>(
+    alloc: Global,
+    table: &TypeTable,
+    of: TypeId,
+    alternatives: &Parts,
+    tag: Tag,
+    scope: &Scope,
+    opened: &Opened<'a>,
+    spot: Spot<'a>,
+) -> Result<(Val, Spot<'a>), ReadFault>
     requires below { AllByRecursion (λ m. m < of.0) (rows_of_parts alternatives.now) }
     requires row { of.0 ≤ length table.now }
     requires few { length alternatives.now < 2 ^ 32 }
@@ -243,14 +338,30 @@ fn tagged_choice<'a>(alloc: Global, table: &TypeTable, of: TypeId, alternatives:
     ensures stops { IfOk result (λ x. GoesOn spot.entry.place (length spot.entry.rest.now) x.1) }
 {
     let (inside, first, spot) = open(tag, scope, opened, spot)?;
-    let (value, spot) = choice(alloc, table, of, alternatives.as_slice(), &inside, &first, spot)?;
+    let (value, spot) = choice(
+        alloc,
+        table,
+        of,
+        alternatives.as_slice(),
+        &inside,
+        &first,
+        spot,
+    )?;
     Ok((value, close(&inside, spot)?))
 }
 
 /// The alternative of a CHOICE that begins with this identifier.
 #[cycle(reading)]
 #[tactic(auto, unfolding(crate::specs::Rules::choice_at))]
-fn choice<'a>(alloc: Global, table: &TypeTable, of: TypeId, alternatives: &[Part], scope: &Scope, opened: &Opened<'a>, spot: Spot<'a>) -> Result<(Val, Spot<'a>), ReadFault>
+fn choice<'a>(
+    alloc: Global,
+    table: &TypeTable,
+    of: TypeId,
+    alternatives: &[Part],
+    scope: &Scope,
+    opened: &Opened<'a>,
+    spot: Spot<'a>,
+) -> Result<(Val, Spot<'a>), ReadFault>
     requires below { AllByRecursion (λ m. m < of.0) (rows_of_parts alternatives.now) }
     requires row { of.0 ≤ length table.now }
     requires few { length alternatives.now < 2 ^ 32 }
@@ -274,7 +385,16 @@ fn choice<'a>(alloc: Global, table: &TypeTable, of: TypeId, alternatives: &[Part
 
 #[cycle(reading)]
 #[tactic(auto, unfolding(crate::specs::Rules::sequence_at))]
-fn sequence<'a>(alloc: Global, table: &TypeTable, of: TypeId, parts: &Parts, tag: Tag, scope: &Scope, opened: &Opened<'a>, spot: Spot<'a>) -> Result<(Val, Spot<'a>), ReadFault>
+fn sequence<'a>(
+    alloc: Global,
+    table: &TypeTable,
+    of: TypeId,
+    parts: &Parts,
+    tag: Tag,
+    scope: &Scope,
+    opened: &Opened<'a>,
+    spot: Spot<'a>,
+) -> Result<(Val, Spot<'a>), ReadFault>
     requires below { AllByRecursion (λ m. m < of.0) (rows_of_parts parts.now) }
     requires row { of.0 ≤ length table.now }
     requires whole { spot.place + length spot.rest.now < 2 ^ 63 }
@@ -296,7 +416,14 @@ fn sequence<'a>(alloc: Global, table: &TypeTable, of: TypeId, parts: &Parts, tag
 /// The parts of a SEQUENCE in their order, from what stands ahead to the end of its contents.
 #[cycle(reading)]
 #[tactic(auto, unfolding(crate::specs::Rules::parts_at))]
-fn parts_of<'a>(alloc: Global, table: &TypeTable, of: TypeId, parts: &[Part], scope: &Scope, ahead: Ahead<'a>) -> Result<(MaybeVals, Spot<'a>), ReadFault>
+fn parts_of<'a>(
+    alloc: Global,
+    table: &TypeTable,
+    of: TypeId,
+    parts: &[Part],
+    scope: &Scope,
+    ahead: Ahead<'a>,
+) -> Result<(MaybeVals, Spot<'a>), ReadFault>
     requires below { AllByRecursion (λ m. m < of.0) (rows_of_parts parts.now) }
     requires row { of.0 ≤ length table.now }
     requires start { IsBefore ahead }
@@ -319,7 +446,14 @@ fn parts_of<'a>(alloc: Global, table: &TypeTable, of: TypeId, parts: &[Part], sc
 /// One part of a SEQUENCE, if it is there, and what stands behind it.
 #[cycle(reading)]
 #[tactic(auto, unfolding(crate::specs::Rules::part_at))]
-fn part_of<'a>(alloc: Global, table: &TypeTable, of: TypeId, part: &Part, scope: &Scope, ahead: Ahead<'a>) -> Result<(Option<Val>, Ahead<'a>), ReadFault>
+fn part_of<'a>(
+    alloc: Global,
+    table: &TypeTable,
+    of: TypeId,
+    part: &Part,
+    scope: &Scope,
+    ahead: Ahead<'a>,
+) -> Result<(Option<Val>, Ahead<'a>), ReadFault>
     requires below { part.now.inner.0 < of.0 }
     requires row { of.0 ≤ length table.now }
     requires start { IsBefore ahead }

@@ -188,7 +188,13 @@ fn put_any(tag: Option<Tag>, value: &Val, out: &mut Backward) -> Result<(), NoMe
 /// Puts a value of this row, under another tag if one is given, before what was put. Of a value
 /// that doesn't fit the row, what doesn't fit is left out.
 #[cycle(writing)]
-fn put_value(table: &TypeTable, of: TypeId, tag: Option<Tag>, value: &Val, out: &mut Backward) -> Result<(), NoMemory>
+fn put_value(
+    table: &TypeTable,
+    of: TypeId,
+    tag: Option<Tag>,
+    value: &Val,
+    out: &mut Backward,
+) -> Result<(), NoMemory>
     ensures { OnOk result (out.new ≡ writes table.now of.0 tag value.now ++ out.old) }
 {
     if table.has(of) {
@@ -199,7 +205,14 @@ fn put_value(table: &TypeTable, of: TypeId, tag: Option<Tag>, value: &Val, out: 
 }
 
 #[cycle(writing)]
-fn put_row(table: &TypeTable, of: TypeId, row: &TypeRow, tag: Option<Tag>, value: &Val, out: &mut Backward) -> Result<(), NoMemory>
+fn put_row(
+    table: &TypeTable,
+    of: TypeId,
+    row: &TypeRow,
+    tag: Option<Tag>,
+    value: &Val,
+    out: &mut Backward,
+) -> Result<(), NoMemory>
     requires row { slice_get table.now of.0 ≡ Some row.now }
     requires sound { IsSound table.now }
     ensures { OnOk result (out.new ≡ write_by (writes table.now) row.now tag value.now ++ out.old) }
@@ -215,7 +228,12 @@ fn put_row(table: &TypeTable, of: TypeId, row: &TypeRow, tag: Option<Tag>, value
             put_sequence(table, of, parts.as_slice(), tag, value, out)
         }
         TypeRow::Choice(alternatives) => put_choice(table, of, alternatives, tag, value, out),
-        TypeRow::Tagged { class, number, explicit, inner } => {
+        TypeRow::Tagged {
+            class,
+            number,
+            explicit,
+            inner,
+        } => {
             let tag = tag_or(tag, *class, *number);
             if *explicit {
                 put_explicit(table, of, *inner, tag, value, out)
@@ -236,7 +254,14 @@ fn put_null(tag: Tag, out: &mut Backward) -> Result<(), NoMemory>
 }
 
 #[cycle(writing)]
-fn put_explicit(table: &TypeTable, of: TypeId, inner: TypeId, tag: Tag, value: &Val, out: &mut Backward) -> Result<(), NoMemory>
+fn put_explicit(
+    table: &TypeTable,
+    of: TypeId,
+    inner: TypeId,
+    tag: Tag,
+    value: &Val,
+    out: &mut Backward,
+) -> Result<(), NoMemory>
     requires below { inner.0 < of.0 }
     ensures { OnOk result (out.new ≡ definite true tag (writes table.now inner.0 None value.now) ++ out.old) }
 {
@@ -246,7 +271,14 @@ fn put_explicit(table: &TypeTable, of: TypeId, inner: TypeId, tag: Tag, value: &
 }
 
 #[cycle(writing)]
-fn put_choice(table: &TypeTable, of: TypeId, alternatives: &Parts, tag: Option<Tag>, value: &Val, out: &mut Backward) -> Result<(), NoMemory>
+fn put_choice(
+    table: &TypeTable,
+    of: TypeId,
+    alternatives: &Parts,
+    tag: Option<Tag>,
+    value: &Val,
+    out: &mut Backward,
+) -> Result<(), NoMemory>
     requires below { AllByRecursion (λ m. m < of.0) (rows_of_parts alternatives.now) }
     ensures { OnOk result (out.new ≡ under (choice_written (λ which. alternative_written (writes table.now) (slice_get alternatives.now which))) tag value.now ++ out.old) }
 {
@@ -259,7 +291,13 @@ fn put_choice(table: &TypeTable, of: TypeId, alternatives: &Parts, tag: Option<T
 }
 
 #[cycle(writing)]
-fn put_alternative(table: &TypeTable, of: TypeId, alternatives: &Parts, value: &Val, out: &mut Backward) -> Result<(), NoMemory>
+fn put_alternative(
+    table: &TypeTable,
+    of: TypeId,
+    alternatives: &Parts,
+    value: &Val,
+    out: &mut Backward,
+) -> Result<(), NoMemory>
     requires below { AllByRecursion (λ m. m < of.0) (rows_of_parts alternatives.now) }
     ensures { OnOk result (out.new ≡ choice_written (λ which. alternative_written (writes table.now) (slice_get alternatives.now which)) value.now ++ out.old) }
 {
@@ -273,7 +311,14 @@ fn put_alternative(table: &TypeTable, of: TypeId, alternatives: &Parts, value: &
 }
 
 #[cycle(writing)]
-fn put_sequence(table: &TypeTable, of: TypeId, parts: &[Part], tag: Tag, value: &Val, out: &mut Backward) -> Result<(), NoMemory>
+fn put_sequence(
+    table: &TypeTable,
+    of: TypeId,
+    parts: &[Part],
+    tag: Tag,
+    value: &Val,
+    out: &mut Backward,
+) -> Result<(), NoMemory>
     requires below { AllByRecursion (λ m. m < of.0) (rows_of_parts parts.now) }
     ensures { OnOk result (out.new ≡ definite true tag (sequence_contents (parts_contents (writes table.now) parts.now) value.now) ++ out.old) }
 {
@@ -286,7 +331,13 @@ fn put_sequence(table: &TypeTable, of: TypeId, parts: &[Part], tag: Tag, value: 
 
 /// The parts that are there, from the last to the first.
 #[cycle(writing)]
-fn put_parts(table: &TypeTable, of: TypeId, parts: &[Part], values: &[Option<Val>], out: &mut Backward) -> Result<(), NoMemory>
+fn put_parts(
+    table: &TypeTable,
+    of: TypeId,
+    parts: &[Part],
+    values: &[Option<Val>],
+    out: &mut Backward,
+) -> Result<(), NoMemory>
     requires below { AllByRecursion (λ m. m < of.0) (rows_of_parts parts.now) }
     ensures { OnOk result (out.new ≡ parts_contents (writes table.now) parts.now (parts_of values.now) ++ out.old) }
 {
@@ -299,7 +350,13 @@ fn put_parts(table: &TypeTable, of: TypeId, parts: &[Part], values: &[Option<Val
 }
 
 #[cycle(writing)]
-fn put_part(table: &TypeTable, of: TypeId, part: &Part, value: &Option<Val>, out: &mut Backward) -> Result<(), NoMemory>
+fn put_part(
+    table: &TypeTable,
+    of: TypeId,
+    part: &Part,
+    value: &Option<Val>,
+    out: &mut Backward,
+) -> Result<(), NoMemory>
     requires below { part.now.inner.0 < of.0 }
     ensures { OnOk result (out.new ≡ part_contents (writes table.now) part.now value.now ++ out.old) }
 {
@@ -311,7 +368,12 @@ fn put_part(table: &TypeTable, of: TypeId, part: &Part, value: &Option<Val>, out
 
 /// The DER spelling of a value that fits this type (X.690 10). It is the only one.
 #[tactic(auto, unfolding(crate::specs::Writing::written))]
-pub fn ber_octets(alloc: Global, table: &TypeTable, of: TypeId, value: &Val) -> Result<Octets, NoMemory>
+pub fn ber_octets(
+    alloc: Global,
+    table: &TypeTable,
+    of: TypeId,
+    value: &Val,
+) -> Result<Octets, NoMemory>
     requires { fits table.now of.0 value.now ≡ true }
     ensures { IfOk result (λ octets. octets ≡ written table.now of.0 value.now) }
 {

@@ -65,7 +65,7 @@ module _ (t : Tables) where
       let apart : Distinct (keys_of false opens ++ ((id, place) ∷ rest)) = subst Distinct same (closing_all-distinct t g own distinct) in
       let gone = Distinct-middle (keys_of false opens) (id, place) rest apart in
       let shorter : length (keys_of false opens) < 4096 =
-          omega (arith, few, closing_all-shorter t g own, ap length same, length-append (keys_of false opens) ((id, place) ∷ rest)) in
+      omega (arith, few, closing_all-shorter t g own, ap length same, length-append (keys_of false opens) ((id, place) ∷ rest)) in
       rw (not_open opens id gone, s, length-opens_of false opens) (lt-ltb _ _ shorter)
 
   invoke_may : (opens : List Opened) (id : ℤ) (code : Code) (argument : Option Val) (own rest : Keys) (n : ℕ) (g : Flight) (p : Option ℕ) (q : Option Operation)

@@ -67,9 +67,14 @@ module _ (t : Tables) where
       let four = guard (nat_le 2147483647 s.invoked) refusals.NumbersSpent _ a three.1 in
       let next : next_id s ≡ pos (s.invoked + 1) = ap pos (let b = leb-false _ _ four.0 in omega arith) in
       record {
-        operation = o; there = there; may_send = may; carried = not_false (is_carried t.types o.argument argument) one.0;
+        operation = o;
+        there = there;
+        may_send = may;
+        carried = not_false (is_carried t.types o.argument argument) one.0;
         short = subst (λ (id : ℤ). is_too_long t (invoke_apdu o id argument) ≡ false) next two.0;
-        room = three.0; few = four.0; answers = same_answer (Some (next_id s)) a four.1 ∙ ap Some next;
+        room = three.0;
+        few = four.0;
+        answers = same_answer (Some (next_id s)) a four.1 ∙ ap Some next;
       }
 
   err_is_no : (e : CallRefusal) (a : Option ℤ) → err e ≡ ok a → ⊥

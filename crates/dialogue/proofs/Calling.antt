@@ -90,11 +90,11 @@ module _ (t : Tables) (laws : ReadingLaws t) where
       let fresh = Below-fresh n own p.below in
       let given : IsGiven t (n + 1) own (apdu (apdus.Invoke (pos (n + 1)) None code argument)) = (record { number = n + 1; is = refl; within = omega arith }, λ e. fresh) in
       subst (λ (ks : Keys). Pipe t rest (waiting ++ written t m) ks peer (n + 1) (f ++ m ∷ []) g) (sym (append-nil own))
-          (invokes_silently t rest waiting own peer n f g m p s (ap (keys_in_content t) c ∙ key) (subst (IsGiven t (n + 1) own) (sym c) given) lt)
+      (invokes_silently t rest waiting own peer n f g m p s (ap (keys_in_content t) c ∙ key) (subst (IsGiven t (n + 1) own) (sym c) given) lt)
   pipe_invokes rest waiting own peer n place f g m code argument false p s c key lt room =
       let k : Keys = (pos (n + 1), place) ∷ [] in
       let given : IsGiven t (n + 1) (own ++ k) (apdu (apdus.Invoke (pos (n + 1)) None code argument)) =
-          (record { number = n + 1; is = refl; within = omega arith }, λ e. absurd (let r : k ≡ [] = sym key ∙ e in cc)) in
+      (record { number = n + 1; is = refl; within = omega arith }, λ e. absurd (let r : k ≡ [] = sym key ∙ e in cc)) in
       invokes t rest waiting own peer n place f g m p s (ap (keys_in_content t) c ∙ key) (subst (IsGiven t (n + 1) (own ++ k)) (sym c) given) lt (room refl)
 
   -- the end after an accepted invocation
@@ -106,7 +106,7 @@ module _ (t : Tables) (laws : ReadingLaws t) where
 
   invoke_live : (x y : Tally) (f g : Flight) (context place : ℕ) (argument : Option Val) (answer : Option ℤ) (told : InvokeTold t x.state context place argument None answer) → Live t x y f g
       → Live t (adds t (invoked_tally x context place argument (Some told.operation)) (sent (message_on x.state context (invoke_apdu told.operation (pos (x.state.invoked + 1)) argument)))) y
-          (f ++ message_on x.state context (invoke_apdu told.operation (pos (x.state.invoked + 1)) argument) ∷ []) g
+      (f ++ message_on x.state context (invoke_apdu told.operation (pos (x.state.invoked + 1)) argument) ∷ []) g
   invoke_live x y f g context place argument answer told h =
       let n = x.state.invoked in
       let id : ℤ = pos (n + 1) in
@@ -122,15 +122,15 @@ module _ (t : Tables) (laws : ReadingLaws t) where
       } in
       let s : Sendable t m = record { a = invoke_apdu o id argument; content = refl; context = zero; pair = ap (λ (l : List SetItem). pair_of l context) h.there.held ∙ ap (pair_of (bare_set t)) zero; writable = writable } in
       let key : key_placed t id (operation_with t o.code) ≡ key_if (is_silent o) id place =
-          ap (key_placed t id) (laws.codes.operations place o told.there) ∙ ap (key_by t id place) told.there ∙ key_by-if o (is_silent o) id place refl in
+      ap (key_placed t id) (laws.codes.operations place o told.there) ∙ ap (key_by t id place) told.there ∙ key_by-if o (is_silent o) id place refl in
       let room : is_silent o ≡ false → length own < 4096 = λ e. room_of o x.state e told.room in
       let mine : keys_of true (x.state.opens ++ opened_by (Some o) opened) ≡ own ++ key_if (is_silent o) id place =
-          keys_of-append true x.state.opens (opened_by (Some o) opened) ∙ ap (λ (ks : Keys). own ++ ks) (keys_by t true id place context (Some o) ∙ key_by-if o (is_silent o) id place refl) in
+      keys_of-append true x.state.opens (opened_by (Some o) opened) ∙ ap (λ (ks : Keys). own ++ ks) (keys_by t true id place context (Some o) ∙ key_by-if o (is_silent o) id place refl) in
       let theirs : keys_of false (x.state.opens ++ opened_by (Some o) opened) ≡ keys_of false x.state.opens =
-          keys_of-append false x.state.opens (opened_by (Some o) opened) ∙ ap (λ (ks : Keys). keys_of false x.state.opens ++ ks) (no_keys_by t true id place context (Some o)) ∙ append-nil (keys_of false x.state.opens) in
+      keys_of-append false x.state.opens (opened_by (Some o) opened) ∙ ap (λ (ks : Keys). keys_of false x.state.opens ++ ks) (no_keys_by t true id place context (Some o)) ∙ append-nil (keys_of false x.state.opens) in
       let piped = pipe_invokes y.state.rest x.state.waiting own (keys_of false y.state.opens) n place f g m o.code argument (is_silent o) h.there.pipe s refl key (let b = leb-false _ _ told.few in omega arith) room in
       let told_one : invocation_in t m.content ≡ record { id = id; operation = place; argument = argument } ∷ [] =
-          ap (λ (p : Option ℕ). invocation_placed p id argument) (laws.codes.operations place o told.there) in
+      ap (λ (p : Option ℕ). invocation_placed p id argument) (laws.codes.operations place o told.there) in
       record {
         there = record {
           pipe = subst (λ (ks : Keys). Pipe t y.state.rest (x.state.waiting ++ written t m) ks (keys_of false y.state.opens) (n + 1) (f ++ m ∷ []) g) (sym mine) piped;
@@ -241,7 +241,7 @@ module _ (t : Tables) (laws : ReadingLaws t) where
 
   answer_live : (x y : Tally) (f g : Flight) (id : ℤ) (value : Option Val) (told : AnswerTold t id (opened_with false id x.state.opens) value) → Live t x y f g
       → Live t (adds t (closed_tally x id (result id value)) (sent (message_on x.state told.opened.context (result_apdu told.operation id value)))) y
-          (f ++ message_on x.state told.opened.context (result_apdu told.operation id value) ∷ []) g
+      (f ++ message_on x.state told.opened.context (result_apdu told.operation id value) ∷ []) g
   answer_live x y f g id value told h =
       let o = told.operation in
       let place = told.opened.operation in
@@ -252,11 +252,11 @@ module _ (t : Tables) (laws : ReadingLaws t) where
         short = told.short;
       } in
       outcome_live x y f g id told.opened (result_apdu o id value) (result id value) h told.found w refl tt refl (ap (λ (v : Option Val). result id v ∷ []) (value_returned o.code value))
-          (λ ks e. (place, e, r)) (λ ks. refl)
+      (λ ks e. (place, e, r)) (λ ks. refl)
 
   refuse_live : (x y : Tally) (f g : Flight) (id : ℤ) (place : ℕ) (value : Option Val) (told : RefuseTold t id (opened_with false id x.state.opens) place value) → Live t x y f g
       → Live t (adds t (closed_tally x id (error id place value)) (sent (message_on x.state told.opened.context (error_apdu told.error id value)))) y
-          (f ++ message_on x.state told.opened.context (error_apdu told.error id value) ∷ []) g
+      (f ++ message_on x.state told.opened.context (error_apdu told.error id value) ∷ []) g
   refuse_live x y f g id place value told h =
       let o = told.operation in
       let e = told.error in
@@ -268,7 +268,7 @@ module _ (t : Tables) (laws : ReadingLaws t) where
       let code = laws.codes.errors place e told.error_there in
       let may : may_error (operation_at t told.opened.operation) (error_with t e.code) ≡ true = rw (told.there, code) told.allowed in
       outcome_live x y f g id told.opened (error_apdu e id value) (error id place value) h told.found w refl tt refl (ap (λ (p : Option ℕ). error_placed p id value) code)
-          (λ ks g. (told.opened.operation, g, may)) (λ ks. refl)
+      (λ ks g. (told.opened.operation, g, may)) (λ ks. refl)
 
   -- ---- any call
 
@@ -281,43 +281,55 @@ module _ (t : Tables) (laws : ReadingLaws t) where
       → Connected (adds_all t (invoked_tally x context place argument q) (map sent (due_invoke x.state context q (pos (x.state.invoked + 1)) argument))) y
   reply_some x y context place argument answer q told e h =
       subst (λ (p : Option Operation). Connected (adds_all t (invoked_tally x context place argument p) (map sent (due_invoke x.state context p (pos (x.state.invoked + 1)) argument))) y) (sym e)
-          (h.0 ++ message_on x.state context (invoke_apdu told.operation (pos (x.state.invoked + 1)) argument) ∷ [], h.1, invoke_live x y h.0 h.1 context place argument answer told h.2)
+      (h.0 ++ message_on x.state context (invoke_apdu told.operation (pos (x.state.invoked + 1)) argument) ∷ [], h.1, invoke_live x y h.0 h.1 context place argument answer told h.2)
 
   invoke_replied : (x y : Tally) (context place : ℕ) (argument : Option Val) (linked : Option ℤ) (answer : Option ℤ) → answer ≡ Some (pos (x.state.invoked + 1)) → InvokeTold t x.state context place argument None answer → Connected x y
       → Connected (replied x (the_calls.Invoke context place argument linked) (Ok answer)) y
   invoke_replied x y context place argument linked answer e told h =
       subst (λ (a : Option ℤ). Connected (replied x (the_calls.Invoke context place argument linked) (Ok a)) y) (sym e)
-          (reply_some x y context place argument answer (operation_at t place) told told.there h)
+      (reply_some x y context place argument answer (operation_at t place) told told.there h)
 
   -- an invocation with a link is never accepted, as yet
   unlink : (s : State) (context place : ℕ) (argument : Option Val) (linked answer : Option ℤ) → InvokeTold t s context place argument linked answer → InvokeTold t s context place argument None answer
   unlink s context place argument linked answer told = record {
-    operation = told.operation; there = told.there; may_send = told.may_send; carried = told.carried; short = told.short; room = told.room; few = told.few; answers = told.answers;
+    operation = told.operation;
+    there = told.there;
+    may_send = told.may_send;
+    carried = told.carried;
+    short = told.short;
+    room = told.room;
+    few = told.few;
+    answers = told.answers;
   }
 
   answer_replied : (x y : Tally) (id : ℤ) (value : Option Val) (answer : Option ℤ) (q : Option Opened) → q ≡ opened_with false id x.state.opens → AnswerTold t id q value → Connected x y
       → Connected (adds_all t (closed_tally x id (result id value)) (map sent (due_result t x.state q id value))) y
   answer_replied x y id value answer q is told h =
       subst (λ (p : Option Opened). Connected (adds_all t (closed_tally x id (result id value)) (map sent (due_result t x.state p id value))) y) (sym told.found)
-          (go (operation_at t told.opened.operation) told.there)
+      (go (operation_at t told.opened.operation) told.there)
     where
       mine : AnswerTold t id (opened_with false id x.state.opens) value
       mine = subst (λ (p : Option Opened). AnswerTold t id p value) is told
+
       go : (p : Option Operation) → p ≡ Some told.operation
           → Connected (adds_all t (closed_tally x id (result id value)) (map sent (due_result_on x.state told.opened p id value))) y
-      go p e = subst (λ (o : Option Operation). Connected (adds_all t (closed_tally x id (result id value)) (map sent (due_result_on x.state told.opened o id value))) y) (sym e)
-          (h.0 ++ message_on x.state told.opened.context (result_apdu told.operation id value) ∷ [], h.1,
-          answer_live x y h.0 h.1 id value (record { opened = told.opened; found = sym is ∙ told.found; operation = told.operation; there = told.there; returns = told.returns; carried = told.carried; short = told.short }) h.2)
+      go p e = subst (λ (o : Option Operation). Connected (adds_all t (closed_tally x id (result id value)) (map sent (due_result_on x.state told.opened o id value))) y) (sym e) (
+        h.0 ++ message_on x.state told.opened.context (result_apdu told.operation id value) ∷ [],
+        h.1,
+        answer_live x y h.0 h.1 id value (record { opened = told.opened; found = sym is ∙ told.found; operation = told.operation; there = told.there; returns = told.returns; carried = told.carried; short = told.short }) h.2,
+      )
 
   refuse_replied : (x y : Tally) (id : ℤ) (place : ℕ) (value : Option Val) (answer : Option ℤ) (q : Option Opened) (e : Option ErrorRow) → q ≡ opened_with false id x.state.opens → e ≡ error_at t place
       → RefuseTold t id q place value → Connected x y
       → Connected (adds_all t (closed_tally x id (error id place value)) (map sent (due_error x.state q id e value))) y
   refuse_replied x y id place value answer q e is err told h =
       subst (λ (p : Option Opened). Connected (adds_all t (closed_tally x id (error id place value)) (map sent (due_error x.state p id e value))) y) (sym told.found)
-          (subst (λ (r : Option ErrorRow). Connected (adds_all t (closed_tally x id (error id place value)) (map sent (due_error x.state (Some told.opened) id r value))) y) (sym (err ∙ told.error_there))
-              (h.0 ++ message_on x.state told.opened.context (error_apdu told.error id value) ∷ [], h.1,
-              refuse_live x y h.0 h.1 id place value
-                  (record { opened = told.opened; found = sym is ∙ told.found; operation = told.operation; there = told.there; error = told.error; error_there = told.error_there; allowed = told.allowed; carried = told.carried; short = told.short }) h.2))
+      (subst (λ (r : Option ErrorRow). Connected (adds_all t (closed_tally x id (error id place value)) (map sent (due_error x.state (Some told.opened) id r value))) y) (sym (err ∙ told.error_there)) (
+        h.0 ++ message_on x.state told.opened.context (error_apdu told.error id value) ∷ [],
+        h.1,
+        refuse_live x y h.0 h.1 id place value
+            (record { opened = told.opened; found = sym is ∙ told.found; operation = told.operation; there = told.there; error = told.error; error_there = told.error_there; allowed = told.allowed; carried = told.carried; short = told.short }) h.2,
+      ))
 
   -- whatever is called and answered
   any_reply : (c : Config) (x y : Tally) (call : Call) (reply : Reply) → can_call t c x.state call ≡ reply → Connected x y → Connected (replied x call reply) y

@@ -173,6 +173,7 @@ module _ (t : Tables) where
     where
       same : (a b : Opened) → Some a ≡ Some b → a ≡ b
       same a b h = cc
+
       go : (b : Bool) → is_key own id p ≡ b → (opened_with own id os ≡ Some o → AreZero os → o.context ≡ 0) → o.context ≡ 0
       go true q next = subst (λ (x : Opened). x.context ≡ 0) (same p o (rw q at e)) h.0
       go false q next = next (rw q at e) h.1

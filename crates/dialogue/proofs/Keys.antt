@@ -202,6 +202,7 @@ fresh_id n id h = go (int_eq id (pos (n + 1))) refl
     number : ℤ → ℕ
     number (pos k) = k
     number _ = 0
+
     go : (e : Bool) → int_eq id (pos (n + 1)) ≡ e → int_eq id (pos (n + 1)) ≡ false
     go true p = absurd (let q : pos h.number ≡ pos (n + 1) = sym h.is ∙ same_id id (pos (n + 1)) p in let r : h.number ≡ n + 1 = ap number q in omega (arith, h.within))
     go false p = p

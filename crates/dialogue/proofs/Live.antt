@@ -101,7 +101,7 @@ module _ (t : Tables) where
       let back : List ℕ = drop (length front) x.state.waiting in
       let down : passes_over y.state.phase ≡ false = ap passes_over h.back.up in
       let whole : Pipe t y.state.rest (front ++ back) (keys_of true x.state.opens) (keys_of false y.state.opens) x.state.invoked f g =
-          subst (λ (w : List ℕ). Pipe t y.state.rest w (keys_of true x.state.opens) (keys_of false y.state.opens) x.state.invoked f g) (sym (first-rest most x.state.waiting)) h.there.pipe in
+      subst (λ (w : List ℕ). Pipe t y.state.rest w (keys_of true x.state.opens) (keys_of false y.state.opens) x.state.invoked f g) (sym (first-rest most x.state.waiting)) h.there.pipe in
       let moved = moves t y.state.rest front back (keys_of true x.state.opens) (keys_of false y.state.opens) x.state.invoked f g whole in
       record {
         there = record {
@@ -190,10 +190,10 @@ module _ (t : Tables) where
       let left : drop used y.state.rest ≡ rest = ap (λ (r : List ℕ). drop used r) is ∙ drop_at (written t m) rest used (sym len) in
       let taken = takes_y t rest x.state.waiting own peer x.state.invoked m f g front in
       let taken_peer : Pipe t rest x.state.waiting own (keys_of false (opens_after t y.state.opens m.content)) x.state.invoked f g =
-          subst (λ (ks : Keys). Pipe t rest x.state.waiting own ks x.state.invoked f g) (sym (peer_after t y.state.opens m.content)) taken in
+      subst (λ (ks : Keys). Pipe t rest x.state.waiting own ks x.state.invoked f g) (sym (peer_after t y.state.opens m.content)) taken in
       let closed = takes_x t x.state.rest y.state.waiting mine (keys_of false x.state.opens) y.state.invoked m g f h.back.pipe in
       let more : AreOutcomes y.state.invoked (closing t m.content mine) (y.got ++ outcome_in t m.content) =
-          outcome_more y.state.invoked mine y.got m.content h.back.pipe.distinct h.back.pipe.below h.back.pipe.close.0 (record { differ = h.back.once; past = h.back.past }) in
+      outcome_more y.state.invoked mine y.got m.content h.back.pipe.distinct h.back.pipe.below h.back.pipe.close.0 (record { differ = h.back.once; past = h.back.past }) in
       let pair : (m, pair_of (bare_set t) m.context) ≡ (m, m.pair) = ap (λ (p : Option Pair). (m, p)) (ap (pair_of (bare_set t)) s.context ∙ sym s.pair) in
       record {
         there = record {

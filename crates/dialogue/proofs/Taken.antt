@@ -78,7 +78,7 @@ module _ (t : Tables) (laws : ReadingLaws t) where
       → s.rest ++ waiting ≡ written t m ++ more → StandsFirst t (bare_pair s) content used s.rest → IsFirst m s content used
   first_is m s waiting more content used sd held e h =
       let cut : take used s.rest ++ (drop used s.rest ++ waiting) ≡ written t m ++ more =
-          sym (append_assoc (take used s.rest) (drop used s.rest) waiting) ∙ ap (λ (r : List ℕ). r ++ waiting) (take-append-drop used s.rest) ∙ e in
+      sym (append_assoc (take used s.rest) (drop used s.rest) waiting) ∙ ap (λ (r : List ℕ). r ++ waiting) (take-append-drop used s.rest) ∙ e in
       let front : take used s.rest ≡ written t m = laws.one_whole (take used s.rest) (written t m) (drop used s.rest ++ waiting) more (wire_whole (bare_pair s) content (take used s.rest) h.wire) (sendable_whole m sd) cut in
       let same = same_content m sd (bare_pair s) content (take used s.rest) (bare_ber s held) h.wire front in
       let pair : m.pair ≡ pair_of s.held 0 = sd.pair ∙ ap (λ (l : List SetItem). pair_of l 0) (sym held) in
@@ -98,6 +98,7 @@ module _ (t : Tables) (laws : ReadingLaws t) where
       front_empty : (a b : List ℕ) → a ++ b ≡ [] → a ≡ []
       front_empty [] b h = refl
       front_empty (x ∷ a) b h = absurd cc
+
       take_nil : (n : ℕ) → take {A = ℕ} n [] ≡ []
       take_nil zero = refl
       take_nil (suc n) = refl
@@ -114,11 +115,11 @@ module _ (t : Tables) (laws : ReadingLaws t) where
       let s : Sendable t m = h.there.pipe.sendable.0 in
       let p = h.there.pipe in
       subst (λ (c : Content). may_take t y.state.opens c ≡ true) (sym s.content)
-          (accepts t y.state.opens (keys_of true x.state.opens) (keys_in t f) x.state.invoked g s.a s.writable
-              (subst (λ (c : Content). closing_all t g (keys_of true x.state.opens) ≡ keys_of false y.state.opens ++ (keys_in_content t c ++ keys_in t f)) s.content p.same)
-              p.distinct p.few
-              (subst (IsGiven t x.state.invoked (keys_of true x.state.opens)) s.content p.given.0)
-              (subst (λ (c : Content). CloseMay t c (keys_of true y.state.opens)) s.content h.back.pipe.close.0))
+      (accepts t y.state.opens (keys_of true x.state.opens) (keys_in t f) x.state.invoked g s.a s.writable
+      (subst (λ (c : Content). closing_all t g (keys_of true x.state.opens) ≡ keys_of false y.state.opens ++ (keys_in_content t c ++ keys_in t f)) s.content p.same)
+      p.distinct p.few
+      (subst (IsGiven t x.state.invoked (keys_of true x.state.opens)) s.content p.given.0)
+      (subst (λ (c : Content). CloseMay t c (keys_of true y.state.opens)) s.content h.back.pipe.close.0))
 
   first_message : (x y : Tally) (f g : Flight) (content : Content) (used : ℕ) → Live t x y f g → StandsFirst t (bare_pair y.state) content used y.state.rest
       → (m : Message) × (more : Flight) × (f ≡ m ∷ more) × IsFirst m y.state content used
@@ -152,7 +153,7 @@ module _ (t : Tables) (laws : ReadingLaws t) where
       let is : z.state ≡ after t s (took (read_message s content) used) = ap (λ (r : State). after t r (took (read_message r content) used)) e in
       let rec = reading (after t s (took (read_message s content) used)) xs more next x z p.1 g is after' in
       subst (λ (r : State). IsRead x y g (took (read_message r content) used ∷ xs)) e
-          (record { left = rec.left; live = rec.live; short = rec.short; allowed = (subst (λ (r : State). may_take t r.opens content ≡ true) (sym e) may, rec.allowed) })
+      (record { left = rec.left; live = rec.live; short = rec.short; allowed = (subst (λ (r : State). may_take t r.opens content ≡ true) (sym e) may, rec.allowed) })
   reading s steps shown (refuses content used up first may) x y f g e h =
       let first' : StandsFirst t (bare_pair y.state) content used y.state.rest = subst (λ (r : State). StandsFirst t (bare_pair r) content used r.rest) (sym e) first in
       let p = first_message x y f g content used h first' in

@@ -45,7 +45,7 @@ module _ (t : Tables) (laws : ReadingLaws t) where
   unfolding can_call
   refused_over c s call h =
       one_refusal (is_dead s.phase) (is_initiators call && not c.initiator) (not (is_phase_for call s.phase)) refusals.Dead refusals.NotInitiator (refusals.WrongPhase s.phase) (can_bare t s call)
-          (ap (λ (p : Phase). not (is_phase_for call p)) h ∙ ap not (late call))
+      (ap (λ (p : Phase). not (is_phase_for call p)) h ∙ ap not (late call))
     where
       late : (call : Call) → is_phase_for call Over ≡ false
       late the_calls.Open = refl

@@ -21,17 +21,17 @@ pub data Reads (tables : Tables) : State → List Step → List Indication → T
   waits : {state : State} → passes_over state.phase ≡ false → IsShort state.rest → Reads tables state (feed_end ∷ []) []
   -- A whole message that may be taken is taken.
   takes : {state : State} {steps : List Step} {shown : List Indication} (content : Content) (used : ℕ)
-    → passes_over state.phase ≡ false → StandsFirst tables (bare_pair state) content used state.rest → may_take tables state.opens content ≡ true
-    → Reads tables (after tables state (took (read_message state content) used)) steps shown
-    → Reads tables state (took (read_message state content) used ∷ steps) (shown_of tables content ++ shown)
+      → passes_over state.phase ≡ false → StandsFirst tables (bare_pair state) content used state.rest → may_take tables state.opens content ≡ true
+      → Reads tables (after tables state (took (read_message state content) used)) steps shown
+      → Reads tables state (took (read_message state content) used ∷ steps) (shown_of tables content ++ shown)
   -- A whole value that may not be taken ends the association.
   refuses : {state : State} (content : Content) (used : ℕ)
-    → passes_over state.phase ≡ false → StandsFirst tables (bare_pair state) content used state.rest → may_take tables state.opens content ≡ false
-    → Reads tables state (fault Rose 0 0 ∷ feed_end ∷ []) (shown_abort state 0)
+      → passes_over state.phase ≡ false → StandsFirst tables (bare_pair state) content used state.rest → may_take tables state.opens content ≡ false
+      → Reads tables state (fault Rose 0 0 ∷ feed_end ∷ []) (shown_abort state 0)
   -- So does what is no value, however it goes on.
   fails : {state : State} (place : ℕ)
-    → passes_over state.phase ≡ false → IsFaulty state.rest place
-    → Reads tables state (fault Rose place 0 ∷ feed_end ∷ []) (shown_abort state place)
+      → passes_over state.phase ≡ false → IsFaulty state.rest place
+      → Reads tables state (fault Rose place 0 ∷ feed_end ∷ []) (shown_abort state place)
 
 -- Feeding these octets makes these steps, and shows these indications.
 pub record Feeds (tables : Tables) (state : State) (octets : List ℕ) (steps : List Step) (shown : List Indication) : Type 0 where

@@ -62,17 +62,17 @@ pub data Runs (tables : Tables) (setup : Setup) : World → List Event → List 
   ends : {w : World} → Runs tables setup w [] [] w
   -- A call is answered, and its messages are sent.
   calls : {w v : World} {more : List Event} {told : List Entry} (side : Side) (call : _)
-    → Runs tables setup (stepping side w (call_steps tables (config_at setup side) (state_at tables side w) call)) more told v
-    → Runs tables setup w (events.Call side call ∷ more) (entries.Call side call (can_call tables (config_at setup side) (state_at tables side w) call) ∷ told) v
+      → Runs tables setup (stepping side w (call_steps tables (config_at setup side) (state_at tables side w) call)) more told v
+      → Runs tables setup w (events.Call side call ∷ more) (entries.Call side call (can_call tables (config_at setup side) (state_at tables side w) call) ∷ told) v
   -- The first octets that wait at one side are given out and fed to the other.
   carries : {w v : World} {more : List Event} {told : List Entry} (side : Side) (most : Option ℕ) (steps : List Step) (shown : List Indication)
-    → Feeds tables (state_at tables (other side) w) (first_octets most (state_at tables side w).waiting) steps shown
-    → Runs tables setup (stepping (other side) (stepping side w (gave (length (first_octets most (state_at tables side w).waiting)) ∷ [])) steps) more told v
-    → Runs tables setup w (events.Carry side most ∷ more) (entries.Carry side most (record { octets = first_octets most (state_at tables side w).waiting; shown = shown }) ∷ told) v
+      → Feeds tables (state_at tables (other side) w) (first_octets most (state_at tables side w).waiting) steps shown
+      → Runs tables setup (stepping (other side) (stepping side w (gave (length (first_octets most (state_at tables side w).waiting)) ∷ [])) steps) more told v
+      → Runs tables setup w (events.Carry side most ∷ more) (entries.Carry side most (record { octets = first_octets most (state_at tables side w).waiting; shown = shown }) ∷ told) v
   -- The connection breaks at both ends.
   breaks : {w v : World} {more : List Event} {told : List Entry}
-    → Runs tables setup (stepping B (stepping A w (broke ∷ [])) (broke ∷ [])) more told v
-    → Runs tables setup w (events.Break ∷ more) (entries.Break ∷ told) v
+      → Runs tables setup (stepping B (stepping A w (broke ∷ [])) (broke ∷ [])) more told v
+      → Runs tables setup w (events.Break ∷ more) (entries.Break ∷ told) v
 
 -- a world that a schedule leads to
 abbrev pub Reached : Tables → Setup → World → Type 0

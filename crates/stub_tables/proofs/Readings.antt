@@ -176,7 +176,7 @@ module _ (t : Tables) (sound : IsSound t.types) where
   one_said_invoke i j k l c d v w head p q =
       let s = one_invoke i j k l c d p.octets q.octets (sym p.head_is ∙ q.head_is) in
       let r : CarriedAs t.types (option_map argument_of (operation_coded t d)) v q.octets =
-        subst (λ (x : Code). CarriedAs t.types (option_map argument_of (operation_coded t x)) v q.octets) s.code (subst (λ (x : Option (List ℕ)). CarriedAs t.types (option_map argument_of (operation_coded t c)) v x) s.octets p.carried) in
+      subst (λ (x : Code). CarriedAs t.types (option_map argument_of (operation_coded t x)) v q.octets) s.code (subst (λ (x : Option (List ℕ)). CarriedAs t.types (option_map argument_of (operation_coded t c)) v x) s.octets p.carried) in
       let z : v ≡ w = one_carried (option_map argument_of (operation_coded t d)) v w q.octets r q.carried in
       let x : i ≡ j = s.id in let y : k ≡ l = s.linked in let u : c ≡ d = s.code in cc
 
@@ -184,7 +184,7 @@ module _ (t : Tables) (sound : IsSound t.types) where
   one_said_error i j c d v w head p q =
       let s = one_error i j c d p.octets q.octets (sym p.head_is ∙ q.head_is) in
       let r : CarriedAs t.types (option_map parameter_of (error_coded t d)) v q.octets =
-        subst (λ (x : Code). CarriedAs t.types (option_map parameter_of (error_coded t x)) v q.octets) s.code (subst (λ (x : Option (List ℕ)). CarriedAs t.types (option_map parameter_of (error_coded t c)) v x) s.octets p.carried) in
+      subst (λ (x : Code). CarriedAs t.types (option_map parameter_of (error_coded t x)) v q.octets) s.code (subst (λ (x : Option (List ℕ)). CarriedAs t.types (option_map parameter_of (error_coded t c)) v x) s.octets p.carried) in
       let z : v ≡ w = one_carried (option_map parameter_of (error_coded t d)) v w q.octets r q.carried in
       let x : i ≡ j = s.id in let u : c ≡ d = s.code in cc
 
@@ -197,7 +197,7 @@ module _ (t : Tables) (sound : IsSound t.types) where
       let y : a ≡ b = cc in
       let c = one_code r.code s.code x in
       let m : CarriedAs t.types (option_map result_of (operation_coded t s.code)) (Some r.value) (Some b) =
-        subst (λ (z : Code). CarriedAs t.types (option_map result_of (operation_coded t z)) (Some r.value) (Some b)) c (subst (λ (z : List ℕ). CarriedAs t.types (option_map result_of (operation_coded t r.code)) (Some r.value) (Some z)) y p) in
+      subst (λ (z : Code). CarriedAs t.types (option_map result_of (operation_coded t z)) (Some r.value) (Some b)) c (subst (λ (z : List ℕ). CarriedAs t.types (option_map result_of (operation_coded t r.code)) (Some r.value) (Some z)) y p) in
       let v = one_carried (option_map result_of (operation_coded t s.code)) (Some r.value) (Some s.value) (Some b) m q in
       let w : r.value ≡ s.value = some_is r.value s.value v in
       by_fields r.code s.code r.value s.value c w
