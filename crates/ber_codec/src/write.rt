@@ -5,7 +5,6 @@ ghost use Rattle.std.specs.List.{AllByRecursion, flat_map};
 ghost use Rattle.asn1_types.specs.Rows.{rows_of_parts};
 ghost use Rattle.asn1_types.specs.Table.{IsSound};
 ghost use Rattle.asn1_types.specs.ValueView.{parts_of};
-ghost use Rattle.asn1_types.specs.Fits.{fits};
 ghost use Rattle.ber_codec.specs.Spelling.{leading, subidentifiers};
 ghost use Rattle.ber_codec.specs.Writing.{high_digits, base_128, digits_256, base_256, natural_octets, integer_octets, identifier, length_octets, definite, integer_contents, object_id_contents, part_contents, parts_contents, sequence_contents, alternative_written, choice_written, any_written, under, tagged_written, write_by, writes, written};
 
@@ -366,7 +365,8 @@ fn put_part(
     }
 }
 
-/// The DER spelling of a value that fits this type (X.690 10). It is the only one.
+/// The DER spelling of a value (X.690 10). Of a value that fits this type it is the only one; of
+/// others it has the parts that can be written.
 #[tactic(auto, unfolding(crate::specs::Writing::written))]
 pub fn ber_octets(
     alloc: Global,
@@ -374,7 +374,6 @@ pub fn ber_octets(
     of: TypeId,
     value: &Val,
 ) -> Result<Octets, NoMemory>
-    requires { fits table.now of.0 value.now ≡ true }
     ensures { IfOk result (λ octets. octets ≡ written table.now of.0 value.now) }
 {
     let mut out = Backward::new(alloc);
