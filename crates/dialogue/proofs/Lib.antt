@@ -10,3 +10,4 @@ pub mod Called
 pub mod Calling
 pub mod Taken
 pub mod Worlds
+pub mod Readings

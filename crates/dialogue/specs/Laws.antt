@@ -10,6 +10,7 @@ use Rattle.stub_tables.specs.declared.apdu.Apdu.{Apdu}
 use Rattle.stub_tables.specs.declared.apdu.Apdu.TheVariants as apdus
 use Rattle.stub_tables.specs.Lookup.{operation_with, error_with}
 use Rattle.stub_tables.specs.Apdus.{IsShort}
+use Rattle.stub_tables.specs.Readable.{IsReadable}
 use Rattle.dialogue.specs.declared.call.Call.{Call}
 use Rattle.dialogue.specs.declared.call.Call.TheVariants as the_calls
 use Rattle.dialogue.specs.declared.setup.Setup.{Setup}
@@ -192,3 +193,7 @@ pub record KeepsLaws (tables : Tables) (w : World) : Type 0 where
   pub one_outcome : OneOutcome tables w
   pub nothing_whole_waits : NothingWholeWaits tables w
   pub no_fault : NoFault w
+
+-- What every table of a module keeps is enough (`Tables::is_readable` says that each does).
+abbrev pub EveryRunKeepsLaws : Type 0
+EveryRunKeepsLaws = (tables : Tables) (setup : Setup) (w : World) → IsReadable tables → Reached tables setup w → KeepsLaws tables w
