@@ -1,0 +1,18 @@
+use Rattle.std.proofs.Common.{◌≡◌, ℕ, List, false, Err, refl, subst, take}
+use Rattle.asn1_types.specs.declared.row.TypeRow.{TypeRow}
+use Rattle.ber_codec.specs.Reading.{Fails}
+use Rattle.ber_codec.specs.Rules.{read_at}
+use Rattle.ber_codec.specs.Spelling.{Ber}
+use Rattle.ber_codec.specs.declared.fault.ReadFault.{ReadFault}
+use Rattle.ber_codec.specs.declared.fault.ReadFault.TheVariants.{Short, NotSpelled, TooDeep, TooLong}
+use Rattle.stub_tables.specs.Heads.{any_row}
+use Rattle.rose.proofs.Firsts.{front, refused_found}
+use Rattle.rose.proofs.whole.front.Goals as goal
+
+pub returns-in-Ok : goal.returns-in-Ok
+returns-in-Ok c = front c.in-Ok.read.value c.in-Ok.read.used c.args.bytes.now c.in-Ok.ensures.found.0
+    (subst (λ (rows : List TypeRow). Ber rows any_row c.in-Ok.read.value (take c.in-Ok.read.used c.args.bytes.now)) c.requires c.in-Ok.ensures.found.1)
+
+pub returns-in-Err : goal.returns-in-Err
+returns-in-Err c = refused_found c.args.bytes.now c.in-Err.fault c.refused.result c.refused.ensures
+    (subst (λ (rows : List TypeRow). Fails c.in-Err.fault (read_at rows any_row false 262144 c.args.bytes.now)) c.requires c.in-Err.ensures.exact)

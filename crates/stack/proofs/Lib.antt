@@ -1,0 +1,5 @@
+pub mod Places
+pub mod Writable
+pub mod Due
+pub mod Fed
+pub mod Coded

@@ -1,0 +1,13 @@
+use Rattle.std.proofs.Common.{◌≡◌, ◌++◌, false, List, length}
+use Rattle.dialogue.specs.declared.indication.Indication.{Indication}
+use Rattle.dialogue.specs.State.{passes_over}
+use Rattle.stack.specs.End.{Keeps}
+use Rattle.stack.specs.Feed.{ReadAll}
+use Rattle.stack.proofs.Fed.{ReadsOn}
+use Rattle.stack.proofs.end.End.read_all.Given as goal
+
+abbrev pub invariant-loop-more : goal.invariant-loop-more
+invariant-loop-more l = ReadsOn l.fn.self l.self l.fn.shown l.shown
+
+abbrev pub decreases-loop-more : goal.decreases-loop-more
+decreases-loop-more l = length l.self.state.rest
