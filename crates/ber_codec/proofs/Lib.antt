@@ -24,3 +24,4 @@ pub mod WrittenLoops
 pub mod WriteLaws
 pub mod Written
 pub mod Wholes
+pub mod WholeSpelled

@@ -5,6 +5,7 @@ use Rattle.asn1_types.specs.declared.row.TypeRow.{TypeRow}
 use Rattle.asn1_types.specs.Table.{IsSound}
 use Rattle.asn1_types.specs.Value.{Value}
 use Rattle.asn1_types.specs.Fits.{fits}
+use Rattle.asn1_types.specs.Whole.{is_whole}
 use Rattle.ber_codec.specs.declared.fault.ReadFault.{ReadFault}
 use Rattle.ber_codec.specs.declared.fault.ReadFault.TheVariants.{NotSpelled, Short, TooDeep, TooLong, NoMemory}
 use Rattle.ber_codec.specs.declared.public.Read.{Read}
@@ -51,3 +52,7 @@ BeginningIsShort = (rows : List TypeRow) (n : ℕ) (strict : Bool) (limit : ℕ)
 abbrev pub WrittenIsSpelled : Type 0
 WrittenIsSpelled = (rows : List TypeRow) (n : ℕ) (v : Value) → IsSound rows → fits rows n v ≡ true
     → (strict : Bool) (limit : ℕ) → limit < 2 ^ 64 → length (written rows n v) ≤ limit → Spells rows n strict limit v (written rows n v)
+
+-- A DER spelling is one whole value of any type: each length is definite, and no tag is UNIVERSAL 0.
+abbrev pub DerIsWhole : Type 0
+DerIsWhole = (rows : List TypeRow) (n : ℕ) (limit : ℕ) (v : Value) (spelled : List ℕ) → IsSound rows → Spells rows n true limit v spelled → is_whole spelled ≡ true

@@ -1,6 +1,6 @@
 //! The laws of reading, each the contract of a function that does nothing.
 
-ghost use Rattle.ber_codec.specs.Laws.{ReadIsSpelled, SpelledIsRead, NoneBegins, ReadStays, FaultStays, BeginningIsShort, WrittenIsSpelled};
+ghost use Rattle.ber_codec.specs.Laws.{ReadIsSpelled, SpelledIsRead, NoneBegins, ReadStays, FaultStays, BeginningIsShort, WrittenIsSpelled, DerIsWhole};
 
 /// What is read is spelled by the octets used.
 pub fn read_is_spelled()
@@ -36,4 +36,10 @@ pub fn beginning_is_short()
 /// the value's only DER spelling.
 pub fn written_is_spelled()
     ensures { WrittenIsSpelled }
+{}
+
+/// A DER spelling is one whole value, whatever its type. So, with `written_is_spelled`, is what is
+/// written of a value that fits.
+pub fn der_is_whole()
+    ensures { DerIsWhole }
 {}

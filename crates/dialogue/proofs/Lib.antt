@@ -9,4 +9,7 @@ pub mod Live
 pub mod Called
 pub mod Calling
 pub mod Taken
+pub mod Counting
 pub mod Worlds
+pub mod Shown
+pub mod Readings

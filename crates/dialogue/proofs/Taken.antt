@@ -40,7 +40,7 @@ module _ (t : Tables) (laws : ReadingLaws t) where
     pub short : IsShort (adds_all t y steps).state.rest
     pub allowed : AreSteps y.state steps
 
-  sendable_whole : (m : Message) → Sendable t m → IsWhole (written t m)
+  pub sendable_whole : (m : Message) → Sendable t m → IsWhole (written t m)
   sendable_whole m s =
       subst IsWhole (sym (is_written m s)) (laws.written_whole s.a s.writable)
     where

@@ -20,14 +20,15 @@ use Rattle.dialogue.specs.State.{State, passes_over}
 use Rattle.dialogue.specs.Calls.{Reply, is_dead, is_initiators, is_phase_for, can_bare, can_call, after_call, due_of}
 use Rattle.dialogue.specs.History.{Step, called, sent, fed, took, fault, feed_end, gave, broke, broken_phase, after, after_all, call_steps}
 use Rattle.dialogue.specs.Feeding.{Feeds, Reads, passes, waits, takes, refuses, fails}
-use Rattle.dialogue.specs.World.{Moment, World, other, is_side, stepping, state_at, config_at, first_octets, Runs, ends, calls, carries, breaks, Reached}
-use Rattle.dialogue.specs.Laws.{BeginsWith, TakenAsSent, AreNumbered, Differ, MightTake, TakesAllowed, OneOutcome, NothingWholeWaits, is_fault, NoFault, KeepsLaws, Passed, Invocation, Outcome}
+use Rattle.dialogue.specs.World.{Moment, World, other, is_side, stepping, state_at, config_at, first_octets, Runs, ends, calls, carries, breaks}
+use Rattle.dialogue.specs.Laws.{BeginsWith, TakenAsSent, AreNumbered, Differ, MightTake, TakesAllowed, OneOutcome, NothingWholeWaits, is_fault, NoFault, KeepsLaws, Passed, Invocation, Outcome, sendings, takings, octets_given, whole_within}
 use Rattle.dialogue.proofs.Reading.{ReadingLaws}
 use Rattle.dialogue.proofs.Flights.{Flight}
 use Rattle.dialogue.proofs.Tallies.{Tally, at, tally, adds, adds_all, tally-me, tally-other, tally-stepping, tally-stepping_other, state-adds_all}
 use Rattle.dialogue.proofs.Live.{passed_all, invocations_of, outcomes_of, Half, Live, Live-swap, Live-start, Live-moves, new_tally}
 use Rattle.dialogue.proofs.Calling.{Connected, calling}
 use Rattle.dialogue.proofs.Taken.{IsStep, AreSteps, IsRead, feeding}
+use Rattle.dialogue.proofs.Counting.{AreCounted, counted_run, counted_start, taken_whole}
 
 abbrev err : CallRefusal → Reply
 err e = Err e
@@ -296,7 +297,7 @@ module _ (t : Tables) (laws : ReadingLaws t) where
   left_alone A w steps = tally-stepping_other t B w steps
   left_alone B w steps = tally-stepping_other t A w steps
 
-  good_call : (c : Config) (side : Side) (call : Call) (w : World) → IsGood w → IsGood (stepping side w (call_steps t c (state_at t side w) call))
+  pub good_call : (c : Config) (side : Side) (call : Call) (w : World) → IsGood w → IsGood (stepping side w (call_steps t c (state_at t side w) call))
   good_call c side call w h =
       let steps = call_steps t c (state_at t side w) call in
       let k = kept_call c (tally t side w) (tally t (other side) w) call (to_side side w h.kept) in
@@ -307,7 +308,7 @@ module _ (t : Tables) (laws : ReadingLaws t) where
         no_fault = faultless_stepping side w steps (are_called c (state_at t side w) call) h.no_fault;
       }
 
-  good_carry : (side : Side) (most : Option ℕ) (steps : List Step) (shown : List Indication) (w : World) → Feeds t (state_at t (other side) w) (first_octets most (state_at t side w).waiting) steps shown → IsGood w
+  pub good_carry : (side : Side) (most : Option ℕ) (steps : List Step) (shown : List Indication) (w : World) → Feeds t (state_at t (other side) w) (first_octets most (state_at t side w).waiting) steps shown → IsGood w
       → IsGood (stepping (other side) (stepping side w (gave (length (first_octets most (state_at t side w).waiting)) ∷ [])) steps)
   good_carry side most steps shown w fd h =
       let give = gave (length (first_octets most (state_at t side w).waiting)) ∷ [] in
@@ -324,7 +325,12 @@ module _ (t : Tables) (laws : ReadingLaws t) where
         no_fault = faultless_stepping (other side) u steps steps_there (faultless_stepping side w give (tt, tt) h.no_fault);
       }
 
-  good_break : (w : World) → IsGood w → IsGood (stepping B (stepping A w (broke ∷ [])) (broke ∷ []))
+  -- the steps of a carry may come
+  pub carry_steps : (side : Side) (most : Option ℕ) (steps : List Step) (shown : List Indication) (w : World) → Feeds t (state_at t (other side) w) (first_octets most (state_at t side w).waiting) steps shown → IsGood w
+      → AreSteps t laws (state_at t (other side) w) steps
+  carry_steps side most steps shown w fd h = (kept_carry (tally t side w) (tally t (other side) w) most steps shown fd (to_side side w h.kept)).allowed
+
+  pub good_break : (w : World) → IsGood w → IsGood (stepping B (stepping A w (broke ∷ [])) (broke ∷ []))
   good_break w h = record {
     kept = kept_break (tally t A w) (tally t B w) h.kept;
     allowed = (tt, (tt, h.allowed));
@@ -340,13 +346,13 @@ module _ (t : Tables) (laws : ReadingLaws t) where
   good_run setup w v all told (breaks {more = more} {told = rest} next) h =
       good_run setup (stepping B (stepping A w (broke ∷ [])) (broke ∷ [])) v more rest next (good_break w h)
 
-  good_start : IsGood []
+  pub good_start : IsGood []
   good_start = record { kept = alive (new_tally t) (new_tally t) ([], [], Live-start t) laws.nothing_short laws.nothing_short; allowed = tt; no_fault = tt }
 
   -- ---- the laws
 
-  pub laws_of : (w : World) → IsGood w → KeepsLaws t w
-  laws_of w h =
+  pub laws_of : (w : World) → IsGood w → AreCounted t w → KeepsLaws t w
+  laws_of w h counted =
       let two = λ (side : Side). to_side side w h.kept in
       record {
         taken_as_sent = λ side. (two side).there.sent;
@@ -358,6 +364,7 @@ module _ (t : Tables) (laws : ReadingLaws t) where
           allowed = h.allowed;
         };
         nothing_whole_waits = λ side up. short side (two side).now up;
+        taken_when_whole = λ side up. whole side (two side).now up;
         no_fault = h.no_fault;
       }
     where
@@ -366,5 +373,12 @@ module _ (t : Tables) (laws : ReadingLaws t) where
       short side (inl k) up = k.1
       short side (inr k) up = absurd (is_over (state_at t side w) k.0.phase up)
 
-  pub every_run : (setup : Setup) (w : World) → Reached t setup w → KeepsLaws t w
-  every_run setup w r = laws_of w (good_run setup [] w r.0 r.1 r.2 good_start)
+      whole : (side : Side) → (Connected t laws (tally t side w) (tally t (other side) w) × IsShort (state_at t side w).rest × IsShort (state_at t (other side) w).rest) ⊎ (IsOver (tally t side w) × IsOver (tally t (other side) w))
+          → passes_over (state_at t (other side) w).phase ≡ false → takings (other side) w ≡ whole_within t (octets_given side w) (sendings t side w)
+      whole side (inl k) up =
+          let live = k.0.2 in
+          taken_whole t laws (tally t side w) (tally t (other side) w) k.0.0 k.0.1 (octets_given side w) live k.2 (counted.each side live.there.up)
+      whole side (inr k) up = absurd (is_over (state_at t (other side) w) k.1.phase up)
+
+  pub every_run : (setup : Setup) (all : List Event) (told : List Entry) (w : World) → Runs t setup [] all told w → KeepsLaws t w
+  every_run setup all told w r = laws_of w (good_run setup [] w all told r good_start) (counted_run t setup [] w all told r (counted_start t))

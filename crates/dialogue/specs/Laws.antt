@@ -1,6 +1,6 @@
 -- The laws of every run of two ends.
-use Rattle.std.specs.Prelude.{◌≡◌, ◌≢◌, ℕ, suc, ◌+◌, ℤ, pos, List, [], ◌∷◌, ◌++◌, map, length, Bool, true, false, Option, Some, None, Ok, Err, if◌then◌else◌}
-use Rattle.std.specs.List.{AllByRecursion}
+use Rattle.std.specs.Prelude.{◌≡◌, ◌≢◌, ℕ, suc, ◌+◌, ◌-◌, nat_le, ℤ, pos, List, [], ◌∷◌, ◌++◌, map, length, Bool, true, false, Option, Some, None, Ok, Err, if◌then◌else◌}
+use Rattle.std.specs.List.{AllByRecursion, flat_map}
 use Rattle.asn1_types.specs.declared.value.Val.{Val}
 use Rattle.osi_base.specs.declared.syntax.Pair.{Pair}
 use Rattle.osi_base.specs.declared.words.SetItem.{SetItem}
@@ -10,15 +10,20 @@ use Rattle.stub_tables.specs.declared.apdu.Apdu.{Apdu}
 use Rattle.stub_tables.specs.declared.apdu.Apdu.TheVariants as apdus
 use Rattle.stub_tables.specs.Lookup.{operation_with, error_with}
 use Rattle.stub_tables.specs.Apdus.{IsShort}
+use Rattle.stub_tables.specs.Readable.{IsReadable}
 use Rattle.dialogue.specs.declared.call.Call.{Call}
 use Rattle.dialogue.specs.declared.call.Call.TheVariants as the_calls
 use Rattle.dialogue.specs.declared.setup.Setup.{Setup}
+use Rattle.dialogue.specs.declared.event.Event.{Event}
+use Rattle.dialogue.specs.declared.event.Entry.{Entry}
+use Rattle.dialogue.specs.declared.event.Entry.TheVariants as entries
+use Rattle.dialogue.specs.declared.indication.Indication.{Indication}
 use Rattle.dialogue.specs.Message.{Message, Content, apdu, pair_of, bare_set}
 use Rattle.dialogue.specs.State.{passes_over}
 use Rattle.dialogue.specs.Calls.{Reply}
-use Rattle.dialogue.specs.Taking.{may_take, value_of}
-use Rattle.dialogue.specs.History.{Step, called, sent, took, fault}
-use Rattle.dialogue.specs.World.{Moment, World, is_side, other, state_at, Reached}
+use Rattle.dialogue.specs.Taking.{written, may_take, value_of, shown_of}
+use Rattle.dialogue.specs.History.{Step, called, sent, took, fault, gave}
+use Rattle.dialogue.specs.World.{Moment, World, is_side, other, state_at, Runs}
 
 -- ---- the shared set
 
@@ -178,6 +183,26 @@ pub record OneOutcome (tables : Tables) (w : World) : Type 0 where
 abbrev pub NothingWholeWaits : Tables → World → Type 0
 NothingWholeWaits tables w = (side : Side) → passes_over (state_at tables side w).phase ≡ false → IsShort (state_at tables side w).rest
 
+-- how many octets an end gave out
+abbrev pub adds_octets : ℕ → Step → ℕ
+adds_octets all (gave n) = all + n
+adds_octets all _ = all
+
+abbrev pub octets_given : Side → World → ℕ
+octets_given side [] = 0
+octets_given side (m ∷ w) = if is_side side m.side then adds_octets (octets_given side w) m.step else octets_given side w
+
+-- the messages whose last octet is among the first so many
+abbrev pub whole_within : Tables → ℕ → List Passed → List Passed
+whole_within tables octets [] = []
+whole_within tables octets (p ∷ ps) =
+    if nat_le (length (written tables p.0)) octets then p ∷ whole_within tables (octets - length (written tables p.0)) ps else []
+
+-- An end that is not over took each message of the other's whose last octet was given to it, and no
+-- other. So what it takes in one carry are the messages whose last octet is in that carry.
+abbrev pub TakenWhenWhole : Tables → World → Type 0
+TakenWhenWhole tables w = (side : Side) → passes_over (state_at tables (other side) w).phase ≡ false → takings (other side) w ≡ whole_within tables (octets_given side w) (sendings tables side w)
+
 abbrev pub is_fault : Step → Bool
 is_fault (fault layer place reason) = true
 is_fault _ = false
@@ -191,4 +216,27 @@ pub record KeepsLaws (tables : Tables) (w : World) : Type 0 where
   pub taken_as_sent : TakenAsSent tables w
   pub one_outcome : OneOutcome tables w
   pub nothing_whole_waits : NothingWholeWaits tables w
+  pub taken_when_whole : TakenWhenWhole tables w
   pub no_fault : NoFault w
+
+-- ---- what is shown
+
+-- what carries to one end showed
+abbrev pub shown_by : Side → Entry → List Indication
+shown_by side (entries.Carry from most carried) = if is_side side (other from) then carried.shown else []
+shown_by side _ = []
+
+abbrev pub indications_at : Side → List Entry → List Indication
+indications_at side told = flat_map (shown_by side) told
+
+-- Carries to an end showed what its takings show, in their order, and nothing else.
+abbrev pub ShownAsTaken : Tables → List Entry → World → Type 0
+ShownAsTaken tables told w = (side : Side) → indications_at side told ≡ flat_map (λ (p : Passed). shown_of tables p.0.content) (takings side w)
+
+-- ---- the law of all runs
+
+-- What every table of a module keeps is enough (`Tables::is_readable` says that each does). As each
+-- beginning of a run is a run, the laws hold before and after each event.
+abbrev pub EveryRunKeepsLaws : Type 0
+EveryRunKeepsLaws = (tables : Tables) (setup : Setup) (all : List Event) (told : List Entry) (w : World) → IsReadable tables → Runs tables setup [] all told w
+    → KeepsLaws tables w × ShownAsTaken tables told w

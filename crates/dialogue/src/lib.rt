@@ -6,6 +6,7 @@ mod call;
 mod config;
 mod event;
 mod indication;
+mod laws;
 mod opened;
 mod setup;
 
@@ -13,5 +14,6 @@ pub use call::{Call, CallRefusal};
 pub use config::{Config, ConfigRefusal, Mode, Phase, check_config};
 pub use event::{Carried, Entries, Entry, Event, Events, Transcript};
 pub use indication::{Indication, Indications};
+pub use laws::every_run_keeps_laws;
 pub use opened::Opened;
 pub use setup::Setup;

@@ -1,2 +1,3 @@
 pub mod OwnCodes
 pub mod Readings
+pub mod WrittenApdus

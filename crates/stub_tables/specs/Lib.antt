@@ -3,3 +3,5 @@ pub mod Lookup
 pub mod Uses
 pub mod Heads
 pub mod Apdus
+pub mod Readable
+pub mod Laws
