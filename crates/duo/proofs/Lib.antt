@@ -1,0 +1,4 @@
+pub mod Given
+pub mod Readings
+pub mod Runs
+pub mod Unique
