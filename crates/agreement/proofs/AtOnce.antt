@@ -16,7 +16,7 @@ use Rattle.agreement.proofs.Views.{direct, entries, core, Ask, View, Joined, fre
 use Rattle.agreement.proofs.Views.View.{Plain, Asking, Answered, Joining, Leaving, Gone}
 use Rattle.agreement.proofs.Runs.{at-role, reached}
 use Rattle.agreement.proofs.DirectWorlds.{DirectRelation, Stage, direct-takes, direct-keeps}
-use Rattle.agreement.proofs.DirectWorlds.Stage.{Fresh, Asked, Dropped, Refused, Lost, Dead, Stands}
+use Rattle.agreement.proofs.DirectWorlds.Stage.{Fresh, Asked, Dropped, Refused, Lost, Dead, Deaf, Stands}
 use Rattle.agreement.proofs.BareWorlds.{bare, BareRelation, bare-takes, bare-keeps}
 use Rattle.agreement.proofs.Mail.{SamePair, taken-as_sent}
 
@@ -102,6 +102,7 @@ direct-stage_holder base a b f g shared (Dropped t behind p q i n d u l) h k = l
 direct-stage_holder base a b f g shared (Refused t p w q n i) h k = let e = h.1 in cc
 direct-stage_holder base a b f g shared (Lost p q n) h k = let e = h.1 in cc
 direct-stage_holder base a b f g shared (Dead p q) h k = let e = h.1 in cc
+direct-stage_holder base a b f g shared (Deaf p w q n) h k = let e = k.1 in cc
 
 pub direct-holder : (base : Setup) → OneHolder (direct base)
 direct-holder base world h =

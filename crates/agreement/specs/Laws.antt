@@ -7,7 +7,7 @@ use Rattle.agreement.specs.Messages.Message.{Accept, Connect, End}
 use Rattle.agreement.specs.Messages.Act.{Gives, Says, Queues, Encodes}
 use Rattle.agreement.specs.Messages.Choice.{Accepting}
 use Rattle.agreement.specs.Messages.Apdu.{Invoke, Outcome, Reject}
-use Rattle.agreement.specs.State.{Awaited, Transfer, State, Calls}
+use Rattle.agreement.specs.State.{Awaited, Transfer, Invocation, State, Calls}
 use Rattle.agreement.specs.State.Phase.{Up}
 use Rattle.agreement.specs.State.Awaited.{RestartOf}
 use Rattle.agreement.specs.Takings.{MayTake, value_of, handed_up}
@@ -209,18 +209,25 @@ AreFalling (n ∷ m ∷ rest) = (m < n) × AreFalling (m ∷ rest)
 abbrev pub ArriveOnce : Setup → Type 0
 ArriveOnce setup = (world : World) → IsRun setup world → (role : Role) → AreFalling (arrived setup role world)
 
+-- an open invocation has this number, and its operation may have this one as a child (X.880 8.3)
+abbrev pub HasParent : Setup → List Invocation → ℕ → ℕ → Type 0
+HasParent setup [] operation parent = ⊥
+HasParent setup (call ∷ calls) operation parent =
+    (call.number ≡ parent) × (setup.links call.operation operation ≡ true) ⊎ HasParent setup calls operation parent
+
 -- what an accepted APDU names: an invocation whose number isn't open yet, and whose link is an open
--- invocation of the taker; an outcome or a reject of an open invocation of the taker (X.880 8.3, 9)
-abbrev pub NamesOpen : Calls → Apdu → Type 0
-NamesOpen calls (Invoke number operation None argument) = is_open number calls.peer_open ≡ false
-NamesOpen calls (Invoke number operation (Some parent) argument) =
-    (is_open number calls.peer_open ≡ false) × (is_open parent calls.own_open ≡ true)
-NamesOpen calls (Outcome number content) = is_open number calls.own_open ≡ true
-NamesOpen calls (Reject number is_of_invocation) = is_open number calls.own_open ≡ true
+-- invocation of the taker that may have it as a child; an outcome or a reject of an open invocation of
+-- the taker (X.880 8.3, 9)
+abbrev pub NamesOpen : Setup → Calls → Apdu → Type 0
+NamesOpen setup calls (Invoke number operation None argument) = is_open number calls.peer_open ≡ false
+NamesOpen setup calls (Invoke number operation (Some parent) argument) =
+    (is_open number calls.peer_open ≡ false) × HasParent setup calls.own_open operation parent
+NamesOpen setup calls (Outcome number content) = is_open number calls.own_open ≡ true
+NamesOpen setup calls (Reject number is_of_invocation) = is_open number calls.own_open ≡ true
 
 -- what is accepted names what is open
 abbrev pub AcceptedNamesOpen : Setup → Type 0
-AcceptedNamesOpen setup = (calls : Calls) (apdu : Apdu) → is_accepted setup calls apdu ≡ true → NamesOpen calls apdu
+AcceptedNamesOpen setup = (calls : Calls) (apdu : Apdu) → is_accepted setup calls apdu ≡ true → NamesOpen setup calls apdu
 
 -- the numbers of the invocations that an end accepted since its association began, the newest first
 abbrev pub invocation_in : Apdu → List ℕ

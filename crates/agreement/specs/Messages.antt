@@ -28,7 +28,8 @@ pub data Mode : Type 0 where
   Reliable : Mode
 
 -- what the two ends have in common: the mode, the codec, which operations have no outcome, which
--- operation may be linked to an invocation of which (X.880 8), the one context of bare mode, the most marks
+-- operation may be linked to an invocation of which (X.880 8), the one context of bare mode, and the
+-- limits: the most marks, the most octets of a transfer, the most open invocations of one end
 pub record Setup : Type 0 where
   pub mode : Mode
   pub codec : Codec
@@ -36,6 +37,8 @@ pub record Setup : Type 0 where
   pub links : ℕ → ℕ → Bool
   pub bare_context : Context
   pub most_marks : ℕ
+  pub most_octets : ℕ
+  pub most_open : ℕ
 
 pub data Message : Type 0 where
   Connect : Message  -- CN (X.225 8.3.1) for a new association
@@ -85,6 +88,7 @@ pub data Act : Type 0 where
   Resumes : Act
   Releases : Act
   Aborts : Act
+  Withdraws : Act  -- goes over before it sent or took a CN on this connection, with nothing sent
 
 -- what the taker of a message decides: the contexts that it accepts, that it refuses, or the results
 pub data Choice : Type 0 where
