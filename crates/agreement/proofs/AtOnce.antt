@@ -37,12 +37,12 @@ bare-given base role x y (s ∷ flight) g shared m choice i h =
     let t = bare-takes base role x y s flight g shared m choice i h.comes h.is_alive in
     record { may = t.may; pair = t.pair }
 
-direct-at : (base : Setup) (world : World) (role : Role) (m : Message) (choice : Choice) → IsRun (direct base) (By role (Takes m choice) ∷ world) → Given (direct base) role (state_of (direct base) role world) (flight_to (direct base) role world) m
+pub direct-at : (base : Setup) (world : World) (role : Role) (m : Message) (choice : Choice) → IsRun (direct base) (By role (Takes m choice) ∷ world) → Given (direct base) role (state_of (direct base) role world) (flight_to (direct base) role world) m
 direct-at base world role m choice h =
     direct-given base role (state_of (direct base) role world) (state_of (direct base) (other role) world) (flight_to (direct base) role world) (flight_to (direct base) (other role) world) (shared_at (direct base) world) m choice
     (at-role (direct base) (DirectRelation base) (direct-keeps base) role world (reached (direct base) (DirectRelation base) (direct-keeps base) world h.1)) h.0
 
-bare-at : (base : Setup) (world : World) (role : Role) (m : Message) (choice : Choice) → IsRun (bare base) (By role (Takes m choice) ∷ world) → Given (bare base) role (state_of (bare base) role world) (flight_to (bare base) role world) m
+pub bare-at : (base : Setup) (world : World) (role : Role) (m : Message) (choice : Choice) → IsRun (bare base) (By role (Takes m choice) ∷ world) → Given (bare base) role (state_of (bare base) role world) (flight_to (bare base) role world) m
 bare-at base world role m choice h =
     bare-given base role (state_of (bare base) role world) (state_of (bare base) (other role) world) (flight_to (bare base) role world) (flight_to (bare base) (other role) world) (shared_at (bare base) world) m choice
     (at-role (bare base) (BareRelation base) (bare-keeps base) role world (reached (bare base) (BareRelation base) (bare-keeps base) world h.1)) h.0
