@@ -149,7 +149,7 @@ keeps-value : (x : State) (role : Role) (t : Option Transfer) (items : List Item
 keeps-value x role None items a v = tt
 keeps-value x role (Some t) items a v = go t.progress t.value a v
   where
-    go : (p : Progress) (value : Option Value) → AllMayAsk role x.sets.held (used Reliable (state_with x NoAnswer [] (Some (record t { value = value })))) items → ValueIn p value (record x.sets { own = [] }) → ValueIn p value (record x.sets { own = items ∷ [] })
+    go : (p : Progress) (value : Option Value) → AllMayAsk role x.sets.held (used Reliable (state_with x NoAnswer [] (Some (record t { value = value; progress = p })))) items → ValueIn p value (record x.sets { own = [] }) → ValueIn p value (record x.sets { own = items ∷ [] })
     go Running None a v = tt
     go Running (Some w) a v = (v.0, (used-head w.identifier _ items role x.sets.held w.pair v.0 a, tt))
     go Ending value a v = tt

@@ -40,14 +40,20 @@ abbrev pub IsUnencoded : Option Transfer → Type 0
 IsUnencoded None = ⊥
 IsUnencoded (Some transfer) = (transfer.progress ≡ Running) × (transfer.value ≡ None)
 
--- the context on which a transfer is encoded
+-- the context on which a transfer in progress is encoded; a suspended one needs none, since its
+-- resumption brings back a mark's set or encodes anew
 abbrev pub context_of_value : Option Value → List ℕ
 context_of_value None = []
 context_of_value (Some value) = value.identifier ∷ []
 
+abbrev pub context_in_progress : Progress → Option Value → List ℕ
+context_in_progress Suspended value = []
+context_in_progress Running value = context_of_value value
+context_in_progress Ending value = context_of_value value
+
 abbrev pub context_of_transfer : Option Transfer → List ℕ
 context_of_transfer None = []
-context_of_transfer (Some transfer) = context_of_value transfer.value
+context_of_transfer (Some transfer) = context_in_progress transfer.progress transfer.value
 
 -- in reliable mode the queue has items to be transferred; else it keeps no more than due rejects
 abbrev pub contexts_of_queue : Mode → List Handed → List ℕ
