@@ -23,6 +23,7 @@ pub mod StandingTakes
 pub mod StandingSteps
 pub mod ReliableWorlds
 pub mod ByTransfers
+pub mod Answered
 pub mod Interface
 pub mod CaseRuns
 pub mod Outcomes

@@ -34,11 +34,11 @@ record Keeps_calls (ts : List ℕ) (calls : Calls) : Type 0 where
   pub closed : AllClosed ts calls.own_open calls.made
   pub made : AllMade calls.own_open calls.made
 
-close-closed : (k n : ℕ) (calls : List Invocation) → is_open k calls ≡ false → is_open k (close n calls) ≡ false
+pub close-closed : (k n : ℕ) (calls : List Invocation) → is_open k calls ≡ false → is_open k (close n calls) ≡ false
 close-closed k n [] h = refl
 close-closed k n (call ∷ calls) h = let ih = close-closed k n calls in grind (arith, nat_tests)
 
-close-gone : (n : ℕ) (calls : List Invocation) → is_open n (close n calls) ≡ false
+pub close-gone : (n : ℕ) (calls : List Invocation) → is_open n (close n calls) ≡ false
 close-gone n [] = refl
 close-gone n (call ∷ calls) = let ih = close-gone n calls in grind (arith, nat_tests)
 

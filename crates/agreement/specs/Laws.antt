@@ -147,6 +147,27 @@ TheOthersOwn setup =
     (world : World) (role : Role) (message : Message) (choice : Choice) (value : Value) → IsRun setup (By role (Takes message choice) ∷ world) →
     value_of setup (state_of setup role world) message ≡ Some value → IsHandedIn (all_handed (other role) world) value.apdu
 
+-- the invocations of which an end handed in an outcome since its association began, the newest first
+abbrev pub answer_in : Apdu → List ℕ
+answer_in (Outcome number content) = number ∷ []
+answer_in apdu = []
+
+abbrev pub answered_after : Step → List ℕ → List ℕ
+answered_after (Acts (Says value)) answered = answer_in value.apdu ++ answered
+answered_after (Acts (Queues context apdu)) answered = answer_in apdu ++ answered
+answered_after (Takes Connect (Accepting set)) answered = []
+answered_after step answered = answered
+
+abbrev pub answered : Role → World → List ℕ
+answered role [] = []
+answered role (Break ∷ world) = answered role world
+answered role (By who step ∷ world) = if_same role who (answered_after step (answered role world)) (answered role world)
+
+-- each invocation is answered at most once, so the outcome of one that is handed up is the one that
+-- was handed in
+abbrev pub AnsweredOnce : Setup → Type 0
+AnsweredOnce setup = (world : World) → IsRun setup world → (role : Role) → AreDistinct (answered role world)
+
 -- an item as it was encoded: its activity, its APDU, its context, and the pair that the shared set
 -- gave that just then
 pub record Encoding : Type 0 where
