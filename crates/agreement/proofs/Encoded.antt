@@ -34,7 +34,7 @@ phase-of : (x z : State) (p : Phase) → x ≡ z → z.phase ≡ p → x.phase �
 phase-of x z p e h = ap (λ (q : State). q.phase) e ∙ h
 
 -- an end of reliable mode that is up stands on a connection
-up-stands : (base : Setup) (role : Role) (x y : State) (f g : List Sending) (shared : Shared) → ReliableRelation base role x y f g shared → x.phase ≡ Up → Standing (reliable base) role x y f g shared
+pub up-stands : (base : Setup) (role : Role) (x y : State) (f g : List Sending) (shared : Shared) → ReliableRelation base role x y f g shared → x.phase ≡ Up → Standing (reliable base) role x y f g shared
 up-stands base Initiator x y f g shared (Stands j) u = j
 up-stands base Initiator x y f g shared (Fresh p q n d) u = absurd (let e = phase-of x (new_end (reliable base)) Idle p refl in cc)
 up-stands base Initiator x y f g shared (Asked s p q n d w) u = absurd (let e = phase-of x (record (new_end (reliable base)) { phase = Opening }) Opening p refl in cc)

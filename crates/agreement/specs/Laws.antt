@@ -1,15 +1,16 @@
 -- The laws of two ends, over every world that they can reach.
 use Rattle.std.specs.Prelude.{◌≡◌, ℕ, ◌<◌, true, false, if◌then◌else◌, ◌⊎◌, ◌++◌, List, [], ◌∷◌, Option, Some, None}
-use Rattle.agreement.specs.Sets.{Pair, Role, ContextSet, other, lookup, AreDistinct}
+use Rattle.agreement.specs.Sets.{Pair, Role, ContextSet, other, lookup, AreDistinct, is_among, identifiers}
 use Rattle.agreement.specs.Sets.Role.{Initiator, Responder}
 use Rattle.agreement.specs.Messages.{Apdu, Value, Setup, Message, Choice}
 use Rattle.agreement.specs.Messages.Message.{Accept, Connect, End}
-use Rattle.agreement.specs.Messages.Act.{Gives, Says, Queues, Encodes}
+use Rattle.agreement.specs.Messages.Act.{Alters, Gives, Says, Queues, Encodes}
 use Rattle.agreement.specs.Messages.Choice.{Accepting}
 use Rattle.agreement.specs.Messages.Apdu.{Invoke, Outcome, Reject}
-use Rattle.agreement.specs.State.{Awaited, Transfer, Invocation, State, Calls}
-use Rattle.agreement.specs.State.Phase.{Up}
+use Rattle.agreement.specs.State.{Phase, Awaited, Transfer, Invocation, State, Calls}
+use Rattle.agreement.specs.State.Phase.{Up, Releasing}
 use Rattle.agreement.specs.State.Awaited.{RestartOf}
+use Rattle.agreement.specs.Acts.{IsNotBare}
 use Rattle.agreement.specs.Takings.{MayTake, value_of, handed_up}
 use Rattle.agreement.specs.Calls.{is_open, is_accepted}
 use Rattle.agreement.specs.Worlds.{Step, World, if_same, state_of, Sending, sent_by_step, shared_at, pair_under, IsRun}
@@ -62,6 +63,31 @@ abbrev pub NoAbortOfItself : Setup → Type 0
 NoAbortOfItself setup =
     (world : World) (role : Role) (message : Message) (choice : Choice) → IsRun setup (By role (Takes message choice) ∷ world) →
     MayTake setup role (state_of setup role world) message
+
+-- a context that is left alone: each acceptance gives its identifier this pair, and no alteration that
+-- an end asks for names it
+abbrev pub LeavesAlone : ℕ → Pair → Step → Type 0
+LeavesAlone k pair (Takes message (Accepting set)) = lookup set k ≡ Some pair
+LeavesAlone k pair (Acts (Alters items)) = is_among k (identifiers items) ≡ false
+LeavesAlone k pair step = Unit {0}
+
+abbrev pub IsLeftAlone : ℕ → Pair → World → Type 0
+IsLeftAlone k pair [] = Unit {0}
+IsLeftAlone k pair (Break ∷ world) = IsLeftAlone k pair world
+IsLeftAlone k pair (By who step ∷ world) = LeavesAlone k pair step × IsLeftAlone k pair world
+
+abbrev pub IsJoined : Phase → Type 0
+IsJoined Up = Unit {0}
+IsJoined Releasing = Unit {0}
+IsJoined phase = ⊥
+
+-- contexts stay: one that is left alone, as those of the association and of transfers, has its pair in
+-- the set of each end that is up or releasing, and in the shared set
+abbrev pub ContextsStay : Setup → Type 0
+ContextsStay setup =
+    IsNotBare setup.mode → (world : World) → IsRun setup world → (k : ℕ) (pair : Pair) → IsLeftAlone k pair world → (role : Role) →
+    IsJoined (state_of setup role world).phase →
+    (lookup (state_of setup role world).sets.held k ≡ Some pair) × (lookup (shared_at setup world).set k ≡ Some pair)
 
 -- an end holds the turn where it is up and doesn't wait for a restart
 abbrev pub IsNotRestarting : Awaited → Type 0
