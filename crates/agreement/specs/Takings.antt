@@ -22,7 +22,7 @@ abbrev pub wins_against : Role → ℕ → ℕ → Bool
 wins_against role own number = nat_lt number own || (nat_eq number own && not (is_initiator role))
 
 -- while an own restart, interrupt, discard or release is unanswered, all is passed over but its
--- answer, a restart that wins, a release and an abort (X.225 7.27, 7.31, 7.33)
+-- answer, a restart that wins, a release and an abort (X.225 7.24, 7.31, 7.33)
 abbrev pub is_purged : Role → Awaited → Message → Bool
 is_purged role NoAnswer message = false
 is_purged role awaited Release = false
@@ -248,7 +248,7 @@ answer_to setup state Release choice = ReleaseAnswer ∷ []
 answer_to setup state message choice = []
 
 -- after a restart: the set of the highest mark below, the marks below, no own alteration, no open
--- invocation, the turn at the initiator (this project's own rule, within X.225 7.27)
+-- invocation, the turn at the initiator (this project's own rule, within X.225 7.24)
 abbrev pub restored : Role → ℕ → State → State
 restored role number state =
     record state {
