@@ -1,5 +1,5 @@
 -- Direct mode once an association was accepted: what an act keeps.
-use Rattle.std.proofs.Common.{◌≡◌, ℕ, ◌≤◌, Bool, true, false, ◌||◌, nat_eq, List, [], ◌∷◌, ◌++◌, refl, sym, ap, ◌∙◌, true≢false, subst, inl, inr, append_assoc}
+use Rattle.std.proofs.Common.{◌≡◌, ℕ, ◌≤◌, Bool, true, false, ◌||◌, nat_eq, List, [], ◌∷◌, ◌++◌, refl, sym, ap, ◌∙◌, true≢false, subst, inl, inr, ◌⊎◌, append_assoc}
 use Rattle.std.specs.Prelude.{Some, None}
 use Rattle.std.proofs.lemmas.Bool.{eqb-false}
 use Rattle.agreement.specs.Sets.{Role, other, Pair, ContextSet, Item, Saved, lookup, listed, below, newest, next_number, AllMayAsk, altered, deletes, some_deletes}
@@ -7,7 +7,7 @@ use Rattle.agreement.specs.Sets.Role.{Initiator, Responder}
 use Rattle.agreement.specs.Sets.Item.{Addition, Deletion}
 use Rattle.agreement.specs.Messages.{Setup, Message, Act}
 use Rattle.agreement.specs.Messages.Mode.{Direct}
-use Rattle.agreement.specs.Messages.Act.{Connects, Recovers, Says, Queues, Alters, Marks, Gives, Pleads, Restarts, Starts, Encodes, Sends, Ends, Interrupts, Discards, Resumes, Releases, Aborts}
+use Rattle.agreement.specs.Messages.Act.{Connects, Recovers, Says, Queues, Alters, Marks, Gives, Pleads, Restarts, Starts, Encodes, Sends, Ends, Interrupts, Discards, Resumes, Releases, Aborts, Withdraws}
 use Rattle.agreement.specs.Messages.Message.{Data, Alter, AlterAnswer, Mark, Restart, Give, Please, Release, UserAbort}
 use Rattle.agreement.specs.State.{State}
 use Rattle.agreement.specs.State.Phase.{Idle, Up, Releasing, Broken, Over}
@@ -18,7 +18,7 @@ use Rattle.agreement.specs.Worlds.{Sending, Shared, sendings, shared_all}
 use Rattle.agreement.proofs.Flights.{AreSound, Reads, IsUntouched, AllUntouched, rejections, rejections-fit}
 use Rattle.agreement.proofs.Flights.Entry.{AnAsk, ARelease, AQuiet}
 use Rattle.agreement.proofs.Normal.{Normal, AreAbsent, AllAbsent, said, sent_plain, asks, marked, gave}
-use Rattle.agreement.proofs.Views.{direct, entry, entries, entries-append, IsLive, IsNoRelease, AllAre, all-append, IsAbort, core, Ask, View, Shaped, Joined, extended, Free, free, sends}
+use Rattle.agreement.proofs.Views.{direct, entry, entries, entries-append, IsLive, IsNoRelease, AllAre, all-append, IsAbort, core, Ask, View, Shaped, Joined, extended, Free, free, sends, withdraws-in}
 use Rattle.agreement.proofs.Views.Ask.{NotAsking, Asks}
 use Rattle.agreement.proofs.Views.View.{Plain, Asking, Answered, Joining, Leaving, Gone}
 
@@ -243,7 +243,7 @@ acts base role x y f g shared (Alters items) h j =
     let e = h.is_settled in
     let n = asks base.most_marks role x.sets.held x.turn x.saved k.peer (entries k.before_me) (entries k.to_peer) shared.set shared.saved items
     (subst (λ (o : List (List Item)). Normal base.most_marks role (record { held = x.sets.held; own = o; turn = x.turn; saved = x.saved }) k.peer (entries k.before_me) (entries k.to_peer) shared.set shared.saved) e k.normal)
-    (sound-of_asked role x.sets.held (used x) items h.may_ask) h.once in
+    (sound-of_asked role x.sets.held (used Direct x) items h.may_ask) h.once in
     sends base.most_marks role x y (acted (direct base) x (Alters items)) f g shared.set shared.set shared.saved shared.saved k (record { message = Alter items; shared = shared.set }) h.is_free.is_up h.is_free.is_calm tt tt
     (subst (λ (o : List (List Item)). Normal base.most_marks role (record { held = x.sets.held; own = o ++ (items ∷ []); turn = x.turn; saved = x.saved }) k.peer (entries k.before_me) (entries k.to_peer ++ (AnAsk shared.set items ∷ [])) shared.set shared.saved) (sym e) n)
 acts base role x y f g shared Marks h j =
@@ -273,3 +273,8 @@ acts base role x y f g shared Releases h j =
     (free base.most_marks role x y f g shared.set shared.saved j h.is_free.is_up h.is_free.is_calm) h.initiates
 acts base role x y f g shared Aborts h j =
     aborts base.most_marks role x y (acted (direct base) x Aborts) f g shared.set shared.set shared.saved j refl
+acts base role x y f g shared Withdraws h j = absurd (go (withdraws-in role x.phase h.in_phase))
+  where
+    go : (x.phase ≡ Idle) ⊎ ((x.phase ≡ Broken) × (role ≡ Initiator)) → ⊥
+    go (inl e) = not-idle base.most_marks role x y f g shared.set shared.saved j e
+    go (inr e) = not-broken base.most_marks role x y f g shared.set shared.saved j e.0

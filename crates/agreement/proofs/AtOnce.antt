@@ -16,7 +16,7 @@ use Rattle.agreement.proofs.Views.{direct, entries, core, Ask, View, Joined, fre
 use Rattle.agreement.proofs.Views.View.{Plain, Asking, Answered, Joining, Leaving, Gone}
 use Rattle.agreement.proofs.Runs.{at-role, reached}
 use Rattle.agreement.proofs.DirectWorlds.{DirectRelation, Stage, direct-takes, direct-keeps}
-use Rattle.agreement.proofs.DirectWorlds.Stage.{Fresh, Asked, Dropped, Refused, Lost, Dead, Stands}
+use Rattle.agreement.proofs.DirectWorlds.Stage.{Fresh, Asked, Dropped, Refused, Lost, Dead, Deaf, Stands}
 use Rattle.agreement.proofs.BareWorlds.{bare, BareRelation, bare-takes, bare-keeps}
 use Rattle.agreement.proofs.Mail.{SamePair, taken-as_sent}
 
@@ -37,12 +37,12 @@ bare-given base role x y (s ∷ flight) g shared m choice i h =
     let t = bare-takes base role x y s flight g shared m choice i h.comes h.is_alive in
     record { may = t.may; pair = t.pair }
 
-direct-at : (base : Setup) (world : World) (role : Role) (m : Message) (choice : Choice) → IsRun (direct base) (By role (Takes m choice) ∷ world) → Given (direct base) role (state_of (direct base) role world) (flight_to (direct base) role world) m
+pub direct-at : (base : Setup) (world : World) (role : Role) (m : Message) (choice : Choice) → IsRun (direct base) (By role (Takes m choice) ∷ world) → Given (direct base) role (state_of (direct base) role world) (flight_to (direct base) role world) m
 direct-at base world role m choice h =
     direct-given base role (state_of (direct base) role world) (state_of (direct base) (other role) world) (flight_to (direct base) role world) (flight_to (direct base) (other role) world) (shared_at (direct base) world) m choice
     (at-role (direct base) (DirectRelation base) (direct-keeps base) role world (reached (direct base) (DirectRelation base) (direct-keeps base) world h.1)) h.0
 
-bare-at : (base : Setup) (world : World) (role : Role) (m : Message) (choice : Choice) → IsRun (bare base) (By role (Takes m choice) ∷ world) → Given (bare base) role (state_of (bare base) role world) (flight_to (bare base) role world) m
+pub bare-at : (base : Setup) (world : World) (role : Role) (m : Message) (choice : Choice) → IsRun (bare base) (By role (Takes m choice) ∷ world) → Given (bare base) role (state_of (bare base) role world) (flight_to (bare base) role world) m
 bare-at base world role m choice h =
     bare-given base role (state_of (bare base) role world) (state_of (bare base) (other role) world) (flight_to (bare base) role world) (flight_to (bare base) (other role) world) (shared_at (bare base) world) m choice
     (at-role (bare base) (BareRelation base) (bare-keeps base) role world (reached (bare base) (BareRelation base) (bare-keeps base) world h.1)) h.0
@@ -102,6 +102,7 @@ direct-stage_holder base a b f g shared (Dropped t behind p q i n d u l) h k = l
 direct-stage_holder base a b f g shared (Refused t p w q n i) h k = let e = h.1 in cc
 direct-stage_holder base a b f g shared (Lost p q n) h k = let e = h.1 in cc
 direct-stage_holder base a b f g shared (Dead p q) h k = let e = h.1 in cc
+direct-stage_holder base a b f g shared (Deaf p w q n) h k = let e = k.1 in cc
 
 pub direct-holder : (base : Setup) → OneHolder (direct base)
 direct-holder base world h =

@@ -4,7 +4,7 @@ use Rattle.std.specs.Prelude.{Some}
 use Rattle.agreement.specs.Sets.{Role, Context, lookup}
 use Rattle.agreement.specs.Messages.{Value, Setup, Message, Act, Choice}
 use Rattle.agreement.specs.Messages.Mode.{Bare}
-use Rattle.agreement.specs.Messages.Act.{Connects, Recovers, Says, Queues, Alters, Marks, Gives, Pleads, Restarts, Starts, Encodes, Sends, Ends, Interrupts, Discards, Resumes, Releases, Aborts}
+use Rattle.agreement.specs.Messages.Act.{Connects, Recovers, Says, Queues, Alters, Marks, Gives, Pleads, Restarts, Starts, Encodes, Sends, Ends, Interrupts, Discards, Resumes, Releases, Aborts, Withdraws}
 use Rattle.agreement.specs.Messages.Message.{Data}
 use Rattle.agreement.specs.State.{State}
 use Rattle.agreement.specs.State.Phase.{Idle, Up, Broken, Over}
@@ -96,6 +96,7 @@ bare-acts base role x y f g shared Discards n h = absurd (let e = h.by_transfers
 bare-acts base role x y f g shared Resumes n h = absurd (let e = h.by_transfers in cc)
 bare-acts base role x y f g shared Releases n h = absurd h.in_mode
 bare-acts base role x y f g shared Aborts n h = absurd h.in_mode
+bare-acts base role x y f g shared Withdraws n h = absurd h.in_mode
 
 pub record TookBare (base : Setup) (role : Role) (x y : State) (f g : List Sending) (shared : Shared) (s : Sending) (m : Message) (choice : Choice) : Type 0 where
   pub may : MayTake (bare base) role x m

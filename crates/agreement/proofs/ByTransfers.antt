@@ -5,7 +5,7 @@ use Rattle.agreement.specs.Sets.{Role, other, Item}
 use Rattle.agreement.specs.Sets.Role.{Initiator, Responder}
 use Rattle.agreement.specs.Messages.{Mode, Setup, Message, Act, Choice, Value}
 use Rattle.agreement.specs.Messages.Mode.{Bare, Direct, Reliable}
-use Rattle.agreement.specs.Messages.Act.{Connects, Recovers, Says, Queues, Alters, Marks, Gives, Pleads, Restarts, Starts, Encodes, Sends, Ends, Interrupts, Discards, Resumes, Releases, Aborts}
+use Rattle.agreement.specs.Messages.Act.{Connects, Recovers, Says, Queues, Alters, Marks, Gives, Pleads, Restarts, Starts, Encodes, Sends, Ends, Interrupts, Discards, Resumes, Releases, Aborts, Withdraws}
 use Rattle.agreement.specs.Messages.Choice.{Nothing, Accepting, Refusing, Results}
 use Rattle.agreement.specs.Messages.Message.{Connect, Recover, Accept, Refuse, Data, Alter, AlterAnswer, Mark, MarkAnswer, Restart, RestartAnswer, Start, Resume, Chunk, End, EndAnswer, Interrupt, InterruptAnswer, Discard, DiscardAnswer, Give, GiveAnswer, Please, Release, ReleaseAnswer, UserAbort}
 use Rattle.agreement.specs.State.{Phase, State, new_end}
@@ -24,7 +24,7 @@ use Rattle.agreement.proofs.Standing.{reliable, Flowing}
 use Rattle.agreement.proofs.Standing.Flowing.{Leads, Follows, Gives_away, Is_given}
 use Rattle.agreement.proofs.StandingActs.{is-seen}
 use Rattle.agreement.proofs.ReliableWorlds.{ReliableRelation, Stage, reliable-takes, reliable-keeps}
-use Rattle.agreement.proofs.ReliableWorlds.Stage.{Fresh, Asked, Dropped, Refused, Lost, Dead, Stands, Apart, Recalling, Hanging, Denied, LeftB, LeftA}
+use Rattle.agreement.proofs.ReliableWorlds.Stage.{Fresh, Asked, Dropped, Refused, Lost, Dead, Stands, Apart, Recalling, Hanging, Denied, LeftB, LeftA, Deaf}
 use Rattle.agreement.proofs.Mail.{taken-as_sent, by-mode}
 use Rattle.agreement.proofs.AtOnce.{bare-as_sent, direct-as_sent, bare-no_abort, direct-no_abort, bare-holder, direct-holder, Given}
 
@@ -71,6 +71,7 @@ stage-holder base a b f g shared (Hanging s behind was p q v r n d i l) h k = le
 stage-holder base a b f g shared (Denied s p q w v r n i d) h k = let e = h.1 in cc
 stage-holder base a b f g shared (LeftB p q v l) h k = let e = h.1 in cc
 stage-holder base a b f g shared (LeftA p w q n) h k = let e = k.1 in cc
+stage-holder base a b f g shared (Deaf p w q n) h k = let e = k.1 in cc
 
 reliable-holder : (base : Setup) → OneHolder (reliable base)
 reliable-holder base world h =
@@ -125,6 +126,7 @@ acts-leading setup x Discards n h = h
 acts-leading setup x Resumes n h = h
 acts-leading setup x Releases n h = λ e. absurd (cc)
 acts-leading setup x Aborts n h = λ e. absurd (cc)
+acts-leading setup x Withdraws n h = λ e. absurd (cc)
 
 refusing-up : (p : Phase) → refusing p ≡ Up → ⊥
 refusing-up Broken e = cc

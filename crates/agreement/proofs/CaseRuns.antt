@@ -1,5 +1,5 @@
 -- The worked cases are runs.
-use Rattle.std.proofs.Common.{◌≡◌, ℕ, true, false, List, [], ◌∷◌, ◌++◌, refl, sym, ap, ◌∙◌, arith, true≢false}
+use Rattle.std.proofs.Common.{◌≡◌, ℕ, ◌≤◌, true, false, List, [], ◌∷◌, ◌++◌, refl, sym, ap, ◌∙◌, arith, true≢false}
 use Rattle.std.specs.Prelude.{Some, None, Contains}
 use Rattle.agreement.specs.Sets.{Pair}
 use Rattle.agreement.specs.Messages.{Apdu}
@@ -54,6 +54,16 @@ ending-suspended e = cc
 
 first-offer : (p : Pair) → Contains (p ∷ []) p
 first-offer p = (0, omega arith, refl)
+
+-- within the limits
+two_marks : 2 ≤ 4096
+two_marks = omega arith
+
+five_octets : 5 ≤ 262400
+five_octets = omega arith
+
+six_octets : 6 ≤ 262400
+six_octets = omega arith
 
 -- what is left of the octets: nothing, the third part, or the second and the third
 rest-none : (x y : List ℕ) → x ++ [] ≡ y → (rest : List ℕ) × (x ++ rest ≡ y)
@@ -124,11 +134,11 @@ run-resumed_from_mark f = (
               (
                 record { by_transfers = refl; leads = record { is_free = record { is_up = refl; is_calm = refl }; has_turn = refl; is_settled = refl }; is_whole = (refl, refl) },
                 (
-                  record { by_transfers = refl; leads = record { is_free = record { is_up = refl; is_calm = refl }; has_turn = refl; is_settled = refl }; is_next = (refl, ([], refl)) },
+                  record { by_transfers = refl; leads = record { is_free = record { is_up = refl; is_calm = refl }; has_turn = refl; is_settled = refl }; is_next = (refl, ([], refl)); is_within = six_octets },
                   (
-                    record { leads = record { is_free = record { is_up = refl; is_calm = refl }; has_turn = refl; is_settled = refl }; in_mode = (refl, tt) },
+                    record { leads = record { is_free = record { is_up = refl; is_calm = refl }; has_turn = refl; is_settled = refl }; in_mode = ((refl, tt), two_marks) },
                     (
-                      record { by_transfers = refl; leads = record { is_free = record { is_up = refl; is_calm = refl }; has_turn = refl; is_settled = refl }; is_next = (refl, (5 ∷ [], refl)) },
+                      record { by_transfers = refl; leads = record { is_free = record { is_up = refl; is_calm = refl }; has_turn = refl; is_settled = refl }; is_next = (refl, (5 ∷ [], refl)); is_within = five_octets },
                       (
                         record { by_transfers = refl; leads = record { is_free = record { is_up = refl; is_calm = refl }; has_turn = refl; is_settled = refl }; rests = refl },
                         (
@@ -142,11 +152,11 @@ run-resumed_from_mark f = (
                                 (
                                   record { by_transfers = refl; leads = record { is_free = record { is_up = refl; is_calm = refl }; has_turn = refl; is_settled = refl }; is_whole = (refl, refl) },
                                   (
-                                    record { by_transfers = refl; leads = record { is_free = record { is_up = refl; is_calm = refl }; has_turn = refl; is_settled = refl }; is_next = (refl, ([], refl)) },
+                                    record { by_transfers = refl; leads = record { is_free = record { is_up = refl; is_calm = refl }; has_turn = refl; is_settled = refl }; is_next = (refl, ([], refl)); is_within = six_octets },
                                     (
-                                      record { leads = record { is_free = record { is_up = refl; is_calm = refl }; has_turn = refl; is_settled = refl }; in_mode = (refl, tt) },
+                                      record { leads = record { is_free = record { is_up = refl; is_calm = refl }; has_turn = refl; is_settled = refl }; in_mode = ((refl, tt), two_marks) },
                                       (
-                                        record { by_transfers = refl; leads = record { is_free = record { is_up = refl; is_calm = refl }; has_turn = refl; is_settled = refl }; is_next = (refl, (5 ∷ [], refl)) },
+                                        record { by_transfers = refl; leads = record { is_free = record { is_up = refl; is_calm = refl }; has_turn = refl; is_settled = refl }; is_next = (refl, (5 ∷ [], refl)); is_within = five_octets },
                                         (
                                           record { comes = refl; is_alive = up-alive; is_kept = refl; is_choice = tt },
                                           run-begun f,
@@ -184,7 +194,7 @@ run-resumed_from_nothing f = (
         (
           record { by_transfers = refl; leads = record { is_free = record { is_up = refl; is_calm = refl }; has_turn = refl; is_settled = refl }; is_whole = (refl, refl) },
           (
-            record { by_transfers = refl; leads = record { is_free = record { is_up = refl; is_calm = refl }; has_turn = refl; is_settled = refl }; is_next = (refl, ([], refl)) },
+            record { by_transfers = refl; leads = record { is_free = record { is_up = refl; is_calm = refl }; has_turn = refl; is_settled = refl }; is_next = (refl, ([], refl)); is_within = six_octets },
             (
               record { by_transfers = refl; leads = record { is_free = record { is_up = refl; is_calm = refl }; has_turn = refl; is_settled = refl }; is_due = (refl, refl); is_there = not-none _ },
               (
@@ -223,7 +233,7 @@ run-completed_resumed f = (
         (
           record { by_transfers = refl; leads = record { is_free = record { is_up = refl; is_calm = refl }; has_turn = refl; is_settled = refl }; is_whole = (refl, refl) },
           (
-            record { by_transfers = refl; leads = record { is_free = record { is_up = refl; is_calm = refl }; has_turn = refl; is_settled = refl }; is_next = (refl, ([], refl)) },
+            record { by_transfers = refl; leads = record { is_free = record { is_up = refl; is_calm = refl }; has_turn = refl; is_settled = refl }; is_next = (refl, ([], refl)); is_within = six_octets },
             (
               record { by_transfers = refl; leads = record { is_free = record { is_up = refl; is_calm = refl }; has_turn = refl; is_settled = refl }; rests = refl },
               (
@@ -243,9 +253,9 @@ run-completed_resumed f = (
                             (
                               record { by_transfers = refl; leads = record { is_free = record { is_up = refl; is_calm = refl }; has_turn = refl; is_settled = refl }; is_whole = (refl, refl) },
                               (
-                                record { by_transfers = refl; leads = record { is_free = record { is_up = refl; is_calm = refl }; has_turn = refl; is_settled = refl }; is_next = (refl, ([], refl)) },
+                                record { by_transfers = refl; leads = record { is_free = record { is_up = refl; is_calm = refl }; has_turn = refl; is_settled = refl }; is_next = (refl, ([], refl)); is_within = six_octets },
                                 (
-                                  record { by_transfers = refl; leads = record { is_free = record { is_up = refl; is_calm = refl }; has_turn = refl; is_settled = refl }; is_next = (refl, (5 ∷ [], refl)) },
+                                  record { by_transfers = refl; leads = record { is_free = record { is_up = refl; is_calm = refl }; has_turn = refl; is_settled = refl }; is_next = (refl, (5 ∷ [], refl)); is_within = five_octets },
                                   (
                                     record { comes = refl; is_alive = up-alive; is_kept = refl; is_choice = tt },
                                     run-begun f,

@@ -4,13 +4,13 @@ use Rattle.agreement.specs.Sets.{Role, other, ContextSet, Saved}
 use Rattle.agreement.specs.Sets.Role.{Initiator, Responder}
 use Rattle.agreement.specs.Messages.{Setup, Message, Act, Choice}
 use Rattle.agreement.specs.Messages.Mode.{Direct}
-use Rattle.agreement.specs.Messages.Act.{Connects, Recovers, Says, Queues, Alters, Marks, Gives, Pleads, Restarts, Starts, Encodes, Sends, Ends, Interrupts, Discards, Resumes, Releases, Aborts}
+use Rattle.agreement.specs.Messages.Act.{Connects, Recovers, Says, Queues, Alters, Marks, Gives, Pleads, Restarts, Starts, Encodes, Sends, Ends, Interrupts, Discards, Resumes, Releases, Aborts, Withdraws}
 use Rattle.agreement.specs.Messages.Choice.{Nothing, Accepting, Refusing, Results}
 use Rattle.agreement.specs.Messages.Message.{Connect, Accept, Refuse, UserAbort}
 use Rattle.agreement.specs.State.{State, joined_with, new_end}
 use Rattle.agreement.specs.State.Phase.{Idle, Opening, Up, Broken, Over}
 use Rattle.agreement.specs.State.Awaited.{NoAnswer}
-use Rattle.agreement.specs.Acts.{MayAct, MayAbortIn, acted, sent_by}
+use Rattle.agreement.specs.Acts.{MayAct, MayAbortIn, MayWithdrawIn, acted, sent_by}
 use Rattle.agreement.specs.Takings.{is_purged, MayTake, IsChoice, IsUnjoined, IsBack, answer_to, taken, broken, broken_phase, refusing}
 use Rattle.agreement.specs.Worlds.{Sending, Shared, sendings, shared_all, shared_answered, pair_under}
 use Rattle.agreement.proofs.Normal.{Normal, begun, swapped}
@@ -30,6 +30,7 @@ pub data Stage (most : ℕ) (a b : State) (f g : List Sending) (shared : Shared)
   Refused : (s : Sending) → a.phase ≡ Opening → a.awaits ≡ NoAnswer → b.phase ≡ Over → f ≡ s ∷ [] → s.message ≡ Refuse → Stage most a b f g shared
   Lost : a.phase ≡ Over → b.phase ≡ Idle → g ≡ [] → Stage most a b f g shared
   Dead : a.phase ≡ Over → b.phase ≡ Over → Stage most a b f g shared
+  Deaf : (a.phase ≡ Idle) ⊎ (a.phase ≡ Opening) → a.awaits ≡ NoAnswer → b.phase ≡ Over → f ≡ [] → Stage most a b f g shared
   Stands : Joined most Initiator a b f g shared.set shared.saved → Stage most a b f g shared
 
 abbrev pub DirectRelation : Setup → Relation
@@ -56,12 +57,14 @@ over-still setup role x Discards h e = let d = h.is_free.is_up in cc
 over-still setup role x Resumes h e = let d = h.leads.is_free.is_up in cc
 over-still setup role x Releases h e = let d = h.is_free.is_up in cc
 over-still setup role x Aborts h e = subst MayAbortIn e h.in_phase
+over-still setup role x Withdraws h e = subst (MayWithdrawIn role) e h.in_phase
 
--- the phase of who may act otherwise than by opening, recovering or aborting
+-- the phase of who may act otherwise than by opening, recovering, aborting or withdrawing
 pub data Acting (role : Role) (x : State) : Act → Type 0 where
   ByConnecting : role ≡ Initiator → x.phase ≡ Idle → Acting role x Connects
   ByRecovering : role ≡ Initiator → x.phase ≡ Broken → Acting role x Recovers
   ByAborting : MayAbortIn x.phase → Acting role x Aborts
+  ByWithdrawing : MayWithdrawIn role x.phase → Acting role x Withdraws
   WhileUp : {act : Act} → x.phase ≡ Up → Acting role x act
 
 pub acting : (setup : Setup) (role : Role) (x : State) (act : Act) → MayAct setup role x act → Acting role x act
@@ -83,6 +86,7 @@ acting setup role x Discards h = WhileUp h.is_free.is_up
 acting setup role x Resumes h = WhileUp h.leads.is_free.is_up
 acting setup role x Releases h = WhileUp h.is_free.is_up
 acting setup role x Aborts h = ByAborting h.in_phase
+acting setup role x Withdraws h = ByWithdrawing h.in_phase
 
 After : (base : Setup) (role : Role) (x y : State) (f g : List Sending) (shared : Shared) (act : Act) → Type 0
 After base role x y f g shared act = DirectRelation base role (acted (direct base) x act) y f (g ++ sendings shared.set (sent_by (direct base) x act)) (shared_all Direct role (sent_by (direct base) x act) shared)
@@ -97,6 +101,7 @@ initiator-acts base a b f g shared act (Fresh p q e d c k) h = go act (acting (d
         Asked (record { message = Connect; shared = shared.set }) refl c q k e (ap (λ xs. xs ++ (record { message = Connect; shared = shared.set } ∷ [])) d) refl
     go Recovers (ByRecovering r i) = absurd (cc)
     go Aborts (ByAborting i) = absurd (subst MayAbortIn p i)
+    go Withdraws (ByWithdrawing i) = Lost refl q (ap (λ xs. xs ++ []) d)
     go act (WhileUp i) = absurd (cc)
 initiator-acts base a b f g shared act (Asked s p k q c e d i) h = go act (acting (direct base) Initiator a act h)
   where
@@ -105,6 +110,7 @@ initiator-acts base a b f g shared act (Asked s p k q c e d i) h = go act (actin
     go Recovers (ByRecovering r j) = absurd (cc)
     go Aborts (ByAborting j) =
         Dropped s (record { message = UserAbort; shared = shared.set } ∷ []) refl q c e (ap (λ xs. xs ++ (record { message = UserAbort; shared = shared.set } ∷ [])) d) i (tt, tt)
+    go Withdraws (ByWithdrawing j) = absurd (subst (MayWithdrawIn Initiator) p j)
     go act (WhileUp j) = absurd (cc)
 initiator-acts base a b f g shared act (Refused s p k q e i) h = go act (acting (direct base) Initiator a act h)
   where
@@ -112,29 +118,53 @@ initiator-acts base a b f g shared act (Refused s p k q e i) h = go act (acting 
     go Connects (ByConnecting r j) = absurd (cc)
     go Recovers (ByRecovering r j) = absurd (cc)
     go Aborts (ByAborting j) = Dead refl q
+    go Withdraws (ByWithdrawing j) = absurd (subst (MayWithdrawIn Initiator) p j)
+    go act (WhileUp j) = absurd (cc)
+initiator-acts base a b f g shared act (Deaf (inl p) c q e) h = go act (acting (direct base) Initiator a act h)
+  where
+    go : (act : Act) → Acting Initiator a act → After base Initiator a b f g shared act
+    go Connects (ByConnecting r j) = Deaf (inr refl) c q e
+    go Recovers (ByRecovering r j) = absurd (cc)
+    go Aborts (ByAborting j) = absurd (subst MayAbortIn p j)
+    go Withdraws (ByWithdrawing j) = Dead refl q
+    go act (WhileUp j) = absurd (cc)
+initiator-acts base a b f g shared act (Deaf (inr p) c q e) h = go act (acting (direct base) Initiator a act h)
+  where
+    go : (act : Act) → Acting Initiator a act → After base Initiator a b f g shared act
+    go Connects (ByConnecting r j) = absurd (cc)
+    go Recovers (ByRecovering r j) = absurd (cc)
+    go Aborts (ByAborting j) = Dead refl q
+    go Withdraws (ByWithdrawing j) = absurd (subst (MayWithdrawIn Initiator) p j)
     go act (WhileUp j) = absurd (cc)
 initiator-acts base a b f g shared act (Dropped s behind p q c e d i l) h = absurd (over-still (direct base) Initiator a act h p)
 initiator-acts base a b f g shared act (Lost p q e) h = absurd (over-still (direct base) Initiator a act h p)
 initiator-acts base a b f g shared act (Dead p q) h = absurd (over-still (direct base) Initiator a act h p)
 
-pub idle-still : (setup : Setup) (x : State) (act : Act) → MayAct setup Responder x act → x.phase ≡ Idle → ⊥
-idle-still setup x act h e = go act (acting setup Responder x act h)
+-- a responder that is idle can only withdraw
+pub idle-withdraws : (setup : Setup) (x : State) (act : Act) → MayAct setup Responder x act → x.phase ≡ Idle → Withdraws ≡ act
+idle-withdraws setup x act h e = go act (acting setup Responder x act h)
   where
-    go : (act : Act) → Acting Responder x act → ⊥
-    go Connects (ByConnecting r j) = cc
-    go Recovers (ByRecovering r j) = cc
-    go Aborts (ByAborting j) = subst MayAbortIn e j
-    go act (WhileUp j) = cc
+    go : (act : Act) → Acting Responder x act → Withdraws ≡ act
+    go Connects (ByConnecting r j) = absurd (cc)
+    go Recovers (ByRecovering r j) = absurd (cc)
+    go Aborts (ByAborting j) = absurd (subst MayAbortIn e j)
+    go Withdraws (ByWithdrawing j) = refl
+    go act (WhileUp j) = absurd (cc)
 
 responder-acts : (base : Setup) (a b : State) (f g : List Sending) (shared : Shared) (act : Act) → Stage base.most_marks a b f g shared → MayAct (direct base) Responder b act → After base Responder b a g f shared act
 unfolding After
 responder-acts base a b f g shared act (Stands j) h =
     Stands (swap_joined base.most_marks Responder _ _ _ _ _ _ (acts base Responder b a g f shared act h (swap_joined base.most_marks Initiator a b f g shared.set shared.saved j)))
-responder-acts base a b f g shared act (Fresh p q e d c k) h = absurd (idle-still (direct base) b act h q)
-responder-acts base a b f g shared act (Asked s p k q c e d i) h = absurd (idle-still (direct base) b act h q)
-responder-acts base a b f g shared act (Dropped s behind p q c e d i l) h = absurd (idle-still (direct base) b act h q)
+responder-acts base a b f g shared act (Fresh p q e d c k) h =
+    subst (After base Responder b a g f shared) (idle-withdraws (direct base) b act h q) (Deaf (inl p) c refl (ap (λ xs. xs ++ []) e))
+responder-acts base a b f g shared act (Asked s p k q c e d i) h =
+    subst (After base Responder b a g f shared) (idle-withdraws (direct base) b act h q) (Deaf (inr p) k refl (ap (λ xs. xs ++ []) e))
+responder-acts base a b f g shared act (Dropped s behind p q c e d i l) h =
+    subst (After base Responder b a g f shared) (idle-withdraws (direct base) b act h q) (Dead p refl)
 responder-acts base a b f g shared act (Refused s p k q e i) h = absurd (over-still (direct base) Responder b act h q)
-responder-acts base a b f g shared act (Lost p q e) h = absurd (idle-still (direct base) b act h q)
+responder-acts base a b f g shared act (Lost p q e) h =
+    subst (After base Responder b a g f shared) (idle-withdraws (direct base) b act h q) (Dead p refl)
+responder-acts base a b f g shared act (Deaf p c q e) h = absurd (over-still (direct base) Responder b act h q)
 responder-acts base a b f g shared act (Dead p q) h = absurd (over-still (direct base) Responder b act h q)
 
 -- what a taking gives
@@ -157,6 +187,7 @@ initiator-takes base a b s f g shared m choice (Refused t p k q n i) e alive kep
     (record { may = record { initiates = refl; asked = subst IsBack (sym p) tt }; pair = refl; next = Dead refl q })
 initiator-takes base a b s f g shared m choice (Lost p q n) e alive kept c = absurd (alive p)
 initiator-takes base a b s f g shared m choice (Dead p q) e alive kept c = absurd (alive p)
+initiator-takes base a b s f g shared m choice (Deaf p k q n) e alive kept c = absurd (cc)
 
 abbrev acceptance_of : ContextSet → Shared → Sending
 acceptance_of set shared = record { message = Accept set; shared = shared.set }
@@ -232,6 +263,7 @@ responder-takes base a b s f g shared m choice (Dropped t behind p q i n d u l) 
 responder-takes base a b s f g shared m choice (Refused t p k q n i) e alive kept c = absurd (alive q)
 responder-takes base a b s f g shared m choice (Lost p q n) e alive kept c = absurd (cc)
 responder-takes base a b s f g shared m choice (Dead p q) e alive kept c = absurd (alive q)
+responder-takes base a b s f g shared m choice (Deaf p k q n) e alive kept c = absurd (alive q)
 
 initiator-passes : (base : Setup) (a b : State) (s : Sending) (f g : List Sending) (shared : Shared) (m : Message) → Stage base.most_marks a b (s ∷ f) g shared → s.message ≡ m → (a.phase ≡ Over) ⊎ (is_purged Initiator a.awaits m ≡ true) → Stage base.most_marks a b f g shared
 initiator-passes base a b s f g shared m (Stands j) e h = Stands (passes base Initiator a b s f g shared m e h j)
@@ -242,6 +274,7 @@ initiator-passes base a b s f g shared m (Refused t p k q n i) e (inl h) = absur
 initiator-passes base a b s f g shared m (Refused t p k q n i) e (inr h) = absurd (true≢false (sym (subst (λ w. is_purged Initiator w m ≡ true) k h)))
 initiator-passes base a b s f g shared m (Lost p q n) e h = Lost p q n
 initiator-passes base a b s f g shared m (Dead p q) e h = Dead p q
+initiator-passes base a b s f g shared m (Deaf p k q n) e h = absurd (cc)
 
 responder-passes : (base : Setup) (a b : State) (s : Sending) (f g : List Sending) (shared : Shared) (m : Message) → Stage base.most_marks a b f (s ∷ g) shared → s.message ≡ m → (b.phase ≡ Over) ⊎ (is_purged Responder b.awaits m ≡ true) → Stage base.most_marks a b f g shared
 responder-passes base a b s f g shared m (Stands j) e h =
@@ -254,6 +287,7 @@ responder-passes base a b s f g shared m (Dropped t behind p q i n d u l) e (inr
 responder-passes base a b s f g shared m (Refused t p k q n i) e h = Refused t p k q n i
 responder-passes base a b s f g shared m (Lost p q n) e h = absurd (cc)
 responder-passes base a b s f g shared m (Dead p q) e h = Dead p q
+responder-passes base a b s f g shared m (Deaf p k q n) e h = Deaf p k q n
 
 -- a break ends all, but for an end that is idle
 over-after : (most : ℕ) (role : Role) (x y : State) (f g : List Sending) (s : ContextSet) (v : List Saved) → Joined most role x y f g s v → broken_phase Direct x.phase ≡ Over
@@ -277,6 +311,8 @@ breaks base a b f g shared (Dropped t behind p q i n d u l) = Lost (ap (broken_p
 breaks base a b f g shared (Refused t p k q n i) = Dead (ap (broken_phase Direct) p) (ap (broken_phase Direct) q)
 breaks base a b f g shared (Lost p q n) = Lost (ap (broken_phase Direct) p) (ap (broken_phase Direct) q) refl
 breaks base a b f g shared (Dead p q) = Dead (ap (broken_phase Direct) p) (ap (broken_phase Direct) q)
+breaks base a b f g shared (Deaf (inl p) k q n) = Deaf (inl (ap (broken_phase Direct) p)) refl (ap (broken_phase Direct) q) refl
+breaks base a b f g shared (Deaf (inr p) k q n) = Dead (ap (broken_phase Direct) p) (ap (broken_phase Direct) q)
 
 pub direct-takes : (base : Setup) (role : Role) (x y : State) (s : Sending) (f g : List Sending) (shared : Shared) (m : Message) (choice : Choice) → DirectRelation base role x y (s ∷ f) g shared → s.message ≡ m → (x.phase ≡ Over → ⊥) → is_purged role x.awaits m ≡ false → IsChoice x m choice → Took base role x y f g shared s m choice
 direct-takes base Initiator x y s f g shared m choice h e alive kept c = initiator-takes base x y s f g shared m choice h e alive kept c

@@ -5,7 +5,7 @@ use Rattle.agreement.specs.Sets.{Role, other, Pair, ContextSet, lookup, Item}
 use Rattle.agreement.specs.Sets.Role.{Initiator, Responder}
 use Rattle.agreement.specs.Messages.{Apdu, Value, Mode, Setup, Message, Act, Choice}
 use Rattle.agreement.specs.Messages.Mode.{Bare, Direct, Reliable}
-use Rattle.agreement.specs.Messages.Act.{Connects, Recovers, Says, Queues, Alters, Marks, Gives, Pleads, Restarts, Starts, Encodes, Sends, Ends, Interrupts, Discards, Resumes, Releases, Aborts}
+use Rattle.agreement.specs.Messages.Act.{Connects, Recovers, Says, Queues, Alters, Marks, Gives, Pleads, Restarts, Starts, Encodes, Sends, Ends, Interrupts, Discards, Resumes, Releases, Aborts, Withdraws}
 use Rattle.agreement.specs.Messages.Choice.{Nothing, Accepting, Refusing, Results}
 use Rattle.agreement.specs.Messages.Message.{Connect, Recover, Accept, Refuse, Data, Alter, AlterAnswer, Mark, MarkAnswer, Restart, RestartAnswer, Start, Resume, Chunk, End, EndAnswer, Interrupt, InterruptAnswer, Discard, DiscardAnswer, Give, GiveAnswer, Please, Release, ReleaseAnswer, UserAbort}
 use Rattle.agreement.specs.State.{Phase, Awaited, Progress, Handed, Transfer, Outgoing, State, new_end}
@@ -28,13 +28,13 @@ use Rattle.agreement.proofs.Standing.Flowing.{Leads, Follows, Gives_away, Is_giv
 use Rattle.agreement.proofs.StandingActs.{is-seen, seen-outgoing}
 use Rattle.agreement.proofs.StandingSteps.{spells-value, stands-swap}
 use Rattle.agreement.proofs.ReliableWorlds.{ReliableRelation, reliable-takes, reliable-keeps}
-use Rattle.agreement.proofs.ReliableWorlds.Stage.{Fresh, Asked, Dropped, Refused, Lost, Dead, Stands, Apart, Recalling, Hanging, Denied, LeftB, LeftA}
+use Rattle.agreement.proofs.ReliableWorlds.Stage.{Fresh, Asked, Dropped, Refused, Lost, Dead, Stands, Apart, Recalling, Hanging, Denied, LeftB, LeftA, Deaf}
 
 phase-of : (x z : State) (p : Phase) → x ≡ z → z.phase ≡ p → x.phase ≡ p
 phase-of x z p e h = ap (λ (q : State). q.phase) e ∙ h
 
 -- an end of reliable mode that is up stands on a connection
-up-stands : (base : Setup) (role : Role) (x y : State) (f g : List Sending) (shared : Shared) → ReliableRelation base role x y f g shared → x.phase ≡ Up → Standing (reliable base) role x y f g shared
+pub up-stands : (base : Setup) (role : Role) (x y : State) (f g : List Sending) (shared : Shared) → ReliableRelation base role x y f g shared → x.phase ≡ Up → Standing (reliable base) role x y f g shared
 up-stands base Initiator x y f g shared (Stands j) u = j
 up-stands base Initiator x y f g shared (Fresh p q n d) u = absurd (let e = phase-of x (new_end (reliable base)) Idle p refl in cc)
 up-stands base Initiator x y f g shared (Asked s p q n d w) u = absurd (let e = phase-of x (record (new_end (reliable base)) { phase = Opening }) Opening p refl in cc)
@@ -52,6 +52,11 @@ up-stands base Initiator x y f g shared (LeftA p w q n) u = absurd (go p)
     go : (x.phase ≡ Broken) ⊎ (x.phase ≡ Recovering) → ⊥
     go (inl k) = cc
     go (inr k) = cc
+up-stands base Initiator x y f g shared (Deaf p w q n) u = absurd (go p)
+  where
+    go : (x.phase ≡ Idle) ⊎ (x.phase ≡ Opening) → ⊥
+    go (inl k) = cc
+    go (inr k) = cc
 up-stands base Responder x y f g shared (Stands j) u = stands-swap (reliable base) Initiator y x g f shared j
 up-stands base Responder x y f g shared (Fresh p q n d) u = absurd (let e = phase-of x (new_end (reliable base)) Idle q refl in cc)
 up-stands base Responder x y f g shared (Asked s p q n d w) u = absurd (let e = phase-of x (new_end (reliable base)) Idle q refl in cc)
@@ -65,6 +70,7 @@ up-stands base Responder x y f g shared (Hanging s behind was p q v r n d i l) u
 up-stands base Responder x y f g shared (Denied s p q w v r n i d) u = absurd (cc)
 up-stands base Responder x y f g shared (LeftB p q v l) u = absurd (cc)
 up-stands base Responder x y f g shared (LeftA p w q n) u = absurd (cc)
+up-stands base Responder x y f g shared (Deaf p w q n) u = absurd (cc)
 
 -- at its encoding an item's context has the pair that the shared set gives it
 encodes-shared : (base : Setup) (role : Role) (x y : State) (f g : List Sending) (shared : Shared) (context : ℕ) → ReliableRelation base role x y f g shared → MayAct (reliable base) role x (Encodes context) → shared.set ≡ x.sets.held
@@ -223,6 +229,7 @@ acts-encoded setup x shared None Resumes es k h = tt
 acts-encoded setup x shared (Some t) Resumes es k h = resumed-encoded t.value t.item.apdu t.confirmed x.outgoing.started es h
 acts-encoded setup x shared t Releases es k h = h
 acts-encoded setup x shared t Aborts es k h = h
+acts-encoded setup x shared t Withdraws es k h = h
 
 hears-encoded : (setup : Setup) (v : Option Value) (x : State) (es : List Encoding) → Encoded x.outgoing.transfer x.outgoing.started es → Encoded (hears setup v x).outgoing.transfer (hears setup v x).outgoing.started es
 hears-encoded setup None x es h = h

@@ -58,10 +58,10 @@ follows_mark setup from l lin y yc yt number down up set mid mine theirs n =
       waits = n.waits;
       after = after-more up (MarkAnswer number) (Mark number) down refl (λ x. x) n.after;
       idle = λ e. absurd (n.idle e).0;
-      pairs = paired-map l.transfer l.started y.incoming z.incoming refl (λ k p a. more-mark k number y.held p y.incoming.pieces n.runs.1 a) n.pairs;
+      pairs = paired-map l.transfer l.started y.incoming z.incoming refl (λ k p a. more-mark k number y.held p y.incoming.pieces n.runs.1.0 a) n.pairs;
       acks =
           λ e. acks-append l.started (pieces_of_transfer l.transfer) z.incoming up (MarkAnswer number ∷ [])
-          (acks-more_mark l.started number y.held (pieces_of_transfer l.transfer) y.incoming up n.runs.1 (n.acks e))
+          (acks-more_mark l.started number y.held (pieces_of_transfer l.transfer) y.incoming up n.runs.1.0 (n.acks e))
           (new z (active-part setup from l (confirmed_of l.transfer) down z (up ++ (MarkAnswer number ∷ [])) e n.waits n.runs.0 n.runs.2) self);
       others = n.others;
       rests = n.rests;

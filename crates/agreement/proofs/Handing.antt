@@ -6,7 +6,7 @@ use Rattle.agreement.specs.Sets.Role.{Initiator, Responder}
 use Rattle.agreement.specs.Messages.{Apdu, Value, Mode, Setup, Message, Act, Choice}
 use Rattle.agreement.specs.Messages.Mode.{Bare, Direct, Reliable}
 use Rattle.agreement.specs.Messages.Apdu.{Invoke, Outcome, Reject}
-use Rattle.agreement.specs.Messages.Act.{Connects, Recovers, Says, Queues, Alters, Marks, Gives, Pleads, Restarts, Starts, Encodes, Sends, Ends, Interrupts, Discards, Resumes, Releases, Aborts}
+use Rattle.agreement.specs.Messages.Act.{Connects, Recovers, Says, Queues, Alters, Marks, Gives, Pleads, Restarts, Starts, Encodes, Sends, Ends, Interrupts, Discards, Resumes, Releases, Aborts, Withdraws}
 use Rattle.agreement.specs.Messages.Choice.{Nothing, Accepting, Refusing, Results}
 use Rattle.agreement.specs.Messages.Message.{Connect, Recover, Accept, Refuse, Data, Alter, AlterAnswer, Mark, MarkAnswer, Restart, RestartAnswer, Start, Resume, Chunk, End, EndAnswer, Interrupt, InterruptAnswer, Discard, DiscardAnswer, Give, GiveAnswer, Please, Release, ReleaseAnswer, UserAbort}
 use Rattle.agreement.specs.State.{Handed, Transfer, Outgoing, Calls, State}
@@ -126,6 +126,7 @@ acts-items setup x None Resumes hs i = record { queued = i.queued; current = tt 
 acts-items setup x (Some t) Resumes hs i = record { queued = i.queued; current = i.current }
 acts-items setup x t Releases hs i = i
 acts-items setup x t Aborts hs i = i
+acts-items setup x t Withdraws hs i = i
 
 hears-items : (setup : Setup) (v : Option Value) (x : State) (hs : List Apdu) → Items hs x.outgoing → Items hs (hears setup v x).outgoing
 hears-items setup None x hs i = i
@@ -235,6 +236,7 @@ acts-said setup x Discards hs at = (tt, tt)
 acts-said setup x Resumes hs at = (tt, tt)
 acts-said setup x Releases hs at = (tt, tt)
 acts-said setup x Aborts hs at = (tt, tt)
+acts-said setup x Withdraws hs at = tt
 
 answer-said : (setup : Setup) (x : State) (m : Message) (choice : Choice) (hs : List Apdu) (at : ContextSet) → AllAre (SaidIn hs) (sendings at (answer_to setup x m choice))
 answer-said setup x Connect (Accepting set) hs at = (tt, tt)

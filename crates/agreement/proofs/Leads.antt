@@ -1,5 +1,5 @@
 -- Reliable mode: what the acts of the end that leads keep.
-use Rattle.std.proofs.Common.{◌≡◌, ℕ, zero, suc, ◌≤◌, Bool, true, false, List, [], ◌∷◌, ◌++◌, refl, sym, ap, ◌∙◌, arith, true≢false, subst, inl, inr, ap₂}
+use Rattle.std.proofs.Common.{◌≡◌, ℕ, zero, suc, ◌≤◌, length, Bool, true, false, List, [], ◌∷◌, ◌++◌, refl, sym, ap, ◌∙◌, arith, true≢false, subst, inl, inr, ap₂}
 use Rattle.std.specs.Prelude.{Option, Some, None}
 use Rattle.std.proofs.lemmas.Bool.Decides.{nat_tests}
 use Rattle.agreement.specs.Sets.{Role, ContextSet, Item, Result, Fits, altered, AreDistinct, identifiers, lookup, Saved}
@@ -141,12 +141,12 @@ none-final : (b : Bool) (A : Type 0) → b ≡ false → b ≡ true → A
 none-final b A f t = absurd (true≢false (sym t ∙ f))
 
 -- a part of the transfer is sent
-pub sends_chunk : (setup : Setup) (from : Role) (sets : Sets) (c : ℕ) (t : Transfer) (v : Value) (o : List ℕ) (lin : Incoming) (y : Follower) (yc : ℕ) (yt : Option Transfer) (down up : List Message) (set mid : ContextSet) (mine theirs : List Saved) → Flow setup from (going sets c (record t { value = Some v })) lin y yc yt down up set mid mine theirs → Flow setup from (going sets c (record t { value = Some v; pieces = Octets o ∷ t.pieces })) lin y yc yt (down ++ (Chunk o ∷ [])) up set mid mine theirs
-sends_chunk setup from sets c t v o lin y yc yt down up set mid mine theirs n =
+pub sends_chunk : (setup : Setup) (from : Role) (sets : Sets) (c : ℕ) (t : Transfer) (v : Value) (o : List ℕ) (lin : Incoming) (y : Follower) (yc : ℕ) (yt : Option Transfer) (down up : List Message) (set mid : ContextSet) (mine theirs : List Saved) → length (joined t.pieces ++ o) ≤ setup.most_octets → Flow setup from (going sets c (record t { value = Some v })) lin y yc yt down up set mid mine theirs → Flow setup from (going sets c (record t { value = Some v; pieces = Octets o ∷ t.pieces })) lin y yc yt (down ++ (Chunk o ∷ [])) up set mid mine theirs
+sends_chunk setup from sets c t v o lin y yc yt down up set mid mine theirs within n =
     record {
       runs =
           push-in setup from (Rest (going sets c (record t { value = Some v }))) (Rest (going sets c (record t { value = Some v; pieces = Octets o ∷ t.pieces }))) (Chunk o) down y up
-          (λ us z r. r.0.1) (λ us z r. (r.0.1, ((r.0.0, r.0.1, r.0.2, ap (λ (p : List Piece). Octets o ∷ p) r.0.3), r.1, r.2))) n.runs;
+          (λ us z r. r.0.1) (λ us z r. ((r.0.1, subst (λ (p : List Piece). length (joined p ++ o) ≤ setup.most_octets) (sym r.0.3) within), ((r.0.0, r.0.1, r.0.2, ap (λ (p : List Piece). Octets o ∷ p) r.0.3), r.1, r.2))) n.runs;
       asks = λ e. asks-more down (Chunk o) (unanswered_in up sets.own) refl (n.asks e);
       one = n.one;
       begins = begins-append c t.confirmed down (Chunk o ∷ []) n.begins tt;
@@ -169,15 +169,15 @@ sends_chunk setup from sets c t v o lin y yc yt down up set mid mine theirs n =
     pair (inr h) = inr h
 
 -- a mark is sent
-pub sends_mark : (setup : Setup) (from : Role) (held inter : ContextSet) (c : ℕ) (t : Transfer) (v : Value) (lin : Incoming) (y : Follower) (yc : ℕ) (yt : Option Transfer) (down up : List Message) (set mid : ContextSet) (mine theirs : List Saved) → Flow setup from (going (record { held = held; inter = inter; own = [] }) c (record t { value = Some v })) lin y yc yt down up set mid mine theirs → Flow setup from (going (record { held = held; inter = inter; own = [] }) c (record t { value = Some v; pieces = Marked (suc (highest t.pieces)) held ∷ t.pieces })) lin y yc yt (down ++ (Mark (suc (highest t.pieces)) ∷ [])) up set mid (record { number = suc (highest t.pieces); set = set } ∷ mine) theirs
-sends_mark setup from held inter c t v lin y yc yt down up set mid mine theirs n =
+pub sends_mark : (setup : Setup) (from : Role) (held inter : ContextSet) (c : ℕ) (t : Transfer) (v : Value) (lin : Incoming) (y : Follower) (yc : ℕ) (yt : Option Transfer) (down up : List Message) (set mid : ContextSet) (mine theirs : List Saved) → suc (highest t.pieces) ≤ setup.most_marks → Flow setup from (going (record { held = held; inter = inter; own = [] }) c (record t { value = Some v })) lin y yc yt down up set mid mine theirs → Flow setup from (going (record { held = held; inter = inter; own = [] }) c (record t { value = Some v; pieces = Marked (suc (highest t.pieces)) held ∷ t.pieces })) lin y yc yt (down ++ (Mark (suc (highest t.pieces)) ∷ [])) up set mid (record { number = suc (highest t.pieces); set = set } ∷ mine) theirs
+sends_mark setup from held inter c t v lin y yc yt down up set mid mine theirs within n =
     record {
       runs =
           push-in setup from (Rest l) (Rest k) (Mark m) down y up (λ us z r. r.0.1)
           (λ us z r.
           let same = ups-held Going t.confirmed (highest t.pieces) held inter us z.held (λ x. x) r.0.0 in (
             r.0.1,
-            ap (λ p. suc (highest p)) (sym r.0.3),
+            (ap (λ p. suc (highest p)) (sym r.0.3), within),
             ((ups-mark t.confirmed (highest t.pieces) held inter us z.held r.0.0, r.0.1, r.0.2, ap₂ (λ (x : ContextSet) (p : List Piece). Marked m x ∷ p) (sym same) r.0.3), r.1, r.2),
           )) n.runs;
       asks = λ e. asks-more down (Mark m) (unanswered_in up []) refl (n.asks e);

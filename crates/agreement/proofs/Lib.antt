@@ -23,6 +23,10 @@ pub mod StandingTakes
 pub mod StandingSteps
 pub mod ReliableWorlds
 pub mod ByTransfers
+pub mod Stays
+pub mod StaysWorlds
+pub mod Answered
+pub mod Interface
 pub mod CaseRuns
 pub mod Outcomes
 pub mod Arrivals

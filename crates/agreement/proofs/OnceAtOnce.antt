@@ -6,14 +6,14 @@ use Rattle.agreement.specs.Sets.Role.{Initiator, Responder}
 use Rattle.agreement.specs.Messages.{Apdu, Value, Mode, Setup, Message, Act, Choice}
 use Rattle.agreement.specs.Messages.Mode.{Bare, Direct, Reliable}
 use Rattle.agreement.specs.Messages.Apdu.{Invoke, Outcome, Reject}
-use Rattle.agreement.specs.Messages.Act.{Connects, Recovers, Says, Queues, Alters, Marks, Gives, Pleads, Restarts, Starts, Encodes, Sends, Ends, Interrupts, Discards, Resumes, Releases, Aborts}
+use Rattle.agreement.specs.Messages.Act.{Connects, Recovers, Says, Queues, Alters, Marks, Gives, Pleads, Restarts, Starts, Encodes, Sends, Ends, Interrupts, Discards, Resumes, Releases, Aborts, Withdraws}
 use Rattle.agreement.specs.Messages.Choice.{Nothing, Accepting, Refusing, Results}
 use Rattle.agreement.specs.Messages.Message.{Connect, Recover, Accept, Refuse, Data, Alter, AlterAnswer, Mark, MarkAnswer, Restart, RestartAnswer, Start, Resume, Chunk, End, EndAnswer, Interrupt, InterruptAnswer, Discard, DiscardAnswer, Give, GiveAnswer, Please, Release, ReleaseAnswer, UserAbort}
 use Rattle.agreement.specs.State.{Phase, Transfer, Calls, State}
 use Rattle.agreement.specs.State.Phase.{Idle, Opening, Up, Broken, Over}
 use Rattle.agreement.specs.Calls.{handed_in}
 use Rattle.agreement.specs.Acts.{MayAct, acted, sent_by, marked_in, gave_in}
-use Rattle.agreement.specs.Takings.{MayTake, IsUnjoined, taken, hears, handed_up, marked_from, cut_item, refusing, broken_phase, answer_to, mark_answer, give_answer}
+use Rattle.agreement.specs.Takings.{MayTake, IsUnjoined, taken, hears, handed_up, marked_from, cut_item, refusing, broken_phase, broken_calls, answer_to, mark_answer, give_answer}
 use Rattle.agreement.specs.Worlds.{Step, World, Sending, sendings, state_of, shared_at, flight_to, taken_off, sent_in, IsStep, IsRun, after}
 use Rattle.agreement.specs.Worlds.Step.{Acts, Takes, Passes}
 use Rattle.agreement.specs.Worlds.Moment.{By, Break}
@@ -155,6 +155,7 @@ acts-unmade setup role x Discards h u = u
 acts-unmade setup role x Resumes h u = u
 acts-unmade setup role x Releases h u = λ j. absurd j
 acts-unmade setup role x Aborts h u = λ j. absurd j
+acts-unmade setup role x Withdraws h u = λ j. absurd j
 
 refusing-unjoined : (p : Phase) → IsUnjoined (refusing p) → IsUnjoined p
 refusing-unjoined Broken j = tt
@@ -219,6 +220,12 @@ broken-unjoined Bare p a j = absurd j
 broken-unjoined Direct p a j = absurd j
 broken-unjoined Reliable p a j = absurd (a refl)
 
+-- a break makes no invocation
+made-broken : (m : Mode) (calls : Calls) → (broken_calls m calls).made ≡ calls.made
+made-broken Bare calls = refl
+made-broken Direct calls = refl
+made-broken Reliable calls = refl
+
 first-unmade : (m : Mode) (x : State) → x.calls.made ≡ 0 → Unmade x
 first-unmade m x e = λ j. e
 
@@ -229,7 +236,8 @@ step-unmade setup n a role world (Passes m) h u = u
 
 unmade-kept : (setup : Setup) → NoAbortOfItself setup → (setup.mode ≡ Reliable → ⊥) → (world : World) → IsRun setup world → (role : Role) → Unmade (state_of setup role world)
 unmade-kept setup n a [] h role = λ j. refl
-unmade-kept setup n a (Break ∷ world) h role = λ j. unmade-kept setup n a world h.1 role (broken-unjoined setup.mode (state_of setup role world).phase a j)
+unmade-kept setup n a (Break ∷ world) h role =
+    λ j. made-broken setup.mode (state_of setup role world).calls ∙ unmade-kept setup n a world h.1 role (broken-unjoined setup.mode (state_of setup role world).phase a j)
 unmade-kept setup n a (By Initiator step ∷ world) h Initiator = step-unmade setup n a Initiator world step h (unmade-kept setup n a world h.1 Initiator)
 unmade-kept setup n a (By Responder step ∷ world) h Responder = step-unmade setup n a Responder world step h (unmade-kept setup n a world h.1 Responder)
 unmade-kept setup n a (By Initiator step ∷ world) h Responder = unmade-kept setup n a world h.1 Responder
@@ -304,7 +312,8 @@ once-kept setup n a [] h Initiator = record { falling = tt; rising = omega arith
 once-kept setup n a [] h Responder = record { falling = tt; rising = omega arith }
 once-kept setup n a (Break ∷ world) h role =
     let o = once-kept setup n a world h.1 role in
-    record { falling = o.falling; rising = rises-top (newest_of (invoked setup role world)) (state_of setup (other role) world).calls.made (numbers_in (flight_to setup role world)) o.rising }
+    subst (Once (invoked setup role world) []) (sym (made-broken setup.mode (state_of setup (other role) world).calls))
+    (record { falling = o.falling; rising = rises-top (newest_of (invoked setup role world)) (state_of setup (other role) world).calls.made (numbers_in (flight_to setup role world)) o.rising })
 once-kept setup n a (By Initiator step ∷ world) h Initiator =
     taker-step setup (state_of setup Initiator world) (flight_to setup Initiator world) step (invoked setup Initiator world) (state_of setup Responder world).calls.made Initiator h.0
     (λ m c e. side setup Initiator (state_of setup Initiator world) m (n world Initiator m c (subst (λ s. IsRun setup (By Initiator s ∷ world)) e h))) a (once-kept setup n a world h.1 Initiator)

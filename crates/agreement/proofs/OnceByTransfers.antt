@@ -26,7 +26,7 @@ use Rattle.agreement.proofs.Standing.Sees.{Same, Joins, Leaves, Gone}
 use Rattle.agreement.proofs.Standing.Flowing.{Leads, Follows, Gives_away, Is_given}
 use Rattle.agreement.proofs.Views.{IsAbort}
 use Rattle.agreement.proofs.ReliableWorlds.{ReliableRelation, reliable-keeps}
-use Rattle.agreement.proofs.ReliableWorlds.Stage.{Fresh, Asked, Dropped, Refused, Lost, Dead, Stands, Apart, Recalling, Hanging, Denied, LeftB, LeftA}
+use Rattle.agreement.proofs.ReliableWorlds.Stage.{Fresh, Asked, Dropped, Refused, Lost, Dead, Stands, Apart, Recalling, Hanging, Denied, LeftB, LeftA, Deaf}
 use Rattle.agreement.proofs.Encoded.{EncodedIn, Encoded, encoded-kept, source-at, handed-spelled}
 use Rattle.agreement.proofs.Mail.{by-mode}
 use Rattle.agreement.proofs.Views.{direct}
@@ -198,6 +198,7 @@ opens-at base Responder x y s f g shared (Hanging t behind was p q v r n d i l) 
 opens-at base Responder x y s f g shared (Denied t p q w v r n i d) e h = absurd (cc)
 opens-at base Responder x y s f g shared (LeftB p q v l) e h = absurd (subst (λ m. IsAbort m) e l.0)
 opens-at base Responder x y s f g shared (LeftA p w q n) e h = absurd (subst IsUnjoined q h.is_unjoined)
+opens-at base Responder x y s f g shared (Deaf p w q n) e h = absurd (subst IsUnjoined q h.is_unjoined)
 
 -- the taker takes the end of an activity
 falls-under : (ns : List ℕ) (i : Incoming) (c : ℕ) → Falls ns i → i.was_handed ≡ false → i.last ≡ c → IsBehind ns c

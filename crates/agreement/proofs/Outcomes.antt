@@ -1,5 +1,5 @@
 -- One outcome for an invocation: what one end keeps.
-use Rattle.std.proofs.Common.{◌&&◌, not, ◌≡◌, ℕ, suc, ◌≤◌, Bool, true, false, ◌||◌, nat_eq, if◌then◌else◌, List, [], ◌∷◌, ◌++◌, refl, sym, ap, ◌∙◌, arith, true≢false, subst, eqb-true}
+use Rattle.std.proofs.Common.{◌&&◌, not, ◌≡◌, ℕ, suc, ◌≤◌, Bool, true, false, ◌||◌, nat_eq, if◌then◌else◌, List, [], ◌∷◌, ◌++◌, refl, sym, ap, ◌∙◌, arith, true≢false, subst, eqb-true, inl, inr}
 use Rattle.std.specs.Prelude.{Option, Some, None}
 use Rattle.std.proofs.lemmas.Bool.Decides.{nat_tests}
 use Rattle.agreement.specs.Sets.{Role, is_among, AreDistinct, Item}
@@ -7,17 +7,17 @@ use Rattle.agreement.specs.Sets.Role.{Initiator, Responder}
 use Rattle.agreement.specs.Messages.{Apdu, Value, Mode, Setup, Message, Act, Choice}
 use Rattle.agreement.specs.Messages.Mode.{Bare, Direct, Reliable}
 use Rattle.agreement.specs.Messages.Apdu.{Invoke, Outcome, Reject}
-use Rattle.agreement.specs.Messages.Act.{Connects, Recovers, Says, Queues, Alters, Marks, Gives, Pleads, Restarts, Starts, Encodes, Sends, Ends, Interrupts, Discards, Resumes, Releases, Aborts}
+use Rattle.agreement.specs.Messages.Act.{Connects, Recovers, Says, Queues, Alters, Marks, Gives, Pleads, Restarts, Starts, Encodes, Sends, Ends, Interrupts, Discards, Resumes, Releases, Aborts, Withdraws}
 use Rattle.agreement.specs.Messages.Choice.{Nothing, Accepting, Refusing, Results}
 use Rattle.agreement.specs.Messages.Message.{Connect, Recover, Accept, Refuse, Data, Alter, AlterAnswer, Mark, MarkAnswer, Restart, RestartAnswer, Start, Resume, Chunk, End, EndAnswer, Interrupt, InterruptAnswer, Discard, DiscardAnswer, Give, GiveAnswer, Please, Release, ReleaseAnswer, UserAbort}
 use Rattle.agreement.specs.State.{Invocation, Calls, Handed, Transfer, State, no_calls}
-use Rattle.agreement.specs.Calls.{is_link_allowed, is_open, close, opened, MayHandIn, handed_in, is_accepted, accepted, heard}
+use Rattle.agreement.specs.Calls.{is_link_allowed, is_open, close, opened, MayHandIn, handed_in, has_room, is_accepted, accepted, heard}
 use Rattle.agreement.specs.Acts.{MayAct, acted, marked_in, gave_in}
-use Rattle.agreement.specs.Takings.{taken, hears, between, handed_up, cut_item, marked_from}
+use Rattle.agreement.specs.Takings.{taken, hears, between, handed_up, cut_item, marked_from, broken_calls}
 use Rattle.agreement.specs.Worlds.{Step, World, Sending, state_of, IsStep, IsRun, after}
 use Rattle.agreement.specs.Worlds.Step.{Acts, Takes, Passes}
 use Rattle.agreement.specs.Worlds.Moment.{By, Break}
-use Rattle.agreement.specs.Laws.{AcceptedNamesOpen, outcome_in, told_by, told_after, told, OneOutcome}
+use Rattle.agreement.specs.Laws.{HasParent, AcceptedNamesOpen, outcome_in, told_by, told_after, told, OneOutcome}
 use Rattle.agreement.proofs.Order.{by_test}
 
 -- numbers of invocations that are no longer open, and below what was made
@@ -34,11 +34,11 @@ record Keeps_calls (ts : List ℕ) (calls : Calls) : Type 0 where
   pub closed : AllClosed ts calls.own_open calls.made
   pub made : AllMade calls.own_open calls.made
 
-close-closed : (k n : ℕ) (calls : List Invocation) → is_open k calls ≡ false → is_open k (close n calls) ≡ false
+pub close-closed : (k n : ℕ) (calls : List Invocation) → is_open k calls ≡ false → is_open k (close n calls) ≡ false
 close-closed k n [] h = refl
 close-closed k n (call ∷ calls) h = let ih = close-closed k n calls in grind (arith, nat_tests)
 
-close-gone : (n : ℕ) (calls : List Invocation) → is_open n (close n calls) ≡ false
+pub close-gone : (n : ℕ) (calls : List Invocation) → is_open n (close n calls) ≡ false
 close-gone n [] = refl
 close-gone n (call ∷ calls) = let ih = close-gone n calls in grind (arith, nat_tests)
 
@@ -165,6 +165,7 @@ acts-calls setup role ts x Discards h k = k
 acts-calls setup role ts x Resumes h k = k
 acts-calls setup role ts x Releases h k = k
 acts-calls setup role ts x Aborts h k = cuts ts x.calls k
+acts-calls setup role ts x Withdraws h k = cuts ts x.calls k
 
 cuts-item : (ts : List ℕ) (t : Option Transfer) (calls : Calls) → Keeps_calls ts calls → Keeps_calls ts (cut_item t calls)
 cuts-item ts None calls k = k
@@ -240,7 +241,12 @@ step-calls setup role ts x flight (Passes m) h k = k
 
 calls-kept : (setup : Setup) (world : World) → IsRun setup world → (role : Role) → Keeps_calls (told setup role world) (state_of setup role world).calls
 calls-kept setup [] h role = begins-calls
-calls-kept setup (Break ∷ world) h role = calls-kept setup world h.1 role
+calls-kept setup (Break ∷ world) h role = go setup.mode (calls-kept setup world h.1 role)
+  where
+    go : (m : Mode) → Keeps_calls (told setup role world) (state_of setup role world).calls → Keeps_calls (told setup role world) (broken_calls m (state_of setup role world).calls)
+    go Bare k = cuts (told setup role world) (state_of setup role world).calls k
+    go Direct k = cuts (told setup role world) (state_of setup role world).calls k
+    go Reliable k = k
 calls-kept setup (By Initiator step ∷ world) h Initiator = step-calls setup Initiator (told setup Initiator world) (state_of setup Initiator world) _ step h.0 (calls-kept setup world h.1 Initiator)
 calls-kept setup (By Responder step ∷ world) h Responder = step-calls setup Responder (told setup Responder world) (state_of setup Responder world) _ step h.0 (calls-kept setup world h.1 Responder)
 calls-kept setup (By Initiator step ∷ world) h Responder = calls-kept setup world h.1 Responder
@@ -250,23 +256,35 @@ pub one-outcome : (setup : Setup) → OneOutcome setup
 one-outcome setup world h role = (calls-kept setup world h role).distinct
 
 -- what is accepted names what is open
-link-open : (setup : Setup) (calls : List Invocation) (operation parent : ℕ) → is_link_allowed setup calls operation (Some parent) ≡ true → is_open parent calls ≡ true
+link-open : (setup : Setup) (calls : List Invocation) (operation parent : ℕ) → is_link_allowed setup calls operation (Some parent) ≡ true → HasParent setup calls operation parent
 link-open setup [] operation parent h = absurd (true≢false (sym h))
-link-open setup (call ∷ calls) operation parent h = go (link-open setup calls operation parent) (nat_eq call.number parent) h
+link-open setup (call ∷ calls) operation parent h = go (link-open setup calls operation parent) (nat_eq call.number parent) refl h
   where
-    go : (is_link_allowed setup calls operation (Some parent) ≡ true → is_open parent calls ≡ true) → (b : Bool) → (if b then setup.links call.operation operation else is_link_allowed setup calls operation (Some parent)) ≡ true → (b || is_open parent calls) ≡ true
-    go ih true h = refl
-    go ih false h = ih h
+    go : (is_link_allowed setup calls operation (Some parent) ≡ true → HasParent setup calls operation parent) → (b : Bool) → nat_eq call.number parent ≡ b → (if b then setup.links call.operation operation else is_link_allowed setup calls operation (Some parent)) ≡ true → HasParent setup (call ∷ calls) operation parent
+    go ih true e h = inl (eqb-true call.number parent e, h)
+    go ih false e h = inr (ih h)
 
 both-true : (b c : Bool) → (not b && c) ≡ true → (b ≡ false) × (c ≡ true)
 both-true true c h = absurd (true≢false (sym h))
 both-true false c h = (refl, h)
 
+right-true : (b c : Bool) → (b && c) ≡ true → c ≡ true
+right-true true c h = h
+right-true false c h = absurd (true≢false (sym h))
+
+left-true : (b c : Bool) → (b && c) ≡ true → b ≡ true
+left-true true c h = refl
+left-true false c h = h
+
 pub accepted-names_open : (setup : Setup) → AcceptedNamesOpen setup
-accepted-names_open setup calls (Invoke number operation None argument) h = (both-true (is_open number calls.peer_open) true h).0
+accepted-names_open setup calls (Invoke number operation None argument) h =
+    (both-true (is_open number calls.peer_open) (has_room setup operation calls.peer_open) (left-true _ true h)).0
 accepted-names_open setup calls (Invoke number operation (Some parent) argument) h =
-    let b = both-true (is_open number calls.peer_open) (is_link_allowed setup calls.own_open operation (Some parent)) h in
-    (b.0, link-open setup calls.own_open operation parent b.1)
+    let link = is_link_allowed setup calls.own_open operation (Some parent) in
+    let both = not (is_open number calls.peer_open) && has_room setup operation calls.peer_open in (
+      (both-true (is_open number calls.peer_open) (has_room setup operation calls.peer_open) (left-true both link h)).0,
+      link-open setup calls.own_open operation parent (right-true both link h),
+    )
 accepted-names_open setup calls (Outcome number content) h = h
 accepted-names_open setup calls (Reject number true) h = h
 accepted-names_open setup calls (Reject number false) h = absurd (true≢false (sym h))

@@ -5,21 +5,21 @@ use Rattle.agreement.specs.Sets.{Role, other, ContextSet, Saved}
 use Rattle.agreement.specs.Sets.Role.{Initiator, Responder}
 use Rattle.agreement.specs.Messages.{Setup, Message, Act, Choice}
 use Rattle.agreement.specs.Messages.Mode.{Reliable}
-use Rattle.agreement.specs.Messages.Act.{Connects, Recovers, Aborts}
+use Rattle.agreement.specs.Messages.Act.{Connects, Recovers, Aborts, Withdraws}
 use Rattle.agreement.specs.Messages.Choice.{Nothing, Accepting, Refusing, Results}
 use Rattle.agreement.specs.Messages.Message.{Connect, Recover, Accept, Refuse, Please, UserAbort}
 use Rattle.agreement.specs.State.{Phase, Transfer, Outgoing, Incoming, State, joined_with, new_end}
 use Rattle.agreement.specs.State.Phase.{Idle, Opening, Up, Broken, Recovering, Over}
 use Rattle.agreement.specs.State.Awaited.{NoAnswer}
 use Rattle.agreement.specs.State.Progress.{Suspended}
-use Rattle.agreement.specs.Acts.{MayAct, MayAbortIn, RestsOrNone, acted, sent_by, on_transfer}
+use Rattle.agreement.specs.Acts.{MayAct, MayAbortIn, MayWithdrawIn, RestsOrNone, acted, sent_by, on_transfer}
 use Rattle.agreement.specs.Takings.{is_purged, MayTake, IsChoice, IsUnjoined, IsBack, answer_to, taken, broken, broken_phase, refusing}
 use Rattle.agreement.specs.Worlds.{Sending, Shared, sendings, shared_all, shared_answered, saved_of, pair_under}
 use Rattle.agreement.proofs.Views.{IsLive, AllAre, IsAbort, nil-append}
 use Rattle.agreement.proofs.Down.{IsQuiet, AllQuiet, quiet-down}
 use Rattle.agreement.proofs.Flow.{PairedIn, SavedIn, Rest, alters_in, quiet-flat, flat-begins, flat-waits}
-use Rattle.agreement.proofs.DirectWorlds.{Acting, acting, over-still, idle-still}
-use Rattle.agreement.proofs.DirectWorlds.Acting.{ByConnecting, ByRecovering, ByAborting, WhileUp}
+use Rattle.agreement.proofs.DirectWorlds.{Acting, acting, over-still, idle-withdraws}
+use Rattle.agreement.proofs.DirectWorlds.Acting.{ByConnecting, ByRecovering, ByAborting, ByWithdrawing, WhileUp}
 use Rattle.agreement.proofs.Standing.{reliable, leader_of, follower_of, messages, FlowOf, Flowing, Sees, Standing}
 use Rattle.agreement.proofs.Standing.Flowing.{Leads, Follows, Gives_away, Is_given}
 use Rattle.agreement.proofs.Standing.Sees.{Same, Joins, Leaves, Gone}
@@ -53,6 +53,7 @@ pub data Stage (setup : Setup) (a b : State) (f g : List Sending) (shared : Shar
   Denied : (s : Sending) → a.phase ≡ Recovering → b.phase ≡ Broken → a.awaits ≡ NoAnswer → b.awaits ≡ NoAnswer → Records Initiator a b shared → f ≡ s ∷ [] → s.message ≡ Refuse → g ≡ [] → Stage setup a b f g shared
   LeftB : a.phase ≡ Over → b.phase ≡ Broken → b.awaits ≡ NoAnswer → AllAre IsAbort g → Stage setup a b f g shared
   LeftA : (a.phase ≡ Broken) ⊎ (a.phase ≡ Recovering) → a.awaits ≡ NoAnswer → b.phase ≡ Over → f ≡ [] → Stage setup a b f g shared
+  Deaf : (a.phase ≡ Idle) ⊎ (a.phase ≡ Opening) → a.awaits ≡ NoAnswer → b.phase ≡ Over → f ≡ [] → Stage setup a b f g shared
 
 abbrev pub ReliableRelation : Setup → Relation
 ReliableRelation base Initiator x y f g shared = Stage (reliable base) x y f g shared
@@ -76,6 +77,8 @@ initiator-acts base a b f g shared act (Fresh p q e d) h = go act (acting (relia
         Asked (record { message = Connect; shared = shared.set }) (ap (λ (x : State). record x { phase = Opening }) p) q e (ap (λ xs. xs ++ (record { message = Connect; shared = shared.set } ∷ [])) d) refl
     go Recovers (ByRecovering r i) = absurd (let z = idle in cc)
     go Aborts (ByAborting i) = absurd (subst MayAbortIn idle i)
+    go Withdraws (ByWithdrawing i) =
+        Lost refl (phase-of b (new_end (reliable base)) Idle q refl) (ap (λ (x : State). x.awaits) q) (ap (λ xs. xs ++ []) d)
     go act (WhileUp i) = absurd (let z = idle in cc)
 initiator-acts base a b f g shared act (Asked s p q e d m) h = go act (acting (reliable base) Initiator a act h)
   where
@@ -87,6 +90,7 @@ initiator-acts base a b f g shared act (Asked s p q e d m) h = go act (acting (r
     go Recovers (ByRecovering r j) = absurd (let z = opening in cc)
     go Aborts (ByAborting j) =
         Dropped s (record { message = UserAbort; shared = shared.set } ∷ []) (refl, ap (λ (x : State). x.outgoing) p) q e (ap (λ xs. xs ++ (record { message = UserAbort; shared = shared.set } ∷ [])) d) m (tt, tt)
+    go Withdraws (ByWithdrawing j) = absurd (subst (MayWithdrawIn Initiator) opening j)
     go act (WhileUp j) = absurd (let z = opening in cc)
 initiator-acts base a b f g shared act (Refused s p k q e i) h = go act (acting (reliable base) Initiator a act h)
   where
@@ -94,6 +98,7 @@ initiator-acts base a b f g shared act (Refused s p k q e i) h = go act (acting 
     go Connects (ByConnecting r j) = absurd (cc)
     go Recovers (ByRecovering r j) = absurd (cc)
     go Aborts (ByAborting j) = Dead refl q
+    go Withdraws (ByWithdrawing j) = absurd (subst (MayWithdrawIn Initiator) p j)
     go act (WhileUp j) = absurd (cc)
 initiator-acts base a b f g shared act (Apart p q w v r e d) h = go act (acting (reliable base) Initiator a act h)
   where
@@ -104,6 +109,7 @@ initiator-acts base a b f g shared act (Apart p q w v r e d) h = go act (acting 
         (record { rests_me = r.rests_me; rests_peer = r.rests_peer; pairs = r.pairs; others = r.others; saved_me = r.saved_me; saved_peer = r.saved_peer; inactive_me = r.inactive_me; inactive_peer = r.inactive_peer })
         e (ap (λ xs. xs ++ (record { message = Recover; shared = shared.set } ∷ [])) d) refl
     go Aborts (ByAborting j) = absurd (subst MayAbortIn p j)
+    go Withdraws (ByWithdrawing j) = LeftB refl q v (subst (λ xs. AllAre IsAbort (xs ++ [])) (sym d) tt)
     go act (WhileUp j) = absurd (cc)
 initiator-acts base a b f g shared act (Recalling s p q w v r e d m) h = go act (acting (reliable base) Initiator a act h)
   where
@@ -112,6 +118,7 @@ initiator-acts base a b f g shared act (Recalling s p q w v r e d m) h = go act 
     go Recovers (ByRecovering i j) = absurd (cc)
     go Aborts (ByAborting j) =
         Hanging s (record { message = UserAbort; shared = shared.set } ∷ []) a (refl, refl) q v r e (ap (λ xs. xs ++ (record { message = UserAbort; shared = shared.set } ∷ [])) d) m (tt, tt)
+    go Withdraws (ByWithdrawing j) = absurd (subst (MayWithdrawIn Initiator) p j)
     go act (WhileUp j) = absurd (cc)
 initiator-acts base a b f g shared act (Denied s p q w v r e m d) h = go act (acting (reliable base) Initiator a act h)
   where
@@ -119,6 +126,7 @@ initiator-acts base a b f g shared act (Denied s p q w v r e m d) h = go act (ac
     go Connects (ByConnecting i j) = absurd (cc)
     go Recovers (ByRecovering i j) = absurd (cc)
     go Aborts (ByAborting j) = LeftB refl q v (subst (λ xs. AllAre IsAbort (xs ++ (record { message = UserAbort; shared = shared.set } ∷ []))) (sym d) (tt, tt))
+    go Withdraws (ByWithdrawing j) = absurd (subst (MayWithdrawIn Initiator) p j)
     go act (WhileUp j) = absurd (cc)
 initiator-acts base a b f g shared act (LeftA p w q e) h = go act (acting (reliable base) Initiator a act h)
   where
@@ -133,7 +141,24 @@ initiator-acts base a b f g shared act (LeftA p w q e) h = go act (acting (relia
     go Connects (ByConnecting i j) = absurd (not-phase Idle j (λ x. cc) (λ x. cc))
     go Recovers (ByRecovering i j) = LeftA (inr refl) w q e
     go Aborts (ByAborting j) = Dead refl q
+    go Withdraws (ByWithdrawing j) = Dead refl q
     go act (WhileUp j) = absurd (not-phase Up j (λ x. cc) (λ x. cc))
+initiator-acts base a b f g shared act (Deaf (inl p) w q e) h = go act (acting (reliable base) Initiator a act h)
+  where
+    go : (act : Act) → Acting Initiator a act → After base Initiator a b f g shared act
+    go Connects (ByConnecting r j) = Deaf (inr refl) w q e
+    go Recovers (ByRecovering r j) = absurd (cc)
+    go Aborts (ByAborting j) = absurd (subst MayAbortIn p j)
+    go Withdraws (ByWithdrawing j) = Dead refl q
+    go act (WhileUp j) = absurd (cc)
+initiator-acts base a b f g shared act (Deaf (inr p) w q e) h = go act (acting (reliable base) Initiator a act h)
+  where
+    go : (act : Act) → Acting Initiator a act → After base Initiator a b f g shared act
+    go Connects (ByConnecting r j) = absurd (cc)
+    go Recovers (ByRecovering r j) = absurd (cc)
+    go Aborts (ByAborting j) = Dead refl q
+    go Withdraws (ByWithdrawing j) = absurd (subst (MayWithdrawIn Initiator) p j)
+    go act (WhileUp j) = absurd (cc)
 initiator-acts base a b f g shared act (Dropped s behind p q e d m l) h = absurd (over-still (reliable base) Initiator a act h p.0)
 initiator-acts base a b f g shared act (Hanging s behind was p q v r e d m l) h = absurd (over-still (reliable base) Initiator a act h p.0)
 initiator-acts base a b f g shared act (Lost p q v e) h = absurd (over-still (reliable base) Initiator a act h p)
@@ -147,16 +172,23 @@ broken-still setup x act h e = go act (acting setup Responder x act h)
     go Connects (ByConnecting r j) = cc
     go Recovers (ByRecovering r j) = cc
     go Aborts (ByAborting j) = subst MayAbortIn e j
+    go Withdraws (ByWithdrawing j) = let r = subst (MayWithdrawIn Responder) e j in cc
     go act (WhileUp j) = cc
 
 responder-acts : (base : Setup) (a b : State) (f g : List Sending) (shared : Shared) (act : Act) → Stage (reliable base) a b f g shared → MayAct (reliable base) Responder b act → After base Responder b a g f shared act
 responder-acts base a b f g shared act (Stands j) h =
     Stands (stands-swap (reliable base) Responder _ _ _ _ _ (stands-acts base Responder b a g f shared act h (stands-swap (reliable base) Initiator a b f g shared j)))
-responder-acts base a b f g shared act (Fresh p q e d) h = absurd (idle-still (reliable base) b act h (phase-of b (new_end (reliable base)) Idle q refl))
-responder-acts base a b f g shared act (Asked s p q e d m) h = absurd (idle-still (reliable base) b act h (phase-of b (new_end (reliable base)) Idle q refl))
-responder-acts base a b f g shared act (Dropped s behind p q e d m l) h = absurd (idle-still (reliable base) b act h (phase-of b (new_end (reliable base)) Idle q refl))
+responder-acts base a b f g shared act (Fresh p q e d) h =
+    subst (After base Responder b a g f shared) (idle-withdraws (reliable base) b act h (phase-of b (new_end (reliable base)) Idle q refl))
+    (Deaf (inl (phase-of a (new_end (reliable base)) Idle p refl)) (ap (λ (x : State). x.awaits) p) refl (ap (λ xs. xs ++ []) e))
+responder-acts base a b f g shared act (Asked s p q e d m) h =
+    subst (After base Responder b a g f shared) (idle-withdraws (reliable base) b act h (phase-of b (new_end (reliable base)) Idle q refl))
+    (Deaf (inr (phase-of a (record (new_end (reliable base)) { phase = Opening }) Opening p refl)) (ap (λ (x : State). x.awaits) p) refl (ap (λ xs. xs ++ []) e))
+responder-acts base a b f g shared act (Dropped s behind p q e d m l) h =
+    subst (After base Responder b a g f shared) (idle-withdraws (reliable base) b act h (phase-of b (new_end (reliable base)) Idle q refl)) (Dead p.0 refl)
 responder-acts base a b f g shared act (Refused s p k q e i) h = absurd (over-still (reliable base) Responder b act h q)
-responder-acts base a b f g shared act (Lost p q v e) h = absurd (idle-still (reliable base) b act h q)
+responder-acts base a b f g shared act (Lost p q v e) h =
+    subst (After base Responder b a g f shared) (idle-withdraws (reliable base) b act h q) (Dead p refl)
 responder-acts base a b f g shared act (Dead p q) h = absurd (over-still (reliable base) Responder b act h q)
 responder-acts base a b f g shared act (Apart p q w v r e d) h = absurd (broken-still (reliable base) b act h q)
 responder-acts base a b f g shared act (Recalling s p q w v r e d m) h = absurd (broken-still (reliable base) b act h q)
@@ -164,6 +196,7 @@ responder-acts base a b f g shared act (Hanging s behind was p q v r e d m l) h 
 responder-acts base a b f g shared act (Denied s p q w v r e m d) h = absurd (broken-still (reliable base) b act h q)
 responder-acts base a b f g shared act (LeftB p q v e) h = absurd (broken-still (reliable base) b act h q)
 responder-acts base a b f g shared act (LeftA p w q e) h = absurd (over-still (reliable base) Responder b act h q)
+responder-acts base a b f g shared act (Deaf p w q e) h = absurd (over-still (reliable base) Responder b act h q)
 
 -- a connection that begins: the initiator leads, and nothing but an abort is on its way to the responder
 begins : (base : Setup) (x y : State) (set : ContextSet) (down : List Message) (shared : Shared) → Records Initiator x y shared → AllQuiet down → FlowOf (reliable base) Initiator (joined_with Initiator set x) (joined_with Responder set y) down [] (record shared { set = set; inter = set })
@@ -237,6 +270,7 @@ initiator-takes base a b s f g shared m choice (Denied t p q w v r n i d) e aliv
     (record { may = record { initiates = refl; asked = subst IsBack (sym p) tt }; pair = refl; next = LeftB refl q v (subst (AllAre IsAbort) (sym (nil-append g ∙ d)) tt) })
 initiator-takes base a b s f g shared m choice (LeftB p q v n) e alive kept c = absurd (alive p)
 initiator-takes base a b s f g shared m choice (LeftA p w q n) e alive kept c = absurd (cc)
+initiator-takes base a b s f g shared m choice (Deaf p w q n) e alive kept c = absurd (cc)
 
 abbrev acceptance_of : ContextSet → Shared → Sending
 acceptance_of set shared = record { message = Accept set; shared = shared.set }
@@ -387,6 +421,7 @@ responder-takes base a b s f g shared m choice (LeftB p q v l) e alive kept c =
     subst (λ z. Took base Responder b a g f shared s z choice) (sym (is-abort s.message l.0) ∙ e)
     (record { may = tt; pair = refl; next = Dead p refl })
 responder-takes base a b s f g shared m choice (LeftA p w q n) e alive kept c = absurd (alive q)
+responder-takes base a b s f g shared m choice (Deaf p w q n) e alive kept c = absurd (alive q)
 
 calm-passes : (role : Role) (x : State) (m : Message) → x.awaits ≡ NoAnswer → (x.phase ≡ Over → ⊥) → (x.phase ≡ Over) ⊎ (is_purged role x.awaits m ≡ true) → ⊥
 calm-passes role x m w n (inl o) = n o
@@ -409,6 +444,7 @@ initiator-passes base a b s f g shared m (Hanging t behind was p q v r n d i l) 
 initiator-passes base a b s f g shared m (Denied t p q w v r n i d) e h = absurd (calm-passes Initiator a m w (not-over a Recovering p (λ x. cc)) h)
 initiator-passes base a b s f g shared m (LeftB p q v l) e h = LeftB p q v l
 initiator-passes base a b s f g shared m (LeftA p w q n) e h = absurd (cc)
+initiator-passes base a b s f g shared m (Deaf p w q n) e h = absurd (cc)
 
 responder-passes : (base : Setup) (a b : State) (s : Sending) (f g : List Sending) (shared : Shared) (m : Message) → Stage (reliable base) a b f (s ∷ g) shared → s.message ≡ m → (b.phase ≡ Over) ⊎ (is_purged Responder b.awaits m ≡ true) → Stage (reliable base) a b f g shared
 responder-passes base a b s f g shared m (Stands j) e h =
@@ -427,6 +463,7 @@ responder-passes base a b s f g shared m (Hanging t behind was p q v r n d i l) 
 responder-passes base a b s f g shared m (Denied t p q w v r n i d) e h = absurd (cc)
 responder-passes base a b s f g shared m (LeftB p q v l) e h = LeftB p q v l.1
 responder-passes base a b s f g shared m (LeftA p w q n) e h = LeftA p w q n
+responder-passes base a b s f g shared m (Deaf p w q n) e h = Deaf p w q n
 
 -- a break: transfers are suspended, and the records stay
 abbrev suspend : Outgoing → Outgoing
@@ -531,6 +568,8 @@ breaks base a b f g shared (Recalling t p q w v r n d i) = Apart (ap (broken_pha
 breaks base a b f g shared (Hanging t behind was p q v r n d i l) = LeftB (ap (broken_phase Reliable) p.0) (ap (broken_phase Reliable) q) refl tt
 breaks base a b f g shared (Denied t p q w v r n i d) = Apart (ap (broken_phase Reliable) p) (ap (broken_phase Reliable) q) refl refl (again base a b shared r) refl refl
 breaks base a b f g shared (LeftB p q v l) = LeftB (ap (broken_phase Reliable) p) (ap (broken_phase Reliable) q) refl tt
+breaks base a b f g shared (Deaf (inl p) w q n) = Deaf (inl (ap (broken_phase Reliable) p)) refl (ap (broken_phase Reliable) q) refl
+breaks base a b f g shared (Deaf (inr p) w q n) = Dead (ap (broken_phase Reliable) p) (ap (broken_phase Reliable) q)
 breaks base a b f g shared (LeftA p w q n) = LeftA (inl (go p)) refl (ap (broken_phase Reliable) q) refl
   where
     go : (a.phase ≡ Broken) ⊎ (a.phase ≡ Recovering) → broken_phase Reliable a.phase ≡ Broken

@@ -7,13 +7,13 @@ use Rattle.agreement.specs.Sets.Item.{Addition, Deletion}
 use Rattle.std.proofs.lemmas.Bool.{eqb-false}
 use Rattle.agreement.specs.Messages.{Value, Setup, Message, Act}
 use Rattle.agreement.specs.Messages.Mode.{Reliable}
-use Rattle.agreement.specs.Messages.Act.{Connects, Recovers, Says, Queues, Alters, Marks, Gives, Pleads, Restarts, Starts, Encodes, Sends, Ends, Interrupts, Discards, Resumes, Releases, Aborts}
+use Rattle.agreement.specs.Messages.Act.{Connects, Recovers, Says, Queues, Alters, Marks, Gives, Pleads, Restarts, Starts, Encodes, Sends, Ends, Interrupts, Discards, Resumes, Releases, Aborts, Withdraws}
 use Rattle.agreement.specs.Messages.Message.{Accept, Alter, Give, GiveAnswer, Please, Release, UserAbort}
 use Rattle.agreement.specs.State.{Awaited, Progress, Handed, Transfer, Incoming, State, up_to, highest, joined, joined_with}
 use Rattle.agreement.specs.State.Phase.{Up, Releasing, Over}
 use Rattle.agreement.specs.State.Awaited.{NoAnswer, ReleaseOf}
 use Rattle.agreement.specs.State.Progress.{Running, Ending, Suspended}
-use Rattle.agreement.specs.Acts.{MayAct, acted, sent_by, RestsOrNone, IsNotEnding, OnEncoded, value_on, used}
+use Rattle.agreement.specs.Acts.{MayAct, acted, sent_by, RestsOrNone, IsNotEnding, MayWithdrawIn, OnEncoded, value_on, used}
 use Rattle.agreement.specs.Takings.{IsBack}
 use Rattle.agreement.specs.Worlds.{Sending, Shared, saved_of, saving, shared_all}
 use Rattle.agreement.proofs.Flights.{AreSound, IsUntouched}
@@ -145,11 +145,11 @@ sound-asked role held used [] m = tt
 sound-asked role held used (Addition k o ∷ items) m = (m.0, sound-asked role held used items m.1)
 sound-asked role held used (Deletion k ∷ items) m = (m.0.0, sound-asked role held used items m.1)
 
-keeps-value : (x : State) (role : Role) (t : Option Transfer) (items : List Item) → AllMayAsk role x.sets.held (used (state_with x NoAnswer [] t)) items → RunsValue NoAnswer t (record x.sets { own = [] }) → RunsValue NoAnswer t (record x.sets { own = items ∷ [] })
+keeps-value : (x : State) (role : Role) (t : Option Transfer) (items : List Item) → AllMayAsk role x.sets.held (used Reliable (state_with x NoAnswer [] t)) items → RunsValue NoAnswer t (record x.sets { own = [] }) → RunsValue NoAnswer t (record x.sets { own = items ∷ [] })
 keeps-value x role None items a v = tt
 keeps-value x role (Some t) items a v = go t.progress t.value a v
   where
-    go : (p : Progress) (value : Option Value) → AllMayAsk role x.sets.held (used (state_with x NoAnswer [] (Some (record t { value = value })))) items → ValueIn p value (record x.sets { own = [] }) → ValueIn p value (record x.sets { own = items ∷ [] })
+    go : (p : Progress) (value : Option Value) → AllMayAsk role x.sets.held (used Reliable (state_with x NoAnswer [] (Some (record t { value = value; progress = p })))) items → ValueIn p value (record x.sets { own = [] }) → ValueIn p value (record x.sets { own = items ∷ [] })
     go Running None a v = tt
     go Running (Some w) a v = (v.0, (used-head w.identifier _ items role x.sets.held w.pair v.0 a, tt))
     go Ending value a v = tt
@@ -267,19 +267,19 @@ lead-acts base role x y t down up shared (Queues context apdu) o p h n r a =
 lead-acts base role x y t down up shared (Alters items) o p h n r a =
     Leads (record { up = o.up; turn = o.turn; gave = o.gave }) p
     (alters (reliable base) role x.sets.held x.sets.inter x.outgoing.started t items x.incoming (follower_of y) y.outgoing.started y.outgoing.transfer down up shared.set shared.inter (saved_of role shared) (saved_of (other role) shared)
-    (not-ending t h.in_mode.1) (sound-asked role x.sets.held (used (state_with x NoAnswer [] t)) items h.may_ask) h.once (keeps-value x role t items h.may_ask n.value) n)
-lead-acts base role x y None down up shared Marks o p h n r a = absurd h.in_mode
-lead-acts base role x y (Some t) down up shared Marks o p h n r a = by_value t.value h.in_mode.1 n
+    (not-ending t h.in_mode.1) (sound-asked role x.sets.held (used Reliable (state_with x NoAnswer [] t)) items h.may_ask) h.once (keeps-value x role t items h.may_ask n.value) n)
+lead-acts base role x y None down up shared Marks o p h n r a = absurd h.in_mode.0
+lead-acts base role x y (Some t) down up shared Marks o p h n r a = by_value t.value h.in_mode.0.1 n
   where
     runs : (v : Value) → FlowOf (reliable base) role (state_with x NoAnswer [] (put t (Some v) Running)) y down up shared → After base role (state_with x NoAnswer [] (put t (Some v) Running)) y down up shared Marks
     runs v n =
         Leads (record { up = o.up; turn = o.turn; gave = o.gave }) p
         (saves (reliable base) role _ _ _ _ _ _ _ shared.set shared.inter (record { number = suc (highest t.pieces); set = shared.set } ∷ saved_of role shared) shared
-        (sends_mark (reliable base) role x.sets.held x.sets.inter x.outgoing.started t v x.incoming (follower_of y) y.outgoing.started y.outgoing.transfer down up shared.set shared.inter (saved_of role shared) (saved_of (other role) shared) n))
+        (sends_mark (reliable base) role x.sets.held x.sets.inter x.outgoing.started t v x.incoming (follower_of y) y.outgoing.started y.outgoing.transfer down up shared.set shared.inter (saved_of role shared) (saved_of (other role) shared) h.in_mode.1 n))
 
     by_value : (value : Option Value) → OnEncoded (λ sent all. Unit {0}) base.codec t.pieces value → FlowOf (reliable base) role (state_with x NoAnswer [] (put t value t.progress)) y down up shared → After base role (state_with x NoAnswer [] (put t value t.progress)) y down up shared Marks
     by_value None b n = absurd b
-    by_value (Some v) b n = subst (λ q. FlowOf (reliable base) role (state_with x NoAnswer [] (put t (Some v) q)) y down up shared → After base role (state_with x NoAnswer [] (put t (Some v) q)) y down up shared Marks) (sym h.in_mode.0) (runs v) n
+    by_value (Some v) b n = subst (λ q. FlowOf (reliable base) role (state_with x NoAnswer [] (put t (Some v) q)) y down up shared → After base role (state_with x NoAnswer [] (put t (Some v) q)) y down up shared Marks) (sym h.in_mode.0.0) (runs v) n
 lead-acts base role x y t down up shared Gives o p h n r a = Gives_away (gives-away base role x y t down up shared o p h.in_mode n)
 lead-acts base role x y t down up shared (Pleads priority) o p h n r a = absurd (true≢false (sym o.turn ∙ h.lacks_turn))
 lead-acts base role x y t down up shared (Restarts number) o p h n r a = absurd (let e = h.is_direct in cc)
@@ -295,7 +295,7 @@ lead-acts base role x y (Some t) down up shared (Sends octets) o p h n r a = by_
     runs : (v : Value) → FlowOf (reliable base) role (state_with x NoAnswer [] (put t (Some v) Running)) y down up shared → After base role (state_with x NoAnswer [] (put t (Some v) Running)) y down up shared (Sends octets)
     runs v n =
         Leads (record { up = o.up; turn = o.turn; gave = o.gave }) p
-        (sends_chunk (reliable base) role (record x.sets { own = [] }) x.outgoing.started t v octets x.incoming (follower_of y) y.outgoing.started y.outgoing.transfer down up shared.set shared.inter (saved_of role shared) (saved_of (other role) shared) n)
+        (sends_chunk (reliable base) role (record x.sets { own = [] }) x.outgoing.started t v octets x.incoming (follower_of y) y.outgoing.started y.outgoing.transfer down up shared.set shared.inter (saved_of role shared) (saved_of (other role) shared) h.is_within n)
 
     by_value : (value : Option Value) → OnEncoded (λ sent all. (rest : List ℕ) × ((sent ++ octets) ++ rest ≡ all)) base.codec t.pieces value → FlowOf (reliable base) role (state_with x NoAnswer [] (put t value t.progress)) y down up shared → After base role (state_with x NoAnswer [] (put t value t.progress)) y down up shared (Sends octets)
     by_value None b n = absurd b
@@ -321,3 +321,4 @@ lead-acts base role x y (Some t) down up shared Resumes o p h n r a =
     (resumes-act base role x y t t.confirmed down up shared o p) n
 lead-acts base role x y t down up shared Releases o p h n r a = absurd (r refl)
 lead-acts base role x y t down up shared Aborts o p h n r a = absurd (a refl)
+lead-acts base role x y t down up shared Withdraws o p h n r a = absurd (subst (MayWithdrawIn role) o.up h.in_phase)

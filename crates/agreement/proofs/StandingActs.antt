@@ -5,16 +5,16 @@ use Rattle.agreement.specs.Sets.{Role, other, ContextSet}
 use Rattle.agreement.specs.Sets.Role.{Initiator, Responder}
 use Rattle.agreement.specs.Messages.{Setup, Message, Act, Apdu}
 use Rattle.agreement.specs.Messages.Mode.{Reliable}
-use Rattle.agreement.specs.Messages.Act.{Connects, Recovers, Says, Queues, Alters, Marks, Gives, Pleads, Restarts, Starts, Encodes, Sends, Ends, Interrupts, Discards, Resumes, Releases, Aborts}
+use Rattle.agreement.specs.Messages.Act.{Connects, Recovers, Says, Queues, Alters, Marks, Gives, Pleads, Restarts, Starts, Encodes, Sends, Ends, Interrupts, Discards, Resumes, Releases, Aborts, Withdraws}
 use Rattle.agreement.specs.Messages.Message.{Give, Please, Release, UserAbort}
 use Rattle.agreement.specs.State.{Transfer, State}
 use Rattle.agreement.specs.State.Phase.{Idle, Up, Broken, Over}
 use Rattle.agreement.specs.State.Awaited.{NoAnswer}
 use Rattle.agreement.specs.State.Progress.{Running, Suspended}
-use Rattle.agreement.specs.Acts.{MayAct, acted, sent_by, has_progress, RestsOrNone}
+use Rattle.agreement.specs.Acts.{MayAct, MayWithdrawIn, acted, sent_by, has_progress, RestsOrNone}
 use Rattle.agreement.specs.Takings.{IsBack}
 use Rattle.agreement.specs.Worlds.{Sending, Shared, sendings, shared_all, saved_of}
-use Rattle.agreement.proofs.Views.{IsLive, IsNoRelease, AllAre, all-append}
+use Rattle.agreement.proofs.Views.{IsLive, IsNoRelease, AllAre, all-append, withdraws-in}
 use Rattle.agreement.proofs.Down.{IsQuiet, AllQuiet, at-rest, quiet-append}
 use Rattle.agreement.proofs.Flow.{Rest, Flow}
 use Rattle.agreement.proofs.Leads.{sends_abort, sends_release, quiet-part}
@@ -83,6 +83,7 @@ sent-live setup x Discards s r a = (tt, tt)
 sent-live setup x Resumes s r a = (tt, tt)
 sent-live setup x Releases s r a = absurd (r refl)
 sent-live setup x Aborts s r a = absurd (a refl)
+sent-live setup x Withdraws s r a = tt
 
 -- an end that is up is as it is seen
 pub record IsSeen (role : Role) (x : State) (f g : List Sending) (seen : State) (coming : List Message) : Type 0 where
@@ -134,6 +135,7 @@ leader-acts base role x y down up shared Discards o p h n r a =
 leader-acts base role x y down up shared Resumes o p h n r a = by-settled base role x y down up shared Resumes o p h n r a h.leads.is_free.is_calm h.leads.is_settled
 leader-acts base role x y down up shared Releases o p h n r a = absurd (r refl)
 leader-acts base role x y down up shared Aborts o p h n r a = absurd (a refl)
+leader-acts base role x y down up shared Withdraws o p h n r a = absurd (subst (MayWithdrawIn role) o.up h.in_phase)
 
 -- an end without the turn only pleads and queues
 pub data Waiting : Act → Type 0 where
@@ -166,6 +168,7 @@ waiting base role x Discards o h a = absurd (resting-runs x.outgoing.transfer o.
 waiting base role x Resumes o h a = absurd (true≢false (sym h.leads.has_turn ∙ o.turn))
 waiting base role x Releases o h a = absurd (true≢false (sym h.in_mode.0 ∙ o.turn))
 waiting base role x Aborts o h a = absurd (a refl)
+waiting base role x Withdraws o h a = absurd (subst (MayWithdrawIn role) o.up h.in_phase)
 
 follow-same : (x : State) → FollowOk x → FollowOk x
 follow-same x o = o
@@ -399,3 +402,11 @@ stands-acts base role x y f g shared Discards h j = stands-up base role x y f g 
 stands-acts base role x y f g shared Resumes h j = stands-up base role x y f g shared Resumes h (λ e. cc) (λ e. cc) h.leads.is_free.is_up j
 stands-acts base role x y f g shared Releases h j = stands-releases base role x y f g shared h j
 stands-acts base role x y f g shared Aborts h j = stands-aborts base role x y (acted (reliable base) x Aborts) f g shared refl refl j
+stands-acts base role x y f g shared Withdraws h j = absurd (go (withdraws-in role x.phase h.in_phase))
+  where
+    up : j.me.phase ≡ Up
+    up = (up-me (reliable base) role j.me j.peer j.down j.up shared j.flow).0
+
+    go : (x.phase ≡ Idle) ⊎ ((x.phase ≡ Broken) × (role ≡ Initiator)) → ⊥
+    go (inl e) = not-idle_of role x f g j.me j.up up j.sees_me e
+    go (inr e) = not-broken_of role x f g j.me j.up up j.sees_me e.0

@@ -76,7 +76,7 @@ follower-takes base role x y down up shared (Alter items) (Results results) o p 
     }
 follower-takes base role x y down up shared (Mark number) choice o p c a r n =
     record {
-      may = record { is_up = o.up; in_mode = record { lacks_turn = o.turn; is_active = n.runs.0; is_next = n.runs.1 } };
+      may = record { is_up = o.up; in_mode = record { lacks_turn = o.turn; is_active = n.runs.0; is_next = n.runs.1.0; is_within = n.runs.1.1 } };
       next =
           Follows (follow-again x (taken (reliable base) role x (Mark number) choice) refl refl refl refl refl o) p
           (follows_mark (reliable base) (other role) (leader_of y) y.incoming (follower_of x) x.outgoing.started x.outgoing.transfer number up down shared.set shared.inter (saved_of (other role) shared) (saved_of role shared) n);
@@ -97,7 +97,7 @@ follower-takes base role x y down up shared (Resume k j) choice o p c a r n =
     }
 follower-takes base role x y down up shared (Chunk octets) choice o p c a r n =
     record {
-      may = record { by_transfers = refl; is_up = o.up; lacks_turn = o.turn; is_active = n.runs.0 };
+      may = record { by_transfers = refl; is_up = o.up; lacks_turn = o.turn; is_active = n.runs.0.0; is_within = n.runs.0.1 };
       next =
           keeps-nil base role (taken (reliable base) role x (Chunk octets) choice) y down up shared (follow-again x (taken (reliable base) role x (Chunk octets) choice) refl refl refl refl refl o) p
           (follows_chunk (reliable base) (other role) (leader_of y) y.incoming (follower_of x) x.outgoing.started x.outgoing.transfer octets up down shared.set shared.inter (saved_of (other role) shared) (saved_of role shared) n);

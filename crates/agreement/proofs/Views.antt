@@ -1,14 +1,15 @@
 -- Direct mode once an association was accepted: each end as it is, and as it will be once it took
 -- what decides its restart.
-use Rattle.std.proofs.Common.{◌≡◌, ℕ, ◌≤◌, true, List, [], ◌∷◌, ◌++◌, refl, sym, ap, ◌∙◌, subst, append_assoc}
+use Rattle.std.proofs.Common.{◌≡◌, ℕ, ◌≤◌, true, List, [], ◌∷◌, ◌++◌, refl, sym, ap, ◌∙◌, subst, append_assoc, inl, inr, ◌⊎◌}
 use Rattle.agreement.specs.Sets.{Role, other, ContextSet, Listed, Saved, listed, below, newest, next_number}
 use Rattle.agreement.specs.Sets.Role.{Initiator, Responder}
 use Rattle.agreement.specs.Messages.{Setup, Message}
 use Rattle.agreement.specs.Messages.Mode.{Direct}
 use Rattle.agreement.specs.Messages.Message.{Accept, Data, Alter, AlterAnswer, Mark, Restart, RestartAnswer, Give, Please, Release, UserAbort}
-use Rattle.agreement.specs.State.{State, joined_with}
-use Rattle.agreement.specs.State.Phase.{Opening, Up, Releasing, Over}
+use Rattle.agreement.specs.State.{Phase, State, joined_with}
+use Rattle.agreement.specs.State.Phase.{Idle, Opening, Up, Releasing, Broken, Over}
 use Rattle.agreement.specs.State.Awaited.{NoAnswer, RestartOf, ReleaseOf}
+use Rattle.agreement.specs.Acts.{MayWithdrawIn}
 use Rattle.agreement.specs.Takings.{is_purged}
 use Rattle.agreement.specs.Worlds.{Sending}
 use Rattle.agreement.proofs.Flights.{Entry}
@@ -235,3 +236,9 @@ keeps most role x y z f g s t v w k up calm n =
       shape_peer = k.shape_peer;
       normal = n;
     }
+
+-- an end withdraws before an association stands
+pub withdraws-in : (role : Role) (p : Phase) → MayWithdrawIn role p → (p ≡ Idle) ⊎ ((p ≡ Broken) × (role ≡ Initiator))
+withdraws-in role Idle h = inl refl
+withdraws-in role Broken h = inr (refl, h)
+withdraws-in role p h = absurd h

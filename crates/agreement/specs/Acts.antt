@@ -1,11 +1,11 @@
 -- What an end may do of itself, what it sends then, and its state afterwards (X.225 7, X.226 6, X.228 8).
-use Rattle.std.specs.Prelude.{◌≡◌, ℕ, suc, zero, ◌≤◌, true, false, ◌++◌, List, [], ◌∷◌, Option, Some, None}
+use Rattle.std.specs.Prelude.{◌≡◌, ℕ, suc, zero, ◌≤◌, true, false, ◌++◌, length, List, [], ◌∷◌, Option, Some, None}
 use Rattle.agreement.specs.Sets.{Pair, Role, ContextSet, AllMayAsk, AreDistinct, identifiers, some_deletes, lookup, listed, below, newest, next_number}
 use Rattle.agreement.specs.Sets.Role.{Initiator}
 use Rattle.agreement.specs.Messages.{Value, Mode, Setup, Codec, Message, Act}
 use Rattle.agreement.specs.Messages.Mode.{Bare, Direct, Reliable}
 use Rattle.agreement.specs.Messages.Message.{Connect, Recover, Data, Alter, Mark, Give, Please, Restart, Start, Chunk, End, Interrupt, Discard, Resume, Release, UserAbort}
-use Rattle.agreement.specs.Messages.Act.{Connects, Recovers, Says, Queues, Alters, Marks, Gives, Pleads, Restarts, Starts, Encodes, Sends, Ends, Interrupts, Discards, Resumes, Releases, Aborts}
+use Rattle.agreement.specs.Messages.Act.{Connects, Recovers, Says, Queues, Alters, Marks, Gives, Pleads, Restarts, Starts, Encodes, Sends, Ends, Interrupts, Discards, Resumes, Releases, Aborts, Withdraws}
 use Rattle.agreement.specs.State.{Phase, Piece, Progress, Handed, Transfer, Outgoing, State, up_to, newest_set, highest, joined, cut_calls}
 use Rattle.agreement.specs.State.Phase.{Idle, Opening, Up, Releasing, Broken, Recovering, Over}
 use Rattle.agreement.specs.State.Awaited.{NoAnswer, RestartOf, InterruptOf, DiscardOf, ReleaseOf}
@@ -40,21 +40,33 @@ abbrev pub IsUnencoded : Option Transfer → Type 0
 IsUnencoded None = ⊥
 IsUnencoded (Some transfer) = (transfer.progress ≡ Running) × (transfer.value ≡ None)
 
--- the context on which a transfer is encoded
+-- the context on which a transfer in progress is encoded; a suspended one needs none, since its
+-- resumption brings back a mark's set or encodes anew
 abbrev pub context_of_value : Option Value → List ℕ
 context_of_value None = []
 context_of_value (Some value) = value.identifier ∷ []
 
+abbrev pub context_in_progress : Progress → Option Value → List ℕ
+context_in_progress Suspended value = []
+context_in_progress Running value = context_of_value value
+context_in_progress Ending value = context_of_value value
+
 abbrev pub context_of_transfer : Option Transfer → List ℕ
 context_of_transfer None = []
-context_of_transfer (Some transfer) = context_of_value transfer.value
+context_of_transfer (Some transfer) = context_in_progress transfer.progress transfer.value
+
+-- in reliable mode the queue has items to be transferred; else it keeps no more than due rejects
+abbrev pub contexts_of_queue : Mode → List Handed → List ℕ
+contexts_of_queue Bare queue = []
+contexts_of_queue Direct queue = []
+contexts_of_queue Reliable queue = contexts_of_items queue
 
 -- the contexts in use (this project's own rule): those of open invocations, of queued items, and
 -- the one on which the transfer in progress is encoded
-abbrev pub used : State → List ℕ
-used state =
+abbrev pub used : Mode → State → List ℕ
+used mode state =
     context_of_transfer state.outgoing.transfer ++ contexts_of_calls state.calls.own_open ++
-    contexts_of_calls state.calls.peer_open ++ contexts_of_items state.outgoing.queue
+    contexts_of_calls state.calls.peer_open ++ contexts_of_queue mode state.outgoing.queue
 
 -- up, and nothing is awaited
 abbrev pub IsFree : State → Type 0
@@ -69,6 +81,10 @@ IsNotBare Reliable = Unit {0}
 abbrev pub Leads : State → Type 0
 Leads state = record { is_free : IsFree state; has_turn : state.turn ≡ true; is_settled : state.sets.own ≡ [] }
 
+abbrev pub pieces_of : Option Transfer → List Piece
+pieces_of None = []
+pieces_of (Some transfer) = transfer.pieces
+
 -- what the mode asks besides of an alteration, a mark, a giving
 abbrev pub MayAlterIn : Mode → State → Type 0
 MayAlterIn Bare state = ⊥
@@ -78,7 +94,8 @@ MayAlterIn Reliable state = (state.turn ≡ true) × IsNotEnding state.outgoing.
 abbrev pub MayMarkIn : Setup → Mode → State → Type 0
 MayMarkIn setup Bare state = ⊥
 MayMarkIn setup Direct state = next_number state.saved ≤ setup.most_marks
-MayMarkIn setup Reliable state = OnRunning (λ sent all. Unit {0}) setup.codec state.outgoing.transfer
+MayMarkIn setup Reliable state =
+    OnRunning (λ sent all. Unit {0}) setup.codec state.outgoing.transfer × (suc (highest (pieces_of state.outgoing.transfer)) ≤ setup.most_marks)
 
 abbrev pub MayGiveIn : Mode → State → Type 0
 MayGiveIn Bare state = ⊥
@@ -88,7 +105,7 @@ MayGiveIn Reliable state = RestsOrNone state.outgoing.transfer
 abbrev pub MayReleaseIn : Mode → State → Type 0
 MayReleaseIn Bare state = ⊥
 MayReleaseIn Direct state = Unit {0}
-MayReleaseIn Reliable state = (state.turn ≡ true) × (state.outgoing.transfer ≡ None)
+MayReleaseIn Reliable state = (state.turn ≡ true) × (state.outgoing.transfer ≡ None) × (state.outgoing.queue ≡ [])
 
 abbrev pub MayAbortIn : Phase → Type 0
 MayAbortIn Idle = ⊥
@@ -98,6 +115,12 @@ MayAbortIn Releasing = Unit {0}
 MayAbortIn Broken = ⊥
 MayAbortIn Recovering = Unit {0}
 MayAbortIn Over = ⊥
+
+-- before a CN was sent or taken: at first, and while an initiator brings a new connection about
+abbrev pub MayWithdrawIn : Role → Phase → Type 0
+MayWithdrawIn role Idle = Unit {0}
+MayWithdrawIn role Broken = role ≡ Initiator
+MayWithdrawIn role phase = ⊥
 
 -- may an end in this state do this of itself?
 abbrev pub MayAct : Setup → Role → State → Act → Type 0
@@ -123,7 +146,7 @@ MayAct setup role state (Alters items) =
       is_settled : state.sets.own ≡ [];
       in_mode : MayAlterIn setup.mode state;
       once : AreDistinct (identifiers items);
-      may_ask : AllMayAsk role state.sets.held (used state) items;
+      may_ask : AllMayAsk role state.sets.held (used setup.mode state) items;
     }
 MayAct setup role state Marks = record { leads : Leads state; in_mode : MayMarkIn setup setup.mode state }
 MayAct setup role state Gives = record { leads : Leads state; in_mode : MayGiveIn setup.mode state }
@@ -155,6 +178,7 @@ MayAct setup role state (Sends octets) =
       by_transfers : setup.mode ≡ Reliable;
       leads : Leads state;
       is_next : OnRunning (λ sent all. (rest : List ℕ) × ((sent ++ octets) ++ rest ≡ all)) setup.codec state.outgoing.transfer;
+      is_within : length (joined (pieces_of state.outgoing.transfer) ++ octets) ≤ setup.most_octets;
     }
 MayAct setup role state Ends =
     record {
@@ -174,14 +198,10 @@ MayAct setup role state Releases =
       is_free : IsFree state;
       is_settled : state.sets.own ≡ [];
       in_mode : MayReleaseIn setup.mode state;
-      is_empty : state.outgoing.queue ≡ [];
       none_open : state.calls.own_open ≡ [];
     }
 MayAct setup role state Aborts = record { in_phase : MayAbortIn state.phase; in_mode : IsNotBare setup.mode }
-
-abbrev pub pieces_of : Option Transfer → List Piece
-pieces_of None = []
-pieces_of (Some transfer) = transfer.pieces
+MayAct setup role state Withdraws = record { in_phase : MayWithdrawIn role state.phase; in_mode : IsNotBare setup.mode }
 
 abbrev pub confirmed_of : Option Transfer → ℕ
 confirmed_of None = 0
@@ -213,6 +233,7 @@ sent_by setup state Discards = Discard ∷ []
 sent_by setup state Resumes = Resume state.outgoing.started (confirmed_of state.outgoing.transfer) ∷ []
 sent_by setup state Releases = Release ∷ []
 sent_by setup state Aborts = UserAbort ∷ []
+sent_by setup state Withdraws = []
 
 abbrev pub on_transfer : (Transfer → Transfer) → Outgoing → Outgoing
 on_transfer change outgoing = record outgoing { transfer = on_some outgoing.transfer }
@@ -309,3 +330,4 @@ acted setup state Resumes =
     }
 acted setup state Releases = record state { phase = Releasing; awaits = ReleaseOf }
 acted setup state Aborts = record state { phase = Over; calls = cut_calls state.calls }
+acted setup state Withdraws = record state { phase = Over; calls = cut_calls state.calls }

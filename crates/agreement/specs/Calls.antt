@@ -1,5 +1,5 @@
 -- Invocations and their outcomes at one end (X.880 8, 9).
-use Rattle.std.specs.Prelude.{◌≡◌, ℕ, suc, Bool, true, false, not, ◌&&◌, ◌||◌, nat_eq, if◌then◌else◌, List, [], ◌∷◌, Option, Some, None, Contains}
+use Rattle.std.specs.Prelude.{◌≡◌, ℕ, suc, Bool, true, false, not, ◌&&◌, ◌||◌, nat_eq, nat_lt, length, if◌then◌else◌, List, [], ◌∷◌, Option, Some, None, Contains}
 use Rattle.agreement.specs.Messages.{Apdu, Setup}
 use Rattle.agreement.specs.Messages.Apdu.{Invoke, Outcome, Reject}
 use Rattle.agreement.specs.State.{Handed, Invocation, Calls}
@@ -41,11 +41,15 @@ handed_in setup calls context (Invoke number operation link argument) =
 handed_in setup calls context (Outcome number content) = record calls { peer_open = close number calls.peer_open }
 handed_in setup calls context (Reject number is_of_invocation) = calls
 
--- an APDU that is taken is accepted: an invocation whose number isn't open and whose link is
--- allowed, an outcome or a reject of an own open invocation (X.880 9)
+-- there is room for one more invocation; one without an outcome never opens (this project's own limit)
+abbrev pub has_room : Setup → ℕ → List Invocation → Bool
+has_room setup operation calls = setup.silent operation || nat_lt (length calls) setup.most_open
+
+-- an APDU that is taken is accepted: an invocation whose number isn't open, for which there is room
+-- and whose link is allowed, an outcome or a reject of an own open invocation (X.880 9)
 abbrev pub is_accepted : Setup → Calls → Apdu → Bool
 is_accepted setup calls (Invoke number operation link argument) =
-    not (is_open number calls.peer_open) && is_link_allowed setup calls.own_open operation link
+    not (is_open number calls.peer_open) && has_room setup operation calls.peer_open && is_link_allowed setup calls.own_open operation link
 is_accepted setup calls (Outcome number content) = is_open number calls.own_open
 is_accepted setup calls (Reject number is_of_invocation) = is_of_invocation && is_open number calls.own_open
 

@@ -89,6 +89,8 @@ case_setup mode faithful =
       links = λ parent child. true;
       bare_context = record { identifier = 0; pair = record { abstract_syntax = 2 ∷ 999 ∷ 7 ∷ 1 ∷ []; transfer_syntax = 2 ∷ 1 ∷ 1 ∷ [] } };
       most_marks = 4096;
+      most_octets = 262400;
+      most_open = 4096;
     }
 
 abbrev pub module_in : List ℕ → Pair

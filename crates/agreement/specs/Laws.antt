@@ -1,15 +1,16 @@
 -- The laws of two ends, over every world that they can reach.
 use Rattle.std.specs.Prelude.{◌≡◌, ℕ, ◌<◌, true, false, if◌then◌else◌, ◌⊎◌, ◌++◌, List, [], ◌∷◌, Option, Some, None}
-use Rattle.agreement.specs.Sets.{Pair, Role, ContextSet, other, lookup, AreDistinct}
+use Rattle.agreement.specs.Sets.{Pair, Role, ContextSet, other, lookup, AreDistinct, is_among, identifiers}
 use Rattle.agreement.specs.Sets.Role.{Initiator, Responder}
 use Rattle.agreement.specs.Messages.{Apdu, Value, Setup, Message, Choice}
 use Rattle.agreement.specs.Messages.Message.{Accept, Connect, End}
-use Rattle.agreement.specs.Messages.Act.{Gives, Says, Queues, Encodes}
+use Rattle.agreement.specs.Messages.Act.{Alters, Gives, Says, Queues, Encodes}
 use Rattle.agreement.specs.Messages.Choice.{Accepting}
 use Rattle.agreement.specs.Messages.Apdu.{Invoke, Outcome, Reject}
-use Rattle.agreement.specs.State.{Awaited, Transfer, State, Calls}
-use Rattle.agreement.specs.State.Phase.{Up}
+use Rattle.agreement.specs.State.{Phase, Awaited, Transfer, Invocation, State, Calls}
+use Rattle.agreement.specs.State.Phase.{Up, Releasing}
 use Rattle.agreement.specs.State.Awaited.{RestartOf}
+use Rattle.agreement.specs.Acts.{IsNotBare}
 use Rattle.agreement.specs.Takings.{MayTake, value_of, handed_up}
 use Rattle.agreement.specs.Calls.{is_open, is_accepted}
 use Rattle.agreement.specs.Worlds.{Step, World, if_same, state_of, Sending, sent_by_step, shared_at, pair_under, IsRun}
@@ -62,6 +63,31 @@ abbrev pub NoAbortOfItself : Setup → Type 0
 NoAbortOfItself setup =
     (world : World) (role : Role) (message : Message) (choice : Choice) → IsRun setup (By role (Takes message choice) ∷ world) →
     MayTake setup role (state_of setup role world) message
+
+-- a context that is left alone: each acceptance gives its identifier this pair, and no alteration that
+-- an end asks for names it
+abbrev pub LeavesAlone : ℕ → Pair → Step → Type 0
+LeavesAlone k pair (Takes message (Accepting set)) = lookup set k ≡ Some pair
+LeavesAlone k pair (Acts (Alters items)) = is_among k (identifiers items) ≡ false
+LeavesAlone k pair step = Unit {0}
+
+abbrev pub IsLeftAlone : ℕ → Pair → World → Type 0
+IsLeftAlone k pair [] = Unit {0}
+IsLeftAlone k pair (Break ∷ world) = IsLeftAlone k pair world
+IsLeftAlone k pair (By who step ∷ world) = LeavesAlone k pair step × IsLeftAlone k pair world
+
+abbrev pub IsJoined : Phase → Type 0
+IsJoined Up = Unit {0}
+IsJoined Releasing = Unit {0}
+IsJoined phase = ⊥
+
+-- contexts stay: one that is left alone, as those of the association and of transfers, has its pair in
+-- the set of each end that is up or releasing, and in the shared set
+abbrev pub ContextsStay : Setup → Type 0
+ContextsStay setup =
+    IsNotBare setup.mode → (world : World) → IsRun setup world → (k : ℕ) (pair : Pair) → IsLeftAlone k pair world → (role : Role) →
+    IsJoined (state_of setup role world).phase →
+    (lookup (state_of setup role world).sets.held k ≡ Some pair) × (lookup (shared_at setup world).set k ≡ Some pair)
 
 -- an end holds the turn where it is up and doesn't wait for a restart
 abbrev pub IsNotRestarting : Awaited → Type 0
@@ -147,6 +173,27 @@ TheOthersOwn setup =
     (world : World) (role : Role) (message : Message) (choice : Choice) (value : Value) → IsRun setup (By role (Takes message choice) ∷ world) →
     value_of setup (state_of setup role world) message ≡ Some value → IsHandedIn (all_handed (other role) world) value.apdu
 
+-- the invocations of which an end handed in an outcome since its association began, the newest first
+abbrev pub answer_in : Apdu → List ℕ
+answer_in (Outcome number content) = number ∷ []
+answer_in apdu = []
+
+abbrev pub answered_after : Step → List ℕ → List ℕ
+answered_after (Acts (Says value)) answered = answer_in value.apdu ++ answered
+answered_after (Acts (Queues context apdu)) answered = answer_in apdu ++ answered
+answered_after (Takes Connect (Accepting set)) answered = []
+answered_after step answered = answered
+
+abbrev pub answered : Role → World → List ℕ
+answered role [] = []
+answered role (Break ∷ world) = answered role world
+answered role (By who step ∷ world) = if_same role who (answered_after step (answered role world)) (answered role world)
+
+-- each invocation is answered at most once, so the outcome of one that is handed up is the one that
+-- was handed in
+abbrev pub AnsweredOnce : Setup → Type 0
+AnsweredOnce setup = (world : World) → IsRun setup world → (role : Role) → AreDistinct (answered role world)
+
 -- an item as it was encoded: its activity, its APDU, its context, and the pair that the shared set
 -- gave that just then
 pub record Encoding : Type 0 where
@@ -209,18 +256,25 @@ AreFalling (n ∷ m ∷ rest) = (m < n) × AreFalling (m ∷ rest)
 abbrev pub ArriveOnce : Setup → Type 0
 ArriveOnce setup = (world : World) → IsRun setup world → (role : Role) → AreFalling (arrived setup role world)
 
+-- an open invocation has this number, and its operation may have this one as a child (X.880 8.3)
+abbrev pub HasParent : Setup → List Invocation → ℕ → ℕ → Type 0
+HasParent setup [] operation parent = ⊥
+HasParent setup (call ∷ calls) operation parent =
+    (call.number ≡ parent) × (setup.links call.operation operation ≡ true) ⊎ HasParent setup calls operation parent
+
 -- what an accepted APDU names: an invocation whose number isn't open yet, and whose link is an open
--- invocation of the taker; an outcome or a reject of an open invocation of the taker (X.880 8.3, 9)
-abbrev pub NamesOpen : Calls → Apdu → Type 0
-NamesOpen calls (Invoke number operation None argument) = is_open number calls.peer_open ≡ false
-NamesOpen calls (Invoke number operation (Some parent) argument) =
-    (is_open number calls.peer_open ≡ false) × (is_open parent calls.own_open ≡ true)
-NamesOpen calls (Outcome number content) = is_open number calls.own_open ≡ true
-NamesOpen calls (Reject number is_of_invocation) = is_open number calls.own_open ≡ true
+-- invocation of the taker that may have it as a child; an outcome or a reject of an open invocation of
+-- the taker (X.880 8.3, 9)
+abbrev pub NamesOpen : Setup → Calls → Apdu → Type 0
+NamesOpen setup calls (Invoke number operation None argument) = is_open number calls.peer_open ≡ false
+NamesOpen setup calls (Invoke number operation (Some parent) argument) =
+    (is_open number calls.peer_open ≡ false) × HasParent setup calls.own_open operation parent
+NamesOpen setup calls (Outcome number content) = is_open number calls.own_open ≡ true
+NamesOpen setup calls (Reject number is_of_invocation) = is_open number calls.own_open ≡ true
 
 -- what is accepted names what is open
 abbrev pub AcceptedNamesOpen : Setup → Type 0
-AcceptedNamesOpen setup = (calls : Calls) (apdu : Apdu) → is_accepted setup calls apdu ≡ true → NamesOpen calls apdu
+AcceptedNamesOpen setup = (calls : Calls) (apdu : Apdu) → is_accepted setup calls apdu ≡ true → NamesOpen setup calls apdu
 
 -- the numbers of the invocations that an end accepted since its association began, the newest first
 abbrev pub invocation_in : Apdu → List ℕ

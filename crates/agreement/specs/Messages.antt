@@ -28,7 +28,8 @@ pub data Mode : Type 0 where
   Reliable : Mode
 
 -- what the two ends have in common: the mode, the codec, which operations have no outcome, which
--- operation may be linked to an invocation of which (X.880 8), the one context of bare mode, the most marks
+-- operation may be linked to an invocation of which (X.880 8), the one context of bare mode, and the
+-- limits: the most marks, the most octets of a transfer, the most open invocations of one end
 pub record Setup : Type 0 where
   pub mode : Mode
   pub codec : Codec
@@ -36,6 +37,8 @@ pub record Setup : Type 0 where
   pub links : ℕ → ℕ → Bool
   pub bare_context : Context
   pub most_marks : ℕ
+  pub most_octets : ℕ
+  pub most_open : ℕ
 
 pub data Message : Type 0 where
   Connect : Message  -- CN (X.225 8.3.1) for a new association
@@ -45,19 +48,19 @@ pub data Message : Type 0 where
   Data : (value : Value) → Message  -- DT (X.225 8.3.11)
   Alter : (items : List Item) → Message  -- alter context (X.226 8.4.2)
   AlterAnswer : (results : List Result) → Message  -- its acknowledgement (X.226 8.4.3)
-  Mark : (number : ℕ) → Message  -- MIP, a minor synchronization point (X.225 8.3.21)
-  MarkAnswer : (number : ℕ) → Message  -- MIA (X.225 8.3.22)
-  Restart : (number : ℕ) → (list : List Listed) → Message  -- RS (X.225 8.3.26)
-  RestartAnswer : (number : ℕ) → (list : List Listed) → Message  -- RA (X.225 8.3.27)
-  Start : (activity : ℕ) → Message  -- AS (X.225 8.3.31)
-  Resume : (activity : ℕ) → (mark : ℕ) → Message  -- AR (X.225 8.3.32)
+  Mark : (number : ℕ) → Message  -- MIP, a minor synchronization point (X.225 8.3.20)
+  MarkAnswer : (number : ℕ) → Message  -- MIA (X.225 8.3.21)
+  Restart : (number : ℕ) → (list : List Listed) → Message  -- RS (X.225 8.3.24)
+  RestartAnswer : (number : ℕ) → (list : List Listed) → Message  -- RA (X.225 8.3.25)
+  Start : (activity : ℕ) → Message  -- AS (X.225 8.3.29)
+  Resume : (activity : ℕ) → (mark : ℕ) → Message  -- AR (X.225 8.3.30)
   Chunk : (octets : List ℕ) → Message  -- DT with a part of a transfer (X.228)
-  End : (number : ℕ) → Message  -- AE (X.225 8.3.37)
-  EndAnswer : (number : ℕ) → Message  -- AEA (X.225 8.3.38)
-  Interrupt : Message  -- AI (X.225 8.3.33)
-  InterruptAnswer : Message  -- AIA (X.225 8.3.34)
-  Discard : Message  -- AD (X.225 8.3.35)
-  DiscardAnswer : Message  -- ADA (X.225 8.3.36)
+  End : (number : ℕ) → Message  -- AE (X.225 8.3.35)
+  EndAnswer : (number : ℕ) → Message  -- AEA (X.225 8.3.36)
+  Interrupt : Message  -- AI (X.225 8.3.31)
+  InterruptAnswer : Message  -- AIA (X.225 8.3.32)
+  Discard : Message  -- AD (X.225 8.3.33)
+  DiscardAnswer : Message  -- ADA (X.225 8.3.34)
   Give : Message  -- GT, in reliable mode GTC (X.225 8.3.16, 8.3.18)
   GiveAnswer : Message  -- GTA (X.225 8.3.19)
   Please : (priority : ℕ) → Message  -- PT (X.225 8.3.17)
@@ -85,6 +88,7 @@ pub data Act : Type 0 where
   Resumes : Act
   Releases : Act
   Aborts : Act
+  Withdraws : Act  -- goes over before it sent or took a CN on this connection, with nothing sent
 
 -- what the taker of a message decides: the contexts that it accepts, that it refuses, or the results
 pub data Choice : Type 0 where

@@ -1,5 +1,5 @@
 -- What an end may take, what it passes over, what it answers, and its state afterwards (X.225 7, X.226 6, X.228 8).
-use Rattle.std.specs.Prelude.{◌≡◌, ℕ, suc, ◌≤◌, ◌⊎◌, Bool, true, false, not, ◌&&◌, ◌||◌, nat_eq, nat_lt, if◌then◌else◌, ◌++◌, List, [], ◌∷◌, Option, Some, None}
+use Rattle.std.specs.Prelude.{◌≡◌, ℕ, suc, ◌≤◌, ◌⊎◌, Bool, true, false, not, ◌&&◌, ◌||◌, nat_eq, nat_lt, if◌then◌else◌, ◌++◌, length, List, [], ◌∷◌, Option, Some, None}
 use Rattle.agreement.specs.Sets.{IsRising, Role, is_initiator, other, ContextSet, Item, Result, Fits, AllMayBeAsked, AreDistinct, altered, identifiers, lookup, listed, below, newest, next_number}
 use Rattle.agreement.specs.Sets.Role.{Initiator, Responder}
 use Rattle.agreement.specs.Sets.Item.{Addition, Deletion}
@@ -22,7 +22,7 @@ abbrev pub wins_against : Role → ℕ → ℕ → Bool
 wins_against role own number = nat_lt number own || (nat_eq number own && not (is_initiator role))
 
 -- while an own restart, interrupt, discard or release is unanswered, all is passed over but its
--- answer, a restart that wins, a release and an abort (X.225 7.27, 7.31, 7.33)
+-- answer, a restart that wins, a release and an abort (X.225 7.24, 7.31, 7.33)
 abbrev pub is_purged : Role → Awaited → Message → Bool
 is_purged role NoAnswer message = false
 is_purged role awaited Release = false
@@ -57,7 +57,12 @@ MayMarkFrom setup Bare state number = ⊥
 MayMarkFrom setup Direct state number =
     record { lacks_turn : state.turn ≡ false; is_next : number ≡ next_number state.saved; is_within : number ≤ setup.most_marks }
 MayMarkFrom setup Reliable state number =
-    record { lacks_turn : state.turn ≡ false; is_active : state.incoming.active ≡ true; is_next : number ≡ suc (highest state.incoming.pieces) }
+    record {
+      lacks_turn : state.turn ≡ false;
+      is_active : state.incoming.active ≡ true;
+      is_next : number ≡ suc (highest state.incoming.pieces);
+      is_within : number ≤ setup.most_marks;
+    }
 
 abbrev pub MayGiveFrom : Mode → State → Type 0
 MayGiveFrom Bare state = ⊥
@@ -163,6 +168,7 @@ MayTake setup role state (Chunk octets) =
       is_up : state.phase ≡ Up;
       lacks_turn : state.turn ≡ false;
       is_active : state.incoming.active ≡ true;
+      is_within : length (joined state.incoming.pieces ++ octets) ≤ setup.most_octets;
     }
 MayTake setup role state (End number) =
     record {
@@ -242,7 +248,7 @@ answer_to setup state Release choice = ReleaseAnswer ∷ []
 answer_to setup state message choice = []
 
 -- after a restart: the set of the highest mark below, the marks below, no own alteration, no open
--- invocation, the turn at the initiator (this project's own rule, within X.225 7.27)
+-- invocation, the turn at the initiator (this project's own rule, within X.225 7.24)
 abbrev pub restored : Role → ℕ → State → State
 restored role number state =
     record state {
@@ -386,13 +392,19 @@ taken setup role state ReleaseAnswer choice = ended state
 taken setup role state UserAbort choice = ended state
 
 -- a connection that breaks leaves a reliable association broken, once it stood, and another over; a
--- transfer in progress is suspended (this project's own rule)
+-- transfer in progress is suspended, and out of reliable mode the open invocations are cut (this
+-- project's own rule)
 abbrev pub broken_phase : Mode → Phase → Phase
 broken_phase mode Idle = Idle
 broken_phase mode Over = Over
 broken_phase mode Opening = Over
 broken_phase Reliable phase = Broken
 broken_phase mode phase = Over
+
+abbrev pub broken_calls : Mode → Calls → Calls
+broken_calls Bare calls = cut_calls calls
+broken_calls Direct calls = cut_calls calls
+broken_calls Reliable calls = calls
 
 abbrev pub broken : Setup → State → State
 broken setup state =
@@ -402,4 +414,5 @@ broken setup state =
       awaits = NoAnswer;
       outgoing = on_transfer (λ transfer. record transfer { progress = Suspended }) state.outgoing;
       incoming = record state.incoming { active = false };
+      calls = broken_calls setup.mode state.calls;
     }

@@ -2,7 +2,7 @@
 
 ghost use Rattle.std.specs.Prelude.{◌≡◌};
 ghost use Rattle.agreement.specs.Messages.{Setup};
-ghost use Rattle.agreement.specs.Laws.{TakenAsSent, NoAbortOfItself, OneHolder, InitiatorLeads, OneOutcome, TheOthersOwn, AcceptedNamesOpen, ArriveWhole, ArriveOnce, InvokedOnce};
+ghost use Rattle.agreement.specs.Laws.{TakenAsSent, NoAbortOfItself, OneHolder, InitiatorLeads, OneOutcome, TheOthersOwn, AnsweredOnce, AcceptedNamesOpen, ContextsStay, ArriveWhole, ArriveOnce, InvokedOnce};
 
 /// Taken as sent: each message that an end took, and did not pass over, is the one that was sent in its
 /// place of the connection, and its value was read under the pair that the shared set gave at the sending.
@@ -14,6 +14,13 @@ pub fn taken_as_sent()
 /// restart differs, and an answer answers what was asked.
 pub fn no_abort_of_itself()
     ensures law { (setup : Setup) → NoAbortOfItself setup }
+{}
+
+/// Contexts stay: one that each acceptance gives the same pair, and that no alteration names, has this pair in the
+/// set of each end that is up or releasing, and in the shared set. So the values of the association and of
+/// transfers, which stand in messages of their own, are read as they were sent.
+pub fn contexts_stay()
+    ensures law { (setup : Setup) → ContextsStay setup }
 {}
 
 /// One holder: at no moment do both ends hold the turn.
@@ -37,8 +44,14 @@ pub fn the_others_own()
     ensures law { (setup : Setup) → TheOthersOwn setup }
 {}
 
+/// Each invocation is answered at most once: an end hands in at most one outcome of each, so the outcome that is
+/// handed up at the other end is that one.
+pub fn answered_once()
+    ensures law { (setup : Setup) → AnsweredOnce setup }
+{}
+
 /// What is accepted names what is open: an outcome an open invocation, and a link an open invocation of the
-/// taker.
+/// taker whose operation may have it as a child.
 pub fn accepted_names_open()
     ensures law { (setup : Setup) → AcceptedNamesOpen setup }
 {}
