@@ -105,8 +105,10 @@ fn units_at(alloc: Global, tsdu: &[u8]) -> Result<Spdus, SFault>
     behind_first(alloc, tsdu.len(), unit)
 }
 
-/// The session units of a transport unit: one alone, or GT or PT and one behind it. The place of
-/// a fault counts from the transport unit's first octet.
+/// The session units of a transport unit (X.225 8.2, 8.3): one alone, or GT or PT and one behind
+/// it. Parameters come in any order; those that aren't looked at are passed over. A fault is the
+/// first field from the left that breaks the grammar, and its place counts from the transport
+/// unit's first octet. `NoMemory` where memory runs out.
 pub fn read_spdus(alloc: Global, tsdu: &[u8]) -> Result<Spdus, SFault>
     // What is read is spelled so.
     ensures found { IfOk result (λ words. AreUnits words tsdu.now) }

@@ -5,6 +5,7 @@ pub mod ParameterLaws
 pub mod HeaderLaws
 pub mod ShortLaws
 pub mod StaysLaws
+pub mod PlaceLaws
 pub mod UnitLaws
 pub mod StreamLaws
 pub mod WrittenLaws

@@ -14,10 +14,10 @@ use Rattle.tpkt.specs.declared.stop.Stop.TheVariants.{Short, At}
 use Rattle.tpkt.specs.Wire.{packet, tsdu_limit, Tpdu, Whole, Part, IsUnit, Splits, begun_after, begun_by, handed_for, handed}
 use Rattle.tpkt.specs.Header.{header_at}
 use Rattle.tpkt.specs.Reader.{Fed, on, between, closed, opened, judged, taken, after, reading, nothing}
-use Rattle.tpkt.specs.Stream.{IsOctets, unit_at, IsStop, Reads}
+use Rattle.tpkt.specs.Stream.{IsOctets, unit_at, IsStop, Reads, HasRead}
 use Rattle.tpkt.proofs.HeaderLaws.{front, found_data, found_control, again_data, again_control}
-use Rattle.tpkt.proofs.UnitLaws.{part_packet, part_unit, unit_again, unit_stays, faulty, short_yet, data_yet}
-use Rattle.tpkt.proofs.ReaderLaws.{short_empty, still_open, after-append}
+use Rattle.tpkt.proofs.UnitLaws.{part_packet, part_unit, unit_found, unit_again, unit_stays, faulty, short_yet, data_yet}
+use Rattle.tpkt.proofs.ReaderLaws.{short_empty, still_open, after-append, after_fault}
 use Rattle.tpkt.proofs.Results.{ok_is}
 use Rattle.osi_base.specs.declared.words.Kind.{Kind}
 
@@ -232,7 +232,7 @@ stops begun rest start held (Comes left place last octets some within size whole
 stops begun rest start held (Bad unread tsdu coming place fault o e at) = subst (λ r. IsStop r start (Some fault)) (sym e) (at, refl)
 
 -- what a new reader makes of a stream
-pub stream_read : (stream : List ℕ) → IsOctets stream → Reads stream (reading nothing stream)
+pub stream_read : (stream : List ℕ) → IsOctets stream → Reads stream (reading nothing stream).packets (reading nothing stream).held.fault
 stream_read stream fits =
     let new : Stands [] (record { packets = []; held = nothing }) = record {
       units = [];
@@ -244,7 +244,7 @@ stream_read stream fits =
       state = Idle 0 (short_empty 0) refl;
     } in
     let s = after_stands [] stream (record { packets = []; held = nothing }) fits new in
-    record { units = s.units; start = s.start; rest = s.rest; splits = s.splits; starts = s.starts; packets = s.packets; stop = stops (begun_by [] s.units) s.rest s.start (reading nothing stream).held s.state }
+    record { units = s.units; start = s.start; rest = s.rest; splits = s.splits; starts = s.starts; hands = s.packets; stop = stops (begun_by [] s.units) s.rest s.start (reading nothing stream).held s.state }
 
 -- ---- a stream is split in one way
 
@@ -314,6 +314,50 @@ any_cut held xs ys =
     let whole : before f.packets (fed [] f.held) ≡ f = ap (λ (ps : List Packet). fed ps f.held) (append-nil f.packets) in
     after-append (fed [] held) xs ys ∙ ap (λ g. after g ys) (sym whole) ∙ after_before f.packets (fed [] f.held) ys
 
+-- a reader to which nothing came
+pub nothing_read : reading nothing [] ≡ fed [] nothing
+unfolding after
+nothing_read = refl
+
+-- what a reader makes of a stream and then of more octets
+pub goes_on : (stream more : List ℕ) (given packets : List Packet) (old new : Held) → reading nothing stream ≡ fed given old → reading old more ≡ fed packets new
+    → reading nothing (stream ++ more) ≡ fed (given ++ packets) new
+goes_on stream more given packets old new a b =
+    any_cut nothing stream more
+    ∙ ap (λ (f : Fed). fed (f.packets ++ (reading f.held more).packets) (reading f.held more).held) a
+    ∙ ap (λ (f : Fed). fed (given ++ f.packets) f.held) b
+
+pub octets_join : (xs ys : List ℕ) → IsOctets xs → IsOctets ys → IsOctets (xs ++ ys)
+octets_join [] ys p q i = q i
+octets_join (x ∷ xs) ys p q zero = p 0
+octets_join (x ∷ xs) ys p q (suc i) = octets_join xs ys (λ j. p (suc j)) q i
+
+-- ---- one feed
+
+-- all feeds together give the packets of the stream, and its fault
+pub feed_goes_on : (came bytes : List ℕ) (given packets : List Packet) (old : Option Held) (held new : Held) → old ≡ Some held → reading held bytes ≡ fed packets new → HasRead came given old
+    → reading nothing (came ++ bytes) ≡ fed (given ++ packets) new
+feed_goes_on came bytes given packets old held new is now came_so = goes_on came bytes given packets held new (subst (HasRead came given) is came_so) now
+
+pub feed_all : (came bytes : List ℕ) (given packets : List Packet) (old : Option Held) (held new : Held) → IsOctets came → IsOctets bytes → old ≡ Some held → reading held bytes ≡ fed packets new
+    → HasRead came given old → Reads (came ++ bytes) (given ++ packets) new.fault
+feed_all came bytes given packets old held new fits more is now came_so =
+    subst (λ (f : Fed). Reads (came ++ bytes) f.packets f.held.fault) (feed_goes_on came bytes given packets old held new is now came_so)
+    (stream_read (came ++ bytes) (octets_join came bytes fits more))
+
+some_is : (a b : Held) (o : Option Held) → o ≡ Some a → o ≡ Some b → a ≡ b
+some_is a b o e f = (let g : Some a ≡ Some b = sym e ∙ f in cc)
+
+-- after a fault nothing changes
+pub feed_again : (bytes : List ℕ) (packets : List Packet) (old : Option Held) (held new was : Held) (fault : TFault) → old ≡ Some held → reading held bytes ≡ fed packets new
+    → old ≡ Some was → was.fault ≡ Some fault → (packets ≡ []) × (new.fault ≡ Some fault) × (Some new ≡ old)
+feed_again bytes packets old held new was fault is now e bad =
+    let same : held ≡ was = some_is held was old is e in
+    let right : held.fault ≡ Some fault = ap (λ (h : Held). h.fault) same ∙ bad in
+    let f : fed packets new ≡ fed [] held = sym now ∙ after_fault (fed [] held) fault bytes right in
+    let next : new ≡ held = ap (λ (f : Fed). f.held) f in
+    (ap (λ (f : Fed). f.packets) f, ap (λ (h : Held). h.fault) next ∙ right, ap (λ (h : Held). Some h) next ∙ sym is)
+
 stopped : (r : Result (Tpdu × List ℕ) Stop) (start : ℕ) (fault : Option TFault) → IsStop r start fault → (s : Stop) × (r ≡ Err s)
 stopped (Ok p) start fault e = absurd e
 stopped (Err s) start fault e = (s, refl)
@@ -332,7 +376,41 @@ split_read stream us rest fits s short =
     let e = stopped (unit_at (begun_by [] r.units) r.rest) r.start (reading nothing stream).held.fault r.stop in
     let one = one_split [] stream us r.units rest r.rest Short e.0 s short r.splits e.1 in
     let here : unit_at (begun_by [] r.units) r.rest ≡ Err Short = subst (λ (q : List Tpdu × List ℕ). unit_at (begun_by [] q.0) q.1 ≡ Err Short) (ap (λ vs. (vs, rest)) one.0 ∙ ap (λ (t : List ℕ). (r.units, t)) one.1) short in
-    (r.packets ∙ ap (handed []) (sym one.0), quiet (unit_at (begun_by [] r.units) r.rest) r.start (reading nothing stream).held.fault here r.stop)
+    (r.hands ∙ ap (handed []) (sym one.0), quiet (unit_at (begun_by [] r.units) r.rest) r.start (reading nothing stream).held.fault here r.stop)
+
+-- ---- a packet is whole with its last octet, and not before
+
+rest_of : Result (Tpdu × List ℕ) Stop → List ℕ
+rest_of (Ok p) = p.1
+rest_of (Err s) = []
+
+nothing_left : (u v : Tpdu) (more : List ℕ) → reads (u, []) ≡ reads (v, more) → length more ≡ 0
+unfolding rest_of
+nothing_left u v more e = ap (λ r. length (rest_of r)) (sym e)
+
+-- a beginning of a packet is less than one
+pub less_than_a_packet : (begun : List ℕ) (u : Tpdu) (unit xs ys : List ℕ) → IsOctets xs → IsUnit begun u unit → packet unit ≡ xs ++ ys → 0 < length ys → unit_at begun xs ≡ Err Short
+less_than_a_packet begun u unit xs ys fits is whole some = go (unit_at begun xs) refl
+  where
+    go : (r : Result (Tpdu × List ℕ) Stop) → unit_at begun xs ≡ r → unit_at begun xs ≡ Err Short
+    go (Err Short) e = e
+    go (Err (At o k)) e = absurd (no_packet begun xs ys [] o k u unit e is (sym whole ∙ sym (append-nil (packet unit))))
+    go (Ok p) e =
+        let f = unit_found begun xs p.0 p.1 fits e in
+        let one : unit_at begun (packet unit) ≡ Ok (u, []) = ap (unit_at begun) (sym (append-nil (packet unit))) ∙ unit_again begun u unit [] is in
+        let other : unit_at begun (packet unit) ≡ Ok (p.0, p.1 ++ ys) = ap (unit_at begun) (whole ∙ ap (λ (t : List ℕ). t ++ ys) f.2 ∙ append_assoc (packet f.0) p.1 ys) ∙ unit_again begun p.0 f.0 (p.1 ++ ys) f.1 in
+        let none : length (p.1 ++ ys) ≡ 0 = nothing_left u p.0 (p.1 ++ ys) (sym one ∙ other) in
+        absurd (omega (arith, none, length-append p.1 ys, some))
+
+pub up_with_its_last_octet : (came bytes : List ℕ) (us : List Tpdu) (rest : List ℕ) (u : Tpdu) (unit : List ℕ) → IsOctets (came ++ bytes) → Splits [] came us rest → IsUnit (begun_by [] us) u unit
+    → packet unit ≡ rest ++ bytes → 0 < length bytes
+    → ((reading nothing came).packets ≡ handed [] us) × ((reading nothing (came ++ bytes)).packets ≡ handed [] us ++ handed_for (begun_by [] us) u)
+up_with_its_last_octet came bytes us rest u unit fits s is whole some =
+    let here = octets-front came bytes fits in
+    let yet = less_than_a_packet (begun_by [] us) u unit rest bytes (octets-left [] came us rest s here) is whole some in
+    let more : Splits [] (came ++ bytes) (us ++ u ∷ []) [] = Splits-snoc [] (came ++ bytes) us (rest ++ bytes) u unit [] (Splits-more [] came us rest bytes s) is (sym whole ∙ sym (append-nil (packet unit))) in
+    let all = split_read (came ++ bytes) (us ++ u ∷ []) [] fits more (short_yet (begun_by [] (us ++ u ∷ [])) [] (short_empty _)) in
+    ((split_read came us rest here s yet).0, all.0 ∙ handed-snoc [] us u)
 
 -- ---- streams one after the other
 

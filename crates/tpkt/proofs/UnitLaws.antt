@@ -12,7 +12,8 @@ use Rattle.tpkt.specs.Header.{◌>>=◌, header_at}
 use Rattle.tpkt.specs.Stream.{IsOctets, stated_length, unit_behind, unit_at}
 use Rattle.tpkt.proofs.Results.{ok_is, refused, bound}
 use Rattle.tpkt.proofs.HeaderLaws.{front, two_again, found_data, found_control, again_data, again_control}
-use Rattle.tpkt.proofs.StaysLaws.{fault_stays}
+use Rattle.tpkt.proofs.StaysLaws.{fault_stays, header_stays}
+use Rattle.tpkt.proofs.PlaceLaws.{header_below}
 
 abbrev found : Tpdu → List ℕ → Result (Tpdu × List ℕ) Stop
 found u rest = Ok (u, rest)
@@ -109,3 +110,41 @@ unfolding unit_at
 data_yet begun left last octets lacks within =
     let there : ltb (length octets) left ≡ true = lt-ltb _ _ lacks in
     ap (λ r. r >>= unit_behind (front left last ++ octets)) (again_data (length begun) left last octets within) ∙ rw there refl
+
+-- ---- before a fault
+
+abbrev stopped : Stop → Result (Tpdu × List ℕ) Stop
+stopped s = Err s
+
+-- a fault's field is there
+fault_there : (begun xs : List ℕ) (o : ℕ) (k : Kind) → unit_at begun xs ≡ Err (At o k) → o < length xs
+fault_there begun xs o k e = header_below (length begun) xs o k (unit_fault begun xs o k e)
+
+-- a unit that is there has no fault
+no_fault_behind : (begun xs ys : List ℕ) (p : Tpdu × List ℕ) (o : ℕ) (k : Kind) → unit_at begun xs ≡ Ok p → unit_at begun (xs ++ ys) ≡ Err (At o k) → ⊥
+unfolding unit_at
+no_fault_behind begun xs ys p o k e f =
+    let b = bound (header_at (length begun) xs) (unit_behind xs) p e in
+    let h = header_stays (length begun) xs ys b.0 b.1 in
+    let g = unit_fault begun (xs ++ ys) o k f in
+    cc
+
+same_place : (o p : ℕ) (k j : Kind) → stopped (At o k) ≡ Err (At p j) → o ≡ p
+same_place o p k j e = cc
+
+-- the octets before a fault are right so far
+pub right_before : (begun xs : List ℕ) (o : ℕ) (k : Kind) → unit_at begun xs ≡ Err (At o k) → (o < length xs) × (unit_at begun (take o xs) ≡ Err Short)
+right_before begun xs o k e = (fault_there begun xs o k e, go (unit_at begun (take o xs)) refl)
+  where
+    whole : take o xs ++ drop o xs ≡ xs
+    whole = take-append-drop o xs
+
+    again : unit_at begun (take o xs ++ drop o xs) ≡ Err (At o k)
+    again = ap (unit_at begun) whole ∙ e
+
+    go : (r : Result (Tpdu × List ℕ) Stop) → unit_at begun (take o xs) ≡ r → unit_at begun (take o xs) ≡ Err Short
+    go (Err Short) f = f
+    go (Err (At p j)) f =
+        let same : o ≡ p = same_place o p k j (sym again ∙ unit_stays begun (take o xs) (drop o xs) p j f) in
+        absurd (omega (arith, same, fault_there begun (take o xs) p j f, length-take o xs))
+    go (Ok p) f = absurd (no_fault_behind begun (take o xs) (drop o xs) p o k f again)

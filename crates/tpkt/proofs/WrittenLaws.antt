@@ -10,6 +10,7 @@ use Rattle.tpkt.specs.declared.packet.Packet.TheVariants.{Connect, Confirm, Disc
 use Rattle.tpkt.specs.Wire.{parameter, two, header, mark, tsdu_limit, values, Tpdu, Whole, Part, IsUnit, IsTwo, IsConnection, IsSize, IsSelector, Splits, handed}
 use Rattle.tpkt.specs.Stream.{IsOctets}
 use Rattle.tpkt.specs.Written.{cut, parts_of, part_packet, written_tsdu, size_parameter, selector_parameter, parameters_of, connection_fields, HasRoom}
+use Rattle.tpkt.proofs.StreamLaws.{octets_join}
 
 -- ---- a TSDU is cut into DTs
 
@@ -181,11 +182,6 @@ fields_length ends =
     omega (arith, x, y, length-append (flat_map parameter (a ++ b)) (flat_map parameter c), length-append (flat_map parameter a) (flat_map parameter b))
 
 -- ---- octets
-
-octets_join : (xs ys : List ℕ) → IsOctets xs → IsOctets ys → IsOctets (xs ++ ys)
-octets_join [] ys p q i = q i
-octets_join (x ∷ xs) ys p q zero = p 0
-octets_join (x ∷ xs) ys p q (suc i) = octets_join xs ys (λ j. p (suc j)) q i
 
 mark_octet : (last : Bool) → mark last < 256
 mark_octet true = omega arith

@@ -1,13 +1,15 @@
 -- A stream of packets, read from its front, and what a reader makes of it.
 use Rattle.std.specs.Prelude.{◌≡◌, ℕ, ◌+◌, ◌*◌, ◌<◌, List, [], length, take, drop, slice_index, Option, Some, None, Result, Ok, Err, nat_lt, if◌then◌else◌}
+use Rattle.tpkt.specs.declared.packet.Packet.{Packet}
 use Rattle.tpkt.specs.declared.packet.TFault.{TFault}
+use Rattle.tpkt.specs.declared.held.Held.{Held}
 use Rattle.tpkt.specs.declared.header.Header.{Header}
 use Rattle.tpkt.specs.declared.header.Header.TheVariants.{Control, Data}
 use Rattle.tpkt.specs.declared.stop.Stop.{Stop}
 use Rattle.tpkt.specs.declared.stop.Stop.TheVariants.{Short, At}
 use Rattle.tpkt.specs.Wire.{Tpdu, Whole, Part, Splits, begun_by, handed}
 use Rattle.tpkt.specs.Header.{◌>>=◌, header_at}
-use Rattle.tpkt.specs.Reader.{Fed, on}
+use Rattle.tpkt.specs.Reader.{on, reading, nothing}
 
 -- each number is an octet
 abbrev pub IsOctets : List ℕ → Type 0
@@ -32,12 +34,17 @@ IsStop (Err Short) start None = Unit {0}
 IsStop (Err (At offset kind)) start (Some fault) = (fault.place ≡ on start offset) × (fault.kind ≡ kind)
 IsStop _ start fault = ⊥
 
--- What was made of a stream: the packets of its units, and its first fault if there is one.
-pub record Reads (stream : List ℕ) (f : Fed) : Type 0 where
+-- What is made of a stream: the packets of its units, up to where no further unit is there, and its first fault if there is one.
+pub record Reads (stream : List ℕ) (packets : List Packet) (fault : Option TFault) : Type 0 where
   pub units : List Tpdu
   pub start : ℕ
   pub rest : List ℕ
   pub splits : Splits [] stream units rest
   pub starts : start + length rest ≡ length stream
-  pub packets : f.packets ≡ handed [] units
-  pub stop : IsStop (unit_at (begun_by [] units) rest) start f.held.fault
+  pub hands : packets ≡ handed [] units
+  pub stop : IsStop (unit_at (begun_by [] units) rest) start fault
+
+-- a reader that took this stream from a connection's first octet on, and handed up these packets on the way
+abbrev pub HasRead : List ℕ → List Packet → Option Held → Type 0
+HasRead stream packets None = ⊥
+HasRead stream packets (Some held) = reading nothing stream ≡ record { packets = packets; held = held }

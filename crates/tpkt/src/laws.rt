@@ -1,21 +1,32 @@
 //! Laws of streams: each is the contract of a function that does nothing.
 
-ghost use Rattle.std.specs.Prelude.{◌≡◌, ℕ, ◌≤◌, ◌++◌, ◌∷◌, List, [], length, Option, Some, None, Err, Ok};
+ghost use Rattle.std.specs.Prelude.{◌≡◌, ℕ, ◌<◌, ◌≤◌, ◌++◌, ◌∷◌, List, [], length, take, Option, Some, None, Err, Ok};
 ghost use Rattle.osi_base.specs.declared.words.Kind.{Kind};
 ghost use Rattle.tpkt.specs.declared.held.Held.{Held};
 ghost use Rattle.tpkt.specs.declared.packet.TFault.{TFault};
 ghost use Rattle.tpkt.specs.declared.stop.Stop.{Stop};
 ghost use Rattle.tpkt.specs.declared.packet.Ends.{Ends};
+ghost use Rattle.tpkt.specs.declared.packet.Packet.{Packet};
 ghost use Rattle.tpkt.specs.declared.packet.Packet.TheVariants.{Connect, Confirm, Disconnect, Problem, Tsdu};
-ghost use Rattle.tpkt.specs.Wire.{packet, header, two, tsdu_limit, Tpdu, Whole, IsTwo, IsUnit, Splits, begun_by, handed};
+ghost use Rattle.tpkt.specs.Wire.{packet, header, two, tsdu_limit, Tpdu, Whole, IsTwo, IsUnit, Splits, begun_by, handed_for, handed};
 ghost use Rattle.tpkt.specs.Written.{written_tsdu, connection_fields, HasRoom};
 ghost use Rattle.tpkt.specs.Reader.{Fed, reading, nothing};
-ghost use Rattle.tpkt.specs.Stream.{IsOctets, unit_at, Reads};
+ghost use Rattle.tpkt.specs.Stream.{IsOctets, unit_at, Reads, HasRead};
 
-/// What a new reader makes of a stream: the packets of its units, and its first fault with the
-/// place counted from the first octet of the stream.
+/// What a reader made of a stream, in whatever pieces it came: the packets of its units, and its
+/// first fault with the place counted from the first octet of the stream.
 pub fn stream_is_read()
-    ensures { (stream : List ℕ) → IsOctets stream → Reads stream (reading nothing stream) }
+    ensures { (stream : List ℕ) (packets : List Packet) (held : Held) → IsOctets stream
+        → HasRead stream packets (Some held) → Reads stream packets held.fault }
+{}
+
+/// A packet is handed up with its last octet, and not before.
+pub fn up_with_its_last_octet()
+    ensures { (came bytes : List ℕ) (us : List Tpdu) (rest : List ℕ) (u : Tpdu) (unit : List ℕ)
+        → IsOctets (came ++ bytes) → Splits [] came us rest → IsUnit (begun_by [] us) u unit
+        → packet unit ≡ rest ++ bytes → 0 < length bytes
+        → ((reading nothing came).packets ≡ handed [] us)
+        × ((reading nothing (came ++ bytes)).packets ≡ handed [] us ++ handed_for (begun_by [] us) u) }
 {}
 
 /// Two feeds give together what one feed of all their octets gives.
@@ -56,6 +67,19 @@ pub fn spelled_unit_is_read()
 pub fn fault_stays()
     ensures { (begun xs ys : List ℕ) (o : ℕ) (k : Kind) → unit_at begun xs ≡ Err (Stop.At o k)
         → unit_at begun (xs ++ ys) ≡ Err (Stop.At o k) }
+{}
+
+/// The faulty field is there, and the octets before it are right so far.
+pub fn right_before_a_fault()
+    ensures { (begun xs : List ℕ) (o : ℕ) (k : Kind) → unit_at begun xs ≡ Err (Stop.At o k)
+        → (o < length xs) × (unit_at begun (take o xs) ≡ Err Stop.Short) }
+{}
+
+/// A beginning of a packet is right so far, and less than a packet.
+pub fn less_than_a_packet()
+    ensures { (begun : List ℕ) (u : Tpdu) (unit xs ys : List ℕ) → IsOctets xs
+        → IsUnit begun u unit → packet unit ≡ xs ++ ys → 0 < length ys
+        → unit_at begun xs ≡ Err Stop.Short }
 {}
 
 /// Octets with a fault begin no packet.

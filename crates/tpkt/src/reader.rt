@@ -1,7 +1,11 @@
 //! Reads the packets of a stream, in whatever pieces it comes.
 
-ghost use Rattle.std.specs.Prelude.{◌≡◌, Some, None, IfSome, IfOk, OnErr};
+ghost use Rattle.std.specs.Prelude.{◌≡◌, ℕ, ◌++◌, List, [], Some, None, IfSome, IfOk, OnErr};
+ghost use Rattle.tpkt.specs.declared.packet.Packet.{Packet};
+ghost use Rattle.tpkt.specs.declared.packet.TFault.{TFault};
+ghost use Rattle.tpkt.specs.declared.held.Held.{Held};
 ghost use Rattle.tpkt.specs.Reader.{nothing, IsFed, IsKept};
+ghost use Rattle.tpkt.specs.Stream.{IsOctets, Reads, HasRead};
 
 use crate::held::{Held, all_taken, between};
 use crate::packet::{Packets, TFed};
@@ -9,7 +13,8 @@ use osi_base::{NoMemory, Octets};
 use std::alloc::Global;
 use std::marker::Model;
 
-/// Reads the packets of one connection's stream. It keeps at most one packet and one TSDU.
+/// Reads the packets of one connection's stream (RFC 1006 6; X.224 13, class 0). It keeps at most
+/// one packet, of 65,535 octets, and one TSDU, of 1,048,576; a longer TSDU is a fault.
 ///
 /// A contract sees what the reader holds, or `None` where a feed once wanted memory and got none:
 /// such a reader keeps nothing, and answers each later feed with `NoMemory`.
@@ -35,7 +40,9 @@ impl Model for TReader {
 impl TReader {
     /// A reader at the first octet of a connection.
     pub fn new(alloc: Global) -> TReader
-        ensures { result ≡ Some nothing }
+        ensures held { result ≡ Some nothing }
+        // Nothing came yet, and nothing was handed up.
+        ensures new { HasRead [] [] result }
     {
         TReader {
             alloc,
@@ -45,10 +52,23 @@ impl TReader {
 
     /// Takes the next octets of the stream, and gives each packet that ends in them, in the feed
     /// of its last octet, and the fault of the stream if there is one by now. After a fault each
-    /// feed answers it again and no packet.
+    /// feed answers it again and no packet. Where memory runs out, the reader keeps nothing, and
+    /// this and each later feed answers `NoMemory`.
     pub fn feed(&mut self, bytes: &[u8]) -> Result<TFed, NoMemory>
+        // All feeds together give the packets of the stream and its first fault.
+        ensures all { (came : List ℕ) (given : List Packet) → IsOctets came
+            → HasRead came given self.old
+            → IfOk result (λ fed. Reads (came ++ bytes.now) (given ++ fed.packets) fed.fault) }
+        ensures goes_on { (came : List ℕ) (given : List Packet) → HasRead came given self.old
+            → IfOk result (λ fed. HasRead (came ++ bytes.now) (given ++ fed.packets) self.new) }
+        // After a fault nothing changes.
+        ensures again { (held : Held) (fault : TFault) → self.old ≡ Some held
+            → held.fault ≡ Some fault → IfOk result (λ fed. (fed.packets ≡ [])
+            × (fed.fault ≡ Some fault) × (self.new ≡ self.old)) }
+        // What one feed makes of what was held.
         ensures ok { IfOk result (λ fed. IsFed self.old bytes.now fed self.new) }
         ensures err { OnErr result (self.new ≡ None) }
+        // At most one packet and one TSDU are kept.
         ensures kept { IfSome self.new IsKept }
     {
         let Some(held) = self.held.take() else {

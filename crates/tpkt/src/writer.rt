@@ -21,7 +21,9 @@ fn push_part(out: &mut Octets, octets: &[u8], last: bool) -> Result<(), NoMemory
     out.extend(octets)
 }
 
-/// The packets of a TSDU: DTs of at most `size` octets, of which three are header.
+/// The packets of a TSDU (RFC 1006 6; X.224 13.7): DTs of at most `size` octets, of which three are
+/// header. Each but the last is as long as it may be, and the last has the mark of the TSDU's end.
+/// The size is 128 to 65,531. `NoMemory` where memory runs out.
 pub fn write_tsdu(alloc: Global, tsdu: &[u8], size: u32) -> Result<Octets, NoMemory>
     requires least { 128 ≤ size }
     requires most { size ≤ 65531 }
@@ -88,7 +90,9 @@ fn connection(alloc: Global, code: u8, ends: &Ends) -> Result<Octets, NoMemory>
     control(alloc, fields.as_slice())
 }
 
-/// The packet of a connection request, CR.
+/// The packet of a connection request, CR (X.224 13.3), of class 0: the references, and the size and
+/// the selectors where they are there. Its header has room for at most 254 octets. `NoMemory` where
+/// memory runs out.
 pub fn write_connect(alloc: Global, ends: &Ends) -> Result<Octets, NoMemory>
     requires { HasRoom ends.now }
     ensures { IfOk result (λ octets. octets ≡ control_packet (connection_fields 224 ends.now)) }
@@ -96,7 +100,7 @@ pub fn write_connect(alloc: Global, ends: &Ends) -> Result<Octets, NoMemory>
     connection(alloc, 0xE0, ends)
 }
 
-/// The packet of a connection confirm, CC.
+/// The packet of a connection confirm, CC (X.224 13.4), as that of a request.
 pub fn write_confirm(alloc: Global, ends: &Ends) -> Result<Octets, NoMemory>
     requires { HasRoom ends.now }
     ensures { IfOk result (λ octets. octets ≡ control_packet (connection_fields 208 ends.now)) }
@@ -104,7 +108,8 @@ pub fn write_confirm(alloc: Global, ends: &Ends) -> Result<Octets, NoMemory>
     connection(alloc, 0xD0, ends)
 }
 
-/// The packet of a disconnect request, DR, without parameters.
+/// The packet of a disconnect request, DR (X.224 13.5): the references and the reason, without
+/// parameters. `NoMemory` where memory runs out.
 pub fn write_disconnect(
     alloc: Global,
     destination: u16,
@@ -122,7 +127,8 @@ pub fn write_disconnect(
     control(alloc, fields.as_slice())
 }
 
-/// The packet of a unit that tells an error, ER, without parameters.
+/// The packet of a unit that tells an error, ER (X.224 13.12): the reference of the end that it goes
+/// to and the cause, without parameters. `NoMemory` where memory runs out.
 pub fn write_problem(alloc: Global, destination: u16, cause: u8) -> Result<Octets, NoMemory>
     ensures { IfOk result (λ octets. octets
         ≡ control_packet (112 ∷ two destination ++ cause ∷ [])) }

@@ -1,0 +1,6 @@
+use Rattle.std.proofs.Common.{arith}
+use Rattle.spdu_codec.proofs.SizeLaws.{word_size}
+use Rattle.spdu_codec.proofs.tests.alone.Goals as goal
+
+pub check-requires : goal.check-requires
+check-requires c = (c.requires.stands, record { fields = c.requires.fields; size = omega (arith, c.requires.short, word_size c.args.word c.requires.fields) })
