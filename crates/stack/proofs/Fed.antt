@@ -21,6 +21,7 @@ use Rattle.dialogue.specs.History.{Step, took, fed, fault, feed_end, after}
 use Rattle.dialogue.specs.Feeding.{read_message, Reads, passes, waits, takes, refuses, fails}
 use Rattle.stack.specs.End.{EndView, stepped, Keeps}
 use Rattle.stack.specs.Feed.{TookOne, ReadAll, Fed}
+use Rattle.stack.proofs.Histories.{stands_on}
 
 bare_ber : (t : Tables) (s : State) → s.held ≡ bare_set t → transfer_of (bare_pair s) ≡ Ber
 bare_ber t s h = ap (λ (l : List SetItem). transfer_of (pair_of l 0)) h
@@ -182,6 +183,7 @@ pub fed_up : (old new : EndView) (octets : List ℕ) (shown : List Indication) �
     → ReadAll (record old { state = record old.state { rest = old.state.rest ++ octets } }) new [] shown → Fed old new octets shown
 fed_up old new octets shown up r =
     let state_is : record old.state { rest = old.state.rest ++ octets } ≡ after old.tables old.state (fed octets) = ap (λ (b : Bool). record old.state { rest = cond b [] (old.state.rest ++ octets) }) (sym up) in
+    let end_is : new ≡ stepped old (fed octets ∷ r.steps) = r.end_is ∙ ap (λ (s : State). stepped (record old { state = s }) r.steps) state_is in
     record {
       steps = fed octets ∷ r.steps;
       feeds = record {
@@ -190,15 +192,18 @@ fed_up old new octets shown up r =
         reads = subst (λ (ts : List Indication). Reads old.tables (after old.tables old.state (fed octets)) r.steps ts) (sym r.shown_is)
             (subst (λ (s : State). Reads old.tables s r.steps r.told) state_is r.reads);
       };
-      end_is = r.end_is ∙ ap (λ (s : State). stepped (record old { state = s }) r.steps) state_is;
+      end_is = end_is;
+      stands = stands_on old new (fed octets ∷ r.steps) end_is;
     }
 
 -- what came when the end was over
 pub fed_over : (old new : EndView) (octets : List ℕ) → passes_over old.state.phase ≡ true → new ≡ record old { state = record old.state { rest = [] } } → Fed old new octets []
 fed_over old new octets over e =
     let state_is : record old.state { rest = [] } ≡ after old.tables old.state (fed octets) = ap (λ (b : Bool). record old.state { rest = cond b [] (old.state.rest ++ octets) }) (sym over) in
+    let end_is : new ≡ stepped old (fed octets ∷ feed_end ∷ []) = e ∙ ap (λ (s : State). record old { state = s }) state_is in
     record {
       steps = fed octets ∷ feed_end ∷ [];
       feeds = record { reading = feed_end ∷ []; all = refl; reads = passes over };
-      end_is = e ∙ ap (λ (s : State). record old { state = s }) state_is;
+      end_is = end_is;
+      stands = stands_on old new (fed octets ∷ feed_end ∷ []) end_is;
     }

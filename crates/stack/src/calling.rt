@@ -1,13 +1,14 @@
 //! The calls of an end.
 
 ghost use Rattle.std.specs.Prelude.{◌≡◌, ℕ, ◌+◌, ◌≤◌, ◌++◌, [], ◌∷◌, true, false, Some, None, OnOk, OnErr, if◌then◌else◌};
-ghost use Rattle.std.specs.Bool.{MatchBool};
-ghost use Rattle.stack.specs.End.{Answers, Answered, Died, Keeps, is_memory};
+ghost use Rattle.std.specs.Bool.{MatchBool, OnFalse};
+ghost use Rattle.stack.specs.End.{Answers, Answered, Died, Keeps, is_memory, StandsFor};
 ghost use Rattle.stub_tables.specs.Lookup.{operation_at};
 ghost use Rattle.stub_tables.specs.Uses.{is_carried};
 ghost use Rattle.stub_tables.specs.Apdus.{IsIdentifier};
 ghost use Rattle.dialogue.specs.State.{without};
 ghost use Rattle.dialogue.specs.Calls.{can_call, can_bare, can_invoke_unlinked, link_refusal, opened_by};
+ghost use Rattle.dialogue.specs.History.{History, going_on, call_steps, state_of};
 ghost use Rattle.dialogue.specs.declared.call.Call.TheVariants as the_calls;
 
 use crate::end::End;
@@ -240,16 +241,25 @@ impl<'t> End<'t> {
         self.call_allowed(call)
     }
 
-    /// Makes a call. A refusal is the first row of the conditions that fails, and changes nothing;
-    /// but after a refusal by want of memory the end is dead. An accepted invocation is answered
-    /// by its identifier, all else by `None`.
-    pub fn call(&mut self, call: Call) -> Result<Option<i64>, CallRefusal>
-        ensures answer { MatchBool (is_memory result) (Died self.old self.new) (Answered (can_call self.old.tables self.old.config self.old.state call) self.old self.new call result) }
+    /// Makes a call; where memory is refused, the end dies.
+    fn call_or_die(&mut self, call: &Call) -> Result<Option<i64>, CallRefusal>
+        ensures { MatchBool (is_memory result) (Died self.old self.new) (Answered (can_call self.old.tables self.old.config self.old.state call.now) self.old self.new call.now result) }
     {
-        let answer = self.call_now(&call);
+        let answer = self.call_now(call);
         if matches!(answer, Err(CallRefusal::NoMemory)) {
             self.phase = Phase::Dead;
         }
         answer
+    }
+
+    /// Makes a call. A refusal is the first row of the conditions that fails, and changes nothing;
+    /// but after a refusal by want of memory the end is dead, and answers `Dead` from then on. An
+    /// accepted invocation is answered by its identifier, all else by `None`.
+    pub fn call(&mut self, call: Call) -> Result<Option<i64>, CallRefusal>
+        ensures answer { MatchBool (is_memory result) (Died self.old self.new) (Answered (can_call self.old.tables self.old.config self.old.state call) self.old self.new call result) }
+        // Where the end stood for a history, it stands for it with the steps of the call.
+        ensures history { (h : History) → StandsFor self.old h → OnFalse (is_memory result) (StandsFor self.new (going_on h (call_steps self.old.tables self.old.config (state_of self.old.tables h) call))) }
+    {
+        self.call_or_die(&call)
     }
 }
