@@ -1,0 +1,49 @@
+-- What the program answers: a status, and the text that it writes.
+use Rattle.std.specs.Prelude.{ℕ, ◌≡◌, List, [], ◌∷◌, ◌++◌, Option, codes, decimal}
+use Rattle.osi_base.specs.Outside.{Rose, grown, GrewPart}
+use Rattle.osi_base.specs.declared.words.Status.{Status}
+use Rattle.osi_base.specs.declared.words.Status.TheVariants.{Done, Usage, ReadFault, WriteFault, ModuleRefused, ScriptRefused, NoMemory}
+use Rattle.script_text.specs.declared.fault.ScriptKind.{ScriptKind}
+use Rattle.script_text.specs.declared.fault.ScriptKind.TheVariants as kinds
+use Rattle.script_text.specs.Texts.{line}
+use Rattle.osi_tool.specs.declared.answers.Answer.{Answer}
+
+-- the words are no command
+abbrev pub usage_answer : Answer
+usage_answer = record {
+  status = Usage;
+  text = line (codes "usage: osi_tool check MODULE [--table] | replay MODULE SCHEDULE [--brief] | replay --made N | call MODULE SCRIPT | serve MODULE BOOK CONNECTIONS | trace MODULE FILE");
+}
+
+-- a file isn't read
+abbrev pub unread_answer : List ℕ → Answer
+unread_answer name = record { status = ReadFault; text = line (codes "cannot read " ++ name) }
+
+-- the module isn't the one that is known
+abbrev pub module_answer : Answer
+module_answer = record { status = ModuleRefused; text = line (codes "module refused 1 1 Unsupported") }
+
+abbrev pub kind_word : ScriptKind → List ℕ
+kind_word kinds.UnknownWord = codes "UnknownWord"
+kind_word kinds.BadNumber = codes "BadNumber"
+kind_word kinds.BadValue = codes "BadValue"
+kind_word kinds.BadName = codes "BadName"
+kind_word kinds.BadField = codes "BadField"
+kind_word kinds.TooMany = codes "TooMany"
+kind_word kinds.OutOfOrder = codes "OutOfOrder"
+kind_word kinds.BadSetup = codes "BadSetup"
+
+-- the schedule breaks its grammar at this line
+abbrev pub script_answer : ℕ → ScriptKind → Answer
+script_answer number kind = record { status = ScriptRefused; text = line (codes "script refused " ++ decimal number ++ codes " " ++ kind_word kind) }
+
+-- the work is whole
+abbrev pub done_answer : List ℕ → Answer
+done_answer text = record { status = Done; text = text }
+
+-- How a run ends that has this answer, by the sink's count of faults and what it tells, both before and after:
+-- all is written, or a beginning of it, and writing failed or memory was refused.
+pub data Ends (old new : ℕ) (before after : Option (List ℕ)) (answer : Answer) : Status → Type 0 where
+  whole : after ≡ grown before answer.text → Ends old new before after answer answer.status
+  failed : Rose old new → GrewPart before after answer.text → Ends old new before after answer WriteFault
+  no_memory : GrewPart before after answer.text → Ends old new before after answer NoMemory

@@ -1,0 +1,75 @@
+-- From the words to what is to be run.
+use Rattle.std.specs.Prelude.{ℕ, ◌≡◌, ◌≤◌, ◌⊎◌, List, length, Option, None, Some, Result, Ok, Err, IfSome, MatchBool, true, false}
+use Rattle.osi_base.specs.Outside.{Rose, FileMap, Lacks}
+use Rattle.osi_base.specs.declared.files.TheConstants.{FILE_MOST}
+use Rattle.osi_base.specs.declared.words.Status.{Status}
+use Rattle.stub_tables.specs.declared.tables.Tables.{Tables}
+use Rattle.script_text.specs.declared.fault.ScriptFault.{ScriptFault}
+use Rattle.script_text.specs.declared.fault.ScriptFault.TheVariants.{At, NoMemory}
+use Rattle.script_text.specs.declared.fault.ScriptKind.{ScriptKind}
+use Rattle.script_text.specs.declared.schedule.Schedule.{Schedule}
+use Rattle.script_text.specs.Schedules.{schedule_of}
+use Rattle.osi_tool.specs.declared.answers.Answer.{Answer}
+use Rattle.osi_tool.specs.declared.preparing.Prepared.{Prepared}
+use Rattle.osi_tool.specs.declared.preparing.Prepared.TheVariants.{Answered, Ready}
+use Rattle.osi_tool.specs.Commands.{Command}
+use Rattle.osi_tool.specs.Known.{is_one_module}
+use Rattle.osi_tool.specs.Answers.{usage_answer, unread_answer, module_answer, script_answer}
+
+-- What came of reading the file of a name: octets, which are those of a told map; or nothing, since the
+-- count of faults rose or the told map lacks the name.
+abbrev pub WasRead : Option FileMap → ℕ → ℕ → List ℕ → Option (List ℕ) → Type 0
+WasRead told old new name (Some octets) = IfSome told (λ files. files name ≡ Some octets) × (length octets ≤ FILE_MOST)
+WasRead told old new name None = Rose old new ⊎ Lacks told name
+
+-- what a schedule's reading makes
+abbrev pub prepared_by : Result Schedule ScriptFault → Option Prepared
+prepared_by (Ok schedule) = Some (Ready schedule)
+prepared_by (Err (At number kind)) = Some (Answered (script_answer number kind))
+prepared_by (Err NoMemory) = None
+
+-- what is prepared once the schedule was read, or wasn't
+abbrev pub after_schedule : Tables → List ℕ → Option (List ℕ) → Option Prepared
+after_schedule tables name None = Some (Answered (unread_answer name))
+after_schedule tables name (Some text) = prepared_by (schedule_of tables text)
+
+-- The schedule is read, or isn't.
+abbrev pub PreparesSchedule : Tables → Option FileMap → ℕ → ℕ → List ℕ → Prepared → Type 0
+PreparesSchedule tables told old new name prepared =
+    (schedule : Option (List ℕ)) × WasRead told old new name schedule × (after_schedule tables name schedule ≡ Some prepared)
+
+-- The module, once it was read or wasn't, decides whether the schedule is read.
+abbrev pub AfterModule : Tables → Option FileMap → ℕ → ℕ → Command → Option (List ℕ) → Prepared → Type 0
+AfterModule tables told old new command None prepared = prepared ≡ Answered (unread_answer command.«module»)
+AfterModule tables told old new command (Some text) prepared = MatchBool (is_one_module text)
+    (PreparesSchedule tables told old new command.schedule prepared)
+    (prepared ≡ Answered module_answer)
+
+-- The module is read, or isn't.
+abbrev pub PreparesModule : Tables → Option FileMap → ℕ → ℕ → Command → Prepared → Type 0
+PreparesModule tables told old new command prepared =
+    («module» : Option (List ℕ)) × WasRead told old new command.«module» «module» × AfterModule tables told old new command «module» prepared
+
+-- What the words make, by the told files and the files' count of faults, before and after. The words come
+-- first, then the module, then the schedule: the first that is faulty decides.
+pub data Prepares (tables : Tables) (told : Option FileMap) (old new : ℕ) : Option Command → Prepared → Type 0 where
+  -- the words are no command
+  no_command : Prepares tables told old new None (Answered usage_answer)
+  -- the module isn't read
+  no_module : (command : Command) → WasRead told old new command.«module» None
+      → Prepares tables told old new (Some command) (Answered (unread_answer command.«module»))
+  -- the module isn't the one that is known
+  other_module : (command : Command) (text : List ℕ) → WasRead told old new command.«module» (Some text) → is_one_module text ≡ false
+      → Prepares tables told old new (Some command) (Answered module_answer)
+  -- the schedule isn't read
+  no_schedule : (command : Command) (text : List ℕ) → WasRead told old new command.«module» (Some text) → is_one_module text ≡ true
+      → WasRead told old new command.schedule None
+      → Prepares tables told old new (Some command) (Answered (unread_answer command.schedule))
+  -- the schedule breaks its grammar
+  bad_schedule : (command : Command) (text script : List ℕ) → WasRead told old new command.«module» (Some text) → is_one_module text ≡ true
+      → WasRead told old new command.schedule (Some script) → (number : ℕ) (kind : ScriptKind) → schedule_of tables script ≡ Err (At number kind)
+      → Prepares tables told old new (Some command) (Answered (script_answer number kind))
+  -- the schedule is read, and can be run
+  ready : (command : Command) (text script : List ℕ) → WasRead told old new command.«module» (Some text) → is_one_module text ≡ true
+      → WasRead told old new command.schedule (Some script) → (schedule : Schedule) → schedule_of tables script ≡ Ok schedule
+      → Prepares tables told old new (Some command) (Ready schedule)

@@ -1,0 +1,13 @@
+//! The law of answers, as the contract of a function that does nothing.
+
+ghost use Rattle.osi_tool.specs.Laws.{OneAnswer};
+
+use duo::one_run;
+
+/// Words have one answer over told files that don't fail: so a beginning that was written before
+/// writing failed is one of what a sink that doesn't fail is given.
+pub fn one_answer()
+    ensures { OneAnswer }
+{
+    one_run()
+}
