@@ -1,18 +1,16 @@
 -- Why each answer comes: what words and files make, case by case.
-use Rattle.std.proofs.Common.{ℕ, ◌≡◌, ◌≤◌, ◌<◌, ◌⊎◌, List, [], ◌∷◌, length, Option, None, Some, Result, Ok, Err, Bool, true, false, refl, sym, ap, subst, inl, inr, ◌∙◌, arith}
+use Rattle.std.proofs.Common.{ℕ, ◌≡◌, List, Option, None, Some, Ok, Bool, true, false, refl, sym, ap, subst, inl, inr, ◌∙◌, arith}
 use Rattle.std.proofs.lemmas.Slice.Eq.{bytes_eq-Decides}
-use Rattle.osi_base.specs.Outside.{Rose, IsCalm, FileMap, Lacks, grown}
+use Rattle.osi_base.specs.Outside.{IsCalm, FileMap, grown}
 use Rattle.osi_base.specs.declared.words.Status.{Status}
 use Rattle.osi_base.specs.declared.words.Status.TheVariants.{Done, Usage, ReadFault, WriteFault, LineFault, ModuleRefused, ScriptRefused, Ended, Spent, NoMemory}
-use Rattle.script_text.specs.declared.fault.ScriptFault.TheVariants.{At}
-use Rattle.script_text.specs.declared.fault.ScriptKind.{ScriptKind}
 use Rattle.script_text.specs.declared.schedule.Schedule.{Schedule}
 use Rattle.script_text.specs.Schedules.{schedule_of}
 use Rattle.osi_tool.specs.declared.preparing.Prepared.{Prepared}
 use Rattle.osi_tool.specs.declared.preparing.Prepared.TheVariants.{Answered, Ready}
 use Rattle.osi_tool.specs.Known.{one_module, is_one_module, one_tables}
 use Rattle.osi_tool.specs.Commands.{Command, command_of}
-use Rattle.osi_tool.specs.Answers.{usage_answer, unread_answer, module_answer, script_answer}
+use Rattle.osi_tool.specs.Answers.{usage_answer, unread_answer, script_answer}
 use Rattle.osi_tool.specs.Preparing.{WasRead, Prepares, no_command, no_module, other_module, no_schedule, bad_schedule, ready}
 use Rattle.osi_tool.specs.TopCall.{IsUsage, IsUnread, IsOtherModule, IsBadScript, due_by_module, due_if_known, due_by_script, due_by_reading, due_status}
 

@@ -1,17 +1,14 @@
 -- What the end of the top call says, status by status.
-use Rattle.std.proofs.Common.{ℕ, ◌≡◌, ◌⊎◌, List, Option, None, Some, IfSome, Bool, true, false, refl, sym, ap, inl, inr, ◌∙◌}
+use Rattle.std.proofs.lemmas.Slice.Eq.{bytes_eq-Decides}
+use Rattle.std.proofs.Common.{arith, ℕ, ◌≡◌, ◌⊎◌, List, Option, None, Some, IfSome, true, false, refl, sym, ap, inl, inr, ◌∙◌}
 use Rattle.osi_base.specs.Outside.{Rose, IsCalm, FileMap, grown}
 use Rattle.osi_base.specs.declared.words.Status.{Status}
 use Rattle.osi_base.specs.declared.words.Status.TheVariants.{Done, Usage, ReadFault, WriteFault, LineFault, ModuleRefused, ScriptRefused, Ended, Spent, NoMemory}
-use Rattle.script_text.specs.declared.schedule.Schedule.{Schedule}
 use Rattle.osi_tool.specs.declared.answers.Answer.{Answer}
 use Rattle.osi_tool.specs.declared.preparing.Prepared.TheVariants.{Answered, Ready}
-use Rattle.osi_tool.specs.Known.{one_tables}
+use Rattle.osi_tool.specs.Known.{one_module}
 use Rattle.osi_tool.specs.Commands.{command_of}
-use Rattle.osi_tool.specs.Answers.{Ends, done_answer}
-use Rattle.osi_tool.specs.Preparing.{Prepares}
-use Rattle.osi_tool.specs.Replaying.{Replayed}
-use Rattle.osi_tool.specs.TopCall.{IsAnswer, refuses, replays, Closes, answered, no_room, IsDone, IsUsage, IsUnread, IsOtherModule, IsBadScript, IsBegun, IsUnless, due_status}
+use Rattle.osi_tool.specs.TopCall.{IsAnswer, refuses, replays, Closes, answered, no_room, IsDone, IsUsage, IsUnread, IsOtherModule, IsBadScript, IsBegun, IsUnless, due_status, due_by_module, due_if_known, due_by_script, due_by_reading, IsSure}
 use Rattle.osi_tool.proofs.Causes.{is_answers, IsReady, ready_case, usage_case, unread_case, module_case, script_case, answers_alone, never_done, no_command_due, due_case}
 use Rattle.osi_tool.proofs.Endings.{whole_if, part_if_failed, part_if_no_memory, unless}
 
@@ -133,3 +130,27 @@ due_of None old new words sink_old sink_new before after status closes = tt
 due_of (Some map) old new words sink_old sink_new before after status (answered answer _ is ends) =
     λ calm. unless sink_old sink_new before after answer status ends (due_status map (command_of words)) (due_by map old new words calm answer is)
 due_of (Some map) old new words sink_old sink_new before after _ (no_room same) = λ calm. inr (inr refl)
+
+-- a map that has the known module and a schedule that reads is due the end of a run
+sure_due : (map : FileMap) (old new : ℕ) (words : List (List ℕ)) (sink_old sink_new : ℕ) → IsSure (Some map) old new words sink_old sink_new
+    → due_status map (command_of words) ≡ Done
+sure_due map old new words sink_old sink_new sure =
+    let k = sure.command in
+    ap (due_status map) sure.words_are
+    ∙ ap (λ x. due_by_module x (map k.schedule)) sure.has_module
+    ∙ ap (λ b. due_if_known b (map k.schedule)) ((bytes_eq-Decides one_module one_module).1 refl)
+    ∙ ap due_by_script sure.has_schedule
+    ∙ ap due_by_reading sure.reads
+
+calm_end : (sink_old sink_new : ℕ) (status wanted : Status) → wanted ≡ Done → IsCalm sink_old sink_new → IsUnless sink_old sink_new wanted status
+    → (status ≡ Done) ⊎ (status ≡ NoMemory)
+calm_end sink_old sink_new status wanted is calm (inl h) = inl (h ∙ is)
+calm_end sink_old sink_new status wanted is calm (inr (inl h)) = let rose = h.1 in absurd (omega (arith, calm, rose))
+calm_end sink_old sink_new status wanted is calm (inr (inr h)) = inr h
+
+pub complete_of : (told : Option FileMap) (old new : ℕ) (words : List (List ℕ)) (sink_old sink_new : ℕ) (before after : Option (List ℕ)) (status : Status)
+    → Closes told old new words sink_old sink_new before after status → IsSure told old new words sink_old sink_new → (status ≡ Done) ⊎ (status ≡ NoMemory)
+complete_of None old new words sink_old sink_new before after status closes sure = absurd sure.has_module
+complete_of (Some map) old new words sink_old sink_new before after status closes sure =
+    calm_end sink_old sink_new status (due_status map (command_of words)) (sure_due map old new words sink_old sink_new sure) sure.sink_calm
+    (due_of (Some map) old new words sink_old sink_new before after status closes sure.files_calm)

@@ -1,5 +1,5 @@
 -- What the end of a run says of its answer and of the sink.
-use Rattle.std.proofs.Common.{ℕ, ◌≡◌, ◌⊎◌, List, Option, Bool, true, false, refl, ap, inl, inr, ◌∙◌}
+use Rattle.std.proofs.Common.{ℕ, ◌≡◌, List, Option, Bool, true, false, refl, ap, inl, inr, ◌∙◌}
 use Rattle.osi_base.specs.Outside.{Rose, grown, GrewPart}
 use Rattle.osi_base.specs.declared.words.Status.{Status}
 use Rattle.osi_base.specs.declared.words.Status.TheVariants.{WriteFault, NoMemory}

@@ -1,7 +1,7 @@
 -- What words and files make, case by case.
-use Rattle.std.proofs.Common.{ℕ, ◌≡◌, ◌≤◌, ◌⊎◌, List, [], ◌∷◌, length, Option, None, Some, Result, Ok, Err, Bool, true, false, refl, sym, subst, inl, inr}
+use Rattle.std.proofs.Common.{ℕ, ◌≡◌, List, Option, None, Some, Result, Ok, Err, Bool, true, false, refl, sym, subst}
 use Rattle.std.specs.Bool.{MatchBool}
-use Rattle.osi_base.specs.Outside.{Rose, FileMap, Lacks}
+use Rattle.osi_base.specs.Outside.{FileMap}
 use Rattle.stub_tables.specs.declared.tables.Tables.{Tables}
 use Rattle.script_text.specs.declared.fault.ScriptFault.{ScriptFault}
 use Rattle.script_text.specs.declared.fault.ScriptFault.TheVariants.{At, NoMemory}
@@ -10,9 +10,9 @@ use Rattle.script_text.specs.Schedules.{schedule_of}
 use Rattle.osi_tool.specs.declared.preparing.Prepared.{Prepared}
 use Rattle.osi_tool.specs.declared.preparing.Prepared.TheVariants.{Answered, Ready}
 use Rattle.osi_tool.specs.Commands.{Command}
-use Rattle.osi_tool.specs.Answers.{usage_answer, unread_answer, module_answer, script_answer}
+use Rattle.osi_tool.specs.Answers.{unread_answer, module_answer, script_answer}
 use Rattle.osi_tool.specs.Known.{is_one_module}
-use Rattle.osi_tool.specs.Preparing.{WasRead, prepared_by, after_schedule, PreparesSchedule, AfterModule, PreparesModule, Prepares, no_command, no_module, other_module, no_schedule, bad_schedule, ready}
+use Rattle.osi_tool.specs.Preparing.{WasRead, prepared_by, after_schedule, PreparesSchedule, AfterModule, PreparesModule, Prepares, no_module, other_module, no_schedule, bad_schedule, ready}
 
 by_script : (tables : Tables) (told : Option FileMap) (old new : ℕ) (command : Command) (text script : List ℕ) (prepared : Prepared)
     → WasRead told old new command.«module» (Some text) → is_one_module text ≡ true → WasRead told old new command.schedule (Some script)

@@ -1,5 +1,5 @@
 -- Tables of the parts of the one module are its tables, whatever proofs they hold.
-use Rattle.std.proofs.Common.{ℕ, ◌≡◌, ◌<◌, ◌^◌, List, [], ◌∷◌, length, IsTrue, Bool, true, codes, refl, sym, ap, subst, ◌∙◌}
+use Rattle.std.proofs.Common.{ℕ, ◌≡◌, ◌<◌, ◌^◌, List, [], ◌∷◌, length, IsTrue, codes, sym, ap, subst, ◌∙◌}
 use Rattle.std.proofs.Math.Bridge.{le_prop}
 use Rattle.std.proofs.Math.Bool.{Bool-set}
 use Rattle.asn1_types.specs.declared.row.TypeRow.{TypeRow}

@@ -1,5 +1,5 @@
 -- Words have one answer over told files that don't fail.
-use Rattle.std.proofs.Common.{ℕ, ◌≡◌, List, [], Option, None, Some, Result, Ok, Err, Bool, true, false, refl, sym, ap, subst, ◌∙◌}
+use Rattle.std.proofs.Common.{ℕ, ◌≡◌, List, [], Option, None, Some, Bool, true, false, refl, sym, ap, subst, ◌∙◌}
 use Rattle.osi_base.specs.Outside.{IsCalm, FileMap}
 use Rattle.osi_base.specs.declared.words.Side.TheVariants.{A, B}
 use Rattle.stub_tables.specs.declared.tables.Tables.{Tables}
@@ -7,10 +7,9 @@ use Rattle.dialogue.specs.declared.config.Mode.{Mode}
 use Rattle.dialogue.specs.declared.config.Phase.{Phase}
 use Rattle.dialogue.specs.declared.event.Entry.{Entry}
 use Rattle.dialogue.specs.declared.event.Transcript.{Transcript}
-use Rattle.dialogue.specs.World.{World, state_at}
+use Rattle.dialogue.specs.World.{state_at}
 use Rattle.duo.specs.Laws.{OneRun}
 use Rattle.script_text.specs.declared.schedule.Schedule.{Schedule}
-use Rattle.script_text.specs.Schedules.{schedule_of}
 use Rattle.script_text.specs.Texts.{text_of}
 use Rattle.osi_tool.specs.declared.answers.Answer.{Answer}
 use Rattle.osi_tool.specs.declared.preparing.Prepared.{Prepared}
@@ -18,7 +17,7 @@ use Rattle.osi_tool.specs.declared.preparing.Prepared.TheVariants.{Answered, Rea
 use Rattle.osi_tool.specs.Known.{is_one_module, one_tables}
 use Rattle.osi_tool.specs.Commands.{Command, command_of}
 use Rattle.osi_tool.specs.Answers.{usage_answer, unread_answer, module_answer, done_answer}
-use Rattle.osi_tool.specs.Preparing.{WasRead, Prepares, prepared_by, after_schedule, no_command, no_module, other_module, no_schedule, bad_schedule, ready}
+use Rattle.osi_tool.specs.Preparing.{Prepares, prepared_by, after_schedule, no_command, no_module, other_module, no_schedule, bad_schedule, ready}
 use Rattle.osi_tool.specs.Replaying.{Replayed}
 use Rattle.osi_tool.specs.TopCall.{IsAnswer, refuses, replays}
 use Rattle.osi_tool.specs.Laws.{OneAnswer}

@@ -1,5 +1,5 @@
 -- The command that words give.
-use Rattle.std.specs.Prelude.{ℕ, ◌==◌, Bool, true, false, not, ◌&&◌, if◌then◌else◌, List, [], ◌∷◌, Option, None, Some, codes, bytes_eq}
+use Rattle.std.specs.Prelude.{ℕ, ◌==◌, Bool, true, not, ◌&&◌, if◌then◌else◌, List, [], ◌∷◌, Option, None, Some, codes, bytes_eq}
 
 -- a replay, by the names of its files
 pub record Command : Type 0 where

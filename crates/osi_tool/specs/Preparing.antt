@@ -2,14 +2,12 @@
 use Rattle.std.specs.Prelude.{ℕ, ◌≡◌, ◌≤◌, ◌⊎◌, List, length, Option, None, Some, Result, Ok, Err, IfSome, MatchBool, true, false}
 use Rattle.osi_base.specs.Outside.{Rose, FileMap, Lacks}
 use Rattle.osi_base.specs.declared.files.TheConstants.{FILE_MOST}
-use Rattle.osi_base.specs.declared.words.Status.{Status}
 use Rattle.stub_tables.specs.declared.tables.Tables.{Tables}
 use Rattle.script_text.specs.declared.fault.ScriptFault.{ScriptFault}
 use Rattle.script_text.specs.declared.fault.ScriptFault.TheVariants.{At, NoMemory}
 use Rattle.script_text.specs.declared.fault.ScriptKind.{ScriptKind}
 use Rattle.script_text.specs.declared.schedule.Schedule.{Schedule}
 use Rattle.script_text.specs.Schedules.{schedule_of}
-use Rattle.osi_tool.specs.declared.answers.Answer.{Answer}
 use Rattle.osi_tool.specs.declared.preparing.Prepared.{Prepared}
 use Rattle.osi_tool.specs.declared.preparing.Prepared.TheVariants.{Answered, Ready}
 use Rattle.osi_tool.specs.Commands.{Command}

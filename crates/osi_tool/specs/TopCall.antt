@@ -1,6 +1,6 @@
 -- What the program's top call does, and why it ends as it does.
 use Rattle.std.specs.Prelude.{ℕ, ◌≡◌, ◌⊎◌, List, Option, None, Some, Result, Ok, Err, Bool, true, false}
-use Rattle.osi_base.specs.Outside.{Rose, FileMap, Lacks, grown, GrewPart}
+use Rattle.osi_base.specs.Outside.{Rose, IsCalm, FileMap, Lacks, Holds, grown, GrewPart}
 use Rattle.osi_base.specs.declared.words.Status.{Status}
 use Rattle.osi_base.specs.declared.words.Status.TheVariants.{Done, Usage, ReadFault, WriteFault, ModuleRefused, ScriptRefused, NoMemory}
 use Rattle.script_text.specs.declared.fault.ScriptFault.{ScriptFault}
@@ -118,3 +118,16 @@ due_by_module (Some text) script = due_if_known (is_one_module text) script
 abbrev pub due_status : FileMap → Option Command → Status
 due_status files None = Usage
 due_status files (Some command) = due_by_module (files command.«module») (files command.schedule)
+
+-- The words are a replay, the files tell the known module and a schedule that reads, and neither the files
+-- nor the sink failed.
+pub record IsSure (told : Option FileMap) (old new : ℕ) (words : List (List ℕ)) (sink_old sink_new : ℕ) : Type 0 where
+  pub command : Command
+  pub words_are : command_of words ≡ Some command
+  pub has_module : Holds told command.«module» one_module
+  pub script : List ℕ
+  pub has_schedule : Holds told command.schedule script
+  pub schedule : Schedule
+  pub reads : schedule_of one_tables script ≡ Ok schedule
+  pub files_calm : IsCalm old new
+  pub sink_calm : IsCalm sink_old sink_new

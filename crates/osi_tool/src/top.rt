@@ -3,7 +3,7 @@
 ghost use Rattle.std.specs.Prelude.{◌≡◌, ◌≢◌, ◌≤◌, ◌⊎◌, None, IfOk, IfSome};
 ghost use Rattle.osi_base.specs.Outside.{Rose, IsCalm};
 ghost use Rattle.osi_tool.specs.Commands.{command_of};
-ghost use Rattle.osi_tool.specs.TopCall.{IsAnswer, Closes, IsDone, IsUsage, IsUnread, IsOtherModule, IsBadScript, IsBegun, IsUnless, due_status};
+ghost use Rattle.osi_tool.specs.TopCall.{IsAnswer, Closes, IsDone, IsUsage, IsUnread, IsOtherModule, IsBadScript, IsBegun, IsUnless, IsSure, due_status};
 
 use crate::answers::{Answer, conclude, done};
 use crate::known::one_tables;
@@ -54,12 +54,12 @@ pub fn osi_run<F: Files, O: Sink, L: Line>(
     words: &Words,
     files: &mut F,
     out: &mut O,
-    _line: &mut L,
+    line: &mut L,
 ) -> Status
     ensures files { F.faults files.old ≤ F.faults files.new }
     ensures contents { F.told files.new ≡ F.told files.old }
     ensures sink { O.faults out.old ≤ O.faults out.new }
-    ensures line { _line.new ≡ _line.old }
+    ensures line { line.new ≡ line.old }
 
     // What each status says
     ensures done { result ≡ Status.Done → IsDone (F.told files.old) (F.faults files.old) (F.faults files.new) words.now (O.told out.old) (O.told out.new) }
@@ -74,6 +74,7 @@ pub fn osi_run<F: Files, O: Sink, L: Line>(
     // When each status comes
     ensures no_command { command_of words.now ≡ None → IsUnless (O.faults out.old) (O.faults out.new) Status.Usage result }
     ensures due { IfSome (F.told files.old) (λ map. IsCalm (F.faults files.old) (F.faults files.new) → IsUnless (O.faults out.old) (O.faults out.new) (due_status map (command_of words.now)) result) }
+    ensures complete { IsSure (F.told files.old) (F.faults files.old) (F.faults files.new) words.now (O.faults out.old) (O.faults out.new) → (result ≡ Status.Done) ⊎ (result ≡ Status.NoMemory) }
 {
     run_words(alloc, words, files, out)
 }

@@ -1,5 +1,5 @@
 use Rattle.std.proofs.Common.{ap, Err}
-use Rattle.osi_tool.specs.Answers.{Ends, whole, failed, no_memory}
+use Rattle.osi_tool.specs.Answers.{whole, failed, no_memory}
 use Rattle.osi_tool.proofs.answers.finish.Goals as goal
 
 pub returns-in-Ok-clause-ends : goal.returns-in-Ok-clause-ends

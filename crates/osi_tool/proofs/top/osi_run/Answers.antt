@@ -1,4 +1,4 @@
-use Rattle.osi_tool.proofs.Closing.{done_of, usage_of, unread_of, module_of, script_of, write_fault_of, no_memory_of, no_other_of, no_command_of, due_of}
+use Rattle.osi_tool.proofs.Closing.{done_of, usage_of, unread_of, module_of, script_of, write_fault_of, no_memory_of, no_other_of, no_command_of, due_of, complete_of}
 use Rattle.osi_tool.proofs.top.osi_run.Goals as goal
 
 pub returns-clause-done : goal.returns-clause-done
@@ -30,3 +30,6 @@ returns-clause-no_command g c = no_command_of _ _ _ _ _ _ _ _ _ c.run_words.ensu
 
 pub returns-clause-due : goal.returns-clause-due
 returns-clause-due g c = due_of _ _ _ _ _ _ _ _ _ c.run_words.ensures.closes
+
+pub returns-clause-complete : goal.returns-clause-complete
+returns-clause-complete g c = complete_of _ _ _ _ _ _ _ _ _ c.run_words.ensures.closes
