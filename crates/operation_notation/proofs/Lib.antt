@@ -13,6 +13,7 @@ pub mod OidLaws
 pub mod ModuleLaws
 pub mod Well
 pub mod Rises
+pub mod Gaps
 pub mod Longest
 pub mod Local
 pub mod LocalRules

@@ -18,8 +18,9 @@ use Rattle.operation_notation.specs.Lexing.{behind_octet, most_octets, behind_oc
 use Rattle.operation_notation.specs.Modules.{Answers, tokens_of, unless_stopped, too_long}
 use Rattle.operation_notation.specs.declared.fault.NotationFault.{NotationFault}
 use Rattle.operation_notation.specs.declared.fault.NotationKind.{NotationKind}
-use Rattle.operation_notation.specs.Tokens.{AreTokens}
+use Rattle.operation_notation.specs.Tokens.{AreTokens, Gap, outside, behind_all}
 use Rattle.operation_notation.proofs.Numbers.{both, joined}
+use Rattle.operation_notation.proofs.Gaps.{Fit, Passes, blank_passes, begins_outside, comment_passes, Passed_since, nothing_passed, more_passed, all_passed}
 use Rattle.operation_notation.proofs.Spans.{word_form, word_within, number_form, number_within, sign_form, chosen_piece, or_true}
 
 -- ---- words
@@ -161,20 +162,23 @@ module _ (rest : List ℕ) where
 -- ---- pieces
 
 abbrev Longest : List ℕ → Piece → Type 0
-Longest rest (Passed n) = Unit {0}
-Longest rest (Cut kind n) = (0 < n) × (n ≤ length rest) × IsTrue (has_form kind (take n rest)) × ((k : ℕ) → k ≤ length rest → IsTrue (has_form kind (take k rest)) → k ≤ n)
+Longest rest (Passed n) = Passes rest n
+Longest rest (Cut kind n) = (0 < n) × (n ≤ length rest) × IsTrue (has_form kind (take n rest)) × ((k : ℕ) → k ≤ length rest → IsTrue (has_form kind (take k rest)) → k ≤ n) × ((g : Gap) → Fit g rest → g ≡ outside)
 Longest rest Bad = Unit {0}
 
-piece_longest : (rest : List ℕ) → Longest rest (piece_of rest)
+chosen_by : (P : Piece → Type 0) (b : Bool) (p q : Piece) → (b ≡ true → P p) → (b ≡ false → P q) → P (if b then p else q)
+chosen_by P true p q f g = f refl
+chosen_by P false p q f g = g refl
+
+piece_longest : (c : ℕ) (cs : List ℕ) → Longest (c ∷ cs) (piece_of (c ∷ cs))
 unfolding piece_of
-piece_longest [] = tt
-piece_longest (c ∷ cs) =
+piece_longest c cs =
     let rest = c ∷ cs in
-    chosen_piece (Longest rest) (is_blank c) _ _ (λ e. tt)
-    (chosen_piece (Longest rest) (starts (codes "--") rest) _ _ (λ e. tt)
-    (chosen_piece (Longest rest) (nat_lt 0 (word_length rest)) _ _ (λ e. (ltb-true _ _ e, word_within rest, word_form rest (ltb-true _ _ e), word_longest rest))
-    (chosen_piece (Longest rest) (nat_lt 0 (number_length rest)) _ _ (λ e. (ltb-true _ _ e, number_within rest, number_form rest (ltb-true _ _ e), number_longest rest))
-    (chosen_piece (Longest rest) (nat_lt 0 (sign_length rest)) _ _ (λ e. let f = sign_form rest (ltb-true _ _ e) in (ltb-true _ _ e, f.1, f.0, sign_longest rest)) tt))))
+    chosen_by (Longest rest) (is_blank c) _ _ (λ e. blank_passes c cs e) (λ dark.
+    chosen_piece (Longest rest) (starts (codes "--") rest) _ _ (λ e. comment_passes c cs dark e)
+    (chosen_piece (Longest rest) (nat_lt 0 (word_length rest)) _ _ (λ e. (ltb-true _ _ e, word_within rest, word_form rest (ltb-true _ _ e), word_longest rest, begins_outside c cs dark))
+    (chosen_piece (Longest rest) (nat_lt 0 (number_length rest)) _ _ (λ e. (ltb-true _ _ e, number_within rest, number_form rest (ltb-true _ _ e), number_longest rest, begins_outside c cs dark))
+    (chosen_piece (Longest rest) (nat_lt 0 (sign_length rest)) _ _ (λ e. let f = sign_form rest (ltb-true _ _ e) in (ltb-true _ _ e, f.1, f.0, sign_longest rest, begins_outside c cs dark)) tt))))
 
 -- ---- all tokens of a text
 
@@ -203,12 +207,15 @@ slice_is source from p rest n s =
     ap (λ (i : ℕ). take i (drop from source)) k ∙ ap (take n) (sym s.left)
 
 tokens_after : (source : List ℕ) (more : ℕ → ℕ → Place → List ℕ → Lexed)
-    → ((left from : ℕ) (p : Place) (rest : List ℕ) (least : ℕ) → Stands source from p rest → least ≤ from → AreTokens source least (more left from p rest).tokens)
-    → (left from : ℕ) (p : Place) (rest : List ℕ) (least : ℕ) (piece : Piece) → Stands source from p rest → 0 < length rest → least ≤ from → Longest rest piece → AreTokens source least (cut_after more left from p rest piece).tokens
-tokens_after source more ih left from p rest least (Passed n) s some le f = ih left (from + n) (behind_octets p (take n rest)) (drop n rest) least (moves source from p rest n s) (omega arith)
-tokens_after source more ih zero from p rest least (Cut kind n) s some le f = tt
-tokens_after source more ih (suc left) from p rest least (Cut kind n) s some le f =
-    let length_is : length rest ≡ length source - from = ap length s.left ∙ length-drop from source in (
+    → ((left from : ℕ) (p : Place) (rest : List ℕ) (least : ℕ) → Stands source from p rest → least ≤ from → Passed_since source least from → (more left from p rest).stop ≡ None → AreTokens source least (more left from p rest).tokens)
+    → (left from : ℕ) (p : Place) (rest : List ℕ) (least : ℕ) (piece : Piece) → Stands source from p rest → 0 < length rest → least ≤ from → Passed_since source least from → Longest rest piece
+    → (cut_after more left from p rest piece).stop ≡ None → AreTokens source least (cut_after more left from p rest piece).tokens
+tokens_after source more ih left from p rest least (Passed n) s some le g f e =
+    ih left (from + n) (behind_octets p (take n rest)) (drop n rest) least (moves source from p rest n s) (omega arith) (more_passed source least from n le (subst (λ (z : List ℕ). Passes z n) s.left f) g) e
+tokens_after source more ih zero from p rest least (Cut kind n) s some le g f e = absurd cc
+tokens_after source more ih (suc left) from p rest least (Cut kind n) s some le g f e =
+    let length_is : length rest ≡ length source - from = ap length s.left ∙ length-drop from source in
+    let in_front : Fit (behind_all outside (slice_range source least from)) rest = subst (λ (z : List ℕ). Fit (behind_all outside (slice_range source least from)) z) (sym s.left) g in (
       record {
         some = omega (arith, f.0);
         within = omega (arith, f.1, length_is);
@@ -217,22 +224,28 @@ tokens_after source more ih (suc left) from p rest least (Cut kind n) s some le 
         place = s.here;
       },
       le,
-      ih left (from + n) (behind_octets p (take n rest)) (drop n rest) (from + n) (moves source from p rest n s) (omega arith),
+      f.4 (behind_all outside (slice_range source least from)) in_front,
+      ih left (from + n) (behind_octets p (take n rest)) (drop n rest) (from + n) (moves source from p rest n s) (omega arith) (nothing_passed source (from + n)) e,
     )
-tokens_after source more ih left from p rest least Bad s some le f = tt
+tokens_after source more ih left from p rest least Bad s some le g f e = absurd cc
 
-cut_tokens : (source : List ℕ) (turns left from : ℕ) (p : Place) (rest : List ℕ) (least : ℕ) → Stands source from p rest → least ≤ from → AreTokens source least (cut turns left from p rest).tokens
+cut_tokens : (source : List ℕ) (turns left from : ℕ) (p : Place) (rest : List ℕ) (least : ℕ) → Stands source from p rest → least ≤ from → Passed_since source least from
+    → (cut turns left from p rest).stop ≡ None → AreTokens source least (cut turns left from p rest).tokens
 unfolding cut
-cut_tokens source turns left from p [] least s le = tt
-cut_tokens source zero left from p (c ∷ cs) least s le = tt
-cut_tokens source (suc turns) left from p (c ∷ cs) least s le = tokens_after source (cut turns) (cut_tokens source turns) left from p (c ∷ cs) least (piece_of (c ∷ cs)) s (omega arith) le (piece_longest (c ∷ cs))
+cut_tokens source turns left from p [] least s le g e = all_passed source least from le (sym s.left) g
+cut_tokens source zero left from p (c ∷ cs) least s le g e = absurd cc
+cut_tokens source (suc turns) left from p (c ∷ cs) least s le g e = tokens_after source (cut turns) (cut_tokens source turns) left from p (c ∷ cs) least (piece_of (c ∷ cs)) s (omega arith) le g (piece_longest c cs) e
 
-lexed_tokens : (text : List ℕ) → AreTokens text 0 (lexed_of text).tokens
+lexed_tokens : (text : List ℕ) → (lexed_of text).stop ≡ None → AreTokens text 0 (lexed_of text).tokens
 unfolding lexed_of
-lexed_tokens text = cut_tokens text (length text) _ 0 first_place text 0 (record { left = refl; here = refl }) (omega arith)
+lexed_tokens text e = cut_tokens text (length text) _ 0 first_place text 0 (record { left = refl; here = refl }) (omega arith) (nothing_passed text 0) e
 
-unstopped_tokens : (o : Option NotationKind) (p : Place) (ts l : List Token) → unless_stopped o p ts ≡ Ok l → ts ≡ l
-unstopped_tokens None p ts l e = cc
+record Unstopped (o : Option NotationKind) (ts l : List Token) : Type 0 where
+  none : o ≡ None
+  is : ts ≡ l
+
+unstopped_tokens : (o : Option NotationKind) (p : Place) (ts l : List Token) → unless_stopped o p ts ≡ Ok l → Unstopped o ts l
+unstopped_tokens None p ts l e = record { none = refl; is = cc }
 unstopped_tokens (Some kind) p ts l e = absurd cc
 
 tokens_are : (text : List ℕ) (ts : List Token) → tokens_of text ≡ Ok ts → AreTokens text 0 ts
@@ -241,7 +254,9 @@ tokens_are text ts e = go (nat_lt most_octets (length text)) e
   where
     go : (b : Bool) → (if b then too_long else unless_stopped (lexed_of text).stop (lexed_of text).place (lexed_of text).tokens) ≡ Ok ts → AreTokens text 0 ts
     go true h = absurd cc
-    go false h = subst (AreTokens text 0) (unstopped_tokens (lexed_of text).stop (lexed_of text).place (lexed_of text).tokens ts h) (lexed_tokens text)
+    go false h =
+        let u = unstopped_tokens (lexed_of text).stop (lexed_of text).place (lexed_of text).tokens ts h in
+        subst (AreTokens text 0) u.is (lexed_tokens text u.none)
 
 pub lex_tokens : (text : List ℕ) (r : Result (List Token) NotationFault) → Answers r (tokens_of text) → IfOk r (λ ts. AreTokens text 0 ts)
 lex_tokens text (Ok ts) h = tokens_are text ts h

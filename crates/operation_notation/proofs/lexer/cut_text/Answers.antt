@@ -23,8 +23,8 @@ loop-rest-preserved-in-Passed c =
       column = omega (arith, past.column, split.front_len);
     }
 
-pub returns-then-len-eq65536 : goal.returns-then-len-eq65536
-returns-then-len-eq65536 c = full c.loop-rest.tokens c.loop-rest.from c.loop-rest.place c.loop-rest.rest.now _ c.in-Cut.kind c.in-Cut.length c.loop-rest.invariant.cutting (sym c.in-Cut.ensures.value) (omega (arith, c.in-Cut.ensures.within)) (sym c.len.ensures ∙ c.if-len-eq65536.true)
+pub returns-then-len-eq-MOST_TOKENS : goal.returns-then-len-eq-MOST_TOKENS
+returns-then-len-eq-MOST_TOKENS c = full c.loop-rest.tokens c.loop-rest.from c.loop-rest.place c.loop-rest.rest.now _ c.in-Cut.kind c.in-Cut.length c.loop-rest.invariant.cutting (sym c.in-Cut.ensures.value) (omega (arith, c.in-Cut.ensures.within)) (sym c.len.ensures ∙ c.if-len-eq-MOST_TOKENS.true)
 
 pub loop-rest-preserved : goal.loop-rest-preserved
 loop-rest-preserved c =
@@ -32,7 +32,7 @@ loop-rest-preserved c =
     let fits = c.in-Cut.ensures.within in
     let split = c.split_at-in-Cut.ensures in
     let past = c.past-place-in-Cut.ensures in
-    let few : length c.loop-rest.tokens < 65536 = omega (arith, i.cutting.counted, c.len.ensures, c.if-len-eq65536.false) in
+    let few : length c.loop-rest.tokens < 65536 = omega (arith, i.cutting.counted, c.len.ensures, c.if-len-eq-MOST_TOKENS.false) in
     record {
       cutting = rw (past.value, split.front, split.back, c.in_ok-push-in-Cut.ensures.ok) (cuts c.loop-rest.tokens c.loop-rest.from c.loop-rest.place c.loop-rest.rest.now _ c.in-Cut.kind c.in-Cut.length i.cutting (sym c.in-Cut.ensures.value) fits.0 fits.1 few);
       counted = omega (arith, split.back_len);
