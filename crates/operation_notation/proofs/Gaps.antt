@@ -97,36 +97,40 @@ no_hyphen c cs e = go (nat_eq 45 c) e
     go true h = absurd cc
     go false h = refl
 
+in_comment_at : (c : ℕ) (cs : List ℕ) → Stops inside cs (comment_length cs) → (starts (codes "-") cs ≡ false → Stops closing cs (comment_length cs))
+    → (a : Bool) → (c == 10) ≡ a → (b : Bool) → starts (codes "--") (c ∷ cs) ≡ b → (h : Bool) → (c == 45) ≡ h → Stops inside (c ∷ cs) (if a then 0 else if b then 2 else suc (comment_length cs))
+in_comment_at c cs more closed true is b st h hy = eqb-true c 10 is
+in_comment_at c cs more closed false is true st h hy = closes_at_two c cs (two_hyphens c cs st)
+in_comment_at c cs more closed false is false st true hy =
+    let one : behind_one inside c ≡ closing = rw (is, hy) refl in
+    subst (λ (g : Gap). Stops g cs (comment_length cs)) (sym one) (closed (not_behind_hyphen c cs hy st))
+in_comment_at c cs more closed false is false st false hy =
+    let one : behind_one inside c ≡ inside = rw (is, hy) refl in
+    subst (λ (g : Gap). Stops g cs (comment_length cs)) (sym one) more
+
+in_closing_at : (c : ℕ) (cs : List ℕ) → Stops inside cs (comment_length cs) → starts (codes "-") (c ∷ cs) ≡ false → (a : Bool) → (c == 10) ≡ a → (b : Bool) → starts (codes "--") (c ∷ cs) ≡ b
+    → Stops closing (c ∷ cs) (if a then 0 else if b then 2 else suc (comment_length cs))
+in_closing_at c cs more e true is b st = eqb-true c 10 is
+in_closing_at c cs more e false is true st = absurd (hyphen_alone (nat_eq 45 c) _ e st)
+in_closing_at c cs more e false is false st =
+    let one : behind_one closing c ≡ inside = rw (is, differs c (no_hyphen c cs e)) refl in
+    subst (λ (g : Gap). Stops g cs (comment_length cs)) (sym one) more
+
 mutual
   in_comment : (cs : List ℕ) → Stops inside cs (comment_length cs)
   in_comment [] = tt
-  in_comment (c ∷ cs) = in_comment_at c cs (c == 10) refl (starts (codes "--") (c ∷ cs)) refl (c == 45) refl
-
-  in_comment_at : (c : ℕ) (cs : List ℕ) (a : Bool) → (c == 10) ≡ a → (b : Bool) → starts (codes "--") (c ∷ cs) ≡ b → (h : Bool) → (c == 45) ≡ h → Stops inside (c ∷ cs) (if a then 0 else if b then 2 else suc (comment_length cs))
-  in_comment_at c cs true is b st h hy = eqb-true c 10 is
-  in_comment_at c cs false is true st h hy = closes_at_two c cs (two_hyphens c cs st)
-  in_comment_at c cs false is false st true hy =
-      let one : behind_one inside c ≡ closing = rw (is, hy) refl in
-      subst (λ (g : Gap). Stops g cs (comment_length cs)) (sym one) (in_closing cs (not_behind_hyphen c cs hy st))
-  in_comment_at c cs false is false st false hy =
-      let one : behind_one inside c ≡ inside = rw (is, hy) refl in
-      subst (λ (g : Gap). Stops g cs (comment_length cs)) (sym one) (in_comment cs)
+  in_comment (c ∷ cs) = in_comment_at c cs (in_comment cs) (in_closing cs) (c == 10) refl (starts (codes "--") (c ∷ cs)) refl (c == 45) refl
 
   in_closing : (cs : List ℕ) → starts (codes "-") cs ≡ false → Stops closing cs (comment_length cs)
   in_closing [] e = tt
-  in_closing (c ∷ cs) e = in_closing_at c cs e (c == 10) refl (starts (codes "--") (c ∷ cs)) refl
-
-  in_closing_at : (c : ℕ) (cs : List ℕ) → starts (codes "-") (c ∷ cs) ≡ false → (a : Bool) → (c == 10) ≡ a → (b : Bool) → starts (codes "--") (c ∷ cs) ≡ b → Stops closing (c ∷ cs) (if a then 0 else if b then 2 else suc (comment_length cs))
-  in_closing_at c cs e true is b st = eqb-true c 10 is
-  in_closing_at c cs e false is true st = absurd (hyphen_alone (nat_eq 45 c) _ e st)
-  in_closing_at c cs e false is false st =
-      let one : behind_one closing c ≡ inside = rw (is, differs c (no_hyphen c cs e)) refl in
-      subst (λ (g : Gap). Stops g cs (comment_length cs)) (sym one) (in_comment cs)
+  in_closing (c ∷ cs) e = in_closing_at c cs (in_comment cs) e (c == 10) refl (starts (codes "--") (c ∷ cs)) refl
 
 comment_from : (c : ℕ) (cs : List ℕ) → TwoHyphens c cs → Stops outside (c ∷ cs) (2 + comment_length (drop 2 (c ∷ cs)))
 comment_from c cs t =
     subst (λ (k : ℕ). Stops outside (k ∷ cs) (2 + comment_length (drop 2 (k ∷ cs)))) (sym t.first)
-    (subst (λ (z : List ℕ). Stops outside (45 ∷ z) (2 + comment_length (drop 2 (45 ∷ z)))) (sym t.second) (in_comment t.behind))
+    (subst (λ (z : List ℕ). Stops outside (45 ∷ z) (2 + comment_length (drop 2 (45 ∷ z)))) (sym t.second)
+    (let two : 2 + comment_length t.behind ≡ suc (suc (comment_length t.behind)) = omega arith in
+    subst (Stops outside (45 ∷ 45 ∷ t.behind)) (sym two) (in_comment t.behind)))
 
 pub comment_passes : (c : ℕ) (cs : List ℕ) → is_blank c ≡ false → starts (codes "--") (c ∷ cs) ≡ true → Passes (c ∷ cs) (2 + comment_length (drop 2 (c ∷ cs)))
 comment_passes c cs b st g f =
@@ -164,7 +168,7 @@ pub more_passed : (source : List ℕ) (least from n : ℕ) → least ≤ from �
 more_passed source least from n le p f =
     let g = behind_all outside (slice_range source least from) in
     let is : behind_all outside (slice_range source least (from + n)) ≡ behind_all g (take n (drop from source)) =
-        ap (behind_all outside) (slice_grows source least from n le) ∙ behind_append outside (slice_range source least from) (take n (drop from source)) in
+    ap (behind_all outside) (slice_grows source least from n le) ∙ behind_append outside (slice_range source least from) (take n (drop from source)) in
     subst (λ (k : Gap). Fit k (drop (from + n) source)) (sym is)
     (subst (λ (z : List ℕ). Fit (behind_all g (take n (drop from source))) z) (drop-drop n from source) (p g f))
 
@@ -172,5 +176,5 @@ more_passed source least from n le p f =
 pub all_passed : (source : List ℕ) (least from : ℕ) → least ≤ from → drop from source ≡ [] → Passed_since source least from → may_end (behind_all outside (drop least source)) ≡ true
 all_passed source least from le e f =
     let whole : drop least source ≡ slice_range source least from =
-        sym (take-append-drop (from - least) (drop least source)) ∙ ap (λ (z : List ℕ). take (from - least) (drop least source) ++ z) (behind_slice source least from le ∙ e) ∙ append-nil (take (from - least) (drop least source)) in
+    sym (take-append-drop (from - least) (drop least source)) ∙ ap (λ (z : List ℕ). take (from - least) (drop least source) ++ z) (behind_slice source least from le ∙ e) ∙ append-nil (take (from - least) (drop least source)) in
     ap (λ (z : List ℕ). may_end (behind_all outside z)) whole ∙ end_fits (behind_all outside (slice_range source least from)) (subst (λ (z : List ℕ). Fit (behind_all outside (slice_range source least from)) z) e f)
