@@ -1,6 +1,6 @@
 -- Where reading stops, what it passed goes on to what the grammar spells: the laws of the means.
-use Rattle.std.proofs.Common.{codes, ◌≡◌, ℕ, zero, suc, ◌≤◌, Bool, true, false, List, [], ◌∷◌, ◌++◌, length, Option, Some, None, Ok, Err, refl, sym, ap, subst, ◌∙◌, append_assoc, append-nil, arith, inl, inr}
-use Rattle.std.specs.Prelude.{◌⊎◌, if◌then◌else◌}
+use Rattle.std.proofs.Common.{◌≡◌, ℕ, zero, suc, ◌≤◌, Bool, true, false, List, [], ◌∷◌, ◌++◌, length, Option, Some, None, Ok, Err, refl, sym, ap, subst, ◌∙◌, append_assoc, append-nil, arith, inl, inr}
+use Rattle.std.specs.Prelude.{if◌then◌else◌}
 use Rattle.std.specs.List.{AllByRecursion}
 use Rattle.std.proofs.lemmas.Slice.Eq.{bytes_eq-Decides}
 use Rattle.operation_notation.specs.Forms.{has_form}
@@ -13,7 +13,7 @@ use Rattle.operation_notation.specs.Grammar.{One, Then, Nothing, Either, Maybe, 
 use Rattle.operation_notation.specs.declared.token.TokenKind.{TokenKind}
 use Rattle.operation_notation.specs.declared.cursor.Place.{Place}
 use Rattle.operation_notation.specs.declared.fault.NotationKind.{NotationKind}
-use Rattle.operation_notation.proofs.Means.{Front, never, ok_is, after_ok, law_one, law_nothing}
+use Rattle.operation_notation.proofs.Means.{Front, never, after_ok, law_one, law_nothing}
 use Rattle.operation_notation.proofs.Starts.{Headed, Starts}
 use Rattle.operation_notation.proofs.Chains.{starts_at}
 use Rattle.operation_notation.proofs.Local.{fault, failed, fault_is, after_err, left_out}

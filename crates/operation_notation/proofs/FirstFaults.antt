@@ -1,14 +1,12 @@
 -- What is refused is the text's first fault.
-use Rattle.std.proofs.Common.{codes, ◌≡◌, ℕ, ◌<◌, ◌≤◌, Bool, true, false, List, [], ◌∷◌, ◌++◌, length, Option, Some, None, Result, Ok, Err, refl, sym, ap, subst, ◌∙◌, append-nil, inl, inr}
+use Rattle.std.proofs.Common.{◌≡◌, ℕ, ◌<◌, ◌≤◌, Bool, true, false, List, [], ◌∷◌, ◌++◌, length, Option, Some, None, Result, Ok, Err, refl, sym, ap, subst, ◌∙◌, append-nil, inl, inr}
 use Rattle.std.specs.Prelude.{IfErr, ◌⊎◌, nat_lt, unwrap_or, if◌then◌else◌}
 use Rattle.std.specs.List.{AllByRecursion}
 use Rattle.std.proofs.lemmas.Bool.{ltb-true, ltb-false}
-use Rattle.operation_notation.specs.Lexeme.{Lexeme, lexemes, begins}
+use Rattle.operation_notation.specs.Lexeme.{Lexeme, lexemes}
 use Rattle.operation_notation.specs.Lexing.{most_octets, lexed_of}
-use Rattle.operation_notation.specs.Words.{place}
-use Rattle.operation_notation.specs.Reading.{Read, Failure}
+use Rattle.operation_notation.specs.Reading.{Read}
 use Rattle.operation_notation.specs.ReadingModules.{module_at, ended_at, whole_at}
-use Rattle.operation_notation.specs.GrammarTypes.{most_levels}
 use Rattle.operation_notation.specs.GrammarModules.{Module}
 use Rattle.operation_notation.specs.Modules.{Answers, module_of, verdict, refused, unless_stopped, too_long}
 use Rattle.operation_notation.specs.Faults.{IsFormed, Begins, IsKind, TooLong, TokenFault, EndFault, IsFirstFault}

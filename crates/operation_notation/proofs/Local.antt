@@ -1,8 +1,8 @@
 -- How far reading looks: a token that it doesn't take decides, with whether OF stands behind it, and nothing further does.
-use Rattle.std.proofs.Common.{codes, ◌≡◌, ℕ, zero, suc, ◌+◌, ◌<◌, ◌≤◌, Bool, true, false, List, [], ◌∷◌, ◌++◌, length, Option, Some, None, Ok, Err, refl, sym, ap, ◌∙◌, append_assoc, arith, inl, inr}
-use Rattle.std.specs.Prelude.{◌⊎◌, ◌&&◌, ◌||◌, if◌then◌else◌}
+use Rattle.std.proofs.Common.{◌≡◌, ℕ, zero, suc, ◌+◌, ◌<◌, ◌≤◌, Bool, true, false, List, [], ◌∷◌, ◌++◌, length, Option, Some, None, Ok, Err, refl, sym, ap, ◌∙◌, append_assoc, arith, inl, inr}
+use Rattle.std.specs.Prelude.{◌⊎◌, ◌||◌, if◌then◌else◌}
 use Rattle.std.proofs.lemmas.List.{length-append, append_cancel_right}
-use Rattle.operation_notation.specs.Lexeme.{Lexeme, same, begins, goes_on}
+use Rattle.operation_notation.specs.Lexeme.{Lexeme, begins, goes_on}
 use Rattle.operation_notation.specs.Words.{is_unsupported}
 use Rattle.operation_notation.specs.Reading.{◌>>=◌, after, give, here, place_of, Failure, Read, taken, token_at, refuse, refuse_as, kind_at, is_set_of, word_at, many_at, all_at, behind, listed_at, maybe_at}
 use Rattle.operation_notation.specs.declared.fault.NotationKind.{NotationKind}

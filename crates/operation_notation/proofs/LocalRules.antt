@@ -2,7 +2,7 @@
 use Rattle.std.proofs.Common.{codes, ◌≡◌, ℕ, zero, suc, Bool, true, false, List, [], ◌∷◌, ◌++◌, length, Option, Some, None, Ok, Err, refl, sym, ap, ◌∙◌, arith}
 use Rattle.std.specs.Prelude.{◌||◌, is_some, unwrap_or, if◌then◌else◌}
 use Rattle.std.proofs.lemmas.List.{length-append}
-use Rattle.operation_notation.specs.Lexeme.{Lexeme, begins, goes_on}
+use Rattle.operation_notation.specs.Lexeme.{Lexeme, goes_on}
 use Rattle.operation_notation.specs.Words.{most_32, most_64, is_type_name, is_value_name}
 use Rattle.operation_notation.specs.Reading.{◌>>=◌, give, Read, refuse, is_set_of, word_at, number_at, number_64_at, int_at, end_at, bool_at, type_name_at, value_name_at}
 use Rattle.operation_notation.specs.ReadingTypes.{starts_name, root_word, text_kind, arc_name_at, bracketed_at, arc_at, alone_at, named_root_at, root_at, most_second, oid_at, range_at, size_at, item_at, items_at, class_at, explicit_at, tag_at, optional_at, part_at, parts_at, alternatives_at, integer_at, octets_at, text_kind_at, named_at, text_or_name_at, leaf_at, sequence_at, set_at, choice_at, plain_at, type_text_at, deep_kind, type_at, outer_type_at}
