@@ -1,0 +1,46 @@
+-- The grammar of modules in which types stand in one another at most 256 levels deep.
+use Rattle.std.proofs.Common.{ℕ, List}
+use Rattle.operation_notation.specs.Lexeme.{Lexeme}
+use Rattle.operation_notation.specs.Tree.{TypeTree}
+use Rattle.operation_notation.specs.GrammarTypes.{Type_of, most_levels}
+use Rattle.operation_notation.specs.GrammarModules as grammar
+use Rattle.operation_notation.specs.declared.module.UseText.{UseText}
+use Rattle.operation_notation.specs.declared.module.OpText.{OpText}
+use Rattle.operation_notation.specs.declared.module.ErrText.{ErrText}
+use Rattle.operation_notation.specs.declared.bodies.Signature.{Signature}
+use Rattle.operation_notation.specs.declared.module.Body.{Body}
+use Rattle.operation_notation.specs.declared.module.Assignment.{Assignment}
+use Rattle.operation_notation.specs.declared.module.ModuleText.{ModuleText}
+
+abbrev pub OuterType : List Lexeme → TypeTree → Type 0
+OuterType = Type_of most_levels
+
+abbrev pub Use : List ℕ → List Lexeme → UseText → Type 0
+Use = grammar.Use most_levels
+
+abbrev pub SignatureSpelled : List Lexeme → Signature → Type 0
+SignatureSpelled = grammar.SignatureSpelled most_levels
+
+abbrev pub Operation : List Lexeme → OpText → Type 0
+Operation = grammar.Operation most_levels
+
+abbrev pub Error : List Lexeme → ErrText → Type 0
+Error = grammar.Error most_levels
+
+abbrev pub Typed : List Lexeme → Assignment → Type 0
+Typed = grammar.Typed most_levels
+
+abbrev pub OperationBody : List Lexeme → Body → Type 0
+OperationBody = grammar.OperationBody most_levels
+
+abbrev pub ErrorBody : List Lexeme → Body → Type 0
+ErrorBody = grammar.ErrorBody most_levels
+
+abbrev pub Valued : List Lexeme → Assignment → Type 0
+Valued = grammar.Valued most_levels
+
+abbrev pub Assign : List Lexeme → Assignment → Type 0
+Assign = grammar.Assign most_levels
+
+abbrev pub Module : List Lexeme → ModuleText → Type 0
+Module = grammar.Module most_levels

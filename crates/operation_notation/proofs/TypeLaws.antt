@@ -1,0 +1,380 @@
+-- Reading types against their grammar.
+use Rattle.std.proofs.Common.{codes, ◌≡◌, ℕ, zero, suc, Bool, true, false, List, [], ◌∷◌, ◌++◌, Option, Some, None, Ok, refl, ap, ◌∙◌}
+use Rattle.std.specs.Prelude.{◌||◌, ◌&&◌, is_some, if◌then◌else◌}
+use Rattle.std.specs.List.{list_any}
+use Rattle.std.specs.Str.{bytes_eq}
+use Rattle.std.proofs.lemmas.Bool.{not-false}
+use Rattle.operation_notation.specs.Lexeme.{Lexeme, same, begins}
+use Rattle.operation_notation.specs.Words.{number, number_of, most_32, most_64, end_of, int_of, type_name_of, value_name_of, text_kind_of, text_kind_word, located}
+use Rattle.operation_notation.specs.Reading.{◌>>=◌, give, Read, refuse, refuse_as, word_at, number_at, number_64_at, int_at, end_at, type_name_at, value_name_at, maybe_at, listed_at, is_set_of}
+use Rattle.operation_notation.specs.ReadingTypes.{range_at, size_at, item_at, items_at, class_at, explicit_at, tag_at, optional_at, part_at, parts_at, alternatives_at, integer_at, octets_at, text_kind, text_kind_at, text_or_name_at, named_at, leaf_at, sequence_at, set_at, choice_at, plain_at, type_text_at, type_at, outer_type_at}
+use Rattle.operation_notation.specs.Grammar.{One, Then, Nothing, Either, The, Listed, Placed}
+use Rattle.operation_notation.specs.GrammarTypes.{Range, Number64, Size, Item, Items, Class, Explicit, Tag, Optional, Part, Parts, Alternatives, Integer, OctetString, Text, Named, Leaf, Sequence, Set, Choice, Plain, TypeBehind, Type_of}
+use Rattle.operation_notation.proofs.Outermost.{OuterType}
+use Rattle.operation_notation.specs.Tree.{TypeTree, type_tree, PlainTree, named, text, set}
+use Rattle.operation_notation.specs.TreeView.{parts_of}
+use Rattle.operation_notation.specs.declared.fault.NotationKind.TheVariants.{Unsupported}
+use Rattle.operation_notation.specs.declared.cursor.Place.{Place}
+use Rattle.operation_notation.specs.declared.module.Located.{Located}
+use Rattle.operation_notation.proofs.Means.{Front, Law, never, law_one, law_word, law_nothing, law_choice}
+use Rattle.operation_notation.proofs.Starts.{Headed, Starts, starts_then, starts_one, starts_either, among, Excludes, excludes_among, excludes_type_name, excludes_value_name, type_named, value_named, begins_any, headed_not, fewer, fewer_one, starts_the, starts_word}
+use Rattle.operation_notation.proofs.Chains.{map_law, closes, closes_under, closed_by, excludes_text, MayStart, Picked, picks, weaker_headed, word_or_named, more_or_named, starts_maybe, or_left, or_right, or_named, excludes_or_named, next, law_any, law_behind, starts_behind, may_starts, may_then, may_nothing, may_either, behind_may, behind_starts, behind_word, same_excludes, law_placed, pick, pick_may, maybe_word, law_listed}
+
+-- ---- tokens
+
+pub law_number : (most : ℕ) → Law (One (number_of most)) (number_at most) never
+unfolding number_at
+law_number most = law_one (number_of most)
+
+pub law_int : Law (One int_of) int_at never
+unfolding int_at
+law_int = law_one int_of
+
+law_end : Law (One end_of) end_at never
+unfolding end_at
+law_end = law_one end_of
+
+pub law_type_name : Law (One type_name_of) type_name_at never
+unfolding type_name_at
+law_type_name = law_one type_name_of
+
+pub law_value_name : Law (One value_name_of) value_name_at never
+unfolding value_name_at
+law_value_name = law_one value_name_of
+
+pub law_number_64 : Law Number64 number_64_at never
+unfolding number_64_at
+law_number_64 = next (law_number most_64) (λ n. law_nothing _ never)
+
+-- the first token of a one-token rule passes whatever test is passed by all that it takes
+pub any_token : Lexeme → Bool
+any_token t = true
+
+pub starts_any : {A : Type 0} (test : Lexeme → Option A) → Starts (One test) any_token
+unfolding any_token
+starts_any test = starts_one test any_token (λ t a e. refl)
+
+value_name_is : (t : Lexeme) (a : Located) → value_name_of t ≡ Some a → value_named t ≡ true
+unfolding value_name_of
+value_name_is t a e = go (value_named t) refl e
+  where
+    go : (b : Bool) → value_named t ≡ b → (if b then Some (located t) else None) ≡ Some a → b ≡ true
+    go true is h = refl
+    go false is h = absurd cc
+
+pub starts_value_name : Starts (One value_name_of) value_named
+starts_value_name = starts_one value_name_of value_named value_name_is
+
+type_name_is : (t : Lexeme) (a : Located) → type_name_of t ≡ Some a → type_named t ≡ true
+unfolding type_name_of
+type_name_is t a e = go (type_named t) refl e
+  where
+    go : (b : Bool) → type_named t ≡ b → (if b then Some (located t) else None) ≡ Some a → b ≡ true
+    go true is h = refl
+    go false is h = absurd cc
+
+pub starts_type_name : Starts (One type_name_of) type_named
+starts_type_name = starts_one type_name_of type_named type_name_is
+
+-- ---- ranges and items
+
+law_range : Law Range range_at never
+unfolding range_at
+law_range = next (law_word (codes "(")) (λ _. law_placed any_token (λ at. starts_then _ _ any_token (starts_any end_of))
+    (λ at. next law_end (λ low. next (law_word (codes "..")) (λ _. next law_end (λ high. next (law_word (codes ")")) (λ _. law_nothing _ never))))))
+
+law_size : Law Size size_at never
+unfolding size_at
+law_size = next (law_word (codes "(")) (λ _. next (law_word (codes "SIZE")) (λ _. next (law_word (codes "(")) (λ _.
+    law_placed any_token (λ at. starts_then _ _ any_token (starts_then _ _ any_token (starts_any (number_of most_64))))
+    (λ at. next law_number_64 (λ low. next (law_word (codes "..")) (λ _. next law_number_64 (λ high. next (law_word (codes ")")) (λ _. next (law_word (codes ")")) (λ _. law_nothing _ never)))))))))
+
+law_item : Law Item item_at never
+unfolding item_at
+law_item = next law_value_name (λ name. next (law_word (codes "(")) (λ _. next law_int (λ number. next (law_word (codes ")")) (λ _. law_nothing _ never))))
+
+-- one or more, parted by a word and closed by another
+law_items : Law Items items_at never
+unfolding items_at
+law_items = next (law_word (codes "{")) (λ _. behind_word (codes "," ∷ []) (codes "}") (law_listed [] (codes "," ∷ []) (codes ",") (law_any [] law_item) refl refl refl) (λ items _. law_nothing items never) refl)
+
+-- ---- tags
+
+abbrev classes : List (List ℕ)
+classes = codes "UNIVERSAL" ∷ codes "APPLICATION" ∷ codes "PRIVATE" ∷ []
+
+-- a word that stands for a value
+pub law_stands : {A : Type 0} (w : List ℕ) (a : A) → Law (Then (The w) (λ _. Nothing a)) (word_at w >>= λ _. give a) never
+law_stands w a = next (law_word w) (λ _. law_nothing a never)
+
+pub starts_stands : {A : Type 0} (w : List ℕ) (a : A) → Starts (Then (The w) (λ _. Nothing a)) (λ t. same t.text w)
+starts_stands w a = starts_then (The w) _ (λ t. same t.text w) (starts_the w)
+
+pub may_stands : {A : Type 0} (w : List ℕ) (a : A) (ws : List (List ℕ)) → list_any (bytes_eq w) ws ≡ true → MayStart (Then (The w) (λ _. Nothing a)) (among ws)
+may_stands w a ws e = may_starts (starts_then (The w) _ (among ws) (starts_word w ws e))
+
+law_class : Law Class class_at (begins_any classes)
+unfolding class_at
+law_class =
+    pick_may (begins_any classes) (codes "UNIVERSAL") (among (codes "APPLICATION" ∷ codes "PRIVATE" ∷ [])) (law_stands (codes "UNIVERSAL") 0)
+    (pick_may (begins_any classes) (codes "APPLICATION") (among (codes "PRIVATE" ∷ [])) (law_stands (codes "APPLICATION") 1)
+    (pick_may (begins_any classes) (codes "PRIVATE") (among []) (law_stands (codes "PRIVATE") 3) (law_nothing 2 (begins_any classes)) (starts_stands (codes "PRIVATE") 3) (may_nothing 2 (among []))
+    (excludes_among [] (codes "PRIVATE" ∷ []) refl) (fewer_one (codes "PRIVATE") classes refl) (λ rest st. refl) (λ rest st. st))
+    (starts_stands (codes "APPLICATION") 1) (may_either (may_stands (codes "PRIVATE") 3 (codes "PRIVATE" ∷ []) refl) (may_nothing 2 (among (codes "PRIVATE" ∷ []))))
+    (excludes_among (codes "PRIVATE" ∷ []) (codes "APPLICATION" ∷ []) refl) (fewer_one (codes "APPLICATION") classes refl) (λ rest st. refl) (λ rest st. st))
+    (starts_stands (codes "UNIVERSAL") 0) (may_either (may_stands (codes "APPLICATION") 1 (codes "APPLICATION" ∷ codes "PRIVATE" ∷ []) refl) (may_either (may_stands (codes "PRIVATE") 3 (codes "APPLICATION" ∷ codes "PRIVATE" ∷ []) refl) (may_nothing 2 (among (codes "APPLICATION" ∷ codes "PRIVATE" ∷ [])))))
+    (excludes_among (codes "APPLICATION" ∷ codes "PRIVATE" ∷ []) (codes "UNIVERSAL" ∷ []) refl) (fewer_one (codes "UNIVERSAL") classes refl) (λ rest st. refl) (λ rest st. st)
+
+abbrev manners : List (List ℕ)
+manners = codes "IMPLICIT" ∷ codes "EXPLICIT" ∷ []
+
+law_explicit : Law Explicit explicit_at (begins_any manners)
+unfolding explicit_at
+law_explicit =
+    pick_may (begins_any manners) (codes "IMPLICIT") (among (codes "EXPLICIT" ∷ [])) (law_stands (codes "IMPLICIT") (Some false))
+    (pick_may (begins_any manners) (codes "EXPLICIT") (among []) (law_stands (codes "EXPLICIT") (Some true)) (law_nothing None (begins_any manners)) (starts_stands (codes "EXPLICIT") (Some true)) (may_nothing None (among []))
+    (excludes_among [] (codes "EXPLICIT" ∷ []) refl) (fewer_one (codes "EXPLICIT") manners refl) (λ rest st. refl) (λ rest st. st))
+    (starts_stands (codes "IMPLICIT") (Some false)) (may_either (may_stands (codes "EXPLICIT") (Some true) (codes "EXPLICIT" ∷ []) refl) (may_nothing None (among (codes "EXPLICIT" ∷ []))))
+    (excludes_among (codes "EXPLICIT" ∷ []) (codes "IMPLICIT" ∷ []) refl) (fewer_one (codes "IMPLICIT") manners refl) (λ rest st. refl) (λ rest st. st)
+
+-- a number is none of these words
+abbrev numbered : ℕ → Lexeme → Bool
+numbered most t = is_some (number_of most t)
+
+starts_number : (most : ℕ) → Starts (One (number_of most)) (numbered most)
+starts_number most = starts_one (number_of most) (numbered most) (λ t a e. ap is_some e)
+
+excludes_classes : Excludes (numbered most_32) classes
+unfolding number
+excludes_classes = excludes_text (λ x. is_some (number most_32 x)) classes refl
+
+law_tag : Law Tag tag_at (begins_any manners)
+unfolding tag_at
+law_tag = next (law_word (codes "[")) (λ _. behind_starts classes (numbered most_32) law_class
+    (λ class. next (law_number most_32) (λ number. next (law_word (codes "]")) (λ _. map_law _ law_explicit)))
+    (λ class. starts_then _ _ (numbered most_32) (starts_number most_32)) excludes_classes)
+
+-- ---- parts
+
+-- with which a type may go on, and a part
+abbrev pub type_stops : List (List ℕ)
+type_stops = codes "(" ∷ codes "{" ∷ []
+
+abbrev pub part_stops : List (List ℕ)
+part_stops = codes "OPTIONAL" ∷ codes "(" ∷ codes "{" ∷ []
+
+law_optional : (may : Bool) → Law (Optional may) (optional_at may) (begins_any part_stops)
+unfolding optional_at
+law_optional false = law_nothing false (begins_any part_stops)
+law_optional true =
+    pick_may (begins_any part_stops) (codes "OPTIONAL") (among []) (law_stands (codes "OPTIONAL") true) (law_nothing false (begins_any part_stops)) (starts_stands (codes "OPTIONAL") true) (may_nothing false (among []))
+    (excludes_among [] (codes "OPTIONAL" ∷ []) refl) (fewer_one (codes "OPTIONAL") part_stops refl) (λ rest st. refl) (λ rest st. st)
+
+may_optional : (may : Bool) → MayStart (Optional may) (among (codes "OPTIONAL" ∷ []))
+may_optional false = may_nothing false (among (codes "OPTIONAL" ∷ []))
+may_optional true = may_either (may_stands (codes "OPTIONAL") true (codes "OPTIONAL" ∷ []) refl) (may_nothing false (among (codes "OPTIONAL" ∷ [])))
+
+module _ (Inner : List Lexeme → TypeTree → Type 0) (inner : List Lexeme → Read TypeTree) (law : Law Inner inner (begins_any type_stops)) where
+  law_part : (may : Bool) → Law (Part may Inner) (part_at may inner) (begins_any part_stops)
+  unfolding part_at
+  law_part may = next law_value_name (λ name. behind_may type_stops part_stops (among (codes "OPTIONAL" ∷ [])) law
+      (λ of. map_law _ (law_optional may))
+      (λ of. may_then (may_optional may) (λ o. may_nothing _ (among (codes "OPTIONAL" ∷ []))))
+      (excludes_among (codes "OPTIONAL" ∷ []) type_stops refl) refl)
+
+  law_listed_parts : (may : Bool) → Law (Listed (codes ",") (Part may Inner)) (listed_at (codes ",") (part_at may inner)) (begins_any (codes "," ∷ part_stops))
+  law_listed_parts may = law_listed part_stops (codes "," ∷ part_stops) (codes ",") (law_part may) refl refl refl
+
+  starts_part : (may : Bool) → Starts (Part may Inner) value_named
+  starts_part may = starts_then _ _ value_named (starts_value_name)
+
+  law_parts : Law (Parts Inner) (parts_at inner) never
+  unfolding parts_at
+  law_parts = next (law_word (codes "{")) (λ _. closed_by (codes "}") (law_choice (begins (codes "}")) _ _ _ _ never _ (closes (codes "}")) (law_nothing [] never) (law_listed_parts true)
+      (record { tells = λ text a rest d st. ap (λ (z : List Lexeme). begins (codes "}") (z ++ rest)) d.none ∙ not-false _ st; own_stops = λ rest st. refl })
+      (record { tells = λ text a rest d st. headed_not value_named (codes "}") text rest (starts_then _ _ value_named (starts_part true) text a d) (excludes_value_name (codes "}" ∷ []) refl); own_stops = closes_under (codes "}") (codes "," ∷ part_stops) refl }))
+      (λ parts _. law_nothing parts never))
+
+  law_alternatives : Law (Alternatives Inner) (alternatives_at inner) never
+  unfolding alternatives_at
+  law_alternatives = next (law_word (codes "{")) (λ _. behind_word (codes "," ∷ part_stops) (codes "}") (law_listed_parts false) (λ parts _. law_nothing parts never) refl)
+
+-- ---- types that hold no others
+
+law_integer : Law Integer integer_at (begins_any type_stops)
+unfolding integer_at
+law_integer = next (law_word (codes "INTEGER")) (λ _. map_law _ (maybe_word (begins_any type_stops) (codes "(") law_range (starts_behind (codes "(") _) (fewer_one (codes "(") type_stops refl) (λ rest st. refl)))
+
+law_octets : Law OctetString octets_at (begins_any type_stops)
+unfolding octets_at
+law_octets = next (law_word (codes "OCTET")) (λ _. next (law_word (codes "STRING")) (λ _. map_law _ (maybe_word (begins_any type_stops) (codes "(") law_size (starts_behind (codes "(") _) (fewer_one (codes "(") type_stops refl) (λ rest st. refl))))
+
+abbrev kinds : List (List ℕ)
+kinds = codes "UTF8String" ∷ codes "IA5String" ∷ codes "VisibleString" ∷ codes "PrintableString" ∷ codes "NumericString" ∷ []
+
+neither : (a b : Bool) → a || b ≡ false → (a ≡ false) × (b ≡ false)
+neither true b e = absurd cc
+neither false b e = (refl, e)
+
+kinds_none : (t : Lexeme) → among kinds t ≡ false → text_kind_word t.text ≡ None
+unfolding text_kind_word
+kinds_none t e =
+    let s : List ℕ → Bool = same t.text in
+    let p1 = neither (s (codes "UTF8String")) _ e in
+    let p2 = neither (s (codes "IA5String")) _ p1.1 in
+    let p3 = neither (s (codes "VisibleString")) _ p2.1 in
+    let p4 = neither (s (codes "PrintableString")) _ p3.1 in
+    let p5 = neither (s (codes "NumericString")) _ p4.1 in
+    rw (p1.0, p2.0, p3.0, p4.0, p5.0) refl
+
+kind_among : (t : Lexeme) (k : ℕ) → text_kind_of t ≡ Some k → among kinds t ≡ true
+kind_among t k e = go (among kinds t) refl
+  where
+    go : (b : Bool) → among kinds t ≡ b → b ≡ true
+    go true m = refl
+    go false m = let none : text_kind_word t.text ≡ None = kinds_none t m in absurd cc
+
+law_text : Law Text (text_kind_at >>= λ kind. give (text kind)) never
+unfolding text_kind_at
+law_text = map_law _ (law_one text_kind_of)
+
+named_found : (name : Located) (b : Bool) (ts : List Lexeme) (a : PlainTree) (rest : List Lexeme) → (if b then refuse_as Unsupported ts else Ok (named name, ts)) ≡ Ok (a, rest) → Front (Nothing (named name)) ts a rest
+named_found name true ts a rest e = absurd cc
+named_found name false ts a rest e = (law_nothing (named name) never).found ts a rest e
+
+law_named_end : (name : Located) → Law (Nothing (named name)) (named_at name) (begins_any type_stops)
+law_named_end name = record {
+  found = λ ts a rest e. named_found name (begins (codes "{") ts) ts a rest e;
+  only = λ text a rest d st.
+      ap (λ (z : List Lexeme). named_at name (z ++ rest)) d.none
+      ∙ ap (λ (b : Bool). if b then refuse_as Unsupported rest else Ok (named name, rest)) (fewer_one (codes "{") type_stops refl rest st)
+      ∙ ap (λ (c : PlainTree). Ok (c, rest)) d.same_value;
+}
+
+law_named : Law Named (type_name_at >>= named_at) (begins_any type_stops)
+law_named = next law_type_name law_named_end
+
+starts_text : Starts Text (among kinds)
+starts_text = starts_then _ _ (among kinds) (starts_one text_kind_of (among kinds) kind_among)
+
+starts_named : Starts Named type_named
+starts_named = starts_then _ _ type_named starts_type_name
+
+some_kind : (t : Lexeme) (k : ℕ) → text_kind_of t ≡ Some k → is_some (text_kind_of t) ≡ true
+some_kind t k e = ap is_some e
+
+starts_kind : Starts Text (λ t. is_some (text_kind_of t))
+starts_kind = starts_then _ _ (λ t. is_some (text_kind_of t)) (starts_one text_kind_of (λ t. is_some (text_kind_of t)) some_kind)
+
+kind_of_headed : (y rest : List Lexeme) → Headed (λ t. is_some (text_kind_of t)) y → is_some (text_kind (y ++ rest)) ≡ true
+kind_of_headed y rest h = ap (λ (z : List Lexeme). is_some (text_kind (z ++ rest))) h.is ∙ h.passes
+
+no_kind_of_headed : (y rest : List Lexeme) → Headed type_named y → is_some (text_kind (y ++ rest)) ≡ false
+no_kind_of_headed y rest h =
+    ap (λ (z : List Lexeme). is_some (text_kind (z ++ rest))) h.is
+    ∙ ap is_some (kinds_none h.token (excludes_type_name kinds refl h.token h.passes))
+
+law_text_or_name : Picked (Either Text Named) text_or_name_at kinds (begins_any type_stops)
+unfolding text_or_name_at
+law_text_or_name = record {
+  law = law_choice (λ ts. is_some (text_kind ts)) _ _ _ _ never (begins_any type_stops) (begins_any type_stops) law_text law_named
+      (record { tells = λ text a rest d st. kind_of_headed text rest (starts_kind text a d); own_stops = λ rest st. refl })
+      (record { tells = λ text a rest d st. no_kind_of_headed text rest (starts_named text a d); own_stops = λ rest st. st });
+  starts = starts_either _ _ (or_named kinds) (λ text a d. weaker_headed (among kinds) (or_named kinds) text (λ t e. or_left _ (type_named t) e) (starts_text text a d))
+      (λ text a d. weaker_headed type_named (or_named kinds) text (λ t e. or_right (among kinds t) _ e) (starts_named text a d));
+}
+
+abbrev leaf_words : List (List ℕ)
+leaf_words = codes "BOOLEAN" ∷ codes "NULL" ∷ codes "INTEGER" ∷ codes "ENUMERATED" ∷ codes "OCTET" ∷ codes "BIT" ∷ codes "OBJECT" ∷ kinds
+
+law_leaf : Picked Leaf leaf_at leaf_words (begins_any type_stops)
+unfolding leaf_at
+law_leaf =
+    picks (codes "BOOLEAN") (law_stands (codes "BOOLEAN") _) (starts_stands (codes "BOOLEAN") _) (λ rest st. refl) refl refl
+    (picks (codes "NULL") (law_stands (codes "NULL") _) (starts_stands (codes "NULL") _) (λ rest st. refl) refl refl
+    (picks (codes "INTEGER") law_integer (starts_then _ _ _ (starts_the (codes "INTEGER"))) (λ rest st. st) refl refl
+    (picks (codes "ENUMERATED") (next (law_word (codes "ENUMERATED")) (λ _. map_law _ law_items)) (starts_then _ _ _ (starts_the (codes "ENUMERATED"))) (λ rest st. refl) refl refl
+    (picks (codes "OCTET") law_octets (starts_then _ _ _ (starts_the (codes "OCTET"))) (λ rest st. st) refl refl
+    (picks (codes "BIT") (next (law_word (codes "BIT")) (λ _. law_stands (codes "STRING") _)) (starts_then _ _ _ (starts_the (codes "BIT"))) (λ rest st. refl) refl refl
+    (picks (codes "OBJECT") (next (law_word (codes "OBJECT")) (λ _. law_stands (codes "IDENTIFIER") _)) (starts_then _ _ _ (starts_the (codes "OBJECT"))) (λ rest st. refl) refl refl
+    law_text_or_name))))))
+
+-- ---- types that hold types
+
+abbrev pub plain_words : List (List ℕ)
+plain_words = codes "SEQUENCE" ∷ codes "SET" ∷ codes "CHOICE" ∷ leaf_words
+
+and_false : (b : Bool) → b && false ≡ false
+and_false true = refl
+and_false false = refl
+
+set_only : (text rest : List Lexeme) → Headed (λ t. same t.text (codes "{")) text → begins (codes "OF") (text ++ rest) ≡ false
+set_only x rest h = headed_not (λ t. same t.text (codes "{")) (codes "OF") x rest h (same_excludes (codes "{") (codes "OF" ∷ []) refl)
+
+module _ (Inner : List Lexeme → TypeTree → Type 0) (inner : List Lexeme → Read TypeTree) (law : Law Inner inner (begins_any type_stops)) where
+  law_sequence : Law (Sequence Inner) (sequence_at inner) (begins_any type_stops)
+  unfolding sequence_at
+  law_sequence = next (law_word (codes "SEQUENCE")) (λ _. pick (begins_any type_stops) (codes "OF") (λ t. same t.text (codes "{"))
+      (law_behind (codes "OF") (map_law _ law)) (map_law _ (law_parts Inner inner law))
+      (starts_behind (codes "OF") _) (starts_then _ _ _ (starts_then _ _ _ (starts_the (codes "{")))) (same_excludes (codes "{") (codes "OF" ∷ []) refl) (λ rest st. st) (λ rest st. refl))
+
+  law_choice_type : Law (Choice Inner) (choice_at inner) (begins_any type_stops)
+  unfolding choice_at
+  law_choice_type = next (law_word (codes "CHOICE")) (λ _. law_any type_stops (map_law _ (law_alternatives Inner inner law)))
+
+  set_law : Law (Set Inner) (word_at (codes "SET") >>= λ _. parts_at inner >>= λ parts. give (set (parts_of parts))) (begins_any type_stops)
+  set_law = next (law_word (codes "SET")) (λ _. law_any type_stops (map_law _ (law_parts Inner inner law)))
+
+  set_found : (b : Bool) (ts : List Lexeme) (a : PlainTree) (rest : List Lexeme) → (if b then refuse ts else (word_at (codes "SET") >>= λ _. parts_at inner >>= λ parts. give (set (parts_of parts))) ts) ≡ Ok (a, rest) → Front (Set Inner) ts a rest
+  set_found true ts a rest e = absurd cc
+  set_found false ts a rest e = set_law.found ts a rest e
+
+  not_set_of : (text : List Lexeme) (a : PlainTree) (rest : List Lexeme) → Set Inner text a → is_set_of (text ++ rest) ≡ false
+  not_set_of x a rest d =
+      let whole : x ++ rest ≡ d.first.token ∷ (d.back ++ rest) = ap (λ (z : List Lexeme). z ++ rest) (d.whole ∙ ap (λ (z : List Lexeme). z ++ d.back) d.first.alone) in
+      let no_of : begins (codes "OF") (d.back ++ rest) ≡ false = set_only d.back rest (starts_then _ _ (λ t. same t.text (codes "{")) (starts_then _ _ (λ t. same t.text (codes "{")) (starts_the (codes "{"))) d.back a d.second) in
+      ap is_set_of whole ∙ ap (λ (b : Bool). same d.first.token.text (codes "SET") && b) no_of ∙ and_false (same d.first.token.text (codes "SET"))
+
+  law_set : Law (Set Inner) (set_at inner) (begins_any type_stops)
+  unfolding set_at
+  law_set = record {
+    found = λ ts a rest e. set_found (is_set_of ts) ts a rest e;
+    only = λ text a rest d st. ap (λ (b : Bool). if b then refuse (text ++ rest) else (word_at (codes "SET") >>= λ _. parts_at inner >>= λ parts. give (set (parts_of parts))) (text ++ rest)) (not_set_of text a rest d) ∙ set_law.only text a rest d st;
+  }
+
+  law_plain : Picked (Plain Inner) (plain_at inner) plain_words (begins_any type_stops)
+  unfolding plain_at
+  law_plain =
+      picks (codes "SEQUENCE") law_sequence (starts_behind (codes "SEQUENCE") _) (λ rest st. st) refl refl
+      (picks (codes "SET") law_set (starts_behind (codes "SET") _) (λ rest st. st) refl refl
+      (picks (codes "CHOICE") law_choice_type (starts_behind (codes "CHOICE") _) (λ rest st. st) refl refl law_leaf))
+
+  -- a tag, or none, in front of words and names
+  law_type_behind : (at : Place) → Law (TypeBehind Inner at) (maybe_at (codes "[") tag_at >>= λ tag. plain_at inner >>= λ plain. give (type_tree at.line at.column tag plain)) (begins_any type_stops)
+  law_type_behind at = behind_starts (codes "[" ∷ manners) (or_named plain_words)
+      (maybe_word (begins_any (codes "[" ∷ manners)) (codes "[") law_tag (starts_then _ _ _ (starts_the (codes "["))) (fewer_one (codes "[") (codes "[" ∷ manners) refl) (fewer manners (codes "[" ∷ manners) refl))
+      (λ tag. map_law _ law_plain.law)
+      (λ tag. starts_then _ _ (or_named plain_words) law_plain.starts) (excludes_or_named plain_words (codes "[" ∷ manners) refl refl)
+
+  pub starts_type_behind : (at : Place) → Starts (TypeBehind Inner at) (or_named (codes "[" ∷ plain_words))
+  starts_type_behind at x a d = starts_maybe (or_named (codes "[" ∷ plain_words))
+      (λ y b e. weaker_headed _ (or_named (codes "[" ∷ plain_words)) y (word_or_named (codes "[") plain_words) (starts_then _ _ _ (starts_the (codes "[")) y b e))
+      (λ o y b e. weaker_headed _ (or_named (codes "[" ∷ plain_words)) y (more_or_named (codes "[") plain_words) (starts_then _ _ (or_named plain_words) law_plain.starts y b e))
+      x a d
+
+  law_type_text : Law (Placed (TypeBehind Inner)) (type_text_at inner) (begins_any type_stops)
+  unfolding type_text_at
+  law_type_text = law_placed (or_named (codes "[" ∷ plain_words)) starts_type_behind law_type_behind
+
+law_no_type : Law (Type_of 0) (type_at 0) (begins_any type_stops)
+unfolding Type_of type_at
+law_no_type = record { found = λ ts a rest e. absurd cc; only = λ text a rest d st. absurd d }
+
+pub law_type : (levels : ℕ) → Law (Type_of levels) (type_at levels) (begins_any type_stops)
+unfolding Type_of type_at
+law_type zero = law_no_type
+law_type (suc n) = law_type_text (Type_of n) (type_at n) (law_type n)
+
+pub law_outer_type : Law OuterType outer_type_at (begins_any type_stops)
+unfolding outer_type_at
+law_outer_type = law_type 256

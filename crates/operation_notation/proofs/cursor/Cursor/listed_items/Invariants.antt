@@ -1,0 +1,15 @@
+use Rattle.std.proofs.Common.{◌<◌, codes, length}
+use Rattle.operation_notation.specs.Lexeme.{begins}
+use Rattle.operation_notation.specs.Reading.{behind, listed_at}
+use Rattle.operation_notation.specs.ReadingTypes.{item_at}
+use Rattle.operation_notation.proofs.Loops.{Going}
+use Rattle.operation_notation.proofs.cursor.Cursor.listed_items.Given as goal
+
+abbrev pub invariant-loop-alloc : goal.invariant-loop-alloc
+invariant-loop-alloc l = record {
+  going : Going (begins (codes ",")) (behind (codes ",") item_at) l.items l.self (listed_at (codes ",") item_at l.fn.self);
+  shorter : length l.self < length l.fn.self;
+}
+
+abbrev pub decreases-loop-alloc : goal.decreases-loop-alloc
+decreases-loop-alloc l = length l.self

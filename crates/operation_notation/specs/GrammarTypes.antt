@@ -1,0 +1,220 @@
+-- The grammar of object identifiers and types (X.680 17 to 31, X.680 32.3, in the profile of X.880 that is supported).
+use Rattle.std.specs.Prelude.{codes, ℕ, zero, suc, ℤ, pos, Bool, true, false, List, [], ◌∷◌, Option, Some, None, if◌then◌else◌}
+use Rattle.osi_base.specs.Oid.{IsOid}
+use Rattle.operation_notation.specs.Lexeme.{Lexeme}
+use Rattle.operation_notation.specs.Words.{most_32, most_64, number_of, int_of, end_of, text_kind_of, root_name, is_value_name, type_name_of, value_name_of, arc_name_of}
+use Rattle.operation_notation.specs.Grammar.{◌>>=◌, One, Nothing, Either, Maybe, Many, The, Behind, Listed, Placed}
+use Rattle.operation_notation.specs.Tree.{TypeTree, type_tree, PlainTree, boolean, null, integer, enumerated, octets, bits, object_id, text, sequence_of, sequence, set, choice, named}
+use Rattle.operation_notation.specs.TreeView.{parts_of}
+use Rattle.operation_notation.specs.declared.module.RangeText.{RangeText}
+use Rattle.operation_notation.specs.declared.module.TagText.{TagText}
+use Rattle.operation_notation.specs.declared.module.ItemText.{ItemText}
+use Rattle.operation_notation.specs.declared.module.PartText.{PartText}
+use Rattle.operation_notation.specs.declared.cursor.Place.{Place}
+
+-- ---- object identifiers (X.680 32.3): Oid = "{" Arc {Arc} "}"
+
+-- a name that stands for a first arc alone
+abbrev pub root_of : Lexeme → Option ℕ
+root_of t = if is_value_name t.kind t.text then root_name t.text else None
+
+-- name "(" number ")"
+abbrev pub NamedArc : List Lexeme → ℕ → Type 0
+NamedArc = do
+  _ ← One arc_name_of
+  _ ← The (codes "(")
+  arc ← One (number_of most_32)
+  _ ← The (codes ")")
+  Nothing arc
+
+-- Arc = number | name "(" number ")"
+abbrev pub Arc : List Lexeme → ℕ → Type 0
+Arc = Either (One (number_of most_32)) NamedArc
+
+-- the first arc may also be a word alone
+abbrev pub Root : List Lexeme → ℕ → Type 0
+Root = Either Arc (One root_of)
+
+abbrev pub Arcs : List Lexeme → List ℕ → Type 0
+Arcs = do
+  _ ← The (codes "{")
+  root ← Root
+  others ← Many Arc
+  _ ← The (codes "}")
+  Nothing (root ∷ others)
+
+-- arcs in braces that are an object identifier
+pub record OidSpelled (ts : List Lexeme) (arcs : List ℕ) : Type 0 where
+  pub spelled : Arcs ts arcs
+  pub is_oid : IsOid arcs
+
+-- ---- types
+
+-- "(" End ".." End ")", with the place of the first end
+abbrev pub RangeBehind : Place → List Lexeme → RangeText → Type 0
+RangeBehind at = do
+  low ← One end_of
+  _ ← The (codes "..")
+  high ← One end_of
+  _ ← The (codes ")")
+  Nothing (record { line = at.line; column = at.column; low = low; high = high })
+
+abbrev pub Range : List Lexeme → RangeText → Type 0
+Range = Behind (codes "(") (Placed RangeBehind)
+
+abbrev pub Number64 : List Lexeme → ℤ → Type 0
+Number64 = One (number_of most_64) >>= λ n. Nothing (pos n)
+
+-- "(" "SIZE" "(" number ".." number ")" ")", with the place of the first number
+abbrev pub SizeBehind : Place → List Lexeme → RangeText → Type 0
+SizeBehind at = do
+  low ← Number64
+  _ ← The (codes "..")
+  high ← Number64
+  _ ← The (codes ")")
+  _ ← The (codes ")")
+  Nothing (record { line = at.line; column = at.column; low = low; high = high })
+
+abbrev pub Size : List Lexeme → RangeText → Type 0
+Size = Behind (codes "(") (Behind (codes "SIZE") (Behind (codes "(") (Placed SizeBehind)))
+
+-- Item = name "(" int ")"
+abbrev pub Item : List Lexeme → ItemText → Type 0
+Item = do
+  name ← One value_name_of
+  _ ← The (codes "(")
+  number ← One int_of
+  _ ← The (codes ")")
+  Nothing (record { name = name; number = number })
+
+abbrev pub Items : List Lexeme → List ItemText → Type 0
+Items = do
+  _ ← The (codes "{")
+  items ← Listed (codes ",") Item
+  _ ← The (codes "}")
+  Nothing items
+
+-- ["UNIVERSAL" | "APPLICATION" | "PRIVATE"]: classes 0, 1 and 3, and 2 where none is written
+abbrev pub Class : List Lexeme → ℕ → Type 0
+Class = Either (The (codes "UNIVERSAL") >>= λ _. Nothing 0)
+    (Either (The (codes "APPLICATION") >>= λ _. Nothing 1)
+    (Either (The (codes "PRIVATE") >>= λ _. Nothing 3) (Nothing 2)))
+
+-- ["IMPLICIT" | "EXPLICIT"]
+abbrev pub Explicit : List Lexeme → Option Bool → Type 0
+Explicit = Either (The (codes "IMPLICIT") >>= λ _. Nothing (Some false)) (Either (The (codes "EXPLICIT") >>= λ _. Nothing (Some true)) (Nothing None))
+
+-- "[" Class number "]" Explicit
+abbrev pub Tag : List Lexeme → TagText → Type 0
+Tag = do
+  _ ← The (codes "[")
+  class ← Class
+  number ← One (number_of most_32)
+  _ ← The (codes "]")
+  explicit ← Explicit
+  Nothing (record { class = class; number = number; explicit = explicit })
+
+-- ["OPTIONAL"], where it may be written
+abbrev pub Optional : Bool → List Lexeme → Bool → Type 0
+Optional true = Either (The (codes "OPTIONAL") >>= λ _. Nothing true) (Nothing false)
+Optional false = Nothing false
+
+-- Part = name Type ["OPTIONAL"], Alt = name Type
+abbrev pub Part : Bool → (List Lexeme → TypeTree → Type 0) → List Lexeme → PartText → Type 0
+Part may Inner = do
+  name ← One value_name_of
+  of ← Inner
+  optional ← Optional may
+  Nothing (record { name = name; of = of; optional = optional })
+
+-- "{" [Part {"," Part}] "}"
+abbrev pub Parts : (List Lexeme → TypeTree → Type 0) → List Lexeme → List PartText → Type 0
+Parts Inner = do
+  _ ← The (codes "{")
+  parts ← Either (Nothing []) (Listed (codes ",") (Part true Inner))
+  _ ← The (codes "}")
+  Nothing parts
+
+-- "{" Alt {"," Alt} "}"
+abbrev pub Alternatives : (List Lexeme → TypeTree → Type 0) → List Lexeme → List PartText → Type 0
+Alternatives Inner = do
+  _ ← The (codes "{")
+  parts ← Listed (codes ",") (Part false Inner)
+  _ ← The (codes "}")
+  Nothing parts
+
+abbrev pub Boolean : List Lexeme → PlainTree → Type 0
+Boolean = The (codes "BOOLEAN") >>= λ _. Nothing boolean
+
+abbrev pub Null : List Lexeme → PlainTree → Type 0
+Null = The (codes "NULL") >>= λ _. Nothing null
+
+abbrev pub Integer : List Lexeme → PlainTree → Type 0
+Integer = do
+  _ ← The (codes "INTEGER")
+  range ← Maybe Range
+  Nothing (integer range)
+
+abbrev pub Enumerated : List Lexeme → PlainTree → Type 0
+Enumerated = do
+  _ ← The (codes "ENUMERATED")
+  items ← Items
+  Nothing (enumerated items)
+
+abbrev pub OctetString : List Lexeme → PlainTree → Type 0
+OctetString = do
+  _ ← The (codes "OCTET")
+  _ ← The (codes "STRING")
+  size ← Maybe Size
+  Nothing (octets size)
+
+abbrev pub BitString : List Lexeme → PlainTree → Type 0
+BitString = do
+  _ ← The (codes "BIT")
+  _ ← The (codes "STRING")
+  Nothing bits
+
+abbrev pub ObjectIdentifier : List Lexeme → PlainTree → Type 0
+ObjectIdentifier = do
+  _ ← The (codes "OBJECT")
+  _ ← The (codes "IDENTIFIER")
+  Nothing object_id
+
+abbrev pub Text : List Lexeme → PlainTree → Type 0
+Text = One text_kind_of >>= λ kind. Nothing (text kind)
+
+abbrev pub Named : List Lexeme → PlainTree → Type 0
+Named = One type_name_of >>= λ name. Nothing (named name)
+
+-- types that hold no others
+abbrev pub Leaf : List Lexeme → PlainTree → Type 0
+Leaf = Either Boolean (Either Null (Either Integer (Either Enumerated (Either OctetString (Either BitString (Either ObjectIdentifier (Either Text Named)))))))
+
+-- "SEQUENCE" "OF" Type | "SEQUENCE" Parts
+abbrev pub Sequence : (List Lexeme → TypeTree → Type 0) → List Lexeme → PlainTree → Type 0
+Sequence Inner = Behind (codes "SEQUENCE") (Either (Behind (codes "OF") (Inner >>= λ item. Nothing (sequence_of item))) (Parts Inner >>= λ parts. Nothing (sequence (parts_of parts))))
+
+abbrev pub Set : (List Lexeme → TypeTree → Type 0) → List Lexeme → PlainTree → Type 0
+Set Inner = Behind (codes "SET") (Parts Inner >>= λ parts. Nothing (set (parts_of parts)))
+
+abbrev pub Choice : (List Lexeme → TypeTree → Type 0) → List Lexeme → PlainTree → Type 0
+Choice Inner = Behind (codes "CHOICE") (Alternatives Inner >>= λ parts. Nothing (choice (parts_of parts)))
+
+abbrev pub Plain : (List Lexeme → TypeTree → Type 0) → List Lexeme → PlainTree → Type 0
+Plain Inner = Either (Sequence Inner) (Either (Set Inner) (Either (Choice Inner) Leaf))
+
+-- Type = [Tag] Plain, with the place of its first token
+abbrev pub TypeBehind : (List Lexeme → TypeTree → Type 0) → Place → List Lexeme → TypeTree → Type 0
+TypeBehind Inner at = do
+  tag ← Maybe Tag
+  plain ← Plain Inner
+  Nothing (type_tree at.line at.column tag plain)
+
+-- a type in which types stand in one another at most so many levels deep
+unfoldable pub Type_of : ℕ → List Lexeme → TypeTree → Type 0
+Type_of zero ts t = ⊥
+Type_of (suc levels) ts t = Placed (TypeBehind (Type_of levels)) ts t
+
+-- how many levels deep types may stand in one another
+abbrev pub most_levels : ℕ
+most_levels = 256

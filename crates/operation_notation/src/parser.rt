@@ -1,0 +1,130 @@
+//! Lexing and parsing a text.
+
+ghost use Rattle.std.specs.Prelude.{◌≡◌, ◌≤◌, length, IfOk, IfErr, Ok};
+ghost use Rattle.std.specs.List.{AllByRecursion};
+ghost use Rattle.operation_notation.specs.Lexeme.{IsSpan, lexemes};
+ghost use Rattle.operation_notation.specs.ReadingModules.{whole_at};
+ghost use Rattle.operation_notation.specs.Modules.{Answers, Reads, fault_at, tokens_of, module_of, refused, verdict};
+ghost use Rattle.operation_notation.specs.Faults.{IsFirstFault};
+ghost use Rattle.operation_notation.specs.Tokens.{AreTokens};
+ghost use Rattle.operation_notation.specs.WellFormed.{IsWellFormed};
+ghost use Rattle.operation_notation.specs.declared.module.ModuleText.{ModuleText};
+
+use crate::cursor::{Cursor, Place};
+use crate::fault::{NotationFault, NotationKind, Refusal};
+use crate::lexer::{Lexed, MOST_OCTETS, cut_text};
+use crate::module::ModuleText;
+use crate::token::Tokens;
+use std::alloc::Global;
+
+/// The fault of this kind at a place.
+fn fault(place: Place, kind: NotationKind) -> NotationFault
+    ensures { result ≡ fault_at place kind }
+{
+    NotationFault::At {
+        line: place.line,
+        column: place.column,
+        kind,
+    }
+}
+
+const TOO_LONG: NotationFault = NotationFault::At {
+    line: 1,
+    column: 1,
+    kind: NotationKind::TextTooLong,
+};
+
+/// The tokens of a text of at most 1,048,576 octets and 65,536 tokens, cut longest first.
+///
+/// # Errors
+///
+/// `At`, with the first of these: `TextTooLong` at line 1, column 1; `BadCharacter` at an octet
+/// outside comments that begins no token and is no white space; `TooManyTokens` at the first
+/// token past the limit. `NoMemory` where an allocation is refused.
+pub fn lex(alloc: Global, text: &[u8]) -> Result<Tokens, NotationFault>
+    // The tokens lie in order, each the longest of its kind, with its place.
+    ensures tokens { IfOk result (λ tokens. AreTokens text.now 0 tokens) }
+    // Which tokens or fault it is.
+    ensures exact { Answers result (tokens_of text.now) }
+{
+    cut_whole(alloc, text)
+}
+
+/// The tokens of a text, or its first fault.
+#[tactic(auto, unfolding(crate::specs::Modules::tokens_of))]
+fn cut_whole(alloc: Global, text: &[u8]) -> Result<Tokens, NotationFault>
+    ensures { Answers result (tokens_of text.now) }
+{
+    if text.len() > MOST_OCTETS {
+        return Err(TOO_LONG);
+    }
+    let lexed = cut_text(alloc, text)?;
+    match lexed.stop {
+        None => Ok(lexed.tokens),
+        Some(kind) => Err(fault(lexed.place, kind)),
+    }
+}
+
+/// The fault of this kind where a parser stands.
+fn fault_of(lexed: &Lexed, cursor: &Cursor<'_>, kind: NotationKind) -> NotationFault
+    ensures { refused lexed.now cursor.now kind ≡ Err result }
+{
+    if !cursor.is_done() {
+        return fault(cursor.place(), kind);
+    }
+    match lexed.stop {
+        None => fault(lexed.place, kind),
+        Some(stop) => fault(lexed.place, stop),
+    }
+}
+
+/// The module that the tokens of a text are.
+fn parse(alloc: Global, text: &[u8], lexed: &Lexed) -> Result<ModuleText, NotationFault>
+    requires { AllByRecursion (IsSpan text.now (length text.now)) lexed.now.tokens }
+    ensures { Answers result (verdict lexed.now (whole_at (lexemes text.now lexed.now.tokens))) }
+{
+    let mut cursor = Cursor::new(text, lexed.tokens.as_slice());
+    match cursor.whole(alloc) {
+        Ok(module) => match lexed.stop {
+            None => Ok(module),
+            Some(kind) => Err(fault(lexed.place, kind)),
+        },
+        Err(Refusal::NoMemory) => Err(NotationFault::NoMemory),
+        Err(Refusal::Fault(kind)) => Err(fault_of(lexed, &cursor, kind)),
+    }
+}
+
+/// The module that a text is.
+///
+/// # Errors
+///
+/// `At`, with the first fault in the text: what `lex` refuses, `UnexpectedToken` at a token that
+/// can't stand where it stands or right behind the text's last octet where it ends too early, and
+/// `Unsupported` at a part of the notation that isn't supported. `TextTooLong` comes before all.
+/// `NoMemory` where an allocation is refused.
+pub fn parse_module(alloc: Global, text: &[u8]) -> Result<ModuleText, NotationFault>
+    // What is read is derived by the grammar.
+    ensures found { IfOk result (λ m. Reads text.now m) }
+    // What the grammar derives is read, unless memory runs out.
+    ensures only { (m : ModuleText) → Reads text.now m → Answers result (Ok m) }
+    // What is read is well formed.
+    ensures well { IfOk result IsWellFormed }
+    // What is refused is the text's first fault.
+    ensures first { IfErr result (λ fault. IsFirstFault text.now fault) }
+    // Which module or fault it is.
+    ensures exact { Answers result (module_of text.now) }
+{
+    read(alloc, text)
+}
+
+/// The module that a text is, or its first fault.
+#[tactic(auto, unfolding(crate::specs::Modules::module_of), using(crate::proofs::Spans::lexed_spans))]
+fn read(alloc: Global, text: &[u8]) -> Result<ModuleText, NotationFault>
+    ensures { Answers result (module_of text.now) }
+{
+    if text.len() > MOST_OCTETS {
+        return Err(TOO_LONG);
+    }
+    let lexed = cut_text(alloc, text)?;
+    parse(alloc, text, &lexed)
+}
