@@ -16,9 +16,10 @@ pub fn no_abort_of_itself()
     ensures law { (setup : Setup) → NoAbortOfItself setup }
 {}
 
-/// Contexts stay: one that each acceptance gives the same pair, and that no alteration names, has this pair in the
-/// set of each end that is up or releasing, and in the shared set. So the values of the association and of
-/// transfers, which stand in messages of their own, are read as they were sent.
+/// Contexts stay: out of bare mode, a context that each acceptance gives the same pair, and that no alteration
+/// names, has this pair in the set of each end that is up or releasing, and in the shared set. So the values of
+/// the association and of transfers, which stand in messages of their own, have one pair at their sending and at
+/// their taking.
 pub fn contexts_stay()
     ensures law { (setup : Setup) → ContextsStay setup }
 {}
