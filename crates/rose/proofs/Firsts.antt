@@ -1,7 +1,6 @@
 -- What reading from the left says of whole values.
-use Rattle.std.proofs.Common.{◌≡◌, ℕ, zero, suc, ◌≤◌, ◌<◌, List, [], ◌∷◌, length, take, Option, Some, None, Result, Ok, Err, refl, sym, ap, subst, ◌∙◌, arith, false, IfOk}
+use Rattle.std.proofs.Common.{◌≡◌, ℕ, zero, suc, ◌≤◌, List, [], length, take, Some, Result, Ok, Err, refl, sym, ap, subst, arith, false, IfOk}
 use Rattle.osi_base.specs.declared.fault.NoMemory.{NoMemory}
-use Rattle.osi_base.specs.declared.syntax.Syntax.TheVariants as syntax
 use Rattle.asn1_types.specs.Value.{Value, boolean, integer, null, octets, bits, object_id, text, parts, list, chosen, any}
 use Rattle.ber_codec.specs.declared.fault.ReadFault.{ReadFault}
 use Rattle.ber_codec.specs.declared.fault.ReadFault.TheVariants.{Short}
@@ -12,7 +11,7 @@ use Rattle.stub_tables.specs.declared.tables.Tables.{Tables}
 use Rattle.stub_tables.specs.declared.apdu.Apdu.{Apdu}
 use Rattle.stub_tables.specs.declared.apdu.Apdu.TheVariants as apdus
 use Rattle.stub_tables.specs.Heads.{head_rows, any_row, apdu_row}
-use Rattle.stub_tables.specs.Apdus.{Spells, SpellsHead, Says as SaysHead, IsWhole, IsShort, IsFaulty, place_of, HasIdentifier}
+use Rattle.stub_tables.specs.Apdus.{Spells, Says as SaysHead, IsWhole, IsShort, IsFaulty, place_of, HasIdentifier}
 use Rattle.stub_tables.proofs.Readings.{heads_sound, nothing_whole}
 use Rattle.rose.specs.declared.first.Content.{Content}
 use Rattle.rose.specs.declared.first.Content.TheVariants as content

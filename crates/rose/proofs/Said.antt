@@ -1,9 +1,9 @@
 -- What a head says, piece by piece.
-use Rattle.std.proofs.Common.{arith, ◌≡◌, ◌≢◌, ℕ, zero, suc, ℤ, pos, negsuc, ◌≤ℤ◌, Bool, true, false, ◌||◌, cond, List, [], ◌∷◌, Option, Some, None, option_map, get_or, refl, sym, ap, subst, ◌∙◌}
+use Rattle.std.proofs.Common.{arith, ◌≡◌, ℕ, zero, suc, ℤ, pos, negsuc, ◌≤ℤ◌, Bool, true, false, ◌||◌, cond, List, [], ◌∷◌, Option, Some, None, option_map, get_or, refl, sym, ap, subst, ◌∙◌}
 use Rattle.std.specs.Prelude.{int_lt, length}
 use Rattle.asn1_types.specs.ValueView.{parts_of}
 use Rattle.std.proofs.lemmas.Int.{ints}
-use Rattle.asn1_types.specs.Value.{Value, boolean, integer, null, octets, bits, object_id, text, parts, list, chosen, any, MaybeValues, no_parts, absent, present}
+use Rattle.asn1_types.specs.Value.{Value, integer, object_id, parts, chosen, any, MaybeValues, no_parts, absent, present}
 use Rattle.asn1_types.specs.declared.value.Val.{Val}
 use Rattle.stub_tables.specs.declared.tables.Tables.{Tables}
 use Rattle.stub_tables.specs.declared.operation.Code.{Code}
@@ -13,8 +13,8 @@ use Rattle.stub_tables.specs.declared.operation.Code.TheVariants.{Local, Global}
 use Rattle.stub_tables.specs.declared.apdu.Apdu.{Apdu}
 use Rattle.stub_tables.specs.declared.apdu.Apdu.TheVariants as apdus
 use Rattle.stub_tables.specs.declared.apdu.Returned.{Returned}
-use Rattle.stub_tables.specs.Heads.{code_value, linked_part, any_part, invoke_value, returned_part, result_value, error_value}
-use Rattle.stub_tables.specs.Apdus.{IsIdentifier, CarriedAs, argument_of, result_of, parameter_of, operation_coded, error_coded, SaysInvoke, SaysResult, SaysError, ReturnedAs, Says}
+use Rattle.stub_tables.specs.Heads.{code_value, linked_part, any_part, invoke_value, returned_part}
+use Rattle.stub_tables.specs.Apdus.{IsIdentifier, CarriedAs, argument_of, result_of, parameter_of, operation_coded, error_coded, SaysInvoke, SaysError, Says}
 use Rattle.rose.specs.Pieces.{maybe, integer_in, identifier_of, identifier_in, linked_in, code_in, any_in, octets_in, SaysReturned}
 
 -- ---- identifiers
@@ -113,7 +113,11 @@ invoke_parts t (apdus.Invoke i l c v) id linked code argument p =
     let two = maybe_linked linked l (maybe code (maybe argument no_parts)) (present (code_value c) (any_part p.octets)) one.1 in
     let three = maybe_present code (code_value c) (maybe argument no_parts) (any_part p.octets) two.1 in
     record {
-      i = i; l = l; c = c; o = p.octets; v = v;
+      i = i;
+      l = l;
+      c = c;
+      o = p.octets;
+      v = v;
       id_is = ap identifier_in one.0 ∙ identifier_some i p.identifier;
       linked_is = two.0;
       code_is = ap code_in three.0 ∙ code_some c;
@@ -131,9 +135,9 @@ pub invoke_is : (id linked code argument : Option Value) (i : ℤ) (l : Option �
     → identifier_in id ≡ Some i → linked_in linked ≡ Some l → code_in code ≡ Some c → any_in argument ≡ Some o → invoke_head id linked code argument ≡ invoke_value i l c o
 invoke_is id linked code argument i l c o a b d e =
     ap (λ (x : Option Value). invoke_head x linked code argument) (id_back id i a).0
-      ∙ ap (λ (x : MaybeValues). chosen 0 (parts (present (integer i) x)))
-        (linked_back linked l (maybe code (maybe argument no_parts)) b
-          ∙ ap (linked_part l) (ap (λ (x : Option Value). maybe x (maybe argument no_parts)) (code_back code c d) ∙ ap (present (code_value c)) (any_back argument o e)))
+    ∙ ap (λ (x : MaybeValues). chosen 0 (parts (present (integer i) x)))
+    (linked_back linked l (maybe code (maybe argument no_parts)) b
+    ∙ ap (linked_part l) (ap (λ (x : Option Value). maybe x (maybe argument no_parts)) (code_back code c d) ∙ ap (present (code_value c)) (any_back argument o e)))
 
 pub invoke_said : (t : Tables) (id linked code argument : Option Value) (i : ℤ) (l : Option ℤ) (c : Code) (o : Option (List ℕ)) (op : Operation) (v : Option Val)
     → Some i ≡ identifier_in id → Some l ≡ linked_in linked → Some c ≡ code_in code → Some o ≡ any_in argument → Some op ≡ operation_coded t c
@@ -159,8 +163,8 @@ invoke_uncarried t a id linked code argument c o op d e f none says =
     let same_code = one_some c p.c (d ∙ p.code_is) in
     let same_octets = one_some o p.o (e ∙ p.octets_is) in
     none p.v (subst (λ (x : Option Operation). CarriedAs t.types (option_map argument_of x) p.v o) (sym f)
-      (subst (λ (x : Code). CarriedAs t.types (option_map argument_of (operation_coded t x)) p.v o) (sym same_code)
-        (subst (λ (x : Option (List ℕ)). CarriedAs t.types (option_map argument_of (operation_coded t p.c)) p.v x) (sym same_octets) p.carried)))
+    (subst (λ (x : Code). CarriedAs t.types (option_map argument_of (operation_coded t x)) p.v o) (sym same_code)
+    (subst (λ (x : Option (List ℕ)). CarriedAs t.types (option_map argument_of (operation_coded t p.c)) p.v x) (sym same_octets) p.carried)))
 
 -- ---- an error
 
@@ -186,7 +190,10 @@ error_parts t (apdus.Error i c v) id code parameter p =
     let one = maybe_present id (integer i) (maybe code (maybe parameter no_parts)) (present (code_value c) (any_part p.octets)) e in
     let two = maybe_present code (code_value c) (maybe parameter no_parts) (any_part p.octets) one.1 in
     record {
-      i = i; c = c; o = p.octets; v = v;
+      i = i;
+      c = c;
+      o = p.octets;
+      v = v;
       id_is = ap identifier_in one.0 ∙ identifier_some i p.identifier;
       code_is = ap code_in two.0 ∙ code_some c;
       octets_is = maybe_any parameter p.octets two.1;
@@ -203,8 +210,8 @@ error_said t id code parameter i c o er v a d e f g = record {
   octets = o;
   head_is =
       ap (λ (x : Option Value). error_head x code parameter) (id_back id i (sym a)).0
-        ∙ ap (λ (x : MaybeValues). chosen 2 (parts (present (integer i) x)))
-          (ap (λ (x : Option Value). maybe x (maybe parameter no_parts)) (code_back code c (sym d)) ∙ ap (present (code_value c)) (any_back parameter o (sym e)));
+      ∙ ap (λ (x : MaybeValues). chosen 2 (parts (present (integer i) x)))
+      (ap (λ (x : Option Value). maybe x (maybe parameter no_parts)) (code_back code c (sym d)) ∙ ap (present (code_value c)) (any_back parameter o (sym e)));
   identifier = (id_back id i (sym a)).1;
   carried = subst (λ (x : Option ErrorRow). CarriedAs t.types (option_map parameter_of x) v o) f g;
 }
@@ -220,8 +227,8 @@ error_uncarried t a id code parameter c o er d e f none says =
     let same_code = one_some c p.c (d ∙ p.code_is) in
     let same_octets = one_some o p.o (e ∙ p.octets_is) in
     none p.v (subst (λ (x : Option ErrorRow). CarriedAs t.types (option_map parameter_of x) p.v o) (sym f)
-      (subst (λ (x : Code). CarriedAs t.types (option_map parameter_of (error_coded t x)) p.v o) (sym same_code)
-        (subst (λ (x : Option (List ℕ)). CarriedAs t.types (option_map parameter_of (error_coded t p.c)) p.v x) (sym same_octets) p.carried)))
+    (subst (λ (x : Code). CarriedAs t.types (option_map parameter_of (error_coded t x)) p.v o) (sym same_code)
+    (subst (λ (x : Option (List ℕ)). CarriedAs t.types (option_map parameter_of (error_coded t p.c)) p.v x) (sym same_octets) p.carried)))
 
 -- ---- a result
 
@@ -260,7 +267,7 @@ pub returned_said : (t : Tables) (code value : Option Value) (c : Code) (o : Lis
 returned_said t code value c o op v d e f g = record {
   octets = o;
   part_is = ap (λ (x : Option Value). present (parts (maybe x (maybe value no_parts))) no_parts) (code_back code c (sym d))
-    ∙ ap (λ (x : Option Value). present (parts (present (code_value c) (maybe x no_parts))) no_parts) (any_there value o (sym e));
+      ∙ ap (λ (x : Option Value). present (parts (present (code_value c) (maybe x no_parts))) no_parts) (any_there value o (sym e));
   carried = subst (λ (x : Option Operation). CarriedAs t.types (option_map result_of x) (Some v) (Some o)) f g;
 }
 
@@ -275,8 +282,8 @@ returned_uncarried t code value r c o op d e f none says =
     let same_code = one_some c p.c (d ∙ p.code_is) in
     let same_octets = ap Some (one_some o p.o (e ∙ p.octets_is)) in
     none p.v (subst (λ (x : Option Operation). CarriedAs t.types (option_map result_of x) (Some p.v) (Some o)) (sym f)
-      (subst (λ (x : Code). CarriedAs t.types (option_map result_of (operation_coded t x)) (Some p.v) (Some o)) (sym same_code)
-        (subst (λ (x : Option (List ℕ)). CarriedAs t.types (option_map result_of (operation_coded t p.c)) (Some p.v) x) (sym same_octets) p.carried)))
+    (subst (λ (x : Code). CarriedAs t.types (option_map result_of (operation_coded t x)) (Some p.v) (Some o)) (sym same_code)
+    (subst (λ (x : Option (List ℕ)). CarriedAs t.types (option_map result_of (operation_coded t p.c)) (Some p.v) x) (sym same_octets) p.carried)))
 
 -- how many parts there are
 abbrev pub count : MaybeValues → ℕ

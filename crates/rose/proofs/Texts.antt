@@ -1,6 +1,5 @@
 -- What is written of calls.
-use Rattle.std.proofs.Common.{◌≡◌, ℤ, true, false, Option, Some, None, List, ℕ, refl, sym, ap, ◌∙◌, option_map}
-use Rattle.asn1_types.specs.Value.{Value}
+use Rattle.std.proofs.Common.{◌≡◌, ℤ, true, Option, Some, None, List, ℕ, refl, sym, ap, option_map}
 use Rattle.asn1_types.specs.declared.value.Val.{Val}
 use Rattle.asn1_types.specs.declared.row.TypeId.{TypeId}
 use Rattle.ber_codec.specs.Writing.{written}
@@ -10,7 +9,7 @@ use Rattle.stub_tables.specs.declared.operation.Operation.{Operation}
 use Rattle.stub_tables.specs.declared.operation.ErrorRow.{ErrorRow}
 use Rattle.stub_tables.specs.Heads.{head_rows, apdu_row, invoke_value, result_value, error_value}
 use Rattle.stub_tables.specs.Uses.{is_carried, fits_type}
-use Rattle.stub_tables.specs.Apdus.{written_apdu, written_typed, or_none, written_carried, written_returned, operation_coded, error_coded, argument_of, result_of, parameter_of, returned_with, invoke_apdu, result_apdu, error_apdu}
+use Rattle.stub_tables.specs.Apdus.{written_apdu, written_typed, or_none, written_carried, operation_coded, error_coded, argument_of, result_of, parameter_of, returned_with, invoke_apdu, result_apdu, error_apdu}
 use Rattle.rose.specs.Pieces.{result_head}
 
 pub invoke_written : (t : Tables) (o : Operation) (id : ℤ) (v : Option Val) → operation_coded t o.code ≡ Some o

@@ -66,9 +66,11 @@ fn invoke(
 ) -> Result<Content, NoMemory>
     ensures { IfOk result (IsSaid tables.now (chosen 0 (parts (maybe id.now (maybe linked.now (maybe code.now (maybe argument.now no_parts))))))) }
 {
-    let (Some(id), Some(linked), Some(octets)) =
-        (identifier_in(id), linked_in(linked), any_in(argument))
-    else {
+    let (Some(id), Some(linked), Some(octets)) = (
+        identifier_in(id),
+        linked_in(linked),
+        any_in(argument),
+    ) else {
         return Ok(Content::Unread);
     };
     let Some(code) = code_in(alloc, code)? else {
@@ -131,7 +133,6 @@ fn error(
     }
 }
 
-
 /// A value that is returned, with its operation's code.
 fn returned_as(code: Code, value: Val) -> Returned
     ensures { result ≡ record { code = code; value = value } }
@@ -178,11 +179,7 @@ fn returned_pieces(
 }
 
 /// What is returned; `None` where nothing is so.
-fn returned_value(
-    alloc: Global,
-    tables: &Tables,
-    value: &Val,
-) -> Result<Option<Returned>, NoMemory>
+fn returned_value(alloc: Global, tables: &Tables, value: &Val) -> Result<Option<Returned>, NoMemory>
     ensures { IfOk result (IsReturnedSome tables.now (Some value.now)) }
 {
     let Node::Parts(pieces) = &value.node else {
@@ -244,7 +241,9 @@ fn invoke_pieces(
     if pieces.len() != 4 {
         return Ok(Content::Unread);
     }
-    invoke(alloc, tables, &pieces[0], &pieces[1], &pieces[2], &pieces[3])
+    invoke(
+        alloc, tables, &pieces[0], &pieces[1], &pieces[2], &pieces[3],
+    )
 }
 
 /// The APDU that the parts of a result say.
@@ -262,11 +261,7 @@ fn result_pieces(
 }
 
 /// The APDU that the parts of an error say.
-fn error_pieces(
-    alloc: Global,
-    tables: &Tables,
-    pieces: &[Option<Val>],
-) -> Result<Content, NoMemory>
+fn error_pieces(alloc: Global, tables: &Tables, pieces: &[Option<Val>]) -> Result<Content, NoMemory>
     ensures { IfOk result (IsSaid tables.now (chosen 2 (parts (parts_of pieces.now)))) }
 {
     if pieces.len() != 3 {

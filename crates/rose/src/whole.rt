@@ -50,12 +50,7 @@ fn refused(fault: ReadFault) -> Result<Found, NoMemory>
 }
 
 /// What one whole value says.
-fn says(
-    alloc: Global,
-    rows: &TypeTable,
-    tables: &Tables,
-    text: &[u8],
-) -> Result<Content, NoMemory>
+fn says(alloc: Global, rows: &TypeTable, tables: &Tables, text: &[u8]) -> Result<Content, NoMemory>
     requires { rows.now ≡ head_rows }
     ensures { IfOk result (λ c. Says tables.now c text.now) }
 {
@@ -75,12 +70,7 @@ impl Heads {
 
     /// What stands first in octets that came (X.882 9; X.690 8.1): less than one value, one whole
     /// value with the APDU that it says, or a fault.
-    pub fn first(
-        &self,
-        alloc: Global,
-        tables: &Tables,
-        bytes: &[u8],
-    ) -> Result<First, NoMemory>
+    pub fn first(&self, alloc: Global, tables: &Tables, bytes: &[u8]) -> Result<First, NoMemory>
         ensures { IfOk result (Stands tables.now bytes.now) }
     {
         match front(alloc, self.rows(), bytes)? {

@@ -86,12 +86,7 @@ fn integer(number: i64) -> Val
 }
 
 /// The head of an invocation.
-fn invoke_head(
-    alloc: Global,
-    id: i64,
-    code: &Code,
-    octets: Option<Octets>,
-) -> Result<Val, NoMemory>
+fn invoke_head(alloc: Global, id: i64, code: &Code, octets: Option<Octets>) -> Result<Val, NoMemory>
     ensures { IfOk result (λ head. head ≡ invoke_value id None code.now octets) }
 {
     let mut parts = Vec::new(alloc);
@@ -103,12 +98,7 @@ fn invoke_head(
 }
 
 /// The head of an error.
-fn error_head(
-    alloc: Global,
-    id: i64,
-    code: &Code,
-    octets: Option<Octets>,
-) -> Result<Val, NoMemory>
+fn error_head(alloc: Global, id: i64, code: &Code, octets: Option<Octets>) -> Result<Val, NoMemory>
     ensures { IfOk result (λ head. head ≡ error_value id code.now octets) }
 {
     let mut parts = Vec::new(alloc);
@@ -131,12 +121,7 @@ fn returned_val(alloc: Global, code: &Code, octets: Octets) -> Result<Val, NoMem
 }
 
 /// The head of a result.
-fn result_head(
-    alloc: Global,
-    id: i64,
-    code: &Code,
-    octets: Option<Octets>,
-) -> Result<Val, NoMemory>
+fn result_head(alloc: Global, id: i64, code: &Code, octets: Option<Octets>) -> Result<Val, NoMemory>
     ensures { IfOk result (λ head. head ≡ result_head code.now id octets) }
 {
     let returned = match octets {

@@ -1,5 +1,5 @@
-use Rattle.std.proofs.Common.{◌≡◌, Option, Some, None, sym, ap, subst, ◌∙◌, IfOk}
-use Rattle.asn1_types.specs.Value.{Value, parts, chosen, MaybeValues}
+use Rattle.std.proofs.Common.{sym, subst, IfOk}
+use Rattle.asn1_types.specs.Value.{parts, chosen, MaybeValues}
 use Rattle.rose.specs.Pieces.{IsSaid}
 use Rattle.rose.proofs.Said.{head_count, error_three, three_parts}
 use Rattle.rose.proofs.reading.error_pieces.Goals as goal

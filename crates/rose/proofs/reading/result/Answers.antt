@@ -1,5 +1,4 @@
-use Rattle.std.proofs.Common.{◌≡◌, Option, Some, None, sym, ap, subst, ◌∙◌, IfOk}
-use Rattle.asn1_types.specs.Value.{Value, parts, chosen, MaybeValues}
+use Rattle.std.proofs.Common.{subst}
 use Rattle.rose.specs.Pieces.{IsReturned}
 use Rattle.rose.proofs.Said.{result_unsaid}
 use Rattle.rose.proofs.reading.result.Goals as goal

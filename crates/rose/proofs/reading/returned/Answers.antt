@@ -1,7 +1,6 @@
-use Rattle.std.proofs.Common.{◌≡◌, Option, Some, None, sym, ap, subst, ◌∙◌, IfOk}
-use Rattle.asn1_types.specs.Value.{Value, parts, chosen, MaybeValues}
+use Rattle.std.proofs.Common.{Option, Some, subst}
+use Rattle.asn1_types.specs.Value.{Value}
 use Rattle.rose.specs.Pieces.{IsReturnedSome, SaysReturned}
-use Rattle.stub_tables.specs.declared.apdu.Returned.{Returned}
 use Rattle.rose.proofs.reading.returned.Goals as goal
 
 pub returns-in-None : goal.returns-in-None

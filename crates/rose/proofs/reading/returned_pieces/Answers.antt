@@ -1,5 +1,5 @@
-use Rattle.std.proofs.Common.{◌≡◌, Option, Some, None, sym, ap, subst, ◌∙◌, IfOk}
-use Rattle.asn1_types.specs.Value.{Value, parts, chosen, MaybeValues}
+use Rattle.std.proofs.Common.{Some, sym, subst, IfOk}
+use Rattle.asn1_types.specs.Value.{parts, MaybeValues}
 use Rattle.rose.specs.Pieces.{IsReturnedSome}
 use Rattle.rose.proofs.Said.{returned_count, two_parts}
 use Rattle.rose.proofs.reading.returned_pieces.Goals as goal

@@ -1,4 +1,4 @@
-use Rattle.std.proofs.Common.{◌≡◌, ℕ, List, None, subst}
+use Rattle.std.proofs.Common.{List, None, subst}
 use Rattle.asn1_types.specs.declared.row.TypeRow.{TypeRow}
 use Rattle.ber_codec.specs.Spelling.{Ber}
 use Rattle.stub_tables.specs.Heads.{apdu_row}
