@@ -1,12 +1,11 @@
 -- What a feed does.
-use Rattle.std.specs.Prelude.{◌≡◌, ℕ, ◌<◌, List, [], ◌∷◌, ◌++◌, Bool, true, false, if◌then◌else◌}
+use Rattle.std.specs.Prelude.{◌≡◌, ℕ, ◌<◌, List, [], ◌∷◌, ◌++◌, Bool, true, false}
 use Rattle.dialogue.specs.declared.indication.Indication.{Indication}
-use Rattle.dialogue.specs.Message.{Message, Content}
-use Rattle.dialogue.specs.State.{passes_over}
+use Rattle.dialogue.specs.Message.{Content}
 use Rattle.dialogue.specs.Taking.{StandsFirst, bare_pair, may_take, shown_of}
-use Rattle.dialogue.specs.History.{Step, took}
+use Rattle.dialogue.specs.History.{Step, took, History, going_on}
 use Rattle.dialogue.specs.Feeding.{read_message, Reads, Feeds}
-use Rattle.stack.specs.End.{EndView, stepped}
+use Rattle.stack.specs.End.{EndView, stepped, StandsFor}
 
 -- one message was taken
 pub record TookOne (old new : EndView) (before after : List Indication) : Type 0 where
@@ -36,3 +35,5 @@ pub record Fed (old new : EndView) (octets : List ℕ) (shown : List Indication)
   pub steps : List Step
   pub feeds : Feeds old.tables old.state octets steps shown
   pub end_is : new ≡ stepped old steps
+  -- where it stood for a history, it stands for it with these steps
+  pub stands : (h : History) → StandsFor old h → StandsFor new (going_on h steps)

@@ -1,3 +1,5 @@
 pub mod End
 pub mod Opens
 pub mod Feed
+pub mod Asked
+pub mod Laws

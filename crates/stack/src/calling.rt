@@ -1,17 +1,19 @@
 //! The calls of an end.
 
 ghost use Rattle.std.specs.Prelude.{◌≡◌, ℕ, ◌+◌, ◌≤◌, ◌++◌, [], ◌∷◌, true, false, Some, None, OnOk, OnErr, if◌then◌else◌};
-ghost use Rattle.std.specs.Bool.{MatchBool};
-ghost use Rattle.stack.specs.End.{Answers, Answered, Died, Keeps, is_memory};
+ghost use Rattle.std.specs.Bool.{MatchBool, OnFalse};
+ghost use Rattle.stack.specs.End.{Answers, Answered, Died, Keeps, is_memory, StandsFor};
 ghost use Rattle.stub_tables.specs.Lookup.{operation_at};
 ghost use Rattle.stub_tables.specs.Uses.{is_carried};
 ghost use Rattle.stub_tables.specs.Apdus.{IsIdentifier};
 ghost use Rattle.dialogue.specs.State.{without};
 ghost use Rattle.dialogue.specs.Calls.{can_call, can_bare, can_invoke_unlinked, link_refusal, opened_by};
+ghost use Rattle.dialogue.specs.History.{History, going_on, call_steps, state_of};
 ghost use Rattle.dialogue.specs.declared.call.Call.TheVariants as the_calls;
 
 use crate::end::End;
 use crate::gate::{is_dead, is_initiators, is_phase_for};
+use crate::judge::MOST_OPEN;
 use asn1_types::Val;
 use dialogue::{Call, CallRefusal, Opened, Phase};
 use osi_base::NoMemory;
@@ -19,9 +21,6 @@ use stub_tables::Operation;
 
 /// The most octets that a spelling of an APDU has.
 const MOST_OCTETS: usize = 262_144;
-
-/// How many invocations of one end may be open.
-const MOST_OPEN: usize = 4_096;
 
 /// The greatest identifier of an invocation.
 const LAST_ID: u32 = 2_147_483_647;
@@ -38,12 +37,7 @@ impl<'t> End<'t> {
     }
 
     /// Keeps an invocation that was written.
-    fn begin(
-        &mut self,
-        opened: Opened,
-        silent: bool,
-        text: &[u8],
-    ) -> Result<(), NoMemory>
+    fn begin(&mut self, opened: Opened, silent: bool, text: &[u8]) -> Result<(), NoMemory>
         requires few { self.old.state.invoked ≤ 2147483646 }
         requires identified { IsIdentifier opened.id }
         ensures ok { OnOk result (self.new ≡ record self.old { state = record self.old.state { opens = self.old.state.opens ++ (if silent then [] else opened ∷ []); invoked = self.old.state.invoked + 1; waiting = self.old.state.waiting ++ text.now } }) }
@@ -70,7 +64,13 @@ impl<'t> End<'t> {
         ensures { Answers (can_invoke_unlinked self.old.tables self.old.state 0 operation.now argument.now) self.old self.new (the_calls.Invoke 0 place argument.now None) result }
     {
         let id = self.invoked.min(LAST_ID - 1) + 1;
-        let text = self.heads.invoke_text(self.alloc, self.tables, operation, i64::from(id), argument)?;
+        let text = self.heads.invoke_text(
+            self.alloc,
+            self.tables,
+            operation,
+            i64::from(id),
+            argument,
+        )?;
         if text.len() > MOST_OCTETS {
             return Err(CallRefusal::TooLong);
         }
@@ -160,7 +160,9 @@ impl<'t> End<'t> {
         if !operation.result.carries(&tables.types, value) {
             return Err(CallRefusal::NotTyped);
         }
-        let text = self.heads.result_text(self.alloc, tables, operation, id, value)?;
+        let text = self
+            .heads
+            .result_text(self.alloc, tables, operation, id, value)?;
         if text.len() > MOST_OCTETS {
             return Err(CallRefusal::TooLong);
         }
@@ -194,7 +196,9 @@ impl<'t> End<'t> {
         if !error.parameter.carries(&tables.types, parameter) {
             return Err(CallRefusal::NotTyped);
         }
-        let text = self.heads.error_text(self.alloc, tables, error, id, parameter)?;
+        let text = self
+            .heads
+            .error_text(self.alloc, tables, error, id, parameter)?;
         if text.len() > MOST_OCTETS {
             return Err(CallRefusal::TooLong);
         }
@@ -240,16 +244,25 @@ impl<'t> End<'t> {
         self.call_allowed(call)
     }
 
-    /// Makes a call. A refusal is the first row of the conditions that fails, and changes nothing;
-    /// but after a refusal by want of memory the end is dead. An accepted invocation is answered
-    /// by its identifier, all else by `None`.
-    pub fn call(&mut self, call: Call) -> Result<Option<i64>, CallRefusal>
-        ensures answer { MatchBool (is_memory result) (Died self.old self.new) (Answered (can_call self.old.tables self.old.config self.old.state call) self.old self.new call result) }
+    /// Makes a call; where memory is refused, the end dies.
+    fn call_or_die(&mut self, call: &Call) -> Result<Option<i64>, CallRefusal>
+        ensures { MatchBool (is_memory result) (Died self.old self.new) (Answered (can_call self.old.tables self.old.config self.old.state call.now) self.old self.new call.now result) }
     {
-        let answer = self.call_now(&call);
+        let answer = self.call_now(call);
         if matches!(answer, Err(CallRefusal::NoMemory)) {
             self.phase = Phase::Dead;
         }
         answer
+    }
+
+    /// Makes a call. A refusal is the first row of the conditions that fails, and changes nothing;
+    /// but after a refusal by want of memory the end is dead, and answers `Dead` from then on. An
+    /// accepted invocation is answered by its identifier, all else by `None`.
+    pub fn call(&mut self, call: Call) -> Result<Option<i64>, CallRefusal>
+        ensures answer { MatchBool (is_memory result) (Died self.old self.new) (Answered (can_call self.old.tables self.old.config self.old.state call) self.old self.new call result) }
+        // Where the end stood for a history, it stands for it with the steps of the call.
+        ensures history { (h : History) → StandsFor self.old h → OnFalse (is_memory result) (StandsFor self.new (going_on h (call_steps self.old.tables self.old.config (state_of self.old.tables h) call))) }
+    {
+        self.call_or_die(&call)
     }
 }

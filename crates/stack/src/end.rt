@@ -1,19 +1,18 @@
 //! One end of a connection.
 
-ghost use Rattle.std.specs.Prelude.{◌≡◌, ◌≢◌, ℕ, List, [], ◌∷◌, ◌++◌, length, min, take, drop, IfOk, IfErr, OnOk, true, false, Some, None};
-ghost use Rattle.dialogue.specs.declared.call.Call.TheVariants as the_calls;
-ghost use Rattle.dialogue.specs.Calls.{can_call, can_bare};
+ghost use Rattle.std.specs.Prelude.{◌≡◌, ◌≢◌, ℕ, List, [], ◌∷◌, ◌++◌, length, min, take, drop, IfOk, IfErr, OnOk, true, Some, None, is_some};
+ghost use Rattle.std.specs.Option.{option_copied};
 
-use crate::gate::{is_dead, is_initiators, is_phase_for, passes_over, broken};
+use crate::gate::{broken, is_up};
+use crate::held::{bare_set, first_with, pair_of};
 use crate::opens::Opens;
 use crate::queue::{OctetQueue, copy_front};
-use asn1_types::Val;
-use dialogue::{Call, CallRefusal, Config, ConfigRefusal, Opened, Phase, check_config};
-use osi_base::{Copied, NoMemory};
+use dialogue::{Config, ConfigRefusal, Phase, check_config};
+use osi_base::{Pair, SetList};
 use rose::Heads;
 use std::alloc::Global;
 use std::marker::Model;
-use stub_tables::{Apdu, Operation, Tables};
+use stub_tables::Tables;
 
 /// One end of a connection.
 #[derive(Drop)]
@@ -22,6 +21,7 @@ pub struct End<'t> {
     pub(crate) tables: &'t Tables,
     pub(crate) config: Config,
     pub(crate) heads: Heads,
+    pub(crate) held: SetList,
     pub(crate) phase: Phase,
     pub(crate) opens: Opens,
     pub(crate) invoked: u32,
@@ -30,7 +30,7 @@ pub struct End<'t> {
 }
 
 impl<'t> Model for End<'t> {
-    ghost use Rattle.std.specs.Prelude.{◌≤◌};
+    ghost use Rattle.std.specs.Prelude.{◌≡◌, ◌≤◌};
     ghost use Rattle.stack.specs.End.{EndView};
     ghost use Rattle.dialogue.specs.Message.{bare_set};
 
@@ -38,24 +38,23 @@ impl<'t> Model for End<'t> {
 
     ghost view = { λ e. record { tables = e.tables.now; config = e.config; state = record { phase = e.phase; held = bare_set e.tables.now; opens = e.opens; invoked = e.invoked; waiting = e.waiting; rest = e.rest } } };
 
-    ghost invariant = { λ e. e.invoked ≤ 2147483647 };
+    ghost invariant = { λ e. (e.invoked ≤ 2147483647) × (e.held ≡ bare_set e.tables.now) };
 }
 
 impl<'t> End<'t> {
-    ghost use Rattle.stack.specs.End.{EndView, stepped};
-    ghost use Rattle.dialogue.specs.State.{bare_start};
+    ghost use Rattle.stack.specs.End.{EndView, stepped, StandsFor};
+    ghost use Rattle.stack.specs.Asked.{holds_turn, lowest_of};
+    ghost use Rattle.dialogue.specs.State.{bare_start, opened_with};
+    ghost use Rattle.dialogue.specs.Message.{pair_of};
     ghost use Rattle.dialogue.specs.Config.{config_refusal};
     ghost use Rattle.dialogue.specs.declared.config.ConfigRefusal.TheVariants as config_refusals;
-    ghost use Rattle.dialogue.specs.History.{gave, broke};
+    ghost use Rattle.dialogue.specs.History.{History, gave, broke};
 
     /// An end of bare mode with these tables and this configuration, which has no contexts. It is
-    /// up at once.
-    pub fn new(
-        alloc: Global,
-        tables: &'t Tables,
-        config: Config,
-    ) -> Result<End<'t>, ConfigRefusal>
+    /// up at once. Refused is what `check_config` refuses, and want of memory.
+    pub fn new(alloc: Global, tables: &'t Tables, config: Config) -> Result<End<'t>, ConfigRefusal>
         ensures made { IfOk result (λ end. end ≡ record { tables = tables.entry.now; config = config; state = bare_start tables.entry.now }) }
+        ensures history { IfOk result (λ end. StandsFor end []) }
         ensures accepted { OnOk result (config_refusal config ≡ None) }
         ensures refused { IfErr result (λ refusal. (refusal ≢ config_refusals.NoMemory) → config_refusal config ≡ Some refusal) }
     {
@@ -63,11 +62,15 @@ impl<'t> End<'t> {
         let Ok(heads) = Heads::new(alloc) else {
             return Err(ConfigRefusal::NoMemory);
         };
+        let Ok(held) = bare_set(alloc, tables) else {
+            return Err(ConfigRefusal::NoMemory);
+        };
         Ok(End {
             alloc,
             tables,
             config,
             heads,
+            held,
             phase: Phase::Up,
             opens: Opens::new(alloc),
             invoked: 0,
@@ -83,7 +86,44 @@ impl<'t> End<'t> {
         self.phase
     }
 
-    /// Whether no transfer is queued or in progress: in bare mode there is none.
+    /// Whether the end holds the turn: it was the initiator's at first and in bare mode stays there,
+    /// and an end that isn't up holds none.
+    pub fn holds_turn(&self) -> bool
+        ensures { result ≡ holds_turn self.now.config self.now.state }
+    {
+        self.config.initiator && is_up(self.phase)
+    }
+
+    /// Whether no transfer is queued or in progress: in bare mode there never is one.
+    pub fn idle(&self) -> bool
+        ensures { result ≡ true }
+    {
+        true
+    }
+
+    /// Whether the invocation of this end (own), or of its peer, with this identifier is open: it
+    /// has no outcome yet (X.880 8).
+    pub fn is_open(&self, own: bool, id: i64) -> bool
+        ensures { result ≡ is_some (opened_with own id self.now.state.opens) }
+    {
+        self.opens.find(own, id).is_some()
+    }
+
+    /// What the end's set of contexts gives this identifier (X.216 3.3.15).
+    pub fn pair(&self, id: u32) -> Option<&Pair>
+        ensures { option_copied result ≡ pair_of self.now.state.held id }
+    {
+        pair_of(self.held.as_slice(), id)
+    }
+
+    /// The lowest identifier on which a value of the module may be sent.
+    pub fn lowest(&self) -> Option<u32>
+        ensures { result ≡ lowest_of self.now.tables self.now.state }
+    {
+        first_with(self.held.as_slice(), &self.tables.name_oid)
+    }
+
+    /// How the end was set up.
     pub fn config(&self) -> &Config
         ensures { result.now ≡ self.now.config }
     {
@@ -97,11 +137,13 @@ impl<'t> End<'t> {
         self.tables
     }
 
-    /// Moves the octets that wait to the front of the room, as many as fit, and answers how many.
+    /// Moves the octets that wait to the front of the room, in their order and as many as fit, and
+    /// answers how many.
     pub fn give_out(&mut self, out: &mut [u8]) -> usize
         ensures count { result ≡ min (length out.old) (length self.old.state.waiting) }
         ensures given { out.new ≡ take result self.old.state.waiting ++ drop result out.old }
         ensures end { self.new ≡ stepped self.old (gave result ∷ []) }
+        ensures history { (h : History) → StandsFor self.old h → StandsFor self.new (gave result ∷ h) }
     {
         let count = copy_front(self.waiting.as_slice(), out);
         self.waiting.skip(count);
@@ -110,7 +152,8 @@ impl<'t> End<'t> {
 
     /// The connection broke: what waits in either direction is lost.
     pub fn broke(&mut self)
-        ensures { self.new ≡ stepped self.old (broke ∷ []) }
+        ensures end { self.new ≡ stepped self.old (broke ∷ []) }
+        ensures history { (h : History) → StandsFor self.old h → StandsFor self.new (broke ∷ h) }
     {
         self.phase = broken(self.phase);
         self.opens.clear();

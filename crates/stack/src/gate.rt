@@ -35,7 +35,8 @@ fn is_broken(phase: Phase) -> bool
     }
 }
 
-fn is_up(phase: Phase) -> bool
+/// Whether the association stands.
+pub fn is_up(phase: Phase) -> bool
     ensures { result ≡ is_up phase }
 {
     match phase {

@@ -5,9 +5,12 @@ mod calling;
 mod end;
 mod feeding;
 mod gate;
+mod held;
 mod judge;
+mod laws;
 mod opens;
 mod queue;
 mod taking;
 
 pub use end::End;
+pub use laws::no_history_is_dead;
