@@ -1,5 +1,5 @@
 -- No step makes an end dead.
-use Rattle.std.proofs.Common.{◌≡◌, Bool, true, false, List, [], ◌∷◌, Option, Some, None, Result, Ok, Err, refl, sym, ap, ◌∙◌}
+use Rattle.std.proofs.Common.{◌≡◌, false, [], ◌∷◌, Some, None, Ok, Err, refl, ap, ◌∙◌}
 use Rattle.stub_tables.specs.declared.tables.Tables.{Tables}
 use Rattle.dialogue.specs.declared.call.Call.{Call}
 use Rattle.dialogue.specs.declared.call.Call.TheVariants.{Open, Invoke, Answer, Refuse, Alter, Mark, Give, Please, Resync, Interrupt, Resume, Discard, Recover, Release, Abort}

@@ -1,5 +1,5 @@
 -- What stood first was taken, or ended the reading.
-use Rattle.std.proofs.Common.{◌≡◌, ℕ, ◌<◌, ◌≤◌, Bool, true, false, cond, List, [], ◌∷◌, ◌++◌, length, take, drop, Option, Some, None, refl, sym, ap, subst, ◌∙◌, arith, append_assoc}
+use Rattle.std.proofs.Common.{◌≡◌, ℕ, ◌<◌, Bool, true, false, cond, List, [], ◌∷◌, ◌++◌, length, take, drop, refl, sym, ap, subst, ◌∙◌, arith, append_assoc}
 use Rattle.std.proofs.lemmas.List.{append-nil, length-drop}
 use Rattle.osi_base.specs.declared.words.Layer.TheVariants.{Rose}
 use Rattle.osi_base.specs.declared.words.SetItem.{SetItem}
@@ -7,16 +7,16 @@ use Rattle.osi_base.specs.declared.syntax.Syntax.{Syntax}
 use Rattle.osi_base.specs.declared.syntax.Syntax.TheVariants.{Ber}
 use Rattle.stub_tables.specs.declared.tables.Tables.{Tables}
 use Rattle.stub_tables.specs.declared.apdu.Apdu.{Apdu}
-use Rattle.stub_tables.specs.Apdus.{Spells, IsWhole, IsShort, IsFaulty}
+use Rattle.stub_tables.specs.Apdus.{Spells, IsShort, IsFaulty}
 use Rattle.rose.specs.declared.first.Content.TheVariants as content
 use Rattle.rose.specs.declared.first.Content as contents
 use Rattle.rose.specs.declared.first.First as firsts
 use Rattle.rose.specs.declared.first.First.TheVariants as first
 use Rattle.rose.specs.First.{IsFirst, Stands}
 use Rattle.dialogue.specs.declared.indication.Indication.{Indication}
-use Rattle.dialogue.specs.Message.{Content, apdu, unread, pair_of, bare_set}
+use Rattle.dialogue.specs.Message.{apdu, unread, pair_of, bare_set}
 use Rattle.dialogue.specs.State.{State, passes_over}
-use Rattle.dialogue.specs.Taking.{transfer_of, StandsFirst, bare_pair, may_take, may_take_apdu, shown_of, shown_abort, opens_after}
+use Rattle.dialogue.specs.Taking.{transfer_of, StandsFirst, bare_pair, may_take_apdu, shown_of, shown_abort, opens_after}
 use Rattle.dialogue.specs.History.{Step, took, fed, fault, feed_end, after}
 use Rattle.dialogue.specs.Feeding.{read_message, Reads, passes, waits, takes, refuses, fails}
 use Rattle.stack.specs.End.{EndView, stepped, Keeps}
@@ -99,7 +99,7 @@ pub took_accepted : (old new : EndView) (before after : List Indication) (a c : 
     → after ≡ before ++ shown_of old.tables (apdu c) → TookOne old new before after
 took_accepted old new before after a c used held first same may e f =
     took_apdu old new before after c used held (subst (λ (x : Apdu). IsFirst old.tables (content.Apdu x) used old.state.rest) (sym same) first)
-        (subst (λ (x : Apdu). may_take_apdu old.tables old.state.opens x ≡ true) (sym same) may) e f
+    (subst (λ (x : Apdu). may_take_apdu old.tables old.state.opens x ≡ true) (sym same) may) e f
 
 -- what stands first, once it is known
 pub is_short : (t : Tables) (rest : List ℕ) (f : firsts.First) → f ≡ first.Short → Stands t rest f → IsShort rest
@@ -152,8 +152,8 @@ reads_on_more old now next before shown then h one =
           let here : Reads now.tables (after now.tables now.state step) more later = subst (λ (e : EndView). Reads e.tables e.state more later) one.end_is r in
           let taken : Reads now.tables now.state (step ∷ more) (shown_of now.tables one.content ++ later) = takes one.content one.used h.up one.stands one.may here in
           subst (λ (xs : List Step). Reads old.tables old.state xs ((h.told ++ shown_of now.tables one.content) ++ later)) (sym (append_assoc h.steps (step ∷ []) more))
-              (subst (λ (ts : List Indication). Reads old.tables old.state (h.steps ++ (step ∷ more)) ts) (sym (append_assoc h.told (shown_of now.tables one.content) later))
-                  (h.goes_on (step ∷ more) (shown_of now.tables one.content ++ later) taken));
+          (subst (λ (ts : List Indication). Reads old.tables old.state (h.steps ++ (step ∷ more)) ts) (sym (append_assoc h.told (shown_of now.tables one.content) later))
+          (h.goes_on (step ∷ more) (shown_of now.tables one.content ++ later) taken));
     }
 
 pub reads_on_end : (old now next : EndView) (before shown then : List Indication) → ReadsOn old now before shown → ReadAll now next shown then → ReadAll old next before then

@@ -2,7 +2,6 @@ pub mod Places
 pub mod Writable
 pub mod Due
 pub mod Fed
-pub mod Coded
 pub mod Histories
 pub mod Alive
 pub mod Sets

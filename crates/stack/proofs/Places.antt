@@ -1,5 +1,5 @@
 -- Taking out what stands at the first place that passes a test.
-use Rattle.std.proofs.Common.{◌≡◌, ℕ, zero, suc, ◌+◌, ◌≤◌, ◌<◌, ℤ, Bool, true, false, cond, ◌&&◌, List, [], ◌∷◌, ◌++◌, length, take, drop, Option, Some, None, refl, sym, ap, subst, ◌∙◌, arith}
+use Rattle.std.proofs.Common.{◌≡◌, ℕ, zero, suc, ◌+◌, ◌≤◌, ℤ, Bool, true, false, cond, ◌&&◌, List, [], ◌∷◌, ◌++◌, Some, None, refl, ap, subst, ◌∙◌, arith}
 use Rattle.std.specs.Prelude.{remove, OnSome}
 use Rattle.std.specs.Ordering.{int_eq}
 use Rattle.std.proofs.lemmas.Bool.Decides.{Decides-int_eq}
@@ -15,6 +15,7 @@ later p n m (x ∷ xs) h = go (p x) h (later p (n + 1) m xs)
   where
     some_is : (a b : ℕ) → Some a ≡ Some b → a ≡ b
     some_is a b h = cc
+
     go : (b : Bool) → cond b (Some n) (position_from p (n + 1) xs) ≡ Some m → (position_from p (n + 1) xs ≡ Some m → n + 1 ≤ m) → n ≤ m
     go true h next = let e = some_is n m h in omega arith
     go false h next = let e = next h in omega arith

@@ -1,11 +1,10 @@
 -- Look-ups in a set of contexts, item by item.
-use Rattle.std.proofs.Common.{◌≡◌, ℕ, suc, ◌+◌, ◌<◌, ◌≤◌, Bool, true, false, cond, ◌&&◌, List, [], ◌∷◌, length, drop, Option, Some, None, refl, sym, ap, subst, ◌∙◌, add-one, slice_index_or}
+use Rattle.std.proofs.Common.{◌≡◌, ℕ, suc, ◌+◌, ◌<◌, ◌≤◌, Bool, true, false, cond, ◌&&◌, List, [], ◌∷◌, length, drop, Some, None, refl, sym, ap, subst, ◌∙◌, add-one, slice_index_or}
 use Rattle.std.specs.Prelude.{nat_eq}
 use Rattle.std.specs.Cmp.Lexicographic.{pointwise}
 use Rattle.std.proofs.Math.Seq.{drop-cons}
 use Rattle.std.proofs.Math.ListN.{drop_of_length-le}
 use Rattle.std.proofs.lemmas.Bool.{eq-eqb, eqb-true}
-use Rattle.osi_base.specs.declared.syntax.Pair.{Pair}
 use Rattle.osi_base.specs.declared.words.SetItem.{SetItem}
 use Rattle.dialogue.specs.Message.{pair_of}
 use Rattle.stack.specs.Asked.{first_with}
@@ -60,15 +59,15 @@ pub first_here : (items : List SetItem) (k : ℕ) (x : SetItem) (name : List ℕ
     → first_with name items ≡ first_with name (drop k items) → Some x.id ≡ first_with name items
 first_here items k x name lt e same h =
     sym (h ∙ ap (first_with name) (behind items k x lt e)
-        ∙ ap (λ (b : Bool). cond b (Some x.id) (first_with name (drop (k + 1) items)))
-            (subst (λ (n : List ℕ). pointwise nat_eq x.pair.abstract_name n ≡ true) same (same_list x.pair.abstract_name)))
+    ∙ ap (λ (b : Bool). cond b (Some x.id) (first_with name (drop (k + 1) items)))
+    (subst (λ (n : List ℕ). pointwise nat_eq x.pair.abstract_name n ≡ true) same (same_list x.pair.abstract_name)))
 
 pub first_later : (items : List SetItem) (k : ℕ) (x : SetItem) (name : List ℕ) → k < length items → x ≡ slice_index_or items k x → (x.pair.abstract_name ≡ name → ⊥)
     → first_with name items ≡ first_with name (drop k items) → first_with name items ≡ first_with name (drop (k + 1) items)
 first_later items k x name lt e other h =
     h ∙ ap (first_with name) (behind items k x lt e)
     ∙ ap (λ (b : Bool). cond b (Some x.id) (first_with name (drop (k + 1) items)))
-        (decided (pointwise nat_eq x.pair.abstract_name name) (x.pair.abstract_name ≡ name) (one_list x.pair.abstract_name name) other)
+    (decided (pointwise nat_eq x.pair.abstract_name name) (x.pair.abstract_name ≡ name) (one_list x.pair.abstract_name name) other)
 
 pub first_absent : (items : List SetItem) (k : ℕ) (name : List ℕ) → length items ≤ k → first_with name items ≡ first_with name (drop k items) → None ≡ first_with name items
 first_absent items k name end h = sym (h ∙ ap (first_with name) (none_behind items k end))

@@ -1,14 +1,13 @@
 -- What a contract sees of an end, and what its calls answer and change.
-use Rattle.std.specs.Prelude.{◌≡◌, ℕ, ℤ, List, Bool, true, false, Option, Result, Ok, Err, map, ◌∷◌, MatchBool}
+use Rattle.std.specs.Prelude.{◌≡◌, List, Bool, true, false, Ok, Err, map, ◌∷◌, MatchBool}
 use Rattle.stub_tables.specs.declared.tables.Tables.{Tables}
 use Rattle.dialogue.specs.declared.call.Call.{Call}
-use Rattle.dialogue.specs.declared.call.CallRefusal.{CallRefusal}
 use Rattle.dialogue.specs.declared.call.CallRefusal.TheVariants as refusals
 use Rattle.dialogue.specs.declared.config.Config.{Config}
 use Rattle.dialogue.specs.declared.config.Phase.TheVariants.{Dead}
 use Rattle.dialogue.specs.State.{State}
-use Rattle.dialogue.specs.Calls.{Reply, can_call, due_of}
-use Rattle.dialogue.specs.History.{Step, History, called, sent, after_all, state_of, going_on, call_steps}
+use Rattle.dialogue.specs.Calls.{Reply, due_of}
+use Rattle.dialogue.specs.History.{Step, History, called, sent, after_all, state_of}
 
 -- its tables, its configuration, and what its history says of it
 pub record EndView : Type 0 where

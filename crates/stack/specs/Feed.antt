@@ -1,8 +1,7 @@
 -- What a feed does.
-use Rattle.std.specs.Prelude.{◌≡◌, ℕ, ◌<◌, List, [], ◌∷◌, ◌++◌, Bool, true, false, if◌then◌else◌}
+use Rattle.std.specs.Prelude.{◌≡◌, ℕ, ◌<◌, List, [], ◌∷◌, ◌++◌, Bool, true, false}
 use Rattle.dialogue.specs.declared.indication.Indication.{Indication}
-use Rattle.dialogue.specs.Message.{Message, Content}
-use Rattle.dialogue.specs.State.{passes_over}
+use Rattle.dialogue.specs.Message.{Content}
 use Rattle.dialogue.specs.Taking.{StandsFirst, bare_pair, may_take, shown_of}
 use Rattle.dialogue.specs.History.{Step, took, History, going_on}
 use Rattle.dialogue.specs.Feeding.{read_message, Reads, Feeds}

@@ -13,6 +13,7 @@ ghost use Rattle.dialogue.specs.declared.call.Call.TheVariants as the_calls;
 
 use crate::end::End;
 use crate::gate::{is_dead, is_initiators, is_phase_for};
+use crate::judge::MOST_OPEN;
 use asn1_types::Val;
 use dialogue::{Call, CallRefusal, Opened, Phase};
 use osi_base::NoMemory;
@@ -20,9 +21,6 @@ use stub_tables::Operation;
 
 /// The most octets that a spelling of an APDU has.
 const MOST_OCTETS: usize = 262_144;
-
-/// How many invocations of one end may be open.
-const MOST_OPEN: usize = 4_096;
 
 /// The greatest identifier of an invocation.
 const LAST_ID: u32 = 2_147_483_647;
@@ -39,12 +37,7 @@ impl<'t> End<'t> {
     }
 
     /// Keeps an invocation that was written.
-    fn begin(
-        &mut self,
-        opened: Opened,
-        silent: bool,
-        text: &[u8],
-    ) -> Result<(), NoMemory>
+    fn begin(&mut self, opened: Opened, silent: bool, text: &[u8]) -> Result<(), NoMemory>
         requires few { self.old.state.invoked ≤ 2147483646 }
         requires identified { IsIdentifier opened.id }
         ensures ok { OnOk result (self.new ≡ record self.old { state = record self.old.state { opens = self.old.state.opens ++ (if silent then [] else opened ∷ []); invoked = self.old.state.invoked + 1; waiting = self.old.state.waiting ++ text.now } }) }
@@ -71,7 +64,13 @@ impl<'t> End<'t> {
         ensures { Answers (can_invoke_unlinked self.old.tables self.old.state 0 operation.now argument.now) self.old self.new (the_calls.Invoke 0 place argument.now None) result }
     {
         let id = self.invoked.min(LAST_ID - 1) + 1;
-        let text = self.heads.invoke_text(self.alloc, self.tables, operation, i64::from(id), argument)?;
+        let text = self.heads.invoke_text(
+            self.alloc,
+            self.tables,
+            operation,
+            i64::from(id),
+            argument,
+        )?;
         if text.len() > MOST_OCTETS {
             return Err(CallRefusal::TooLong);
         }
@@ -161,7 +160,9 @@ impl<'t> End<'t> {
         if !operation.result.carries(&tables.types, value) {
             return Err(CallRefusal::NotTyped);
         }
-        let text = self.heads.result_text(self.alloc, tables, operation, id, value)?;
+        let text = self
+            .heads
+            .result_text(self.alloc, tables, operation, id, value)?;
         if text.len() > MOST_OCTETS {
             return Err(CallRefusal::TooLong);
         }
@@ -195,7 +196,9 @@ impl<'t> End<'t> {
         if !error.parameter.carries(&tables.types, parameter) {
             return Err(CallRefusal::NotTyped);
         }
-        let text = self.heads.error_text(self.alloc, tables, error, id, parameter)?;
+        let text = self
+            .heads
+            .error_text(self.alloc, tables, error, id, parameter)?;
         if text.len() > MOST_OCTETS {
             return Err(CallRefusal::TooLong);
         }

@@ -52,11 +52,7 @@ impl<'t> End<'t> {
 
     /// An end of bare mode with these tables and this configuration, which has no contexts. It is
     /// up at once. Refused is what `check_config` refuses, and want of memory.
-    pub fn new(
-        alloc: Global,
-        tables: &'t Tables,
-        config: Config,
-    ) -> Result<End<'t>, ConfigRefusal>
+    pub fn new(alloc: Global, tables: &'t Tables, config: Config) -> Result<End<'t>, ConfigRefusal>
         ensures made { IfOk result (λ end. end ≡ record { tables = tables.entry.now; config = config; state = bare_start tables.entry.now }) }
         ensures history { IfOk result (λ end. StandsFor end []) }
         ensures accepted { OnOk result (config_refusal config ≡ None) }

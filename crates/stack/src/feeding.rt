@@ -80,7 +80,12 @@ impl<'t> End<'t> {
     }
 
     /// Takes a whole APDU if it may be taken, and else ends the association.
-    fn take_or_abort(&mut self, apdu: Apdu, used: usize, shown: &mut Indications) -> Result<bool, NoMemory>
+    fn take_or_abort(
+        &mut self,
+        apdu: Apdu,
+        used: usize,
+        shown: &mut Indications,
+    ) -> Result<bool, NoMemory>
         requires first { IsFirst self.old.tables (content.Apdu apdu) used self.old.state.rest }
         requires open_ { passes_over self.old.state.phase ≡ false }
         requires held { self.old.state.held ≡ bare_set self.old.tables }

@@ -33,7 +33,12 @@ fn may_open(opens: &Opens, id: i64, operation: Option<&Operation>) -> bool
     }
 }
 
-fn may_return(tables: &Tables, place: u32, operation: &Operation, returned: &Option<Returned>) -> bool
+fn may_return(
+    tables: &Tables,
+    place: u32,
+    operation: &Operation,
+    returned: &Option<Returned>,
+) -> bool
     ensures { result ≡ may_return tables.now place (Some operation.now) returned.now }
 {
     match returned {

@@ -12,8 +12,5 @@ mod opens;
 mod queue;
 mod taking;
 
-#[cfg(test)]
-mod tests;
-
 pub use end::End;
 pub use laws::no_history_is_dead;

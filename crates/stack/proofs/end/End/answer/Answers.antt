@@ -1,5 +1,5 @@
 use Rattle.std.proofs.Common.{sym}
-use Rattle.stack.proofs.Coded.{operation_is_coded}
+use Rattle.rose.proofs.Coded.{operation_is_coded}
 use Rattle.stack.proofs.end.End.answer.Goals as goal
 
 pub result_text-requires-clause-coded : goal.result_text-requires-clause-coded

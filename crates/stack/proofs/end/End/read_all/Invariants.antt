@@ -1,8 +1,4 @@
-use Rattle.std.proofs.Common.{◌≡◌, ◌++◌, false, List, length}
-use Rattle.dialogue.specs.declared.indication.Indication.{Indication}
-use Rattle.dialogue.specs.State.{passes_over}
-use Rattle.stack.specs.End.{Keeps}
-use Rattle.stack.specs.Feed.{ReadAll}
+use Rattle.std.proofs.Common.{length}
 use Rattle.stack.proofs.Fed.{ReadsOn}
 use Rattle.stack.proofs.end.End.read_all.Given as goal
 

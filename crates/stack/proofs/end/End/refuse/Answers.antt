@@ -1,5 +1,5 @@
 use Rattle.std.proofs.Common.{sym}
-use Rattle.stack.proofs.Coded.{error_is_coded}
+use Rattle.rose.proofs.Coded.{error_is_coded}
 use Rattle.stack.proofs.end.End.refuse.Goals as goal
 
 pub error_text-requires : goal.error_text-requires
