@@ -1,11 +1,18 @@
-use Rattle.std.proofs.Common.{arith, refl, tt}
+use Rattle.std.proofs.Common.{◌≡◌, List, [], ◌∷◌, ◌++◌, None, refl, sym, ap, subst, ◌∙◌, arith}
+use Rattle.osi_base.specs.declared.session_word.SessionWord.{SessionWord}
+use Rattle.osi_base.specs.declared.session_word.SessionWord.TheVariants.{GiveTokens}
+use Rattle.spdu_codec.specs.Written.{AreWritable}
 use Rattle.spdu_codec.proofs.SizeLaws.{word_size}
 use Rattle.spdu_codec.proofs.tests.second.Goals as goal
 
 pub check-requires : goal.check-requires
-check-requires c = (
-  refl,
-  record { fields = tt; size = omega arith },
-  c.requires.stands,
-  record { fields = c.requires.fields; size = omega (arith, c.requires.short, word_size c.args.word c.requires.fields) },
-)
+check-requires c d =
+    let word = d.args.word in
+    let first : d.push.new.self ≡ GiveTokens None ∷ [] = d.in_ok-push.ensures.ok ∙ ap (λ (l : List SessionWord). l ++ GiveTokens None ∷ []) d.new-words.ensures in
+    let whole : d.push-2.new.self ≡ GiveTokens None ∷ word ∷ [] = d.in_ok-push-2.ensures.ok ∙ ap (λ (l : List SessionWord). l ++ word ∷ []) first in
+    subst AreWritable (sym whole) (
+      refl,
+      record { fields = tt; size = omega arith },
+      d.requires.stands,
+      record { fields = d.requires.fields; size = omega (arith, d.requires.short, word_size word d.requires.fields) },
+    )
