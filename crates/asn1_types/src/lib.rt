@@ -15,7 +15,7 @@ mod value;
 mod whole;
 
 pub use fitting::fits;
-pub use opening::{begins, is_no_tag, same_class};
+pub use opening::{begins, is_no_tag, same_class, text_number};
 pub use refusal::RowRefusal;
 pub use row::{Class, Item, Named, Part, Parts, TextKind, TypeId, TypeRow};
 pub use table::TypeTable;

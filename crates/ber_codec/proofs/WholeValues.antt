@@ -1,24 +1,22 @@
 -- The laws of reading whole values.
-use Rattle.std.proofs.Common.{◌≡◌, ◌≢◌, ℕ, zero, suc, ◌+◌, ◌-◌, ◌≤◌, ◌<◌, Bool, true, false, List, [], ◌∷◌, ◌++◌, length, take, drop, Option, Some, None, Result, Ok, Err, refl, sym, ap, ◌∙◌, subst, arith, length-append, append_assoc, IfOk}
+use Rattle.std.proofs.Common.{◌≡◌, ◌≢◌, ℕ, ◌+◌, ◌≤◌, Bool, List, [], ◌++◌, length, take, drop, None, Result, Ok, Err, refl, sym, ap, ◌∙◌, subst, arith, length-append, IfOk}
 use Rattle.std.proofs.lemmas.List.{append-nil, take_at, take-append-drop, length-take}
 use Rattle.asn1_types.specs.declared.row.TypeRow.{TypeRow}
-use Rattle.asn1_types.specs.Rows.{begins}
 use Rattle.asn1_types.specs.Table.{IsSound}
 use Rattle.asn1_types.specs.Value.{Value}
 use Rattle.ber_codec.specs.declared.fault.ReadFault.{ReadFault}
 use Rattle.ber_codec.specs.declared.fault.ReadFault.TheVariants as faults
 use Rattle.ber_codec.specs.declared.public.Read.{Read}
-use Rattle.ber_codec.specs.declared.spot.Scope.{Scope}
 use Rattle.ber_codec.specs.Octets.{AreOctets}
-use Rattle.ber_codec.specs.Reading.{Spot, Opened, Reading, ◌>>=◌, Gives, Fails}
+use Rattle.ber_codec.specs.Reading.{Spot, Reading, Gives}
 use Rattle.ber_codec.specs.Fields.{identifier_at}
 use Rattle.ber_codec.specs.Rules.{reads, value_at, read_at, outermost}
 use Rattle.ber_codec.specs.Spelling.{SpelledBy, Spells}
 use Rattle.ber_codec.specs.Laws.{IsRead, ReadIsSpelled, SpelledIsRead, NoneBegins, ReadStays, FaultStays, BeginningIsShort}
 use Rattle.ber_codec.proofs.Identifiers.{IsIn, bind_ok, ok_is}
-use Rattle.ber_codec.proofs.Growing.{grown, Grows, Grows-bind, with_spot, with_opened, identifier_grows}
+use Rattle.ber_codec.proofs.Growing.{Grows, Grows-bind, with_spot, with_opened, identifier_grows}
 use Rattle.ber_codec.proofs.GrowingRules.{along_grows}
-use Rattle.ber_codec.proofs.Steady.{ReadAs, ReadBack, octets_left}
+use Rattle.ber_codec.proofs.Steady.{octets_left}
 use Rattle.ber_codec.proofs.RowLaws.{along_found, along_only}
 
 pub read_is_spelled : ReadIsSpelled

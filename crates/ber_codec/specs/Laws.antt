@@ -1,12 +1,11 @@
 -- The laws of reading and of spellings.
-use Rattle.std.specs.Prelude.{◌≡◌, ◌≢◌, ℕ, ◌+◌, ◌<◌, ◌≤◌, ◌^◌, Bool, true, List, ◌++◌, length, take, Option, Some, None, Result, Ok, Err, MatchResult}
-use Rattle.osi_base.specs.declared.words.Kind.{Kind}
+use Rattle.std.specs.Prelude.{◌≡◌, ◌≢◌, ℕ, ◌<◌, ◌≤◌, ◌^◌, Bool, true, List, ◌++◌, length, take, Result, Ok, Err, MatchResult}
 use Rattle.asn1_types.specs.declared.row.TypeRow.{TypeRow}
 use Rattle.asn1_types.specs.Table.{IsSound}
 use Rattle.asn1_types.specs.Value.{Value}
 use Rattle.asn1_types.specs.Fits.{fits}
 use Rattle.ber_codec.specs.declared.fault.ReadFault.{ReadFault}
-use Rattle.ber_codec.specs.declared.fault.ReadFault.TheVariants.{NotSpelled, Short, TooDeep, TooLong, NoMemory}
+use Rattle.ber_codec.specs.declared.fault.ReadFault.TheVariants.{Short, NoMemory}
 use Rattle.ber_codec.specs.declared.public.Read.{Read}
 use Rattle.ber_codec.specs.Octets.{AreOctets}
 use Rattle.ber_codec.specs.Rules.{read_at}

@@ -9,6 +9,7 @@ mod primitives;
 mod public;
 mod read;
 mod spot;
+mod strings;
 mod write;
 
 pub use fault::ReadFault;
