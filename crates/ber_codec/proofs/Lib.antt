@@ -27,3 +27,4 @@ pub mod WrittenLoops
 pub mod WriteLaws
 pub mod Written
 pub mod Wholes
+pub mod Lax
