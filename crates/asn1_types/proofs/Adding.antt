@@ -1,17 +1,15 @@
 -- A table with one row more.
-use Rattle.std.proofs.Common.{◌≡◌, ℕ, zero, suc, ◌+◌, ◌<◌, ◌≤◌, Bool, true, false, List, [], ◌∷◌, ◌++◌, length, take, Option, Some, None, refl, sym, ap, ◌∙◌, subst, arith, length-append, ◌⊎◌, inl, inr}
+use Rattle.std.proofs.Common.{◌≡◌, ℕ, zero, suc, ◌<◌, List, [], ◌∷◌, ◌++◌, length, Some, None, refl, sym, ap, ◌∙◌, arith, length-append, ◌⊎◌, inl, inr}
 use Rattle.std.proofs.lemmas.Bool.{cases_lt}
 use Rattle.std.specs.Prelude.{slice_get, slice_index}
 use Rattle.std.specs.List.{AllByRecursion}
-use Rattle.std.proofs.lemmas.Option.{slice_get_within}
 use Rattle.std.proofs.lemmas.List.{take-append-le, take_at}
 use Rattle.asn1_types.specs.declared.row.TypeRow.{TypeRow}
-use Rattle.asn1_types.specs.declared.refusal.RowRefusal.{RowRefusal}
 use Rattle.asn1_types.specs.Rows.{names_of, nesting, nesting_by}
 use Rattle.asn1_types.specs.Table.{first_from, refusal, IsSound}
 use Rattle.asn1_types.specs.Inside.{IsKept}
-use Rattle.asn1_types.proofs.Along.{IsDown, SameTo, agree, settled}
-use Rattle.asn1_types.proofs.Sound.{names_below, nesting_cong, nesting_at, nested_few, is_down, taken, IsTaken}
+use Rattle.asn1_types.proofs.Along.{SameTo, agree}
+use Rattle.asn1_types.proofs.Sound.{names_below, nesting_cong, nesting_at, is_down, taken}
 
 pub kept_names : (count : ℕ) (ns : List ℕ) → first_from count ns ≡ None → AllByRecursion (λ m. m < count) ns
 kept_names count ns e = names_below count count ns (omega arith) e

@@ -1,5 +1,5 @@
 -- Each child of a value is less deep than the value.
-use Rattle.std.proofs.Common.{◌≡◌, ℕ, zero, suc, ◌+◌, ◌<◌, ◌≤◌, List, [], ◌∷◌, length, get_or, Option, Some, None, ap, subst, arith}
+use Rattle.std.proofs.Common.{◌≡◌, ℕ, zero, suc, ◌+◌, ◌<◌, ◌≤◌, List, [], ◌∷◌, length, get_or, Option, Some, None, ap, arith}
 use Rattle.asn1_types.specs.Value.{Value, depth, depth_of_parts, depth_of_values}
 use Rattle.asn1_types.specs.ValueView.{parts_of, values_of}
 

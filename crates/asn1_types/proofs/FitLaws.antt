@@ -1,16 +1,18 @@
 -- Which values fit a row goes by the rows that it names.
-use Rattle.std.proofs.Common.{◌≡◌, ◌≢◌, ℕ, zero, suc, ◌+◌, ◌<◌, ◌≤◌, Bool, true, false, ◌&&◌, List, [], ◌∷◌, length, drop, get_or, Option, Some, None, refl, sym, ap, ◌∙◌, subst, arith}
+use Rattle.std.proofs.Common.{◌≡◌, ◌≢◌, ℕ, zero, suc, ◌<◌, ◌≤◌, Bool, true, false, ◌&&◌, List, [], ◌∷◌, length, drop, get_or, Option, Some, None, refl, sym, ap, subst, arith}
 use Rattle.std.specs.Prelude.{slice_get, nat_lt}
 use Rattle.std.specs.List.{AllByRecursion, list_all}
+use Rattle.std.specs.Str.{IsUtf8, is_utf8}
+use Rattle.std.proofs.lemmas.Str.{IsUtf8-from_is_utf8}
 use Rattle.std.proofs.lemmas.Bool.{lt-ltb, ltb-true, ltb-false}
 use Rattle.asn1_types.specs.declared.row.Part.{Part}
 use Rattle.asn1_types.specs.declared.row.TypeRow.{TypeRow}
 use Rattle.asn1_types.specs.declared.row.TypeRow.TheVariants.{Boolean, Integer, Enumerated, Null, OctetString, BitString, ObjectId, Text, Sequence, Set, SequenceOf, Choice, Tagged, Any}
-use Rattle.asn1_types.specs.Rows.{of_row, along, names_of, rows_of_parts}
+use Rattle.asn1_types.specs.Rows.{along, names_of, rows_of_parts}
 use Rattle.asn1_types.specs.Table.{IsSound}
 use Rattle.asn1_types.specs.Value.{Value, MaybeValues, no_parts, absent, present}
 use Rattle.asn1_types.specs.ValueView.{parts_of}
-use Rattle.asn1_types.specs.Fits.{has_32_bits, part_fits, parts_fit, sequence_fits, alternative_fits, choice_fits, fits_by, nothing_fits, fits}
+use Rattle.asn1_types.specs.Fits.{has_32_bits, is_octet, part_fits, parts_fit, sequence_fits, list_fits, alternative_fits, choice_fits, fits_by, nothing_fits, fits}
 use Rattle.asn1_types.proofs.Along.{settled}
 use Rattle.asn1_types.proofs.Sound.{is_down}
 
@@ -39,7 +41,7 @@ fits_cong ObjectId f g h = refl
 fits_cong (Text kind) f g h = refl
 fits_cong (Sequence ps) f g h = ap sequence_fits (λ i vs. parts_same f g ps h vs i)
 fits_cong (Set ps) f g h = refl
-fits_cong (SequenceOf inner) f g h = refl
+fits_cong (SequenceOf inner) f g h = ap list_fits h.0
 fits_cong (Choice ps) f g h = ap choice_fits (λ i which. alternative_same f g ps h which i)
 fits_cong (Tagged class number explicit inner) f g h = λ i v. has_32_bits number && h.0 i v
 fits_cong Any f g h = refl
@@ -90,6 +92,17 @@ parts_step f (q ∷ ps) (w ∷ vs) (suc i) p o same lt e d = parts_step f ps vs 
 pub all_small : (ns : List ℕ) → ((i : ℕ) → get_or ns i 0 < 4294967296) → true ≡ list_all has_32_bits ns
 all_small [] h = refl
 all_small (n ∷ ns) h = rw (lt-ltb n 4294967296 (h 0)) (all_small ns (λ i. h (suc i)))
+
+pub all_octets : (ns : List ℕ) → ((i : ℕ) → get_or ns i 0 < 256) → true ≡ list_all is_octet ns
+all_octets [] h = refl
+all_octets (n ∷ ns) h = rw (lt-ltb n 256 (h 0)) (all_octets ns (λ i. h (suc i)))
+
+pub not_utf8 : (os : List ℕ) → (IsUtf8 os → ⊥) → false ≡ is_utf8 os
+not_utf8 os h = by_test (is_utf8 os) refl
+  where
+    by_test : (b : Bool) → is_utf8 os ≡ b → false ≡ b
+    by_test true e = absurd (h (IsUtf8-from_is_utf8 os e))
+    by_test false e = refl
 
 pub not_within : (len n : ℕ) → (n < len → ⊥) → len ≤ n
 not_within len n h = by_test (nat_lt n len) refl

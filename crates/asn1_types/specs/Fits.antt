@@ -1,12 +1,17 @@
 -- Which values fit which rows of a table.
-use Rattle.std.specs.Prelude.{ℕ, ◌^◌, ℤ, pos, negsuc, Bool, true, false, not, ◌&&◌, List, [], ◌∷◌, length, Option, Some, None, slice_get, nat_lt, int_lt}
-use Rattle.std.specs.List.{list_all}
+use Rattle.std.specs.Prelude.{ℕ, ◌-◌, ◌%◌, ◌^◌, ℤ, pos, negsuc, Bool, true, false, not, ◌&&◌, ◌||◌, List, [], ◌∷◌, length, Option, Some, None, slice_get, slice_index, nat_lt, nat_le, nat_eq, int_lt, if◌then◌else◌}
+use Rattle.std.specs.List.{list_all, list_any}
+use Rattle.std.specs.Str.{is_utf8}
 use Rattle.osi_base.specs.Oid.{is_oid}
+use Rattle.asn1_types.specs.declared.row.Item.{Item}
 use Rattle.asn1_types.specs.declared.row.Part.{Part}
+use Rattle.asn1_types.specs.declared.row.TextKind.{TextKind}
+use Rattle.asn1_types.specs.declared.row.TextKind.TheVariants.{Utf8, Ia5, Visible, Printable, Numeric}
 use Rattle.asn1_types.specs.declared.row.TypeRow.{TypeRow}
 use Rattle.asn1_types.specs.declared.row.TypeRow.TheVariants as row
 use Rattle.asn1_types.specs.Value.{Value, boolean, integer, null, octets, bits, object_id, text, parts, list, chosen, any, MaybeValues, no_parts, absent, present, Values, no_values, value}
 use Rattle.asn1_types.specs.Rows.{along}
+use Rattle.asn1_types.specs.Table.{same_number}
 use Rattle.asn1_types.specs.Whole.{is_whole}
 
 -- numbers have 64 bits
@@ -14,9 +19,21 @@ abbrev pub is_number : ℤ → Bool
 is_number (pos n) = nat_lt n (2 ^ 63)
 is_number (negsuc n) = nat_lt n (2 ^ 63)
 
+abbrev pub boolean_fits : Value → Bool
+boolean_fits (boolean b) = true
+boolean_fits v = false
+
 abbrev pub integer_fits : ℤ → ℤ → Value → Bool
 integer_fits low high (integer z) = is_number z && not (int_lt z low) && not (int_lt high z)
 integer_fits low high v = false
+
+-- some item has this number
+abbrev pub is_item : List Item → ℤ → Bool
+is_item items z = list_any (λ (item : Item). same_number item.number z) items
+
+abbrev pub enumerated_fits : List Item → Value → Bool
+enumerated_fits items (integer z) = is_number z && is_item items z
+enumerated_fits items v = false
 
 abbrev pub null_fits : Value → Bool
 null_fits null = true
@@ -29,6 +46,52 @@ has_32_bits n = nat_lt n (2 ^ 32)
 abbrev pub object_id_fits : Value → Bool
 object_id_fits (object_id arcs) = is_oid arcs && list_all has_32_bits arcs
 object_id_fits v = false
+
+-- ---- strings
+
+abbrev pub is_octet : ℕ → Bool
+is_octet o = nat_lt o 256
+
+abbrev pub octets_fit : ℕ → Value → Bool
+octets_fit most (octets os) = list_all is_octet os && nat_le (length os) most
+octets_fit most v = false
+
+-- 0 to 7 bits of the last octet are unused, none where there is no octet, and they are zero
+abbrev pub are_bits : List ℕ → ℕ → Bool
+are_bits os unused = nat_lt unused 8 && (if nat_eq (length os) 0 then nat_eq unused 0 else nat_eq (slice_index os (length os - 1) % 2 ^ unused) 0)
+
+abbrev pub bits_fit : Value → Bool
+bits_fit (bits os unused) = list_all is_octet os && are_bits os unused
+bits_fit v = false
+
+abbrev pub is_between : ℕ → ℕ → ℕ → Bool
+is_between low high c = nat_le low c && nat_le c high
+
+-- letters, digits, space and '()+,-./:=?
+abbrev pub is_printable : ℕ → Bool
+is_printable c =
+    is_between 65 90 c || is_between 97 122 c || is_between 43 58 c || is_between 39 41 c || nat_eq c 32 || nat_eq c 61 || nat_eq c 63
+
+-- the characters of a kind of text (X.680 41); those of UTF8String are not judged octet by octet
+abbrev pub is_character : TextKind → ℕ → Bool
+is_character Utf8 c = true
+is_character Ia5 c = nat_lt c 128
+is_character Visible c = is_between 32 126 c
+is_character Printable c = is_printable c
+is_character Numeric c = is_between 48 57 c || nat_eq c 32
+
+abbrev pub is_text : TextKind → List ℕ → Bool
+is_text Utf8 os = is_utf8 os
+is_text Ia5 os = list_all (is_character Ia5) os
+is_text Visible os = list_all (is_character Visible) os
+is_text Printable os = list_all (is_character Printable) os
+is_text Numeric os = list_all (is_character Numeric) os
+
+abbrev pub text_fits : TextKind → Value → Bool
+text_fits kind (text os) = list_all is_octet os && is_text kind os
+text_fits kind v = false
+
+-- ---- values inside
 
 -- a part is there unless it is optional, and fits if it is there
 abbrev pub part_fits : (ℕ → Value → Bool) → Part → Option Value → Bool
@@ -46,6 +109,14 @@ abbrev pub sequence_fits : (MaybeValues → Bool) → Value → Bool
 sequence_fits fit (parts vs) = fit vs
 sequence_fits fit v = false
 
+abbrev pub values_fit : (Value → Bool) → Values → Bool
+values_fit fit no_values = true
+values_fit fit (value v vs) = fit v && values_fit fit vs
+
+abbrev pub list_fits : (Value → Bool) → Value → Bool
+list_fits fit (list vs) = values_fit fit vs
+list_fits fit v = false
+
 abbrev pub alternative_fits : (ℕ → Value → Bool) → Option Part → Value → Bool
 alternative_fits inner None v = false
 alternative_fits inner (Some p) v = inner p.inner.0 v
@@ -59,19 +130,18 @@ abbrev pub any_fits : Value → Bool
 any_fits (any os) = is_whole os
 any_fits v = false
 
--- Nothing fits the rows for which there is no spelling yet.
 abbrev pub fits_by : (ℕ → Value → Bool) → TypeRow → Value → Bool
-fits_by inner row.Boolean v = false
+fits_by inner row.Boolean v = boolean_fits v
 fits_by inner (row.Integer low high) v = integer_fits low high v
-fits_by inner (row.Enumerated items) v = false
+fits_by inner (row.Enumerated items) v = enumerated_fits items v
 fits_by inner row.Null v = null_fits v
-fits_by inner (row.OctetString most) v = false
-fits_by inner row.BitString v = false
+fits_by inner (row.OctetString most) v = octets_fit most v
+fits_by inner row.BitString v = bits_fit v
 fits_by inner row.ObjectId v = object_id_fits v
-fits_by inner (row.Text kind) v = false
+fits_by inner (row.Text kind) v = text_fits kind v
 fits_by inner (row.Sequence ps) v = sequence_fits (parts_fit inner ps) v
 fits_by inner (row.Set ps) v = false
-fits_by inner (row.SequenceOf of) v = false
+fits_by inner (row.SequenceOf of) v = list_fits (inner of.0) v
 fits_by inner (row.Choice ps) v = choice_fits (λ which. alternative_fits inner (slice_get ps which)) v
 fits_by inner (row.Tagged class number explicit of) v = has_32_bits number && inner of.0 v
 fits_by inner row.Any v = any_fits v

@@ -1,5 +1,5 @@
 -- Rows of types: what they name, how deep they nest, and the tags that their values begin with.
-use Rattle.std.specs.Prelude.{ℕ, zero, suc, ◌+◌, max, Bool, true, false, not, ◌&&◌, List, [], ◌∷◌, map, length, Option, Some, None, slice_get, nat_eq}
+use Rattle.std.specs.Prelude.{ℕ, zero, suc, ◌+◌, max, Bool, true, not, ◌&&◌, List, [], ◌∷◌, map, length, Option, Some, None, slice_get, nat_eq}
 use Rattle.std.specs.List.{flat_map, list_any}
 use Rattle.asn1_types.specs.declared.row.Part.{Part}
 use Rattle.asn1_types.specs.declared.row.Class.{Class}

@@ -1,7 +1,6 @@
 -- The tree that a node of the code stands for.
-use Rattle.std.specs.Prelude.{◌≤◌, max, List, [], ◌∷◌, Option, Some, None}
-use Rattle.std.proofs.Common.{arith}
-use Rattle.asn1_types.specs.Value.{Value, boolean, integer, null, octets, bits, object_id, text, parts, list, chosen, any, MaybeValues, no_parts, absent, present, Values, no_values, value, depth, depth_of_parts, depth_of_values}
+use Rattle.std.specs.Prelude.{List, [], ◌∷◌, Option, Some, None}
+use Rattle.asn1_types.specs.Value.{Value, boolean, integer, null, octets, bits, object_id, text, parts, list, chosen, any, MaybeValues, no_parts, absent, present, Values, no_values, value}
 use Rattle.asn1_types.specs.declared.value.Node.{Node}
 use Rattle.asn1_types.specs.declared.value.Node.TheVariants as node
 

@@ -1,5 +1,5 @@
 -- One whole value of any type, as octets (X.690 8.1): an identifier, a definite length, and that many octets.
-use Rattle.std.specs.Prelude.{ℕ, zero, suc, ◌-◌, ◌*◌, ◌+◌, ◌%◌, Bool, true, false, not, ◌&&◌, ◌||◌, Option, Some, None, List, [], ◌∷◌, length, take, drop, nat_lt, nat_le, nat_eq, if◌then◌else◌}
+use Rattle.std.specs.Prelude.{ℕ, ◌-◌, ◌*◌, ◌+◌, ◌%◌, Bool, false, ◌&&◌, ◌||◌, Option, Some, None, List, [], ◌∷◌, length, take, nat_lt, nat_le, nat_eq, if◌then◌else◌}
 
 -- the number that octets are, the most significant first
 abbrev pub number_256 : ℕ → List ℕ → ℕ

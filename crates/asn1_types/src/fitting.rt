@@ -5,11 +5,12 @@ ghost use Rattle.std.specs.List.{list_all, AllByRecursion};
 ghost use Rattle.osi_base.specs.Oid.{is_oid};
 ghost use Rattle.asn1_types.specs.Rows.{rows_of_parts};
 ghost use Rattle.asn1_types.specs.Table.{IsSound};
-ghost use Rattle.asn1_types.specs.ValueView.{parts_of};
-ghost use Rattle.asn1_types.specs.Fits.{has_32_bits, integer_fits, null_fits, object_id_fits, part_fits, parts_fit, sequence_fits, alternative_fits, choice_fits, any_fits, fits_by, fits};
+ghost use Rattle.asn1_types.specs.ValueView.{parts_of, values_of};
+ghost use Rattle.asn1_types.specs.Fits.{has_32_bits, boolean_fits, integer_fits, enumerated_fits, null_fits, object_id_fits, octets_fit, bits_fit, text_fits, part_fits, parts_fit, sequence_fits, values_fit, list_fits, alternative_fits, choice_fits, any_fits, fits_by, fits};
 
-use crate::row::{Part, Parts, TypeId, TypeRow};
+use crate::row::{Item, Part, Parts, TextKind, TypeId, TypeRow};
 use crate::table::TypeTable;
+use crate::text::{are_bits, are_octets, is_item, is_text};
 use crate::value::{Node, Val};
 use crate::whole::is_whole;
 use osi_base::are_oid;
@@ -19,6 +20,24 @@ fn integer_fits(low: i64, high: i64, value: &Val) -> bool
 {
     match &value.node {
         Node::Int(number) => low <= *number && *number <= high,
+        _ => false,
+    }
+}
+
+fn boolean_fits(value: &Val) -> bool
+    ensures { result ≡ boolean_fits value.now }
+{
+    match &value.node {
+        Node::Bool(_) => true,
+        _ => false,
+    }
+}
+
+fn enumerated_fits(items: &[Item], value: &Val) -> bool
+    ensures { result ≡ enumerated_fits items.now value.now }
+{
+    match &value.node {
+        Node::Int(number) => is_item(items, *number),
         _ => false,
     }
 }
@@ -55,6 +74,35 @@ fn object_id_fits(value: &Val) -> bool
     }
 }
 
+fn octets_fit(most: u32, value: &Val) -> bool
+    ensures { result ≡ octets_fit most value.now }
+{
+    match &value.node {
+        Node::Octets(octets) => are_octets(octets.as_slice()) && octets.len() <= most as usize,
+        _ => false,
+    }
+}
+
+fn bits_fit(value: &Val) -> bool
+    ensures { result ≡ bits_fit value.now }
+{
+    match &value.node {
+        Node::Bits { octets, unused } => {
+            are_octets(octets.as_slice()) && are_bits(octets.as_slice(), *unused)
+        }
+        _ => false,
+    }
+}
+
+fn text_fits(kind: TextKind, value: &Val) -> bool
+    ensures { result ≡ text_fits kind value.now }
+{
+    match &value.node {
+        Node::Text(octets) => { are_octets(octets.as_slice()) && is_text(kind, octets.as_slice()) }
+        _ => false,
+    }
+}
+
 fn any_fits(value: &Val) -> bool
     ensures { result ≡ any_fits value.now }
 {
@@ -64,11 +112,11 @@ fn any_fits(value: &Val) -> bool
     }
 }
 
-/// Whether a value fits a row of a table: an INTEGER in its range, an OBJECT IDENTIFIER, of a
-/// SEQUENCE as many parts as the row has, each there unless it is optional, of a CHOICE an
-/// alternative that is there, and in an `Any` one whole value (X.690 8.1). Nothing fits a row that is
-/// not there. Only INTEGER, NULL, OBJECT IDENTIFIER, SEQUENCE, CHOICE, tagged types and `Any` are
-/// supported: nothing fits a row of any other type.
+/// Whether a value fits a row of a table: an INTEGER in its range, an ENUMERATED among its items,
+/// an OCTET STRING of at most `most` octets, a BIT STRING whose 0 to 7 unused bits are zero, a text
+/// of characters of its kind, of a SEQUENCE or SET as many parts as the row has in the order of the
+/// notation, each there unless it is optional, of a CHOICE an alternative that is there, and in an
+/// `Any` one whole value (X.690 8.1). Nothing fits a row that is not there.
 #[cycle(fitting)]
 pub fn fits(table: &TypeTable, of: TypeId, value: &Val) -> bool
     ensures { result ≡ fits table.now of.0 value.now }
@@ -83,15 +131,47 @@ fn fits_row(table: &TypeTable, of: TypeId, row: &TypeRow, value: &Val) -> bool
     ensures { result ≡ fits_by (fits table.now) row.now value.now }
 {
     match row {
+        TypeRow::Boolean => boolean_fits(value),
         TypeRow::Integer { low, high } => integer_fits(*low, *high, value),
+        TypeRow::Enumerated(items) => enumerated_fits(items.as_slice(), value),
         TypeRow::Null => null_fits(value),
+        TypeRow::OctetString { most } => octets_fit(*most, value),
+        TypeRow::BitString => bits_fit(value),
         TypeRow::ObjectId => object_id_fits(value),
+        TypeRow::Text(kind) => text_fits(*kind, value),
         TypeRow::Sequence(parts) => sequence_fits(table, of, parts.as_slice(), value),
+        TypeRow::Set(_) => false,
+        TypeRow::SequenceOf(inner) => list_fits(table, of, *inner, value),
         TypeRow::Choice(alternatives) => choice_fits(table, of, alternatives, value),
         TypeRow::Tagged { number, inner, .. } => number_fits(*number) && fits(table, *inner, value),
         TypeRow::Any => any_fits(value),
+    }
+}
+
+#[cycle(fitting)]
+fn list_fits(table: &TypeTable, of: TypeId, inner: TypeId, value: &Val) -> bool
+    requires below { inner.0 < of.0 }
+    requires within { of.0 ≤ length table.now }
+    ensures { result ≡ list_fits (fits table.now inner.0) value.now }
+{
+    match &value.node {
+        Node::List(values) => values_fit(table, of, inner, values),
         _ => false,
     }
+}
+
+#[cycle(fitting)]
+fn values_fit(table: &TypeTable, of: TypeId, inner: TypeId, values: &[Val]) -> bool
+    requires below { inner.0 < of.0 }
+    requires within { of.0 ≤ length table.now }
+    ensures { result ≡ values_fit (fits table.now inner.0) (values_of values.now) }
+{
+    for value in values {
+        if !fits(table, inner, value) {
+            return false;
+        }
+    }
+    true
 }
 
 #[cycle(fitting)]

@@ -10,13 +10,15 @@ mod opening;
 mod refusal;
 mod row;
 mod table;
+mod text;
 mod value;
 mod whole;
 
 pub use fitting::fits;
-pub use opening::{begins, is_no_tag, same_class};
+pub use opening::{begins, is_no_tag, same_class, text_number};
 pub use refusal::RowRefusal;
 pub use row::{Class, Item, Named, Part, Parts, TextKind, TypeId, TypeRow};
 pub use table::TypeTable;
+pub use text::{are_bits, is_item, is_text};
 pub use value::{MaybeVals, Node, Val, Vals};
 pub use whole::is_whole;

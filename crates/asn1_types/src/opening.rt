@@ -21,7 +21,8 @@ fn is_tag(class: Class, number: u64, own: Class, own_number: u32) -> bool
     same_class(class, own) && number == own_number as u64
 }
 
-fn text_number(kind: TextKind) -> u32
+/// The universal tag of a kind of text (X.680 8.4).
+pub fn text_number(kind: TextKind) -> u32
     ensures { result ≡ text_number kind }
 {
     match kind {

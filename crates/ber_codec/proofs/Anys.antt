@@ -1,7 +1,7 @@
 -- Any one value: what is read is spelled so, and what is spelled so is read.
-use Rattle.std.proofs.Common.{◌≡◌, ◌≢◌, ℕ, zero, suc, ◌+◌, ◌-◌, ◌^◌, ◌≤◌, ◌<◌, min, Bool, true, false, not, ◌&&◌, cond, List, [], ◌∷◌, ◌++◌, length, take, Option, Some, None, Result, Ok, Err, refl, sym, ap, ◌∙◌, subst, arith, append_assoc, length-append}
+use Rattle.std.proofs.Common.{◌≡◌, ◌≢◌, ℕ, zero, suc, ◌+◌, ◌-◌, ◌<◌, Bool, false, ◌&&◌, List, ◌++◌, length, take, Ok, refl, sym, ap, ◌∙◌, subst, arith, append_assoc, length-append}
 use Rattle.std.specs.Prelude.{nat_eq}
-use Rattle.std.proofs.lemmas.Bool.{eqb-true, eqb-false, ne_eqb}
+use Rattle.std.proofs.lemmas.Bool.{ne_eqb}
 use Rattle.std.proofs.lemmas.List.{take_at}
 use Rattle.osi_base.specs.declared.words.Kind.TheVariants.{Tag}
 use Rattle.asn1_types.specs.declared.row.Class.{Class}
@@ -10,12 +10,11 @@ use Rattle.asn1_types.specs.Rows.{is_no_tag, same_class}
 use Rattle.asn1_types.specs.Value.{Value, boolean, integer, null, octets, bits, object_id, text, parts, list, chosen, any}
 use Rattle.ber_codec.specs.declared.fault.ReadFault.TheVariants as faults
 use Rattle.ber_codec.specs.declared.spot.Scope.{Scope}
-use Rattle.ber_codec.specs.Octets.{AreOctets}
-use Rattle.ber_codec.specs.Reading.{Spot, Opened, Reading, ◌>>=◌}
+use Rattle.ber_codec.specs.Reading.{Spot, Opened}
 use Rattle.ber_codec.specs.Fields.{capped, identifier_at, contents_at}
 use Rattle.ber_codec.specs.Rules.{anew, any_at}
-use Rattle.ber_codec.specs.Spelling.{IsIdentifier, IsLength, IsWhole, AnyIs}
-use Rattle.ber_codec.proofs.Identifiers.{IsIn, in_before, Taken, bind_ok, unless_ok, ok_is, identifier_found, identifier_again}
+use Rattle.ber_codec.specs.Spelling.{IsWhole, AnyIs}
+use Rattle.ber_codec.proofs.Identifiers.{IsIn, in_before, bind_ok, unless_ok, ok_is, identifier_found, identifier_again}
 use Rattle.ber_codec.proofs.Lengths.{contents_found, contents_again}
 use Rattle.ber_codec.proofs.Steady.{ReadAs, Found, ReadBack, Only, taken_then, head_some}
 

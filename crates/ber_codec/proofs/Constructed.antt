@@ -1,49 +1,44 @@
 -- Constructed values: what is read is spelled so, and what is spelled so is read.
-use Rattle.std.proofs.Common.{◌≡◌, ◌≢◌, ℕ, zero, suc, pred, ◌+◌, ◌-◌, ◌*◌, ◌^◌, ◌≤◌, ◌<◌, Bool, true, false, not, ◌&&◌, ◌||◌, cond, List, [], ◌∷◌, ◌++◌, length, Option, Some, None, Result, Ok, Err, refl, sym, ap, ◌∙◌, subst, arith, append_assoc, length-append, ◌⊎◌, inl, inr}
-use Rattle.std.specs.Prelude.{nat_lt, nat_eq, slice_get, slice_index}
-use Rattle.std.proofs.lemmas.Bool.{lt-ltb, le-ltb, ltb-false}
+use Rattle.std.proofs.Common.{◌≡◌, ℕ, suc, ◌+◌, ◌-◌, ◌^◌, ◌≤◌, ◌<◌, true, false, List, [], ◌∷◌, ◌++◌, length, Some, Ok, Err, refl, sym, ap, ◌∙◌, subst, arith, append_assoc, length-append, inl, inr}
+use Rattle.std.proofs.lemmas.Bool.{le-ltb, ltb-false}
 use Rattle.std.proofs.lemmas.List.{append-nil}
-use Rattle.osi_base.specs.declared.words.Kind.TheVariants.{Tag, Missing, Extra, Length, Content, Form}
 use Rattle.asn1_types.specs.declared.row.Class.{Class}
 use Rattle.asn1_types.specs.Rows.{is_no_tag}
 use Rattle.asn1_types.specs.Value.{Value}
-use Rattle.ber_codec.specs.declared.fault.ReadFault.{ReadFault}
 use Rattle.ber_codec.specs.declared.spot.Scope.{Scope}
 use Rattle.ber_codec.specs.declared.spot.Tag as tags
 use Rattle.ber_codec.specs.Octets.{AreOctets}
-use Rattle.ber_codec.specs.Reading.{Spot, Opened, Ahead, ended, begun, Reading, ◌>>=◌, is_past}
+use Rattle.ber_codec.specs.Reading.{Spot, Opened, Ahead, ended, begun, Reading, ◌>>=◌}
 use Rattle.ber_codec.specs.Fields.{identifier_at, inside, inside_until, extent_at, look_at}
-use Rattle.ber_codec.specs.Rules.{expect_at, first_of, last_of, open_at, close_at, explicit_at}
-use Rattle.ber_codec.specs.Spelling.{IsLength, IsIdentifier, IsDefinite, IsIndefinite, IsConstructed}
+use Rattle.ber_codec.specs.Rules.{expect_at, constructed_at, first_of, last_of, open_at, close_at, explicit_at}
+use Rattle.ber_codec.specs.Spelling.{IsIdentifier, IsDefinite, IsIndefinite, IsConstructed}
 use Rattle.ber_codec.proofs.Identifiers.{IsIn, in_before, Taken, bind_ok, ok_is, identifier_found}
 use Rattle.ber_codec.proofs.Lengths.{Until, Marked, extent_found, extent_until, extent_marked}
-use Rattle.ber_codec.proofs.Ends.{closing, Closes, ClosesBy, EndFound, BeginFound, AheadFound, look_found, look_closed, look_begun}
-use Rattle.ber_codec.proofs.Steady.{Run, Relation, ReadAs, Found, ReadBack, Only, OfTag, IsOf, opened_as, expected, tag_is, tag_again, taken_octets, taken_then, Head, head_some}
+use Rattle.ber_codec.proofs.Ends.{closing, Closes, EndFound, BeginFound, AheadFound, look_found, look_closed, look_begun}
+use Rattle.ber_codec.proofs.Steady.{RunOf, Run, RelationOf, Relation, ReadAs, Found, ReadBack, Only, OfTag, opened_as, expected, tag_is, tag_again, taken_octets, taken_then, head_some}
 
 -- reads contents up to and with what closes them
-abbrev pub Body : Type 0
-Body = Scope → Spot → Reading (Value × Spot)
+abbrev pub BodyOf : Type 0 → Type 0
+BodyOf A = Scope → Spot → Reading (A × Spot)
 
-pub record ContentsAs (Q : Relation) (scope : Scope) (place : ℕ) (rest : List ℕ) (v : Value) (to : Spot) : Type 0 where
+abbrev pub Body : Type 0
+Body = BodyOf Value
+
+pub record ContentsAs {A : Type 0} (Q : RelationOf A) (scope : Scope) (place : ℕ) (rest : List ℕ) (v : A) (to : Spot) : Type 0 where
   pub contents : List ℕ
   pub taken : Taken place rest (contents ++ closing scope.marked) to
   pub spelled : Q scope.strict scope.levels v contents
   pub closes : Closes scope (place + length contents)
   pub is_in : IsIn scope to.place
 
-pub record BodyFound (b : Body) (Q : Relation) : Type 0 where
-  pub found : (scope : Scope) (s : Spot) (v : Value) (to : Spot) → AreOctets s.rest → IsIn scope s.place → b scope s ≡ Ok (v, to) → ContentsAs Q scope s.place s.rest v to
+pub record BodyFound {A : Type 0} (b : BodyOf A) (Q : RelationOf A) : Type 0 where
+  pub found : (scope : Scope) (s : Spot) (v : A) (to : Spot) → AreOctets s.rest → IsIn scope s.place → b scope s ≡ Ok (v, to) → ContentsAs Q scope s.place s.rest v to
 
-pub record BodyOnly (b : Body) (Q : Relation) : Type 0 where
-  pub only : (scope : Scope) (place : ℕ) (v : Value) (contents rest : List ℕ) → Q scope.strict scope.levels v contents → IsIn scope (place + length contents) → Closes scope (place + length contents)
+pub record BodyOnly {A : Type 0} (b : BodyOf A) (Q : RelationOf A) : Type 0 where
+  pub only : (scope : Scope) (place : ℕ) (v : A) (contents rest : List ℕ) → Q scope.strict scope.levels v contents → IsIn scope (place + length contents) → Closes scope (place + length contents)
       → b scope (record { place = place; rest = contents ++ (closing scope.marked ++ rest) }) ≡ Ok (v, record { place = place + length contents + length (closing scope.marked); rest = rest })
 
--- the identifier's tag, a length of either form, and the body
-abbrev pub constructed_at : Body → tags.Tag → Scope → Opened → Spot → Reading (Value × Spot)
-constructed_at body tag scope o s =
-    expect_at tag true o >>= λ _. extent_at scope s.place s.rest >>= λ x. body x.0 x.1
-
-abbrev pub ConstructedBy : tags.Tag → Relation → Relation
+abbrev pub ConstructedBy : {A : Type 0} → tags.Tag → RelationOf A → RelationOf A
 ConstructedBy tag Q strict levels v text = IsConstructed tag strict levels (λ l c. Q strict l v c) text
 
 levels_down : (n : ℕ) → 0 < n → n ≡ suc (n - 1)
@@ -62,7 +57,7 @@ in_marked scope q h = record { limit = h.limit; end = h.end }
 in_unmarked : (scope : Scope) (q : ℕ) → IsIn (inside scope) q → IsIn scope q
 in_unmarked scope q h = record { limit = h.limit; end = h.end }
 
-until_found : (body : Body) (tag : tags.Tag) (Q : Relation) → BodyFound body Q → (scope : Scope) (place : ℕ) (rest : List ℕ) (v : Value) (to : Spot) (x : Scope) (s m : Spot) (head : List ℕ)
+until_found : {A : Type 0} (body : BodyOf A) (tag : tags.Tag) (Q : RelationOf A) → BodyFound body Q → (scope : Scope) (place : ℕ) (rest : List ℕ) (v : A) (to : Spot) (x : Scope) (s m : Spot) (head : List ℕ)
     → AreOctets rest → Taken place rest head s → 0 < scope.levels → tag.number < 2 ^ 32 → IsIdentifier tag.class true tag.number head → Until scope s.place s.rest x m → body x m ≡ Ok (v, to)
     → ReadAs (ConstructedBy tag Q) scope place rest v to
 until_found body tag Q h scope place rest v to x s m head octets taken level small identifier u e =
@@ -85,7 +80,7 @@ until_found body tag Q h scope place rest v to x s m head octets taken level sma
       is_in = in_outer scope end to.place u.is_in c.is_in;
     }
 
-marked_found : (body : Body) (tag : tags.Tag) (Q : Relation) → BodyFound body Q → (scope : Scope) (place : ℕ) (rest : List ℕ) (v : Value) (to : Spot) (x : Scope) (s m : Spot) (head : List ℕ)
+marked_found : {A : Type 0} (body : BodyOf A) (tag : tags.Tag) (Q : RelationOf A) → BodyFound body Q → (scope : Scope) (place : ℕ) (rest : List ℕ) (v : A) (to : Spot) (x : Scope) (s m : Spot) (head : List ℕ)
     → AreOctets rest → Taken place rest head s → 0 < scope.levels → tag.number < 2 ^ 32 → IsIdentifier tag.class true tag.number head → Marked scope s.place s.rest x m → IsIn scope m.place → body x m ≡ Ok (v, to)
     → ReadAs (ConstructedBy tag Q) scope place rest v to
 marked_found body tag Q h scope place rest v to x s m head octets taken level small identifier u here e =
@@ -104,7 +99,7 @@ marked_found body tag Q h scope place rest v to x s m head octets taken level sm
       is_in = in_unmarked scope to.place c.is_in;
     }
 
-pub constructed_found : (body : Body) (tag : tags.Tag) (Q : Relation) → BodyFound body Q → Found (constructed_at body tag) (ConstructedBy tag Q)
+pub constructed_found : {A : Type 0} (body : BodyOf A) (tag : tags.Tag) (Q : RelationOf A) → BodyFound body Q → Found (constructed_at body tag) (ConstructedBy tag Q)
 constructed_found body tag Q h = record {
   found = λ scope place rest o s v to octets opens e.
       let i = identifier_found scope place rest o s octets opens in
@@ -126,7 +121,7 @@ regroup head size contents rest = simp append_assoc
 regroup_marked : (head contents rest : List ℕ) → (head ++ (128 ∷ (contents ++ (0 ∷ 0 ∷ [])))) ++ rest ≡ head ++ (128 ∷ (contents ++ ((0 ∷ 0 ∷ []) ++ rest)))
 regroup_marked head contents rest = simp append_assoc
 
-module _ (body : Body) (tag : tags.Tag) (Q : Relation) (h : BodyOnly body Q) (tagged : is_no_tag tag.class tag.number ≡ false) (scope : Scope) (place : ℕ) (v : Value) (text rest : List ℕ)
+module _ {A : Type 0} (body : BodyOf A) (tag : tags.Tag) (Q : RelationOf A) (h : BodyOnly body Q) (tagged : is_no_tag tag.class tag.number ≡ false) (scope : Scope) (place : ℕ) (v : A) (text rest : List ℕ)
     (inner : ℕ) (level : scope.levels ≡ suc inner) (small : tag.number < 2 ^ 32) (here : IsIn scope (place + length text)) where
   one_less : scope.levels - 1 ≡ inner
   one_less = omega (arith, level)
@@ -186,7 +181,7 @@ module _ (body : Body) (tag : tags.Tag) (Q : Relation) (h : BodyOnly body Q) (ta
         reads = rw (expected tag true start small, extent) (read ∙ ap (λ (n : ℕ). Ok (v, record { place = n; rest = rest })) (omega arith));
       }
 
-pub constructed_only : (body : Body) (tag : tags.Tag) (Q : Relation) → is_no_tag tag.class tag.number ≡ false → BodyOnly body Q → Only (OfTag tag) (constructed_at body tag) (ConstructedBy tag Q)
+pub constructed_only : {A : Type 0} (body : BodyOf A) (tag : tags.Tag) (Q : RelationOf A) → is_no_tag tag.class tag.number ≡ false → BodyOnly body Q → Only (OfTag tag) (constructed_at body tag) (ConstructedBy tag Q)
 constructed_only body tag Q tagged h = record {
   only = λ scope place v text rest p here.
       elim p.form [
@@ -272,7 +267,7 @@ pub close_again : (scope : Scope) (place : ℕ) (rest : List ℕ) → Closes sco
 unfolding close_at
 close_again scope place rest h = rw (look_closed scope place rest h) refl
 
-pub begun_again : (B : Class → ℕ → Type 0) (run : Run) (scope : Scope) (place : ℕ) (text rest : List ℕ) (v : Value) (r : ReadBack B run scope place text rest v) → IsIn scope (place + length text)
+pub begun_again : {A : Type 0} (B : Class → ℕ → Type 0) (run : RunOf A) (scope : Scope) (place : ℕ) (text rest : List ℕ) (v : A) (r : ReadBack B run scope place text rest v) → IsIn scope (place + length text)
     → look_at scope place (text ++ rest) ≡ Ok (begun r.opened r.spot)
 begun_again B run scope place text rest v r here =
     let shape : text ++ rest ≡ r.first ∷ (r.others ++ rest) = ap (λ (x : List ℕ). x ++ rest) r.begins in

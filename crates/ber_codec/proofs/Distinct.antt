@@ -1,12 +1,12 @@
 -- Tags that tell parts apart: an identifier that one part allows, no other of its run does.
-use Rattle.std.proofs.Common.{◌≡◌, ℕ, Bool, true, false, not, ◌&&◌, ◌||◌, List, [], ◌∷◌, refl, sym, ap, ◌∙◌, ◌⊎◌, inl, inr}
+use Rattle.std.proofs.Common.{◌≡◌, ℕ, Bool, true, false, not, ◌&&◌, ◌||◌, List, [], ◌∷◌, refl, sym, ◌∙◌, ◌⊎◌, inl, inr}
 use Rattle.std.specs.Prelude.{nat_eq}
 use Rattle.std.specs.List.{list_any}
 use Rattle.std.proofs.lemmas.Bool.{eqb-true}
 use Rattle.asn1_types.specs.declared.row.Class.{Class}
 use Rattle.asn1_types.specs.declared.row.Part.{Part}
 use Rattle.asn1_types.specs.Rows.{Opening, tag, every, is_no_tag, same_class, allows, meets}
-use Rattle.asn1_types.specs.Table.{clash, clashes_in_run, clashes_in_sequence, agrees_later}
+use Rattle.asn1_types.specs.Table.{clash, clashes_in_run, clashes_in_sequence}
 use Rattle.ber_codec.proofs.Steady.{same_classes, class_itself, eqb_itself}
 
 or_true : (a b : Bool) → (a || b) ≡ true → (a ≡ true) ⊎ (b ≡ true)

@@ -1,14 +1,13 @@
 -- The ends of contents: what stands ahead.
-use Rattle.std.proofs.Common.{◌≡◌, ◌≢◌, ℕ, zero, suc, ◌+◌, ◌-◌, ◌≤◌, ◌<◌, Bool, true, false, cond, List, [], ◌∷◌, ◌++◌, length, Option, Some, None, Result, Ok, Err, refl, sym, ap, ◌∙◌, subst, arith, length-append, ◌⊎◌, inl, inr}
-use Rattle.std.specs.Prelude.{nat_lt, nat_le, nat_eq, slice_index}
-use Rattle.std.proofs.lemmas.Bool.{lt-ltb, le-ltb, ltb-false, ltb-true, eqb-true, eqb-false, ne_eqb, leb-true, le-leb, leb-false, lt-leb}
-use Rattle.ber_codec.specs.declared.fault.ReadFault.{ReadFault}
+use Rattle.std.proofs.Common.{◌≡◌, ◌≢◌, ℕ, ◌+◌, ◌≤◌, ◌<◌, Bool, true, false, cond, List, [], ◌∷◌, ◌++◌, length, Option, Some, None, Ok, Err, refl, sym, ap, subst, arith, inl, inr}
+use Rattle.std.specs.Prelude.{nat_eq}
+use Rattle.std.proofs.lemmas.Bool.{ltb-false, eqb-true, ne_eqb, leb-true, le-leb, lt-leb}
 use Rattle.ber_codec.specs.declared.fault.ReadFault.TheVariants as faults
 use Rattle.ber_codec.specs.declared.spot.Scope.{Scope}
-use Rattle.ber_codec.specs.Reading.{Spot, Opened, Ahead, ended, begun, Reading, ◌>>=◌, refuse, is_past, within}
+use Rattle.ber_codec.specs.Reading.{Spot, Opened, Ahead, ended, begun, is_past, within}
 use Rattle.ber_codec.specs.Fields.{identifier_at, is_end, cut_off, begin_at, second_zero_at, mark_at, look_at}
 use Rattle.ber_codec.proofs.Growing.{short_not_ok}
-use Rattle.ber_codec.proofs.Identifiers.{IsIn, in_before, is_in, in_is, Taken, bind_ok, chosen_ok, unless_ok, ok_is, done}
+use Rattle.ber_codec.proofs.Identifiers.{IsIn, is_in, in_is, Taken, bind_ok, chosen_ok, ok_is, done}
 
 -- what closes contents
 abbrev pub closing : Bool → List ℕ

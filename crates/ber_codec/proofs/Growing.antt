@@ -1,14 +1,14 @@
 -- What reading gives stays what it is, whatever octets follow, unless the octets were too few.
-use Rattle.std.proofs.Common.{◌≡◌, ℕ, zero, suc, ◌+◌, ◌-◌, ◌≤◌, ◌<◌, Bool, true, false, not, ◌&&◌, ◌||◌, ◌*◌, ◌%◌, cond, ltb, eqb, List, [], ◌∷◌, ◌++◌, length, take, drop, Option, Some, None, Result, Ok, Err, refl, sym, ap, ◌∙◌, subst, arith, length-append, inl, inr}
-use Rattle.std.specs.Prelude.{nat_lt, nat_eq, slice_index}
-use Rattle.std.proofs.lemmas.Bool.{cases_lt, lt-ltb, le-ltb, ltb-false, ltb-true, leb-true}
+use Rattle.std.proofs.Common.{◌≡◌, ℕ, ◌+◌, ◌-◌, ◌≤◌, Bool, true, false, not, ◌&&◌, ◌||◌, ◌*◌, ◌%◌, cond, ltb, List, [], ◌∷◌, ◌++◌, length, take, drop, Option, Some, None, Ok, Err, refl, arith, length-append, inl, inr}
+use Rattle.std.specs.Prelude.{nat_lt, nat_eq}
+use Rattle.std.proofs.lemmas.Bool.{cases_lt, lt-ltb, le-ltb, ltb-false, leb-true}
 use Rattle.std.proofs.lemmas.List.{take-append-le, drop-append-le}
-use Rattle.osi_base.specs.declared.words.Kind.TheVariants.{Tag, Form, Length}
+use Rattle.osi_base.specs.declared.words.Kind.TheVariants.{Length}
 use Rattle.ber_codec.specs.declared.fault.ReadFault.{ReadFault}
 use Rattle.ber_codec.specs.declared.fault.ReadFault.TheVariants as faults
 use Rattle.ber_codec.specs.declared.spot.Scope.{Scope}
-use Rattle.ber_codec.specs.Reading.{Spot, Opened, Ahead, ended, begun, Reading, ◌>>=◌, refuse, is_past, within}
-use Rattle.ber_codec.specs.Fields.{class_of, is_constructed, capped, digits_at, opened_at, is_lax, high_at, identifier_at, number_from, announced_at, long_at, is_end, cut_off, lacking, definite_at, inside, inside_until, extent_at, contents_at, begin_at, second_zero_at, mark_at, look_at}
+use Rattle.ber_codec.specs.Reading.{Spot, Opened, Ahead, ended, begun, Reading, ◌>>=◌, is_past, within}
+use Rattle.ber_codec.specs.Fields.{capped, digits_at, is_lax, high_at, identifier_at, number_from, announced_at, long_at, is_end, cut_off, lacking, definite_at, extent_at, contents_at, begin_at, second_zero_at, mark_at, look_at}
 
 abbrev pub grown : List ℕ → Spot → Spot
 grown more s = record { place = s.place; rest = s.rest ++ more }

@@ -1,36 +1,24 @@
 -- What a row is read as stays what it is, whatever octets follow.
-use Rattle.std.proofs.Common.{◌≡◌, ℕ, zero, suc, ◌+◌, ◌-◌, ◌≤◌, ◌<◌, Bool, true, false, cond, List, [], ◌∷◌, ◌++◌, length, take, Option, Some, None, Result, Ok, Err, refl, sym, ap, ◌∙◌, subst, arith, length-append}
+use Rattle.std.proofs.Common.{◌≡◌, ℕ, zero, suc, ◌-◌, Bool, true, false, List, [], ◌∷◌, ◌++◌, length, take, Option, Some, None, Ok, refl, ap, ◌∙◌, arith, length-append}
 use Rattle.std.specs.Prelude.{slice_get}
 use Rattle.std.proofs.lemmas.List.{take-append-le}
-use Rattle.osi_base.specs.declared.words.Kind.TheVariants.{Tag, Missing, Extra, Content}
 use Rattle.asn1_types.specs.declared.row.Class.{Class}
 use Rattle.asn1_types.specs.declared.row.Class.TheVariants.{Universal}
 use Rattle.asn1_types.specs.declared.row.Part.{Part}
 use Rattle.asn1_types.specs.declared.row.TypeRow.{TypeRow}
 use Rattle.asn1_types.specs.declared.row.TypeRow.TheVariants as row
-use Rattle.asn1_types.specs.Rows.{of_row, along, begins, is_no_tag}
+use Rattle.asn1_types.specs.Rows.{of_row, along, begins, is_no_tag, text_number}
 use Rattle.asn1_types.specs.Value.{Value}
-use Rattle.ber_codec.specs.declared.fault.ReadFault.{ReadFault}
-use Rattle.ber_codec.specs.declared.fault.ReadFault.TheVariants as faults
 use Rattle.ber_codec.specs.declared.spot.Scope.{Scope}
 use Rattle.ber_codec.specs.declared.spot.Tag as tags
-use Rattle.ber_codec.specs.Reading.{Spot, Opened, Ahead, ended, begun, Reading, ◌>>=◌}
-use Rattle.ber_codec.specs.Fields.{identifier_at, extent_at, contents_at, look_at}
-use Rattle.ber_codec.specs.Rules.{Reader, expect_at, judge, primitive_at, first_of, last_of, open_at, close_at, explicit_at, is_part, place_of, present_at, part_at, parts_at, sequence_at, choice_at, anew, any_at, dead, or_explicit, tagged_at, read_by, tag_or, integer_rule, null_rule, object_id_rule}
-use Rattle.ber_codec.proofs.Growing.{grown, grown_opened, grown_ahead, Grows, Grows-bind, Grows-same, Grows-cond, with_spot, with_opened, with_contents, identifier_grows, extent_grows, contents_grow, look_grows}
+use Rattle.ber_codec.specs.declared.spot.StringKind.TheVariants.{OfOctets, OfBits}
+use Rattle.ber_codec.specs.Reading.{Spot, Opened, Ahead, ended, begun, Reading}
+use Rattle.ber_codec.specs.Fields.{extent_at, contents_at, look_at}
+use Rattle.ber_codec.specs.Rules.{Reader, expect_at, first_of, last_of, open_at, close_at, explicit_at, present_at, part_at, parts_at, sequence_at, choice_at, anew, any_at, dead, or_explicit, read_by, tag_or, always, boolean_rule, is_strict_boolean, integer_rule, enumerated_rule, null_rule, object_id_rule, whole_octets, whole_text, whole_bits, has_zero_bits}
+use Rattle.ber_codec.proofs.Growing.{grown, grown_opened, grown_ahead, Grows, Grows-bind, Grows-same, Grows-cond, with_spot, with_opened, with_contents, extent_grows, contents_grow, look_grows}
 use Rattle.ber_codec.proofs.Steady.{Run}
-
-pub record GrowsRun (r : Run) : Type 0 where
-  pub grows : (scope : Scope) (o : Opened) (s : Spot) (more : List ℕ) → Grows (with_spot more) (r scope o s) (r scope (grown_opened more o) (grown more s))
-
-pub prim_grows : (rule : List ℕ → Option Value) (tag : tags.Tag) → GrowsRun (primitive_at rule tag)
-unfolding primitive_at
-prim_grows rule tag = record {
-  grows = λ scope o s more.
-      Grows-same (with_spot more) (expect_at tag false o) _ _ (λ u e.
-      Grows-bind (with_contents more) (with_spot more) (contents_at scope s.place s.rest) (contents_at scope s.place (s.rest ++ more)) _ _ (contents_grow scope s.place s.rest more) (λ c e.
-      Grows-same (with_spot more) (judge c.0 (λ (x : Value). x) (rule c.1)) _ _ (λ v e. refl)));
-}
+use Rattle.ber_codec.proofs.Items.{GrowsRun}
+use Rattle.ber_codec.proofs.Segments.{prim_grows, string_grows, list_grows}
 
 first_grows : (a : Ahead) (more : List ℕ) → Grows (with_opened more) (first_of a) (first_of (grown_ahead more a))
 first_grows (ended place after) more = refl
@@ -136,17 +124,17 @@ dead_grows : (t : Option tags.Tag) → GrowsRun (dead t)
 dead_grows t = record { grows = λ scope o s more. refl }
 
 row_grows : (begins : ℕ → Class → ℕ → Bool) (inner : ℕ → Reader) → ((n : ℕ) (t : Option tags.Tag) → GrowsRun (inner n t)) → (r : TypeRow) (t : Option tags.Tag) → GrowsRun (read_by begins inner r t)
-row_grows begins inner h row.Boolean t = dead_grows t
-row_grows begins inner h (row.Integer low high) t = prim_grows (integer_rule low high) (tag_or t Universal 2)
-row_grows begins inner h (row.Enumerated items) t = dead_grows t
-row_grows begins inner h row.Null t = prim_grows null_rule (tag_or t Universal 5)
-row_grows begins inner h (row.OctetString most) t = dead_grows t
-row_grows begins inner h row.BitString t = dead_grows t
-row_grows begins inner h row.ObjectId t = prim_grows object_id_rule (tag_or t Universal 6)
-row_grows begins inner h (row.Text kind) t = dead_grows t
+row_grows begins inner h row.Boolean t = prim_grows boolean_rule is_strict_boolean (tag_or t Universal 1)
+row_grows begins inner h (row.Integer low high) t = prim_grows (integer_rule low high) always (tag_or t Universal 2)
+row_grows begins inner h (row.Enumerated items) t = prim_grows (enumerated_rule items) always (tag_or t Universal 10)
+row_grows begins inner h row.Null t = prim_grows null_rule always (tag_or t Universal 5)
+row_grows begins inner h (row.OctetString most) t = string_grows OfOctets (whole_octets most) always (tag_or t Universal 4)
+row_grows begins inner h row.BitString t = string_grows OfBits whole_bits has_zero_bits (tag_or t Universal 3)
+row_grows begins inner h row.ObjectId t = prim_grows object_id_rule always (tag_or t Universal 6)
+row_grows begins inner h (row.Text kind) t = string_grows OfOctets (whole_text kind) always (tag_or t Universal (text_number kind))
 row_grows begins inner h (row.Sequence ps) t = sequence_grows begins inner (λ n. h n None) ps (tag_or t Universal 16)
 row_grows begins inner h (row.Set ps) t = dead_grows t
-row_grows begins inner h (row.SequenceOf of) t = dead_grows t
+row_grows begins inner h (row.SequenceOf of) t = list_grows (inner of.0) (tag_or t Universal 16) (h of.0 None)
 row_grows begins inner h (row.Choice ps) t = or_grows (choice_at begins inner 0 ps) t (choice_grows begins inner (λ n. h n None) 0 ps)
 row_grows begins inner h (row.Tagged class number true of) t = explicit_grows (inner of.0 None) (tag_or t class number) (h of.0 None)
 row_grows begins inner h (row.Tagged class number false of) t = h of.0 (Some (tag_or t class number))

@@ -1,13 +1,12 @@
 -- Lengths: what is read is spelled so, and what is spelled so is read.
-use Rattle.std.proofs.Common.{◌≡◌, ◌≢◌, ℕ, zero, suc, ◌+◌, ◌-◌, ◌≤◌, ◌<◌, Bool, true, false, not, ◌&&◌, ◌||◌, cond, ltb, eqb, List, [], ◌∷◌, ◌++◌, length, take, drop, Option, Some, None, Result, Ok, Err, refl, sym, ap, ◌∙◌, subst, arith, append_assoc, length-append, ◌⊎◌, inl, inr}
+use Rattle.std.proofs.Common.{◌≡◌, ◌≢◌, ℕ, suc, ◌+◌, ◌-◌, ◌≤◌, ◌<◌, Bool, true, false, not, ◌&&◌, ◌||◌, cond, List, [], ◌∷◌, ◌++◌, length, take, drop, Ok, Err, refl, sym, ap, ◌∙◌, subst, arith, append_assoc, length-append, ◌⊎◌, inl, inr}
 use Rattle.std.specs.Prelude.{nat_lt, nat_le, nat_eq, slice_index}
-use Rattle.std.proofs.lemmas.Bool.{cases_lt, lt-ltb, le-ltb, ltb-false, ltb-true, eqb-true, eqb-false, ne_eqb, leb-true, le-leb}
+use Rattle.std.proofs.lemmas.Bool.{lt-ltb, le-ltb, ltb-false, ltb-true, eqb-true, eqb-false, ne_eqb, leb-true, le-leb}
 use Rattle.std.proofs.lemmas.List.{take_at, drop_at, take-append-drop, length-take}
-use Rattle.osi_base.specs.declared.words.Kind.TheVariants.{Tag, Length, Form}
-use Rattle.ber_codec.specs.declared.fault.ReadFault.{ReadFault}
+use Rattle.osi_base.specs.declared.words.Kind.TheVariants.{Length, Form}
 use Rattle.ber_codec.specs.declared.fault.ReadFault.TheVariants as faults
 use Rattle.ber_codec.specs.declared.spot.Scope.{Scope}
-use Rattle.ber_codec.specs.Reading.{Spot, Opened, Reading, ◌>>=◌, refuse, is_past, within}
+use Rattle.ber_codec.specs.Reading.{Spot, Reading, refuse, within}
 use Rattle.ber_codec.specs.Fields.{number_from, announced_at, long_at, is_end, cut_off, lacking, definite_at, inside, inside_until, extent_at, contents_at}
 use Rattle.ber_codec.specs.Spelling.{IsLong, IsLength}
 use Rattle.ber_codec.proofs.Growing.{short_not_ok}

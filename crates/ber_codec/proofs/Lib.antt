@@ -10,6 +10,9 @@ pub mod Ends
 pub mod Steady
 pub mod Contents
 pub mod Constructed
+pub mod Items
+pub mod Segments
+pub mod Turns
 pub mod Sequences
 pub mod Distinct
 pub mod SequencesBack
@@ -25,3 +28,4 @@ pub mod WriteLaws
 pub mod Written
 pub mod Wholes
 pub mod WholeSpelled
+pub mod Lax

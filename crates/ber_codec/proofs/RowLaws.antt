@@ -1,31 +1,30 @@
 -- Each row: what is read is spelled so, and what is spelled so is read.
-use Rattle.std.proofs.Common.{◌≡◌, ◌≢◌, ℕ, zero, suc, ◌+◌, ◌^◌, ◌≤◌, ◌<◌, Bool, true, false, not, ◌&&◌, ◌||◌, cond, List, [], ◌∷◌, ◌++◌, length, Option, Some, None, Result, Ok, Err, refl, sym, ap, ◌∙◌, subst, arith, ◌⊎◌, inl, inr}
-use Rattle.std.specs.Prelude.{slice_get, nat_eq}
+use Rattle.std.proofs.Common.{◌≡◌, ℕ, zero, suc, ◌+◌, Bool, true, false, not, ◌&&◌, ◌||◌, List, [], ◌∷◌, Option, Some, None, refl, ap, ◌∙◌, subst, arith, inl, inr}
+use Rattle.std.specs.Prelude.{slice_get}
 use Rattle.std.specs.List.{list_any, flat_map}
 use Rattle.std.proofs.lemmas.List.Folds.{list_any-append}
 use Rattle.asn1_types.specs.declared.row.Class.{Class}
 use Rattle.asn1_types.specs.declared.row.Class.TheVariants.{Universal}
 use Rattle.asn1_types.specs.declared.row.Part.{Part}
+use Rattle.asn1_types.specs.declared.row.TextKind.{TextKind}
+use Rattle.asn1_types.specs.declared.row.TextKind.TheVariants.{Utf8, Ia5, Visible, Printable, Numeric}
 use Rattle.asn1_types.specs.declared.row.TypeRow.{TypeRow}
 use Rattle.asn1_types.specs.declared.row.TypeRow.TheVariants as row
-use Rattle.asn1_types.specs.Rows.{Opening, tag, every, of_row, along, begins, openings, openings_by, is_no_tag, same_class, allows}
-use Rattle.asn1_types.specs.Table.{IsSound, has_clash, is_bad_range, clash, clashes_in_sequence, agrees_later}
+use Rattle.asn1_types.specs.Rows.{tag, every, of_row, along, begins, openings, is_no_tag, allows, text_number}
+use Rattle.asn1_types.specs.Table.{IsSound}
 use Rattle.asn1_types.proofs.Sound.{IsSoundRow, sound_row}
-use Rattle.asn1_types.specs.Value.{Value}
-use Rattle.ber_codec.specs.declared.fault.ReadFault.TheVariants as faults
-use Rattle.ber_codec.specs.declared.spot.Scope.{Scope}
 use Rattle.ber_codec.specs.declared.spot.Tag as tags
-use Rattle.ber_codec.specs.Octets.{AreOctets}
-use Rattle.ber_codec.specs.Reading.{Spot, Opened, Reading}
-use Rattle.ber_codec.specs.Rules.{Reader, dead, tag_or, read_by, or_explicit, tagged_at, explicit_at, choice_at, any_at, primitive_at, integer_rule, null_rule, object_id_rule, sequence_at}
-use Rattle.ber_codec.specs.Spelling.{Spelled, RowIs, RowOr, SpelledBy, OrExplicit, TaggedIs, ChoiceIs, SequenceIs, AnyIs, IntegerIs, NullIs, ObjectIdIs}
+use Rattle.ber_codec.specs.declared.spot.StringKind.TheVariants.{OfOctets, OfBits}
+use Rattle.ber_codec.specs.Rules.{Reader, dead, tag_or, read_by, or_explicit, explicit_at, choice_at, any_at, always, boolean_rule, is_strict_boolean, integer_rule, enumerated_rule, null_rule, object_id_rule, whole_octets, whole_text, whole_bits, has_zero_bits, sequence_at}
+use Rattle.ber_codec.specs.Spelling.{Spelled, RowIs, RowOr, SpelledBy, OrExplicit, ChoiceIs, SequenceIs, AnyIs, BooleanIs, IntegerIs, EnumeratedIs, NullIs, ObjectIdIs}
 use Rattle.ber_codec.proofs.Steady.{Run, Relation, Found, Only, only_wider, OfTag, prim_found, prim_only, class_itself, eqb_itself}
-use Rattle.ber_codec.proofs.Constructed.{Body, constructed_at, ConstructedBy, constructed_found, constructed_only, explicit_body, explicit_found, explicit_only, explicit_same}
+use Rattle.ber_codec.proofs.Constructed.{ConstructedBy, constructed_found, constructed_only, explicit_body, explicit_found, explicit_only, explicit_same}
 use Rattle.ber_codec.proofs.Sequences.{sequence_body, sequence_found, choice_at_found}
 use Rattle.ber_codec.proofs.SequencesBack.{sequence_only, choice_only}
-use Rattle.ber_codec.proofs.Distinct.{begins_by, AnyAllows}
+use Rattle.ber_codec.proofs.Distinct.{AnyAllows}
 use Rattle.ber_codec.proofs.Anys.{any_found, any_only, IsTagged}
-use Rattle.ber_codec.proofs.Contents.{integer_sound, integer_complete, null_sound, null_complete}
+use Rattle.ber_codec.proofs.Contents.{boolean_sound, boolean_complete, integer_sound, integer_complete, enumerated_sound, enumerated_complete, null_sound, null_complete}
+use Rattle.ber_codec.proofs.Segments.{string_found, string_only, list_found, list_only}
 use Rattle.ber_codec.proofs.Oids.{object_id_sound, object_id_complete}
 
 -- ---- what is read is spelled so
@@ -43,18 +42,18 @@ or_found run P (Some t) h = tagged_found run P t h
 module _ (rows : List TypeRow) where
   row_found : (inner : ℕ → Reader) (rel : ℕ → Spelled) → ((n : ℕ) (t : Option tags.Tag) → Found (inner n t) (rel n t)) → (r : TypeRow) (t : Option tags.Tag) → Found (read_by (begins rows) inner r t) (RowIs rel r t)
   unfolding sequence_at
-  row_found inner rel h row.Boolean t = dead_found t
-  row_found inner rel h (row.Integer low high) t = prim_found (integer_rule low high) (tag_or t Universal 2) (IntegerIs low high) (integer_sound low high)
-  row_found inner rel h (row.Enumerated items) t = dead_found t
-  row_found inner rel h row.Null t = prim_found null_rule (tag_or t Universal 5) NullIs null_sound
-  row_found inner rel h (row.OctetString most) t = dead_found t
-  row_found inner rel h row.BitString t = dead_found t
-  row_found inner rel h row.ObjectId t = prim_found object_id_rule (tag_or t Universal 6) ObjectIdIs object_id_sound
-  row_found inner rel h (row.Text kind) t = dead_found t
+  row_found inner rel h row.Boolean t = prim_found boolean_rule is_strict_boolean (tag_or t Universal 1) BooleanIs boolean_sound
+  row_found inner rel h (row.Integer low high) t = prim_found (integer_rule low high) always (tag_or t Universal 2) (λ strict. IntegerIs low high) (λ strict c v are e k. integer_sound low high c v are e)
+  row_found inner rel h (row.Enumerated items) t = prim_found (enumerated_rule items) always (tag_or t Universal 10) (λ strict. EnumeratedIs items) (λ strict c v are e k. enumerated_sound items c v e)
+  row_found inner rel h row.Null t = prim_found null_rule always (tag_or t Universal 5) (λ strict. NullIs) (λ strict c v are e k. null_sound c v are e)
+  row_found inner rel h (row.OctetString most) t = string_found OfOctets (whole_octets most) always (tag_or t Universal 4)
+  row_found inner rel h row.BitString t = string_found OfBits whole_bits has_zero_bits (tag_or t Universal 3)
+  row_found inner rel h row.ObjectId t = prim_found object_id_rule always (tag_or t Universal 6) (λ strict. ObjectIdIs) (λ strict c v are e k. object_id_sound c v are e)
+  row_found inner rel h (row.Text kind) t = string_found OfOctets (whole_text kind) always (tag_or t Universal (text_number kind))
   row_found inner rel h (row.Sequence ps) t =
       constructed_found (sequence_body (begins rows) inner ps) (tag_or t Universal 16) (λ strict levels v c. SequenceIs rel strict ps v levels c) (sequence_found (begins rows) inner rel (λ n. h n None) ps)
   row_found inner rel h (row.Set ps) t = dead_found t
-  row_found inner rel h (row.SequenceOf of) t = dead_found t
+  row_found inner rel h (row.SequenceOf of) t = list_found (inner of.0) (rel of.0) (tag_or t Universal 16) (h of.0 None)
   row_found inner rel h (row.Choice ps) t = or_found (choice_at (begins rows) inner 0 ps) (ChoiceIs rel ps) t (choice_at_found (begins rows) inner rel (λ n. h n None) ps ps 0 (λ i p e. let none : 0 + i ≡ i = omega arith in ap (slice_get ps) none ∙ e))
   row_found inner rel h (row.Tagged class number true of) t = tagged_found (inner of.0 None) (rel of.0 None) (tag_or t class number) (h of.0 None)
   row_found inner rel h (row.Tagged class number false of) t = h of.0 (Some (tag_or t class number))
@@ -90,6 +89,13 @@ nothing B r = record { only = λ scope place v text rest p here. absurd p }
 
 tagged_only : (B : Class → ℕ → Type 0) (run : Run) (P : Relation) (t : tags.Tag) → is_no_tag t.class t.number ≡ false → Only B run P → Only (OfTag t) (explicit_at run t) (ConstructedBy t P)
 tagged_only B run P t e h = subst (λ (r : Run). Only (OfTag t) r (ConstructedBy t P)) (explicit_same run t) (constructed_only (explicit_body run) t P e (explicit_only B run P h))
+
+pub text_tag : (kind : TextKind) → is_no_tag Universal (text_number kind) ≡ false
+text_tag Utf8 = refl
+text_tag Ia5 = refl
+text_tag Visible = refl
+text_tag Printable = refl
+text_tag Numeric = refl
 
 or_true : (a b : Bool) → (a && b) ≡ true → (a ≡ true) × (b ≡ true)
 or_true true b e = (refl, e)
@@ -134,21 +140,27 @@ module _ (rows : List TypeRow) (n : ℕ) where
   row_only : (inner : ℕ → Reader) (rel : ℕ → Spelled) → ((m : ℕ) (t : Option tags.Tag) → OkTag t → Only (Allowed rows m t) (inner m t) (rel m t))
       → (r : TypeRow) → IsSoundRow rows n r → (t : Option tags.Tag) → OkTag t → Only (Allowed rows n t) (read_by (begins rows) inner r t) (RowIs rel r t)
   unfolding sequence_at
-  row_only inner rel h row.Boolean s t ok = nothing (Allowed rows n t) (dead t)
+  row_only inner rel h row.Boolean s t ok =
+      own Universal 1 s.opens refl t _ _ (prim_only boolean_rule is_strict_boolean (tag_or t Universal 1) BooleanIs (tag_ok t Universal 1 ok refl) boolean_complete)
   row_only inner rel h (row.Integer low high) s t ok =
-      own Universal 2 s.opens refl t _ _ (prim_only (integer_rule low high) (tag_or t Universal 2) (IntegerIs low high) (tag_ok t Universal 2 ok refl) (integer_complete low high))
-  row_only inner rel h (row.Enumerated items) s t ok = nothing (Allowed rows n t) (dead t)
-  row_only inner rel h row.Null s t ok = own Universal 5 s.opens refl t _ _ (prim_only null_rule (tag_or t Universal 5) NullIs (tag_ok t Universal 5 ok refl) null_complete)
-  row_only inner rel h (row.OctetString most) s t ok = nothing (Allowed rows n t) (dead t)
-  row_only inner rel h row.BitString s t ok = nothing (Allowed rows n t) (dead t)
-  row_only inner rel h row.ObjectId s t ok = own Universal 6 s.opens refl t _ _ (prim_only object_id_rule (tag_or t Universal 6) ObjectIdIs (tag_ok t Universal 6 ok refl) object_id_complete)
-  row_only inner rel h (row.Text kind) s t ok = nothing (Allowed rows n t) (dead t)
+      own Universal 2 s.opens refl t _ _ (prim_only (integer_rule low high) always (tag_or t Universal 2) (λ strict. IntegerIs low high) (tag_ok t Universal 2 ok refl) (λ strict c v p. (integer_complete low high c v p, λ k. refl)))
+  row_only inner rel h (row.Enumerated items) s t ok =
+      own Universal 10 s.opens refl t _ _ (prim_only (enumerated_rule items) always (tag_or t Universal 10) (λ strict. EnumeratedIs items) (tag_ok t Universal 10 ok refl) (λ strict c v p. (enumerated_complete items c v p, λ k. refl)))
+  row_only inner rel h row.Null s t ok =
+      own Universal 5 s.opens refl t _ _ (prim_only null_rule always (tag_or t Universal 5) (λ strict. NullIs) (tag_ok t Universal 5 ok refl) (λ strict c v p. (null_complete c v p, λ k. refl)))
+  row_only inner rel h (row.OctetString most) s t ok = own Universal 4 s.opens refl t _ _ (string_only OfOctets (whole_octets most) always (tag_or t Universal 4) (tag_ok t Universal 4 ok refl))
+  row_only inner rel h row.BitString s t ok = own Universal 3 s.opens refl t _ _ (string_only OfBits whole_bits has_zero_bits (tag_or t Universal 3) (tag_ok t Universal 3 ok refl))
+  row_only inner rel h row.ObjectId s t ok =
+      own Universal 6 s.opens refl t _ _ (prim_only object_id_rule always (tag_or t Universal 6) (λ strict. ObjectIdIs) (tag_ok t Universal 6 ok refl) (λ strict c v p. (object_id_complete c v p, λ k. refl)))
+  row_only inner rel h (row.Text kind) s t ok =
+      own Universal (text_number kind) s.opens (text_tag kind) t _ _ (string_only OfOctets (whole_text kind) always (tag_or t Universal (text_number kind)) (tag_ok t Universal (text_number kind) ok (text_tag kind)))
   row_only inner rel h (row.Sequence ps) s t ok =
       own Universal 16 s.opens refl t _ _
       (constructed_only (sequence_body (begins rows) inner ps) (tag_or t Universal 16) (λ strict levels v c. SequenceIs rel strict ps v levels c) (tag_ok t Universal 16 ok refl)
       (sequence_only (openings rows) inner rel (λ m. h m None tt) ps s.apart))
   row_only inner rel h (row.Set ps) s t ok = nothing (Allowed rows n t) (dead t)
-  row_only inner rel h (row.SequenceOf of) s t ok = nothing (Allowed rows n t) (dead t)
+  row_only inner rel h (row.SequenceOf of) s t ok =
+      own Universal 16 s.opens refl t _ _ (list_only (Allowed rows of.0 None) (inner of.0) (rel of.0) (tag_or t Universal 16) (tag_ok t Universal 16 ok refl) (h of.0 None tt))
   row_only inner rel h (row.Choice ps) s t ok =
       or_only (AnyAllows (openings rows) ps) (choice_at (begins rows) inner 0 ps) (ChoiceIs rel ps) t ok (λ c k a. choice_begins ps s.opens c k a) (choice_only (openings rows) inner rel (λ m. h m None tt) ps s.apart)
   row_only inner rel h (row.Tagged class number true of) s t ok =

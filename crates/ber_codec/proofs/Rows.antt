@@ -1,5 +1,5 @@
 -- What a row is read as goes by its rule.
-use Rattle.std.proofs.Common.{◌≡◌, ℕ, suc, Bool, true, false, cond, Result, Ok, List, [], ◌∷◌, length, Option, Some, None, refl, sym, ap, ◌∙◌}
+use Rattle.std.proofs.Common.{◌≡◌, ℕ, suc, Bool, true, false, cond, Ok, List, [], ◌∷◌, Option, Some, None, refl, ap}
 use Rattle.std.specs.Prelude.{slice_get}
 use Rattle.std.specs.List.{AllByRecursion}
 use Rattle.asn1_types.specs.declared.row.Class.{Class}
@@ -11,9 +11,8 @@ use Rattle.asn1_types.specs.Table.{IsSound}
 use Rattle.asn1_types.proofs.Along.{settled}
 use Rattle.asn1_types.proofs.Sound.{is_down}
 use Rattle.ber_codec.specs.declared.spot.Scope.{Scope}
-use Rattle.ber_codec.specs.declared.spot.Tag as tags
-use Rattle.ber_codec.specs.Reading.{Spot, Opened, Ahead, Reading, ◌>>=◌}
-use Rattle.ber_codec.specs.Rules.{Reader, part_at, parts_at, sequence_at, choice_at, explicit_at, or_explicit, tagged_at, expect_at, tag_or, dead, read_by, reads}
+use Rattle.ber_codec.specs.Reading.{Spot, Ahead, Reading, ◌>>=◌}
+use Rattle.ber_codec.specs.Rules.{Reader, part_at, parts_at, sequence_at, choice_at, list_at, or_explicit, tagged_at, expect_at, tag_or, dead, read_by, reads}
 use Rattle.ber_codec.specs.Fields.{extent_at, look_at}
 use Rattle.asn1_types.specs.Value.{Value, chosen, parts}
 use Rattle.asn1_types.specs.ValueView.{parts_of}
@@ -46,7 +45,7 @@ module _ (begins : ℕ → Class → ℕ → Bool) (f g : ℕ → Reader) where
       expect_at (tag_or tag Universal 16) true opened >>= λ _. extent_at scope spot.place spot.rest >>= λ x. look_at x.0 x.1.place x.1.rest >>= λ a.
       parts_cong ps h i x.0 a >>= λ found. Ok (parts (parts_of found.0), found.1)
   read_cong (Set ps) h = refl
-  read_cong (SequenceOf of) h = refl
+  read_cong (SequenceOf of) h = λ i tag. list_at (h.0 i) (tag_or tag Universal 16)
   read_cong (Choice ps) h = ap or_explicit (choice_cong 0 ps h)
   read_cong (Tagged class number true of) h = ap (λ r. tagged_at true r class number) h.0
   read_cong (Tagged class number false of) h = ap (λ r. tagged_at false r class number) h.0

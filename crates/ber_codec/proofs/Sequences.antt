@@ -1,28 +1,22 @@
 -- SEQUENCE and CHOICE: what is read is spelled so, and what is spelled so is read.
-use Rattle.std.proofs.Common.{◌≡◌, ◌≢◌, ℕ, zero, suc, ◌+◌, ◌≤◌, ◌<◌, Bool, true, false, not, ◌&&◌, ◌||◌, cond, List, [], ◌∷◌, ◌++◌, length, Option, Some, None, Result, Ok, Err, refl, sym, ap, ◌∙◌, subst, arith, append_assoc, length-append, ◌⊎◌, inl, inr}
-use Rattle.std.specs.Prelude.{slice_get, nat_eq}
-use Rattle.std.specs.List.{list_any}
-use Rattle.std.proofs.lemmas.Bool.{eqb-true}
-use Rattle.osi_base.specs.declared.words.Kind.TheVariants.{Tag, Missing, Extra}
+use Rattle.std.proofs.Common.{◌≡◌, ℕ, suc, ◌+◌, Bool, true, cond, List, [], ◌∷◌, ◌++◌, length, Option, Some, None, Ok, Err, refl, sym, ap, ◌∙◌, subst, arith, append_assoc, length-append, inl, inr}
+use Rattle.std.specs.Prelude.{slice_get}
+use Rattle.osi_base.specs.declared.words.Kind.TheVariants.{Missing}
 use Rattle.asn1_types.specs.declared.row.Class.{Class}
 use Rattle.asn1_types.specs.declared.row.Part.{Part}
-use Rattle.asn1_types.specs.Rows.{Opening, tag, every, is_no_tag, same_class, allows, meets}
-use Rattle.asn1_types.specs.Table.{clash, clashes_in_run, clashes_in_sequence, agrees_later}
-use Rattle.asn1_types.specs.Value.{Value, boolean, integer, null, octets, bits, object_id, text, parts, list, chosen, any, MaybeValues, no_parts, absent, present}
+use Rattle.asn1_types.specs.Value.{Value, parts, chosen}
 use Rattle.asn1_types.specs.ValueView.{parts_of}
-use Rattle.ber_codec.specs.declared.fault.ReadFault.{ReadFault}
 use Rattle.ber_codec.specs.declared.fault.ReadFault.TheVariants as faults
 use Rattle.ber_codec.specs.declared.spot.Scope.{Scope}
-use Rattle.ber_codec.specs.declared.spot.Tag as tags
 use Rattle.ber_codec.specs.Octets.{AreOctets}
 use Rattle.ber_codec.specs.Reading.{Spot, Opened, Ahead, ended, begun, Reading, ◌>>=◌}
-use Rattle.ber_codec.specs.Fields.{identifier_at, look_at}
-use Rattle.ber_codec.specs.Rules.{Reader, last_of, is_part, place_of, present_at, part_at, parts_at, sequence_at, choice_at}
+use Rattle.ber_codec.specs.Fields.{look_at}
+use Rattle.ber_codec.specs.Rules.{Reader, last_of, is_part, place_of, present_at, part_at, parts_at, choice_at}
 use Rattle.ber_codec.specs.Spelling.{Spelled, PartsAre, SequenceIs, ChoiceIs}
-use Rattle.ber_codec.proofs.Identifiers.{IsIn, in_before, Taken, bind_ok, chosen_ok, unless_ok, ok_is, done}
-use Rattle.ber_codec.proofs.Ends.{closing, Closes, EndFound, BeginFound, AheadFound, look_found, look_closed}
-use Rattle.ber_codec.proofs.Steady.{Run, Relation, ReadAs, Found, ReadBack, Only, taken_octets, taken_then, class_itself, eqb_itself}
-use Rattle.ber_codec.proofs.Constructed.{Body, ContentsAs, BodyFound, BodyOnly, last_ended, begun_again}
+use Rattle.ber_codec.proofs.Identifiers.{IsIn, Taken, bind_ok, chosen_ok, ok_is, done}
+use Rattle.ber_codec.proofs.Ends.{closing, Closes, EndFound, BeginFound, AheadFound, look_found}
+use Rattle.ber_codec.proofs.Steady.{ReadAs, Found, taken_octets, taken_then}
+use Rattle.ber_codec.proofs.Constructed.{Body, ContentsAs, BodyFound, last_ended}
 
 abbrev pub Begins : Type 0
 Begins = ℕ → Class → ℕ → Bool

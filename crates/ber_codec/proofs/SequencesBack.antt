@@ -1,5 +1,5 @@
 -- SEQUENCE and CHOICE: what is spelled so is read.
-use Rattle.std.proofs.Common.{◌≡◌, ◌≢◌, ℕ, zero, suc, ◌+◌, ◌≤◌, ◌<◌, Bool, true, false, not, ◌&&◌, ◌||◌, cond, List, [], ◌∷◌, ◌++◌, length, Option, Some, None, Result, Ok, Err, refl, sym, ap, ◌∙◌, subst, arith, append_assoc, length-append, ◌⊎◌, inl, inr}
+use Rattle.std.proofs.Common.{◌≡◌, ℕ, zero, suc, ◌+◌, true, false, List, [], ◌∷◌, ◌++◌, length, Option, Some, None, Ok, refl, sym, ap, ◌∙◌, subst, arith, append_assoc, length-append, inl, inr}
 use Rattle.std.specs.Prelude.{slice_get}
 use Rattle.std.specs.List.{list_any}
 use Rattle.asn1_types.specs.declared.row.Class.{Class}
@@ -9,13 +9,13 @@ use Rattle.asn1_types.specs.Table.{clash, clashes_in_sequence, agrees_later}
 use Rattle.asn1_types.specs.Value.{Value, boolean, integer, null, octets, bits, object_id, text, parts, list, chosen, any, MaybeValues, no_parts, absent, present}
 use Rattle.asn1_types.specs.ValueView.{parts_of}
 use Rattle.ber_codec.specs.declared.spot.Scope.{Scope}
-use Rattle.ber_codec.specs.Reading.{Spot, Opened, Ahead, ended, begun, Reading, ◌>>=◌}
+use Rattle.ber_codec.specs.Reading.{Spot, Opened, Ahead, ended, begun}
 use Rattle.ber_codec.specs.Fields.{look_at}
-use Rattle.ber_codec.specs.Rules.{Reader, last_of, is_part, present_at, part_at, parts_at, choice_at}
+use Rattle.ber_codec.specs.Rules.{Reader, is_part, part_at, parts_at, choice_at}
 use Rattle.ber_codec.specs.Spelling.{Spelled, PartsAre, SequenceIs, ChoiceIs}
 use Rattle.ber_codec.proofs.Identifiers.{IsIn, in_before}
 use Rattle.ber_codec.proofs.Ends.{closing, Closes, look_closed}
-use Rattle.ber_codec.proofs.Steady.{Run, Relation, ReadBack, Only}
+use Rattle.ber_codec.proofs.Steady.{ReadBack, Only}
 use Rattle.ber_codec.proofs.Constructed.{BodyOnly, begun_again}
 use Rattle.ber_codec.proofs.Sequences.{sequence_body}
 use Rattle.ber_codec.proofs.Distinct.{begins_by, RunAllows, AnyAllows, run_apart, apart, or_false}

@@ -1,47 +1,50 @@
 -- What it means that a reader reads what a relation spells, and the laws of primitive and constructed values.
-use Rattle.std.proofs.Common.{◌≡◌, ◌≢◌, ℕ, zero, suc, ◌+◌, ◌-◌, ◌*◌, ◌^◌, ◌≤◌, ◌<◌, Bool, true, false, not, ◌&&◌, cond, ltb, eqb, List, [], ◌∷◌, ◌++◌, length, Option, Some, None, Result, Ok, Err, refl, sym, ap, ◌∙◌, subst, arith, append_assoc, length-append, ◌⊎◌, inl, inr, get_or}
+use Rattle.std.proofs.Common.{◌≡◌, ◌≢◌, ℕ, zero, suc, ◌+◌, ◌^◌, ◌<◌, Bool, true, false, not, ◌&&◌, cond, List, [], ◌∷◌, ◌++◌, length, Option, Some, None, Ok, Err, refl, sym, ap, ◌∙◌, subst, arith, append_assoc, length-append, inl, inr}
 use Rattle.std.specs.Prelude.{nat_lt, nat_eq, slice_index}
-use Rattle.std.proofs.lemmas.Bool.{lt-ltb, le-ltb, ltb-false, ltb-true, eqb-true, eqb-false, ne_eqb}
-use Rattle.std.proofs.lemmas.List.{get_or_past}
-use Rattle.std.proofs.Math.ListN.{get_or-append}
-use Rattle.osi_base.specs.declared.words.Kind.TheVariants.{Tag, Missing, Extra, Length, Content, Form}
+use Rattle.std.proofs.lemmas.Bool.{lt-ltb, ltb-true, eqb-true, eqb-false}
+use Rattle.osi_base.specs.declared.words.Kind.TheVariants.{Tag, Form}
 use Rattle.asn1_types.specs.declared.row.Class.{Class}
 use Rattle.asn1_types.specs.declared.row.Class.TheVariants.{Universal, Application, Context, Private}
-use Rattle.asn1_types.specs.Rows.{class_number, same_class, is_no_tag}
+use Rattle.asn1_types.specs.Rows.{same_class, is_no_tag}
 use Rattle.asn1_types.specs.Value.{Value}
 use Rattle.ber_codec.specs.declared.fault.ReadFault.{ReadFault}
 use Rattle.ber_codec.specs.declared.fault.ReadFault.TheVariants as faults
 use Rattle.ber_codec.specs.declared.spot.Scope.{Scope}
 use Rattle.ber_codec.specs.declared.spot.Tag as tags
 use Rattle.ber_codec.specs.Octets.{AreOctets}
-use Rattle.ber_codec.specs.Reading.{Spot, Opened, Ahead, ended, begun, Reading, ◌>>=◌, refuse, is_past, within}
-use Rattle.ber_codec.specs.Fields.{capped, identifier_at, inside, inside_until, extent_at, contents_at, look_at}
-use Rattle.ber_codec.specs.Rules.{is_opened, expect_at, judge, primitive_at}
-use Rattle.ber_codec.specs.Spelling.{leading, IsIdentifier, IsLength, IsDefinite, IsIndefinite, IsPrimitive, IsConstructed}
-use Rattle.ber_codec.proofs.Identifiers.{IsIn, in_before, is_in, in_is, Taken, bind_ok, chosen_ok, unless_ok, ok_is, done, identifier_found, identifier_again}
-use Rattle.ber_codec.proofs.Lengths.{contents_found, contents_again, Until, Marked, extent_found, extent_until, extent_marked}
-use Rattle.ber_codec.proofs.Ends.{closing, Closes, ClosesBy}
+use Rattle.ber_codec.specs.Reading.{Spot, Opened, Reading, refuse}
+use Rattle.ber_codec.specs.Fields.{capped, identifier_at, contents_at}
+use Rattle.ber_codec.specs.Rules.{is_opened, expect_at, judge, form_at, primitive_at}
+use Rattle.ber_codec.specs.Spelling.{leading, IsIdentifier, IsPrimitive}
+use Rattle.ber_codec.proofs.Identifiers.{IsIn, in_before, Taken, bind_ok, chosen_ok, ok_is, done, identifier_found, identifier_again}
+use Rattle.ber_codec.proofs.Lengths.{contents_found, contents_again}
+
+abbrev pub RunOf : Type 0 → Type 0
+RunOf A = Scope → Opened → Spot → Reading (A × Spot)
 
 abbrev pub Run : Type 0
-Run = Scope → Opened → Spot → Reading (Value × Spot)
+Run = RunOf Value
+
+abbrev pub RelationOf : Type 0 → Type 1
+RelationOf A = Bool → ℕ → A → List ℕ → Type 0
 
 abbrev pub Relation : Type 1
-Relation = Bool → ℕ → Value → List ℕ → Type 0
+Relation = RelationOf Value
 
 -- octets at a place were read as a value, and spell it
-pub record ReadAs (P : Relation) (scope : Scope) (place : ℕ) (rest : List ℕ) (v : Value) (to : Spot) : Type 0 where
+pub record ReadAs {A : Type 0} (P : RelationOf A) (scope : Scope) (place : ℕ) (rest : List ℕ) (v : A) (to : Spot) : Type 0 where
   pub text : List ℕ
   pub taken : Taken place rest text to
   pub spelled : P scope.strict scope.levels v text
   pub is_in : IsIn scope to.place
 
 -- what is read is spelled so
-pub record Found (r : Run) (P : Relation) : Type 0 where
-  pub found : (scope : Scope) (place : ℕ) (rest : List ℕ) (o : Opened) (s : Spot) (v : Value) (to : Spot)
+pub record Found {A : Type 0} (r : RunOf A) (P : RelationOf A) : Type 0 where
+  pub found : (scope : Scope) (place : ℕ) (rest : List ℕ) (o : Opened) (s : Spot) (v : A) (to : Spot)
       → AreOctets rest → identifier_at scope place rest ≡ Ok (o, s) → r scope o s ≡ Ok (v, to) → ReadAs P scope place rest v to
 
 -- a spelling is read as its value, whatever follows, and begins with an identifier that is allowed
-pub record ReadBack (B : Class → ℕ → Type 0) (r : Run) (scope : Scope) (place : ℕ) (text rest : List ℕ) (v : Value) : Type 0 where
+pub record ReadBack {A : Type 0} (B : Class → ℕ → Type 0) (r : RunOf A) (scope : Scope) (place : ℕ) (text rest : List ℕ) (v : A) : Type 0 where
   pub opened : Opened
   pub spot : Spot
   pub first : ℕ
@@ -52,11 +55,11 @@ pub record ReadBack (B : Class → ℕ → Type 0) (r : Run) (scope : Scope) (pl
   pub allowed : B opened.class opened.number
   pub reads : r scope opened spot ≡ Ok (v, record { place = place + length text; rest = rest })
 
-pub record Only (B : Class → ℕ → Type 0) (r : Run) (P : Relation) : Type 0 where
-  pub only : (scope : Scope) (place : ℕ) (v : Value) (text rest : List ℕ)
+pub record Only {A : Type 0} (B : Class → ℕ → Type 0) (r : RunOf A) (P : RelationOf A) : Type 0 where
+  pub only : (scope : Scope) (place : ℕ) (v : A) (text rest : List ℕ)
       → P scope.strict scope.levels v text → IsIn scope (place + length text) → ReadBack B r scope place text rest v
 
-pub only_wider : (B D : Class → ℕ → Type 0) (r : Run) (P : Relation) → ((c : Class) (k : ℕ) → B c k → D c k) → Only B r P → Only D r P
+pub only_wider : {A : Type 0} (B D : Class → ℕ → Type 0) (r : RunOf A) (P : RelationOf A) → ((c : Class) (k : ℕ) → B c k → D c k) → Only B r P → Only D r P
 only_wider B D r P w h = record {
   only = λ scope place v text rest p here.
       let x = h.only scope place v text rest p here in
@@ -170,9 +173,33 @@ head_some class constructed number (first ∷ others) tagged (inr h) = record { 
 
 -- ---- primitive values
 
-judge_is : (place : ℕ) (o : Option Value) (v : Value) → judge place (λ (x : Value). x) o ≡ Ok v → o ≡ Some v
+pub judge_is : {B : Type 0} (place : ℕ) (o : Option B) (v : B) → judge place (λ (x : B). x) o ≡ Ok v → o ≡ Some v
 judge_is place None v e = absurd cc
-judge_is place (Some x) v e = ap (λ (y : Value). Some y) (ok_is x v e)
+judge_is place (Some x) v e = ap (λ y. Some y) (ok_is x v e)
+
+form_by : (s c : Bool) (f : ReadFault) (x : Unit {0}) → s ≡ true → cond (s && not c) (Err f) (Ok tt) ≡ Ok x → c ≡ true
+form_by true true f x h e = refl
+form_by true false f x h e = absurd cc
+form_by false c f x h e = absurd cc
+
+-- what DER refuses was not refused
+pub form_ok : (scope : Scope) (place : ℕ) (canonical : Bool) (x : Unit {0}) → form_at scope place canonical ≡ Ok x → scope.strict ≡ true → canonical ≡ true
+form_ok scope place canonical x e h = form_by scope.strict canonical (faults.NotSpelled place Form) x h e
+
+lax_by : (s : Bool) (f : ReadFault) (x : Unit {0}) → cond (s && not false) (Err f) (Ok tt) ≡ Ok x → s ≡ false
+lax_by true f x e = absurd cc
+lax_by false f x e = refl
+
+pub form_lax : (scope : Scope) (place : ℕ) (x : Unit {0}) → form_at scope place false ≡ Ok x → scope.strict ≡ false
+form_lax scope place x e = lax_by scope.strict (faults.NotSpelled place Form) x e
+
+passes_by : (s c : Bool) (f : ReadFault) → (s ≡ true → c ≡ true) → cond {A = Reading (Unit {0})} (s && not c) (Err f) (Ok tt) ≡ Ok tt
+passes_by true true f h = refl
+passes_by true false f h = absurd (let wrong : false ≡ true = h refl in cc)
+passes_by false c f h = refl
+
+pub form_passes : (scope : Scope) (place : ℕ) (canonical : Bool) → (scope.strict ≡ true → canonical ≡ true) → form_at scope place canonical ≡ Ok tt
+form_passes scope place canonical h = passes_by scope.strict canonical (faults.NotSpelled place Form) h
 
 capped_small : (n m : ℕ) → m ≡ capped n → m < 2 ^ 32 → n ≡ m
 capped_small n m e lt = omega arith
@@ -185,31 +212,32 @@ tag_is tag constructed o number head is e h =
     let C : Class × Bool × ℕ → Type 0 = λ x. IsIdentifier x.0 x.1 x.2 head in
     subst C (λ i. (is.class i, is.form i, n i)) h
 
-pub prim_found : (rule : List ℕ → Option Value) (tag : tags.Tag) (P : Value → List ℕ → Type 0)
-    → ((c : List ℕ) (v : Value) → AreOctets c → rule c ≡ Some v → P v c)
-    → Found (primitive_at rule tag) (λ strict levels v text. IsPrimitive tag strict levels (P v) text)
+pub prim_found : {A : Type 0} (rule : List ℕ → Option A) (canonical : List ℕ → Bool) (tag : tags.Tag) (P : Bool → A → List ℕ → Type 0)
+    → ((strict : Bool) (c : List ℕ) (v : A) → AreOctets c → rule c ≡ Some v → (strict ≡ true → canonical c ≡ true) → P strict v c)
+    → Found (primitive_at rule canonical tag) (λ strict levels v text. IsPrimitive tag strict levels (P strict v) text)
 unfolding primitive_at
-prim_found rule tag P sound = record {
+prim_found {A} rule canonical tag P sound = record {
   found = λ scope place rest o s v to octets opens e.
       let i = identifier_found scope place rest o s octets opens in
       let b1 = bind_ok (expect_at tag false o) _ (v, to) e in
       let is = opened_as tag false o b1.0 b1.1 in
       let b2 = bind_ok (contents_at scope s.place s.rest) _ (v, to) b1.2 in
       let c = contents_found scope s.place s.rest b2.0.0 b2.0.1 b2.0.2 b2.1 in
-      let b3 = bind_ok (judge b2.0.0 (λ (x : Value). x) (rule b2.0.1)) _ (v, to) b2.2 in
-      let same = ok_is {A = Value × Spot} (b3.0, b2.0.2) (v, to) b3.2 in
-      let v-is : b3.0 ≡ v = ap (λ (x : Value × Spot). x.0) same in
-      let to-is : b2.0.2 ≡ to = ap (λ (x : Value × Spot). x.1) same in
-      let ruled : rule b2.0.1 ≡ Some v = judge_is b2.0.0 (rule b2.0.1) b3.0 b3.1 ∙ ap (λ (y : Value). Some y) v-is in
+      let b3 = bind_ok (judge b2.0.0 (λ (x : A). x) (rule b2.0.1)) _ (v, to) b2.2 in
+      let b4 = bind_ok (form_at scope b2.0.0 (canonical b2.0.1)) _ (v, to) b3.2 in
+      let same = ok_is {A = A × Spot} (b3.0, b2.0.2) (v, to) b4.2 in
+      let v-is : b3.0 ≡ v = ap (λ (x : A × Spot). x.0) same in
+      let to-is : b2.0.2 ≡ to = ap (λ (x : A × Spot). x.1) same in
+      let ruled : rule b2.0.1 ≡ Some v = judge_is b2.0.0 (rule b2.0.1) b3.0 b3.1 ∙ ap (λ (y : A). Some y) v-is in
       let behind : AreOctets s.rest = taken_octets place rest i.head s i.taken octets in
       let inner : AreOctets b2.0.1 = octets_right c.size b2.0.1 (octets_left (c.size ++ b2.0.1) b2.0.2.rest (subst AreOctets c.taken.parts behind)) in
-      subst (λ (y : Spot). ReadAs (λ strict levels v text. IsPrimitive tag strict levels (P v) text) scope place rest v y) to-is (record {
+      subst (λ (y : Spot). ReadAs (λ strict levels v text. IsPrimitive tag strict levels (P strict v) text) scope place rest v y) to-is (record {
         text = i.head ++ (c.size ++ b2.0.1);
         taken = taken_then place rest i.head (c.size ++ b2.0.1) s b2.0.2 i.taken c.taken;
         spelled = record {
           level = i.level;
           small = is.small;
-          form = record { head = i.head; size = c.size; contents = b2.0.1; is_identifier = tag_is tag false o i.number i.head is i.capped_number i.is_identifier; is_length = c.is_length; holds = sound b2.0.1 v inner ruled; are = refl };
+          form = record { head = i.head; size = c.size; contents = b2.0.1; is_identifier = tag_is tag false o i.number i.head is i.capped_number i.is_identifier; is_length = c.is_length; holds = sound scope.strict b2.0.1 v inner ruled (form_ok scope b2.0.0 (canonical b2.0.1) b4.0 b4.1); are = refl };
         };
         is_in = c.is_in;
       });
@@ -231,11 +259,11 @@ tag_again scope place tag constructed head rest h small level here =
     identifier_again scope place tag.class constructed tag.number head rest h level here
     ∙ ap (λ (k : ℕ). Ok (record { start = record { place = place; rest = head ++ rest }; class = tag.class; constructed = constructed; number = k }, record { place = place + length head; rest = rest })) (capped_is tag.number small)
 
-pub prim_only : (rule : List ℕ → Option Value) (tag : tags.Tag) (P : Value → List ℕ → Type 0) → is_no_tag tag.class tag.number ≡ false
-    → ((c : List ℕ) (v : Value) → P v c → rule c ≡ Some v)
-    → Only (OfTag tag) (primitive_at rule tag) (λ strict levels v text. IsPrimitive tag strict levels (P v) text)
+pub prim_only : {A : Type 0} (rule : List ℕ → Option A) (canonical : List ℕ → Bool) (tag : tags.Tag) (P : Bool → A → List ℕ → Type 0) → is_no_tag tag.class tag.number ≡ false
+    → ((strict : Bool) (c : List ℕ) (v : A) → P strict v c → (rule c ≡ Some v) × (strict ≡ true → canonical c ≡ true))
+    → Only (OfTag tag) (primitive_at rule canonical tag) (λ strict levels v text. IsPrimitive tag strict levels (P strict v) text)
 unfolding primitive_at
-prim_only rule tag P tagged complete = record {
+prim_only {A} rule canonical tag P tagged complete = record {
   only = λ scope place v text rest p here.
       let f = p.form in
       let h = head_some tag.class false tag.number f.head tagged f.is_identifier in
@@ -247,6 +275,7 @@ prim_only rule tag P tagged complete = record {
       let to-is : place + length text ≡ at + length f.size + length f.contents = omega arith in
       let opens = tag_again scope place tag false f.head (f.size ++ (f.contents ++ rest)) f.is_identifier p.small p.level (in_before scope at (place + length text) (omega arith) here) in
       let contents = contents_again scope at f.size f.contents rest f.is_length (subst (IsIn scope) to-is here) in
+      let ruled = complete scope.strict f.contents v f.holds in
       record {
         opened = o;
         spot = record { place = at; rest = f.size ++ (f.contents ++ rest) };
@@ -256,7 +285,7 @@ prim_only rule tag P tagged complete = record {
         some = h.some;
         opens = ap (identifier_at scope place) whole ∙ opens;
         allowed = (refl, refl);
-        reads = rw (expected tag false start p.small, contents, complete f.contents v f.holds)
+        reads = rw (expected tag false start p.small, contents, ruled.0, form_passes scope (at + length f.size) (canonical f.contents) ruled.1)
             (ap (λ (n : ℕ). Ok (v, record { place = n; rest = rest })) (sym to-is));
       };
 }

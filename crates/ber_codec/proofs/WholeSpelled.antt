@@ -8,7 +8,7 @@ use Rattle.asn1_types.specs.declared.row.Class.TheVariants.{Universal, Applicati
 use Rattle.asn1_types.specs.declared.row.Part.{Part}
 use Rattle.asn1_types.specs.declared.row.TypeRow.{TypeRow}
 use Rattle.asn1_types.specs.declared.row.TypeRow.TheVariants as row
-use Rattle.asn1_types.specs.Rows.{is_no_tag}
+use Rattle.asn1_types.specs.Rows.{is_no_tag, text_number}
 use Rattle.asn1_types.specs.Table.{IsSound, is_bad_range}
 use Rattle.asn1_types.specs.Value.{Value, boolean, integer, null, octets, bits, object_id, text, parts, list, chosen, any}
 use Rattle.asn1_types.specs.Whole.{number_256, behind_digits, behind_high, behind_identifier, is_counted, is_sized, is_sized_behind, is_whole}
@@ -16,10 +16,14 @@ use Rattle.asn1_types.specs.Fits.{fits}
 use Rattle.asn1_types.proofs.Sound.{sound_row}
 use Rattle.ber_codec.specs.declared.spot.Tag as tags
 use Rattle.ber_codec.specs.Fields.{number_from}
-use Rattle.ber_codec.specs.Rules.{tag_or}
-use Rattle.ber_codec.specs.Spelling.{AreDigits, low_bits, number_128, IsBase128, leading, IsIdentifier, IsLong, IsLength, IsDefinite, IsIndefinite, IsPrimitive, IsConstructed, IsWhole, Spelled, SequenceIs, ChoiceIs, IntegerIs, NullIs, ObjectIdIs, AnyIs, RowIs, RowOr, SpelledBy, Spells, OrExplicit}
+use Rattle.ber_codec.specs.declared.spot.StringKind.{StringKind}
+use Rattle.ber_codec.specs.declared.spot.StringKind.TheVariants.{OfOctets, OfBits}
+use Rattle.ber_codec.specs.Rules.{tag_or, string_rule, whole_octets, whole_bits, whole_text, has_zero_bits, always}
+use Rattle.ber_codec.specs.declared.spot.Gathered.{Gathered}
+use Rattle.ber_codec.specs.Spelling.{AreDigits, low_bits, number_128, IsBase128, leading, IsIdentifier, IsLong, IsLength, IsDefinite, IsIndefinite, IsPrimitive, IsConstructed, IsWhole, Spelled, SequenceIs, ChoiceIs, BooleanIs, IntegerIs, EnumeratedIs, StringIs, ListIs, NullIs, ObjectIdIs, AnyIs, RowIs, RowOr, SpelledBy, Spells, OrExplicit}
 use Rattle.ber_codec.specs.Writing.{written}
 use Rattle.ber_codec.proofs.Identifiers.{low_at}
+use Rattle.ber_codec.proofs.RowLaws.{text_tag}
 use Rattle.ber_codec.proofs.Written.{written_spelled}
 use Rattle.ber_codec.proofs.Wholes.{whole_is}
 
@@ -159,6 +163,12 @@ constructed_whole tag levels P s t p = by_form p.form
     by_form (inl d) = definite_whole true tag (P p.inner) s t d
     by_form (inr i) = let no : true ≡ false = i.0 in absurd cc
 
+-- in DER a string is one segment
+string_whole : (kind : StringKind) (whole : Gathered → Option Value) (canonical : List ℕ → Bool) (tag : tags.Tag) (levels : ℕ) (v : Value) (s : List ℕ) → is_no_tag tag.class tag.number ≡ false
+    → StringIs kind whole canonical tag true levels v s → IsWhole s
+string_whole kind whole canonical tag levels v s t (inl p) = primitive_whole tag levels (λ c. (string_rule kind whole c ≡ Some v) × (true ≡ true → canonical c ≡ true)) s t p
+string_whole kind whole canonical tag levels v s t (inr p) = absurd (let no : true ≡ false = p.0 in cc)
+
 -- what holds of a row: each DER spelling under a tag that isn't UNIVERSAL 0 is whole
 record AreWhole (rel : Spelled) : Type 0 where
   is : (t : Option tags.Tag) (levels : ℕ) (v : Value) (s : List ℕ) → OkTag t → rel t true levels v s → IsWhole s
@@ -195,17 +205,17 @@ module _ (rel : ℕ → Spelled) (each : (m : ℕ) → AreWhole (rel m)) where
   chosen_whole ps levels (any x) s p = absurd p
 
   row_whole : (r : TypeRow) → is_bad_range r ≡ false → (t : Option tags.Tag) (levels : ℕ) (v : Value) (s : List ℕ) → OkTag t → RowIs rel r t true levels v s → IsWhole s
-  row_whole row.Boolean good t levels v s ok p = absurd p
+  row_whole row.Boolean good t levels v s ok p = primitive_whole (tag_or t Universal 1) levels (BooleanIs true v) s (tag_ok t Universal 1 ok refl) p
   row_whole (row.Integer low high) good t levels v s ok p = primitive_whole (tag_or t Universal 2) levels (IntegerIs low high v) s (tag_ok t Universal 2 ok refl) p
-  row_whole (row.Enumerated items) good t levels v s ok p = absurd p
+  row_whole (row.Enumerated items) good t levels v s ok p = primitive_whole (tag_or t Universal 10) levels (EnumeratedIs items v) s (tag_ok t Universal 10 ok refl) p
   row_whole row.Null good t levels v s ok p = primitive_whole (tag_or t Universal 5) levels (NullIs v) s (tag_ok t Universal 5 ok refl) p
-  row_whole (row.OctetString most) good t levels v s ok p = absurd p
-  row_whole row.BitString good t levels v s ok p = absurd p
+  row_whole (row.OctetString most) good t levels v s ok p = string_whole OfOctets (whole_octets most) always (tag_or t Universal 4) levels v s (tag_ok t Universal 4 ok refl) p
+  row_whole row.BitString good t levels v s ok p = string_whole OfBits whole_bits has_zero_bits (tag_or t Universal 3) levels v s (tag_ok t Universal 3 ok refl) p
   row_whole row.ObjectId good t levels v s ok p = primitive_whole (tag_or t Universal 6) levels (ObjectIdIs v) s (tag_ok t Universal 6 ok refl) p
-  row_whole (row.Text kind) good t levels v s ok p = absurd p
+  row_whole (row.Text kind) good t levels v s ok p = string_whole OfOctets (whole_text kind) always (tag_or t Universal (text_number kind)) levels v s (tag_ok t Universal (text_number kind) ok (text_tag kind)) p
   row_whole (row.Sequence ps) good t levels v s ok p = constructed_whole (tag_or t Universal 16) levels (SequenceIs rel true ps v) s (tag_ok t Universal 16 ok refl) p
   row_whole (row.Set ps) good t levels v s ok p = absurd p
-  row_whole (row.SequenceOf of) good t levels v s ok p = absurd p
+  row_whole (row.SequenceOf of) good t levels v s ok p = constructed_whole (tag_or t Universal 16) levels (ListIs (rel of.0) true v) s (tag_ok t Universal 16 ok refl) p
   row_whole (row.Choice ps) good t levels v s ok p = explicit_whole (ChoiceIs rel ps) (chosen_whole ps) t levels v s ok p
   row_whole (row.Tagged class number true of) good t levels v s ok p =
       constructed_whole (tag_or t class number) levels (λ l contents. rel of.0 None true l v contents) s (tag_ok t class number ok good) p

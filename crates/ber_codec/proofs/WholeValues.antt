@@ -1,24 +1,22 @@
 -- The laws of reading whole values.
-use Rattle.std.proofs.Common.{◌≡◌, ◌≢◌, ℕ, zero, suc, ◌+◌, ◌-◌, ◌≤◌, ◌<◌, Bool, true, false, List, [], ◌∷◌, ◌++◌, length, take, drop, Option, Some, None, Result, Ok, Err, refl, sym, ap, ◌∙◌, subst, arith, length-append, append_assoc, IfOk}
+use Rattle.std.proofs.Common.{◌≡◌, ◌≢◌, ℕ, ◌+◌, ◌≤◌, Bool, List, [], ◌++◌, length, take, drop, None, Result, Ok, Err, refl, sym, ap, ◌∙◌, subst, arith, length-append, IfOk, ◌⊎◌, inl, inr}
 use Rattle.std.proofs.lemmas.List.{append-nil, take_at, take-append-drop, length-take}
 use Rattle.asn1_types.specs.declared.row.TypeRow.{TypeRow}
-use Rattle.asn1_types.specs.Rows.{begins}
 use Rattle.asn1_types.specs.Table.{IsSound}
 use Rattle.asn1_types.specs.Value.{Value}
 use Rattle.ber_codec.specs.declared.fault.ReadFault.{ReadFault}
 use Rattle.ber_codec.specs.declared.fault.ReadFault.TheVariants as faults
 use Rattle.ber_codec.specs.declared.public.Read.{Read}
-use Rattle.ber_codec.specs.declared.spot.Scope.{Scope}
 use Rattle.ber_codec.specs.Octets.{AreOctets}
-use Rattle.ber_codec.specs.Reading.{Spot, Opened, Reading, ◌>>=◌, Gives, Fails}
+use Rattle.ber_codec.specs.Reading.{Spot, Reading, Gives}
 use Rattle.ber_codec.specs.Fields.{identifier_at}
 use Rattle.ber_codec.specs.Rules.{reads, value_at, read_at, outermost}
 use Rattle.ber_codec.specs.Spelling.{SpelledBy, Spells}
-use Rattle.ber_codec.specs.Laws.{IsRead, ReadIsSpelled, SpelledIsRead, NoneBegins, ReadStays, FaultStays, BeginningIsShort}
+use Rattle.ber_codec.specs.Laws.{IsRead, ReadIsSpelled, SpelledIsRead, NoneBegins, ReadStays, FaultStays, BeginningIsShort, BeginsSpelled, OneHolds, OneOfThree}
 use Rattle.ber_codec.proofs.Identifiers.{IsIn, bind_ok, ok_is}
-use Rattle.ber_codec.proofs.Growing.{grown, Grows, Grows-bind, with_spot, with_opened, identifier_grows}
+use Rattle.ber_codec.proofs.Growing.{Grows, Grows-bind, with_spot, with_opened, identifier_grows}
 use Rattle.ber_codec.proofs.GrowingRules.{along_grows}
-use Rattle.ber_codec.proofs.Steady.{ReadAs, ReadBack, octets_left}
+use Rattle.ber_codec.proofs.Steady.{octets_left}
 use Rattle.ber_codec.proofs.RowLaws.{along_found, along_only}
 
 pub read_is_spelled : ReadIsSpelled
@@ -132,3 +130,23 @@ is_only rows n strict limit bytes result sound e v k le p =
     let len : length (take k bytes) ≡ k = omega (arith, length-take k bytes) in
     let same : read_at rows n strict limit bytes ≡ Ok (v, k) = ap (read_at rows n strict limit) (sym (take-append-drop k bytes)) ∙ read ∙ ap (λ (j : ℕ). Ok (v, j)) len in
     is_read v k result (subst (λ (r : Reading (Value × ℕ)). Gives (λ x. (x.value, x.used)) result r) same e)
+
+-- ---- one of three
+
+pub one_of_three : OneOfThree
+one_of_three rows n strict limit bytes sound are = by_case (read_at rows n strict limit bytes) refl
+  where
+    not_spelled : (f : ReadFault) → read_at rows n strict limit bytes ≡ Err f → BeginsSpelled rows n strict limit bytes → ⊥
+    not_spelled f e p =
+        let read = spelled_is_read rows n strict limit p.0 (take p.1 bytes) (drop p.1 bytes) sound p.3 in
+        let same : read_at rows n strict limit bytes ≡ done (p.0, length (take p.1 bytes)) = ap (read_at rows n strict limit) (sym (take-append-drop p.1 bytes)) ∙ read in
+        let wrong : Err f ≡ done (p.0, length (take p.1 bytes)) = sym e ∙ same in
+        cc
+
+    by_case : (r : Reading (Value × ℕ)) → read_at rows n strict limit bytes ≡ r → OneHolds rows n strict limit bytes
+    by_case (Ok x) e = let found = read_is_spelled rows n strict limit bytes x.0 x.1 are e in inl ((x.0, x.1, found.0, found.1), λ f q. let wrong : done x ≡ Err f = sym e ∙ q in cc)
+    by_case (Err faults.Short) e = inr (inr (not_spelled faults.Short e, e))
+    by_case (Err (faults.NotSpelled place kind)) e = inr (inl (not_spelled (faults.NotSpelled place kind) e, faults.NotSpelled place kind, (λ q. cc), e))
+    by_case (Err (faults.TooDeep place)) e = inr (inl (not_spelled (faults.TooDeep place) e, faults.TooDeep place, (λ q. cc), e))
+    by_case (Err (faults.TooLong place)) e = inr (inl (not_spelled (faults.TooLong place) e, faults.TooLong place, (λ q. cc), e))
+    by_case (Err faults.NoMemory) e = inr (inl (not_spelled faults.NoMemory e, faults.NoMemory, (λ q. cc), e))

@@ -1,6 +1,6 @@
 -- One whole value, as `fits` tests it.
-use Rattle.std.proofs.Common.{◌≡◌, ◌≢◌, ℕ, zero, suc, ◌+◌, ◌-◌, ◌*◌, ◌/◌, ◌%◌, ◌^◌, ◌<◌, ◌≤◌, Bool, true, false, not, ◌&&◌, ◌||◌, cond, List, [], ◌∷◌, ◌++◌, length, take, drop, Option, Some, None, refl, sym, ap, ◌∙◌, subst, arith, length-take, ◌⊎◌, inl, inr}
-use Rattle.std.specs.Prelude.{nat_lt, nat_le, nat_eq, slice_index}
+use Rattle.std.proofs.Common.{◌≡◌, ◌≢◌, ℕ, ◌+◌, ◌-◌, ◌*◌, ◌%◌, ◌<◌, ◌≤◌, Bool, true, false, ◌&&◌, ◌||◌, cond, List, [], ◌∷◌, ◌++◌, length, take, drop, Option, Some, None, refl, sym, ap, ◌∙◌, arith, length-take, inl, inr}
+use Rattle.std.specs.Prelude.{nat_lt, nat_le, nat_eq}
 use Rattle.std.proofs.lemmas.Bool.{cases_lt, lt-ltb, le-ltb, ltb-true, ltb-false, leb-true, leb-false, eqb-true, eqb-false, ne_eqb}
 use Rattle.std.proofs.lemmas.List.{take-append-drop, length-drop}
 use Rattle.asn1_types.specs.declared.row.Class.{Class}
@@ -8,7 +8,7 @@ use Rattle.asn1_types.specs.declared.row.Class.TheVariants.{Universal, Applicati
 use Rattle.asn1_types.specs.Rows.{is_no_tag, same_class}
 use Rattle.asn1_types.specs.Whole.{number_256, behind_digits, behind_high, behind_identifier, is_counted, is_sized, is_sized_behind, is_whole}
 use Rattle.ber_codec.specs.Fields.{class_of, is_constructed, number_from}
-use Rattle.ber_codec.specs.Spelling.{AreDigits, low_bits, number_128, IsBase128, leading, IsIdentifier, IsLong, IsLength, IsWhole}
+use Rattle.ber_codec.specs.Spelling.{AreDigits, low_bits, number_128, IsBase128, leading, IsIdentifier, IsLength, IsWhole}
 use Rattle.ber_codec.proofs.Identifiers.{first_is}
 
 and_true : (a b : Bool) → (a && b) ≡ true → (a ≡ true) × (b ≡ true)

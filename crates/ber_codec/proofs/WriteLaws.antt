@@ -1,22 +1,22 @@
 -- What a row is written as goes by its rule.
-use Rattle.std.proofs.Common.{◌≡◌, ℕ, zero, suc, ◌+◌, ◌<◌, ◌≤◌, min, Bool, true, false, List, [], ◌∷◌, ◌++◌, length, drop, get_or, Option, Some, None, refl, sym, ap, ◌∙◌, subst, arith, append_assoc, ◌⊎◌, inl, inr}
+use Rattle.std.proofs.Common.{◌≡◌, ℕ, zero, suc, ◌<◌, ◌≤◌, min, true, false, List, [], ◌∷◌, ◌++◌, length, drop, get_or, Option, Some, None, refl, sym, ap, arith, ◌⊎◌, inl, inr}
 use Rattle.std.specs.Prelude.{slice_get}
-use Rattle.std.specs.List.{AllByRecursion, flat_map}
+use Rattle.std.specs.List.{AllByRecursion}
 use Rattle.std.proofs.lemmas.Option.{slice_get_past}
 use Rattle.std.proofs.lemmas.Bool.{cases_lt}
 use Rattle.asn1_types.specs.declared.row.Class.TheVariants.{Universal}
 use Rattle.asn1_types.specs.declared.row.Part.{Part}
 use Rattle.asn1_types.specs.declared.row.TypeRow.{TypeRow}
 use Rattle.asn1_types.specs.declared.row.TypeRow.TheVariants.{Boolean, Integer, Enumerated, Null, OctetString, BitString, ObjectId, Text, Sequence, Set, SequenceOf, Choice, Tagged, Any}
-use Rattle.asn1_types.specs.Rows.{of_row, along, names_of, rows_of_parts}
+use Rattle.asn1_types.specs.Rows.{along, names_of, rows_of_parts}
 use Rattle.asn1_types.specs.Table.{IsSound}
 use Rattle.asn1_types.specs.Value.{Value, MaybeValues, no_parts, absent, present}
-use Rattle.asn1_types.specs.ValueView.{parts_of}
+use Rattle.asn1_types.specs.ValueView.{parts_of, values_of}
 use Rattle.asn1_types.proofs.Along.{settled}
 use Rattle.asn1_types.proofs.Sound.{is_down}
 use Rattle.ber_codec.specs.declared.spot.Tag as tags
 use Rattle.ber_codec.specs.Rules.{tag_or}
-use Rattle.ber_codec.specs.Writing.{Writer, part_contents, parts_contents, sequence_contents, alternative_written, choice_written, definite, under, tagged_written, nothing_written, write_by, writes, base_128}
+use Rattle.ber_codec.specs.Writing.{Writer, part_contents, parts_contents, sequence_contents, values_contents, list_contents, alternative_written, choice_written, definite, under, tagged_written, nothing_written, write_by, writes}
 
 module _ (f g : ℕ → Writer) where
   parts_same : (ps : List Part) → AllByRecursion (λ m. f m ≡ g m) (rows_of_parts ps) → (vs : MaybeValues) → parts_contents f ps vs ≡ parts_contents g ps vs
@@ -41,7 +41,7 @@ write_cong ObjectId f g h = refl
 write_cong (Text kind) f g h = refl
 write_cong (Sequence ps) f g h = λ i tag v. definite true (tag_or tag Universal 16) (sequence_contents (λ vs. parts_same f g ps h vs i) v)
 write_cong (Set ps) f g h = refl
-write_cong (SequenceOf inner) f g h = refl
+write_cong (SequenceOf inner) f g h = λ i tag v. definite true (tag_or tag Universal 16) (list_contents (h.0 i) v)
 write_cong (Choice ps) f g h = λ i. under (choice_written (λ which. alternative_same f g ps h which i))
 write_cong (Tagged class number true inner) f g h = λ i. tagged_written true (h.0 i) class number
 write_cong (Tagged class number false inner) f g h = λ i. tagged_written false (h.0 i) class number
@@ -87,3 +87,13 @@ parts_begin f ps vs old i e = ap (λ (x : List ℕ). x ++ old) (sym (parts_none 
   where
     past : (a b i : ℕ) → i ≡ min a b → (a ≤ i) ⊎ (b ≤ i)
     past a b i e = elim (cases_lt a b) [ inl lt ↦ inl (omega arith) | inr ge ↦ inr (omega arith) ]
+
+pub values_before : (f : Writer) (vs : List Value) (i : ℕ) (v : Value) → i < length vs → v ≡ get_or vs i v → values_contents f (values_of (drop i vs)) ≡ f None v ++ values_contents f (values_of (drop (suc i) vs))
+values_before f [] i v lt e = absurd (omega arith)
+values_before f (w ∷ vs) zero v lt e = rw e refl
+values_before f (w ∷ vs) (suc i) v lt e = values_before f vs i v (omega arith) e
+
+pub values_none : (f : Writer) (vs : List Value) (old : List ℕ) (i : ℕ) → i ≡ length vs → old ≡ values_contents f (values_of (drop i vs)) ++ old
+values_none f [] old i e = ap (λ (k : ℕ). values_contents f (values_of (drop k [])) ++ old) (sym e)
+values_none f (v ∷ vs) old zero e = absurd (omega arith)
+values_none f (v ∷ vs) old (suc i) e = values_none f vs old i (omega arith)

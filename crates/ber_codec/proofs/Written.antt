@@ -1,27 +1,33 @@
 -- What is written of a value that fits is spelled so.
-use Rattle.std.proofs.Common.{◌≡◌, ◌≢◌, ℕ, zero, suc, ◌+◌, ◌-◌, ◌*◌, ◌/◌, ◌%◌, ◌^◌, ◌<◌, ◌≤◌, max, ℤ, pos, negsuc, ◌≤ℤ◌, Bool, true, false, not, ◌&&◌, ◌||◌, cond, List, [], ◌∷◌, ◌++◌, length, take, drop, Option, Some, None, refl, sym, ap, ◌∙◌, subst, arith, length-append, length-take, ◌⊎◌, inl, inr}
-use Rattle.std.specs.Prelude.{slice_get, nat_lt, nat_le, nat_eq, int_lt}
+use Rattle.std.proofs.Common.{◌≡◌, ℕ, zero, suc, ◌+◌, ◌-◌, ◌%◌, ◌^◌, ◌<◌, ◌≤◌, ℤ, pos, negsuc, ◌≤ℤ◌, Bool, true, false, not, ◌&&◌, cond, List, [], ◌∷◌, ◌++◌, length, take, Option, Some, None, refl, sym, ap, ◌∙◌, subst, arith, append_assoc, length-append, inl, inr}
+use Rattle.std.specs.Prelude.{slice_get, slice_index, slice_set, nat_lt, nat_le, nat_eq, int_lt}
 use Rattle.std.specs.List.{AllByRecursion, list_all}
-use Rattle.std.proofs.lemmas.Bool.{ltb-true, ltb-false}
+use Rattle.std.proofs.lemmas.Bool.{ltb-true, ltb-false, eqb-true, ne_eqb, lt-leb}
+use Rattle.std.proofs.lemmas.List.{append-nil}
 use Rattle.std.proofs.lemmas.Option.{slice_get_within}
 use Rattle.std.proofs.lemmas.Int.{ints}
 use Rattle.osi_base.specs.Oid.{is_oid}
 use Rattle.asn1_types.specs.declared.row.Class.{Class}
 use Rattle.asn1_types.specs.declared.row.Class.TheVariants.{Universal}
 use Rattle.asn1_types.specs.declared.row.Part.{Part}
+use Rattle.asn1_types.specs.declared.row.Item.{Item}
+use Rattle.asn1_types.specs.declared.row.TextKind.{TextKind}
+use Rattle.asn1_types.specs.declared.row.TextKind.TheVariants.{Utf8, Ia5, Visible, Printable, Numeric}
 use Rattle.asn1_types.specs.declared.row.TypeRow.{TypeRow}
 use Rattle.asn1_types.specs.declared.row.TypeRow.TheVariants as row
-use Rattle.asn1_types.specs.Rows.{of_row, along, names_of, rows_of_parts, greatest, nesting, nesting_by}
-use Rattle.asn1_types.specs.Table.{IsSound, deepest}
+use Rattle.asn1_types.specs.Rows.{of_row, along, names_of, rows_of_parts, greatest, nesting, nesting_by, text_number}
+use Rattle.asn1_types.specs.Table.{IsSound}
 use Rattle.asn1_types.specs.Value.{Value, boolean, integer, null, octets, bits, object_id, text, parts, list, chosen, any, MaybeValues, no_parts, absent, present, Values, no_values, value}
+use Rattle.asn1_types.specs.ValueView.{values_of}
 use Rattle.asn1_types.specs.Whole.{is_whole}
-use Rattle.asn1_types.specs.Fits.{is_number, has_32_bits, integer_fits, null_fits, object_id_fits, part_fits, parts_fit, sequence_fits, alternative_fits, choice_fits, any_fits, fits_by, nothing_fits, fits}
+use Rattle.asn1_types.specs.Fits.{is_number, has_32_bits, is_octet, is_item, are_bits, is_text, boolean_fits, integer_fits, enumerated_fits, null_fits, octets_fit, bits_fit, text_fits, object_id_fits, values_fit, list_fits, parts_fit, sequence_fits, alternative_fits, choice_fits, any_fits, fits_by, nothing_fits, fits}
 use Rattle.asn1_types.proofs.Along.{settled}
 use Rattle.asn1_types.proofs.Sound.{is_down, taken, nesting_cong, nesting_before}
 use Rattle.ber_codec.specs.declared.spot.Tag as tags
-use Rattle.ber_codec.specs.Rules.{tag_or}
-use Rattle.ber_codec.specs.Spelling.{Spelled, IsPrimitive, IsConstructed, IsWhole, PartsAre, SequenceIs, ChoiceIs, IntegerIs, NullIs, ObjectIdIs, AnyIs, RowIs, RowOr, SpelledBy, Spells, OrExplicit, subidentifiers}
-use Rattle.ber_codec.specs.Writing.{Writer, definite, integer_octets, integer_contents, object_id_contents, part_contents, parts_contents, sequence_contents, alternative_written, choice_written, any_written, under, write_by, nothing_written, writes, written}
+use Rattle.ber_codec.specs.declared.spot.StringKind.TheVariants.{OfOctets, OfBits}
+use Rattle.ber_codec.specs.Rules.{tag_or, always, string_rule, whole_octets, whole_text, cleared, whole_bits, has_zero_bits}
+use Rattle.ber_codec.specs.Spelling.{Spelled, IsPrimitive, IsConstructed, IsWhole, PartsAre, SequenceIs, ChoiceIs, Steps, ListStep, ListIs, BooleanIs, EnumeratedIs, IntegerIs, NullIs, ObjectIdIs, AnyIs, RowIs, RowOr, SpelledBy, Spells, OrExplicit, subidentifiers}
+use Rattle.ber_codec.specs.Writing.{Writer, definite, boolean_contents, integer_contents, octets_contents, text_contents, bits_contents, object_id_contents, values_contents, list_contents, parts_contents, sequence_contents, alternative_written, choice_written, any_written, under, write_by, nothing_written, writes, written}
 use Rattle.ber_codec.proofs.WrittenFields.{definite_is, contents_short, Has64, integer_is, subidentifiers_are}
 
 abbrev Most : ℕ
@@ -69,6 +75,111 @@ integer_written low high (parts ps) e = absurd cc
 integer_written low high (list vs) e = absurd cc
 integer_written low high (chosen n v) e = absurd cc
 integer_written low high (any os) e = absurd cc
+
+boolean_written : (strict : Bool) (v : Value) → boolean_fits v ≡ true → BooleanIs strict v (boolean_contents v)
+boolean_written strict (boolean true) e = (255, refl, refl, λ s. inr refl)
+boolean_written strict (boolean false) e = (0, refl, refl, λ s. inl refl)
+boolean_written strict null e = absurd cc
+boolean_written strict (integer z) e = absurd cc
+boolean_written strict (octets os) e = absurd cc
+boolean_written strict (bits os n) e = absurd cc
+boolean_written strict (object_id os) e = absurd cc
+boolean_written strict (text os) e = absurd cc
+boolean_written strict (parts ps) e = absurd cc
+boolean_written strict (list vs) e = absurd cc
+boolean_written strict (chosen n v) e = absurd cc
+boolean_written strict (any os) e = absurd cc
+
+enumerated_written : (items : List Item) (v : Value) → enumerated_fits items v ≡ true → EnumeratedIs items v (integer_contents v)
+enumerated_written items (integer z) e =
+    let a = and_true (is_number z) (is_item items z) e in
+    (integer_is z (has_64 z a.0), a.1)
+enumerated_written items null e = absurd cc
+enumerated_written items (boolean b) e = absurd cc
+enumerated_written items (octets os) e = absurd cc
+enumerated_written items (bits os n) e = absurd cc
+enumerated_written items (object_id os) e = absurd cc
+enumerated_written items (text os) e = absurd cc
+enumerated_written items (parts ps) e = absurd cc
+enumerated_written items (list vs) e = absurd cc
+enumerated_written items (chosen n v) e = absurd cc
+enumerated_written items (any os) e = absurd cc
+
+-- ---- strings
+
+octets_written : (most : ℕ) (v : Value) → octets_fit most v ≡ true → string_rule OfOctets (whole_octets most) (octets_contents v) ≡ Some v
+octets_written most (octets os) e = let a = and_true (list_all is_octet os) (nat_le (length os) most) e in rw a.1 refl
+octets_written most null e = absurd cc
+octets_written most (integer z) e = absurd cc
+octets_written most (boolean b) e = absurd cc
+octets_written most (bits os n) e = absurd cc
+octets_written most (object_id os) e = absurd cc
+octets_written most (text os) e = absurd cc
+octets_written most (parts ps) e = absurd cc
+octets_written most (list vs) e = absurd cc
+octets_written most (chosen n v) e = absurd cc
+octets_written most (any os) e = absurd cc
+
+text_written : (kind : TextKind) (v : Value) → text_fits kind v ≡ true → string_rule OfOctets (whole_text kind) (text_contents v) ≡ Some v
+text_written kind (text os) e = by_test (is_text kind os) (and_true (list_all is_octet os) (is_text kind os) e).1
+  where
+    by_test : (b : Bool) → b ≡ true → cond b (Some (text os)) None ≡ Some (text os)
+    by_test b t = rw t refl
+text_written kind null e = absurd cc
+text_written kind (integer z) e = absurd cc
+text_written kind (boolean b) e = absurd cc
+text_written kind (octets os) e = absurd cc
+text_written kind (bits os n) e = absurd cc
+text_written kind (object_id os) e = absurd cc
+text_written kind (parts ps) e = absurd cc
+text_written kind (list vs) e = absurd cc
+text_written kind (chosen n v) e = absurd cc
+text_written kind (any os) e = absurd cc
+
+set_same : (os : List ℕ) (i x : ℕ) → i < length os → x ≡ slice_index os i → slice_set os i x ≡ os
+set_same [] i x lt e = absurd (omega arith)
+set_same (o ∷ os) zero x lt e = ap (λ (y : ℕ). y ∷ os) e
+set_same (o ∷ os) (suc i) x lt e = ap (λ (ys : List ℕ). o ∷ ys) (set_same os i x (omega arith) e)
+
+few_bits : (unused : ℕ) → nat_lt unused 8 ≡ true → nat_le 8 unused ≡ false
+few_bits unused e = let lt : unused < 8 = ltb-true unused 8 e in lt-leb 8 unused lt
+
+cleared_same : (unused : ℕ) (o : ℕ) (os : List ℕ) → nat_eq (slice_index (o ∷ os) (length (o ∷ os) - 1) % 2 ^ unused) 0 ≡ true → cleared unused (o ∷ os) ≡ o ∷ os
+cleared_same unused o os e =
+    let last : ℕ = slice_index (o ∷ os) (length (o ∷ os) - 1) in
+    let zero_bits : last % 2 ^ unused ≡ 0 = eqb-true (last % 2 ^ unused) 0 e in
+    let same : last - last % 2 ^ unused ≡ last = omega arith in
+    rw (ne_eqb (length (o ∷ os)) 0 (λ f. omega arith)) (set_same (o ∷ os) (length (o ∷ os) - 1) (last - last % 2 ^ unused) (omega arith) same)
+
+bits_ruled : (os : List ℕ) (unused : ℕ) → are_bits os unused ≡ true → string_rule OfBits whole_bits (unused ∷ os) ≡ Some (bits os unused)
+bits_ruled [] unused e =
+    let a = and_true (nat_lt unused 8) (nat_eq unused 0) e in
+    rw (a.1, few_bits unused a.0) refl
+bits_ruled (o ∷ os) unused e =
+    let a = and_true (nat_lt unused 8) (cond (nat_eq (length (o ∷ os)) 0) (nat_eq unused 0) (nat_eq (slice_index (o ∷ os) (length (o ∷ os) - 1) % 2 ^ unused) 0)) e in
+    let some : nat_eq (length (o ∷ os)) 0 ≡ false = ne_eqb (length (o ∷ os)) 0 (λ f. omega arith) in
+    let zeros : nat_eq (slice_index (o ∷ os) (length (o ∷ os) - 1) % 2 ^ unused) 0 ≡ true = ap (λ (b : Bool). cond b (nat_eq unused 0) (nat_eq (slice_index (o ∷ os) (length (o ∷ os) - 1) % 2 ^ unused) 0)) (sym some) ∙ a.1 in
+    rw (a.0, few_bits unused a.0) (ap (λ (ys : List ℕ). Some (bits ys unused)) (cleared_same unused o os zeros))
+
+bits_written : (v : Value) → bits_fit v ≡ true → (string_rule OfBits whole_bits (bits_contents v) ≡ Some v) × (has_zero_bits (bits_contents v) ≡ true)
+bits_written (bits os unused) e = let a = and_true (list_all is_octet os) (are_bits os unused) e in (bits_ruled os unused a.1, a.1)
+bits_written null e = absurd cc
+bits_written (integer z) e = absurd cc
+bits_written (boolean b) e = absurd cc
+bits_written (octets os) e = absurd cc
+bits_written (object_id os) e = absurd cc
+bits_written (text os) e = absurd cc
+bits_written (parts ps) e = absurd cc
+bits_written (list vs) e = absurd cc
+bits_written (chosen n v) e = absurd cc
+bits_written (any os) e = absurd cc
+
+text_small : (kind : TextKind) → text_number kind < 2 ^ 32
+text_small Utf8 = omega arith
+text_small Ia5 = omega arith
+text_small Visible = omega arith
+text_small Printable = omega arith
+text_small Numeric = omega arith
 
 null_written : (v : Value) → null_fits v ≡ true → NullIs v []
 null_written null e = refl
@@ -135,6 +246,46 @@ module _ (fit : ℕ → Value → Bool) (write : ℕ → Writer) (rel : ℕ → 
   slot_written levels [] which v le e short = absurd cc
   slot_written levels (p ∷ ps) zero v le e short = (p, refl, (each p.inner.0).is None strict levels v tt (omega arith) e short)
   slot_written levels (p ∷ ps) (suc which) v le e short = slot_written levels ps which v (omega arith) e short
+
+  abbrev items_in : Values → List Value
+  items_in no_values = []
+  items_in (value v vs) = v ∷ items_in vs
+
+  items_same : (vs : Values) → values_of (items_in vs) ≡ vs
+  items_same no_values = refl
+  items_same (value v vs) = ap (value v) (items_same vs)
+
+  values_written : (of levels : ℕ) (before : List Value) (vs : Values) → nest of ≤ levels → values_fit (fit of) vs ≡ true → length (values_contents (write of) vs) < Most
+      → (steps : List (List ℕ × List Value)) × Steps (λ a b text. ListStep (rel of) a strict levels b text) steps before (before ++ items_in vs) (values_contents (write of) vs)
+  values_written of levels before no_values le e short = ([], (sym (append-nil before), refl))
+  values_written of levels before (value v vs) le e short =
+      let t = and_true (fit of v) (values_fit (fit of) vs) e in
+      let s = append_short (write of None v) (values_contents (write of) vs) short in
+      let more = values_written of levels (before ++ v ∷ []) vs le t.1 s.1 in
+      let ends : (before ++ v ∷ []) ++ items_in vs ≡ before ++ v ∷ items_in vs = append_assoc before (v ∷ []) (items_in vs) in (
+        (write of None v, before ++ v ∷ []) ∷ more.0,
+        (
+          values_contents (write of) vs,
+          refl,
+          (v, refl, (each of).is None strict levels v tt le t.0 s.0),
+          subst (λ (l : List Value). Steps (λ a b text. ListStep (rel of) a strict levels b text) more.0 (before ++ v ∷ []) l (values_contents (write of) vs)) ends more.1,
+        ),
+      )
+
+  list_written : (of levels : ℕ) (v : Value) → nest of ≤ levels → list_fits (fit of) v ≡ true → length (list_contents (write of) v) < Most → ListIs (rel of) strict v levels (list_contents (write of) v)
+  list_written of levels (list vs) le e short =
+      let w = values_written of levels [] vs le e short in
+      (items_in vs, ap (λ (x : Values). Some (list x)) (items_same vs), w.0, w.1)
+  list_written of levels null le e short = absurd cc
+  list_written of levels (integer z) le e short = absurd cc
+  list_written of levels (boolean b) le e short = absurd cc
+  list_written of levels (octets os) le e short = absurd cc
+  list_written of levels (bits os n) le e short = absurd cc
+  list_written of levels (object_id os) le e short = absurd cc
+  list_written of levels (text os) le e short = absurd cc
+  list_written of levels (parts ps) le e short = absurd cc
+  list_written of levels (chosen n v) le e short = absurd cc
+  list_written of levels (any os) le e short = absurd cc
 
   sequence_written : (levels : ℕ) (ps : List Part) (v : Value) → greatest nest (rows_of_parts ps) ≤ levels → sequence_fits (parts_fit fit ps) v ≡ true → length (sequence_contents (parts_contents write ps) v) < Most
       → SequenceIs rel strict ps v levels (sequence_contents (parts_contents write ps) v)
@@ -217,24 +368,37 @@ module _ (whole : (os : List ℕ) → is_whole os ≡ true → IsWhole os) where
     some_level (Some t) k levels le = omega arith
 
     row_is : (r : TypeRow) (t : Option tags.Tag) (strict : Bool) (levels : ℕ) (v : Value) → OkTag t → need t (nesting_by nest r) ≤ levels → fits_by fit r v ≡ true → length (write_by write r t v) < Most → RowIs rel r t strict levels v (write_by write r t v)
-    row_is row.Boolean t strict levels v ok le e short = absurd cc
+    row_is row.Boolean t strict levels v ok le e short =
+        primitive_is strict (tag_or t Universal 1) levels (BooleanIs strict v) (boolean_contents v) (tag_ok t Universal 1 ok (omega arith)) (omega (arith, some_level t 0 levels le)) short (boolean_written strict v e)
     row_is (row.Integer low high) t strict levels v ok le e short =
         primitive_is strict (tag_or t Universal 2) levels (IntegerIs low high v) (integer_contents v) (tag_ok t Universal 2 ok (omega arith)) (omega (arith, some_level t 0 levels le)) short (integer_written low high v e)
-    row_is (row.Enumerated items) t strict levels v ok le e short = absurd cc
+    row_is (row.Enumerated items) t strict levels v ok le e short =
+        primitive_is strict (tag_or t Universal 10) levels (EnumeratedIs items v) (integer_contents v) (tag_ok t Universal 10 ok (omega arith)) (omega (arith, some_level t 0 levels le)) short (enumerated_written items v e)
     row_is row.Null t strict levels v ok le e short =
         primitive_is strict (tag_or t Universal 5) levels (NullIs v) [] (tag_ok t Universal 5 ok (omega arith)) (omega (arith, some_level t 0 levels le)) short (null_written v e)
-    row_is (row.OctetString most) t strict levels v ok le e short = absurd cc
-    row_is row.BitString t strict levels v ok le e short = absurd cc
+    row_is (row.OctetString most) t strict levels v ok le e short =
+        inl (primitive_is strict (tag_or t Universal 4) levels (λ c. (string_rule OfOctets (whole_octets most) c ≡ Some v) × (strict ≡ true → always c ≡ true)) (octets_contents v) (tag_ok t Universal 4 ok (omega arith)) (omega (arith, some_level t 0 levels le)) short
+        (octets_written most v e, λ s. refl))
+    row_is row.BitString t strict levels v ok le e short =
+        let b = bits_written v e in
+        inl (primitive_is strict (tag_or t Universal 3) levels (λ c. (string_rule OfBits whole_bits c ≡ Some v) × (strict ≡ true → has_zero_bits c ≡ true)) (bits_contents v) (tag_ok t Universal 3 ok (omega arith)) (omega (arith, some_level t 0 levels le)) short
+        (b.0, λ s. b.1))
     row_is row.ObjectId t strict levels v ok le e short =
         primitive_is strict (tag_or t Universal 6) levels (ObjectIdIs v) (object_id_contents v) (tag_ok t Universal 6 ok (omega arith)) (omega (arith, some_level t 0 levels le)) short (object_id_written v e)
-    row_is (row.Text kind) t strict levels v ok le e short = absurd cc
+    row_is (row.Text kind) t strict levels v ok le e short =
+        inl (primitive_is strict (tag_or t Universal (text_number kind)) levels (λ c. (string_rule OfOctets (whole_text kind) c ≡ Some v) × (strict ≡ true → always c ≡ true)) (text_contents v) (tag_ok t Universal (text_number kind) ok (text_small kind)) (omega (arith, some_level t 0 levels le)) short
+        (text_written kind v e, λ s. refl))
     row_is (row.Sequence ps) t strict levels v ok le e short =
         let l = lower (greatest nest (rows_of_parts ps)) levels (some_level t (greatest nest (rows_of_parts ps)) levels le) in
         let c : List ℕ = sequence_contents (parts_contents write ps) v in
         constructed_is strict (tag_or t Universal 16) levels l.0 (SequenceIs rel strict ps v) c l.1 (tag_ok t Universal 16 ok (omega arith)) short
         (sequence_written fit write rel nest each strict l.0 ps v l.2 e (contents_short true (tag_or t Universal 16) c Most short))
     row_is (row.Set ps) t strict levels v ok le e short = absurd cc
-    row_is (row.SequenceOf of) t strict levels v ok le e short = absurd cc
+    row_is (row.SequenceOf of) t strict levels v ok le e short =
+        let l = lower (nest of.0) levels (omega (arith, some_level t (greatest nest (of.0 ∷ [])) levels le)) in
+        let c : List ℕ = list_contents (write of.0) v in
+        constructed_is strict (tag_or t Universal 16) levels l.0 (ListIs (rel of.0) strict v) c l.1 (tag_ok t Universal 16 ok (omega arith)) short
+        (list_written fit write rel nest each strict of.0 l.0 v l.2 e (contents_short true (tag_or t Universal 16) c Most short))
     row_is (row.Choice ps) t strict levels v ok le e short = choice_is ps t strict levels v ok le e short
     row_is (row.Tagged class number true of) t strict levels v ok le e short =
         let f = and_true (has_32_bits number) (fit of.0 v) e in

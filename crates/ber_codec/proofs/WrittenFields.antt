@@ -1,15 +1,14 @@
 -- Fields that are written are spelled so.
-use Rattle.std.proofs.Common.{◌≡◌, ◌≢◌, ℕ, zero, suc, ◌+◌, ◌-◌, ◌*◌, ◌/◌, ◌%◌, ◌^◌, ◌<◌, ◌≤◌, ℤ, pos, negsuc, ◌≤ℤ◌, Bool, true, false, not, ◌&&◌, ◌||◌, cond, List, [], ◌∷◌, ◌++◌, map, length, refl, sym, ap, ◌∙◌, subst, arith, append_assoc, length-append, ◌⊎◌, inl, inr}
-use Rattle.std.specs.Prelude.{slice_index, nat_lt, nat_le, nat_eq, int_lt}
+use Rattle.std.proofs.Common.{◌≡◌, ℕ, zero, suc, ◌+◌, ◌-◌, ◌*◌, ◌/◌, ◌%◌, ◌^◌, ◌<◌, ◌≤◌, ℤ, pos, negsuc, Bool, true, false, ◌||◌, cond, List, [], ◌∷◌, ◌++◌, map, length, refl, sym, ap, ◌∙◌, arith, length-append, inl, inr}
+use Rattle.std.specs.Prelude.{slice_index, nat_lt}
 use Rattle.std.specs.List.{AllByRecursion, flat_map}
-use Rattle.std.proofs.Math.Nat.{pow-suc, add-mul, mul_assoc, mul_comm}
-use Rattle.std.proofs.lemmas.Bool.{le-ltb, lt-ltb, ltb-true, ltb-false, ne_eqb, le-leb, lt-leb}
-use Rattle.std.proofs.lemmas.Int.{ints}
+use Rattle.std.proofs.Math.Nat.{pow-suc, mul_assoc, mul_comm}
+use Rattle.std.proofs.lemmas.Bool.{le-ltb, lt-ltb, ltb-true, ltb-false, ne_eqb, lt-leb}
 use Rattle.asn1_types.specs.declared.row.Class.{Class}
 use Rattle.ber_codec.specs.declared.spot.Tag as tags
 use Rattle.ber_codec.specs.Fields.{number_from}
 use Rattle.ber_codec.specs.Primitives.{is_padded, signed_of}
-use Rattle.ber_codec.specs.Spelling.{leading, IsIdentifier, IsLong, IsLength, IsDefinite, IsInteger, AreSubidentifiers}
+use Rattle.ber_codec.specs.Spelling.{leading, IsIdentifier, IsLength, IsDefinite, IsInteger, AreSubidentifiers}
 use Rattle.ber_codec.specs.Writing.{natural_octets, integer_octets, identifier, base_128, base_256, length_octets, definite}
 use Rattle.ber_codec.proofs.Digits.{split_256, base_128_is, base_256_few, base_256_number, base_256_first, some_first, by_turns}
 

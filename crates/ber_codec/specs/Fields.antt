@@ -1,10 +1,9 @@
 -- Identifiers, lengths and the ends of contents, read from the left (X.690 8.1).
-use Rattle.std.specs.Prelude.{ℕ, zero, suc, ◌+◌, ◌-◌, ◌*◌, ◌/◌, ◌%◌, ◌^◌, min, Bool, true, false, not, ◌&&◌, ◌||◌, Option, Some, None, List, [], ◌∷◌, length, take, drop, Result, Ok, Err, nat_lt, nat_le, nat_eq, slice_index, if◌then◌else◌}
-use Rattle.osi_base.specs.declared.words.Kind.TheVariants.{Tag, Missing, Extra, Length, Content, Form}
+use Rattle.std.specs.Prelude.{ℕ, ◌+◌, ◌-◌, ◌*◌, ◌/◌, ◌%◌, ◌^◌, min, Bool, true, false, not, ◌&&◌, ◌||◌, Option, Some, None, List, [], ◌∷◌, length, take, drop, Ok, Err, nat_lt, nat_le, nat_eq, slice_index, if◌then◌else◌}
+use Rattle.osi_base.specs.declared.words.Kind.TheVariants.{Tag, Length, Form}
 use Rattle.asn1_types.specs.declared.row.Class.{Class}
 use Rattle.asn1_types.specs.declared.row.Class.TheVariants.{Universal, Application, Context, Private}
-use Rattle.ber_codec.specs.declared.fault.ReadFault.{ReadFault}
-use Rattle.ber_codec.specs.declared.fault.ReadFault.TheVariants.{Short, TooDeep, TooLong}
+use Rattle.ber_codec.specs.declared.fault.ReadFault.TheVariants.{Short, TooDeep}
 use Rattle.ber_codec.specs.declared.spot.Scope.{Scope}
 use Rattle.ber_codec.specs.Reading.{Spot, Opened, Ahead, ended, begun, Reading, ◌>>=◌, refuse, is_past, within}
 

@@ -1,13 +1,12 @@
 -- The laws of reading and of spellings.
-use Rattle.std.specs.Prelude.{◌≡◌, ◌≢◌, ℕ, ◌+◌, ◌<◌, ◌≤◌, ◌^◌, Bool, true, List, ◌++◌, length, take, Option, Some, None, Result, Ok, Err, MatchResult}
-use Rattle.osi_base.specs.declared.words.Kind.{Kind}
+use Rattle.std.specs.Prelude.{◌≡◌, ◌≢◌, ℕ, ◌<◌, ◌≤◌, ◌^◌, Bool, true, false, List, ◌++◌, length, take, Result, Ok, Err, MatchResult, ◌⊎◌}
 use Rattle.asn1_types.specs.declared.row.TypeRow.{TypeRow}
 use Rattle.asn1_types.specs.Table.{IsSound}
 use Rattle.asn1_types.specs.Value.{Value}
 use Rattle.asn1_types.specs.Fits.{fits}
 use Rattle.asn1_types.specs.Whole.{is_whole}
 use Rattle.ber_codec.specs.declared.fault.ReadFault.{ReadFault}
-use Rattle.ber_codec.specs.declared.fault.ReadFault.TheVariants.{NotSpelled, Short, TooDeep, TooLong, NoMemory}
+use Rattle.ber_codec.specs.declared.fault.ReadFault.TheVariants.{Short, NoMemory}
 use Rattle.ber_codec.specs.declared.public.Read.{Read}
 use Rattle.ber_codec.specs.Octets.{AreOctets}
 use Rattle.ber_codec.specs.Rules.{read_at}
@@ -52,6 +51,29 @@ BeginningIsShort = (rows : List TypeRow) (n : ℕ) (strict : Bool) (limit : ℕ)
 abbrev pub WrittenIsSpelled : Type 0
 WrittenIsSpelled = (rows : List TypeRow) (n : ℕ) (v : Value) → IsSound rows → fits rows n v ≡ true
     → (strict : Bool) (limit : ℕ) → limit < 2 ^ 64 → length (written rows n v) ≤ limit → Spells rows n strict limit v (written rows n v)
+
+-- what is written of a value that fits is read back, whatever follows
+abbrev pub WrittenIsRead : Type 0
+WrittenIsRead = (rows : List TypeRow) (n : ℕ) (v : Value) → IsSound rows → fits rows n v ≡ true
+    → (strict : Bool) (limit : ℕ) (rest : List ℕ) → limit < 2 ^ 64 → length (written rows n v) ≤ limit → read_at rows n strict limit (written rows n v ++ rest) ≡ Ok (v, length (written rows n v))
+
+-- what is spelled in DER is spelled so in BER
+abbrev pub DerIsBer : Type 0
+DerIsBer = (rows : List TypeRow) (n : ℕ) (limit : ℕ) (v : Value) (spelled : List ℕ) → Spells rows n true limit v spelled → Spells rows n false limit v spelled
+
+-- a first part of the octets is a spelling
+abbrev pub BeginsSpelled : List TypeRow → ℕ → Bool → ℕ → List ℕ → Type 0
+BeginsSpelled rows n strict limit bytes = (v : Value) × (used : ℕ) × (used ≤ length bytes) × Spells rows n strict limit v (take used bytes)
+
+abbrev pub OneHolds : List TypeRow → ℕ → Bool → ℕ → List ℕ → Type 0
+OneHolds rows n strict limit bytes =
+    (BeginsSpelled rows n strict limit bytes × ((fault : ReadFault) → read_at rows n strict limit bytes ≢ Err fault))
+    ⊎ (((BeginsSpelled rows n strict limit bytes → ⊥) × (fault : ReadFault) × (fault ≢ Short) × (read_at rows n strict limit bytes ≡ Err fault))
+    ⊎ ((BeginsSpelled rows n strict limit bytes → ⊥) × (read_at rows n strict limit bytes ≡ Err Short)))
+
+-- Of all octets one holds and no other: a first part is a spelling, there is a first fault, or they are too short.
+abbrev pub OneOfThree : Type 0
+OneOfThree = (rows : List TypeRow) (n : ℕ) (strict : Bool) (limit : ℕ) (bytes : List ℕ) → IsSound rows → AreOctets bytes → OneHolds rows n strict limit bytes
 
 -- A DER spelling is one whole value of any type: each length is definite, and no tag is UNIVERSAL 0.
 abbrev pub DerIsWhole : Type 0

@@ -1,5 +1,5 @@
 -- The contents of primitive values.
-use Rattle.std.specs.Prelude.{◌≡◌, ℕ, zero, suc, ◌+◌, ◌-◌, ◌*◌, ◌/◌, ◌%◌, ◌^◌, ◌≤◌, min, ℤ, pos, negsuc, Bool, true, false, not, ◌&&◌, ◌||◌, Option, Some, None, List, [], ◌∷◌, ◌++◌, length, Result, Ok, Err, nat_lt, nat_le, nat_eq, slice_index, if◌then◌else◌}
+use Rattle.std.specs.Prelude.{ℕ, suc, ◌+◌, ◌-◌, ◌*◌, ◌^◌, min, ℤ, pos, negsuc, Bool, true, false, not, ◌&&◌, ◌||◌, Option, Some, None, List, [], ◌∷◌, length, nat_lt, nat_le, nat_eq, slice_index, if◌then◌else◌}
 use Rattle.std.specs.List.{list_all}
 use Rattle.osi_base.specs.Oid.{is_oid}
 use Rattle.ber_codec.specs.Fields.{number_from}

@@ -1,20 +1,25 @@
 -- What each row is read as, from what the rows that it names are read as.
-use Rattle.std.specs.Prelude.{◌≡◌, ℕ, zero, suc, ◌+◌, ◌-◌, ◌^◌, ℤ, Bool, true, false, not, ◌&&◌, ◌||◌, Option, Some, None, option_map, List, [], ◌∷◌, ◌++◌, map, length, take, drop, Result, Ok, Err, nat_lt, nat_le, nat_eq, int_lt, slice_index, slice_get, if◌then◌else◌}
-use Rattle.std.specs.List.{list_any}
-use Rattle.osi_base.specs.declared.words.Kind.{Kind}
-use Rattle.osi_base.specs.declared.words.Kind.TheVariants.{Tag, Missing, Extra, Length, Content, Form}
+use Rattle.std.specs.Prelude.{ℕ, zero, suc, ◌-◌, ◌^◌, ◌%◌, ℤ, Bool, true, false, not, ◌&&◌, ◌||◌, Option, Some, None, option_map, List, [], ◌∷◌, ◌++◌, length, take, drop, Ok, Err, nat_lt, nat_le, nat_eq, int_lt, slice_index, slice_set, if◌then◌else◌}
+use Rattle.osi_base.specs.declared.words.Kind.TheVariants.{Tag, Missing, Extra, Content, Form}
 use Rattle.asn1_types.specs.declared.row.Class.{Class}
-use Rattle.asn1_types.specs.declared.row.Class.TheVariants.{Universal, Application, Context, Private}
+use Rattle.asn1_types.specs.declared.row.Class.TheVariants.{Universal}
 use Rattle.asn1_types.specs.declared.row.Item.{Item}
 use Rattle.asn1_types.specs.declared.row.Part.{Part}
+use Rattle.asn1_types.specs.declared.row.TextKind.{TextKind}
 use Rattle.asn1_types.specs.declared.row.TypeRow.{TypeRow}
 use Rattle.asn1_types.specs.declared.row.TypeRow.TheVariants as row
 use Rattle.asn1_types.specs.Rows.{along, begins, same_class, is_no_tag, text_number}
 use Rattle.asn1_types.specs.Value.{Value, boolean, integer, null, octets, bits, object_id, text, parts, list, chosen, any}
 use Rattle.asn1_types.specs.ValueView.{parts_of, values_of}
-use Rattle.ber_codec.specs.declared.fault.ReadFault.TheVariants.{Short, TooDeep, TooLong}
+use Rattle.asn1_types.specs.Fits.{is_item, is_text, are_bits}
+use Rattle.ber_codec.specs.declared.fault.ReadFault.TheVariants.{Short}
 use Rattle.ber_codec.specs.declared.spot.Scope.{Scope}
 use Rattle.ber_codec.specs.declared.spot.Tag as tags
+use Rattle.ber_codec.specs.declared.spot.StringKind.{StringKind}
+use Rattle.ber_codec.specs.declared.spot.StringKind.TheVariants.{OfOctets, OfBits}
+use Rattle.ber_codec.specs.declared.spot.StringRule.{StringRule}
+use Rattle.ber_codec.specs.declared.spot.StringRule.TheVariants.{Octets, Text, Bits}
+use Rattle.ber_codec.specs.declared.spot.Gathered.{Gathered}
 use Rattle.ber_codec.specs.Reading.{Spot, Opened, Ahead, ended, begun, Reading, ◌>>=◌, refuse}
 use Rattle.ber_codec.specs.Fields.{identifier_at, extent_at, contents_at, look_at}
 use Rattle.ber_codec.specs.Primitives.{integer_of, arcs_of}
@@ -41,12 +46,31 @@ abbrev pub judge : {A B : Type 0} → ℕ → (A → B) → Option A → Reading
 judge place made None = refuse place Content
 judge place made (Some x) = Ok (made x)
 
-unfoldable pub primitive_at : (List ℕ → Option Value) → tags.Tag → Scope → Opened → Spot → Reading (Value × Spot)
-primitive_at rule tag scope opened spot = do
+-- what DER alone refuses
+abbrev pub form_at : Scope → ℕ → Bool → Reading (Unit {0})
+form_at scope place canonical = if scope.strict && not canonical then refuse place Form else Ok tt
+
+-- contents that a rule takes, and that DER takes if they are canonical
+unfoldable pub primitive_at : {A : Type 0} → (List ℕ → Option A) → (List ℕ → Bool) → tags.Tag → Scope → Opened → Spot → Reading (A × Spot)
+primitive_at {A} rule canonical tag scope opened spot = do
   _ ← expect_at tag false opened
   c ← contents_at scope spot.place spot.rest
-  value ← judge c.0 (λ (v : Value). v) (rule c.1)
-  Ok (value, c.2)
+  found ← judge c.0 (λ (x : A). x) (rule c.1)
+  _ ← form_at scope c.0 (canonical c.1)
+  Ok (found, c.2)
+
+abbrev pub always : List ℕ → Bool
+always contents = true
+
+-- one octet, FALSE where it is zero (X.690 8.2)
+abbrev pub boolean_rule : List ℕ → Option Value
+boolean_rule [] = None
+boolean_rule (octet ∷ []) = Some (boolean (not (nat_eq octet 0)))
+boolean_rule (octet ∷ next ∷ more) = None
+
+-- TRUE is FF (X.690 11.1)
+abbrev pub is_strict_boolean : List ℕ → Bool
+is_strict_boolean contents = nat_eq (slice_index contents 0) 0 || nat_eq (slice_index contents 0) 255
 
 abbrev pub in_range : ℤ → ℤ → ℤ → Bool
 in_range low high z = not (int_lt z low) && not (int_lt high z)
@@ -58,12 +82,156 @@ ranged low high (Some z) = if in_range low high z then Some (integer z) else Non
 abbrev pub integer_rule : ℤ → ℤ → List ℕ → Option Value
 integer_rule low high contents = ranged low high (integer_of contents)
 
+abbrev pub listed : List Item → Option ℤ → Option Value
+listed items None = None
+listed items (Some z) = if is_item items z then Some (integer z) else None
+
+-- X.690 8.4
+abbrev pub enumerated_rule : List Item → List ℕ → Option Value
+enumerated_rule items contents = listed items (integer_of contents)
+
 abbrev pub null_rule : List ℕ → Option Value
 null_rule [] = Some null
 null_rule (octet ∷ more) = None
 
 abbrev pub object_id_rule : List ℕ → Option Value
 object_id_rule contents = option_map object_id (arcs_of contents)
+
+-- ---- constructed values
+
+-- the identifier's tag, a length of either form, and the contents
+abbrev pub constructed_at : {A : Type 0} → (Scope → Spot → Reading (A × Spot)) → tags.Tag → Scope → Opened → Spot → Reading (A × Spot)
+constructed_at body tag scope opened spot = do
+  _ ← expect_at tag true opened
+  x ← extent_at scope spot.place spot.rest
+  body x.0 x.1
+
+-- what stands next in contents: their end, or one more value
+abbrev pub finish : {T : Type 0} → ℕ → Option T → Reading T
+finish place None = refuse place Missing
+finish place (Some x) = Ok x
+
+abbrev pub item_at : {S T : Type 0} → (S → Scope → Opened → Spot → Reading (S × Spot)) → (S → Option T) → (S → Spot → Reading (T × Spot)) → S → Scope → Ahead → Reading (T × Spot)
+item_at step done more state scope (ended place after) = do
+  x ← finish place (done state)
+  Ok (x, after)
+item_at step done more state scope (begun opened after) = do
+  x ← step state scope opened after
+  more x.0 x.1
+
+-- Values one after the other up to the end of the contents. Each has an octet at least, so that as many turns as
+-- there are octets, and one for the end, are enough.
+unfoldable pub items_at : {S T : Type 0} → (S → Scope → Opened → Spot → Reading (S × Spot)) → (S → Option T) → ℕ → S → Scope → Spot → Reading (T × Spot)
+items_at step done zero state scope spot = Err Short
+items_at step done (suc turns) state scope spot = do
+  a ← look_at scope spot.place spot.rest
+  item_at step done (λ next after. items_at step done turns next scope after) state scope a
+
+abbrev pub all_items_at : {S T : Type 0} → (S → Scope → Opened → Spot → Reading (S × Spot)) → (S → Option T) → S → Scope → Spot → Reading (T × Spot)
+all_items_at step done state scope spot = items_at step done (suc (length spot.rest)) state scope spot
+
+-- ---- strings, primitive or in segments (X.690 8.6, 8.7, 8.23)
+
+abbrev pub segment_tag : StringKind → tags.Tag
+segment_tag OfOctets = record { class = Universal; number = 4 }
+segment_tag OfBits = record { class = Universal; number = 3 }
+
+-- of bits the first octet says how many of the last octet are unused: 0 to 7, and none where there is no octet
+abbrev pub is_segment : StringKind → List ℕ → Bool
+is_segment OfOctets contents = true
+is_segment OfBits [] = false
+is_segment OfBits (unused ∷ []) = nat_eq unused 0
+is_segment OfBits (unused ∷ first ∷ more) = nat_lt unused 8
+
+abbrev pub nothing : Gathered
+nothing = record { octets = []; unused = 0; spoiled = false }
+
+-- One more segment. Only the last may have unused bits.
+abbrev pub gathered : StringKind → Gathered → List ℕ → Gathered
+gathered OfOctets before contents = record { octets = before.octets ++ contents; unused = before.unused; spoiled = before.spoiled }
+gathered OfBits before contents =
+    record { octets = before.octets ++ drop 1 contents; unused = slice_index contents 0; spoiled = before.spoiled || not (nat_eq before.unused 0) }
+
+abbrev pub segment_rule : StringKind → Gathered → List ℕ → Option Gathered
+segment_rule kind before contents = if is_segment kind contents then Some (gathered kind before contents) else None
+
+-- a segment is primitive, or has segments inside
+unfoldable pub segment_at : StringKind → ℕ → Gathered → Scope → Opened → Spot → Reading (Gathered × Spot)
+segment_at kind zero before scope opened spot = refuse opened.start.place Tag
+segment_at kind (suc depth) before scope opened spot =
+    if opened.constructed then constructed_at (all_items_at (segment_at kind depth) (λ (g : Gathered). Some g) before) (segment_tag kind) scope opened spot
+    else primitive_at (segment_rule kind before) always (segment_tag kind) scope opened spot
+
+abbrev pub segments_at : StringKind → tags.Tag → Scope → Opened → Spot → Reading (Gathered × Spot)
+segments_at kind tag = constructed_at (all_items_at (segment_at kind 32) (λ (g : Gathered). Some g) nothing) tag
+
+-- in segments; not in DER (X.690 10.2)
+unfoldable pub segmented_at : StringKind → (Gathered → Option Value) → tags.Tag → Scope → Opened → Spot → Reading (Value × Spot)
+segmented_at kind whole tag scope opened spot = do
+  _ ← expect_at tag true opened
+  _ ← form_at scope opened.start.place false
+  x ← extent_at scope spot.place spot.rest
+  g ← all_items_at (segment_at kind 32) (λ (g : Gathered). Some g) nothing x.0 x.1
+  v ← judge opened.start.place (λ (v : Value). v) (whole g.0)
+  Ok (v, g.1)
+
+abbrev pub and_whole : (Gathered → Option Value) → Option Gathered → Option Value
+and_whole whole None = None
+and_whole whole (Some g) = whole g
+
+abbrev pub string_rule : StringKind → (Gathered → Option Value) → List ℕ → Option Value
+string_rule kind whole contents = and_whole whole (segment_rule kind nothing contents)
+
+unfoldable pub string_at : StringKind → (Gathered → Option Value) → (List ℕ → Bool) → tags.Tag → Scope → Opened → Spot → Reading (Value × Spot)
+string_at kind whole canonical tag scope opened spot =
+    if opened.constructed then segmented_at kind whole tag scope opened spot else primitive_at (string_rule kind whole) canonical tag scope opened spot
+
+abbrev pub whole_octets : ℕ → Gathered → Option Value
+whole_octets most g = if nat_le (length g.octets) most then Some (octets g.octets) else None
+
+abbrev pub whole_text : TextKind → Gathered → Option Value
+whole_text kind g = if is_text kind g.octets then Some (text g.octets) else None
+
+-- unused bits, the low ones of the last octet, count as zeros
+abbrev pub cleared : ℕ → List ℕ → List ℕ
+cleared unused os =
+    if nat_eq (length os) 0 then os
+    else slice_set os (length os - 1) (slice_index os (length os - 1) - slice_index os (length os - 1) % 2 ^ unused)
+
+abbrev pub whole_bits : Gathered → Option Value
+whole_bits g = if g.spoiled || nat_le 8 g.unused then None else Some (bits (cleared g.unused g.octets) g.unused)
+
+-- unused bits are zero (X.690 11.2.1)
+abbrev pub has_zero_bits : List ℕ → Bool
+has_zero_bits contents = are_bits (drop 1 contents) (slice_index contents 0)
+
+abbrev pub kind_of : StringRule → StringKind
+kind_of (Octets most) = OfOctets
+kind_of (Text kind) = OfOctets
+kind_of Bits = OfBits
+
+abbrev pub whole_by : StringRule → Gathered → Option Value
+whole_by (Octets most) g = whole_octets most g
+whole_by (Text kind) g = whole_text kind g
+whole_by Bits g = whole_bits g
+
+abbrev pub canonical_by : StringRule → List ℕ → Bool
+canonical_by (Octets most) contents = true
+canonical_by (Text kind) contents = true
+canonical_by Bits contents = has_zero_bits contents
+
+-- ---- SEQUENCE OF (X.690 8.10)
+
+abbrev pub list_item_at : Reader → List Value → Scope → Opened → Spot → Reading (List Value × Spot)
+list_item_at inner before scope opened spot = do
+  v ← inner None scope opened spot
+  Ok (before ++ v.0 ∷ [], v.1)
+
+abbrev pub list_done : List Value → Option Value
+list_done vs = Some (list (values_of vs))
+
+abbrev pub list_at : Reader → tags.Tag → Scope → Opened → Spot → Reading (Value × Spot)
+list_at inner tag = constructed_at (all_items_at (list_item_at inner) list_done []) tag
 
 -- ---- an explicit tag (X.690 8.14): one value in constructed contents
 
@@ -171,17 +339,17 @@ tagged_at true inner class number tag = explicit_at (inner None) (tag_or tag cla
 tagged_at false inner class number tag = inner (Some (tag_or tag class number))
 
 abbrev pub read_by : (ℕ → Class → ℕ → Bool) → (ℕ → Reader) → TypeRow → Reader
-read_by begins inner row.Boolean tag = dead tag
-read_by begins inner (row.Integer low high) tag = primitive_at (integer_rule low high) (tag_or tag Universal 2)
-read_by begins inner (row.Enumerated items) tag = dead tag
-read_by begins inner row.Null tag = primitive_at null_rule (tag_or tag Universal 5)
-read_by begins inner (row.OctetString most) tag = dead tag
-read_by begins inner row.BitString tag = dead tag
-read_by begins inner row.ObjectId tag = primitive_at object_id_rule (tag_or tag Universal 6)
-read_by begins inner (row.Text kind) tag = dead tag
+read_by begins inner row.Boolean tag = primitive_at boolean_rule is_strict_boolean (tag_or tag Universal 1)
+read_by begins inner (row.Integer low high) tag = primitive_at (integer_rule low high) always (tag_or tag Universal 2)
+read_by begins inner (row.Enumerated items) tag = primitive_at (enumerated_rule items) always (tag_or tag Universal 10)
+read_by begins inner row.Null tag = primitive_at null_rule always (tag_or tag Universal 5)
+read_by begins inner (row.OctetString most) tag = string_at OfOctets (whole_octets most) always (tag_or tag Universal 4)
+read_by begins inner row.BitString tag = string_at OfBits whole_bits has_zero_bits (tag_or tag Universal 3)
+read_by begins inner row.ObjectId tag = primitive_at object_id_rule always (tag_or tag Universal 6)
+read_by begins inner (row.Text kind) tag = string_at OfOctets (whole_text kind) always (tag_or tag Universal (text_number kind))
 read_by begins inner (row.Sequence ps) tag = sequence_at begins inner ps (tag_or tag Universal 16)
 read_by begins inner (row.Set ps) tag = dead tag
-read_by begins inner (row.SequenceOf of) tag = dead tag
+read_by begins inner (row.SequenceOf of) tag = list_at (inner of.0) (tag_or tag Universal 16)
 read_by begins inner (row.Choice ps) tag = or_explicit (choice_at begins inner 0 ps) tag
 read_by begins inner (row.Tagged class number explicit of) tag = tagged_at explicit (inner of.0) class number tag
 read_by begins inner row.Any tag = or_explicit any_at tag

@@ -1,20 +1,24 @@
 -- The spellings of values (X.690 8 and 10): which octets spell which value of which row. A scope of `strict`
 -- means DER. Levels are how many more values may stand inside one another.
-use Rattle.std.specs.Prelude.{◌≡◌, ◌≢◌, ℕ, zero, suc, ◌+◌, ◌-◌, ◌*◌, ◌/◌, ◌%◌, ◌^◌, ◌<◌, ◌≤◌, ◌⊎◌, ℤ, ◌≤ℤ◌, Bool, true, false, Option, Some, None, List, [], ◌∷◌, ◌++◌, length, nat_lt, nat_eq, slice_index, slice_get, if◌then◌else◌, IsTrue}
+use Rattle.std.specs.Prelude.{◌≡◌, ◌≢◌, ℕ, zero, suc, ◌+◌, ◌-◌, ◌*◌, ◌^◌, ◌<◌, ◌≤◌, ◌⊎◌, ℤ, ◌≤ℤ◌, Bool, true, false, not, Option, Some, None, List, [], ◌∷◌, ◌++◌, length, nat_lt, nat_eq, slice_index, slice_get, if◌then◌else◌}
 use Rattle.std.specs.List.{AllByRecursion}
 use Rattle.osi_base.specs.Oid.{IsOid}
 use Rattle.asn1_types.specs.declared.row.Class.{Class}
-use Rattle.asn1_types.specs.declared.row.Class.TheVariants.{Universal, Application, Context, Private}
+use Rattle.asn1_types.specs.declared.row.Class.TheVariants.{Universal}
 use Rattle.asn1_types.specs.declared.row.Part.{Part}
 use Rattle.asn1_types.specs.declared.row.TypeRow.{TypeRow}
 use Rattle.asn1_types.specs.declared.row.TypeRow.TheVariants as row
-use Rattle.asn1_types.specs.Rows.{class_number, is_no_tag}
-use Rattle.asn1_types.specs.Value.{Value, boolean, integer, null, octets, bits, object_id, text, parts, list, chosen, any, MaybeValues, no_parts, absent, present, Values, no_values, value}
+use Rattle.asn1_types.specs.declared.row.Item.{Item}
+use Rattle.asn1_types.specs.Rows.{class_number, is_no_tag, text_number}
+use Rattle.asn1_types.specs.Fits.{is_item}
+use Rattle.asn1_types.specs.Value.{Value, boolean, integer, null, object_id, parts, chosen, any, MaybeValues, no_parts, absent, present}
 use Rattle.ber_codec.specs.declared.spot.Tag as tags
-use Rattle.ber_codec.specs.Octets.{AreOctets}
 use Rattle.ber_codec.specs.Fields.{number_from}
 use Rattle.ber_codec.specs.Primitives.{is_padded, signed_of}
-use Rattle.ber_codec.specs.Rules.{tag_or}
+use Rattle.ber_codec.specs.declared.spot.StringKind.{StringKind}
+use Rattle.ber_codec.specs.declared.spot.StringKind.TheVariants.{OfOctets, OfBits}
+use Rattle.ber_codec.specs.declared.spot.Gathered.{Gathered}
+use Rattle.ber_codec.specs.Rules.{tag_or, always, segment_tag, nothing, segment_rule, string_rule, whole_octets, whole_text, whole_bits, has_zero_bits, list_done}
 
 -- ---- numbers in digits of seven bits (X.690 8.1.2.4.2, 8.19.2)
 
@@ -105,6 +109,16 @@ pub record IsInteger (contents : List ℕ) (z : ℤ) : Type 0 where
   pub shortest : is_padded contents ≡ false
   pub number : signed_of contents ≡ z
 
+-- X.690 8.2; TRUE is FF in DER (11.1)
+abbrev pub BooleanIs : Bool → Value → List ℕ → Type 0
+BooleanIs strict (boolean b) contents = (octet : ℕ) × (contents ≡ octet ∷ []) × (b ≡ not (nat_eq octet 0)) × (strict ≡ true → (octet ≡ 0) ⊎ (octet ≡ 255))
+BooleanIs strict v contents = ⊥
+
+-- X.690 8.4: the number of an item
+abbrev pub EnumeratedIs : List Item → Value → List ℕ → Type 0
+EnumeratedIs items (integer z) contents = IsInteger contents z × (is_item items z ≡ true)
+EnumeratedIs items v contents = ⊥
+
 abbrev pub IntegerIs : ℤ → ℤ → Value → List ℕ → Type 0
 IntegerIs low high (integer z) contents = IsInteger contents z × (low ≤ℤ z) × (z ≤ℤ high)
 IntegerIs low high v contents = ⊥
@@ -152,6 +166,32 @@ abbrev pub AnyIs : ℕ → Value → List ℕ → Type 0
 AnyIs levels (any os) spelled = (0 < levels) × (spelled ≡ os) × IsWhole os
 AnyIs levels v spelled = ⊥
 
+-- ---- strings (X.690 8.6, 8.7, 8.23)
+
+-- Texts one after the other, each of which leads from one state to the next.
+abbrev pub Steps : {S : Type 0} → (S → S → List ℕ → Type 0) → List (List ℕ × S) → S → S → List ℕ → Type 0
+Steps step [] first last contents = (first ≡ last) × (contents ≡ [])
+Steps step (s ∷ more) first last contents = (others : List ℕ) × (contents ≡ s.0 ++ others) × step first s.1 s.0 × Steps step more s.1 last others
+
+-- contents that are values one after the other, and what they are together
+abbrev pub ItemsAre : {S T : Type 0} → (S → Option T) → (S → Bool → ℕ → S → List ℕ → Type 0) → S → Bool → ℕ → T → List ℕ → Type 0
+ItemsAre {S} done step first strict levels v contents =
+    (last : S) × (done last ≡ Some v) × (steps : List (List ℕ × S)) × Steps (λ a b spelled. step a strict levels b spelled) steps first last contents
+
+-- a segment is of the string's own universal type (of OCTET STRING for texts), primitive or of segments
+abbrev pub SegmentIs : StringKind → ℕ → Gathered → Bool → ℕ → Gathered → List ℕ → Type 0
+SegmentIs kind zero before strict levels after spelled = ⊥
+SegmentIs kind (suc depth) before strict levels after spelled =
+    IsPrimitive (segment_tag kind) strict levels (λ contents. segment_rule kind before contents ≡ Some after) spelled
+    ⊎ IsConstructed (segment_tag kind) strict levels (λ inner contents. ItemsAre (λ (g : Gathered). Some g) (SegmentIs kind depth) before strict inner after contents) spelled
+
+-- one segment, or in BER many
+abbrev pub StringIs : StringKind → (Gathered → Option Value) → (List ℕ → Bool) → tags.Tag → Bool → ℕ → Value → List ℕ → Type 0
+StringIs kind whole canonical tag strict levels v spelled =
+    IsPrimitive tag strict levels (λ contents. (string_rule kind whole contents ≡ Some v) × (strict ≡ true → canonical contents ≡ true)) spelled
+    ⊎ ((strict ≡ false) × (g : Gathered) × (whole g ≡ Some v)
+    × IsConstructed tag strict levels (λ inner contents. ItemsAre (λ (g : Gathered). Some g) (SegmentIs kind 32) nothing strict inner g contents) spelled)
+
 -- ---- each row, from what the rows that it names are spelled as
 
 -- which octets spell which value, with so many levels, under another tag if one is given
@@ -170,6 +210,13 @@ abbrev pub SequenceIs : (ℕ → Spelled) → Bool → List Part → Value → �
 SequenceIs inner strict ps (parts vs) levels contents = PartsAre inner strict levels ps vs contents
 SequenceIs inner strict ps v levels contents = ⊥
 
+-- one value more (X.690 8.10)
+abbrev pub ListStep : Spelled → List Value → Bool → ℕ → List Value → List ℕ → Type 0
+ListStep inner before strict levels after spelled = (v : Value) × (after ≡ before ++ v ∷ []) × inner None strict levels v spelled
+
+abbrev pub ListIs : Spelled → Bool → Value → ℕ → List ℕ → Type 0
+ListIs inner strict v levels contents = ItemsAre list_done (ListStep inner) [] strict levels v contents
+
 -- a value of the alternative (X.690 8.13)
 abbrev pub ChoiceIs : (ℕ → Spelled) → List Part → Bool → ℕ → Value → List ℕ → Type 0
 ChoiceIs inner ps strict levels (chosen which v) spelled = (p : Part) × (slice_get ps which ≡ Some p) × inner p.inner.0 None strict levels v spelled
@@ -186,17 +233,17 @@ TaggedIs true inner class number tag strict levels v spelled = IsConstructed (ta
 TaggedIs false inner class number tag strict levels v spelled = inner (Some (tag_or tag class number)) strict levels v spelled
 
 abbrev pub RowIs : (ℕ → Spelled) → TypeRow → Spelled
-RowIs inner row.Boolean tag strict levels v spelled = ⊥
+RowIs inner row.Boolean tag strict levels v spelled = IsPrimitive (tag_or tag Universal 1) strict levels (BooleanIs strict v) spelled
 RowIs inner (row.Integer low high) tag strict levels v spelled = IsPrimitive (tag_or tag Universal 2) strict levels (IntegerIs low high v) spelled
-RowIs inner (row.Enumerated items) tag strict levels v spelled = ⊥
+RowIs inner (row.Enumerated items) tag strict levels v spelled = IsPrimitive (tag_or tag Universal 10) strict levels (EnumeratedIs items v) spelled
 RowIs inner row.Null tag strict levels v spelled = IsPrimitive (tag_or tag Universal 5) strict levels (NullIs v) spelled
-RowIs inner (row.OctetString most) tag strict levels v spelled = ⊥
-RowIs inner row.BitString tag strict levels v spelled = ⊥
+RowIs inner (row.OctetString most) tag strict levels v spelled = StringIs OfOctets (whole_octets most) always (tag_or tag Universal 4) strict levels v spelled
+RowIs inner row.BitString tag strict levels v spelled = StringIs OfBits whole_bits has_zero_bits (tag_or tag Universal 3) strict levels v spelled
 RowIs inner row.ObjectId tag strict levels v spelled = IsPrimitive (tag_or tag Universal 6) strict levels (ObjectIdIs v) spelled
-RowIs inner (row.Text kind) tag strict levels v spelled = ⊥
+RowIs inner (row.Text kind) tag strict levels v spelled = StringIs OfOctets (whole_text kind) always (tag_or tag Universal (text_number kind)) strict levels v spelled
 RowIs inner (row.Sequence ps) tag strict levels v spelled = IsConstructed (tag_or tag Universal 16) strict levels (SequenceIs inner strict ps v) spelled
 RowIs inner (row.Set ps) tag strict levels v spelled = ⊥
-RowIs inner (row.SequenceOf of) tag strict levels v spelled = ⊥
+RowIs inner (row.SequenceOf of) tag strict levels v spelled = IsConstructed (tag_or tag Universal 16) strict levels (ListIs (inner of.0) strict v) spelled
 RowIs inner (row.Choice ps) tag strict levels v spelled = OrExplicit (ChoiceIs inner ps) tag strict levels v spelled
 RowIs inner (row.Tagged class number explicit of) tag strict levels v spelled = TaggedIs explicit (inner of.0) class number tag strict levels v spelled
 RowIs inner row.Any tag strict levels v spelled = OrExplicit (λ s. AnyIs) tag strict levels v spelled

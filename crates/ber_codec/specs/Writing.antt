@@ -1,13 +1,13 @@
 -- The DER spelling of each value that fits a row (X.690 8 and 10), as a function.
-use Rattle.std.specs.Prelude.{ℕ, zero, suc, ◌+◌, ◌-◌, ◌*◌, ◌/◌, ◌%◌, ℤ, pos, negsuc, Bool, true, false, Option, Some, None, List, [], ◌∷◌, ◌++◌, map, length, nat_lt, nat_eq, slice_get, if◌then◌else◌}
+use Rattle.std.specs.Prelude.{ℕ, zero, suc, ◌+◌, ◌-◌, ◌/◌, ◌%◌, ℤ, pos, negsuc, Bool, true, false, Option, Some, None, List, [], ◌∷◌, ◌++◌, map, length, nat_lt, nat_eq, slice_get, if◌then◌else◌}
 use Rattle.std.specs.List.{flat_map}
 use Rattle.asn1_types.specs.declared.row.Class.{Class}
 use Rattle.asn1_types.specs.declared.row.Class.TheVariants.{Universal}
 use Rattle.asn1_types.specs.declared.row.Part.{Part}
 use Rattle.asn1_types.specs.declared.row.TypeRow.{TypeRow}
 use Rattle.asn1_types.specs.declared.row.TypeRow.TheVariants as row
-use Rattle.asn1_types.specs.Rows.{along}
-use Rattle.asn1_types.specs.Value.{Value, boolean, integer, null, octets, bits, object_id, text, parts, list, chosen, any, MaybeValues, no_parts, absent, present, Values, no_values, value}
+use Rattle.asn1_types.specs.Rows.{along, text_number}
+use Rattle.asn1_types.specs.Value.{Value, boolean, integer, octets, bits, object_id, text, parts, list, chosen, any, MaybeValues, no_parts, absent, present, Values, no_values, value}
 use Rattle.ber_codec.specs.declared.spot.Tag as tags
 use Rattle.ber_codec.specs.Rules.{tag_or}
 use Rattle.ber_codec.specs.Spelling.{leading, subidentifiers}
@@ -62,6 +62,28 @@ abbrev pub integer_contents : Value → List ℕ
 integer_contents (integer z) = integer_octets z
 integer_contents v = []
 
+-- TRUE is FF (X.690 11.1)
+abbrev pub boolean_octet : Bool → ℕ
+boolean_octet true = 255
+boolean_octet false = 0
+
+abbrev pub boolean_contents : Value → List ℕ
+boolean_contents (boolean b) = boolean_octet b ∷ []
+boolean_contents v = []
+
+abbrev pub octets_contents : Value → List ℕ
+octets_contents (octets os) = os
+octets_contents v = []
+
+abbrev pub text_contents : Value → List ℕ
+text_contents (text os) = os
+text_contents v = []
+
+-- how many bits are unused stands first (X.690 8.6.2)
+abbrev pub bits_contents : Value → List ℕ
+bits_contents (bits os unused) = unused ∷ os
+bits_contents v = []
+
 abbrev pub object_id_contents : Value → List ℕ
 object_id_contents (object_id arcs) = flat_map base_128 (subidentifiers arcs)
 object_id_contents v = []
@@ -84,6 +106,14 @@ parts_contents inner (p ∷ ps) (present v vs) = part_contents inner p (Some v) 
 abbrev pub sequence_contents : (MaybeValues → List ℕ) → Value → List ℕ
 sequence_contents write (parts vs) = write vs
 sequence_contents write v = []
+
+abbrev pub values_contents : Writer → Values → List ℕ
+values_contents inner no_values = []
+values_contents inner (value v vs) = inner None v ++ values_contents inner vs
+
+abbrev pub list_contents : Writer → Value → List ℕ
+list_contents inner (list vs) = values_contents inner vs
+list_contents inner v = []
 
 abbrev pub alternative_written : (ℕ → Writer) → Option Part → Value → List ℕ
 alternative_written inner None v = []
@@ -112,17 +142,17 @@ abbrev pub nothing_written : Writer
 nothing_written tag v = []
 
 abbrev pub write_by : (ℕ → Writer) → TypeRow → Writer
-write_by inner row.Boolean tag v = []
+write_by inner row.Boolean tag v = definite false (tag_or tag Universal 1) (boolean_contents v)
 write_by inner (row.Integer low high) tag v = definite false (tag_or tag Universal 2) (integer_contents v)
-write_by inner (row.Enumerated items) tag v = []
+write_by inner (row.Enumerated items) tag v = definite false (tag_or tag Universal 10) (integer_contents v)
 write_by inner row.Null tag v = definite false (tag_or tag Universal 5) []
-write_by inner (row.OctetString most) tag v = []
-write_by inner row.BitString tag v = []
+write_by inner (row.OctetString most) tag v = definite false (tag_or tag Universal 4) (octets_contents v)
+write_by inner row.BitString tag v = definite false (tag_or tag Universal 3) (bits_contents v)
 write_by inner row.ObjectId tag v = definite false (tag_or tag Universal 6) (object_id_contents v)
-write_by inner (row.Text kind) tag v = []
+write_by inner (row.Text kind) tag v = definite false (tag_or tag Universal (text_number kind)) (text_contents v)
 write_by inner (row.Sequence ps) tag v = definite true (tag_or tag Universal 16) (sequence_contents (parts_contents inner ps) v)
 write_by inner (row.Set ps) tag v = []
-write_by inner (row.SequenceOf of) tag v = []
+write_by inner (row.SequenceOf of) tag v = definite true (tag_or tag Universal 16) (list_contents (inner of.0) v)
 write_by inner (row.Choice ps) tag v = under (choice_written (λ which. alternative_written inner (slice_get ps which))) tag v
 write_by inner (row.Tagged class number explicit of) tag v = tagged_written explicit (inner of.0) class number tag v
 write_by inner row.Any tag v = under any_written tag v

@@ -1,6 +1,6 @@
 //! The laws of reading, each the contract of a function that does nothing.
 
-ghost use Rattle.ber_codec.specs.Laws.{ReadIsSpelled, SpelledIsRead, NoneBegins, ReadStays, FaultStays, BeginningIsShort, WrittenIsSpelled, DerIsWhole};
+ghost use Rattle.ber_codec.specs.Laws.{ReadIsSpelled, SpelledIsRead, NoneBegins, ReadStays, FaultStays, BeginningIsShort, WrittenIsSpelled, WrittenIsRead, DerIsBer, OneOfThree, DerIsWhole};
 
 /// What is read is spelled by the octets used.
 pub fn read_is_spelled()
@@ -36,6 +36,22 @@ pub fn beginning_is_short()
 /// the value's only DER spelling.
 pub fn written_is_spelled()
     ensures { WrittenIsSpelled }
+{}
+
+/// What is written of a value that fits is read back as the value, whatever follows.
+pub fn written_is_read()
+    ensures { WrittenIsRead }
+{}
+
+/// What is spelled in DER is spelled so in BER.
+pub fn der_is_ber()
+    ensures { DerIsBer }
+{}
+
+/// Of all octets one holds and no other: a first part is a spelling, there is a first fault, or they
+/// are too short.
+pub fn one_of_three()
+    ensures { OneOfThree }
 {}
 
 /// A DER spelling is one whole value, whatever its type. So, with `written_is_spelled`, is what is

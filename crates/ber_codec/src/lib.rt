@@ -9,12 +9,13 @@ mod primitives;
 mod public;
 mod read;
 mod spot;
+mod strings;
 mod write;
 
 pub use fault::ReadFault;
 pub use laws::{
-    beginning_is_short, der_is_whole, fault_stays, none_begins, read_is_spelled, read_stays,
-    spelled_is_read, written_is_spelled,
+    beginning_is_short, der_is_ber, der_is_whole, fault_stays, none_begins, one_of_three,
+    read_is_spelled, read_stays, spelled_is_read, written_is_read, written_is_spelled,
 };
 pub use public::{LIMIT, Read, ber_read, ber_read_within, der_read};
 pub use write::ber_octets;

@@ -1,19 +1,22 @@
 //! Reading values, row by row.
 
-ghost use Rattle.std.specs.Prelude.{◌≡◌, ◌+◌, ◌≤◌, ◌<◌, ◌^◌, length, Some, None, slice_get, IfOk, List};
+ghost use Rattle.std.specs.Prelude.{◌≡◌, ◌+◌, ◌≤◌, ◌<◌, ◌^◌, [], length, Some, None, slice_get, IfOk, List};
 ghost use Rattle.std.specs.List.{AllByRecursion};
 ghost use Rattle.asn1_types.specs.Rows.{begins, rows_of_parts, names_of};
 ghost use Rattle.asn1_types.specs.Table.{IsSound};
+ghost use Rattle.asn1_types.specs.Value as tree;
+ghost use Rattle.asn1_types.specs.ValueView.{values_of};
 ghost use Rattle.ber_codec.specs.Reading.{Gives, spot_of, opened_of, ahead_of, LiesIn, GoesOn, spot_in, IsBefore, Follows};
-ghost use Rattle.ber_codec.specs.Rules.{tag_or, is_opened, expect_at, primitive_at, integer_rule, null_rule, object_id_rule, first_of, last_of, open_at, close_at, is_part, place_of, part_at, parts_at, sequence_at, choice_at, any_at, explicit_at, or_explicit, tagged_at, read_by, reads};
+ghost use Rattle.ber_codec.specs.Rules.{tag_or, is_opened, expect_at, primitive_at, always, boolean_rule, is_strict_boolean, integer_rule, enumerated_rule, null_rule, object_id_rule, first_of, last_of, open_at, close_at, is_part, place_of, all_items_at, list_item_at, list_done, list_at, part_at, parts_at, sequence_at, choice_at, any_at, explicit_at, or_explicit, tagged_at, read_by, reads};
 
 use crate::fault::ReadFault;
 use crate::fields::{contents, extent, look, refusal};
 use crate::primitives::{arcs_of, integer_of};
 use crate::spot::{Ahead, Opened, Scope, Spot, Tag};
+use crate::strings::{bit_string, octet_string, text};
 use asn1_types::{
-    Class, MaybeVals, Node, Part, Parts, TypeId, TypeRow, TypeTable, Val, begins, is_no_tag,
-    same_class,
+    Class, Item, MaybeVals, Node, Part, Parts, TypeId, TypeRow, TypeTable, Val, Vals, begins,
+    is_item, is_no_tag, same_class, text_number,
 };
 use osi_base::{Kind, Octets};
 use std::alloc::Global;
@@ -28,7 +31,7 @@ pub(crate) fn tag_or(tag: Option<Tag>, class: Class, number: u32) -> Tag
 }
 
 /// Whether this identifier is of this tag and form.
-fn expect(tag: Tag, constructed: bool, opened: &Opened) -> Result<(), ReadFault>
+pub(crate) fn expect(tag: Tag, constructed: bool, opened: &Opened) -> Result<(), ReadFault>
     ensures { Gives (λ x. x) result (expect_at tag constructed (opened_of opened.now)) }
 {
     if same_class(opened.class, tag.class)
@@ -38,6 +41,58 @@ fn expect(tag: Tag, constructed: bool, opened: &Opened) -> Result<(), ReadFault>
         Ok(())
     } else {
         Err(refusal(opened.start.place, Kind::Tag))
+    }
+}
+
+/// A BOOLEAN.
+#[tactic(auto, unfolding(crate::specs::Rules::primitive_at))]
+fn boolean<'a>(
+    tag: Tag,
+    scope: &Scope,
+    opened: &Opened<'a>,
+    spot: Spot<'a>,
+) -> Result<(Val, Spot<'a>), ReadFault>
+    requires { spot.place + length spot.rest.now < 2 ^ 63 }
+    ensures gives { Gives (λ x. (x.0, spot_of x.1)) result (primitive_at boolean_rule is_strict_boolean tag scope.now (opened_of opened.now) (spot_of spot.entry)) }
+    ensures stops { IfOk result (λ x. GoesOn spot.entry.place (length spot.entry.rest.now) x.1) }
+{
+    expect(tag, false, opened)?;
+    let (place, octets, after) = contents(scope, spot)?;
+    match octets {
+        [octet] => {
+            if scope.strict && *octet != 0 && *octet != 255 {
+                return Err(refusal(place, Kind::Form));
+            }
+            let node = Node::Bool(*octet != 0);
+            Ok((Val { node }, after))
+        }
+        _ => Err(refusal(place, Kind::Content)),
+    }
+}
+
+/// An ENUMERATED of these items.
+#[tactic(auto, unfolding(crate::specs::Rules::primitive_at))]
+fn enumerated<'a>(
+    items: &[Item],
+    tag: Tag,
+    scope: &Scope,
+    opened: &Opened<'a>,
+    spot: Spot<'a>,
+) -> Result<(Val, Spot<'a>), ReadFault>
+    requires { spot.place + length spot.rest.now < 2 ^ 63 }
+    ensures gives { Gives (λ x. (x.0, spot_of x.1)) result (primitive_at (enumerated_rule items.now) always tag scope.now (opened_of opened.now) (spot_of spot.entry)) }
+    ensures stops { IfOk result (λ x. GoesOn spot.entry.place (length spot.entry.rest.now) x.1) }
+{
+    expect(tag, false, opened)?;
+    let (place, octets, after) = contents(scope, spot)?;
+    match integer_of(octets) {
+        Some(number) if is_item(items, number) => Ok((
+            Val {
+                node: Node::Int(number),
+            },
+            after,
+        )),
+        _ => Err(refusal(place, Kind::Content)),
     }
 }
 
@@ -52,7 +107,7 @@ fn integer<'a>(
     spot: Spot<'a>,
 ) -> Result<(Val, Spot<'a>), ReadFault>
     requires { spot.place + length spot.rest.now < 2 ^ 63 }
-    ensures gives { Gives (λ x. (x.0, spot_of x.1)) result (primitive_at (integer_rule low high) tag scope.now (opened_of opened.now) (spot_of spot.entry)) }
+    ensures gives { Gives (λ x. (x.0, spot_of x.1)) result (primitive_at (integer_rule low high) always tag scope.now (opened_of opened.now) (spot_of spot.entry)) }
     ensures stops { IfOk result (λ x. GoesOn spot.entry.place (length spot.entry.rest.now) x.1) }
 {
     expect(tag, false, opened)?;
@@ -77,7 +132,7 @@ fn null<'a>(
     spot: Spot<'a>,
 ) -> Result<(Val, Spot<'a>), ReadFault>
     requires { spot.place + length spot.rest.now < 2 ^ 63 }
-    ensures gives { Gives (λ x. (x.0, spot_of x.1)) result (primitive_at null_rule tag scope.now (opened_of opened.now) (spot_of spot.entry)) }
+    ensures gives { Gives (λ x. (x.0, spot_of x.1)) result (primitive_at null_rule always tag scope.now (opened_of opened.now) (spot_of spot.entry)) }
     ensures stops { IfOk result (λ x. GoesOn spot.entry.place (length spot.entry.rest.now) x.1) }
 {
     expect(tag, false, opened)?;
@@ -98,7 +153,7 @@ fn object_id<'a>(
     spot: Spot<'a>,
 ) -> Result<(Val, Spot<'a>), ReadFault>
     requires { spot.place + length spot.rest.now < 2 ^ 63 }
-    ensures gives { Gives (λ x. (x.0, spot_of x.1)) result (primitive_at object_id_rule tag scope.now (opened_of opened.now) (spot_of spot.entry)) }
+    ensures gives { Gives (λ x. (x.0, spot_of x.1)) result (primitive_at object_id_rule always tag scope.now (opened_of opened.now) (spot_of spot.entry)) }
     ensures stops { IfOk result (λ x. GoesOn spot.entry.place (length spot.entry.rest.now) x.1) }
 {
     expect(tag, false, opened)?;
@@ -221,6 +276,27 @@ fn value_as<'a>(
     ensures stops { IfOk result (λ x. GoesOn spot.entry.place (length spot.entry.rest.now) x.1) }
 {
     match row {
+        TypeRow::Boolean => boolean(tag_or(tag, Class::Universal, 1), scope, opened, spot),
+        TypeRow::Enumerated(items) => {
+            let tag = tag_or(tag, Class::Universal, 10);
+            enumerated(items.as_slice(), tag, scope, opened, spot)
+        }
+        TypeRow::OctetString { most } => {
+            let tag = tag_or(tag, Class::Universal, 4);
+            octet_string(alloc, *most, tag, scope, opened, spot)
+        }
+        TypeRow::BitString => {
+            let tag = tag_or(tag, Class::Universal, 3);
+            bit_string(alloc, tag, scope, opened, spot)
+        }
+        TypeRow::Text(kind) => {
+            let tag = tag_or(tag, Class::Universal, text_number(*kind));
+            text(alloc, *kind, tag, scope, opened, spot)
+        }
+        TypeRow::SequenceOf(inner) => {
+            let tag = tag_or(tag, Class::Universal, 16);
+            list(alloc, table, of, *inner, tag, scope, opened, spot)
+        }
         TypeRow::Integer { low, high } => {
             integer(
                 *low,
@@ -276,6 +352,66 @@ fn value_as<'a>(
         },
         _ => Err(refusal(opened.start.place, Kind::Tag)),
     }
+}
+
+/// A SEQUENCE OF.
+#[cycle(reading)]
+fn list<'a>(
+    alloc: Global,
+    table: &TypeTable,
+    of: TypeId,
+    inner: TypeId,
+    tag: Tag,
+    scope: &Scope,
+    opened: &Opened<'a>,
+    spot: Spot<'a>,
+) -> Result<(Val, Spot<'a>), ReadFault>
+    requires below { inner.0 < of.0 }
+    requires row { of.0 ≤ length table.now }
+    requires whole { spot.place + length spot.rest.now < 2 ^ 63 }
+    ensures gives { Gives (λ x. (x.0, spot_of x.1)) result (list_at (reads table.now inner.0) tag scope.now (opened_of opened.now) (spot_of spot.entry)) }
+    ensures stops { IfOk result (λ x. GoesOn spot.entry.place (length spot.entry.rest.now) x.1) }
+{
+    expect(tag, true, opened)?;
+    let (inside, spot) = extent(scope, spot)?;
+    let (found, after) = items(alloc, table, of, inner, &inside, spot)?;
+    Ok((
+        Val {
+            node: Node::List(found),
+        },
+        after,
+    ))
+}
+
+/// The items of a SEQUENCE OF, up to the end of its contents.
+#[cycle(reading)]
+fn items<'a>(
+    alloc: Global,
+    table: &TypeTable,
+    of: TypeId,
+    inner: TypeId,
+    scope: &Scope,
+    spot: Spot<'a>,
+) -> Result<(Vals, Spot<'a>), ReadFault>
+    requires below { inner.0 < of.0 }
+    requires row { of.0 ≤ length table.now }
+    requires whole { spot.place + length spot.rest.now < 2 ^ 63 }
+    ensures gives { Gives (λ x. (tree.list (values_of x.0.items), spot_of x.1)) result (all_items_at (list_item_at (reads table.now inner.0)) list_done [] scope.now (spot_of spot.entry)) }
+    ensures stops { IfOk result (λ x. GoesOn spot.entry.place (length spot.entry.rest.now) x.1) }
+{
+    let mut found = Vec::new(alloc);
+    let mut spot = spot;
+    for _turn in 0..spot.rest.len() + 1 {
+        match look(scope, spot)? {
+            Ahead::Ended { after, .. } => return Ok((found, after)),
+            Ahead::Begun(opened, after) => {
+                let (value, next) = value(alloc, table, inner, None, scope, &opened, after)?;
+                found.push(value)?;
+                spot = next;
+            }
+        }
+    }
+    Err(ReadFault::Short)
 }
 
 #[tactic(auto, unfolding(crate::specs::Rules::explicit_at))]

@@ -1,6 +1,7 @@
 //! Where reading stands, and what it stands in.
 
-use asn1_types::Class;
+use asn1_types::{Class, TextKind};
+use osi_base::Octets;
 
 /// A place in the octets, and what stands from there on.
 #[derive(Clone, Copy)]
@@ -48,4 +49,32 @@ pub enum Ahead<'a> {
     Ended { place: usize, after: Spot<'a> },
     /// A value begins with this identifier, and goes on here.
     Begun(Opened<'a>, Spot<'a>),
+}
+
+/// Strings whose segments are octets (OCTET STRING and texts), or bits.
+#[derive(Clone, Copy)]
+pub enum StringKind {
+    OfOctets,
+    OfBits,
+}
+
+/// What the contents of a string must be.
+#[derive(Clone, Copy)]
+pub enum StringRule {
+    /// At most this many octets.
+    Octets { most: u32 },
+    /// Characters of this kind.
+    Text(TextKind),
+    /// Bits.
+    Bits,
+}
+
+/// What the segments of a string have together.
+#[derive(Drop)]
+pub struct Gathered {
+    pub octets: Octets,
+    /// How many bits of the last octet are unused.
+    pub unused: u8,
+    /// A segment stands behind one with unused bits.
+    pub spoiled: bool,
 }

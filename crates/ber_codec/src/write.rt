@@ -4,14 +4,14 @@ ghost use Rattle.std.specs.Prelude.{◌≡◌, ◌++◌, ◌∷◌, ◌+◌, ◌
 ghost use Rattle.std.specs.List.{AllByRecursion, flat_map};
 ghost use Rattle.asn1_types.specs.Rows.{rows_of_parts};
 ghost use Rattle.asn1_types.specs.Table.{IsSound};
-ghost use Rattle.asn1_types.specs.ValueView.{parts_of};
+ghost use Rattle.asn1_types.specs.ValueView.{parts_of, values_of};
 ghost use Rattle.ber_codec.specs.Spelling.{leading, subidentifiers};
-ghost use Rattle.ber_codec.specs.Writing.{high_digits, base_128, digits_256, base_256, natural_octets, integer_octets, identifier, length_octets, definite, integer_contents, object_id_contents, part_contents, parts_contents, sequence_contents, alternative_written, choice_written, any_written, under, tagged_written, write_by, writes, written};
+ghost use Rattle.ber_codec.specs.Writing.{high_digits, base_128, digits_256, base_256, natural_octets, integer_octets, identifier, length_octets, definite, boolean_contents, integer_contents, octets_contents, text_contents, bits_contents, object_id_contents, values_contents, list_contents, part_contents, parts_contents, sequence_contents, alternative_written, choice_written, any_written, under, tagged_written, write_by, writes, written};
 
 use crate::backward::Backward;
 use crate::read::tag_or;
 use crate::spot::Tag;
-use asn1_types::{Class, Node, Part, Parts, TypeId, TypeRow, TypeTable, Val};
+use asn1_types::{Class, Node, Part, Parts, TypeId, TypeRow, TypeTable, Val, text_number};
 use osi_base::{NoMemory, Octets};
 use std::alloc::Global;
 
@@ -135,6 +135,49 @@ fn put_integer_value(tag: Tag, value: &Val, out: &mut Backward) -> Result<(), No
     put_head(out, tag, false, behind)
 }
 
+/// A BOOLEAN: TRUE is FF (X.690 11.1).
+fn put_boolean(tag: Tag, value: &Val, out: &mut Backward) -> Result<(), NoMemory>
+    ensures { OnOk result (out.new ≡ definite false tag (boolean_contents value.now) ++ out.old) }
+{
+    let behind = out.len();
+    if let Node::Bool(truth) = &value.node {
+        out.put(if *truth { 255 } else { 0 })?;
+    }
+    put_head(out, tag, false, behind)
+}
+
+fn put_octets(tag: Tag, value: &Val, out: &mut Backward) -> Result<(), NoMemory>
+    ensures { OnOk result (out.new ≡ definite false tag (octets_contents value.now) ++ out.old) }
+{
+    let behind = out.len();
+    if let Node::Octets(octets) = &value.node {
+        out.put_all(octets.as_slice())?;
+    }
+    put_head(out, tag, false, behind)
+}
+
+fn put_text(tag: Tag, value: &Val, out: &mut Backward) -> Result<(), NoMemory>
+    ensures { OnOk result (out.new ≡ definite false tag (text_contents value.now) ++ out.old) }
+{
+    let behind = out.len();
+    if let Node::Text(octets) = &value.node {
+        out.put_all(octets.as_slice())?;
+    }
+    put_head(out, tag, false, behind)
+}
+
+/// A BIT STRING: how many bits are unused stands first (X.690 8.6.2).
+fn put_bits(tag: Tag, value: &Val, out: &mut Backward) -> Result<(), NoMemory>
+    ensures { OnOk result (out.new ≡ definite false tag (bits_contents value.now) ++ out.old) }
+{
+    let behind = out.len();
+    if let Node::Bits { octets, unused } = &value.node {
+        out.put_all(octets.as_slice())?;
+        out.put(*unused)?;
+    }
+    put_head(out, tag, false, behind)
+}
+
 /// An OBJECT IDENTIFIER's arcs (X.690 8.19), of which the first two are one subidentifier.
 fn put_arcs(arcs: &[u32], out: &mut Backward) -> Result<(), NoMemory>
     ensures { OnOk result (out.new ≡ flat_map base_128 (subidentifiers arcs.now) ++ out.old) }
@@ -217,8 +260,22 @@ fn put_row(
     ensures { OnOk result (out.new ≡ write_by (writes table.now) row.now tag value.now ++ out.old) }
 {
     match row {
+        TypeRow::Boolean => put_boolean(tag_or(tag, Class::Universal, 1), value, out),
         TypeRow::Integer { .. } => {
             put_integer_value(tag_or(tag, Class::Universal, 2), value, out)
+        }
+        TypeRow::Enumerated(_) => {
+            put_integer_value(tag_or(tag, Class::Universal, 10), value, out)
+        }
+        TypeRow::OctetString { .. } => put_octets(tag_or(tag, Class::Universal, 4), value, out),
+        TypeRow::BitString => put_bits(tag_or(tag, Class::Universal, 3), value, out),
+        TypeRow::Text(kind) => {
+            let tag = tag_or(tag, Class::Universal, text_number(*kind));
+            put_text(tag, value, out)
+        }
+        TypeRow::SequenceOf(inner) => {
+            let tag = tag_or(tag, Class::Universal, 16);
+            put_list(table, of, *inner, tag, value, out)
         }
         TypeRow::Null => put_null(tag_or(tag, Class::Universal, 5), out),
         TypeRow::ObjectId => put_object_id(tag_or(tag, Class::Universal, 6), value, out),
@@ -243,6 +300,45 @@ fn put_row(
         TypeRow::Any => put_any(tag, value, out),
         _ => Ok(()),
     }
+}
+
+#[cycle(writing)]
+fn put_list(
+    table: &TypeTable,
+    of: TypeId,
+    inner: TypeId,
+    tag: Tag,
+    value: &Val,
+    out: &mut Backward,
+) -> Result<(), NoMemory>
+    requires below { inner.0 < of.0 }
+    ensures { OnOk result (out.new ≡ definite true tag (list_contents (writes table.now inner.0) value.now) ++ out.old) }
+{
+    let behind = out.len();
+    if let Node::List(values) = &value.node {
+        put_values(table, of, inner, values, out)?;
+    }
+    put_head(out, tag, true, behind)
+}
+
+/// The items of a SEQUENCE OF, from the last to the first.
+#[cycle(writing)]
+fn put_values(
+    table: &TypeTable,
+    of: TypeId,
+    inner: TypeId,
+    values: &[Val],
+    out: &mut Backward,
+) -> Result<(), NoMemory>
+    requires below { inner.0 < of.0 }
+    ensures { OnOk result (out.new ≡ values_contents (writes table.now inner.0) (values_of values.now) ++ out.old) }
+{
+    let mut index = values.len();
+    while index > 0 {
+        index -= 1;
+        put_value(table, inner, None, &values[index], out)?;
+    }
+    Ok(())
 }
 
 fn put_null(tag: Tag, out: &mut Backward) -> Result<(), NoMemory>

@@ -1,10 +1,10 @@
-use Rattle.std.proofs.Common.{◌≡◌, ◌<◌, ◌≤◌, sym, ap, ◌∙◌, arith, length, Some, None}
+use Rattle.std.proofs.Common.{◌≡◌, ◌<◌, sym, ap, ◌∙◌, arith, length, Some, None}
 use Rattle.std.specs.Prelude.{slice_get}
 use Rattle.std.specs.Option.{option_copied}
 use Rattle.asn1_types.specs.Value.{chosen}
 use Rattle.asn1_types.specs.ValueView.{value_of}
 use Rattle.std.proofs.lemmas.Option.{slice_get_within}
-use Rattle.asn1_types.specs.declared.row.TypeRow.TheVariants.{Sequence, Choice, Tagged}
+use Rattle.asn1_types.specs.declared.row.TypeRow.TheVariants.{Sequence, SequenceOf, Choice, Tagged}
 use Rattle.asn1_types.specs.Fits.{alternative_fits, choice_fits, fits}
 use Rattle.asn1_types.proofs.Sound.{each_part, down_as}
 use Rattle.asn1_types.proofs.FitLaws.{not_within, false_not, fits_at, fits_past, parts_short, each_slot}
@@ -18,7 +18,14 @@ pub fits_row-sequence_fits-requires : goal.fits_row-sequence_fits-requires
 fits_row-sequence_fits-requires t c =
     let lt = slice_get_within c.args.table.now c.args.of.0 c.args.row.now c.requires.row in
     let down = down_as c.args.table.now c.args.of.0 c.args.row.now (Sequence c.in-Sequence.parts) c.requires.sound c.requires.row c.in-Sequence.is in
-    (omega arith, (rw c.as_slice.ensures down, omega arith))
+    (omega arith, (rw c.as_slice-in-Sequence.ensures down, omega arith))
+
+pub fits_row-list_fits-requires : goal.fits_row-list_fits-requires
+fits_row-list_fits-requires t c =
+    let lt = slice_get_within c.args.table.now c.args.of.0 c.args.row.now c.requires.row in
+    let down = down_as c.args.table.now c.args.of.0 c.args.row.now (SequenceOf c.in-SequenceOf.inner) c.requires.sound c.requires.row c.in-SequenceOf.is in
+    let below : c.in-SequenceOf.inner.0 < c.args.of.0 = down.0 in
+    (omega arith, (below, omega arith))
 
 pub fits_row-choice_fits-requires : goal.fits_row-choice_fits-requires
 fits_row-choice_fits-requires t c =

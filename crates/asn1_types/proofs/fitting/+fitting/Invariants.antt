@@ -1,6 +1,6 @@
 use Rattle.std.proofs.Common.{◌≡◌, ◌+◌, ◌*◌, drop}
-use Rattle.asn1_types.specs.ValueView.{parts_of}
-use Rattle.asn1_types.specs.Fits.{parts_fit, fits}
+use Rattle.asn1_types.specs.ValueView.{parts_of, values_of}
+use Rattle.asn1_types.specs.Fits.{parts_fit, values_fit, fits}
 use Rattle.asn1_types.proofs.fitting.+fitting.Given as goal
 
 abbrev pub decreases-fits : goal.decreases-fits
@@ -24,3 +24,13 @@ decreases-part_fits l = 5 * l.of.0
 abbrev pub invariant-parts_fit-loop-index : goal.invariant-parts_fit-loop-index
 invariant-parts_fit-loop-index l =
     parts_fit (fits l.table) (drop l.index l.parts) (parts_of (drop l.index l.values)) ≡ parts_fit (fits l.table) l.parts (parts_of l.values)
+
+abbrev pub decreases-list_fits : goal.decreases-list_fits
+decreases-list_fits l = 5 * l.of.0 + 2
+
+abbrev pub decreases-values_fit : goal.decreases-values_fit
+decreases-values_fit l = 5 * l.of.0 + 1
+
+abbrev pub invariant-values_fit-loop-value : goal.invariant-values_fit-loop-value
+invariant-values_fit-loop-value l =
+    values_fit (fits l.table l.inner.0) (values_of (drop l.value-index l.values)) ≡ values_fit (fits l.table l.inner.0) (values_of l.values)

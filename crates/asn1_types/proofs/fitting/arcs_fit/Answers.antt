@@ -1,4 +1,4 @@
-use Rattle.std.proofs.Common.{◌≡◌, arith}
+use Rattle.std.proofs.Common.{arith}
 use Rattle.asn1_types.proofs.FitLaws.{all_small}
 use Rattle.asn1_types.proofs.fitting.arcs_fit.Goals as goal
 

@@ -1,7 +1,7 @@
-use Rattle.std.proofs.Common.{◌≡◌, ◌<◌, ◌≤◌, sym, ap, ◌∙◌, arith}
+use Rattle.std.proofs.Common.{◌<◌, sym, ap, ◌∙◌, arith}
 use Rattle.std.specs.List.{list_any}
 use Rattle.std.proofs.lemmas.Option.{slice_get_within}
-use Rattle.asn1_types.specs.Rows.{allows, openings}
+use Rattle.asn1_types.specs.Rows.{allows}
 use Rattle.asn1_types.proofs.Sound.{each_part, choice_down, openings_at}
 use Rattle.asn1_types.proofs.opening.+opening.Goals as goal
 

@@ -1,4 +1,4 @@
-use Rattle.std.proofs.Common.{ℕ, zero, ◌<◌, ◌≤◌, ◌^◌, ◌*◌, ◌+◌, arith}
+use Rattle.std.proofs.Common.{zero, ◌<◌, ◌≤◌, ◌^◌, arith}
 use Rattle.std.proofs.Math.Nat.{pow-le-pow_right}
 use Rattle.asn1_types.proofs.whole.number_256.Goals as goal
 

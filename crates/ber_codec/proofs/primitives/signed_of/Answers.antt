@@ -1,9 +1,7 @@
-use Rattle.std.proofs.Common.{◌≡◌, ◌+◌, ◌<◌, ◌^◌, ◌∙◌, ap, sym, arith, to_z, of_z}
-use Rattle.std.specs.Int.{w64}
-use Rattle.std.proofs.lemmas.Int.{of_z-to_z}
+use Rattle.std.proofs.Common.{◌+◌, ◌∙◌, ap, arith}
 use Rattle.ber_codec.specs.Fields.{number_from}
 use Rattle.ber_codec.specs.Octets.{AreOctets}
-use Rattle.ber_codec.proofs.Numbers.{number_below, number_high, signed_low, signed_high, again}
+use Rattle.ber_codec.proofs.Numbers.{number_high, signed_low, signed_high, again}
 use Rattle.ber_codec.proofs.primitives.signed_of.Goals as goal
 
 pub overflow_add-number : goal.overflow_add-number

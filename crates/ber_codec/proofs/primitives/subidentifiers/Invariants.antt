@@ -1,4 +1,4 @@
-use Rattle.std.proofs.Common.{◌≡◌, ◌≤◌, ◌^◌, ◌++◌, false, drop}
+use Rattle.std.proofs.Common.{◌≡◌, ◌≤◌, ◌^◌, false, drop}
 use Rattle.ber_codec.specs.Primitives.{subidentifiers_of}
 use Rattle.ber_codec.proofs.Arcs.{behind}
 use Rattle.ber_codec.proofs.primitives.subidentifiers.Given as goal

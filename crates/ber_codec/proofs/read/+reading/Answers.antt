@@ -1,13 +1,14 @@
-use Rattle.std.proofs.Common.{◌≡◌, ◌<◌, ◌≤◌, ◌+◌, sym, ap, ◌∙◌, subst, arith, length}
-use Rattle.std.specs.List.{AllByRecursion}
+use Rattle.std.proofs.Common.{◌≡◌, ◌<◌, ◌+◌, ◌-◌, ◌++◌, ◌∷◌, [], None, Ok, refl, sym, ap, ◌∙◌, subst, arith, rules, length}
 use Rattle.std.proofs.lemmas.Option.{slice_get_within}
-use Rattle.asn1_types.specs.declared.row.TypeRow.TheVariants.{Sequence, Choice, Tagged}
-use Rattle.asn1_types.specs.Rows.{begins, rows_of_parts}
+use Rattle.asn1_types.specs.declared.row.TypeRow.TheVariants.{Sequence, SequenceOf, Choice, Tagged}
+use Rattle.asn1_types.specs.Rows.{begins}
 use Rattle.asn1_types.proofs.Sound.{each_part, down_as, choice_few}
-use Rattle.ber_codec.specs.Reading.{Gives, opened_of, spot_of, ahead_of}
-use Rattle.ber_codec.specs.Rules.{reads}
+use Rattle.ber_codec.specs.Reading.{opened_of, spot_of, ahead_of, LiesIn}
+use Rattle.ber_codec.specs.Rules.{items_at, list_item_at, list_done, reads}
 use Rattle.ber_codec.proofs.Rows.{reads_at}
 use Rattle.ber_codec.proofs.Loops.{parts_go_on, goes_then}
+use Rattle.ber_codec.proofs.Steps.{Fails-bind}
+use Rattle.ber_codec.proofs.Turns.{bind_is, look_fails, step_fails, step_goes, turns_end, no_turns}
 use Rattle.ber_codec.proofs.read.+reading.Goals as goal
 
 pub choice-begins-requires : goal.choice-begins-requires
@@ -51,7 +52,7 @@ value_as-choice-requires t c =
     let lt = slice_get_within c.args.table.now c.args.of.0 c.args.row.now c.requires.row in
     let down = down_as c.args.table.now c.args.of.0 c.args.row.now (Choice c.in-Choice.alternatives) c.requires.sound c.requires.row c.in-Choice.is in
     let few = choice_few c.args.table.now c.args.of.0 c.args.row.now c.in-Choice.alternatives c.requires.sound c.requires.row c.in-Choice.is in
-    (omega arith, (rw c.as_slice.ensures down, (omega arith, (rw c.as_slice.ensures (omega arith), (c.requires.whole, c.requires.start)))))
+    (omega arith, (rw c.as_slice-in-None.ensures down, (omega arith, (rw c.as_slice-in-None.ensures (omega arith), (c.requires.whole, c.requires.start)))))
 
 pub value_as-tagged_choice-requires : goal.value_as-tagged_choice-requires
 value_as-tagged_choice-requires t c =
@@ -73,3 +74,44 @@ value_as-value-requires t c =
     let down = down_as c.args.table.now c.args.of.0 c.args.row.now (Tagged c.in-Tagged.class c.in-Tagged.number c.in-Tagged.explicit c.in-Tagged.inner) c.requires.sound c.requires.row c.in-Tagged.is in
     let below : c.in-Tagged.inner.0 < c.args.of.0 = down.0 in
     (omega arith, (omega arith, (c.requires.whole, c.requires.start)))
+
+pub value_as-list-requires : goal.value_as-list-requires
+value_as-list-requires t c =
+    let lt = slice_get_within c.args.table.now c.args.of.0 c.args.row.now c.requires.row in
+    let down = down_as c.args.table.now c.args.of.0 c.args.row.now (SequenceOf c.in-SequenceOf.inner) c.requires.sound c.requires.row c.in-SequenceOf.is in
+    let below : c.in-SequenceOf.inner.0 < c.args.of.0 = down.0 in
+    (omega arith, (below, (omega arith, c.requires.whole)))
+
+pub items-returns-in_err-after-clause-gives : goal.items-returns-in_err-after-clause-gives
+items-returns-in_err-after-clause-gives t c =
+    let h = look_fails (list_item_at (reads c.args.table.now c.args.inner.0)) list_done c.in_err-after.field-0.0 (length c.args.spot.rest.now + 1 - c.loop-turn._turn) c.loop-turn.found.items c.args.scope.now (spot_of c.loop-turn.spot) _ (omega arith) c.loop-turn.invariant.so_far c.in_err-after.ensures.gives in
+    search rules
+
+pub items-returns-in-Ended-clause-gives : goal.items-returns-in-Ended-clause-gives
+items-returns-in-Ended-clause-gives t c =
+    turns_end (list_item_at (reads c.args.table.now c.args.inner.0)) list_done c.loop-turn.found.items _ c.args.scope.now (spot_of c.loop-turn.spot) (length c.args.spot.rest.now + 1 - c.loop-turn._turn) c.in-Ended.place (spot_of c.in-Ended.after) _ (omega arith) c.loop-turn.invariant.so_far
+    (c.in_ok-after.ensures.gives ∙ ap (λ a. Ok (ahead_of a)) c.in-Ended.is) refl
+
+pub items-returns-in_err-value-in-Begun-clause-gives : goal.items-returns-in_err-value-in-Begun-clause-gives
+items-returns-in_err-value-in-Begun-clause-gives t c =
+    let h = step_fails (list_item_at (reads c.args.table.now c.args.inner.0)) list_done c.in_err-value-in-Begun.field-0.0 (length c.args.spot.rest.now + 1 - c.loop-turn._turn) c.loop-turn.found.items c.args.scope.now (spot_of c.loop-turn.spot) (opened_of c.in-Begun.opened) (spot_of c.in-Begun.after) _ (omega arith) c.loop-turn.invariant.so_far
+    (c.in_ok-after.ensures.gives ∙ ap (λ a. Ok (ahead_of a)) c.in-Begun.is) (Fails-bind c.in_err-value-in-Begun.field-0.0 (reads c.args.table.now c.args.inner.0 None c.args.scope.now (opened_of c.in-Begun.opened) (spot_of c.in-Begun.after)) _ c.in_err-value-in-Begun.ensures.gives) in
+    search rules
+
+pub items-loop-turn-preserved : goal.items-loop-turn-preserved
+items-loop-turn-preserved t c =
+    let opens = subst (LiesIn c.loop-turn.spot.place (length c.loop-turn.spot.rest.now)) c.in-Begun.is c.in_ok-after.ensures.stops in
+    let less : length c.args.spot.rest.now + 1 - c.loop-turn._turn - 1 ≡ length c.args.spot.rest.now + 1 - (c.loop-turn._turn + 1) = omega arith in
+    let more = c.loop-turn.found.items ++ c.in_ok-value-in-Begun.value ∷ [] in
+    let goes = step_goes (list_item_at (reads c.args.table.now c.args.inner.0)) list_done (length c.args.spot.rest.now + 1 - c.loop-turn._turn) c.loop-turn.found.items more c.args.scope.now (spot_of c.loop-turn.spot) (opened_of c.in-Begun.opened) (spot_of c.in-Begun.after) (spot_of c.in_ok-value-in-Begun.next) _ (omega arith) c.loop-turn.invariant.so_far
+    (c.in_ok-after.ensures.gives ∙ ap (λ a. Ok (ahead_of a)) c.in-Begun.is)
+    (bind_is (reads c.args.table.now c.args.inner.0 None c.args.scope.now (opened_of c.in-Begun.opened) (spot_of c.in-Begun.after)) _ (c.in_ok-value-in-Begun.value, spot_of c.in_ok-value-in-Begun.next) c.in_ok-value-in-Begun.ensures.gives) in
+    record {
+      onward = goes_then c.loop-turn.invariant.onward (goes_then opens.behind c.in_ok-value-in-Begun.ensures.stops);
+      so_far = ap (λ found. items_at (list_item_at (reads c.args.table.now c.args.inner.0)) list_done (length c.args.spot.rest.now + 1 - (c.loop-turn._turn + 1)) found c.args.scope.now (spot_of c.in_ok-value-in-Begun.next)) c.in_ok-push-in-Begun.ensures.items
+          ∙ ap (λ k. items_at (list_item_at (reads c.args.table.now c.args.inner.0)) list_done k more c.args.scope.now (spot_of c.in_ok-value-in-Begun.next)) (sym less) ∙ goes;
+    }
+
+pub items-returns-clause-gives : goal.items-returns-clause-gives
+items-returns-clause-gives t c =
+    no_turns (list_item_at (reads c.args.table.now c.args.inner.0)) list_done (length c.args.spot.rest.now + 1 - c.loop-turn._turn) c.loop-turn.found.items c.args.scope.now (spot_of c.loop-turn.spot) _ (omega arith) c.loop-turn.invariant.so_far

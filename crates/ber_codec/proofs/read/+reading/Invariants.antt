@@ -1,7 +1,7 @@
-use Rattle.std.proofs.Common.{◌≡◌, ◌+◌, ◌*◌, drop}
+use Rattle.std.proofs.Common.{◌≡◌, ◌+◌, ◌-◌, ◌*◌, [], drop, length}
 use Rattle.asn1_types.specs.Rows.{begins}
-use Rattle.ber_codec.specs.Reading.{opened_of, spot_of, ahead_of, IsBefore, Follows, spot_in}
-use Rattle.ber_codec.specs.Rules.{choice_at, parts_at, reads}
+use Rattle.ber_codec.specs.Reading.{opened_of, spot_of, ahead_of, IsBefore, GoesOn, Follows, spot_in}
+use Rattle.ber_codec.specs.Rules.{items_at, all_items_at, list_item_at, list_done, choice_at, parts_at, reads}
 use Rattle.ber_codec.proofs.Loops.{parts_behind}
 use Rattle.ber_codec.proofs.read.+reading.Given as goal
 
@@ -19,6 +19,18 @@ decreases-tagged l = 8 * l.of.0 + 4
 
 abbrev pub decreases-choice : goal.decreases-choice
 decreases-choice l = 8 * l.of.0 + 4
+
+abbrev pub decreases-list : goal.decreases-list
+decreases-list l = 8 * l.of.0 + 5
+
+abbrev pub decreases-items : goal.decreases-items
+decreases-items l = 8 * l.of.0 + 4
+
+abbrev pub invariant-items-loop-turn : goal.invariant-items-loop-turn
+invariant-items-loop-turn l = record {
+  onward : GoesOn l.fn.spot.place (length l.fn.spot.rest.now) l.spot;
+  so_far : items_at (list_item_at (reads l.table l.inner.0)) list_done (l._turn-end - l._turn) l.found.items l.scope (spot_of l.spot) ≡ all_items_at (list_item_at (reads l.table l.inner.0)) list_done [] l.scope (spot_of l.fn.spot);
+}
 
 abbrev pub decreases-sequence : goal.decreases-sequence
 decreases-sequence l = 8 * l.of.0 + 5

@@ -1,8 +1,7 @@
-use Rattle.std.proofs.Common.{◌≡◌, ◌<◌, ◌≤◌, ◌++◌, ◌-◌, sym, ap, ◌∙◌, arith, length, Some, None}
+use Rattle.std.proofs.Common.{◌≡◌, ◌<◌, ◌++◌, ◌-◌, sym, ap, ◌∙◌, arith, length, Some}
 use Rattle.std.specs.Prelude.{slice_get}
 use Rattle.std.specs.Option.{option_copied}
-use Rattle.std.proofs.lemmas.Option.{slice_get_within}
-use Rattle.asn1_types.specs.declared.row.TypeRow.TheVariants.{Sequence, Choice, Tagged}
+use Rattle.asn1_types.specs.declared.row.TypeRow.TheVariants.{Sequence, SequenceOf, Choice, Tagged}
 use Rattle.asn1_types.proofs.Sound.{each_part, down_as}
 use Rattle.asn1_types.proofs.FitLaws.{not_within, false_not, each_slot}
 use Rattle.ber_codec.specs.Writing.{writes}
@@ -57,3 +56,9 @@ put_parts-put_part-requires t c =
     let within : c.loop-index.index - 1 < length c.args.parts.now = omega (arith, c.loop-index.invariant.parts, c.loop-index-test.true) in
     let lt : c.index-parts-index.result.inner.0 < c.args.of.0 = each_part (λ m. m < c.args.of.0) c.args.parts.now (c.loop-index.index - 1) c.index-parts-index.result c.requires.below within c.index-parts-index.is in
     (omega arith, lt)
+
+pub put_row-put_list-requires : goal.put_row-put_list-requires
+put_row-put_list-requires t c =
+    let down = down_as c.args.table.now c.args.of.0 c.args.row.now (SequenceOf c.in-SequenceOf.inner) c.requires.sound c.requires.row c.in-SequenceOf.is in
+    let below : c.in-SequenceOf.inner.0 < c.args.of.0 = down.0 in
+    (omega arith, below)

@@ -1,6 +1,6 @@
 use Rattle.std.proofs.Common.{◌≡◌, ◌≤◌, ◌+◌, ◌*◌, ◌++◌, drop, length}
-use Rattle.asn1_types.specs.ValueView.{parts_of}
-use Rattle.ber_codec.specs.Writing.{parts_contents, writes}
+use Rattle.asn1_types.specs.ValueView.{parts_of, values_of}
+use Rattle.ber_codec.specs.Writing.{parts_contents, values_contents, writes}
 use Rattle.ber_codec.proofs.write.+writing.Given as goal
 
 abbrev pub decreases-put_value : goal.decreases-put_value
@@ -35,4 +35,19 @@ invariant-put_parts-loop-index l = record {
   parts : l.index ≤ length l.parts;
   values : l.index ≤ length l.values;
   so_far : l.out ≡ parts_contents (writes l.table) (drop l.index l.parts) (parts_of (drop l.index l.values)) ++ l.fn.out;
+}
+
+abbrev pub decreases-put_list : goal.decreases-put_list
+decreases-put_list l = 6 * l.of.0 + 3
+
+abbrev pub decreases-put_values : goal.decreases-put_values
+decreases-put_values l = 6 * l.of.0 + 2
+
+abbrev pub decreases-put_values-loop-index : goal.decreases-put_values-loop-index
+decreases-put_values-loop-index l = l.index
+
+abbrev pub invariant-put_values-loop-index : goal.invariant-put_values-loop-index
+invariant-put_values-loop-index l = record {
+  within : l.index ≤ length l.values;
+  so_far : l.out ≡ values_contents (writes l.table l.inner.0) (values_of (drop l.index l.values)) ++ l.fn.out;
 }

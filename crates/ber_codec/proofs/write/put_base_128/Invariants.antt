@@ -1,4 +1,4 @@
-use Rattle.std.proofs.Common.{◌≡◌, ◌≤◌, ◌++◌, ◌-◌, [], map, drop, length}
+use Rattle.std.proofs.Common.{◌≡◌, ◌++◌}
 use Rattle.ber_codec.specs.Writing.{high_digits, base_128}
 use Rattle.ber_codec.proofs.write.put_base_128.Given as goal
 

@@ -1,4 +1,4 @@
-use Rattle.std.proofs.Common.{◌≡◌, ◌≤◌, ◌++◌, ◌-◌, [], map, drop, length}
+use Rattle.std.proofs.Common.{◌≡◌, ◌++◌}
 use Rattle.ber_codec.specs.Writing.{digits_256, base_256}
 use Rattle.ber_codec.proofs.write.put_base_256.Given as goal
 

@@ -1,4 +1,4 @@
-use Rattle.std.proofs.Common.{◌≤◌, ◌<◌, ◌^◌, ◌-◌, arith}
+use Rattle.std.proofs.Common.{◌<◌, ◌^◌, arith}
 use Rattle.ber_codec.proofs.WrittenLoops.{length_room}
 use Rattle.ber_codec.proofs.write.put_length.Goals as goal
 

@@ -1,4 +1,4 @@
-use Rattle.std.proofs.Common.{◌≡◌, ◌≤◌, ◌++◌, ◌-◌, [], map, drop, length}
+use Rattle.std.proofs.Common.{◌≡◌, ◌++◌, ◌-◌, [], map}
 use Rattle.ber_codec.specs.Writing.{natural_octets}
 use Rattle.ber_codec.proofs.write.put_negative.Given as goal
 

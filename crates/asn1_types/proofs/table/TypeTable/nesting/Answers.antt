@@ -1,4 +1,4 @@
-use Rattle.std.proofs.Common.{◌<◌, length, ◌∙◌, sym, ap, subst, arith, ℕ, ◌≡◌}
+use Rattle.std.proofs.Common.{◌<◌, length, ◌∙◌, sym, ap, subst, ℕ, ◌≡◌}
 use Rattle.std.specs.Prelude.{slice_index, List}
 use Rattle.std.specs.List.{AllByRecursion}
 use Rattle.asn1_types.specs.declared.row.TypeRow.{TypeRow}

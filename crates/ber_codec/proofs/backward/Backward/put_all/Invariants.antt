@@ -1,4 +1,4 @@
-use Rattle.std.proofs.Common.{◌≡◌, ◌≤◌, ◌++◌, [], map, drop, length}
+use Rattle.std.proofs.Common.{◌≡◌, ◌≤◌, ◌++◌, drop, length}
 use Rattle.ber_codec.proofs.backward.Backward.put_all.Given as goal
 
 abbrev pub decreases-loop-index : goal.decreases-loop-index
