@@ -25,6 +25,7 @@ pub mod Digits
 pub mod WrittenFields
 pub mod WrittenLoops
 pub mod WriteLaws
+pub mod Counts
 pub mod Written
 pub mod Wholes
 pub mod WholeSpelled

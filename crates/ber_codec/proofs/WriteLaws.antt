@@ -1,5 +1,5 @@
 -- What a row is written as goes by its rule.
-use Rattle.std.proofs.Common.{◌≡◌, ℕ, zero, suc, ◌<◌, ◌≤◌, min, true, false, List, [], ◌∷◌, ◌++◌, length, drop, get_or, Option, Some, None, refl, sym, ap, arith, ◌⊎◌, inl, inr}
+use Rattle.std.proofs.Common.{◌≡◌, ℕ, zero, suc, ◌<◌, ◌≤◌, min, true, false, List, [], ◌∷◌, ◌++◌, length, drop, get_or, Option, Some, None, refl, arith, ◌⊎◌, inl, inr}
 use Rattle.std.specs.Prelude.{slice_get}
 use Rattle.std.specs.List.{AllByRecursion}
 use Rattle.std.proofs.lemmas.Option.{slice_get_past}
@@ -82,8 +82,8 @@ parts_none f (p ∷ ps) (v ∷ vs) zero (inr h) = absurd (omega arith)
 parts_none f (p ∷ ps) (v ∷ vs) (suc i) (inl h) = parts_none f ps vs i (inl (omega arith))
 parts_none f (p ∷ ps) (v ∷ vs) (suc i) (inr h) = parts_none f ps vs i (inr (omega arith))
 
-pub parts_begin : (f : ℕ → Writer) (ps : List Part) (vs : List (Option Value)) (old : List ℕ) (i : ℕ) → i ≡ min (length ps) (length vs) → old ≡ parts_contents f (drop i ps) (parts_of (drop i vs)) ++ old
-parts_begin f ps vs old i e = ap (λ (x : List ℕ). x ++ old) (sym (parts_none f ps vs i (past (length ps) (length vs) i e)))
+pub parts_begin : (f : ℕ → Writer) (ps : List Part) (vs : List (Option Value)) (i : ℕ) → i ≡ min (length ps) (length vs) → parts_contents f (drop i ps) (parts_of (drop i vs)) ≡ []
+parts_begin f ps vs i e = parts_none f ps vs i (past (length ps) (length vs) i e)
   where
     past : (a b i : ℕ) → i ≡ min a b → (a ≤ i) ⊎ (b ≤ i)
     past a b i e = elim (cases_lt a b) [ inl lt ↦ inl (omega arith) | inr ge ↦ inr (omega arith) ]
@@ -92,8 +92,3 @@ pub values_before : (f : Writer) (vs : List Value) (i : ℕ) (v : Value) → i <
 values_before f [] i v lt e = absurd (omega arith)
 values_before f (w ∷ vs) zero v lt e = rw e refl
 values_before f (w ∷ vs) (suc i) v lt e = values_before f vs i v (omega arith) e
-
-pub values_none : (f : Writer) (vs : List Value) (old : List ℕ) (i : ℕ) → i ≡ length vs → old ≡ values_contents f (values_of (drop i vs)) ++ old
-values_none f [] old i e = ap (λ (k : ℕ). values_contents f (values_of (drop k [])) ++ old) (sym e)
-values_none f (v ∷ vs) old zero e = absurd (omega arith)
-values_none f (v ∷ vs) old (suc i) e = values_none f vs old i (omega arith)

@@ -1,14 +1,9 @@
 -- Writing from the last octet to the first.
-use Rattle.std.proofs.Common.{◌≡◌, ℕ, ◌+◌, ◌-◌, ◌/◌, ◌%◌, ◌^◌, ◌<◌, ◌≤◌, Bool, List, [], ◌∷◌, ◌++◌, length, Result, Ok, Err, sym, ap, ◌∙◌, arith, append_assoc, length-append, OnOk}
+use Rattle.std.proofs.Common.{◌≡◌, ℕ, ◌+◌, ◌-◌, ◌/◌, ◌%◌, ◌<◌, ◌≤◌, List, [], ◌∷◌, ◌++◌, sym, ap, ◌∙◌, arith, append_assoc}
 use Rattle.std.proofs.lemmas.List.{map-append}
-use Rattle.ber_codec.specs.declared.spot.Tag as tags
-use Rattle.ber_codec.specs.Writing.{high_digits, base_128, digits_256, base_256, natural_octets, identifier, length_octets, definite}
-use Rattle.ber_codec.proofs.Digits.{high_step, high_append, low_step, low_append, nat_step, nat_append, nat_last, base_256_few}
+use Rattle.ber_codec.specs.Writing.{high_digits, base_128, digits_256, base_256, natural_octets}
+use Rattle.ber_codec.proofs.Digits.{high_step, high_append, low_step, low_append, nat_step, nat_append, nat_last}
 use Rattle.ber_codec.proofs.WrittenFields.{turned}
-
-pub on_ok : {A E P Q : Type 0} (r : Result A E) → (P → Q) → OnOk r P → OnOk r Q
-on_ok (Ok x) f h = f h
-on_ok (Err e) f h = tt
 
 pub high_begin : (n : ℕ) (old new : List ℕ) → new ≡ (n % 128) ∷ old → high_digits (n / 128) (n / 128) new ≡ base_128 n ++ old
 unfolding base_128
@@ -41,24 +36,3 @@ turned_put n b new whole le e h =
 
 pub turned_end : (n : ℕ) (b new whole : List ℕ) → n < 128 → turned (natural_octets n n []) ++ b ≡ whole → new ≡ (255 - n) ∷ b → new ≡ whole
 turned_end n b new whole lt h e = e ∙ ap (λ (x : List ℕ). turned x ++ b) (sym (nat_last n [] lt)) ∙ h
-
-pub length_room : (n len behind : ℕ) (old new : List ℕ) → n < 2 ^ 64 → len ≡ length new → behind ≡ length old → new ≡ base_256 n ++ old → len - behind ≤ 8
-length_room n len behind old new lt l m e =
-    let few : length (base_256 n) ≤ 8 = base_256_few n lt in
-    let all : length new ≡ length (base_256 n) + length old = ap length e ∙ length-append (base_256 n) old in
-    omega arith
-
-pub length_counted : (n len behind : ℕ) (old new : List ℕ) → len ≡ length new → behind ≡ length old → new ≡ base_256 n ++ old → len - behind ≡ length (base_256 n)
-length_counted n len behind old new l m e =
-    let all : length new ≡ length (base_256 n) + length old = ap length e ∙ length-append (base_256 n) old in
-    omega arith
-
--- identifier and length before contents
-pub head_put : (constructed : Bool) (tag : tags.Tag) (behind : ℕ) (c old mid new : List ℕ) → behind ≡ length old → mid ≡ c ++ old
-    → new ≡ identifier tag.class constructed tag.number ++ (length_octets (length mid - behind) ++ mid) → new ≡ definite constructed tag c ++ old
-head_put constructed tag behind c old mid new b m e =
-    let all : length mid ≡ length c + length old = ap length m ∙ length-append c old in
-    let count : length mid - behind ≡ length c = omega arith in
-    let head : List ℕ = identifier tag.class constructed tag.number in
-    e ∙ ap (λ (k : ℕ). head ++ (length_octets k ++ mid)) count ∙ ap (λ (x : List ℕ). head ++ (length_octets (length c) ++ x)) m
-    ∙ ap (λ (x : List ℕ). head ++ x) (sym (append_assoc (length_octets (length c)) c old)) ∙ sym (append_assoc head (length_octets (length c) ++ c) old)

@@ -1,5 +1,5 @@
 -- The DER spelling of each value that fits a row (X.690 8 and 10), as a function.
-use Rattle.std.specs.Prelude.{ℕ, zero, suc, ◌+◌, ◌-◌, ◌/◌, ◌%◌, ℤ, pos, negsuc, Bool, true, false, Option, Some, None, List, [], ◌∷◌, ◌++◌, map, length, nat_lt, nat_eq, slice_get, if◌then◌else◌}
+use Rattle.std.specs.Prelude.{ℕ, zero, suc, ◌+◌, ◌-◌, ◌/◌, ◌%◌, ℤ, pos, negsuc, Bool, true, false, Option, Some, None, List, [], ◌∷◌, ◌++◌, map, length, min, ◌^◌, nat_lt, nat_eq, slice_get, if◌then◌else◌}
 use Rattle.std.specs.List.{flat_map}
 use Rattle.asn1_types.specs.declared.row.Class.{Class}
 use Rattle.asn1_types.specs.declared.row.Class.TheVariants.{Universal}
@@ -164,3 +164,7 @@ writes rows n = along nothing_written write_by rows (length rows) n
 -- the DER spelling of a value that fits row n of a table
 unfoldable pub written : List TypeRow → ℕ → Value → List ℕ
 written rows n v = writes rows n None v
+
+-- a length in 64 bits, which stands still at their end
+abbrev pub capped : ℕ → ℕ
+capped n = min n (2 ^ 64 - 1)

@@ -1,6 +1,7 @@
-//! Writing values in DER, from the last octet to the first.
+//! Writing values in DER into a room, from the last octet to the first. What a function puts stands
+//! right before `end`, and it answers where that begins.
 
-ghost use Rattle.std.specs.Prelude.{◌≡◌, ◌++◌, ◌∷◌, ◌+◌, ◌-◌, ◌/◌, ◌%◌, ◌<◌, ◌≤◌, ◌^◌, [], Some, None, map, false, true, length, slice_get, OnOk, IfOk};
+ghost use Rattle.std.specs.Prelude.{◌≡◌, ◌++◌, ◌∷◌, ◌+◌, ◌-◌, ◌/◌, ◌%◌, ◌<◌, ◌≤◌, ◌^◌, [], Some, None, map, false, true, length, take, drop, slice_get, IfOk};
 ghost use Rattle.std.specs.List.{AllByRecursion, flat_map};
 ghost use Rattle.asn1_types.specs.Rows.{rows_of_parts};
 ghost use Rattle.asn1_types.specs.Table.{IsSound};
@@ -8,74 +9,112 @@ ghost use Rattle.asn1_types.specs.ValueView.{parts_of, values_of};
 ghost use Rattle.ber_codec.specs.Spelling.{leading, subidentifiers};
 ghost use Rattle.ber_codec.specs.Writing.{high_digits, base_128, digits_256, base_256, natural_octets, integer_octets, identifier, length_octets, definite, boolean_contents, integer_contents, octets_contents, text_contents, bits_contents, object_id_contents, values_contents, list_contents, part_contents, parts_contents, sequence_contents, alternative_written, choice_written, any_written, under, tagged_written, write_by, writes, written};
 
-use crate::backward::Backward;
+use crate::length::ber_len;
 use crate::read::tag_or;
 use crate::spot::Tag;
 use asn1_types::{Class, Node, Part, Parts, TypeId, TypeRow, TypeTable, Val, text_number};
 use osi_base::{NoMemory, Octets};
 use std::alloc::Global;
 
-/// A number in base 128, with bit 8 set in all digits but the last.
-#[tactic(auto, unfolding(crate::specs::Writing::base_128))]
-fn put_base_128(out: &mut Backward, number: u64) -> Result<(), NoMemory>
-    ensures { OnOk result (out.new ≡ base_128 number ++ out.old) }
+fn put(octet: u8, room: &mut [u8], end: usize) -> usize
+    requires room { 0 < end }
+    requires end { end ≤ length room.old }
+    ensures start { result + 1 ≡ end }
+    ensures put { drop result room.new ≡ octet ∷ drop end room.old }
 {
-    out.put((number % 128) as u8)?;
+    let start = end - 1;
+    room[start] = octet;
+    start
+}
+
+fn put_all(octets: &[u8], room: &mut [u8], end: usize) -> usize
+    requires room { length octets.now ≤ end }
+    requires end { end ≤ length room.old }
+    ensures start { result + length octets.now ≡ end }
+    ensures put { drop result room.new ≡ octets.now ++ drop end room.old }
+{
+    let start = end - octets.len();
+    room[start..end].copy_from_slice(octets);
+    start
+}
+
+/// A number in base 128, with bit 8 set in all digits but the last.
+fn put_base_128(number: u64, room: &mut [u8], end: usize) -> usize
+    requires room { length (base_128 number) ≤ end }
+    requires end { end ≤ length room.old }
+    ensures start { result + length (base_128 number) ≡ end }
+    ensures put { drop result room.new ≡ base_128 number ++ drop end room.old }
+{
+    let mut start = put((number % 128) as u8, room, end);
     let mut high = number / 128;
     while high > 0 {
-        out.put((128 + high % 128) as u8)?;
+        start = put((128 + high % 128) as u8, room, start);
         high /= 128;
     }
-    Ok(())
+    start
 }
 
 /// A number in as few octets as hold it.
-#[tactic(auto, unfolding(crate::specs::Writing::base_256))]
-fn put_base_256(out: &mut Backward, number: u64) -> Result<(), NoMemory>
-    ensures { OnOk result (out.new ≡ base_256 number ++ out.old) }
+fn put_base_256(number: u64, room: &mut [u8], end: usize) -> usize
+    requires room { length (base_256 number) ≤ end }
+    requires end { end ≤ length room.old }
+    ensures start { result + length (base_256 number) ≡ end }
+    ensures put { drop result room.new ≡ base_256 number ++ drop end room.old }
 {
+    let mut start = end;
     let mut high = number;
     while high > 0 {
-        out.put((high % 256) as u8)?;
+        start = put((high % 256) as u8, room, start);
         high /= 256;
     }
-    Ok(())
+    start
 }
 
 /// An INTEGER's contents (X.690 8.3). Below 0 they are those of -1 less the number, with each bit turned.
 #[tactic(auto, unfolding(crate::specs::Writing::integer_octets))]
-fn put_integer(out: &mut Backward, number: i64) -> Result<(), NoMemory>
-    ensures { OnOk result (out.new ≡ integer_octets number ++ out.old) }
+fn put_integer(number: i64, room: &mut [u8], end: usize) -> usize
+    requires room { length (integer_octets number) ≤ end }
+    requires end { end ≤ length room.old }
+    ensures start { result + length (integer_octets number) ≡ end }
+    ensures put { drop result room.new ≡ integer_octets number ++ drop end room.old }
 {
     if number < 0 {
-        put_negative(out, (-1 - number) as u64)
+        put_negative((-1 - number) as u64, room, end)
     } else {
-        put_natural(out, number as u64)
+        put_natural(number as u64, room, end)
     }
 }
 
 /// A number from 0 on, in as few octets as hold it with bit 8 of the first clear.
-fn put_natural(out: &mut Backward, number: u64) -> Result<(), NoMemory>
-    ensures { OnOk result (out.new ≡ natural_octets number number [] ++ out.old) }
+fn put_natural(number: u64, room: &mut [u8], end: usize) -> usize
+    requires room { length (natural_octets number number []) ≤ end }
+    requires end { end ≤ length room.old }
+    ensures start { result + length (natural_octets number number []) ≡ end }
+    ensures put { drop result room.new ≡ natural_octets number number [] ++ drop end room.old }
 {
+    let mut start = end;
     let mut high = number;
     while high >= 128 {
-        out.put((high % 256) as u8)?;
+        start = put((high % 256) as u8, room, start);
         high /= 256;
     }
-    out.put(high as u8)
+    put(high as u8, room, start)
 }
 
 /// The octets of a number from 0 on, with each bit turned.
-fn put_negative(out: &mut Backward, number: u64) -> Result<(), NoMemory>
-    ensures { OnOk result (out.new ≡ map (λ octet. 255 - octet) (natural_octets number number []) ++ out.old) }
+fn put_negative(number: u64, room: &mut [u8], end: usize) -> usize
+    requires room { length (map (λ octet. 255 - octet) (natural_octets number number [])) ≤ end }
+    requires end { end ≤ length room.old }
+    ensures start { result + length (map (λ octet. 255 - octet) (natural_octets number number [])) ≡ end }
+    ensures put { drop result room.new ≡ map (λ octet. 255 - octet) (natural_octets number number []) ++ drop end room.old }
 {
+    let mut start = end;
     let mut high = number;
     while high >= 128 {
-        out.put((255 - high % 256) as u8)?;
+        start = put((255 - high % 256) as u8, room, start);
         high /= 256;
     }
-    out.put((255 - high) as u8)
+    put((255 - high) as u8, room, start)
 }
 
 /// The first octet's class and form (X.690 8.1.2).
@@ -92,157 +131,203 @@ fn leading(class: Class, constructed: bool) -> u8
     }
 }
 
-fn put_identifier(out: &mut Backward, tag: Tag, constructed: bool) -> Result<(), NoMemory>
-    ensures { OnOk result (out.new ≡ identifier tag.class constructed tag.number ++ out.old) }
+fn put_identifier(tag: Tag, constructed: bool, room: &mut [u8], end: usize) -> usize
+    requires room { length (identifier tag.class constructed tag.number) ≤ end }
+    requires end { end ≤ length room.old }
+    ensures start { result + length (identifier tag.class constructed tag.number) ≡ end }
+    ensures put { drop result room.new ≡ identifier tag.class constructed tag.number ++ drop end room.old }
 {
     let first = leading(tag.class, constructed);
     if tag.number < 31 {
-        return out.put(first + tag.number as u8);
+        return put(first + tag.number as u8, room, end);
     }
-    put_base_128(out, tag.number as u64)?;
-    out.put(first + 31)
+    let start = put_base_128(tag.number as u64, room, end);
+    put(first + 31, room, start)
 }
 
-fn put_length(out: &mut Backward, count: usize) -> Result<(), NoMemory>
-    ensures { OnOk result (out.new ≡ length_octets count ++ out.old) }
+fn put_length(count: usize, room: &mut [u8], end: usize) -> usize
+    requires room { length (length_octets count) ≤ end }
+    requires end { end ≤ length room.old }
+    ensures start { result + length (length_octets count) ≡ end }
+    ensures put { drop result room.new ≡ length_octets count ++ drop end room.old }
 {
     if count < 128 {
-        return out.put(count as u8);
+        return put(count as u8, room, end);
     }
-    let behind = out.len();
-    put_base_256(out, count as u64)?;
-    let size = out.len() - behind;
-    out.put(128 + size as u8)
+    let start = put_base_256(count as u64, room, end);
+    put(128 + (end - start) as u8, room, start)
 }
 
-/// Identifier and length, before contents that were put before `behind` octets.
-fn put_head(out: &mut Backward, tag: Tag, constructed: bool, behind: usize) -> Result<(), NoMemory>
-    requires { behind ≤ length out.old }
-    ensures { OnOk result (out.new ≡ identifier tag.class constructed tag.number ++ (length_octets (length out.old - behind) ++ out.old)) }
+/// Identifier and length of contents of `count` octets.
+fn put_head(tag: Tag, constructed: bool, count: usize, room: &mut [u8], end: usize) -> usize
+    requires room { length (identifier tag.class constructed tag.number ++ length_octets count) ≤ end }
+    requires end { end ≤ length room.old }
+    ensures start { result + length (identifier tag.class constructed tag.number ++ length_octets count) ≡ end }
+    ensures put { drop result room.new ≡ identifier tag.class constructed tag.number ++ length_octets count ++ drop end room.old }
 {
-    let count = out.len() - behind;
-    put_length(out, count)?;
-    put_identifier(out, tag, constructed)
+    let start = put_length(count, room, end);
+    put_identifier(tag, constructed, room, start)
 }
 
-fn put_integer_value(tag: Tag, value: &Val, out: &mut Backward) -> Result<(), NoMemory>
-    ensures { OnOk result (out.new ≡ definite false tag (integer_contents value.now) ++ out.old) }
+fn put_integer_value(tag: Tag, value: &Val, room: &mut [u8], end: usize) -> usize
+    requires room { length (definite false tag (integer_contents value.now)) ≤ end }
+    requires end { end ≤ length room.old }
+    ensures start { result + length (definite false tag (integer_contents value.now)) ≡ end }
+    ensures put { drop result room.new ≡ definite false tag (integer_contents value.now) ++ drop end room.old }
 {
-    let behind = out.len();
-    if let Node::Int(number) = &value.node {
-        put_integer(out, *number)?;
-    }
-    put_head(out, tag, false, behind)
+    let start = match &value.node {
+        Node::Int(number) => put_integer(*number, room, end),
+        _ => end,
+    };
+    put_head(tag, false, end - start, room, start)
 }
 
 /// A BOOLEAN: TRUE is FF (X.690 11.1).
-fn put_boolean(tag: Tag, value: &Val, out: &mut Backward) -> Result<(), NoMemory>
-    ensures { OnOk result (out.new ≡ definite false tag (boolean_contents value.now) ++ out.old) }
+fn put_boolean(tag: Tag, value: &Val, room: &mut [u8], end: usize) -> usize
+    requires room { length (definite false tag (boolean_contents value.now)) ≤ end }
+    requires end { end ≤ length room.old }
+    ensures start { result + length (definite false tag (boolean_contents value.now)) ≡ end }
+    ensures put { drop result room.new ≡ definite false tag (boolean_contents value.now) ++ drop end room.old }
 {
-    let behind = out.len();
-    if let Node::Bool(truth) = &value.node {
-        out.put(if *truth { 255 } else { 0 })?;
-    }
-    put_head(out, tag, false, behind)
+    let start = match &value.node {
+        Node::Bool(truth) => put(if *truth { 255 } else { 0 }, room, end),
+        _ => end,
+    };
+    put_head(tag, false, end - start, room, start)
 }
 
-fn put_octets(tag: Tag, value: &Val, out: &mut Backward) -> Result<(), NoMemory>
-    ensures { OnOk result (out.new ≡ definite false tag (octets_contents value.now) ++ out.old) }
+fn put_octets(tag: Tag, value: &Val, room: &mut [u8], end: usize) -> usize
+    requires room { length (definite false tag (octets_contents value.now)) ≤ end }
+    requires end { end ≤ length room.old }
+    ensures start { result + length (definite false tag (octets_contents value.now)) ≡ end }
+    ensures put { drop result room.new ≡ definite false tag (octets_contents value.now) ++ drop end room.old }
 {
-    let behind = out.len();
-    if let Node::Octets(octets) = &value.node {
-        out.put_all(octets.as_slice())?;
-    }
-    put_head(out, tag, false, behind)
+    let start = match &value.node {
+        Node::Octets(octets) => put_all(octets.as_slice(), room, end),
+        _ => end,
+    };
+    put_head(tag, false, end - start, room, start)
 }
 
-fn put_text(tag: Tag, value: &Val, out: &mut Backward) -> Result<(), NoMemory>
-    ensures { OnOk result (out.new ≡ definite false tag (text_contents value.now) ++ out.old) }
+fn put_text(tag: Tag, value: &Val, room: &mut [u8], end: usize) -> usize
+    requires room { length (definite false tag (text_contents value.now)) ≤ end }
+    requires end { end ≤ length room.old }
+    ensures start { result + length (definite false tag (text_contents value.now)) ≡ end }
+    ensures put { drop result room.new ≡ definite false tag (text_contents value.now) ++ drop end room.old }
 {
-    let behind = out.len();
-    if let Node::Text(octets) = &value.node {
-        out.put_all(octets.as_slice())?;
-    }
-    put_head(out, tag, false, behind)
+    let start = match &value.node {
+        Node::Text(octets) => put_all(octets.as_slice(), room, end),
+        _ => end,
+    };
+    put_head(tag, false, end - start, room, start)
 }
 
 /// A BIT STRING: how many bits are unused stands first (X.690 8.6.2).
-fn put_bits(tag: Tag, value: &Val, out: &mut Backward) -> Result<(), NoMemory>
-    ensures { OnOk result (out.new ≡ definite false tag (bits_contents value.now) ++ out.old) }
+fn put_bits(tag: Tag, value: &Val, room: &mut [u8], end: usize) -> usize
+    requires room { length (definite false tag (bits_contents value.now)) ≤ end }
+    requires end { end ≤ length room.old }
+    ensures start { result + length (definite false tag (bits_contents value.now)) ≡ end }
+    ensures put { drop result room.new ≡ definite false tag (bits_contents value.now) ++ drop end room.old }
 {
-    let behind = out.len();
-    if let Node::Bits { octets, unused } = &value.node {
-        out.put_all(octets.as_slice())?;
-        out.put(*unused)?;
-    }
-    put_head(out, tag, false, behind)
+    let start = match &value.node {
+        Node::Bits { octets, unused } => put_segment(octets.as_slice(), *unused, room, end),
+        _ => end,
+    };
+    put_head(tag, false, end - start, room, start)
+}
+
+fn put_segment(octets: &[u8], unused: u8, room: &mut [u8], end: usize) -> usize
+    requires room { length (unused ∷ octets.now) ≤ end }
+    requires end { end ≤ length room.old }
+    ensures start { result + length (unused ∷ octets.now) ≡ end }
+    ensures put { drop result room.new ≡ (unused ∷ octets.now) ++ drop end room.old }
+{
+    let start = put_all(octets, room, end);
+    put(unused, room, start)
 }
 
 /// An OBJECT IDENTIFIER's arcs (X.690 8.19), of which the first two are one subidentifier.
-fn put_arcs(arcs: &[u32], out: &mut Backward) -> Result<(), NoMemory>
-    ensures { OnOk result (out.new ≡ flat_map base_128 (subidentifiers arcs.now) ++ out.old) }
+fn put_arcs(arcs: &[u32], room: &mut [u8], end: usize) -> usize
+    requires room { length (flat_map base_128 (subidentifiers arcs.now)) ≤ end }
+    requires end { end ≤ length room.old }
+    ensures start { result + length (flat_map base_128 (subidentifiers arcs.now)) ≡ end }
+    ensures put { drop result room.new ≡ flat_map base_128 (subidentifiers arcs.now) ++ drop end room.old }
 {
     match arcs {
-        [] => Ok(()),
-        [root] => put_base_128(out, *root as u64),
+        [] => end,
+        [root] => put_base_128(*root as u64, room, end),
         [root, second, more @ ..] => {
-            put_each(more, out)?;
-            put_base_128(out, 40 * *root as u64 + *second as u64)
+            let start = put_each(more, room, end);
+            put_base_128(40 * *root as u64 + *second as u64, room, start)
         }
     }
 }
 
-fn put_each(numbers: &[u32], out: &mut Backward) -> Result<(), NoMemory>
-    ensures { OnOk result (out.new ≡ flat_map base_128 numbers.now ++ out.old) }
+fn put_each(numbers: &[u32], room: &mut [u8], end: usize) -> usize
+    requires room { length (flat_map base_128 numbers.now) ≤ end }
+    requires end { end ≤ length room.old }
+    ensures start { result + length (flat_map base_128 numbers.now) ≡ end }
+    ensures put { drop result room.new ≡ flat_map base_128 numbers.now ++ drop end room.old }
 {
+    let mut start = end;
     let mut index = numbers.len();
     while index > 0 {
         index -= 1;
-        put_base_128(out, numbers[index] as u64)?;
+        start = put_base_128(numbers[index] as u64, room, start);
     }
-    Ok(())
+    start
 }
 
-fn put_object_id(tag: Tag, value: &Val, out: &mut Backward) -> Result<(), NoMemory>
-    ensures { OnOk result (out.new ≡ definite false tag (object_id_contents value.now) ++ out.old) }
+fn put_object_id(tag: Tag, value: &Val, room: &mut [u8], end: usize) -> usize
+    requires room { length (definite false tag (object_id_contents value.now)) ≤ end }
+    requires end { end ≤ length room.old }
+    ensures start { result + length (definite false tag (object_id_contents value.now)) ≡ end }
+    ensures put { drop result room.new ≡ definite false tag (object_id_contents value.now) ++ drop end room.old }
 {
-    let behind = out.len();
-    if let Node::ObjectId(oid) = &value.node {
-        put_arcs(oid.arcs(), out)?;
-    }
-    put_head(out, tag, false, behind)
+    let start = match &value.node {
+        Node::ObjectId(oid) => put_arcs(oid.arcs(), room, end),
+        _ => end,
+    };
+    put_head(tag, false, end - start, room, start)
 }
 
 /// Any one value, and the tag that stands before it if one is given.
-fn put_any(tag: Option<Tag>, value: &Val, out: &mut Backward) -> Result<(), NoMemory>
-    ensures { OnOk result (out.new ≡ under any_written tag value.now ++ out.old) }
+fn put_any(tag: Option<Tag>, value: &Val, room: &mut [u8], end: usize) -> usize
+    requires room { length (under any_written tag value.now) ≤ end }
+    requires end { end ≤ length room.old }
+    ensures start { result + length (under any_written tag value.now) ≡ end }
+    ensures put { drop result room.new ≡ under any_written tag value.now ++ drop end room.old }
 {
-    let behind = out.len();
-    if let Node::Any(octets) = &value.node {
-        out.put_all(octets.as_slice())?;
-    }
+    let start = match &value.node {
+        Node::Any(octets) => put_all(octets.as_slice(), room, end),
+        _ => end,
+    };
     match tag {
-        None => Ok(()),
-        Some(tag) => put_head(out, tag, true, behind),
+        None => start,
+        Some(tag) => put_head(tag, true, end - start, room, start),
     }
 }
 
-/// Puts a value of this row, under another tag if one is given, before what was put. Of a value
-/// that doesn't fit the row, what doesn't fit is left out.
+/// Puts a value of this row, under another tag if one is given. Of a value that doesn't fit the row, what
+/// doesn't fit is left out.
 #[cycle(writing)]
 fn put_value(
     table: &TypeTable,
     of: TypeId,
     tag: Option<Tag>,
     value: &Val,
-    out: &mut Backward,
-) -> Result<(), NoMemory>
-    ensures { OnOk result (out.new ≡ writes table.now of.0 tag value.now ++ out.old) }
+    room: &mut [u8],
+    end: usize,
+) -> usize
+    requires room { length (writes table.now of.0 tag value.now) ≤ end }
+    requires end { end ≤ length room.old }
+    ensures start { result + length (writes table.now of.0 tag value.now) ≡ end }
+    ensures put { drop result room.new ≡ writes table.now of.0 tag value.now ++ drop end room.old }
 {
     if table.has(of) {
-        put_row(table, of, table.row(of), tag, value, out)
+        put_row(table, of, table.row(of), tag, value, room, end)
     } else {
-        Ok(())
+        end
     }
 }
 
@@ -253,37 +338,45 @@ fn put_row(
     row: &TypeRow,
     tag: Option<Tag>,
     value: &Val,
-    out: &mut Backward,
-) -> Result<(), NoMemory>
+    room: &mut [u8],
+    end: usize,
+) -> usize
     requires row { slice_get table.now of.0 ≡ Some row.now }
     requires sound { IsSound table.now }
-    ensures { OnOk result (out.new ≡ write_by (writes table.now) row.now tag value.now ++ out.old) }
+    requires room { length (write_by (writes table.now) row.now tag value.now) ≤ end }
+    requires end { end ≤ length room.old }
+    ensures start { result + length (write_by (writes table.now) row.now tag value.now) ≡ end }
+    ensures put { drop result room.new ≡ write_by (writes table.now) row.now tag value.now ++ drop end room.old }
 {
     match row {
-        TypeRow::Boolean => put_boolean(tag_or(tag, Class::Universal, 1), value, out),
+        TypeRow::Boolean => put_boolean(tag_or(tag, Class::Universal, 1), value, room, end),
         TypeRow::Integer { .. } => {
-            put_integer_value(tag_or(tag, Class::Universal, 2), value, out)
+            put_integer_value(tag_or(tag, Class::Universal, 2), value, room, end)
         }
         TypeRow::Enumerated(_) => {
-            put_integer_value(tag_or(tag, Class::Universal, 10), value, out)
+            put_integer_value(tag_or(tag, Class::Universal, 10), value, room, end)
         }
-        TypeRow::OctetString { .. } => put_octets(tag_or(tag, Class::Universal, 4), value, out),
-        TypeRow::BitString => put_bits(tag_or(tag, Class::Universal, 3), value, out),
+        TypeRow::OctetString { .. } => {
+            put_octets(tag_or(tag, Class::Universal, 4), value, room, end)
+        }
+        TypeRow::BitString => put_bits(tag_or(tag, Class::Universal, 3), value, room, end),
         TypeRow::Text(kind) => {
             let tag = tag_or(tag, Class::Universal, text_number(*kind));
-            put_text(tag, value, out)
+            put_text(tag, value, room, end)
         }
         TypeRow::SequenceOf(inner) => {
             let tag = tag_or(tag, Class::Universal, 16);
-            put_list(table, of, *inner, tag, value, out)
+            put_list(table, of, *inner, tag, value, room, end)
         }
-        TypeRow::Null => put_null(tag_or(tag, Class::Universal, 5), out),
-        TypeRow::ObjectId => put_object_id(tag_or(tag, Class::Universal, 6), value, out),
+        TypeRow::Null => put_head(tag_or(tag, Class::Universal, 5), false, 0, room, end),
+        TypeRow::ObjectId => put_object_id(tag_or(tag, Class::Universal, 6), value, room, end),
         TypeRow::Sequence(parts) => {
             let tag = tag_or(tag, Class::Universal, 16);
-            put_sequence(table, of, parts.as_slice(), tag, value, out)
+            put_sequence(table, of, parts.as_slice(), tag, value, room, end)
         }
-        TypeRow::Choice(alternatives) => put_choice(table, of, alternatives, tag, value, out),
+        TypeRow::Choice(alternatives) => {
+            put_choice(table, of, alternatives, tag, value, room, end)
+        }
         TypeRow::Tagged {
             class,
             number,
@@ -292,13 +385,13 @@ fn put_row(
         } => {
             let tag = tag_or(tag, *class, *number);
             if *explicit {
-                put_explicit(table, of, *inner, tag, value, out)
+                put_explicit(table, of, *inner, tag, value, room, end)
             } else {
-                put_value(table, *inner, Some(tag), value, out)
+                put_value(table, *inner, Some(tag), value, room, end)
             }
         }
-        TypeRow::Any => put_any(tag, value, out),
-        _ => Ok(()),
+        TypeRow::Any => put_any(tag, value, room, end),
+        _ => end,
     }
 }
 
@@ -309,16 +402,20 @@ fn put_list(
     inner: TypeId,
     tag: Tag,
     value: &Val,
-    out: &mut Backward,
-) -> Result<(), NoMemory>
+    room: &mut [u8],
+    end: usize,
+) -> usize
     requires below { inner.0 < of.0 }
-    ensures { OnOk result (out.new ≡ definite true tag (list_contents (writes table.now inner.0) value.now) ++ out.old) }
+    requires room { length (definite true tag (list_contents (writes table.now inner.0) value.now)) ≤ end }
+    requires end { end ≤ length room.old }
+    ensures start { result + length (definite true tag (list_contents (writes table.now inner.0) value.now)) ≡ end }
+    ensures put { drop result room.new ≡ definite true tag (list_contents (writes table.now inner.0) value.now) ++ drop end room.old }
 {
-    let behind = out.len();
-    if let Node::List(values) = &value.node {
-        put_values(table, of, inner, values, out)?;
-    }
-    put_head(out, tag, true, behind)
+    let start = match &value.node {
+        Node::List(values) => put_values(table, of, inner, values, room, end),
+        _ => end,
+    };
+    put_head(tag, true, end - start, room, start)
 }
 
 /// The items of a SEQUENCE OF, from the last to the first.
@@ -328,24 +425,22 @@ fn put_values(
     of: TypeId,
     inner: TypeId,
     values: &[Val],
-    out: &mut Backward,
-) -> Result<(), NoMemory>
+    room: &mut [u8],
+    end: usize,
+) -> usize
     requires below { inner.0 < of.0 }
-    ensures { OnOk result (out.new ≡ values_contents (writes table.now inner.0) (values_of values.now) ++ out.old) }
+    requires room { length (values_contents (writes table.now inner.0) (values_of values.now)) ≤ end }
+    requires end { end ≤ length room.old }
+    ensures start { result + length (values_contents (writes table.now inner.0) (values_of values.now)) ≡ end }
+    ensures put { drop result room.new ≡ values_contents (writes table.now inner.0) (values_of values.now) ++ drop end room.old }
 {
+    let mut start = end;
     let mut index = values.len();
     while index > 0 {
         index -= 1;
-        put_value(table, inner, None, &values[index], out)?;
+        start = put_value(table, inner, None, &values[index], room, start);
     }
-    Ok(())
-}
-
-fn put_null(tag: Tag, out: &mut Backward) -> Result<(), NoMemory>
-    ensures { OnOk result (out.new ≡ definite false tag [] ++ out.old) }
-{
-    let behind = out.len();
-    put_head(out, tag, false, behind)
+    start
 }
 
 #[cycle(writing)]
@@ -355,14 +450,17 @@ fn put_explicit(
     inner: TypeId,
     tag: Tag,
     value: &Val,
-    out: &mut Backward,
-) -> Result<(), NoMemory>
+    room: &mut [u8],
+    end: usize,
+) -> usize
     requires below { inner.0 < of.0 }
-    ensures { OnOk result (out.new ≡ definite true tag (writes table.now inner.0 None value.now) ++ out.old) }
+    requires room { length (definite true tag (writes table.now inner.0 None value.now)) ≤ end }
+    requires end { end ≤ length room.old }
+    ensures start { result + length (definite true tag (writes table.now inner.0 None value.now)) ≡ end }
+    ensures put { drop result room.new ≡ definite true tag (writes table.now inner.0 None value.now) ++ drop end room.old }
 {
-    let behind = out.len();
-    put_value(table, inner, None, value, out)?;
-    put_head(out, tag, true, behind)
+    let start = put_value(table, inner, None, value, room, end);
+    put_head(tag, true, end - start, room, start)
 }
 
 #[cycle(writing)]
@@ -372,16 +470,19 @@ fn put_choice(
     alternatives: &Parts,
     tag: Option<Tag>,
     value: &Val,
-    out: &mut Backward,
-) -> Result<(), NoMemory>
+    room: &mut [u8],
+    end: usize,
+) -> usize
     requires below { AllByRecursion (λ m. m < of.0) (rows_of_parts alternatives.now) }
-    ensures { OnOk result (out.new ≡ under (choice_written (λ which. alternative_written (writes table.now) (slice_get alternatives.now which))) tag value.now ++ out.old) }
+    requires room { length (under (choice_written (λ which. alternative_written (writes table.now) (slice_get alternatives.now which))) tag value.now) ≤ end }
+    requires end { end ≤ length room.old }
+    ensures start { result + length (under (choice_written (λ which. alternative_written (writes table.now) (slice_get alternatives.now which))) tag value.now) ≡ end }
+    ensures put { drop result room.new ≡ under (choice_written (λ which. alternative_written (writes table.now) (slice_get alternatives.now which))) tag value.now ++ drop end room.old }
 {
-    let behind = out.len();
-    put_alternative(table, of, alternatives, value, out)?;
+    let start = put_alternative(table, of, alternatives, value, room, end);
     match tag {
-        None => Ok(()),
-        Some(tag) => put_head(out, tag, true, behind),
+        None => start,
+        Some(tag) => put_head(tag, true, end - start, room, start),
     }
 }
 
@@ -391,17 +492,21 @@ fn put_alternative(
     of: TypeId,
     alternatives: &Parts,
     value: &Val,
-    out: &mut Backward,
-) -> Result<(), NoMemory>
+    room: &mut [u8],
+    end: usize,
+) -> usize
     requires below { AllByRecursion (λ m. m < of.0) (rows_of_parts alternatives.now) }
-    ensures { OnOk result (out.new ≡ choice_written (λ which. alternative_written (writes table.now) (slice_get alternatives.now which)) value.now ++ out.old) }
+    requires room { length (choice_written (λ which. alternative_written (writes table.now) (slice_get alternatives.now which)) value.now) ≤ end }
+    requires end { end ≤ length room.old }
+    ensures start { result + length (choice_written (λ which. alternative_written (writes table.now) (slice_get alternatives.now which)) value.now) ≡ end }
+    ensures put { drop result room.new ≡ choice_written (λ which. alternative_written (writes table.now) (slice_get alternatives.now which)) value.now ++ drop end room.old }
 {
     match &value.node {
         Node::Chosen { which, value } => match alternatives.get(*which as usize) {
-            Some(part) => put_value(table, part.inner, None, value, out),
-            None => Ok(()),
+            Some(part) => put_value(table, part.inner, None, value, room, end),
+            None => end,
         },
-        _ => Ok(()),
+        _ => end,
     }
 }
 
@@ -412,16 +517,20 @@ fn put_sequence(
     parts: &[Part],
     tag: Tag,
     value: &Val,
-    out: &mut Backward,
-) -> Result<(), NoMemory>
+    room: &mut [u8],
+    end: usize,
+) -> usize
     requires below { AllByRecursion (λ m. m < of.0) (rows_of_parts parts.now) }
-    ensures { OnOk result (out.new ≡ definite true tag (sequence_contents (parts_contents (writes table.now) parts.now) value.now) ++ out.old) }
+    requires room { length (definite true tag (sequence_contents (parts_contents (writes table.now) parts.now) value.now)) ≤ end }
+    requires end { end ≤ length room.old }
+    ensures start { result + length (definite true tag (sequence_contents (parts_contents (writes table.now) parts.now) value.now)) ≡ end }
+    ensures put { drop result room.new ≡ definite true tag (sequence_contents (parts_contents (writes table.now) parts.now) value.now) ++ drop end room.old }
 {
-    let behind = out.len();
-    if let Node::Parts(values) = &value.node {
-        put_parts(table, of, parts, values, out)?;
-    }
-    put_head(out, tag, true, behind)
+    let start = match &value.node {
+        Node::Parts(values) => put_parts(table, of, parts, values, room, end),
+        _ => end,
+    };
+    put_head(tag, true, end - start, room, start)
 }
 
 /// The parts that are there, from the last to the first.
@@ -431,17 +540,22 @@ fn put_parts(
     of: TypeId,
     parts: &[Part],
     values: &[Option<Val>],
-    out: &mut Backward,
-) -> Result<(), NoMemory>
+    room: &mut [u8],
+    end: usize,
+) -> usize
     requires below { AllByRecursion (λ m. m < of.0) (rows_of_parts parts.now) }
-    ensures { OnOk result (out.new ≡ parts_contents (writes table.now) parts.now (parts_of values.now) ++ out.old) }
+    requires room { length (parts_contents (writes table.now) parts.now (parts_of values.now)) ≤ end }
+    requires end { end ≤ length room.old }
+    ensures start { result + length (parts_contents (writes table.now) parts.now (parts_of values.now)) ≡ end }
+    ensures put { drop result room.new ≡ parts_contents (writes table.now) parts.now (parts_of values.now) ++ drop end room.old }
 {
+    let mut start = end;
     let mut index = parts.len().min(values.len());
     while index > 0 {
         index -= 1;
-        put_part(table, of, &parts[index], &values[index], out)?;
+        start = put_part(table, of, &parts[index], &values[index], room, start);
     }
-    Ok(())
+    start
 }
 
 #[cycle(writing)]
@@ -450,20 +564,35 @@ fn put_part(
     of: TypeId,
     part: &Part,
     value: &Option<Val>,
-    out: &mut Backward,
-) -> Result<(), NoMemory>
+    room: &mut [u8],
+    end: usize,
+) -> usize
     requires below { part.now.inner.0 < of.0 }
-    ensures { OnOk result (out.new ≡ part_contents (writes table.now) part.now value.now ++ out.old) }
+    requires room { length (part_contents (writes table.now) part.now value.now) ≤ end }
+    requires end { end ≤ length room.old }
+    ensures start { result + length (part_contents (writes table.now) part.now value.now) ≡ end }
+    ensures put { drop result room.new ≡ part_contents (writes table.now) part.now value.now ++ drop end room.old }
 {
     match value {
-        Some(value) => put_value(table, part.inner, None, value, out),
-        None => Ok(()),
+        Some(value) => put_value(table, part.inner, None, value, room, end),
+        None => end,
     }
 }
 
-/// The DER spelling of a value (X.690 10). Of a value that fits this type it is the only one; of
-/// others it has the parts that can be written.
-#[tactic(auto, unfolding(crate::specs::Writing::written))]
+/// Writes the DER spelling of a value (X.690 10) at the front of the room, and answers its length. Of
+/// a value that fits this type it is the only one; of others it has the parts that can be written.
+/// The octets behind it stay. The room must have the octets that `ber_len` tells. No memory is taken.
+pub fn ber_write(table: &TypeTable, of: TypeId, value: &Val, out: &mut [u8]) -> usize
+    requires { length (written table.now of.0 value.now) ≤ length out.old }
+    ensures length { result ≡ length (written table.now of.0 value.now) }
+    ensures spelling { out.new ≡ written table.now of.0 value.now ++ drop result out.old }
+{
+    let len = ber_len(table, of, value) as usize;
+    put_value(table, of, None, value, out, len);
+    len
+}
+
+/// The DER spelling of a value (X.690 10), as `ber_write` writes it.
 pub fn ber_octets(
     alloc: Global,
     table: &TypeTable,
@@ -472,7 +601,11 @@ pub fn ber_octets(
 ) -> Result<Octets, NoMemory>
     ensures { IfOk result (λ octets. octets ≡ written table.now of.0 value.now) }
 {
-    let mut out = Backward::new(alloc);
-    put_value(table, of, None, value, &mut out)?;
-    Ok(out.into_octets())
+    let len = ber_len(table, of, value);
+    if len == u64::MAX {
+        return Err(NoMemory);
+    }
+    let mut octets = vec![in alloc; 0; len as usize]?;
+    ber_write(table, of, value, &mut octets);
+    Ok(Octets::from_vec(octets))
 }

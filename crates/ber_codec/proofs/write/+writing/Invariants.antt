@@ -34,7 +34,8 @@ abbrev pub invariant-put_parts-loop-index : goal.invariant-put_parts-loop-index
 invariant-put_parts-loop-index l = record {
   parts : l.index ≤ length l.parts;
   values : l.index ≤ length l.values;
-  so_far : l.out ≡ parts_contents (writes l.table) (drop l.index l.parts) (parts_of (drop l.index l.values)) ++ l.fn.out;
+  place : l.start + length (parts_contents (writes l.table) (drop l.index l.parts) (parts_of (drop l.index l.values))) ≡ l.end;
+  put : drop l.start l.room ≡ parts_contents (writes l.table) (drop l.index l.parts) (parts_of (drop l.index l.values)) ++ drop l.end l.fn.room;
 }
 
 abbrev pub decreases-put_list : goal.decreases-put_list
@@ -49,5 +50,6 @@ decreases-put_values-loop-index l = l.index
 abbrev pub invariant-put_values-loop-index : goal.invariant-put_values-loop-index
 invariant-put_values-loop-index l = record {
   within : l.index ≤ length l.values;
-  so_far : l.out ≡ values_contents (writes l.table l.inner.0) (values_of (drop l.index l.values)) ++ l.fn.out;
+  place : l.start + length (values_contents (writes l.table l.inner.0) (values_of (drop l.index l.values))) ≡ l.end;
+  put : drop l.start l.room ≡ values_contents (writes l.table l.inner.0) (values_of (drop l.index l.values)) ++ drop l.end l.fn.room;
 }

@@ -1,4 +1,4 @@
-use Rattle.std.proofs.Common.{◌≡◌, ◌++◌}
+use Rattle.std.proofs.Common.{◌≡◌, ◌+◌, ◌++◌, [], drop, length}
 use Rattle.ber_codec.specs.Writing.{high_digits, base_128}
 use Rattle.ber_codec.proofs.write.put_base_128.Given as goal
 
@@ -6,4 +6,7 @@ abbrev pub decreases-loop-high : goal.decreases-loop-high
 decreases-loop-high l = l.high
 
 abbrev pub invariant-loop-high : goal.invariant-loop-high
-invariant-loop-high l = high_digits l.high l.high l.out ≡ base_128 l.number ++ l.fn.out
+invariant-loop-high l = record {
+  place : l.start + length (base_128 l.number) ≡ l.end + length (high_digits l.high l.high []);
+  put : high_digits l.high l.high (drop l.start l.room) ≡ base_128 l.number ++ drop l.end l.fn.room;
+}

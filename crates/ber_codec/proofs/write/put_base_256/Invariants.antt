@@ -1,4 +1,4 @@
-use Rattle.std.proofs.Common.{◌≡◌, ◌++◌}
+use Rattle.std.proofs.Common.{◌≡◌, ◌+◌, ◌++◌, [], drop, length}
 use Rattle.ber_codec.specs.Writing.{digits_256, base_256}
 use Rattle.ber_codec.proofs.write.put_base_256.Given as goal
 
@@ -6,4 +6,7 @@ abbrev pub decreases-loop-high : goal.decreases-loop-high
 decreases-loop-high l = l.high
 
 abbrev pub invariant-loop-high : goal.invariant-loop-high
-invariant-loop-high l = digits_256 l.high l.high l.out ≡ base_256 l.number ++ l.fn.out
+invariant-loop-high l = record {
+  place : l.start + length (base_256 l.number) ≡ l.end + length (digits_256 l.high l.high []);
+  put : digits_256 l.high l.high (drop l.start l.room) ≡ base_256 l.number ++ drop l.end l.fn.room;
+}

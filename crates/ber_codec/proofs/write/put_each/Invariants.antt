@@ -1,4 +1,4 @@
-use Rattle.std.proofs.Common.{◌≡◌, ◌≤◌, ◌++◌, drop, length}
+use Rattle.std.proofs.Common.{◌≡◌, ◌≤◌, ◌+◌, ◌++◌, drop, length}
 use Rattle.std.specs.List.{flat_map}
 use Rattle.ber_codec.specs.Writing.{base_128}
 use Rattle.ber_codec.proofs.write.put_each.Given as goal
@@ -9,5 +9,6 @@ decreases-loop-index l = l.index
 abbrev pub invariant-loop-index : goal.invariant-loop-index
 invariant-loop-index l = record {
   within : l.index ≤ length l.numbers;
-  so_far : l.out ≡ flat_map base_128 (drop l.index l.numbers) ++ l.fn.out;
+  place : l.start + length (flat_map base_128 (drop l.index l.numbers)) ≡ l.end;
+  put : drop l.start l.room ≡ flat_map base_128 (drop l.index l.numbers) ++ drop l.end l.fn.room;
 }

@@ -1,4 +1,4 @@
-use Rattle.std.proofs.Common.{◌≡◌, ◌++◌, []}
+use Rattle.std.proofs.Common.{◌≡◌, ◌+◌, ◌++◌, [], drop, length}
 use Rattle.ber_codec.specs.Writing.{natural_octets}
 use Rattle.ber_codec.proofs.write.put_natural.Given as goal
 
@@ -6,4 +6,7 @@ abbrev pub decreases-loop-high : goal.decreases-loop-high
 decreases-loop-high l = l.high
 
 abbrev pub invariant-loop-high : goal.invariant-loop-high
-invariant-loop-high l = natural_octets l.high l.high l.out ≡ natural_octets l.number l.number [] ++ l.fn.out
+invariant-loop-high l = record {
+  place : l.start + length (natural_octets l.number l.number []) ≡ l.end + length (natural_octets l.high l.high []);
+  put : natural_octets l.high l.high (drop l.start l.room) ≡ natural_octets l.number l.number [] ++ drop l.end l.fn.room;
+}
