@@ -11,6 +11,8 @@ mod read;
 mod spot;
 mod strings;
 mod write;
+#[cfg(test)]
+mod writing_tests;
 
 pub use fault::ReadFault;
 pub use laws::{
