@@ -29,3 +29,9 @@ pub mod Written
 pub mod Wholes
 pub mod WholeSpelled
 pub mod Lax
+pub mod Orders
+pub mod Ranks
+pub mod Heads
+pub mod Sets
+pub mod Slots
+pub mod WrittenSets

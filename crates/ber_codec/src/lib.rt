@@ -5,6 +5,7 @@ mod backward;
 mod fault;
 mod fields;
 mod laws;
+mod order;
 mod primitives;
 mod public;
 mod read;
