@@ -14,10 +14,11 @@ use Rattle.ber_codec.specs.declared.spot.Tag as tags
 use Rattle.ber_codec.specs.declared.spot.StringKind.TheVariants.{OfOctets, OfBits}
 use Rattle.ber_codec.specs.Reading.{Spot, Opened, Ahead, ended, begun, Reading}
 use Rattle.ber_codec.specs.Fields.{extent_at, contents_at, look_at}
-use Rattle.ber_codec.specs.Rules.{Reader, expect_at, first_of, last_of, open_at, close_at, explicit_at, present_at, part_at, parts_at, sequence_at, choice_at, anew, any_at, dead, or_explicit, read_by, tag_or, always, boolean_rule, is_strict_boolean, integer_rule, enumerated_rule, null_rule, object_id_rule, whole_octets, whole_text, whole_bits, has_zero_bits}
+use Rattle.ber_codec.specs.Rules.{Reader, expect_at, first_of, last_of, open_at, close_at, explicit_at, present_at, part_at, parts_at, sequence_at, choice_at, anew, any_at, dead, or_explicit, all_items_at, slot_at, set_done, nothing_filled, read_by, tag_or, always, boolean_rule, is_strict_boolean, integer_rule, enumerated_rule, null_rule, object_id_rule, whole_octets, whole_text, whole_bits, has_zero_bits}
 use Rattle.ber_codec.proofs.Growing.{grown, grown_opened, grown_ahead, Grows, Grows-bind, Grows-same, Grows-cond, with_spot, with_opened, with_contents, extent_grows, contents_grow, look_grows}
 use Rattle.ber_codec.proofs.Steady.{Run}
-use Rattle.ber_codec.proofs.Items.{GrowsRun}
+use Rattle.ber_codec.proofs.Items.{GrowsRun, constructed_grows}
+use Rattle.ber_codec.proofs.Sets.{set_grows}
 use Rattle.ber_codec.proofs.Segments.{prim_grows, string_grows, list_grows}
 
 first_grows : (a : Ahead) (more : List ℕ) → Grows (with_opened more) (first_of a) (first_of (grown_ahead more a))
@@ -133,7 +134,7 @@ row_grows begins inner h row.BitString t = string_grows OfBits whole_bits has_ze
 row_grows begins inner h row.ObjectId t = prim_grows object_id_rule always (tag_or t Universal 6)
 row_grows begins inner h (row.Text kind) t = string_grows OfOctets (whole_text kind) always (tag_or t Universal (text_number kind))
 row_grows begins inner h (row.Sequence ps) t = sequence_grows begins inner (λ n. h n None) ps (tag_or t Universal 16)
-row_grows begins inner h (row.Set ps) t = dead_grows t
+row_grows begins inner h (row.Set ps) t = constructed_grows (all_items_at (slot_at begins inner 0 ps) (set_done ps) (nothing_filled ps)) (tag_or t Universal 17) (set_grows begins inner (λ n. h n None) ps)
 row_grows begins inner h (row.SequenceOf of) t = list_grows (inner of.0) (tag_or t Universal 16) (h of.0 None)
 row_grows begins inner h (row.Choice ps) t = or_grows (choice_at begins inner 0 ps) t (choice_grows begins inner (λ n. h n None) 0 ps)
 row_grows begins inner h (row.Tagged class number true of) t = explicit_grows (inner of.0 None) (tag_or t class number) (h of.0 None)

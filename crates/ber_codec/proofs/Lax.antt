@@ -1,7 +1,6 @@
 -- DER is a part of BER: what is spelled in DER is spelled so in BER.
-use Rattle.std.proofs.Common.{◌≡◌, ℕ, zero, suc, Bool, true, false, List, [], ◌∷◌, ◌++◌, length, Option, Some, None, refl, ◌⊎◌, inl, inr}
+use Rattle.std.proofs.Common.{◌≡◌, ℕ, zero, suc, Bool, true, false, List, [], ◌∷◌, length, Option, Some, None, inl, inr}
 use Rattle.std.specs.Prelude.{slice_get}
-use Rattle.asn1_types.specs.declared.row.Class.{Class}
 use Rattle.asn1_types.specs.declared.row.Class.TheVariants.{Universal}
 use Rattle.asn1_types.specs.declared.row.Part.{Part}
 use Rattle.asn1_types.specs.declared.row.TypeRow.{TypeRow}
@@ -12,8 +11,9 @@ use Rattle.ber_codec.specs.declared.spot.Tag as tags
 use Rattle.ber_codec.specs.declared.spot.StringKind.{StringKind}
 use Rattle.ber_codec.specs.declared.spot.StringKind.TheVariants.{OfOctets, OfBits}
 use Rattle.ber_codec.specs.declared.spot.Gathered.{Gathered}
-use Rattle.ber_codec.specs.Rules.{tag_or, always, string_rule, whole_octets, whole_text, whole_bits, has_zero_bits, list_done}
-use Rattle.ber_codec.specs.Spelling.{IsLong, IsLength, IsDefinite, IsPrimitive, IsConstructed, BooleanIs, IntegerIs, EnumeratedIs, NullIs, ObjectIdIs, AnyIs, Spelled, Steps, StringIs, PartsAre, SequenceIs, ListStep, ListIs, ChoiceIs, OrExplicit, TaggedIs, RowIs, RowOr, SpelledBy, Spells}
+use Rattle.ber_codec.specs.Rules.{tag_or, always, string_rule, whole_octets, whole_text, whole_bits, has_zero_bits, nothing_filled}
+use Rattle.ber_codec.specs.Order.{Filled}
+use Rattle.ber_codec.specs.Spelling.{IsLength, IsDefinite, IsPrimitive, IsConstructed, BooleanIs, IntegerIs, EnumeratedIs, NullIs, ObjectIdIs, AnyIs, Spelled, Steps, StringIs, PartsAre, SequenceIs, ListStep, ListIs, SetStep, SetIs, ChoiceIs, OrExplicit, RowIs, RowOr, SpelledBy}
 use Rattle.ber_codec.specs.Laws.{DerIsBer}
 
 lax_length : (size : List ℕ) (n : ℕ) → IsLength true size n → IsLength false size n
@@ -94,6 +94,13 @@ module _ (rel : ℕ → Spelled) (h : (m : ℕ) → Lax (rel m)) where
   steps_lax of levels [] a b c p = p
   steps_lax of levels (s ∷ more) a b c p = (p.0, p.1, (p.2.0, p.2.1, (h of).is None levels p.2.0 s.0 p.2.2), steps_lax of levels more s.1 b p.0 p.3)
 
+  set_steps_lax : (ps : List Part) (levels : ℕ) (steps : List (List ℕ × Filled)) (a b : Filled) (c : List ℕ)
+      → Steps (λ x y spelled. SetStep rel ps x true levels y spelled) steps a b c → Steps (λ x y spelled. SetStep rel ps x false levels y spelled) steps a b c
+  set_steps_lax ps levels [] a b c p = p
+  set_steps_lax ps levels (s ∷ more) a b c p =
+      let q = p.2 in
+      (p.0, p.1, (q.0, q.1, q.2, q.3, q.4, (h q.1.inner.0).is None levels q.2 s.0 q.5, (λ e. absurd (let wrong : false ≡ true = e in cc)), q.7), set_steps_lax ps levels more s.1 b p.0 p.3)
+
   chosen_lax : (ps : List Part) (levels : ℕ) (v : Value) (s : List ℕ) → ChoiceIs rel ps true levels v s → ChoiceIs rel ps false levels v s
   chosen_lax ps levels (chosen which v) s p = (p.0, p.1, (h p.0.inner.0).is None levels v s p.2)
   chosen_lax ps levels null s p = absurd p
@@ -121,7 +128,8 @@ module _ (rel : ℕ → Spelled) (h : (m : ℕ) → Lax (rel m)) where
   row_lax row.ObjectId t levels v s p = lax_primitive (tag_or t Universal 6) levels (ObjectIdIs v) (ObjectIdIs v) (λ c q. q) s p
   row_lax (row.Text kind) t levels v s p = string_lax OfOctets (whole_text kind) always (tag_or t Universal (text_number kind)) levels v s p
   row_lax (row.Sequence ps) t levels v s p = lax_constructed (tag_or t Universal 16) levels (SequenceIs rel true ps v) (SequenceIs rel false ps v) (λ l c. sequence_lax ps v l c) s p
-  row_lax (row.Set ps) t levels v s p = absurd p
+  row_lax (row.Set ps) t levels v s p =
+      lax_constructed (tag_or t Universal 17) levels (SetIs rel ps true v) (SetIs rel ps false v) (λ l c q. (q.0, q.1, q.2, set_steps_lax ps l q.2 (nothing_filled ps) q.0 c q.3)) s p
   row_lax (row.SequenceOf of) t levels v s p =
       lax_constructed (tag_or t Universal 16) levels (ListIs (rel of.0) true v) (ListIs (rel of.0) false v) (λ l c q. (q.0, q.1, q.2, steps_lax of.0 l q.2 [] q.0 c q.3)) s p
   row_lax (row.Choice ps) t levels v s p = or_lax (ChoiceIs rel ps) (λ l w c. chosen_lax ps l w c) t levels v s p

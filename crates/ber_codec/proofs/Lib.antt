@@ -26,7 +26,14 @@ pub mod WrittenFields
 pub mod WrittenLoops
 pub mod WriteLaws
 pub mod Counts
+pub mod SetCounts
 pub mod Written
 pub mod Wholes
 pub mod WholeSpelled
 pub mod Lax
+pub mod Orders
+pub mod Ranks
+pub mod Heads
+pub mod Sets
+pub mod Slots
+pub mod WrittenSets

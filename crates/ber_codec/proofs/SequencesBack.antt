@@ -116,14 +116,14 @@ module _ (openings : ℕ → List Opening) (inner : ℕ → Reader) (rel : ℕ �
 
   -- ---- CHOICE
 
-  not_before : (c : Class) (k : ℕ) (p : Part) (ps : List Part) (i : ℕ) (q : Part) → list_any (clash openings p) ps ≡ false → slice_get ps i ≡ Some q → begins_by openings q.inner.0 c k ≡ true → begins_by openings p.inner.0 c k ≡ false
+  pub not_before : (c : Class) (k : ℕ) (p : Part) (ps : List Part) (i : ℕ) (q : Part) → list_any (clash openings p) ps ≡ false → slice_get ps i ≡ Some q → begins_by openings q.inner.0 c k ≡ true → begins_by openings p.inner.0 c k ≡ false
   not_before c k p [] i q d g b = absurd cc
   not_before c k p (r ∷ ps) zero q d g b =
       let same : r ≡ q = cc in
       apart openings c k p r (or_false (clash openings p r) _ d).0 (subst (λ (x : Part). begins_by openings x.inner.0 c k ≡ true) (sym same) b)
   not_before c k p (r ∷ ps) (suc i) q d g b = not_before c k p ps i q (or_false (clash openings p r) _ d).1 g b
 
-  any_allows : (c : Class) (k : ℕ) (ps : List Part) (i : ℕ) (q : Part) → slice_get ps i ≡ Some q → begins_by openings q.inner.0 c k ≡ true → AnyAllows openings ps c k
+  pub any_allows : (c : Class) (k : ℕ) (ps : List Part) (i : ℕ) (q : Part) → slice_get ps i ≡ Some q → begins_by openings q.inner.0 c k ≡ true → AnyAllows openings ps c k
   any_allows c k [] i q g b = absurd cc
   any_allows c k (r ∷ ps) zero q g b = let same : r ≡ q = cc in inl (subst (λ (x : Part). begins_by openings x.inner.0 c k ≡ true) (sym same) b)
   any_allows c k (r ∷ ps) (suc i) q g b = inr (any_allows c k ps i q g b)

@@ -1,6 +1,6 @@
 -- Each DER spelling is one whole value, as `fits` tests it.
-use Rattle.std.proofs.Common.{◌≡◌, ◌≢◌, ℕ, zero, suc, ◌+◌, ◌-◌, ◌*◌, ◌/◌, ◌%◌, ◌^◌, ◌<◌, ◌≤◌, Bool, true, false, not, ◌&&◌, ◌||◌, cond, List, [], ◌∷◌, ◌++◌, length, take, drop, Option, Some, None, refl, sym, ap, ◌∙◌, subst, arith, length-append, ◌⊎◌, inl, inr}
-use Rattle.std.specs.Prelude.{slice_get, nat_lt, nat_le, nat_eq, slice_index}
+use Rattle.std.proofs.Common.{◌≡◌, ◌≢◌, ℕ, zero, suc, ◌+◌, ◌-◌, ◌*◌, ◌%◌, ◌^◌, ◌<◌, ◌≤◌, Bool, true, false, ◌&&◌, List, [], ◌∷◌, ◌++◌, length, take, Option, Some, None, refl, sym, ap, ◌∙◌, subst, arith, length-append, ◌⊎◌, inl, inr}
+use Rattle.std.specs.Prelude.{slice_get, nat_le, nat_eq}
 use Rattle.std.proofs.lemmas.Bool.{lt-ltb, le-ltb, le-leb, lt-leb, eq-eqb, ne_eqb, eqb-false}
 use Rattle.std.proofs.lemmas.List.{take_at}
 use Rattle.asn1_types.specs.declared.row.Class.{Class}
@@ -20,7 +20,7 @@ use Rattle.ber_codec.specs.declared.spot.StringKind.{StringKind}
 use Rattle.ber_codec.specs.declared.spot.StringKind.TheVariants.{OfOctets, OfBits}
 use Rattle.ber_codec.specs.Rules.{tag_or, string_rule, whole_octets, whole_bits, whole_text, has_zero_bits, always}
 use Rattle.ber_codec.specs.declared.spot.Gathered.{Gathered}
-use Rattle.ber_codec.specs.Spelling.{AreDigits, low_bits, number_128, IsBase128, leading, IsIdentifier, IsLong, IsLength, IsDefinite, IsIndefinite, IsPrimitive, IsConstructed, IsWhole, Spelled, SequenceIs, ChoiceIs, BooleanIs, IntegerIs, EnumeratedIs, StringIs, ListIs, NullIs, ObjectIdIs, AnyIs, RowIs, RowOr, SpelledBy, Spells, OrExplicit}
+use Rattle.ber_codec.specs.Spelling.{AreDigits, low_bits, IsBase128, leading, IsIdentifier, IsLength, IsDefinite, IsIndefinite, IsPrimitive, IsConstructed, IsWhole, Spelled, SequenceIs, SetIs, ChoiceIs, BooleanIs, IntegerIs, EnumeratedIs, StringIs, ListIs, NullIs, ObjectIdIs, AnyIs, RowIs, RowOr, SpelledBy, Spells, OrExplicit}
 use Rattle.ber_codec.specs.Writing.{written}
 use Rattle.ber_codec.proofs.Identifiers.{low_at}
 use Rattle.ber_codec.proofs.RowLaws.{text_tag}
@@ -214,7 +214,7 @@ module _ (rel : ℕ → Spelled) (each : (m : ℕ) → AreWhole (rel m)) where
   row_whole row.ObjectId good t levels v s ok p = primitive_whole (tag_or t Universal 6) levels (ObjectIdIs v) s (tag_ok t Universal 6 ok refl) p
   row_whole (row.Text kind) good t levels v s ok p = string_whole OfOctets (whole_text kind) always (tag_or t Universal (text_number kind)) levels v s (tag_ok t Universal (text_number kind) ok (text_tag kind)) p
   row_whole (row.Sequence ps) good t levels v s ok p = constructed_whole (tag_or t Universal 16) levels (SequenceIs rel true ps v) s (tag_ok t Universal 16 ok refl) p
-  row_whole (row.Set ps) good t levels v s ok p = absurd p
+  row_whole (row.Set ps) good t levels v s ok p = constructed_whole (tag_or t Universal 17) levels (SetIs rel ps true v) s (tag_ok t Universal 17 ok refl) p
   row_whole (row.SequenceOf of) good t levels v s ok p = constructed_whole (tag_or t Universal 16) levels (ListIs (rel of.0) true v) s (tag_ok t Universal 16 ok refl) p
   row_whole (row.Choice ps) good t levels v s ok p = explicit_whole (ChoiceIs rel ps) (chosen_whole ps) t levels v s ok p
   row_whole (row.Tagged class number true of) good t levels v s ok p =

@@ -15,19 +15,24 @@ use Rattle.asn1_types.specs.declared.row.TextKind.{TextKind}
 use Rattle.asn1_types.specs.declared.row.TextKind.TheVariants.{Utf8, Ia5, Visible, Printable, Numeric}
 use Rattle.asn1_types.specs.declared.row.TypeRow.{TypeRow}
 use Rattle.asn1_types.specs.declared.row.TypeRow.TheVariants as row
-use Rattle.asn1_types.specs.Rows.{of_row, along, names_of, rows_of_parts, greatest, nesting, nesting_by, text_number}
-use Rattle.asn1_types.specs.Table.{IsSound}
+use Rattle.asn1_types.specs.Rows.{of_row, along, names_of, rows_of_parts, greatest, nesting, nesting_by, text_number, Opening, openings}
+use Rattle.asn1_types.specs.Table.{IsSound, clash, agrees_later, has_clash}
 use Rattle.asn1_types.specs.Value.{Value, boolean, integer, null, octets, bits, object_id, text, parts, list, chosen, any, MaybeValues, no_parts, absent, present, Values, no_values, value}
 use Rattle.asn1_types.specs.ValueView.{values_of}
 use Rattle.asn1_types.specs.Whole.{is_whole}
 use Rattle.asn1_types.specs.Fits.{is_number, has_32_bits, is_octet, is_item, are_bits, is_text, boolean_fits, integer_fits, enumerated_fits, null_fits, octets_fit, bits_fit, text_fits, object_id_fits, values_fit, list_fits, parts_fit, sequence_fits, alternative_fits, choice_fits, any_fits, fits_by, nothing_fits, fits}
 use Rattle.asn1_types.proofs.Along.{settled}
-use Rattle.asn1_types.proofs.Sound.{is_down, taken, nesting_cong, nesting_before}
+use Rattle.asn1_types.proofs.Sound.{is_down, taken, nesting_cong, nesting_before, sound_row}
 use Rattle.ber_codec.specs.declared.spot.Tag as tags
 use Rattle.ber_codec.specs.declared.spot.StringKind.TheVariants.{OfOctets, OfBits}
 use Rattle.ber_codec.specs.Rules.{tag_or, always, string_rule, whole_octets, whole_text, cleared, whole_bits, has_zero_bits}
-use Rattle.ber_codec.specs.Spelling.{Spelled, IsPrimitive, IsConstructed, IsWhole, PartsAre, SequenceIs, ChoiceIs, Steps, ListStep, ListIs, BooleanIs, EnumeratedIs, IntegerIs, NullIs, ObjectIdIs, AnyIs, RowIs, RowOr, SpelledBy, Spells, OrExplicit, subidentifiers}
-use Rattle.ber_codec.specs.Writing.{Writer, definite, boolean_contents, integer_contents, octets_contents, text_contents, bits_contents, object_id_contents, values_contents, list_contents, parts_contents, sequence_contents, alternative_written, choice_written, any_written, under, write_by, nothing_written, writes, written}
+use Rattle.ber_codec.specs.Spelling.{Spelled, IsPrimitive, IsConstructed, IsWhole, PartsAre, SequenceIs, SetIs, ChoiceIs, Steps, ListStep, ListIs, BooleanIs, EnumeratedIs, IntegerIs, NullIs, ObjectIdIs, AnyIs, RowIs, RowOr, SpelledBy, Spells, OrExplicit, subidentifiers}
+use Rattle.ber_codec.specs.Writing.{Writer, definite, boolean_contents, integer_contents, octets_contents, text_contents, bits_contents, object_id_contents, values_contents, list_contents, parts_contents, sequence_contents, set_parts, alternative_written, choice_written, any_written, under, write_by, nothing_written, writes, written}
+use Rattle.ber_codec.specs.declared.spot.Scope.{Scope}
+use Rattle.ber_codec.specs.Order.{front_rank}
+use Rattle.ber_codec.proofs.Orders.{front_read, opened_small}
+use Rattle.ber_codec.proofs.RowLaws.{along_only}
+use Rattle.ber_codec.proofs.WrittenSets.{Told, AllSpelled, AllShort, first_short, rest_short, set_short, set_is}
 use Rattle.ber_codec.proofs.WrittenFields.{definite_is, contents_short, Has64, integer_is, subidentifiers_are}
 
 abbrev Most : ℕ
@@ -301,6 +306,34 @@ module _ (fit : ℕ → Value → Bool) (write : ℕ → Writer) (rel : ℕ → 
   sequence_written levels qs (chosen n v) le e short = absurd cc
   sequence_written levels qs (any os) le e short = absurd cc
 
+  set_spelled : (levels : ℕ) (ps : List Part) (vs : MaybeValues) → greatest nest (rows_of_parts ps) ≤ levels → parts_fit fit ps vs ≡ true → AllShort write Most ps vs → AllSpelled write rel strict levels ps vs
+  set_spelled levels [] no_parts le e short = tt
+  set_spelled levels [] (absent vs) le e short = absurd cc
+  set_spelled levels [] (present v vs) le e short = absurd cc
+  set_spelled levels (p ∷ ps) no_parts le e short = absurd cc
+  set_spelled levels (p ∷ ps) (absent vs) le e short =
+      let t = and_true p.optional (parts_fit fit ps vs) e in
+      (t.0, set_spelled levels ps vs (omega arith) t.1 short)
+  set_spelled levels (p ∷ ps) (present v vs) le e short =
+      let t = and_true (fit p.inner.0 v) (parts_fit fit ps vs) e in
+      ((each p.inner.0).is None strict levels v tt (omega arith) t.0 (first_short write Most p ps v vs short), set_spelled levels ps vs (omega arith) t.1 (rest_short write Most p ps v vs short))
+
+  set_written : (openings : ℕ → List Opening) (levels : ℕ) → ((m : ℕ) (v : Value) (s : List ℕ) → rel m None strict levels v s → Told openings m s) → (ps : List Part) (v : Value) → agrees_later (clash openings) ps ≡ false
+      → greatest nest (rows_of_parts ps) ≤ levels → sequence_fits (parts_fit fit ps) v ≡ true → length (sequence_contents (set_parts write ps) v) < Most
+      → SetIs rel ps strict v levels (sequence_contents (set_parts write ps) v)
+  set_written openings levels told ps (parts vs) d le e short =
+      set_is openings write rel strict levels told ps vs (set_spelled levels ps vs le e (λ k lt. set_short write k Most ps vs lt short)) d
+  set_written openings levels told qs null d le e short = absurd cc
+  set_written openings levels told qs (integer z) d le e short = absurd cc
+  set_written openings levels told qs (boolean b) d le e short = absurd cc
+  set_written openings levels told qs (octets os) d le e short = absurd cc
+  set_written openings levels told qs (bits os n) d le e short = absurd cc
+  set_written openings levels told qs (object_id os) d le e short = absurd cc
+  set_written openings levels told qs (text os) d le e short = absurd cc
+  set_written openings levels told qs (list vs) d le e short = absurd cc
+  set_written openings levels told qs (chosen n v) d le e short = absurd cc
+  set_written openings levels told qs (any os) d le e short = absurd cc
+
   chosen_written : (levels : ℕ) (ps : List Part) (v : Value) → greatest nest (rows_of_parts ps) ≤ levels → choice_fits (λ which. alternative_fits fit (slice_get ps which)) v ≡ true → length (choice_written (λ which. alternative_written write (slice_get ps which)) v) < Most
       → ChoiceIs rel ps strict levels v (choice_written (λ which. alternative_written write (slice_get ps which)) v)
   chosen_written levels ps (chosen which v) le e short = slot_written levels ps which v le e short
@@ -348,68 +381,87 @@ nests rows sound n r e =
     let few : nesting_by (nesting (take n rows)) r ≤ 32 = ltb-false 32 (nesting_by (nesting (take n rows)) r) t.nested in
     subst (λ (k : ℕ). k ≤ 32) (sym (nesting_at rows sound n r e ∙ same)) few
 
+-- a spelling begins with a tag that its row allows
+told_of : (rows : List TypeRow) → IsSound rows → (turns m : ℕ) (strict : Bool) (levels : ℕ) (v : Value) (s : List ℕ) → SpelledBy rows turns m None strict levels v s → Told (openings rows) m s
+told_of rows sound turns m strict levels v s p =
+    let scope : Scope = record { levels = levels; limit = length s; end = None; marked = false; strict = strict } in
+    let r = (along_only rows sound turns m None tt).only scope 0 v s [] p (record { limit = omega arith; end = refl }) in
+    record {
+      class = r.opened.class;
+      number = r.opened.number;
+      allowed = r.allowed;
+      small = opened_small scope 0 (s ++ []) r.opened r.spot r.opens;
+      rank_is = ap front_rank (sym (append-nil s)) ∙ front_read scope 0 (s ++ []) r.opened r.spot r.opens;
+    }
+
 module _ (whole : (os : List ℕ) → is_whole os ≡ true → IsWhole os) where
-  module _ (fit : ℕ → Value → Bool) (write : ℕ → Writer) (rel : ℕ → Spelled) (nest : ℕ → ℕ) (each : (m : ℕ) → RowWritten (fit m) (write m) (rel m) (nest m)) where
-    choice_is : (ps : List Part) (t : Option tags.Tag) (strict : Bool) (levels : ℕ) (v : Value) → OkTag t → need t (1 + greatest nest (rows_of_parts ps)) ≤ levels → fits_by fit (row.Choice ps) v ≡ true → length (write_by write (row.Choice ps) t v) < Most → RowIs rel (row.Choice ps) t strict levels v (write_by write (row.Choice ps) t v)
-    choice_is ps None strict levels v ok le e short = chosen_written fit write rel nest each strict levels ps v (omega arith) e short
-    choice_is ps (Some t) strict levels v ok le e short =
-        let l = lower (greatest nest (rows_of_parts ps)) levels (omega arith) in
-        let c : List ℕ = choice_written (λ which. alternative_written write (slice_get ps which)) v in
-        constructed_is strict t levels l.0 (λ inner contents. ChoiceIs rel ps strict inner v contents) c l.1 ok short (chosen_written fit write rel nest each strict l.0 ps v l.2 e (contents_short true t c Most short))
+  module _ (openings : ℕ → List Opening) (fit : ℕ → Value → Bool) (write : ℕ → Writer) (rel : ℕ → Spelled) (nest : ℕ → ℕ) (each : (m : ℕ) → RowWritten (fit m) (write m) (rel m) (nest m))
+      (told : (m : ℕ) (strict : Bool) (levels : ℕ) (v : Value) (s : List ℕ) → rel m None strict levels v s → Told openings m s)
+    where
+      choice_is : (ps : List Part) (t : Option tags.Tag) (strict : Bool) (levels : ℕ) (v : Value) → OkTag t → need t (1 + greatest nest (rows_of_parts ps)) ≤ levels → fits_by fit (row.Choice ps) v ≡ true → length (write_by write (row.Choice ps) t v) < Most → RowIs rel (row.Choice ps) t strict levels v (write_by write (row.Choice ps) t v)
+      choice_is ps None strict levels v ok le e short = chosen_written fit write rel nest each strict levels ps v (omega arith) e short
+      choice_is ps (Some t) strict levels v ok le e short =
+          let l = lower (greatest nest (rows_of_parts ps)) levels (omega arith) in
+          let c : List ℕ = choice_written (λ which. alternative_written write (slice_get ps which)) v in
+          constructed_is strict t levels l.0 (λ inner contents. ChoiceIs rel ps strict inner v contents) c l.1 ok short (chosen_written fit write rel nest each strict l.0 ps v l.2 e (contents_short true t c Most short))
 
-    any_is : (t : Option tags.Tag) (strict : Bool) (levels : ℕ) (v : Value) → OkTag t → need t (1 + 0) ≤ levels → any_fits v ≡ true → length (under any_written t v) < Most → OrExplicit (λ s. AnyIs) t strict levels v (under any_written t v)
-    any_is None strict levels v ok le e short = any_written_is whole levels v (omega arith) e
-    any_is (Some t) strict levels v ok le e short =
-        let l = lower 1 levels (omega arith) in
-        constructed_is strict t levels l.0 (λ inner contents. AnyIs inner v contents) (any_written v) l.1 ok short (any_written_is whole l.0 v (omega (arith, l.2)) e)
+      any_is : (t : Option tags.Tag) (strict : Bool) (levels : ℕ) (v : Value) → OkTag t → need t (1 + 0) ≤ levels → any_fits v ≡ true → length (under any_written t v) < Most → OrExplicit (λ s. AnyIs) t strict levels v (under any_written t v)
+      any_is None strict levels v ok le e short = any_written_is whole levels v (omega arith) e
+      any_is (Some t) strict levels v ok le e short =
+          let l = lower 1 levels (omega arith) in
+          constructed_is strict t levels l.0 (λ inner contents. AnyIs inner v contents) (any_written v) l.1 ok short (any_written_is whole l.0 v (omega (arith, l.2)) e)
 
-    some_level : (t : Option tags.Tag) (k levels : ℕ) → need t (1 + k) ≤ levels → 1 + k ≤ levels
-    some_level None k levels le = le
-    some_level (Some t) k levels le = omega arith
+      some_level : (t : Option tags.Tag) (k levels : ℕ) → need t (1 + k) ≤ levels → 1 + k ≤ levels
+      some_level None k levels le = le
+      some_level (Some t) k levels le = omega arith
 
-    row_is : (r : TypeRow) (t : Option tags.Tag) (strict : Bool) (levels : ℕ) (v : Value) → OkTag t → need t (nesting_by nest r) ≤ levels → fits_by fit r v ≡ true → length (write_by write r t v) < Most → RowIs rel r t strict levels v (write_by write r t v)
-    row_is row.Boolean t strict levels v ok le e short =
-        primitive_is strict (tag_or t Universal 1) levels (BooleanIs strict v) (boolean_contents v) (tag_ok t Universal 1 ok (omega arith)) (omega (arith, some_level t 0 levels le)) short (boolean_written strict v e)
-    row_is (row.Integer low high) t strict levels v ok le e short =
-        primitive_is strict (tag_or t Universal 2) levels (IntegerIs low high v) (integer_contents v) (tag_ok t Universal 2 ok (omega arith)) (omega (arith, some_level t 0 levels le)) short (integer_written low high v e)
-    row_is (row.Enumerated items) t strict levels v ok le e short =
-        primitive_is strict (tag_or t Universal 10) levels (EnumeratedIs items v) (integer_contents v) (tag_ok t Universal 10 ok (omega arith)) (omega (arith, some_level t 0 levels le)) short (enumerated_written items v e)
-    row_is row.Null t strict levels v ok le e short =
-        primitive_is strict (tag_or t Universal 5) levels (NullIs v) [] (tag_ok t Universal 5 ok (omega arith)) (omega (arith, some_level t 0 levels le)) short (null_written v e)
-    row_is (row.OctetString most) t strict levels v ok le e short =
-        inl (primitive_is strict (tag_or t Universal 4) levels (λ c. (string_rule OfOctets (whole_octets most) c ≡ Some v) × (strict ≡ true → always c ≡ true)) (octets_contents v) (tag_ok t Universal 4 ok (omega arith)) (omega (arith, some_level t 0 levels le)) short
-        (octets_written most v e, λ s. refl))
-    row_is row.BitString t strict levels v ok le e short =
-        let b = bits_written v e in
-        inl (primitive_is strict (tag_or t Universal 3) levels (λ c. (string_rule OfBits whole_bits c ≡ Some v) × (strict ≡ true → has_zero_bits c ≡ true)) (bits_contents v) (tag_ok t Universal 3 ok (omega arith)) (omega (arith, some_level t 0 levels le)) short
-        (b.0, λ s. b.1))
-    row_is row.ObjectId t strict levels v ok le e short =
-        primitive_is strict (tag_or t Universal 6) levels (ObjectIdIs v) (object_id_contents v) (tag_ok t Universal 6 ok (omega arith)) (omega (arith, some_level t 0 levels le)) short (object_id_written v e)
-    row_is (row.Text kind) t strict levels v ok le e short =
-        inl (primitive_is strict (tag_or t Universal (text_number kind)) levels (λ c. (string_rule OfOctets (whole_text kind) c ≡ Some v) × (strict ≡ true → always c ≡ true)) (text_contents v) (tag_ok t Universal (text_number kind) ok (text_small kind)) (omega (arith, some_level t 0 levels le)) short
-        (text_written kind v e, λ s. refl))
-    row_is (row.Sequence ps) t strict levels v ok le e short =
-        let l = lower (greatest nest (rows_of_parts ps)) levels (some_level t (greatest nest (rows_of_parts ps)) levels le) in
-        let c : List ℕ = sequence_contents (parts_contents write ps) v in
-        constructed_is strict (tag_or t Universal 16) levels l.0 (SequenceIs rel strict ps v) c l.1 (tag_ok t Universal 16 ok (omega arith)) short
-        (sequence_written fit write rel nest each strict l.0 ps v l.2 e (contents_short true (tag_or t Universal 16) c Most short))
-    row_is (row.Set ps) t strict levels v ok le e short = absurd cc
-    row_is (row.SequenceOf of) t strict levels v ok le e short =
-        let l = lower (nest of.0) levels (omega (arith, some_level t (greatest nest (of.0 ∷ [])) levels le)) in
-        let c : List ℕ = list_contents (write of.0) v in
-        constructed_is strict (tag_or t Universal 16) levels l.0 (ListIs (rel of.0) strict v) c l.1 (tag_ok t Universal 16 ok (omega arith)) short
-        (list_written fit write rel nest each strict of.0 l.0 v l.2 e (contents_short true (tag_or t Universal 16) c Most short))
-    row_is (row.Choice ps) t strict levels v ok le e short = choice_is ps t strict levels v ok le e short
-    row_is (row.Tagged class number true of) t strict levels v ok le e short =
-        let f = and_true (has_32_bits number) (fit of.0 v) e in
-        let l = lower (nest of.0) levels (omega (arith, some_level t (greatest nest (of.0 ∷ [])) levels le)) in
-        let c : List ℕ = write of.0 None v in
-        constructed_is strict (tag_or t class number) levels l.0 (λ k contents. rel of.0 None strict k v contents) c l.1 (tag_ok t class number ok (ltb-true number (2 ^ 32) f.0)) short
-        ((each of.0).is None strict l.0 v tt l.2 f.1 (contents_short true (tag_or t class number) c Most short))
-    row_is (row.Tagged class number false of) t strict levels v ok le e short =
-        let f = and_true (has_32_bits number) (fit of.0 v) e in
-        (each of.0).is (Some (tag_or t class number)) strict levels v (tag_ok t class number ok (ltb-true number (2 ^ 32) f.0)) (omega (arith, some_level t (greatest nest (of.0 ∷ [])) levels le)) f.1 short
-    row_is row.Any t strict levels v ok le e short = any_is t strict levels v ok le e short
+      row_is : (r : TypeRow) → has_clash openings r ≡ false → (t : Option tags.Tag) (strict : Bool) (levels : ℕ) (v : Value) → OkTag t → need t (nesting_by nest r) ≤ levels → fits_by fit r v ≡ true → length (write_by write r t v) < Most → RowIs rel r t strict levels v (write_by write r t v)
+      row_is row.Boolean apart t strict levels v ok le e short =
+          primitive_is strict (tag_or t Universal 1) levels (BooleanIs strict v) (boolean_contents v) (tag_ok t Universal 1 ok (omega arith)) (omega (arith, some_level t 0 levels le)) short (boolean_written strict v e)
+      row_is (row.Integer low high) apart t strict levels v ok le e short =
+          primitive_is strict (tag_or t Universal 2) levels (IntegerIs low high v) (integer_contents v) (tag_ok t Universal 2 ok (omega arith)) (omega (arith, some_level t 0 levels le)) short (integer_written low high v e)
+      row_is (row.Enumerated items) apart t strict levels v ok le e short =
+          primitive_is strict (tag_or t Universal 10) levels (EnumeratedIs items v) (integer_contents v) (tag_ok t Universal 10 ok (omega arith)) (omega (arith, some_level t 0 levels le)) short (enumerated_written items v e)
+      row_is row.Null apart t strict levels v ok le e short =
+          primitive_is strict (tag_or t Universal 5) levels (NullIs v) [] (tag_ok t Universal 5 ok (omega arith)) (omega (arith, some_level t 0 levels le)) short (null_written v e)
+      row_is (row.OctetString most) apart t strict levels v ok le e short =
+          inl (primitive_is strict (tag_or t Universal 4) levels (λ c. (string_rule OfOctets (whole_octets most) c ≡ Some v) × (strict ≡ true → always c ≡ true)) (octets_contents v) (tag_ok t Universal 4 ok (omega arith)) (omega (arith, some_level t 0 levels le)) short
+          (octets_written most v e, λ s. refl))
+      row_is row.BitString apart t strict levels v ok le e short =
+          let b = bits_written v e in
+          inl (primitive_is strict (tag_or t Universal 3) levels (λ c. (string_rule OfBits whole_bits c ≡ Some v) × (strict ≡ true → has_zero_bits c ≡ true)) (bits_contents v) (tag_ok t Universal 3 ok (omega arith)) (omega (arith, some_level t 0 levels le)) short
+          (b.0, λ s. b.1))
+      row_is row.ObjectId apart t strict levels v ok le e short =
+          primitive_is strict (tag_or t Universal 6) levels (ObjectIdIs v) (object_id_contents v) (tag_ok t Universal 6 ok (omega arith)) (omega (arith, some_level t 0 levels le)) short (object_id_written v e)
+      row_is (row.Text kind) apart t strict levels v ok le e short =
+          inl (primitive_is strict (tag_or t Universal (text_number kind)) levels (λ c. (string_rule OfOctets (whole_text kind) c ≡ Some v) × (strict ≡ true → always c ≡ true)) (text_contents v) (tag_ok t Universal (text_number kind) ok (text_small kind)) (omega (arith, some_level t 0 levels le)) short
+          (text_written kind v e, λ s. refl))
+      row_is (row.Sequence ps) apart t strict levels v ok le e short =
+          let l = lower (greatest nest (rows_of_parts ps)) levels (some_level t (greatest nest (rows_of_parts ps)) levels le) in
+          let c : List ℕ = sequence_contents (parts_contents write ps) v in
+          constructed_is strict (tag_or t Universal 16) levels l.0 (SequenceIs rel strict ps v) c l.1 (tag_ok t Universal 16 ok (omega arith)) short
+          (sequence_written fit write rel nest each strict l.0 ps v l.2 e (contents_short true (tag_or t Universal 16) c Most short))
+      row_is (row.Set ps) apart t strict levels v ok le e short =
+          let l = lower (greatest nest (rows_of_parts ps)) levels (some_level t (greatest nest (rows_of_parts ps)) levels le) in
+          let c : List ℕ = sequence_contents (set_parts write ps) v in
+          constructed_is strict (tag_or t Universal 17) levels l.0 (SetIs rel ps strict v) c l.1 (tag_ok t Universal 17 ok (omega arith)) short
+          (set_written fit write rel nest each strict openings l.0 (λ m w text. told m strict l.0 w text) ps v apart l.2 e (contents_short true (tag_or t Universal 17) c Most short))
+      row_is (row.SequenceOf of) apart t strict levels v ok le e short =
+          let l = lower (nest of.0) levels (omega (arith, some_level t (greatest nest (of.0 ∷ [])) levels le)) in
+          let c : List ℕ = list_contents (write of.0) v in
+          constructed_is strict (tag_or t Universal 16) levels l.0 (ListIs (rel of.0) strict v) c l.1 (tag_ok t Universal 16 ok (omega arith)) short
+          (list_written fit write rel nest each strict of.0 l.0 v l.2 e (contents_short true (tag_or t Universal 16) c Most short))
+      row_is (row.Choice ps) apart t strict levels v ok le e short = choice_is ps t strict levels v ok le e short
+      row_is (row.Tagged class number true of) apart t strict levels v ok le e short =
+          let f = and_true (has_32_bits number) (fit of.0 v) e in
+          let l = lower (nest of.0) levels (omega (arith, some_level t (greatest nest (of.0 ∷ [])) levels le)) in
+          let c : List ℕ = write of.0 None v in
+          constructed_is strict (tag_or t class number) levels l.0 (λ k contents. rel of.0 None strict k v contents) c l.1 (tag_ok t class number ok (ltb-true number (2 ^ 32) f.0)) short
+          ((each of.0).is None strict l.0 v tt l.2 f.1 (contents_short true (tag_or t class number) c Most short))
+      row_is (row.Tagged class number false of) apart t strict levels v ok le e short =
+          let f = and_true (has_32_bits number) (fit of.0 v) e in
+          (each of.0).is (Some (tag_or t class number)) strict levels v (tag_ok t class number ok (ltb-true number (2 ^ 32) f.0)) (omega (arith, some_level t (greatest nest (of.0 ∷ [])) levels le)) f.1 short
+      row_is row.Any apart t strict levels v ok le e short = any_is t strict levels v ok le e short
 
   module _ (rows : List TypeRow) (sound : IsSound rows) where
     of_written : (turns n : ℕ) → ((m : ℕ) → RowWritten (along nothing_fits fits_by rows turns m) (along nothing_written write_by rows turns m) (SpelledBy rows turns m) (nesting rows m)) → (o : Option TypeRow) → slice_get rows n ≡ o
@@ -418,7 +470,7 @@ module _ (whole : (os : List ℕ) → is_whole os ≡ true → IsWhole os) where
         → RowOr (RowIs (SpelledBy rows turns)) o t strict levels v (of_row nothing_written (write_by (along nothing_written write_by rows turns)) o t v)
     of_written turns n h None g t strict levels v ok le e short = absurd cc
     of_written turns n h (Some r) g t strict levels v ok le e short =
-        row_is (along nothing_fits fits_by rows turns) (along nothing_written write_by rows turns) (SpelledBy rows turns) (nesting rows) h r t strict levels v ok (subst (λ (k : ℕ). need t k ≤ levels) (nesting_at rows sound n r g) le) e short
+        row_is (openings rows) (along nothing_fits fits_by rows turns) (along nothing_written write_by rows turns) (SpelledBy rows turns) (nesting rows) h (λ m. told_of rows sound turns m) r (sound_row rows sound n r g).apart t strict levels v ok (subst (λ (k : ℕ). need t k ≤ levels) (nesting_at rows sound n r g) le) e short
 
     all_written : (turns n : ℕ) → RowWritten (along nothing_fits fits_by rows turns n) (along nothing_written write_by rows turns n) (SpelledBy rows turns n) (nesting rows n)
     all_written zero n = record { is = λ t strict levels v ok le e short. absurd cc }

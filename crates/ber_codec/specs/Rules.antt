@@ -1,5 +1,6 @@
 -- What each row is read as, from what the rows that it names are read as.
-use Rattle.std.specs.Prelude.{ℕ, zero, suc, ◌-◌, ◌^◌, ◌%◌, ℤ, Bool, true, false, not, ◌&&◌, ◌||◌, Option, Some, None, option_map, List, [], ◌∷◌, ◌++◌, length, take, drop, Ok, Err, nat_lt, nat_le, nat_eq, int_lt, slice_index, slice_set, if◌then◌else◌}
+use Rattle.std.specs.Prelude.{ℕ, zero, suc, ◌+◌, ◌-◌, ◌^◌, ◌%◌, ℤ, Bool, true, false, not, ◌&&◌, ◌||◌, Option, Some, None, option_map, List, [], ◌∷◌, ◌++◌, length, take, drop, Ok, Err, nat_lt, nat_le, nat_eq, int_lt, slice_index, slice_get, slice_set, if◌then◌else◌}
+use Rattle.osi_base.specs.declared.words.Kind.{Kind}
 use Rattle.osi_base.specs.declared.words.Kind.TheVariants.{Tag, Missing, Extra, Content, Form}
 use Rattle.asn1_types.specs.declared.row.Class.{Class}
 use Rattle.asn1_types.specs.declared.row.Class.TheVariants.{Universal}
@@ -12,7 +13,7 @@ use Rattle.asn1_types.specs.Rows.{along, begins, same_class, is_no_tag, text_num
 use Rattle.asn1_types.specs.Value.{Value, boolean, integer, null, octets, bits, object_id, text, parts, list, chosen, any}
 use Rattle.asn1_types.specs.ValueView.{parts_of, values_of}
 use Rattle.asn1_types.specs.Fits.{is_item, is_text, are_bits}
-use Rattle.ber_codec.specs.declared.fault.ReadFault.TheVariants.{Short}
+use Rattle.ber_codec.specs.declared.fault.ReadFault.TheVariants.{NotSpelled, Short}
 use Rattle.ber_codec.specs.declared.spot.Scope.{Scope}
 use Rattle.ber_codec.specs.declared.spot.Tag as tags
 use Rattle.ber_codec.specs.declared.spot.StringKind.{StringKind}
@@ -23,6 +24,7 @@ use Rattle.ber_codec.specs.declared.spot.Gathered.{Gathered}
 use Rattle.ber_codec.specs.Reading.{Spot, Opened, Ahead, ended, begun, Reading, ◌>>=◌, refuse}
 use Rattle.ber_codec.specs.Fields.{identifier_at, extent_at, contents_at, look_at}
 use Rattle.ber_codec.specs.Primitives.{integer_of, arcs_of}
+use Rattle.ber_codec.specs.Order.{rank, Filled}
 
 -- Reads what stands behind an identifier, under another tag if one is given.
 abbrev pub Reader : Type 0
@@ -302,6 +304,73 @@ sequence_at begins inner ps tag scope opened spot = do
   found ← parts_at begins inner x.0 a ps
   Ok (parts (parts_of found.0), found.1)
 
+-- ---- SET (X.690 8.11)
+
+-- no part stands yet
+abbrev pub no_parts_of : List Part → List (Option Value)
+no_parts_of [] = []
+no_parts_of (p ∷ ps) = None ∷ no_parts_of ps
+
+abbrev pub nothing_filled : List Part → Filled
+nothing_filled ps = record { found = no_parts_of ps; least = 0 }
+
+abbrev pub stands : Part → Option Value → Bool
+stands p None = p.optional
+stands p (Some v) = true
+
+-- each part stands that isn't optional
+abbrev pub is_filled : List Part → List (Option Value) → Bool
+is_filled [] vs = true
+is_filled (p ∷ ps) [] = false
+is_filled (p ∷ ps) (o ∷ vs) = stands p o && is_filled ps vs
+
+abbrev pub set_done : List Part → Filled → Option Value
+set_done ps filled = if is_filled ps filled.found then Some (parts (parts_of filled.found)) else None
+
+-- an identifier as if no octet stood behind it: what is read of it is a fault of its own, or one behind it
+abbrev pub alone : Opened → Spot → Opened
+alone opened after = record { start = record { place = after.place; rest = [] }; class = opened.class; constructed = opened.constructed; number = opened.number }
+
+abbrev pub cut_behind : Spot → Spot
+cut_behind after = record { place = after.place; rest = [] }
+
+-- the fault of a part out of order: that of its identifier alone comes first
+abbrev pub late_kind : Reading (Value × Spot) → Kind
+late_kind (Err (NotSpelled place Tag)) = Tag
+late_kind read = Form
+
+abbrev pub late_at : Reader → Scope → Opened → Spot → Reading (Value × Spot)
+late_at inner scope opened spot = refuse opened.start.place (late_kind (inner None scope (alone opened spot) (cut_behind spot)))
+
+-- in DER the tags of the parts rise (X.690 10.3)
+abbrev pub ordered_at : Reader → ℕ → Scope → Opened → Spot → Reading (Value × Spot)
+ordered_at inner least scope opened spot =
+    if scope.strict && nat_lt (rank opened.class opened.number) least then late_at inner scope opened spot else inner None scope opened spot
+
+abbrev pub is_free : Option (Option Value) → Bool
+is_free (Some None) = true
+is_free slot = false
+
+abbrev pub filled_by : ℕ → Opened → Filled → Value → Filled
+filled_by which opened before v = record { found = slice_set before.found which (Some v); least = rank opened.class opened.number + 1 }
+
+abbrev pub fill_at : Reader → ℕ → Filled → Scope → Opened → Spot → Reading (Filled × Spot)
+fill_at inner which before scope opened spot =
+    if is_free (slice_get before.found which) then (do
+      v ← ordered_at inner before.least scope opened spot
+      Ok (filled_by which opened before v.0, v.1))
+    else refuse opened.start.place Extra
+
+-- the part that begins with this identifier, whose slot is free
+unfoldable pub slot_at : (ℕ → Class → ℕ → Bool) → (ℕ → Reader) → ℕ → List Part → Filled → Scope → Opened → Spot → Reading (Filled × Spot)
+slot_at begins inner which [] before scope opened spot = refuse opened.start.place Extra
+slot_at begins inner which (p ∷ ps) before scope opened spot =
+    if begins p.inner.0 opened.class opened.number then fill_at (inner p.inner.0) which before scope opened spot
+    else slot_at begins inner (suc which) ps before scope opened spot
+
+abbrev pub set_at : (ℕ → Class → ℕ → Bool) → (ℕ → Reader) → List Part → tags.Tag → Scope → Opened → Spot → Reading (Value × Spot)
+set_at begins inner ps tag = constructed_at (all_items_at (slot_at begins inner 0 ps) (set_done ps) (nothing_filled ps)) tag
+
 -- ---- CHOICE (X.690 8.13)
 
 unfoldable pub choice_at : (ℕ → Class → ℕ → Bool) → (ℕ → Reader) → ℕ → List Part → Scope → Opened → Spot → Reading (Value × Spot)
@@ -348,7 +417,7 @@ read_by begins inner row.BitString tag = string_at OfBits whole_bits has_zero_bi
 read_by begins inner row.ObjectId tag = primitive_at object_id_rule always (tag_or tag Universal 6)
 read_by begins inner (row.Text kind) tag = string_at OfOctets (whole_text kind) always (tag_or tag Universal (text_number kind))
 read_by begins inner (row.Sequence ps) tag = sequence_at begins inner ps (tag_or tag Universal 16)
-read_by begins inner (row.Set ps) tag = dead tag
+read_by begins inner (row.Set ps) tag = set_at begins inner ps (tag_or tag Universal 17)
 read_by begins inner (row.SequenceOf of) tag = list_at (inner of.0) (tag_or tag Universal 16)
 read_by begins inner (row.Choice ps) tag = or_explicit (choice_at begins inner 0 ps) tag
 read_by begins inner (row.Tagged class number explicit of) tag = tagged_at explicit (inner of.0) class number tag

@@ -1,6 +1,6 @@
 -- The spellings of values (X.690 8 and 10): which octets spell which value of which row. A scope of `strict`
 -- means DER. Levels are how many more values may stand inside one another.
-use Rattle.std.specs.Prelude.{◌≡◌, ◌≢◌, ℕ, zero, suc, ◌+◌, ◌-◌, ◌*◌, ◌^◌, ◌<◌, ◌≤◌, ◌⊎◌, ℤ, ◌≤ℤ◌, Bool, true, false, not, Option, Some, None, List, [], ◌∷◌, ◌++◌, length, nat_lt, nat_eq, slice_index, slice_get, if◌then◌else◌}
+use Rattle.std.specs.Prelude.{◌≡◌, ◌≢◌, ℕ, zero, suc, ◌+◌, ◌-◌, ◌*◌, ◌^◌, ◌<◌, ◌≤◌, ◌⊎◌, ℤ, ◌≤ℤ◌, Bool, true, false, not, Option, Some, None, List, [], ◌∷◌, ◌++◌, length, nat_lt, nat_eq, slice_index, slice_get, slice_set, if◌then◌else◌}
 use Rattle.std.specs.List.{AllByRecursion}
 use Rattle.osi_base.specs.Oid.{IsOid}
 use Rattle.asn1_types.specs.declared.row.Class.{Class}
@@ -18,7 +18,8 @@ use Rattle.ber_codec.specs.Primitives.{is_padded, signed_of}
 use Rattle.ber_codec.specs.declared.spot.StringKind.{StringKind}
 use Rattle.ber_codec.specs.declared.spot.StringKind.TheVariants.{OfOctets, OfBits}
 use Rattle.ber_codec.specs.declared.spot.Gathered.{Gathered}
-use Rattle.ber_codec.specs.Rules.{tag_or, always, segment_tag, nothing, segment_rule, string_rule, whole_octets, whole_text, whole_bits, has_zero_bits, list_done}
+use Rattle.ber_codec.specs.Rules.{tag_or, always, segment_tag, nothing, segment_rule, string_rule, whole_octets, whole_text, whole_bits, has_zero_bits, list_done, nothing_filled, set_done}
+use Rattle.ber_codec.specs.Order.{Filled, front_rank}
 
 -- ---- numbers in digits of seven bits (X.690 8.1.2.4.2, 8.19.2)
 
@@ -217,6 +218,16 @@ ListStep inner before strict levels after spelled = (v : Value) × (after ≡ be
 abbrev pub ListIs : Spelled → Bool → Value → ℕ → List ℕ → Type 0
 ListIs inner strict v levels contents = ItemsAre list_done (ListStep inner) [] strict levels v contents
 
+-- one part more, whose slot is free (X.690 8.11); in DER the tags rise (X.690 10.3)
+abbrev pub SetStep : (ℕ → Spelled) → List Part → Filled → Bool → ℕ → Filled → List ℕ → Type 0
+SetStep inner ps before strict levels after spelled =
+    (which : ℕ) × (p : Part) × (v : Value) × (slice_get ps which ≡ Some p) × (slice_get before.found which ≡ Some None) × inner p.inner.0 None strict levels v spelled
+    × (strict ≡ true → before.least ≤ front_rank spelled)
+    × (after ≡ record { found = slice_set before.found which (Some v); least = front_rank spelled + 1 })
+
+abbrev pub SetIs : (ℕ → Spelled) → List Part → Bool → Value → ℕ → List ℕ → Type 0
+SetIs inner ps strict v levels contents = ItemsAre (set_done ps) (SetStep inner ps) (nothing_filled ps) strict levels v contents
+
 -- a value of the alternative (X.690 8.13)
 abbrev pub ChoiceIs : (ℕ → Spelled) → List Part → Bool → ℕ → Value → List ℕ → Type 0
 ChoiceIs inner ps strict levels (chosen which v) spelled = (p : Part) × (slice_get ps which ≡ Some p) × inner p.inner.0 None strict levels v spelled
@@ -242,7 +253,7 @@ RowIs inner row.BitString tag strict levels v spelled = StringIs OfBits whole_bi
 RowIs inner row.ObjectId tag strict levels v spelled = IsPrimitive (tag_or tag Universal 6) strict levels (ObjectIdIs v) spelled
 RowIs inner (row.Text kind) tag strict levels v spelled = StringIs OfOctets (whole_text kind) always (tag_or tag Universal (text_number kind)) strict levels v spelled
 RowIs inner (row.Sequence ps) tag strict levels v spelled = IsConstructed (tag_or tag Universal 16) strict levels (SequenceIs inner strict ps v) spelled
-RowIs inner (row.Set ps) tag strict levels v spelled = ⊥
+RowIs inner (row.Set ps) tag strict levels v spelled = IsConstructed (tag_or tag Universal 17) strict levels (SetIs inner ps strict v) spelled
 RowIs inner (row.SequenceOf of) tag strict levels v spelled = IsConstructed (tag_or tag Universal 16) strict levels (ListIs (inner of.0) strict v) spelled
 RowIs inner (row.Choice ps) tag strict levels v spelled = OrExplicit (ChoiceIs inner ps) tag strict levels v spelled
 RowIs inner (row.Tagged class number explicit of) tag strict levels v spelled = TaggedIs explicit (inner of.0) class number tag strict levels v spelled

@@ -11,6 +11,7 @@ use Rattle.asn1_types.specs.Value.{Value, boolean, integer, octets, bits, object
 use Rattle.ber_codec.specs.declared.spot.Tag as tags
 use Rattle.ber_codec.specs.Rules.{tag_or}
 use Rattle.ber_codec.specs.Spelling.{leading, subidentifiers}
+use Rattle.ber_codec.specs.Order.{ranks, front_rank}
 
 -- ---- numbers: the last digit first, put before what stands behind it
 
@@ -107,6 +108,18 @@ abbrev pub sequence_contents : (MaybeValues → List ℕ) → Value → List ℕ
 sequence_contents write (parts vs) = write vs
 sequence_contents write v = []
 
+-- only what has a tag of this rank
+abbrev pub of_rank : ℕ → (ℕ → Writer) → ℕ → Writer
+of_rank r inner n tag v = if nat_eq (front_rank (inner n tag v)) r then inner n tag v else []
+
+-- parts by rising rank (X.690 10.3), of `many` ranks from `least` on
+unfoldable pub risen_parts : (ℕ → Writer) → ℕ → ℕ → List Part → MaybeValues → List ℕ
+risen_parts inner zero least ps vs = []
+risen_parts inner (suc many) least ps vs = parts_contents (of_rank least inner) ps vs ++ risen_parts inner many (suc least) ps vs
+
+unfoldable pub set_parts : (ℕ → Writer) → List Part → MaybeValues → List ℕ
+set_parts inner ps vs = risen_parts inner ranks 0 ps vs
+
 abbrev pub values_contents : Writer → Values → List ℕ
 values_contents inner no_values = []
 values_contents inner (value v vs) = inner None v ++ values_contents inner vs
@@ -151,7 +164,7 @@ write_by inner row.BitString tag v = definite false (tag_or tag Universal 3) (bi
 write_by inner row.ObjectId tag v = definite false (tag_or tag Universal 6) (object_id_contents v)
 write_by inner (row.Text kind) tag v = definite false (tag_or tag Universal (text_number kind)) (text_contents v)
 write_by inner (row.Sequence ps) tag v = definite true (tag_or tag Universal 16) (sequence_contents (parts_contents inner ps) v)
-write_by inner (row.Set ps) tag v = []
+write_by inner (row.Set ps) tag v = definite true (tag_or tag Universal 17) (sequence_contents (set_parts inner ps) v)
 write_by inner (row.SequenceOf of) tag v = definite true (tag_or tag Universal 16) (list_contents (inner of.0) v)
 write_by inner (row.Choice ps) tag v = under (choice_written (λ which. alternative_written inner (slice_get ps which))) tag v
 write_by inner (row.Tagged class number explicit of) tag v = tagged_written explicit (inner of.0) class number tag v
@@ -166,5 +179,5 @@ unfoldable pub written : List TypeRow → ℕ → Value → List ℕ
 written rows n v = writes rows n None v
 
 -- a length in 64 bits, which stands still at their end
-abbrev pub capped : ℕ → ℕ
-capped n = min n (2 ^ 64 - 1)
+abbrev pub saturated : ℕ → ℕ
+saturated n = min n (2 ^ 64 - 1)

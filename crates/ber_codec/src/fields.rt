@@ -49,7 +49,7 @@ fn check_within(scope: &Scope, place: usize, until: u64) -> Result<(), ReadFault
     Ok(())
 }
 
-fn class_of(first: u8) -> Class
+pub(crate) fn class_of(first: u8) -> Class
     ensures { result ≡ class_of first }
 {
     if first < 64 {

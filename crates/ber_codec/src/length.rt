@@ -6,7 +6,7 @@ ghost use Rattle.asn1_types.specs.Rows.{rows_of_parts};
 ghost use Rattle.asn1_types.specs.Table.{IsSound};
 ghost use Rattle.asn1_types.specs.ValueView.{parts_of, values_of};
 ghost use Rattle.ber_codec.specs.Spelling.{subidentifiers};
-ghost use Rattle.ber_codec.specs.Writing.{capped, base_128, base_256, natural_octets, integer_octets, identifier, length_octets, definite, boolean_contents, integer_contents, octets_contents, text_contents, bits_contents, object_id_contents, values_contents, list_contents, part_contents, parts_contents, sequence_contents, alternative_written, choice_written, any_written, under, tagged_written, write_by, writes, written};
+ghost use Rattle.ber_codec.specs.Writing.{saturated, base_128, base_256, natural_octets, integer_octets, identifier, length_octets, definite, boolean_contents, integer_contents, octets_contents, text_contents, bits_contents, object_id_contents, values_contents, list_contents, part_contents, parts_contents, sequence_contents, alternative_written, choice_written, any_written, under, write_by, writes, written};
 
 use crate::read::tag_or;
 use crate::spot::Tag;
@@ -85,14 +85,14 @@ fn length_len(count: u64) -> u64
 
 /// The length of a spelling that has contents of this length.
 fn definite_len(tag: Tag, count: u64) -> u64
-    ensures { result ≡ capped (length (identifier tag.class false tag.number) + (length (length_octets count) + count)) }
+    ensures { result ≡ saturated (length (identifier tag.class false tag.number) + (length (length_octets count) + count)) }
 {
     let head = identifier_len(tag) + length_len(count);
     count.saturating_add(head)
 }
 
 fn integer_value_len(tag: Tag, value: &Val) -> u64
-    ensures { result ≡ capped (length (definite false tag (integer_contents value.now))) }
+    ensures { result ≡ saturated (length (definite false tag (integer_contents value.now))) }
 {
     let count = match &value.node {
         Node::Int(number) => integer_len(*number),
@@ -102,7 +102,7 @@ fn integer_value_len(tag: Tag, value: &Val) -> u64
 }
 
 fn boolean_len(tag: Tag, value: &Val) -> u64
-    ensures { result ≡ capped (length (definite false tag (boolean_contents value.now))) }
+    ensures { result ≡ saturated (length (definite false tag (boolean_contents value.now))) }
 {
     let count = match &value.node {
         Node::Bool(_) => 1,
@@ -112,7 +112,7 @@ fn boolean_len(tag: Tag, value: &Val) -> u64
 }
 
 fn octets_len(tag: Tag, value: &Val) -> u64
-    ensures { result ≡ capped (length (definite false tag (octets_contents value.now))) }
+    ensures { result ≡ saturated (length (definite false tag (octets_contents value.now))) }
 {
     let count = match &value.node {
         Node::Octets(octets) => octets.len() as u64,
@@ -122,7 +122,7 @@ fn octets_len(tag: Tag, value: &Val) -> u64
 }
 
 fn text_len(tag: Tag, value: &Val) -> u64
-    ensures { result ≡ capped (length (definite false tag (text_contents value.now))) }
+    ensures { result ≡ saturated (length (definite false tag (text_contents value.now))) }
 {
     let count = match &value.node {
         Node::Text(octets) => octets.len() as u64,
@@ -132,7 +132,7 @@ fn text_len(tag: Tag, value: &Val) -> u64
 }
 
 fn bits_len(tag: Tag, value: &Val) -> u64
-    ensures { result ≡ capped (length (definite false tag (bits_contents value.now))) }
+    ensures { result ≡ saturated (length (definite false tag (bits_contents value.now))) }
 {
     let count = match &value.node {
         Node::Bits { octets, .. } => (octets.len() as u64).saturating_add(1),
@@ -144,7 +144,7 @@ fn bits_len(tag: Tag, value: &Val) -> u64
 /// The length of an OBJECT IDENTIFIER's arcs (X.690 8.19), of which the first two are one
 /// subidentifier.
 fn arcs_len(arcs: &[u32]) -> u64
-    ensures { result ≡ capped (length (flat_map base_128 (subidentifiers arcs.now))) }
+    ensures { result ≡ saturated (length (flat_map base_128 (subidentifiers arcs.now))) }
 {
     match arcs {
         [] => 0,
@@ -157,7 +157,7 @@ fn arcs_len(arcs: &[u32]) -> u64
 }
 
 fn each_len(numbers: &[u32]) -> u64
-    ensures { result ≡ capped (length (flat_map base_128 numbers.now)) }
+    ensures { result ≡ saturated (length (flat_map base_128 numbers.now)) }
 {
     let mut count: u64 = 0;
     let mut index = numbers.len();
@@ -169,7 +169,7 @@ fn each_len(numbers: &[u32]) -> u64
 }
 
 fn object_id_len(tag: Tag, value: &Val) -> u64
-    ensures { result ≡ capped (length (definite false tag (object_id_contents value.now))) }
+    ensures { result ≡ saturated (length (definite false tag (object_id_contents value.now))) }
 {
     let count = match &value.node {
         Node::ObjectId(oid) => arcs_len(oid.arcs()),
@@ -179,7 +179,7 @@ fn object_id_len(tag: Tag, value: &Val) -> u64
 }
 
 fn any_len(tag: Option<Tag>, value: &Val) -> u64
-    ensures { result ≡ capped (length (under any_written tag value.now)) }
+    ensures { result ≡ saturated (length (under any_written tag value.now)) }
 {
     let count = match &value.node {
         Node::Any(octets) => octets.len() as u64,
@@ -194,7 +194,7 @@ fn any_len(tag: Option<Tag>, value: &Val) -> u64
 /// The length of what is written of a value of this row, under another tag if one is given.
 #[cycle(measuring)]
 fn value_len(table: &TypeTable, of: TypeId, tag: Option<Tag>, value: &Val) -> u64
-    ensures { result ≡ capped (length (writes table.now of.0 tag value.now)) }
+    ensures { result ≡ saturated (length (writes table.now of.0 tag value.now)) }
 {
     if table.has(of) {
         row_len(table, of, table.row(of), tag, value)
@@ -207,7 +207,7 @@ fn value_len(table: &TypeTable, of: TypeId, tag: Option<Tag>, value: &Val) -> u6
 fn row_len(table: &TypeTable, of: TypeId, row: &TypeRow, tag: Option<Tag>, value: &Val) -> u64
     requires row { slice_get table.now of.0 ≡ Some row.now }
     requires sound { IsSound table.now }
-    ensures { result ≡ capped (length (write_by (writes table.now) row.now tag value.now)) }
+    ensures { result ≡ saturated (length (write_by (writes table.now) row.now tag value.now)) }
 {
     match row {
         TypeRow::Boolean => boolean_len(tag_or(tag, Class::Universal, 1), value),
@@ -241,14 +241,17 @@ fn row_len(table: &TypeTable, of: TypeId, row: &TypeRow, tag: Option<Tag>, value
             }
         }
         TypeRow::Any => any_len(tag, value),
-        _ => 0,
+        TypeRow::Set(parts) => {
+            let tag = tag_or(tag, Class::Universal, 17);
+            sequence_len(table, of, parts.as_slice(), tag, value)
+        }
     }
 }
 
 #[cycle(measuring)]
 fn list_len(table: &TypeTable, of: TypeId, inner: TypeId, tag: Tag, value: &Val) -> u64
     requires below { inner.0 < of.0 }
-    ensures { result ≡ capped (length (definite true tag (list_contents (writes table.now inner.0) value.now))) }
+    ensures { result ≡ saturated (length (definite true tag (list_contents (writes table.now inner.0) value.now))) }
 {
     let count = match &value.node {
         Node::List(values) => values_len(table, of, inner, values),
@@ -260,7 +263,7 @@ fn list_len(table: &TypeTable, of: TypeId, inner: TypeId, tag: Tag, value: &Val)
 #[cycle(measuring)]
 fn values_len(table: &TypeTable, of: TypeId, inner: TypeId, values: &[Val]) -> u64
     requires below { inner.0 < of.0 }
-    ensures { result ≡ capped (length (values_contents (writes table.now inner.0) (values_of values.now))) }
+    ensures { result ≡ saturated (length (values_contents (writes table.now inner.0) (values_of values.now))) }
 {
     let mut count: u64 = 0;
     let mut index = values.len();
@@ -274,7 +277,7 @@ fn values_len(table: &TypeTable, of: TypeId, inner: TypeId, values: &[Val]) -> u
 #[cycle(measuring)]
 fn explicit_len(table: &TypeTable, of: TypeId, inner: TypeId, tag: Tag, value: &Val) -> u64
     requires below { inner.0 < of.0 }
-    ensures { result ≡ capped (length (definite true tag (writes table.now inner.0 None value.now))) }
+    ensures { result ≡ saturated (length (definite true tag (writes table.now inner.0 None value.now))) }
 {
     let count = value_len(table, inner, None, value);
     definite_len(tag, count)
@@ -289,7 +292,7 @@ fn choice_len(
     value: &Val,
 ) -> u64
     requires below { AllByRecursion (λ m. m < of.0) (rows_of_parts alternatives.now) }
-    ensures { result ≡ capped (length (under (choice_written (λ which. alternative_written (writes table.now) (slice_get alternatives.now which))) tag value.now)) }
+    ensures { result ≡ saturated (length (under (choice_written (λ which. alternative_written (writes table.now) (slice_get alternatives.now which))) tag value.now)) }
 {
     let count = alternative_len(table, of, alternatives, value);
     match tag {
@@ -301,7 +304,7 @@ fn choice_len(
 #[cycle(measuring)]
 fn alternative_len(table: &TypeTable, of: TypeId, alternatives: &Parts, value: &Val) -> u64
     requires below { AllByRecursion (λ m. m < of.0) (rows_of_parts alternatives.now) }
-    ensures { result ≡ capped (length (choice_written (λ which. alternative_written (writes table.now) (slice_get alternatives.now which)) value.now)) }
+    ensures { result ≡ saturated (length (choice_written (λ which. alternative_written (writes table.now) (slice_get alternatives.now which)) value.now)) }
 {
     match &value.node {
         Node::Chosen { which, value } => match alternatives.get(*which as usize) {
@@ -315,7 +318,7 @@ fn alternative_len(table: &TypeTable, of: TypeId, alternatives: &Parts, value: &
 #[cycle(measuring)]
 fn sequence_len(table: &TypeTable, of: TypeId, parts: &[Part], tag: Tag, value: &Val) -> u64
     requires below { AllByRecursion (λ m. m < of.0) (rows_of_parts parts.now) }
-    ensures { result ≡ capped (length (definite true tag (sequence_contents (parts_contents (writes table.now) parts.now) value.now))) }
+    ensures { result ≡ saturated (length (definite true tag (sequence_contents (parts_contents (writes table.now) parts.now) value.now))) }
 {
     let count = match &value.node {
         Node::Parts(values) => parts_len(table, of, parts, values),
@@ -327,7 +330,7 @@ fn sequence_len(table: &TypeTable, of: TypeId, parts: &[Part], tag: Tag, value: 
 #[cycle(measuring)]
 fn parts_len(table: &TypeTable, of: TypeId, parts: &[Part], values: &[Option<Val>]) -> u64
     requires below { AllByRecursion (λ m. m < of.0) (rows_of_parts parts.now) }
-    ensures { result ≡ capped (length (parts_contents (writes table.now) parts.now (parts_of values.now))) }
+    ensures { result ≡ saturated (length (parts_contents (writes table.now) parts.now (parts_of values.now))) }
 {
     let mut count: u64 = 0;
     let mut index = parts.len().min(values.len());
@@ -341,7 +344,7 @@ fn parts_len(table: &TypeTable, of: TypeId, parts: &[Part], values: &[Option<Val
 #[cycle(measuring)]
 fn part_len(table: &TypeTable, of: TypeId, part: &Part, value: &Option<Val>) -> u64
     requires below { part.now.inner.0 < of.0 }
-    ensures { result ≡ capped (length (part_contents (writes table.now) part.now value.now)) }
+    ensures { result ≡ saturated (length (part_contents (writes table.now) part.now value.now)) }
 {
     match value {
         Some(value) => value_len(table, part.inner, None, value),

@@ -5,6 +5,7 @@ mod fault;
 mod fields;
 mod laws;
 mod length;
+mod order;
 mod primitives;
 mod public;
 mod read;

@@ -1,16 +1,18 @@
 //! Reading values, row by row.
 
-ghost use Rattle.std.specs.Prelude.{◌≡◌, ◌+◌, ◌≤◌, ◌<◌, ◌^◌, [], length, Some, None, slice_get, IfOk, List};
+ghost use Rattle.std.specs.Prelude.{◌≡◌, ◌+◌, ◌≤◌, ◌<◌, ◌^◌, [], length, Some, None, slice_get, slice_set, IfOk, List};
 ghost use Rattle.std.specs.List.{AllByRecursion};
 ghost use Rattle.asn1_types.specs.Rows.{begins, rows_of_parts, names_of};
 ghost use Rattle.asn1_types.specs.Table.{IsSound};
 ghost use Rattle.asn1_types.specs.Value as tree;
-ghost use Rattle.asn1_types.specs.ValueView.{values_of};
-ghost use Rattle.ber_codec.specs.Reading.{Gives, spot_of, opened_of, ahead_of, LiesIn, GoesOn, spot_in, IsBefore, Follows};
-ghost use Rattle.ber_codec.specs.Rules.{tag_or, is_opened, expect_at, primitive_at, always, boolean_rule, is_strict_boolean, integer_rule, enumerated_rule, null_rule, object_id_rule, first_of, last_of, open_at, close_at, is_part, place_of, all_items_at, list_item_at, list_done, list_at, part_at, parts_at, sequence_at, choice_at, any_at, explicit_at, or_explicit, tagged_at, read_by, reads};
+ghost use Rattle.asn1_types.specs.ValueView.{values_of, parts_of};
+ghost use Rattle.ber_codec.specs.Reading.{Gives, Fails, spot_of, opened_of, ahead_of, LiesIn, GoesOn, spot_in, IsBefore, Follows};
+ghost use Rattle.ber_codec.specs.Rules.{tag_or, is_opened, expect_at, primitive_at, always, boolean_rule, is_strict_boolean, integer_rule, enumerated_rule, null_rule, object_id_rule, first_of, last_of, open_at, close_at, is_part, place_of, all_items_at, list_item_at, list_done, list_at, part_at, parts_at, sequence_at, choice_at, any_at, explicit_at, or_explicit, tagged_at, read_by, reads, no_parts_of, nothing_filled, is_free, stands, is_filled, set_done, late_kind, late_at, ordered_at, fill_at, slot_at, set_at};
+ghost use Rattle.ber_codec.specs.Order.{rank};
 
 use crate::fault::ReadFault;
 use crate::fields::{contents, extent, look, refusal};
+use crate::order::rank;
 use crate::primitives::{arcs_of, integer_of};
 use crate::spot::{Ahead, Opened, Scope, Spot, Tag};
 use crate::strings::{bit_string, octet_string, text};
@@ -18,7 +20,7 @@ use asn1_types::{
     Class, Item, MaybeVals, Node, Part, Parts, TypeId, TypeRow, TypeTable, Val, Vals, begins,
     is_item, is_no_tag, same_class, text_number,
 };
-use osi_base::{Kind, Octets};
+use osi_base::{Kind, NoMemory, Octets};
 use std::alloc::Global;
 
 pub(crate) fn tag_or(tag: Option<Tag>, class: Class, number: u32) -> Tag
@@ -350,7 +352,10 @@ fn value_as<'a>(
             None => any(alloc, scope, opened, spot),
             Some(tag) => tagged_any(alloc, tag, scope, opened, spot),
         },
-        _ => Err(refusal(opened.start.place, Kind::Tag)),
+        TypeRow::Set(parts) => {
+            let tag = tag_or(tag, Class::Universal, 17);
+            set(alloc, table, of, parts, tag, scope, opened, spot)
+        }
     }
 }
 
@@ -611,4 +616,217 @@ fn part_of<'a>(
         Ahead::Begun(opened, _) => opened.start.place,
     };
     Err(refusal(place, Kind::Missing))
+}
+
+/// A SET.
+#[cycle(reading)]
+fn set<'a>(
+    alloc: Global,
+    table: &TypeTable,
+    of: TypeId,
+    parts: &Parts,
+    tag: Tag,
+    scope: &Scope,
+    opened: &Opened<'a>,
+    spot: Spot<'a>,
+) -> Result<(Val, Spot<'a>), ReadFault>
+    requires below { AllByRecursion (λ m. m < of.0) (rows_of_parts parts.now) }
+    requires row { of.0 ≤ length table.now }
+    requires whole { spot.place + length spot.rest.now < 2 ^ 63 }
+    ensures gives { Gives (λ x. (x.0, spot_of x.1)) result (set_at (begins table.now) (reads table.now) parts.now tag scope.now (opened_of opened.now) (spot_of spot.entry)) }
+    ensures stops { IfOk result (λ x. GoesOn spot.entry.place (length spot.entry.rest.now) x.1) }
+{
+    expect(tag, true, opened)?;
+    let (inside, spot) = extent(scope, spot)?;
+    let found = none_of(alloc, parts.as_slice())?;
+    let (found, after) = slots(alloc, table, of, parts.as_slice(), found, &inside, spot)?;
+    Ok((
+        Val {
+            node: Node::Parts(found),
+        },
+        after,
+    ))
+}
+
+/// No part yet.
+fn none_of(alloc: Global, parts: &[Part]) -> Result<MaybeVals, NoMemory>
+    ensures { IfOk result (λ found. found.items ≡ no_parts_of parts.now) }
+{
+    let mut found = Vec::new(alloc);
+    for _part in parts {
+        found.push(None)?;
+    }
+    Ok(found)
+}
+
+/// The parts of a SET, up to the end of its contents.
+#[cycle(reading)]
+fn slots<'a>(
+    alloc: Global,
+    table: &TypeTable,
+    of: TypeId,
+    parts: &[Part],
+    found: MaybeVals,
+    scope: &Scope,
+    spot: Spot<'a>,
+) -> Result<(MaybeVals, Spot<'a>), ReadFault>
+    requires below { AllByRecursion (λ m. m < of.0) (rows_of_parts parts.now) }
+    requires row { of.0 ≤ length table.now }
+    requires none { found.items ≡ no_parts_of parts.now }
+    requires whole { spot.place + length spot.rest.now < 2 ^ 63 }
+    ensures gives { Gives (λ x. (tree.parts (parts_of x.0.items), spot_of x.1)) result (all_items_at (slot_at (begins table.now) (reads table.now) 0 parts.now) (set_done parts.now) (nothing_filled parts.now) scope.now (spot_of spot.entry)) }
+    ensures stops { IfOk result (λ x. GoesOn spot.entry.place (length spot.entry.rest.now) x.1) }
+{
+    let mut found = found;
+    let mut least: u64 = 0;
+    let mut spot = spot;
+    for _turn in 0..spot.rest.len() + 1 {
+        match look(scope, spot)? {
+            Ahead::Ended { place, after } => {
+                if is_filled(parts, &found) {
+                    return Ok((found, after));
+                }
+                return Err(refusal(place, Kind::Missing));
+            }
+            Ahead::Begun(opened, after) => {
+                let slot = slot(
+                    alloc, table, of, parts, &found, least, scope, &opened, after,
+                )?;
+                let (which, value, next) = slot;
+                found[which] = Some(value);
+                least = rank(opened.class, opened.number) + 1;
+                spot = next;
+            }
+        }
+    }
+    Err(ReadFault::Short)
+}
+
+fn is_free(slot: &Option<Val>) -> bool
+    ensures { result ≡ is_free (Some slot.now) }
+{
+    match slot {
+        Some(_) => false,
+        None => true,
+    }
+}
+
+fn stands(part: &Part, slot: &Option<Val>) -> bool
+    ensures { result ≡ stands part.now slot.now }
+{
+    match slot {
+        Some(_) => true,
+        None => part.optional,
+    }
+}
+
+/// Whether each part stands that isn't optional.
+fn is_filled(parts: &[Part], found: &[Option<Val>]) -> bool
+    requires { length found.now ≡ length parts.now }
+    ensures { result ≡ is_filled parts.now found.now }
+{
+    for (index, part) in parts.iter().enumerate() {
+        if !stands(part, &found[index]) {
+            return false;
+        }
+    }
+    true
+}
+
+/// The part of a SET that begins with this identifier, and its slot, which must be free.
+#[cycle(reading)]
+#[tactic(auto, unfolding(crate::specs::Rules::slot_at))]
+fn slot<'a>(
+    alloc: Global,
+    table: &TypeTable,
+    of: TypeId,
+    parts: &[Part],
+    found: &[Option<Val>],
+    least: u64,
+    scope: &Scope,
+    opened: &Opened<'a>,
+    spot: Spot<'a>,
+) -> Result<(usize, Val, Spot<'a>), ReadFault>
+    requires below { AllByRecursion (λ m. m < of.0) (rows_of_parts parts.now) }
+    requires row { of.0 ≤ length table.now }
+    requires slots { length found.now ≡ length parts.now }
+    requires whole { spot.place + length spot.rest.now < 2 ^ 63 }
+    requires start { GoesOn opened.now.start.place (length opened.now.start.rest.now) spot }
+    ensures gives { Gives (λ x. (record { found = slice_set found.now x.0 (Some x.1); least = rank opened.now.class opened.now.number + 1 }, spot_of x.2)) result (slot_at (begins table.now) (reads table.now) 0 parts.now (record { found = found.now; least = least }) scope.now (opened_of opened.now) (spot_of spot.entry)) }
+    ensures slot { IfOk result (λ x. x.0 < length found.now) }
+    ensures stops { IfOk result (λ x. GoesOn spot.entry.place (length spot.entry.rest.now) x.2) }
+{
+    for (which, part) in parts.iter().enumerate() {
+        if begins(table, part.inner, opened.class, opened.number) {
+            if !is_free(&found[which]) {
+                return Err(refusal(opened.start.place, Kind::Extra));
+            }
+            let (value, after) = ordered(alloc, table, of, part.inner, least, scope, opened, spot)?;
+            return Ok((which, value, after));
+        }
+    }
+    Err(refusal(opened.start.place, Kind::Extra))
+}
+
+/// A part of a SET. In DER its tag has at least this rank.
+#[cycle(reading)]
+fn ordered<'a>(
+    alloc: Global,
+    table: &TypeTable,
+    of: TypeId,
+    inner: TypeId,
+    least: u64,
+    scope: &Scope,
+    opened: &Opened<'a>,
+    spot: Spot<'a>,
+) -> Result<(Val, Spot<'a>), ReadFault>
+    requires below { inner.0 < of.0 }
+    requires row { of.0 ≤ length table.now }
+    requires whole { spot.place + length spot.rest.now < 2 ^ 63 }
+    requires start { GoesOn opened.now.start.place (length opened.now.start.rest.now) spot }
+    ensures gives { Gives (λ x. (x.0, spot_of x.1)) result (ordered_at (reads table.now inner.0) least scope.now (opened_of opened.now) (spot_of spot.entry)) }
+    ensures stops { IfOk result (λ x. GoesOn spot.entry.place (length spot.entry.rest.now) x.1) }
+{
+    if scope.strict && rank(opened.class, opened.number) < least {
+        return Err(late(alloc, table, of, inner, scope, opened, spot));
+    }
+    value(alloc, table, inner, None, scope, opened, spot)
+}
+
+/// The fault of a part that stands out of order: that of its identifier alone comes first.
+#[cycle(reading)]
+fn late<'a>(
+    alloc: Global,
+    table: &TypeTable,
+    of: TypeId,
+    inner: TypeId,
+    scope: &Scope,
+    opened: &Opened<'a>,
+    spot: Spot<'a>,
+) -> ReadFault
+    requires below { inner.0 < of.0 }
+    requires row { of.0 ≤ length table.now }
+    requires whole { spot.place + length spot.rest.now < 2 ^ 63 }
+    ensures { Fails result (late_at (reads table.now inner.0) scope.now (opened_of opened.now) (spot_of spot.entry)) }
+{
+    let behind = Spot {
+        place: spot.place,
+        rest: &spot.rest[..0],
+    };
+    let alone = Opened {
+        start: behind,
+        class: opened.class,
+        constructed: opened.constructed,
+        number: opened.number,
+    };
+    match value(alloc, table, inner, None, scope, &alone, behind) {
+        Err(ReadFault::NoMemory) => ReadFault::NoMemory,
+        Err(
+            ReadFault::NotSpelled {
+                kind: Kind::Tag,
+                ..
+            },
+        ) => refusal(opened.start.place, Kind::Tag),
+        _ => refusal(opened.start.place, Kind::Form),
+    }
 }

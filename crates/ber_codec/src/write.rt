@@ -1,15 +1,17 @@
 //! Writing values in DER into a room, from the last octet to the first. What a function puts stands
 //! right before `end`, and it answers where that begins.
 
-ghost use Rattle.std.specs.Prelude.{◌≡◌, ◌++◌, ◌∷◌, ◌+◌, ◌-◌, ◌/◌, ◌%◌, ◌<◌, ◌≤◌, ◌^◌, [], Some, None, map, false, true, length, take, drop, slice_get, IfOk};
+ghost use Rattle.std.specs.Prelude.{◌≡◌, ℕ, ◌++◌, ◌∷◌, ◌+◌, ◌-◌, ◌<◌, ◌≤◌, [], Some, None, map, false, true, length, drop, slice_get, IfOk};
 ghost use Rattle.std.specs.List.{AllByRecursion, flat_map};
 ghost use Rattle.asn1_types.specs.Rows.{rows_of_parts};
 ghost use Rattle.asn1_types.specs.Table.{IsSound};
 ghost use Rattle.asn1_types.specs.ValueView.{parts_of, values_of};
 ghost use Rattle.ber_codec.specs.Spelling.{leading, subidentifiers};
-ghost use Rattle.ber_codec.specs.Writing.{high_digits, base_128, digits_256, base_256, natural_octets, integer_octets, identifier, length_octets, definite, boolean_contents, integer_contents, octets_contents, text_contents, bits_contents, object_id_contents, values_contents, list_contents, part_contents, parts_contents, sequence_contents, alternative_written, choice_written, any_written, under, tagged_written, write_by, writes, written};
+ghost use Rattle.ber_codec.specs.Writing.{base_128, base_256, natural_octets, integer_octets, identifier, length_octets, definite, boolean_contents, integer_contents, octets_contents, text_contents, bits_contents, object_id_contents, values_contents, list_contents, part_contents, parts_contents, sequence_contents, alternative_written, choice_written, any_written, under, write_by, writes, written, of_rank, set_parts};
+ghost use Rattle.ber_codec.specs.Order.{rank};
 
 use crate::length::ber_len;
+use crate::order::{RANKS, rank_of};
 use crate::read::tag_or;
 use crate::spot::Tag;
 use asn1_types::{Class, Node, Part, Parts, TypeId, TypeRow, TypeTable, Val, text_number};
@@ -391,7 +393,10 @@ fn put_row(
             }
         }
         TypeRow::Any => put_any(tag, value, room, end),
-        _ => end,
+        TypeRow::Set(parts) => {
+            let tag = tag_or(tag, Class::Universal, 17);
+            put_set(table, of, parts.as_slice(), tag, value, room, end)
+        }
     }
 }
 
@@ -576,6 +581,167 @@ fn put_part(
     match value {
         Some(value) => put_value(table, part.inner, None, value, room, end),
         None => end,
+    }
+}
+
+#[cycle(writing)]
+fn put_set(
+    table: &TypeTable,
+    of: TypeId,
+    parts: &[Part],
+    tag: Tag,
+    value: &Val,
+    room: &mut [u8],
+    end: usize,
+) -> usize
+    requires below { AllByRecursion (λ m. m < of.0) (rows_of_parts parts.now) }
+    requires row { of.0 ≤ length table.now }
+    requires room { length (definite true tag (sequence_contents (set_parts (writes table.now) parts.now) value.now)) ≤ end }
+    requires end { end ≤ length room.old }
+    ensures start { result + length (definite true tag (sequence_contents (set_parts (writes table.now) parts.now) value.now)) ≡ end }
+    ensures put { drop result room.new ≡ definite true tag (sequence_contents (set_parts (writes table.now) parts.now) value.now) ++ drop end room.old }
+{
+    let start = match &value.node {
+        Node::Parts(values) => put_risen(table, of, parts, values, room, end),
+        _ => end,
+    };
+    put_head(tag, true, end - start, room, start)
+}
+
+/// The parts that are there, from the highest tag to the lowest (X.690 10.3).
+#[cycle(writing)]
+fn put_risen(
+    table: &TypeTable,
+    of: TypeId,
+    parts: &[Part],
+    values: &[Option<Val>],
+    room: &mut [u8],
+    end: usize,
+) -> usize
+    requires below { AllByRecursion (λ m. m < of.0) (rows_of_parts parts.now) }
+    requires row { of.0 ≤ length table.now }
+    requires room { length (set_parts (writes table.now) parts.now (parts_of values.now)) ≤ end }
+    requires end { end ≤ length room.old }
+    ensures start { result + length (set_parts (writes table.now) parts.now (parts_of values.now)) ≡ end }
+    ensures put { drop result room.new ≡ set_parts (writes table.now) parts.now (parts_of values.now) ++ drop end room.old }
+{
+    let mut start = end;
+    let mut bound = RANKS;
+    while bound > 0 {
+        let next = next_rank(table, of, parts, values, bound);
+        if next == 0 {
+            break;
+        }
+        bound = next - 1;
+        start = put_of_rank(table, of, parts, values, bound, room, start);
+    }
+    start
+}
+
+/// The parts whose tag has this rank, from the last to the first.
+#[cycle(writing)]
+fn put_of_rank(
+    table: &TypeTable,
+    of: TypeId,
+    parts: &[Part],
+    values: &[Option<Val>],
+    rank: u64,
+    room: &mut [u8],
+    end: usize,
+) -> usize
+    requires below { AllByRecursion (λ m. m < of.0) (rows_of_parts parts.now) }
+    requires row { of.0 ≤ length table.now }
+    requires room { length (parts_contents (of_rank rank (writes table.now)) parts.now (parts_of values.now)) ≤ end }
+    requires end { end ≤ length room.old }
+    ensures start { result + length (parts_contents (of_rank rank (writes table.now)) parts.now (parts_of values.now)) ≡ end }
+    ensures put { drop result room.new ≡ parts_contents (of_rank rank (writes table.now)) parts.now (parts_of values.now) ++ drop end room.old }
+{
+    let mut start = end;
+    let mut index = parts.len().min(values.len());
+    while index > 0 {
+        index -= 1;
+        start = put_if_of_rank(table, of, &parts[index], &values[index], rank, room, start);
+    }
+    start
+}
+
+#[cycle(writing)]
+fn put_if_of_rank(
+    table: &TypeTable,
+    of: TypeId,
+    part: &Part,
+    value: &Option<Val>,
+    rank: u64,
+    room: &mut [u8],
+    end: usize,
+) -> usize
+    requires below { part.now.inner.0 < of.0 }
+    requires row { of.0 ≤ length table.now }
+    requires room { length (part_contents (of_rank rank (writes table.now)) part.now value.now) ≤ end }
+    requires end { end ≤ length room.old }
+    ensures start { result + length (part_contents (of_rank rank (writes table.now)) part.now value.now) ≡ end }
+    ensures put { drop result room.new ≡ part_contents (of_rank rank (writes table.now)) part.now value.now ++ drop end room.old }
+{
+    match value {
+        Some(value) => {
+            if rank_of(table, part.inner, value) == rank {
+                put_value(table, part.inner, None, value, room, end)
+            } else {
+                end
+            }
+        }
+        None => end,
+    }
+}
+
+/// One more than the highest rank below a bound that the tag of a part has; 0 where there is none.
+fn next_rank(
+    table: &TypeTable,
+    of: TypeId,
+    parts: &[Part],
+    values: &[Option<Val>],
+    bound: u64,
+) -> u64
+    requires below { AllByRecursion (λ m. m < of.0) (rows_of_parts parts.now) }
+    requires row { of.0 ≤ length table.now }
+    ensures within { result ≤ bound }
+    ensures none { (k : ℕ) → result ≤ k → k < bound → parts_contents (of_rank k (writes table.now)) parts.now (parts_of values.now) ≡ [] }
+{
+    let mut next = 0;
+    let mut index = parts.len().min(values.len());
+    while index > 0 {
+        index -= 1;
+        next = raised(table, of, &parts[index], &values[index], bound, next);
+    }
+    next
+}
+
+/// `next`, or one more than the rank of this part's tag, if that lies between it and a bound.
+fn raised(
+    table: &TypeTable,
+    of: TypeId,
+    part: &Part,
+    value: &Option<Val>,
+    bound: u64,
+    next: u64,
+) -> u64
+    requires below { part.now.inner.0 < of.0 }
+    requires row { of.0 ≤ length table.now }
+    requires within { next ≤ bound }
+    ensures within { result ≤ bound }
+    ensures more { next ≤ result }
+    ensures none { (k : ℕ) → result ≤ k → k < bound → part_contents (of_rank k (writes table.now)) part.now value.now ≡ [] }
+{
+    match value {
+        Some(value) => {
+            let rank = rank_of(table, part.inner, value);
+            if next <= rank && rank < bound {
+                rank + 1
+            } else {
+                next
+            }
+        }
+        None => next,
     }
 }
 

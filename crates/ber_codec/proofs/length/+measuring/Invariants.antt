@@ -1,6 +1,6 @@
 use Rattle.std.proofs.Common.{◌≡◌, ◌≤◌, ◌+◌, ◌*◌, drop, length}
 use Rattle.asn1_types.specs.ValueView.{parts_of, values_of}
-use Rattle.ber_codec.specs.Writing.{capped, parts_contents, values_contents, writes}
+use Rattle.ber_codec.specs.Writing.{saturated, parts_contents, values_contents, writes}
 use Rattle.ber_codec.proofs.length.+measuring.Given as goal
 
 abbrev pub decreases-value_len : goal.decreases-value_len
@@ -34,7 +34,7 @@ abbrev pub invariant-parts_len-loop-index : goal.invariant-parts_len-loop-index
 invariant-parts_len-loop-index l = record {
   parts : l.index ≤ length l.parts;
   values : l.index ≤ length l.values;
-  so_far : l.count ≡ capped (length (parts_contents (writes l.table) (drop l.index l.parts) (parts_of (drop l.index l.values))));
+  so_far : l.count ≡ saturated (length (parts_contents (writes l.table) (drop l.index l.parts) (parts_of (drop l.index l.values))));
 }
 
 abbrev pub decreases-list_len : goal.decreases-list_len
@@ -49,5 +49,5 @@ decreases-values_len-loop-index l = l.index
 abbrev pub invariant-values_len-loop-index : goal.invariant-values_len-loop-index
 invariant-values_len-loop-index l = record {
   within : l.index ≤ length l.values;
-  so_far : l.count ≡ capped (length (values_contents (writes l.table l.inner.0) (values_of (drop l.index l.values))));
+  so_far : l.count ≡ saturated (length (values_contents (writes l.table l.inner.0) (values_of (drop l.index l.values))));
 }

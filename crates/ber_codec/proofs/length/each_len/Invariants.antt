@@ -1,6 +1,6 @@
 use Rattle.std.proofs.Common.{◌≡◌, ◌≤◌, drop, length}
 use Rattle.std.specs.List.{flat_map}
-use Rattle.ber_codec.specs.Writing.{base_128, capped}
+use Rattle.ber_codec.specs.Writing.{base_128, saturated}
 use Rattle.ber_codec.proofs.length.each_len.Given as goal
 
 abbrev pub decreases-loop-index : goal.decreases-loop-index
@@ -9,5 +9,5 @@ decreases-loop-index l = l.index
 abbrev pub invariant-loop-index : goal.invariant-loop-index
 invariant-loop-index l = record {
   within : l.index ≤ length l.numbers;
-  so_far : l.count ≡ capped (length (flat_map base_128 (drop l.index l.numbers)));
+  so_far : l.count ≡ saturated (length (flat_map base_128 (drop l.index l.numbers)));
 }

@@ -1,10 +1,14 @@
-use Rattle.std.proofs.Common.{◌≡◌, ◌<◌, ◌+◌, ◌-◌, ◌++◌, ◌∷◌, [], None, Ok, refl, sym, ap, ◌∙◌, subst, arith, rules, length}
+use Rattle.std.proofs.Common.{◌≡◌, ◌<◌, ◌+◌, ◌-◌, ◌++◌, ◌∷◌, [], suc, true, false, None, Some, Ok, refl, sym, ap, ◌∙◌, subst, arith, rules, length}
+use Rattle.std.specs.Prelude.{List, Option, slice_set}
 use Rattle.std.proofs.lemmas.Option.{slice_get_within}
-use Rattle.asn1_types.specs.declared.row.TypeRow.TheVariants.{Sequence, SequenceOf, Choice, Tagged}
+use Rattle.asn1_types.specs.Value.{Value}
+use Rattle.ber_codec.specs.Order.{rank}
+use Rattle.asn1_types.specs.declared.row.TypeRow.TheVariants.{Sequence, SequenceOf, Set, Choice, Tagged}
 use Rattle.asn1_types.specs.Rows.{begins}
 use Rattle.asn1_types.proofs.Sound.{each_part, down_as, choice_few}
 use Rattle.ber_codec.specs.Reading.{opened_of, spot_of, ahead_of, LiesIn}
-use Rattle.ber_codec.specs.Rules.{items_at, list_item_at, list_done, reads}
+use Rattle.ber_codec.specs.Rules.{items_at, list_item_at, list_done, reads, slot_at, set_done, is_free, is_filled}
+use Rattle.ber_codec.proofs.Slots.{none_length, set_length, slot_taken, slot_fails, slot_gives, set_full, set_lacks, turns_lack}
 use Rattle.ber_codec.proofs.Rows.{reads_at}
 use Rattle.ber_codec.proofs.Loops.{parts_go_on, goes_then}
 use Rattle.ber_codec.proofs.Steps.{Fails-bind}
@@ -115,3 +119,99 @@ items-loop-turn-preserved t c =
 pub items-returns-clause-gives : goal.items-returns-clause-gives
 items-returns-clause-gives t c =
     no_turns (list_item_at (reads c.args.table.now c.args.inner.0)) list_done (length c.args.spot.rest.now + 1 - c.loop-turn._turn) c.loop-turn.found.items c.args.scope.now (spot_of c.loop-turn.spot) _ (omega arith) c.loop-turn.invariant.so_far
+
+-- ---- SET
+
+pub value_as-set-requires : goal.value_as-set-requires
+value_as-set-requires t c =
+    let lt = slice_get_within c.args.table.now c.args.of.0 c.args.row.now c.requires.row in
+    let down = down_as c.args.table.now c.args.of.0 c.args.row.now (Set c.in-Set.parts) c.requires.sound c.requires.row c.in-Set.is in
+    (omega arith, (down, (omega arith, c.requires.whole)))
+
+pub slot-begins-requires : goal.slot-begins-requires
+slot-begins-requires t c =
+    let lt : c.index-parts-which.result.inner.0 < c.args.of.0 = each_part (λ m. m < c.args.of.0) c.args.parts.now c.loop-which.which c.index-parts-which.result c.requires.below c.loop-which-test.true c.index-parts-which.is in
+    omega arith
+
+pub slot-ordered-requires : goal.slot-ordered-requires
+slot-ordered-requires t c =
+    let lt : c.index-parts-which.result.inner.0 < c.args.of.0 = each_part (λ m. m < c.args.of.0) c.args.parts.now c.loop-which.which c.index-parts-which.result c.requires.below c.loop-which-test.true c.index-parts-which.is in
+    (omega arith, (lt, (c.requires.row, (c.requires.whole, c.requires.start))))
+
+pub slot-returns-then-not-is_free-clause-gives : goal.slot-returns-then-not-is_free-clause-gives
+slot-returns-then-not-is_free-clause-gives t c =
+    let b : begins c.args.table.now c.index-parts-which.result.inner.0 c.args.opened.now.class c.args.opened.now.number ≡ true = cc in
+    let taken : is_free (Some c.index-found-which.result) ≡ false = cc in
+    let more : c.loop-which.which < length c.args.found.now = omega (arith, c.requires.slots, c.loop-which-test.true) in
+    rw c.refusal.ensures (slot_taken (begins c.args.table.now) (reads c.args.table.now) c.args.parts.now c.loop-which.which c.index-parts-which.result c.index-found-which.result (record { found = c.args.found.now; least = c.args.least }) c.args.scope.now (opened_of c.args.opened.now) (spot_of c.args.spot) _
+    c.loop-which-test.true c.index-parts-which.is b more c.index-found-which.is taken c.loop-which.invariant)
+
+pub slot-returns-in_err-value-clause-gives : goal.slot-returns-in_err-value-clause-gives
+slot-returns-in_err-value-clause-gives t c =
+    let b : begins c.args.table.now c.index-parts-which.result.inner.0 c.args.opened.now.class c.args.opened.now.number ≡ true = cc in
+    let free : is_free (Some c.index-found-which.result) ≡ true = cc in
+    let more : c.loop-which.which < length c.args.found.now = omega (arith, c.requires.slots, c.loop-which-test.true) in
+    let h = slot_fails (begins c.args.table.now) (reads c.args.table.now) c.in_err-value.field-0.0 c.args.parts.now c.loop-which.which c.index-parts-which.result c.index-found-which.result (record { found = c.args.found.now; least = c.args.least }) c.args.scope.now (opened_of c.args.opened.now) (spot_of c.args.spot) _
+    c.loop-which-test.true c.index-parts-which.is b more c.index-found-which.is free c.loop-which.invariant c.in_err-value.ensures.gives in
+    search rules
+
+pub slot-returns-then-begins-clause-gives : goal.slot-returns-then-begins-clause-gives
+slot-returns-then-begins-clause-gives t c =
+    let b : begins c.args.table.now c.index-parts-which.result.inner.0 c.args.opened.now.class c.args.opened.now.number ≡ true = cc in
+    let free : is_free (Some c.index-found-which.result) ≡ true = cc in
+    let more : c.loop-which.which < length c.args.found.now = omega (arith, c.requires.slots, c.loop-which-test.true) in
+    slot_gives (begins c.args.table.now) (reads c.args.table.now) c.args.parts.now c.loop-which.which c.index-parts-which.result c.index-found-which.result (record { found = c.args.found.now; least = c.args.least }) c.args.scope.now (opened_of c.args.opened.now) (spot_of c.args.spot) c.in_ok-value.value (spot_of c.in_ok-value.after) _
+    c.loop-which-test.true c.index-parts-which.is b more c.index-found-which.is free c.loop-which.invariant c.in_ok-value.ensures.gives
+
+pub slots-loop-turn-init : goal.slots-loop-turn-init
+slots-loop-turn-init t c =
+    let one : length c.args.spot.rest.now + 1 - 0 ≡ suc (length c.args.spot.rest.now) = omega arith in
+    record {
+      onward = record { whole = refl; onward = omega arith };
+      slots = ap length c.requires.none ∙ none_length c.args.parts.now;
+      so_far = ap (λ n. items_at (slot_at (begins c.args.table.now) (reads c.args.table.now) 0 c.args.parts.now) (set_done c.args.parts.now) n (record { found = c.args.found.items; least = 0 }) c.args.scope.now (spot_of c.args.spot)) one
+          ∙ ap (λ found. items_at (slot_at (begins c.args.table.now) (reads c.args.table.now) 0 c.args.parts.now) (set_done c.args.parts.now) (suc (length c.args.spot.rest.now)) (record { found = found; least = 0 }) c.args.scope.now (spot_of c.args.spot)) c.requires.none;
+    }
+
+pub slots-returns-in_err-place-clause-gives : goal.slots-returns-in_err-place-clause-gives
+slots-returns-in_err-place-clause-gives t c =
+    let h = look_fails (slot_at (begins c.args.table.now) (reads c.args.table.now) 0 c.args.parts.now) (set_done c.args.parts.now) c.in_err-place.field-0.0 (length c.args.spot.rest.now + 1 - c.loop-turn._turn) (record { found = c.loop-turn.found.items; least = c.loop-turn.least }) c.args.scope.now (spot_of c.loop-turn.spot) _ (omega arith) c.loop-turn.invariant.so_far c.in_err-place.ensures.gives in
+    search rules
+
+pub slots-returns-then-is_filled-clause-gives : goal.slots-returns-then-is_filled-clause-gives
+slots-returns-then-is_filled-clause-gives t c =
+    let full : is_filled c.args.parts.now c.deref.result.now ≡ true = cc in
+    let full' : is_filled c.args.parts.now c.loop-turn.found.items ≡ true = rw c.deref.ensures.value at full in
+    turns_end (slot_at (begins c.args.table.now) (reads c.args.table.now) 0 c.args.parts.now) (set_done c.args.parts.now) (record { found = c.loop-turn.found.items; least = c.loop-turn.least }) _ c.args.scope.now (spot_of c.loop-turn.spot) (length c.args.spot.rest.now + 1 - c.loop-turn._turn) c.in-Ended.place (spot_of c.in-Ended.after) _ (omega arith) c.loop-turn.invariant.so_far
+    (c.in_ok-place.ensures.gives ∙ ap (λ a. Ok (ahead_of a)) c.in-Ended.is) (set_full c.args.parts.now (record { found = c.loop-turn.found.items; least = c.loop-turn.least }) full')
+
+pub slots-returns-in-Ended-clause-gives : goal.slots-returns-in-Ended-clause-gives
+slots-returns-in-Ended-clause-gives t c =
+    let lacks : is_filled c.args.parts.now c.deref.result.now ≡ false = cc in
+    let lacks' : is_filled c.args.parts.now c.loop-turn.found.items ≡ false = rw c.deref.ensures.value at lacks in
+    rw c.refusal.ensures (turns_lack (slot_at (begins c.args.table.now) (reads c.args.table.now) 0 c.args.parts.now) (set_done c.args.parts.now) (record { found = c.loop-turn.found.items; least = c.loop-turn.least }) c.args.scope.now (spot_of c.loop-turn.spot) (length c.args.spot.rest.now + 1 - c.loop-turn._turn) c.in-Ended.place (spot_of c.in-Ended.after) _ (omega arith) c.loop-turn.invariant.so_far
+    (c.in_ok-place.ensures.gives ∙ ap (λ a. Ok (ahead_of a)) c.in-Ended.is) (set_lacks c.args.parts.now (record { found = c.loop-turn.found.items; least = c.loop-turn.least }) lacks'))
+
+pub slots-returns-in_err-slot-in-Begun-clause-gives : goal.slots-returns-in_err-slot-in-Begun-clause-gives
+slots-returns-in_err-slot-in-Begun-clause-gives t c =
+    let h = step_fails (slot_at (begins c.args.table.now) (reads c.args.table.now) 0 c.args.parts.now) (set_done c.args.parts.now) c.in_err-slot-in-Begun.field-0.0 (length c.args.spot.rest.now + 1 - c.loop-turn._turn) (record { found = c.loop-turn.found.items; least = c.loop-turn.least }) c.args.scope.now (spot_of c.loop-turn.spot) (opened_of c.in-Begun.opened) (spot_of c.in-Begun.after) _ (omega arith) c.loop-turn.invariant.so_far
+    (c.in_ok-place.ensures.gives ∙ ap (λ a. Ok (ahead_of a)) c.in-Begun.is) (rw c.deref-in-Begun.ensures.value at c.in_err-slot-in-Begun.ensures.gives) in
+    search rules
+
+pub slots-loop-turn-preserved : goal.slots-loop-turn-preserved
+slots-loop-turn-preserved t c =
+    let opens = subst (LiesIn c.loop-turn.spot.place (length c.loop-turn.spot.rest.now)) c.in-Begun.is c.in_ok-place.ensures.stops in
+    let less : length c.args.spot.rest.now + 1 - c.loop-turn._turn - 1 ≡ length c.args.spot.rest.now + 1 - (c.loop-turn._turn + 1) = omega arith in
+    let filled : List (Option Value) = slice_set c.loop-turn.found.items c.in_ok-slot-in-Begun.slot.0 (Some c.in_ok-slot-in-Begun.slot.1) in
+    let goes = step_goes (slot_at (begins c.args.table.now) (reads c.args.table.now) 0 c.args.parts.now) (set_done c.args.parts.now) (length c.args.spot.rest.now + 1 - c.loop-turn._turn) (record { found = c.loop-turn.found.items; least = c.loop-turn.least }) (record { found = filled; least = rank c.in-Begun.opened.class c.in-Begun.opened.number + 1 }) c.args.scope.now (spot_of c.loop-turn.spot) (opened_of c.in-Begun.opened) (spot_of c.in-Begun.after) (spot_of c.in_ok-slot-in-Begun.slot.2) _ (omega arith) c.loop-turn.invariant.so_far
+    (c.in_ok-place.ensures.gives ∙ ap (λ a. Ok (ahead_of a)) c.in-Begun.is) (rw c.deref-in-Begun.ensures.value at c.in_ok-slot-in-Begun.ensures.gives) in
+    record {
+      onward = goes_then c.loop-turn.invariant.onward (goes_then opens.behind c.in_ok-slot-in-Begun.ensures.stops);
+      slots = set_length c.loop-turn.found.items c.in_ok-slot-in-Begun.slot.0 (Some c.in_ok-slot-in-Begun.slot.1) ∙ c.loop-turn.invariant.slots;
+      so_far = ap (λ r. items_at (slot_at (begins c.args.table.now) (reads c.args.table.now) 0 c.args.parts.now) (set_done c.args.parts.now) (length c.args.spot.rest.now + 1 - (c.loop-turn._turn + 1)) (record { found = filled; least = r + 1 }) c.args.scope.now (spot_of c.in_ok-slot-in-Begun.slot.2)) c.rank-least.ensures.value
+          ∙ ap (λ k. items_at (slot_at (begins c.args.table.now) (reads c.args.table.now) 0 c.args.parts.now) (set_done c.args.parts.now) k (record { found = filled; least = rank c.in-Begun.opened.class c.in-Begun.opened.number + 1 }) c.args.scope.now (spot_of c.in_ok-slot-in-Begun.slot.2)) (sym less) ∙ goes;
+    }
+
+pub slots-returns-clause-gives : goal.slots-returns-clause-gives
+slots-returns-clause-gives t c =
+    no_turns (slot_at (begins c.args.table.now) (reads c.args.table.now) 0 c.args.parts.now) (set_done c.args.parts.now) (length c.args.spot.rest.now + 1 - c.loop-turn._turn) (record { found = c.loop-turn.found.items; least = c.loop-turn.least }) c.args.scope.now (spot_of c.loop-turn.spot) _ (omega arith) c.loop-turn.invariant.so_far

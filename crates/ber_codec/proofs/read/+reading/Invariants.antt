@@ -1,7 +1,7 @@
 use Rattle.std.proofs.Common.{◌≡◌, ◌+◌, ◌-◌, ◌*◌, [], drop, length}
 use Rattle.asn1_types.specs.Rows.{begins}
 use Rattle.ber_codec.specs.Reading.{opened_of, spot_of, ahead_of, IsBefore, GoesOn, Follows, spot_in}
-use Rattle.ber_codec.specs.Rules.{items_at, all_items_at, list_item_at, list_done, choice_at, parts_at, reads}
+use Rattle.ber_codec.specs.Rules.{items_at, all_items_at, list_item_at, list_done, choice_at, parts_at, reads, slot_at, set_done, nothing_filled}
 use Rattle.ber_codec.proofs.Loops.{parts_behind}
 use Rattle.ber_codec.proofs.read.+reading.Given as goal
 
@@ -52,3 +52,31 @@ invariant-parts_of-loop-part l = record {
   onward : Follows l.fn.ahead (spot_in l.ahead);
   so_far : parts_behind l.found.items (parts_at (begins l.table) (reads l.table) l.scope (ahead_of l.ahead) (drop l.part-index l.parts)) ≡ parts_at (begins l.table) (reads l.table) l.scope (ahead_of l.fn.ahead) l.parts;
 }
+
+abbrev pub decreases-set : goal.decreases-set
+decreases-set l = 8 * l.of.0 + 5
+
+abbrev pub decreases-slots : goal.decreases-slots
+decreases-slots l = 8 * l.of.0 + 4
+
+abbrev pub decreases-slot : goal.decreases-slot
+decreases-slot l = 8 * l.of.0 + 3
+
+abbrev pub decreases-ordered : goal.decreases-ordered
+decreases-ordered l = 8 * l.of.0 + 2
+
+abbrev pub decreases-late : goal.decreases-late
+decreases-late l = 8 * l.of.0 + 1
+
+abbrev pub invariant-slots-loop-turn : goal.invariant-slots-loop-turn
+invariant-slots-loop-turn l = record {
+  onward : GoesOn l.fn.spot.place (length l.fn.spot.rest.now) l.spot;
+  slots : length l.found.items ≡ length l.parts;
+  so_far : items_at (slot_at (begins l.table) (reads l.table) 0 l.parts) (set_done l.parts) (l._turn-end - l._turn) (record { found = l.found.items; least = l.least }) l.scope (spot_of l.spot)
+      ≡ all_items_at (slot_at (begins l.table) (reads l.table) 0 l.parts) (set_done l.parts) (nothing_filled l.parts) l.scope (spot_of l.fn.spot);
+}
+
+abbrev pub invariant-slot-loop-which : goal.invariant-slot-loop-which
+invariant-slot-loop-which l =
+    slot_at (begins l.table) (reads l.table) l.which (drop l.which l.parts) (record { found = l.found; least = l.least }) l.scope (opened_of l.opened) (spot_of l.spot)
+    ≡ slot_at (begins l.table) (reads l.table) 0 l.parts (record { found = l.found; least = l.least }) l.scope (opened_of l.opened) (spot_of l.spot)

@@ -1,13 +1,17 @@
-use Rattle.std.proofs.Common.{◌≡◌, ◌<◌, ◌≤◌, ◌++◌, ◌-◌, sym, ap, ◌∙◌, subst, arith, length, drop, Some}
+use Rattle.std.proofs.Common.{ℕ, List, append_assoc, length-append, ◌≡◌, ◌<◌, ◌≤◌, ◌++◌, ◌-◌, sym, ap, ◌∙◌, subst, arith, length, drop, Some}
 use Rattle.std.specs.Prelude.{slice_get}
 use Rattle.std.specs.Option.{option_copied}
 use Rattle.std.proofs.lemmas.Grind.{common_steps}
-use Rattle.asn1_types.specs.declared.row.TypeRow.TheVariants.{Sequence, SequenceOf, Choice, Tagged}
+use Rattle.std.proofs.lemmas.Option.{slice_get_within}
+use Rattle.asn1_types.specs.declared.row.TypeRow.TheVariants.{Sequence, SequenceOf, Set, Choice, Tagged}
 use Rattle.asn1_types.proofs.Sound.{each_part, down_as}
 use Rattle.asn1_types.proofs.FitLaws.{not_within, false_not, each_slot}
-use Rattle.ber_codec.specs.Writing.{Writer, writes}
+use Rattle.asn1_types.specs.ValueView.{parts_of}
+use Rattle.ber_codec.specs.Order.{ranks}
+use Rattle.ber_codec.specs.Writing.{Writer, of_rank, parts_contents, risen_parts, writes}
 use Rattle.ber_codec.proofs.Counts.{parts_room, values_room}
-use Rattle.ber_codec.proofs.WriteLaws.{parts_begin, writes_at, writes_past}
+use Rattle.ber_codec.proofs.SetCounts.{risen_room}
+use Rattle.ber_codec.proofs.WriteLaws.{parts_past, risen_begin, risen_next, risen_end, writes_at, writes_past}
 use Rattle.ber_codec.proofs.write.+writing.Goals as goal
 
 pub put_value-put_row-requires : goal.put_value-put_row-requires
@@ -67,7 +71,7 @@ put_alternative-put_value-requires t c =
 
 pub put_parts-loop-index-init : goal.put_parts-loop-index-init
 put_parts-loop-index-init t c =
-    let none = parts_begin (writes c.args.table.now) c.args.parts.now c.args.values.now c.min-index.result c.min-index.ensures in
+    let none = parts_past (writes c.args.table.now) c.args.parts.now c.args.values.now c.min-index.result c.min-index.ensures in
     record {
       parts = omega (arith, c.min-index.ensures);
       values = omega (arith, c.min-index.ensures);
@@ -86,3 +90,76 @@ pub put_values-put_value-start-requires : goal.put_values-put_value-start-requir
 put_values-put_value-start-requires t c =
     let room = values_room (writes c.args.table.now c.args.inner.0) c.args.values.now (c.loop-index.index - 1) c.loop-index.index c.index-values-index.result (omega arith) (omega arith) c.index-values-index.is in
     (omega arith, (omega (arith, room), omega arith))
+
+pub put_row-put_set-requires : goal.put_row-put_set-requires
+put_row-put_set-requires t c =
+    let lt = slice_get_within c.args.table.now c.args.of.0 c.args.row.now c.requires.row in
+    let down = down_as c.args.table.now c.args.of.0 c.args.row.now (Set c.in-Set.parts) c.requires.sound c.requires.row c.in-Set.is in
+    (omega arith, (rw c.as_slice-in-Set.ensures down, (omega arith, (rw (c.as_slice-in-Set.ensures, c.tag_or-tag-in-Set.ensures) (rw c.in-Set.is at c.requires.room), c.requires.end))))
+
+pub put_of_rank-loop-index-init : goal.put_of_rank-loop-index-init
+put_of_rank-loop-index-init t c =
+    let none = parts_past (of_rank c.args.rank (writes c.args.table.now)) c.args.parts.now c.args.values.now c.min-index.result c.min-index.ensures in
+    record {
+      parts = omega (arith, c.min-index.ensures);
+      values = omega (arith, c.min-index.ensures);
+      place = rw none (omega arith);
+      put = ap (λ x. x ++ drop c.args.end c.args.room.now) (sym none);
+    }
+
+pub put_of_rank-put_if_of_rank-start-requires : goal.put_of_rank-put_if_of_rank-start-requires
+put_of_rank-put_if_of_rank-start-requires t c =
+    let within : c.loop-index.index - 1 < length c.args.parts.now = omega (arith, c.loop-index.invariant.parts, c.loop-index-test.true) in
+    let lt : c.index-parts-index.result.inner.0 < c.args.of.0 = each_part (λ m. m < c.args.of.0) c.args.parts.now (c.loop-index.index - 1) c.index-parts-index.result c.requires.below within c.index-parts-index.is in
+    let room = parts_room (of_rank c.args.rank (writes c.args.table.now)) c.args.parts.now c.args.values.now (c.loop-index.index - 1) c.loop-index.index c.index-parts-index.result c.index-values-index.result (omega arith) within (omega arith) c.index-parts-index.is c.index-values-index.is in
+    (omega arith, (lt, (c.requires.row, (omega (arith, room), omega arith))))
+
+pub put_risen-loop-bound-init : goal.put_risen-loop-bound-init
+put_risen-loop-bound-init t c =
+    let none = risen_begin (writes c.args.table.now) c.args.parts.now (parts_of c.args.values.now) ranks in
+    record {
+      within = omega arith;
+      place = rw none (omega arith);
+      put = ap (λ x. x ++ drop c.args.end c.args.room.now) (sym none);
+    }
+
+pub put_risen-put_of_rank-start-requires : goal.put_risen-put_of_rank-start-requires
+put_risen-put_of_rank-start-requires t c =
+    let some : 0 < c.next_rank-next.result = omega arith in
+    let low : c.next_rank-next.result - 1 < c.loop-bound.bound = omega (arith, c.next_rank-next.ensures.within) in
+    let room = risen_room (writes c.args.table.now) c.args.parts.now (parts_of c.args.values.now) c.loop-bound.bound (c.next_rank-next.result - 1) low c.loop-bound.invariant.within (λ k ge lt. c.next_rank-next.ensures.none k (omega arith) lt) in
+    (omega arith, (c.requires.below, (c.requires.row, (omega (arith, room), omega arith))))
+
+pub put_risen-loop-bound-preserved : goal.put_risen-loop-bound-preserved
+put_risen-loop-bound-preserved t c =
+    let some : 0 < c.next_rank-next.result = omega arith in
+    let low : c.next_rank-next.result - 1 < c.loop-bound.bound = omega (arith, c.next_rank-next.ensures.within) in
+    let one : List ℕ = parts_contents (of_rank (c.next_rank-next.result - 1) (writes c.args.table.now)) c.args.parts.now (parts_of c.args.values.now) in
+    let others : List ℕ = risen_parts (writes c.args.table.now) (ranks - c.loop-bound.bound) c.loop-bound.bound c.args.parts.now (parts_of c.args.values.now) in
+    let more = risen_next (writes c.args.table.now) c.args.parts.now (parts_of c.args.values.now) ranks c.loop-bound.bound (c.next_rank-next.result - 1) low c.loop-bound.invariant.within (λ k ge lt. c.next_rank-next.ensures.none k (omega arith) lt) in
+    let both = ap length more ∙ length-append one others in
+    record {
+      within = omega (arith, c.loop-bound.invariant.within);
+      place = omega (arith, both);
+      put = c.put_of_rank-start.ensures.put ∙ ap (λ x. one ++ x) c.loop-bound.invariant.put ∙ sym (append_assoc one others (drop c.args.end c.args.room.now)) ∙ ap (λ x. x ++ drop c.args.end c.args.room.now) (sym more);
+    }
+
+pub put_risen-returns-after-loop-bound-clause-start : goal.put_risen-returns-after-loop-bound-clause-start
+put_risen-returns-after-loop-bound-clause-start t c =
+    let all = risen_end (writes c.args.table.now) c.args.parts.now (parts_of c.args.values.now) c.loop-bound.bound c.loop-bound.invariant.within (λ k lt. absurd (omega (arith, c.loop-bound-test.false))) in
+    rw (← all) c.loop-bound.invariant.place
+
+pub put_risen-returns-after-loop-bound-clause-put : goal.put_risen-returns-after-loop-bound-clause-put
+put_risen-returns-after-loop-bound-clause-put t c =
+    let all = risen_end (writes c.args.table.now) c.args.parts.now (parts_of c.args.values.now) c.loop-bound.bound c.loop-bound.invariant.within (λ k lt. absurd (omega (arith, c.loop-bound-test.false))) in
+    rw (← all) c.loop-bound.invariant.put
+
+pub put_risen-returns-then-next-eq0-clause-start : goal.put_risen-returns-then-next-eq0-clause-start
+put_risen-returns-then-next-eq0-clause-start t c =
+    let all = risen_end (writes c.args.table.now) c.args.parts.now (parts_of c.args.values.now) c.loop-bound.bound c.loop-bound.invariant.within (λ k lt. c.next_rank-next.ensures.none k (omega arith) lt) in
+    rw (← all) c.loop-bound.invariant.place
+
+pub put_risen-returns-then-next-eq0-clause-put : goal.put_risen-returns-then-next-eq0-clause-put
+put_risen-returns-then-next-eq0-clause-put t c =
+    let all = risen_end (writes c.args.table.now) c.args.parts.now (parts_of c.args.values.now) c.loop-bound.bound c.loop-bound.invariant.within (λ k lt. c.next_rank-next.ensures.none k (omega arith) lt) in
+    rw (← all) c.loop-bound.invariant.put

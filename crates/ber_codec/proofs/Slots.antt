@@ -1,0 +1,121 @@
+-- The slots of a SET, as loops go over them.
+use Rattle.std.proofs.Common.{◌≡◌, ℕ, zero, suc, ◌+◌, ◌<◌, Bool, true, false, ◌&&◌, List, [], ◌∷◌, ◌++◌, length, drop, get_or, Option, Some, None, Ok, refl, sym, ap, ◌∙◌, arith, add-one, append_assoc}
+use Rattle.std.specs.Prelude.{slice_get, slice_set}
+use Rattle.std.proofs.lemmas.List.{append-nil}
+use Rattle.asn1_types.specs.declared.row.Part.{Part}
+use Rattle.asn1_types.specs.Value.{Value}
+use Rattle.osi_base.specs.declared.words.Kind.TheVariants.{Missing, Extra}
+use Rattle.asn1_types.specs.declared.row.Class.{Class}
+use Rattle.asn1_types.specs.Value.{parts}
+use Rattle.asn1_types.specs.ValueView.{parts_of}
+use Rattle.ber_codec.specs.declared.fault.ReadFault.{ReadFault}
+use Rattle.ber_codec.specs.declared.spot.Scope.{Scope}
+use Rattle.ber_codec.specs.Reading.{Spot, Opened, Reading, ◌>>=◌, ended, refuse, Fails}
+use Rattle.ber_codec.specs.Fields.{look_at}
+use Rattle.ber_codec.specs.Order.{Filled}
+use Rattle.ber_codec.specs.Rules.{Reader, items_at, no_parts_of, stands, is_filled, set_done, is_free, ordered_at, filled_by, fill_at, slot_at}
+use Rattle.ber_codec.proofs.Steps.{Fails-bind, Fails-same}
+use Rattle.ber_codec.proofs.Turns.{turn_is}
+
+none_next : (ps : List Part) (i : ℕ) → i < length ps → no_parts_of (drop i ps) ≡ None ∷ no_parts_of (drop (suc i) ps)
+none_next [] i lt = absurd (omega arith)
+none_next (p ∷ ps) zero lt = refl
+none_next (p ∷ ps) (suc i) lt = none_next ps i (omega arith)
+
+pub none_more : (front total : List (Option Value)) (ps : List Part) (i : ℕ) → i < length ps → front ++ no_parts_of (drop i ps) ≡ total → (front ++ None ∷ []) ++ no_parts_of (drop (i + 1) ps) ≡ total
+none_more front total ps i lt h =
+    rw (add-one) (append_assoc front (None ∷ []) (no_parts_of (drop (suc i) ps)) ∙ ap (λ (l : List (Option Value)). front ++ l) (sym (none_next ps i lt)) ∙ h)
+
+pub none_length : (ps : List Part) → length (no_parts_of ps) ≡ length ps
+none_length [] = refl
+none_length (p ∷ ps) = ap suc (none_length ps)
+
+pub none_end : (front total : List (Option Value)) (ps : List Part) (i : ℕ) → length ps ≡ i → front ++ no_parts_of (drop i ps) ≡ total → front ≡ total
+none_end front total ps i e h = sym (ap (λ (l : List (Option Value)). front ++ l) (by_end ps i e) ∙ append-nil front) ∙ h
+  where
+    by_end : (ps : List Part) (i : ℕ) → length ps ≡ i → no_parts_of (drop i ps) ≡ []
+    by_end ps i e = ap (λ (n : ℕ). no_parts_of (drop n ps)) (sym e) ∙ drop_all ps
+      where
+        drop_all : (ps : List Part) → no_parts_of (drop (length ps) ps) ≡ []
+        drop_all [] = refl
+        drop_all (q ∷ ps) = drop_all ps
+
+filled_next : (ps : List Part) (vs : List (Option Value)) (i : ℕ) (p : Part) (o : Option Value) → i < length ps → i < length vs → p ≡ get_or ps i p → o ≡ get_or vs i o
+    → is_filled (drop i ps) (drop i vs) ≡ (stands p o && is_filled (drop (suc i) ps) (drop (suc i) vs))
+filled_next [] vs i p o lt more e d = absurd (omega arith)
+filled_next (q ∷ ps) [] i p o lt more e d = absurd (omega arith)
+filled_next (q ∷ ps) (w ∷ vs) zero p o lt more e d = rw (e, d) refl
+filled_next (q ∷ ps) (w ∷ vs) (suc i) p o lt more e d = filled_next ps vs i p o (omega arith) (omega arith) e d
+
+pub filled_step : (ps : List Part) (vs : List (Option Value)) (i : ℕ) (p : Part) (o : Option Value) (b total : Bool) → i < length ps → i < length vs → p ≡ get_or ps i p → o ≡ get_or vs i o → stands p o ≡ b
+    → is_filled (drop i ps) (drop i vs) ≡ total → (b && is_filled (drop (i + 1) ps) (drop (i + 1) vs)) ≡ total
+filled_step ps vs i p o b total lt more e d s h =
+    rw add-one (ap (λ (c : Bool). c && is_filled (drop (suc i) ps) (drop (suc i) vs)) (sym s) ∙ sym (filled_next ps vs i p o lt more e d) ∙ h)
+
+pub filled_none : (ps : List Part) (vs : List (Option Value)) (i : ℕ) (total : Bool) → length ps ≡ i → is_filled (drop i ps) (drop i vs) ≡ total → true ≡ total
+filled_none ps vs i total e h = sym (by_end ps (drop i vs) i e) ∙ h
+  where
+    by_end : (ps : List Part) (ws : List (Option Value)) (i : ℕ) → length ps ≡ i → is_filled (drop i ps) ws ≡ true
+    by_end ps ws i e = ap (λ (n : ℕ). is_filled (drop n ps) ws) (sym e) ∙ drop_all ps ws
+      where
+        drop_all : (ps : List Part) (ws : List (Option Value)) → is_filled (drop (length ps) ps) ws ≡ true
+        drop_all [] ws = refl
+        drop_all (q ∷ ps) ws = drop_all ps ws
+
+pub set_length : (vs : List (Option Value)) (i : ℕ) (o : Option Value) → length (slice_set vs i o) ≡ length vs
+set_length [] zero o = refl
+set_length [] (suc i) o = refl
+set_length (v ∷ vs) zero o = refl
+set_length (v ∷ vs) (suc i) o = ap suc (set_length vs i o)
+
+-- ---- the slot of a part
+
+pub slot_is : (vs : List (Option Value)) (i : ℕ) (o : Option Value) → i < length vs → o ≡ get_or vs i o → slice_get vs i ≡ Some o
+slot_is [] i o lt e = absurd (omega arith)
+slot_is (w ∷ vs) zero o lt e = ap (λ (x : Option Value). Some x) (sym e)
+slot_is (w ∷ vs) (suc i) o lt e = slot_is vs i o (omega arith) e
+
+module _ (begins : ℕ → Class → ℕ → Bool) (inner : ℕ → Reader) where
+  at_slot : (ps : List Part) (i which : ℕ) (p : Part) (before : Filled) (scope : Scope) (o : Opened) (s : Spot) → i < length ps → p ≡ get_or ps i p → begins p.inner.0 o.class o.number ≡ true
+      → slot_at begins inner which (drop i ps) before scope o s ≡ fill_at (inner p.inner.0) which before scope o s
+  unfolding slot_at
+  at_slot [] i which p before scope o s lt e b = absurd (omega arith)
+  at_slot (q ∷ ps) zero which p before scope o s lt e b =
+      let same : q ≡ p = sym e in
+      rw (same, b) refl
+  at_slot (q ∷ ps) (suc i) which p before scope o s lt e b = at_slot ps i which p before scope o s (omega arith) e b
+
+  -- the slot is taken
+  pub slot_taken : (ps : List Part) (which : ℕ) (p : Part) (w : Option Value) (before : Filled) (scope : Scope) (o : Opened) (s : Spot) (total : Reading (Filled × Spot)) → which < length ps → p ≡ get_or ps which p → begins p.inner.0 o.class o.number ≡ true
+      → which < length before.found → w ≡ get_or before.found which w → is_free (Some w) ≡ false
+      → slot_at begins inner which (drop which ps) before scope o s ≡ total → total ≡ refuse o.start.place Extra
+  slot_taken ps which p w before scope o s total lt e b more d taken so_far =
+      let slot : slice_get before.found which ≡ Some w = slot_is before.found which w more d in
+      sym so_far ∙ at_slot ps which which p before scope o s lt e b ∙ rw (slot, taken) refl
+
+  pub slot_fails : (f : ReadFault) (ps : List Part) (which : ℕ) (p : Part) (w : Option Value) (before : Filled) (scope : Scope) (o : Opened) (s : Spot) (total : Reading (Filled × Spot)) → which < length ps → p ≡ get_or ps which p → begins p.inner.0 o.class o.number ≡ true
+      → which < length before.found → w ≡ get_or before.found which w → is_free (Some w) ≡ true
+      → slot_at begins inner which (drop which ps) before scope o s ≡ total → Fails f (ordered_at (inner p.inner.0) before.least scope o s) → Fails f total
+  slot_fails f ps which p w before scope o s total lt e b more d free so_far h =
+      let slot : slice_get before.found which ≡ Some w = slot_is before.found which w more d in
+      let one : (ordered_at (inner p.inner.0) before.least scope o s >>= λ v. Ok (filled_by which o before v.0, v.1)) ≡ total = rw (← so_far) (sym (at_slot ps which which p before scope o s lt e b ∙ rw (slot, free) refl)) in
+      Fails-same f _ total one (Fails-bind f (ordered_at (inner p.inner.0) before.least scope o s) _ h)
+
+  pub slot_gives : (ps : List Part) (which : ℕ) (p : Part) (w : Option Value) (before : Filled) (scope : Scope) (o : Opened) (s : Spot) (v : Value) (to : Spot) (total : Reading (Filled × Spot)) → which < length ps → p ≡ get_or ps which p → begins p.inner.0 o.class o.number ≡ true
+      → which < length before.found → w ≡ get_or before.found which w → is_free (Some w) ≡ true
+      → slot_at begins inner which (drop which ps) before scope o s ≡ total → ordered_at (inner p.inner.0) before.least scope o s ≡ Ok (v, to) → total ≡ Ok (filled_by which o before v, to)
+  slot_gives ps which p w before scope o s v to total lt e b more d free so_far h =
+      let slot : slice_get before.found which ≡ Some w = slot_is before.found which w more d in
+      sym so_far ∙ at_slot ps which which p before scope o s lt e b ∙ rw (slot, free, h) refl
+
+-- ---- all slots
+
+pub set_full : (ps : List Part) (s : Filled) → is_filled ps s.found ≡ true → set_done ps s ≡ Some (parts (parts_of s.found))
+set_full ps s e = rw e refl
+
+pub set_lacks : (ps : List Part) (s : Filled) → is_filled ps s.found ≡ false → set_done ps s ≡ None
+set_lacks ps s e = rw e refl
+
+pub turns_lack : {S T : Type 0} (step : S → Scope → Opened → Spot → Reading (S × Spot)) (done : S → Option T) (first : S) (scope : Scope) (s : Spot) (k place : ℕ) (after : Spot) (total : Reading (T × Spot)) → 0 < k → items_at step done k first scope s ≡ total
+    → look_at scope s.place s.rest ≡ Ok (ended place after) → done first ≡ None → total ≡ refuse place Missing
+turns_lack step done first scope s k place after total lt so_far look d = sym so_far ∙ turn_is step done k first scope s lt ∙ rw (look, d) refl
