@@ -6,11 +6,14 @@ mod fault;
 mod fields;
 mod laws;
 mod order;
+mod plain;
 mod primitives;
 mod public;
 mod read;
 mod spot;
 mod strings;
+#[cfg(test)]
+mod tests;
 mod write;
 
 pub use fault::ReadFault;
