@@ -1,6 +1,8 @@
 pub mod Results
 pub mod ScanLoop
 pub mod WireLaws
+pub mod FaultLaws
+pub mod FirstFaultLaws
 pub mod NumeralLaws
 pub mod SpellingLaws
 pub mod PutLaws
