@@ -62,17 +62,19 @@ unfolding value_at
 value_fault end xs f e =
     elim (failed (length_at (front end xs) xs) _ f e) [
       | inl h ↦ (
-          (λ n len more is parts. absurd (let g : gave n more ≡ bad (ℕ × List ℕ) f = sym (length_is (front end xs) xs n len more is parts) ∙ h in cc)),
-          length_fault (front end xs) xs f h)
+        (λ n len more is parts. absurd (let g : gave n more ≡ bad (ℕ × List ℕ) f = sym (length_is (front end xs) xs n len more is parts) ∙ h in cc)),
+        length_fault (front end xs) xs f h,
+      )
       | inr h ↦ (
           elim (chosen (ltb (length h.0.1) h.0.0) (Err (at (front end xs) why.Length)) _ (Err f) h.2) [
             | inl p ↦ (
-                (λ n len more is parts.
+              (λ n len more is parts.
                   let same = ok_is (n, more) h.0 (sym (length_is (front end xs) xs n len more is parts) ∙ h.1) in
                   let a : n ≡ h.0.0 = ap (λ (q : ℕ × List ℕ). q.0) same in
                   let b : more ≡ h.0.1 = ap (λ (q : ℕ × List ℕ). q.1) same in
                   omega (arith, ltb-true _ _ p.0, a, ap length b)),
-                sym (err_is (List ℕ × List ℕ) (at (front end xs) why.Length) f p.1))
+              sym (err_is (List ℕ × List ℕ) (at (front end xs) why.Length) f p.1),
+            )
             | inr p ↦ absurd (let g = p.1 in cc)
           ])
     ]
@@ -216,8 +218,8 @@ scan_here t Inside fails table (suc fuel) end p x xs f le me fits (inr h) =
     let slot = row_of x table in
     rw (free_again (front end (x ∷ xs)) slot p h.0)
     (value_wrong (Inside slot p) end xs f (λ v. t (front end v.1) slot v.0 p >>= λ next. scan t table fuel end next v.1) (octets-rest x xs fits) (omega arith)
-      (λ v octets within there. ap (λ r. r >>= λ next. scan t table fuel end next v.1) (fails (front end v.1) slot v.0 p f octets within there))
-      (subst (λ (n : ℕ). ValueFault (Inside slot p) n xs f) on h.1))
+    (λ v octets within there. ap (λ r. r >>= λ next. scan t table fuel end next v.1) (fails (front end v.1) slot v.0 p f octets within there))
+    (subst (λ (n : ℕ). ValueFault (Inside slot p) n xs f) on h.1))
 
 scan_wrong : (t : Taker) (Inside : Wrong) (One : Right)
     → ((end : ℕ) (slot : Option Slot) (v : List ℕ) (p q : Parameters) → One slot v p q → t end slot v p ≡ Ok q)
@@ -239,7 +241,7 @@ scan_wrong t Inside One takes fails table (suc fuel) end p made xs f (x ∷ ps) 
     let tail = a.1 ++ code ∷ rest in
     let first : a.0 ≡ x.0 ∷ len ++ x.1 = a.2.2 in
     let whole : xs ≡ x.0 ∷ (len ++ (x.1 ++ tail)) =
-      parts ∙ ap (λ (l : List ℕ). l ++ code ∷ rest) a.4 ∙ append_assoc a.0 a.1 (code ∷ rest) ∙ ap (λ (l : List ℕ). l ++ tail) first ∙ ap (λ (l : List ℕ). x.0 ∷ l) (append_assoc len x.1 tail) in
+    parts ∙ ap (λ (l : List ℕ). l ++ code ∷ rest) a.4 ∙ append_assoc a.0 a.1 (code ∷ rest) ∙ ap (λ (l : List ℕ). l ++ tail) first ∙ ap (λ (l : List ℕ). x.0 ∷ l) (append_assoc len x.1 tail) in
     let size = ap length whole in
     let l1 = length-append len (x.1 ++ tail) in
     let l2 = length-append x.1 tail in
@@ -250,7 +252,7 @@ scan_wrong t Inside One takes fails table (suc fuel) end p made xs f (x ∷ ps) 
     let place : front end xs + length before ≡ front end tail + length a.1 = omega (arith, size, l1, l2, l3, l4, n0, nb) in
     let behind = octets-behind x.1 tail (octets-behind len (x.1 ++ tail) (octets-rest x.0 (len ++ (x.1 ++ tail)) (subst IsOctets whole fits))) in
     let rest_is = scan_wrong t Inside One takes fails table fuel end b.1.0 made tail f ps a.1 code rest (omega (arith, size, l1, l2)) (omega (arith, size, l1, l2)) behind a.3 b.1.2 refl
-      (subst (λ (k : ℕ). CodeFault Inside table made k code rest f) place w) in
+    (subst (λ (k : ℕ). CodeFault Inside table made k code rest f) place w) in
     ap (λ (l : List ℕ). scan t table (suc fuel) end p l) whole
     ∙ rw (free_again (front end (x.0 ∷ (len ++ (x.1 ++ tail)))) (row_of x.0 table) p b.0, value_again end len x.1 tail a.2.1, takes (front end tail) (row_of x.0 table) x.1 p b.1.0 b.1.1) rest_is
 
@@ -340,6 +342,6 @@ unit_wrong table end (x ∷ xs) f fits le (inr w) =
     let on : front end (x ∷ xs) + 1 ≡ front end xs = omega arith in
     rw w.1
     (value_wrong (Body w.0) end xs f (λ v. parameters_at w.0 (front end v.1) v.0 >>= λ p. Ok (w.0, p, v.1)) (octets-rest x xs fits) (omega arith)
-      (λ v octets within g. ap (λ r. r >>= λ p. Ok (w.0, p, v.1))
-        (scan_wrong parameter_taken ParameterFault ParameterPut parameter_again parameter_wrong (parameters_of w.0) (length v.0) (front end v.1) none_yet g.made v.0 f g.right g.before g.code g.rest (omega arith) within octets g.spelled g.puts g.parts g.wrong))
-      (subst (λ (n : ℕ). ValueFault (Body w.0) n xs f) on w.2))
+    (λ v octets within g. ap (λ r. r >>= λ p. Ok (w.0, p, v.1))
+    (scan_wrong parameter_taken ParameterFault ParameterPut parameter_again parameter_wrong (parameters_of w.0) (length v.0) (front end v.1) none_yet g.made v.0 f g.right g.before g.code g.rest (omega arith) within octets g.spelled g.puts g.parts g.wrong))
+    (subst (λ (n : ℕ). ValueFault (Body w.0) n xs f) on w.2))

@@ -123,16 +123,20 @@ behind_stays Behind table place xs ys f stays w = record {
 second_stays : (kind : SpduKind) (p : Parameters) (place : ℕ) (behind ys : List ℕ) (f : Fault) → f.kind ≢ why.Length → f.kind ≢ why.Missing → SecondFault kind p place behind f
     → SecondFault kind p place (behind ++ ys) f
 second_stays kind p place behind ys f ne nm (inl w) =
-    inl (w.0, some_more behind ys w.1, elim w.2 [
-      | inl h ↦ inl (unit_stays second_units place behind ys f ne nm h)
-      | inr h ↦ inr (behind_stays EndFault second_units place behind ys f (λ k q n b. end_stays k q n b ys f nm) h)
-    ])
+    inl (
+      w.0,
+      some_more behind ys w.1,
+      elim w.2 [
+        | inl h ↦ inl (unit_stays second_units place behind ys f ne nm h)
+        | inr h ↦ inr (behind_stays EndFault second_units place behind ys f (λ k q n b. end_stays k q n b ys f nm) h)
+      ],
+    )
 second_stays kind p place behind ys f ne nm (inr w) = elim w.0 [
   | inl h ↦ inr (inl h, end_stays kind p place behind ys f nm w.1)
   | inr h ↦ absurd (elim w.1 [
-      | inl g ↦ nm (kind_is f place why.Missing g.1)
-      | inr g ↦ (let n = ap length h in let m = g.3 in omega arith)
-    ])
+    | inl g ↦ nm (kind_is f place why.Missing g.1)
+    | inr g ↦ (let n = ap length h in let m = g.3 in omega arith)
+  ])
 ]
 
 pub first_stays : (xs ys : List ℕ) (f : Fault) → f.kind ≢ why.Length → f.kind ≢ why.Missing → FirstFault xs f → FirstFault (xs ++ ys) f

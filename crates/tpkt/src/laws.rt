@@ -11,7 +11,7 @@ ghost use Rattle.tpkt.specs.declared.packet.Packet.TheVariants.{Connect, Confirm
 ghost use Rattle.tpkt.specs.Wire.{packet, header, two, tsdu_limit, Tpdu, Whole, IsTwo, IsUnit, Splits, begun_by, handed_for, handed};
 ghost use Rattle.tpkt.specs.Written.{written_tsdu, connection_fields, HasRoom};
 ghost use Rattle.tpkt.specs.Reader.{Fed, reading, nothing};
-ghost use Rattle.tpkt.specs.Stream.{IsOctets, unit_at, Reads, HasRead};
+ghost use Rattle.tpkt.specs.Stream.{IsOctets, unit_at, OneHolds, Reads, HasRead};
 
 /// What a reader made of a stream, in whatever pieces it came: the packets of its units, and its
 /// first fault with the place counted from the first octet of the stream.
@@ -87,6 +87,12 @@ pub fn faulty_begins_no_packet()
     ensures { (begun xs ys more : List ℕ) (o : ℕ) (k : Kind) (u : Tpdu) (unit : List ℕ)
         → unit_at begun xs ≡ Err (Stop.At o k) → IsUnit begun u unit
         → xs ++ ys ≡ packet unit ++ more → ⊥ }
+{}
+
+/// Of all octets one holds and no other: a unit stands in front, there is a first fault, or nothing is
+/// wrong yet and more must come.
+pub fn one_of_three()
+    ensures { (begun xs : List ℕ) → IsOctets xs → OneHolds begun xs }
 {}
 
 /// A TSDU that is written stands in front of other units, and is handed up as it is.
