@@ -36,9 +36,6 @@ pub outcome : {A : Type 0} (r : Result A Fault) → ((x : A) × (r ≡ Ok x)) �
 outcome (Ok x) = inl (x, refl)
 outcome (Err f) = inr (f, refl)
 
-pub front_on : (end : ℕ) (before xs : List ℕ) → length (before ++ xs) ≤ end → front end xs ≡ front end (before ++ xs) + length before
-front_on end before xs le = omega (arith, length-append before xs)
-
 -- ---- lengths and values
 
 abbrev gave : ℕ → List ℕ → Result (ℕ × List ℕ) Fault

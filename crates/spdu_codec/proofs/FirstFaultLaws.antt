@@ -17,7 +17,7 @@ use Rattle.spdu_codec.specs.Wire.{IsOctets, IsUnit, AreUnits}
 use Rattle.spdu_codec.specs.Faults.{UnitFault, EndFault, BehindFault, LastFault, SecondFault, FirstFault, IsFirstFault}
 use Rattle.spdu_codec.proofs.Results.{chosen}
 use Rattle.spdu_codec.proofs.WireLaws.{octets-behind, unit_found, unit_again, worded_found, both, other, all_found, all_again}
-use Rattle.spdu_codec.proofs.FaultLaws.{bad, err_is, failed, outcome, front_on, unit_fault, unit_wrong}
+use Rattle.spdu_codec.proofs.FaultLaws.{bad, err_is, failed, outcome, unit_fault, unit_wrong}
 
 -- ---- the unit that stands last
 

@@ -1,5 +1,5 @@
 -- A stream of packets, read from its front, and what a reader makes of it.
-use Rattle.std.specs.Prelude.{◌≡◌, ◌≢◌, ℕ, ◌+◌, ◌*◌, ◌<◌, ◌⊎◌, List, [], ◌++◌, length, take, drop, slice_index, Option, Some, None, Result, Ok, Err, nat_lt, if◌then◌else◌}
+use Rattle.std.specs.Prelude.{◌≡◌, ◌≢◌, ℕ, ◌+◌, ◌*◌, ◌<◌, ◌⊎◌, List, [], ◌∷◌, ◌++◌, length, take, drop, slice_index, Option, Some, None, Result, Ok, Err, nat_lt, if◌then◌else◌}
 use Rattle.osi_base.specs.declared.words.Kind.{Kind}
 use Rattle.tpkt.specs.declared.packet.Packet.{Packet}
 use Rattle.tpkt.specs.declared.packet.TFault.{TFault}
@@ -60,3 +60,7 @@ pub record Reads (stream : List ℕ) (packets : List Packet) (fault : Option TFa
 abbrev pub HasRead : List ℕ → List Packet → Option Held → Type 0
 HasRead stream packets None = ⊥
 HasRead stream packets (Some held) = reading nothing stream ≡ record { packets = packets; held = held }
+
+-- a new reader makes this packet of these octets, and no fault
+abbrev pub IsReadAs : Packet → List ℕ → Type 0
+IsReadAs p octets = ((reading nothing octets).packets ≡ p ∷ []) × ((reading nothing octets).held.fault ≡ None)
