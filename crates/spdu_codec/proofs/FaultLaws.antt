@@ -1,23 +1,20 @@
 -- The fault that reading gives is the first fault, and the first fault is given.
-use Rattle.std.proofs.Common.{◌≡◌, ℕ, zero, suc, ◌+◌, ◌-◌, ◌*◌, ◌<◌, ◌≤◌, ◌==◌, Bool, true, false, ltb, List, [], ◌∷◌, ◌++◌, length, take, drop, Option, Some, None, Result, Ok, Err, refl, sym, ap, subst, ◌∙◌, append_assoc, inl, inr, arith}
-use Rattle.std.specs.Prelude.{◌⊎◌, ◌&&◌, ◌||◌, not}
-use Rattle.std.proofs.lemmas.Bool.{ltb-true, cases_Bool}
+use Rattle.std.proofs.Common.{◌≡◌, ℕ, zero, suc, ◌+◌, ◌*◌, ◌≤◌, ◌==◌, ltb, List, [], ◌∷◌, ◌++◌, length, Option, Some, None, Result, Ok, Err, refl, sym, ap, subst, ◌∙◌, append_assoc, inl, inr, arith}
+use Rattle.std.specs.Prelude.{◌⊎◌}
+use Rattle.std.proofs.lemmas.Bool.{ltb-true}
 use Rattle.std.proofs.lemmas.List.{length-append}
 use Rattle.osi_base.specs.declared.words.Kind.TheVariants as why
-use Rattle.osi_base.specs.declared.session_word.SessionWord.{SessionWord}
 use Rattle.spdu_codec.specs.declared.kind.SpduKind.{SpduKind}
-use Rattle.spdu_codec.specs.declared.kind.SpduKind.TheVariants as kinds
 use Rattle.spdu_codec.specs.declared.parameters.Slot.{Slot}
 use Rattle.spdu_codec.specs.declared.parameters.Parameters.{Parameters}
-use Rattle.spdu_codec.specs.Tables.{row_of, first_units, second_units, parameters_of, items_of}
+use Rattle.spdu_codec.specs.Tables.{row_of, parameters_of, items_of}
 use Rattle.spdu_codec.specs.Parameters.{none_yet, is_free, put}
-use Rattle.spdu_codec.specs.Words.{word_of, has_information, leads}
-use Rattle.spdu_codec.specs.Reading.{Fault, at, ◌>>=◌, front, length_at, value_at, checked_free, filled, item_taken, items_at, inside, group_inside, parameter_taken, parameters_at, scan, known, unit_at, worded, last_word, is_first, second_at, behind_first, units_at}
-use Rattle.spdu_codec.specs.Wire.{IsOctets, IsLength, AreParameters, IsFree, AllPut, ItemPut, IsInside, GroupPut, ParameterPut, IsUnit, IsLast, IsFront, AreUnits}
-use Rattle.spdu_codec.specs.Faults.{LacksValue, ValueFault, IsRepeated, CodeFault, ParametersFault, ItemFault, InsideFault, GroupFault, ParameterFault, UnitFault, EndFault, BehindFault, LastFault, SecondFault, FirstFault}
+use Rattle.spdu_codec.specs.Reading.{Fault, at, ◌>>=◌, front, length_at, value_at, checked_free, filled, item_taken, inside, group_inside, parameter_taken, parameters_at, scan, known, unit_at}
+use Rattle.spdu_codec.specs.Wire.{IsOctets, IsLength, AreParameters, IsFree, AllPut, ItemPut, ParameterPut}
+use Rattle.spdu_codec.specs.Faults.{LacksValue, ValueFault, IsRepeated, CodeFault, ParametersFault, ItemFault, InsideFault, GroupFault, ParameterFault, UnitFault}
 use Rattle.spdu_codec.proofs.Results.{ok_is, chosen}
 use Rattle.spdu_codec.proofs.ScanLoop.{Taker, value_less}
-use Rattle.spdu_codec.proofs.WireLaws.{octets-behind, octets-before, octets-rest, length_again, value_found, value_again, free_found, free_again, item_found, item_again, parameter_found, parameter_again, known_found, unit_found, unit_again, worded_found, length_none, both, other}
+use Rattle.spdu_codec.proofs.WireLaws.{octets-behind, octets-before, octets-rest, length_again, value_found, value_again, free_found, free_again, item_found, item_again, parameter_found, parameter_again, known_found}
 
 -- ---- steps that fail
 

@@ -1,20 +1,18 @@
 -- Where a first fault stands, and when it stays.
-use Rattle.std.proofs.Common.{◌≡◌, ◌≢◌, ℕ, ◌+◌, ◌<◌, ◌≤◌, Bool, true, false, List, [], ◌∷◌, ◌++◌, length, Option, Some, None, refl, sym, ap, subst, ◌∙◌, append_assoc, inl, inr, arith}
-use Rattle.std.specs.Prelude.{◌⊎◌}
+use Rattle.std.proofs.Common.{◌≡◌, ◌≢◌, ℕ, ◌+◌, ◌<◌, ◌≤◌, Bool, true, false, List, [], ◌∷◌, ◌++◌, length, Option, Some, None, refl, ap, ◌∙◌, append_assoc, inl, inr, arith}
 use Rattle.std.proofs.lemmas.List.{length-append}
 use Rattle.osi_base.specs.declared.words.Kind.{Kind}
 use Rattle.osi_base.specs.declared.words.Kind.TheVariants as why
-use Rattle.osi_base.specs.declared.session_word.SessionWord.{SessionWord}
 use Rattle.spdu_codec.specs.declared.kind.SpduKind.{SpduKind}
 use Rattle.spdu_codec.specs.declared.kind.SpduKind.TheVariants as kinds
 use Rattle.spdu_codec.specs.declared.parameters.Slot.{Slot}
 use Rattle.spdu_codec.specs.declared.parameters.Parameters.{Parameters}
 use Rattle.spdu_codec.specs.Tables.{first_units, second_units, parameters_of, items_of}
 use Rattle.spdu_codec.specs.Parameters.{none_yet}
-use Rattle.spdu_codec.specs.Words.{word_of, has_information, leads}
+use Rattle.spdu_codec.specs.Words.{word_of, has_information}
 use Rattle.spdu_codec.specs.Reading.{Fault, at}
 use Rattle.spdu_codec.specs.Wire.{ItemPut, ParameterPut}
-use Rattle.spdu_codec.specs.Faults.{ValueFault, CodeFault, ParametersFault, ItemFault, InsideFault, GroupFault, ParameterFault, UnitFault, EndFault, BehindFault, LastFault, SecondFault, FirstFault}
+use Rattle.spdu_codec.specs.Faults.{ValueFault, ParametersFault, ItemFault, InsideFault, GroupFault, ParameterFault, UnitFault, EndFault, BehindFault, SecondFault, FirstFault}
 
 -- ---- a fault stands within the octets, or right behind them
 

@@ -1,5 +1,5 @@
 -- The fault of a transport unit: it is given where it is the first one, and no other.
-use Rattle.std.proofs.Common.{◌≡◌, ◌≢◌, ℕ, zero, suc, ◌+◌, ◌-◌, ◌<◌, ◌≤◌, ◌==◌, Bool, true, false, List, [], ◌∷◌, ◌++◌, length, Option, Some, None, Result, Ok, Err, refl, sym, ap, subst, ◌∙◌, append_assoc, inl, inr, arith}
+use Rattle.std.proofs.Common.{◌≡◌, ℕ, ◌+◌, ◌<◌, ◌≤◌, ◌==◌, Bool, true, false, List, [], ◌∷◌, length, Option, Some, None, Result, Ok, Err, refl, sym, ap, subst, ◌∙◌, inl, inr, arith}
 use Rattle.std.specs.Prelude.{◌⊎◌, ◌&&◌, ◌||◌, not, IfErr}
 use Rattle.std.proofs.lemmas.Bool.{cases_Bool}
 use Rattle.std.proofs.lemmas.List.{length-append}
@@ -13,8 +13,8 @@ use Rattle.spdu_codec.specs.declared.parameters.Parameters.{Parameters}
 use Rattle.spdu_codec.specs.Tables.{first_units, second_units}
 use Rattle.spdu_codec.specs.Words.{word_of, has_information, leads}
 use Rattle.spdu_codec.specs.Reading.{Gives, Fault, at, ◌>>=◌, front, unit_at, worded, last_word, is_first, second_at, behind_first, units_at}
-use Rattle.spdu_codec.specs.Wire.{IsOctets, IsUnit, AreUnits}
-use Rattle.spdu_codec.specs.Faults.{UnitFault, EndFault, BehindFault, LastFault, SecondFault, FirstFault, IsFirstFault}
+use Rattle.spdu_codec.specs.Wire.{IsOctets, AreUnits}
+use Rattle.spdu_codec.specs.Faults.{UnitFault, EndFault, LastFault, SecondFault, FirstFault, IsFirstFault}
 use Rattle.spdu_codec.proofs.Results.{chosen}
 use Rattle.spdu_codec.proofs.WireLaws.{octets-behind, unit_found, unit_again, worded_found, both, other, all_found, all_again}
 use Rattle.spdu_codec.proofs.FaultLaws.{bad, err_is, failed, outcome, unit_fault, unit_wrong}
