@@ -1,6 +1,9 @@
 pub mod Results
 pub mod ScanLoop
 pub mod WireLaws
+pub mod FaultLaws
+pub mod FirstFaultLaws
+pub mod FaultShape
 pub mod NumeralLaws
 pub mod SpellingLaws
 pub mod PutLaws

@@ -21,20 +21,20 @@ use Rattle.spdu_codec.proofs.ScanLoop.{Taker, value_less}
 
 -- ---- octets
 
-octets-behind : (xs ys : List ℕ) → IsOctets (xs ++ ys) → IsOctets ys
+pub octets-behind : (xs ys : List ℕ) → IsOctets (xs ++ ys) → IsOctets ys
 octets-behind xs ys fits i = subst (λ (n : ℕ). n < 256) (get_or-append-add xs ys i 0) (fits (length xs + i))
 
-octets-before : (xs ys : List ℕ) → IsOctets (xs ++ ys) → IsOctets xs
+pub octets-before : (xs ys : List ℕ) → IsOctets (xs ++ ys) → IsOctets xs
 octets-before [] ys fits i = omega arith
 octets-before (x ∷ xs) ys fits zero = fits 0
 octets-before (x ∷ xs) ys fits (suc i) = octets-before xs ys (λ j. fits (suc j)) i
 
-octets-rest : (x : ℕ) (xs : List ℕ) → IsOctets (x ∷ xs) → IsOctets xs
+pub octets-rest : (x : ℕ) (xs : List ℕ) → IsOctets (x ∷ xs) → IsOctets xs
 octets-rest x xs fits i = fits (suc i)
 
 -- ---- lengths and values
 
-eq_is : (a b : ℕ) → (a == b) ≡ true → a ≡ b
+pub eq_is : (a b : ℕ) → (a == b) ≡ true → a ≡ b
 eq_is a b e = grind arith
 
 eq_not : (a b : ℕ) → (a == b) ≡ false → a ≡ b → ⊥
@@ -65,7 +65,7 @@ length_found place (a ∷ b ∷ c ∷ xs) n fits e =
       | inr f ↦ short_found a (b ∷ c ∷ xs) n (fits 0) f.0 (ok_is (a, b ∷ c ∷ xs) n f.1)
     ]
 
-other : (a b : ℕ) → (a ≡ b → ⊥) → (a == b) ≡ false
+pub other : (a b : ℕ) → (a ≡ b → ⊥) → (a == b) ≡ false
 other a b ne = elim (cases_Bool (a == b)) [ inl e ↦ absurd (ne (eq_is a b e)) | inr e ↦ e ]
 
 short_again : (place n : ℕ) (rest : List ℕ) → (n == 255) ≡ false → length_at place (n ∷ rest) ≡ Ok (n, rest)
@@ -81,7 +81,7 @@ long_again : (place n : ℕ) (rest : List ℕ) → length_at place (255 ∷ n / 
 unfolding length_at
 long_again place n rest = (let e : 256 * (n / 256) + n % 256 ≡ n = omega arith in ap (λ k. gives k rest) e)
 
-length_again : (place n : ℕ) (len rest : List ℕ) → IsLength n len → length_at place (len ++ rest) ≡ Ok (n, rest)
+pub length_again : (place n : ℕ) (len rest : List ℕ) → IsLength n len → length_at place (len ++ rest) ≡ Ok (n, rest)
 length_again place n len rest (inl p) = ap (λ (t : List ℕ). length_at place (t ++ rest)) p.1 ∙ short_again place n rest (other n 255 (λ e. (let lt : n < 255 = p.0 in omega arith)))
 length_again place n len rest (inr p) = ap (λ (t : List ℕ). length_at place (t ++ rest)) p.1 ∙ long_again place n rest
 
@@ -105,11 +105,11 @@ value_again end len value rest is =
 
 -- ---- parameters
 
-free_found : (place : ℕ) (o s : Option Slot) (p : Parameters) → checked_free place o p ≡ Ok s → IsFree o p × (o ≡ s)
+pub free_found : (place : ℕ) (o s : Option Slot) (p : Parameters) → checked_free place o p ≡ Ok s → IsFree o p × (o ≡ s)
 free_found place None s p e = (tt, ok_is None s e)
 free_found place (Some slot) s p e = (let f = passed (is_free slot p) (at place why.Extra) (Ok (Some slot)) s e in (f.0, ok_is (Some slot) s f.1))
 
-free_again : (place : ℕ) (o : Option Slot) (p : Parameters) → IsFree o p → checked_free place o p ≡ Ok o
+pub free_again : (place : ℕ) (o : Option Slot) (p : Parameters) → IsFree o p → checked_free place o p ≡ Ok o
 free_again place None p e = refl
 free_again place (Some slot) p e = rw e refl
 
@@ -180,11 +180,11 @@ filled_found : (place : ℕ) (o : Option Parameters) (q : Parameters) → filled
 filled_found place None q e = absurd cc
 filled_found place (Some p) q e = ap some (ok_is p q e)
 
-item_found : (end : ℕ) (slot : Option Slot) (v : List ℕ) (p q : Parameters) → IsOctets v → item_taken end slot v p ≡ Ok q → ItemPut slot v p q
+pub item_found : (end : ℕ) (slot : Option Slot) (v : List ℕ) (p q : Parameters) → IsOctets v → item_taken end slot v p ≡ Ok q → ItemPut slot v p q
 item_found end None v p q fits e = ok_is p q e
 item_found end (Some slot) v p q fits e = filled_found (front end v) (put slot v p) q e
 
-item_again : (end : ℕ) (slot : Option Slot) (v : List ℕ) (p q : Parameters) → ItemPut slot v p q → item_taken end slot v p ≡ Ok q
+pub item_again : (end : ℕ) (slot : Option Slot) (v : List ℕ) (p q : Parameters) → ItemPut slot v p q → item_taken end slot v p ≡ Ok q
 item_again end None v p q e = ap fine e
 item_again end (Some slot) v p q e = ap (filled (front end v)) e
 
@@ -204,17 +204,17 @@ group_again : (end : ℕ) (slot : Option Slot) (v : List ℕ) (p q : Parameters)
 group_again end None v p q e = ap fine e
 group_again end (Some slot) v p q e = inside_again (items_of slot) end v p q e
 
-parameter_found : (end : ℕ) (slot : Option Slot) (v : List ℕ) (p q : Parameters) → IsOctets v → parameter_taken end slot v p ≡ Ok q → ParameterPut slot v p q
+pub parameter_found : (end : ℕ) (slot : Option Slot) (v : List ℕ) (p q : Parameters) → IsOctets v → parameter_taken end slot v p ≡ Ok q → ParameterPut slot v p q
 parameter_found end slot v p q fits e =
     let b = bound (item_taken end slot v p) (group_inside end slot v) q e in
     (b.0, item_found end slot v p b.0 fits b.1, group_found end slot v b.0 q fits b.2)
 
-parameter_again : (end : ℕ) (slot : Option Slot) (v : List ℕ) (p q : Parameters) → ParameterPut slot v p q → parameter_taken end slot v p ≡ Ok q
+pub parameter_again : (end : ℕ) (slot : Option Slot) (v : List ℕ) (p q : Parameters) → ParameterPut slot v p q → parameter_taken end slot v p ≡ Ok q
 parameter_again end slot v p q e = ap (λ r. r >>= group_inside end slot v) (item_again end slot v p e.0 e.1) ∙ group_again end slot v e.0 q e.2
 
 -- ---- one unit
 
-known_found : (place : ℕ) (o : Option SpduKind) (kind : SpduKind) → known place o ≡ Ok kind → o ≡ Some kind
+pub known_found : (place : ℕ) (o : Option SpduKind) (kind : SpduKind) → known place o ≡ Ok kind → o ≡ Some kind
 known_found place None kind e = absurd cc
 known_found place (Some k) kind e = ap is_kind (ok_is k kind e)
 
@@ -252,11 +252,11 @@ unit_again table end kind q unit rest u =
 
 -- ---- the units of a transport unit
 
-worded_found : (place : ℕ) (o : Option SessionWord) (word : SessionWord) → worded place o ≡ Ok word → o ≡ Some word
+pub worded_found : (place : ℕ) (o : Option SessionWord) (word : SessionWord) → worded place o ≡ Ok word → o ≡ Some word
 worded_found place None word e = absurd cc
 worded_found place (Some w) word e = ap is_word (word_is w word e)
 
-length_none : (xs : List ℕ) → (length xs == 0) ≡ true → xs ≡ []
+pub length_none : (xs : List ℕ) → (length xs == 0) ≡ true → xs ≡ []
 length_none [] e = refl
 length_none (x ∷ xs) e = absurd (let f = eq_is (length (x ∷ xs)) 0 e in omega arith)
 
@@ -264,7 +264,7 @@ either : (a b : Bool) → (a || b) ≡ true → (a ≡ true) ⊎ (b ≡ true)
 either true b e = inl refl
 either false b e = inr e
 
-both : (a b : Bool) → (a && b) ≡ true → (a ≡ true) × (b ≡ true)
+pub both : (a b : Bool) → (a && b) ≡ true → (a ≡ true) × (b ≡ true)
 both true true e = (refl, refl)
 both true false e = absurd cc
 both false b e = absurd cc
@@ -291,7 +291,7 @@ allows true behind e = refl
 allows false behind (inl e) = absurd cc
 allows false behind (inr e) = ap (λ (l : List ℕ). length l == 0) e
 
-last_again : (table : List (ℕ × SpduKind)) (end : ℕ) (word : SessionWord) (octets : List ℕ) → (l : IsLast table word octets) → last_word end l.kind l.found l.behind ≡ Ok word
+pub last_again : (table : List (ℕ × SpduKind)) (end : ℕ) (word : SessionWord) (octets : List ℕ) → (l : IsLast table word octets) → last_word end l.kind l.found l.behind ≡ Ok word
 last_again table end word octets l =
     let allowed : (has_information l.kind || length l.behind == 0) ≡ true = allows (has_information l.kind) l.behind l.information in
     rw (l.means, allowed) refl
@@ -302,7 +302,7 @@ second_found end xs word fits e =
     let f = unit_found second_units end xs b.0 fits b.1 in
     subst (λ (l : List ℕ). IsLast second_units word l) (sym f.2) (last_found second_units end b.0.0 b.0.1 f.0 b.0.2 word f.1 b.2)
 
-second_again : (end : ℕ) (xs : List ℕ) (word : SessionWord) → IsLast second_units word xs → second_at end xs ≡ Ok word
+pub second_again : (end : ℕ) (xs : List ℕ) (word : SessionWord) → IsLast second_units word xs → second_at end xs ≡ Ok word
 second_again end xs word l =
     ap (λ t. unit_at second_units end t >>= λ u. last_word end u.0 u.1 u.2) l.parts ∙ ap (λ r. r >>= λ u. last_word end u.0 u.1 u.2) (unit_again second_units end l.kind l.found l.unit l.behind l.is) ∙ last_again second_units end word xs l
 
@@ -341,7 +341,7 @@ last_some word xs l =
     other (length xs) 0 (λ e. omega (arith, n, m, length-append l.unit l.behind))
 
 -- nothing leads where nothing is behind, and no unit with user information leads
-not_first : (kind : SpduKind) (behind : List ℕ) → (has_information kind ≡ true) ⊎ (behind ≡ []) → is_first kind behind ≡ false
+pub not_first : (kind : SpduKind) (behind : List ℕ) → (has_information kind ≡ true) ⊎ (behind ≡ []) → is_first kind behind ≡ false
 not_first kind behind (inr e) = ap (is_first kind) e ∙ and_false (leads kind)
 not_first kind behind (inl e) = ap (λ b. b && not (length behind == 0)) (no_lead kind e)
 

@@ -4,4 +4,5 @@ pub mod Parameters
 pub mod Words
 pub mod Reading
 pub mod Wire
+pub mod Faults
 pub mod Written

@@ -1,9 +1,10 @@
 //! Reads the session units of a transport unit.
 
-ghost use Rattle.std.specs.Prelude.{◌≡◌, ◌+◌, ◌≤◌, ◌<◌, List, [], ◌∷◌, length, IfOk, Ok};
+ghost use Rattle.std.specs.Prelude.{◌≡◌, ◌+◌, ◌≤◌, ◌<◌, List, [], ◌∷◌, length, IfOk, IfErr, Ok, Err};
 ghost use Rattle.osi_base.specs.declared.session_word.SessionWord.{SessionWord};
 ghost use Rattle.spdu_codec.specs.Wire.{AreUnits};
-ghost use Rattle.spdu_codec.specs.Reading.{Gives, GivesBy, unit_at, last_word, second_at, behind_first, units_at};
+ghost use Rattle.spdu_codec.specs.Faults.{FirstFault, IsFirstFault};
+ghost use Rattle.spdu_codec.specs.Reading.{Fault, Gives, GivesBy, unit_at, last_word, second_at, behind_first, units_at};
 
 use crate::fault::{SFault, fault};
 use crate::kind::{SpduKind, first_units, row_of, second_units};
@@ -114,7 +115,11 @@ pub fn read_spdus(alloc: Global, tsdu: &[u8]) -> Result<Spdus, SFault>
     ensures found { IfOk result (λ words. AreUnits words tsdu.now) }
     // What is spelled so is read, unless memory runs out.
     ensures only { (words : List SessionWord) → AreUnits words tsdu.now → Gives result (Ok words) }
-    // Which fault it is.
+    // A fault is the first one.
+    ensures first { IfErr result (IsFirstFault tsdu.now) }
+    // The first fault is given, unless memory runs out.
+    ensures given { (f : Fault) → FirstFault tsdu.now f → Gives result (Err f) }
+    // What the octets are read as.
     ensures exact { Gives result (units_at tsdu.now) }
 {
     units_at(alloc, tsdu)

@@ -451,6 +451,8 @@ fn faults(rt: HostRuntime) {
     assert!(rt;
         fault_of(alloc, &[0x01, 0x00, 0x31, 0x03, 0x2A, 0x01, 0x31, 0x00]) == at(7, Kind::Extra)
     );
+    // An answer to a mark without its number.
+    assert!(rt; fault_of(alloc, &[0x01, 0x00, 0x32, 0x00]) == at(4, Kind::Missing));
     // Activity numbers that differ.
     assert!(rt;
         fault_of(

@@ -14,7 +14,7 @@ use Rattle.tpkt.specs.declared.stop.Stop.TheVariants.{Short, At}
 use Rattle.tpkt.specs.Wire.{packet, tsdu_limit, Tpdu, Whole, Part, IsUnit, Splits, begun_after, begun_by, handed_for, handed}
 use Rattle.tpkt.specs.Header.{header_at}
 use Rattle.tpkt.specs.Reader.{Fed, on, between, closed, opened, judged, taken, after, reading, nothing}
-use Rattle.tpkt.specs.Stream.{IsOctets, unit_at, IsStop, Reads, HasRead}
+use Rattle.tpkt.specs.Stream.{IsOctets, unit_at, IsInFront, OneHolds, IsStop, Reads, HasRead}
 use Rattle.tpkt.proofs.HeaderLaws.{front, found_data, found_control, again_data, again_control}
 use Rattle.tpkt.proofs.UnitLaws.{part_packet, part_unit, unit_found, unit_again, unit_stays, faulty, short_yet, data_yet}
 use Rattle.tpkt.proofs.ReaderLaws.{short_empty, still_open, after-append, after_fault}
@@ -271,6 +271,25 @@ no_packet begun xs ys more o k u unit e is whole =
     let a = unit_stays begun xs ys o k e in
     let b = ap (unit_at begun) whole ∙ unit_again begun u unit more is in
     cc
+
+-- ---- one of three
+
+abbrev front_read : Tpdu × List ℕ → Result (Tpdu × List ℕ) Stop
+front_read p = Ok p
+
+abbrev front_stopped : Stop → Result (Tpdu × List ℕ) Stop
+front_stopped s = Err s
+
+in_front_is_read : (begun xs : List ℕ) (s : Stop) → IsInFront begun xs → unit_at begun xs ≡ Err s → ⊥
+in_front_is_read begun xs s f e = (let h : front_read (f.0, f.1.1) ≡ front_stopped s = sym (ap (unit_at begun) f.1.3 ∙ unit_again begun f.0 f.1.0 f.1.1 f.1.2) ∙ e in cc)
+
+pub one_of_three : (begun xs : List ℕ) → IsOctets xs → OneHolds begun xs
+one_of_three begun xs fits = go (unit_at begun xs) refl
+  where
+    go : (r : Result (Tpdu × List ℕ) Stop) → unit_at begun xs ≡ r → OneHolds begun xs
+    go (Ok p) e = (let f = unit_found begun xs p.0 p.1 fits e in let there : IsInFront begun xs = (p.0, (f.0, p.1, f.1, f.2)) in inl (there, λ s h. in_front_is_read begun xs s there h))
+    go (Err (At o k)) e = inr (inl ((λ f. in_front_is_read begun xs (At o k) f e), (o, (k, e))))
+    go (Err Short) e = inr (inr ((λ f. in_front_is_read begun xs Short f e), e))
 
 -- ---- any cutting
 

@@ -1,5 +1,6 @@
 -- A stream of packets, read from its front, and what a reader makes of it.
-use Rattle.std.specs.Prelude.{◌≡◌, ℕ, ◌+◌, ◌*◌, ◌<◌, List, [], length, take, drop, slice_index, Option, Some, None, Result, Ok, Err, nat_lt, if◌then◌else◌}
+use Rattle.std.specs.Prelude.{◌≡◌, ◌≢◌, ℕ, ◌+◌, ◌*◌, ◌<◌, ◌⊎◌, List, [], ◌∷◌, ◌++◌, length, take, drop, slice_index, Option, Some, None, Result, Ok, Err, nat_lt, if◌then◌else◌}
+use Rattle.osi_base.specs.declared.words.Kind.{Kind}
 use Rattle.tpkt.specs.declared.packet.Packet.{Packet}
 use Rattle.tpkt.specs.declared.packet.TFault.{TFault}
 use Rattle.tpkt.specs.declared.held.Held.{Held}
@@ -7,7 +8,7 @@ use Rattle.tpkt.specs.declared.header.Header.{Header}
 use Rattle.tpkt.specs.declared.header.Header.TheVariants.{Control, Data}
 use Rattle.tpkt.specs.declared.stop.Stop.{Stop}
 use Rattle.tpkt.specs.declared.stop.Stop.TheVariants.{Short, At}
-use Rattle.tpkt.specs.Wire.{Tpdu, Whole, Part, Splits, begun_by, handed}
+use Rattle.tpkt.specs.Wire.{packet, Tpdu, Whole, Part, IsUnit, Splits, begun_by, handed}
 use Rattle.tpkt.specs.Header.{◌>>=◌, header_at}
 use Rattle.tpkt.specs.Reader.{on, reading, nothing}
 
@@ -27,6 +28,17 @@ unit_behind xs (Data left last) = if nat_lt (length (drop 7 xs)) left then Err S
 -- the unit at the front of a stream, where the data of a TSDU has begun, and what follows it
 unfoldable pub unit_at : List ℕ → List ℕ → Result (Tpdu × List ℕ) Stop
 unit_at begun xs = header_at (length begun) xs >>= unit_behind xs
+
+-- a unit stands in front, where the data of a TSDU has begun
+abbrev pub IsInFront : List ℕ → List ℕ → Type 0
+IsInFront begun xs = (u : Tpdu) × ((unit rest : List ℕ) × IsUnit begun u unit × (xs ≡ packet unit ++ rest))
+
+-- One holds and no other: a unit stands in front, there is a first fault, or nothing is wrong yet and more must come.
+abbrev pub OneHolds : List ℕ → List ℕ → Type 0
+OneHolds begun xs =
+    (IsInFront begun xs × ((s : Stop) → unit_at begun xs ≢ Err s))
+    ⊎ (((IsInFront begun xs → ⊥) × ((offset : ℕ) × ((kind : Kind) × (unit_at begun xs ≡ Err (At offset kind)))))
+    ⊎ ((IsInFront begun xs → ⊥) × (unit_at begun xs ≡ Err Short)))
 
 -- Where the next unit isn't there: nothing is wrong yet, or it is this fault, counted from where the unit begins.
 abbrev pub IsStop : Result (Tpdu × List ℕ) Stop → ℕ → Option TFault → Type 0
@@ -48,3 +60,7 @@ pub record Reads (stream : List ℕ) (packets : List Packet) (fault : Option TFa
 abbrev pub HasRead : List ℕ → List Packet → Option Held → Type 0
 HasRead stream packets None = ⊥
 HasRead stream packets (Some held) = reading nothing stream ≡ record { packets = packets; held = held }
+
+-- a new reader makes this packet of these octets, and no fault
+abbrev pub IsReadAs : Packet → List ℕ → Type 0
+IsReadAs p octets = ((reading nothing octets).packets ≡ p ∷ []) × ((reading nothing octets).held.fault ≡ None)

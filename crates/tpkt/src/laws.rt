@@ -9,9 +9,9 @@ ghost use Rattle.tpkt.specs.declared.packet.Ends.{Ends};
 ghost use Rattle.tpkt.specs.declared.packet.Packet.{Packet};
 ghost use Rattle.tpkt.specs.declared.packet.Packet.TheVariants.{Connect, Confirm, Disconnect, Problem, Tsdu};
 ghost use Rattle.tpkt.specs.Wire.{packet, header, two, tsdu_limit, Tpdu, Whole, IsTwo, IsUnit, Splits, begun_by, handed_for, handed};
-ghost use Rattle.tpkt.specs.Written.{written_tsdu, connection_fields, HasRoom};
+ghost use Rattle.tpkt.specs.Written.{written_tsdu, connection_fields, control_packet, HasRoom};
 ghost use Rattle.tpkt.specs.Reader.{Fed, reading, nothing};
-ghost use Rattle.tpkt.specs.Stream.{IsOctets, unit_at, Reads, HasRead};
+ghost use Rattle.tpkt.specs.Stream.{IsOctets, unit_at, OneHolds, Reads, HasRead, IsReadAs};
 
 /// What a reader made of a stream, in whatever pieces it came: the packets of its units, and its
 /// first fault with the place counted from the first octet of the stream.
@@ -89,6 +89,12 @@ pub fn faulty_begins_no_packet()
         → xs ++ ys ≡ packet unit ++ more → ⊥ }
 {}
 
+/// Of all octets one holds and no other: a unit stands in front, there is a first fault, or nothing is
+/// wrong yet and more must come.
+pub fn one_of_three()
+    ensures { (begun xs : List ℕ) → IsOctets xs → OneHolds begun xs }
+{}
+
 /// A TSDU that is written stands in front of other units, and is handed up as it is.
 pub fn written_tsdu_is_split()
     ensures { (size : ℕ) (tsdu more : List ℕ) (us : List Tpdu) (rest : List ℕ) → 128 ≤ size
@@ -118,6 +124,22 @@ pub fn written_units()
         → IsUnit begun (Whole Disconnect) (header (128 ∷ two destination ++ two source ++ reason ∷ [])) }
     ensures problem { (begun : List ℕ) (destination cause : ℕ)
         → IsUnit begun (Whole Problem) (header (112 ∷ two destination ++ cause ∷ [])) }
+{}
+
+/// A unit that is written is read back by a new reader as the packet that it is, with its fields.
+pub fn written_units_are_read()
+    ensures connect { (ends : Ends) → IsTwo ends.destination → IsTwo ends.source → HasRoom ends
+        → let octets = control_packet (connection_fields 224 ends) in IsOctets octets
+        → IsReadAs (Connect ends) octets }
+    ensures confirm { (ends : Ends) → IsTwo ends.destination → IsTwo ends.source → HasRoom ends
+        → let octets = control_packet (connection_fields 208 ends) in IsOctets octets
+        → IsReadAs (Confirm ends) octets }
+    ensures disconnect { (destination source reason : ℕ) → IsTwo destination → IsTwo source
+        → let octets = control_packet (128 ∷ two destination ++ two source ++ reason ∷ []) in
+        IsOctets octets → IsReadAs Disconnect octets }
+    ensures problem { (destination cause : ℕ)
+        → let octets = control_packet (112 ∷ two destination ++ cause ∷ []) in
+        IsOctets octets → IsReadAs Problem octets }
 {}
 
 /// The units of two streams, one after the other, and what is handed up for them.
