@@ -1,0 +1,15 @@
+pub mod Signed
+pub mod Arcs
+pub mod Loops
+pub mod Rows
+pub mod Growing
+pub mod Taking
+pub mod Spelled
+pub mod Parts
+pub mod Integers
+pub mod Base128
+pub mod Oids
+pub mod Contents
+pub mod PartsBack
+pub mod RowLaws
+pub mod WholeValues
