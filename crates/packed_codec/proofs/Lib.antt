@@ -13,3 +13,6 @@ pub mod Contents
 pub mod PartsBack
 pub mod RowLaws
 pub mod WholeValues
+pub mod Room
+pub mod WriteLaws
+pub mod Sums

@@ -1,5 +1,5 @@
 -- The packed spelling of each value, as a function. Of a value that doesn't fit its row, what doesn't fit is left out.
-use Rattle.std.specs.Prelude.{ℕ, zero, suc, ◌+◌, Bool, true, false, Option, Some, None, List, [], ◌∷◌, ◌++◌, length, slice_get, if◌then◌else◌}
+use Rattle.std.specs.Prelude.{◌≡◌, ℕ, zero, suc, ◌+◌, take, drop, Bool, true, false, Option, Some, None, List, [], ◌∷◌, ◌++◌, length, slice_get, if◌then◌else◌}
 use Rattle.byteorder.specs.Endian.{big_bytes}
 use Rattle.asn1_types.specs.declared.row.Part.{Part}
 use Rattle.asn1_types.specs.declared.row.TypeRow.{TypeRow}
@@ -106,6 +106,13 @@ write_by inner row.Any = nothing_written
 -- the packed spelling of a value of row n of a table
 unfoldable pub packed : List TypeRow → ℕ → Value → List ℕ
 packed rows n = along nothing_written write_by rows (length rows) n
+
+-- ---- rooms
+
+-- a text was put at a place of a room, and what stands before and behind it is as it was
+pub record IsPut (text : List ℕ) (at : ℕ) (old new : List ℕ) (next : ℕ) : Type 0 where
+  pub ends : next ≡ at + length text
+  pub holds : new ≡ take at old ++ (text ++ drop (at + length text) old)
 
 -- ---- how many items the lists inside a value have together
 
