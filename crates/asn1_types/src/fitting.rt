@@ -140,7 +140,7 @@ fn fits_row(table: &TypeTable, of: TypeId, row: &TypeRow, value: &Val) -> bool
         TypeRow::ObjectId => object_id_fits(value),
         TypeRow::Text(kind) => text_fits(*kind, value),
         TypeRow::Sequence(parts) => sequence_fits(table, of, parts.as_slice(), value),
-        TypeRow::Set(_) => false,
+        TypeRow::Set(parts) => sequence_fits(table, of, parts.as_slice(), value),
         TypeRow::SequenceOf(inner) => list_fits(table, of, *inner, value),
         TypeRow::Choice(alternatives) => choice_fits(table, of, alternatives, value),
         TypeRow::Tagged { number, inner, .. } => number_fits(*number) && fits(table, *inner, value),

@@ -4,7 +4,7 @@ use Rattle.std.specs.Option.{option_copied}
 use Rattle.asn1_types.specs.Value.{chosen}
 use Rattle.asn1_types.specs.ValueView.{value_of}
 use Rattle.std.proofs.lemmas.Option.{slice_get_within}
-use Rattle.asn1_types.specs.declared.row.TypeRow.TheVariants.{Sequence, SequenceOf, Choice, Tagged}
+use Rattle.asn1_types.specs.declared.row.TypeRow.TheVariants.{Sequence, Set, SequenceOf, Choice, Tagged}
 use Rattle.asn1_types.specs.Fits.{alternative_fits, choice_fits, fits}
 use Rattle.asn1_types.proofs.Sound.{each_part, down_as}
 use Rattle.asn1_types.proofs.FitLaws.{not_within, false_not, fits_at, fits_past, parts_short, each_slot}
@@ -19,6 +19,12 @@ fits_row-sequence_fits-requires t c =
     let lt = slice_get_within c.args.table.now c.args.of.0 c.args.row.now c.requires.row in
     let down = down_as c.args.table.now c.args.of.0 c.args.row.now (Sequence c.in-Sequence.parts) c.requires.sound c.requires.row c.in-Sequence.is in
     (omega arith, (rw c.as_slice-in-Sequence.ensures down, omega arith))
+
+pub fits_row-sequence_fits-requires-in-Set : goal.fits_row-sequence_fits-requires-in-Set
+fits_row-sequence_fits-requires-in-Set t c =
+    let lt = slice_get_within c.args.table.now c.args.of.0 c.args.row.now c.requires.row in
+    let down = down_as c.args.table.now c.args.of.0 c.args.row.now (Set c.in-Set.parts) c.requires.sound c.requires.row c.in-Set.is in
+    (omega arith, (rw c.as_slice-in-Set.ensures down, omega arith))
 
 pub fits_row-list_fits-requires : goal.fits_row-list_fits-requires
 fits_row-list_fits-requires t c =
