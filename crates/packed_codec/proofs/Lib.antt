@@ -16,3 +16,4 @@ pub mod WholeValues
 pub mod Room
 pub mod WriteLaws
 pub mod Sums
+pub mod Texts

@@ -53,7 +53,7 @@ both a b at mid end old half new le p q =
     let qn = q.ends in
     let la : at + length a ≤ length old = omega arith in
     let back : drop (mid + length b) half ≡ drop (at + length (a ++ b)) old =
-        sym (drop_drop mid (length b) half) ∙ ap (drop (length b)) (behind_is a at old half mid p la) ∙ drop_drop mid (length b) old ∙ ap (λ (k : ℕ). drop k old) (omega arith) in
+    sym (drop_drop mid (length b) half) ∙ ap (drop (length b)) (behind_is a at old half mid p la) ∙ drop_drop mid (length b) old ∙ ap (λ (k : ℕ). drop k old) (omega arith) in
     record {
       ends = omega arith;
       holds = q.holds ∙ (λ i. front_is a at old half mid p la i ++ (b ++ back i)) ∙ append_assoc (take at old) a (b ++ drop (at + length (a ++ b)) old) ∙ ap (λ (x : List ℕ). take at old ++ x) (sym (append_assoc a b (drop (at + length (a ++ b)) old)));
@@ -61,6 +61,20 @@ both a b at mid end old half new le p q =
 
 pub as_text : (a b : List ℕ) (at next : ℕ) (old new : List ℕ) → a ≡ b → IsPut a at old new next → IsPut b at old new next
 as_text a b at next old new e p = subst (λ (x : List ℕ). IsPut x at old new next) e p
+
+pub both_as : (text a b : List ℕ) (at mid end : ℕ) (old half new : List ℕ) → text ≡ a ++ b → at + length text ≤ length old → IsPut a at old half mid → IsPut b mid half new end → IsPut text at old new end
+both_as text a b at mid end old half new e le p q =
+    let len = ap length e in
+    as_text (a ++ b) text at end old new (sym e) (both a b at mid end old half new (omega arith) p q)
+
+-- room for what comes behind
+pub room_behind : (text a b : List ℕ) (at mid : ℕ) (old half : List ℕ) → text ≡ a ++ b → at + length text ≤ length old → IsPut a at old half mid → mid + length b ≤ length half
+room_behind text a b at mid old half e le p =
+    let d = ap length e in
+    let len = length-append a b in
+    let n = p.ends in
+    let k = kept a at old half mid p (omega arith) in
+    omega arith
 
 -- ---- loops
 
@@ -117,7 +131,7 @@ before c text at mid end next old half new le m p q =
     let lt : mid + length text ≤ length old = omega arith in
     let pn = p.ends in
     let back : drop (at + length c) half ≡ text ++ drop (at + length (c ++ text)) old =
-        ap (λ (k : ℕ). drop k half) (sym m) ∙ ap (drop mid) p.holds ∙ drop_at (take mid old) (text ++ drop (mid + length text) old) mid (let d = length-take mid old in omega arith) ∙ ap (λ (k : ℕ). text ++ drop k old) (omega arith) in
+    ap (λ (k : ℕ). drop k half) (sym m) ∙ ap (drop mid) p.holds ∙ drop_at (take mid old) (text ++ drop (mid + length text) old) mid (let d = length-take mid old in omega arith) ∙ ap (λ (k : ℕ). text ++ drop k old) (omega arith) in
     let front : take at half ≡ take at old = ap (take at) p.holds ∙ take_front at mid old (text ++ drop (mid + length text) old) (omega arith) (omega arith) in
     record {
       ends = omega arith;

@@ -1,5 +1,5 @@
 -- What is written of a row goes by its rule.
-use Rattle.std.proofs.Common.{◌≡◌, ℕ, zero, suc, ◌+◌, ◌-◌, ◌≤◌, ◌<◌, min, cond, List, [], ◌∷◌, ◌++◌, length, drop, get_or, add-one, drop-cons, Option, Some, None, refl, sym, ap, ◌∙◌, arith}
+use Rattle.std.proofs.Common.{◌≡◌, ℕ, zero, suc, ◌+◌, ◌-◌, ◌≤◌, ◌<◌, min, cond, List, [], ◌∷◌, ◌++◌, length, drop, get_or, add-one, drop-cons, Option, Some, None, refl, sym, ap, ◌∙◌, subst, arith}
 use Rattle.std.specs.Prelude.{slice_get}
 use Rattle.std.specs.List.{AllByRecursion, flat_map}
 use Rattle.asn1_types.specs.declared.row.Part.{Part}
@@ -72,6 +72,10 @@ write_cong Any f g h = refl
 pub packed_at : (rows : List TypeRow) → IsSound rows → (n : ℕ) (row : TypeRow) → slice_get rows n ≡ Some row → packed rows n ≡ write_by (packed rows) row
 unfolding packed
 packed_at rows sound n row e = settled nothing_written write_by write_cong rows (is_down rows sound) n row e
+
+-- room for a row's text, once its form is known
+pub room_as : (rows : List TypeRow) (at len : ℕ) (v : Value) (row form : TypeRow) → row ≡ form → at + length (write_by (packed rows) row v) ≤ len → at + length (write_by (packed rows) form v) ≤ len
+room_as rows at len v row form e h = subst (λ (r : TypeRow). at + length (write_by (packed rows) r v) ≤ len) e h
 
 no_row : (rows : List TypeRow) (n : ℕ) → length rows ≤ n → slice_get rows n ≡ None
 no_row [] n le = refl

@@ -1,7 +1,9 @@
 //! Spellings from outside: each is read whole and written back, or its first fault is told.
 
 use super::*;
-use asn1_types::{Class, Item, Named, Part, Parts, RowRefusal, TextKind, TypeId, TypeRow, TypeTable};
+use asn1_types::{
+    Class, Item, Named, Part, Parts, RowRefusal, TextKind, TypeId, TypeRow, TypeTable,
+};
 use osi_base::{Kind, Name};
 use std::alloc::Global;
 use std::process::Abort;
@@ -18,17 +20,29 @@ enum Outcome {
 use Outcome::{Content, Short, TooLong, Whole};
 
 const BOOLEAN: u32 = 0;
+
 const INTEGER: u32 = 1;
+
 const NULL: u32 = 2;
+
 const BITS: u32 = 3;
+
 const OCTETS: u32 = 4;
+
 const DIGITS: u32 = 5;
+
 const OBJECT_ID: u32 = 6;
+
 const COLOUR: u32 = 7;
+
 const FLAGS: u32 = 8;
+
 const EITHER: u32 = 9;
+
 const RECORD: u32 = 10;
+
 const TAGGED: u32 = 11;
+
 const LISTS: u32 = 12;
 
 fn part(alloc: Global, name: &str, inner: u32, optional: bool) -> Result<Part, RowRefusal> {
@@ -43,7 +57,10 @@ fn part(alloc: Global, name: &str, inner: u32, optional: bool) -> Result<Part, R
 fn table_of(alloc: Global) -> Result<TypeTable, RowRefusal> {
     let mut table = TypeTable::new(alloc);
     table.add(TypeRow::Boolean)?;
-    table.add(TypeRow::Integer { low: -129, high: 300 })?;
+    table.add(TypeRow::Integer {
+        low: -129,
+        high: 300,
+    })?;
     table.add(TypeRow::Null)?;
     table.add(TypeRow::BitString)?;
     table.add(TypeRow::OctetString { most: 2 })?;
@@ -100,7 +117,11 @@ const ROWS: [(u32, &'static [u8], Outcome); 44] = [
     (OCTETS, &[0x00, 0x04, 0x00, 0x00], TooLong(0)),
     (DIGITS, &[0x00, 0x00, 0x00, 0x03, 0x31, 0x20, 0x39], Whole),
     (DIGITS, &[0x00, 0x00, 0x00, 0x02, 0x31, 0x41], Content(4)),
-    (OBJECT_ID, &[0x00, 0x00, 0x00, 0x04, 0x88, 0x37, 0x05, 0x01], Whole),
+    (
+        OBJECT_ID,
+        &[0x00, 0x00, 0x00, 0x04, 0x88, 0x37, 0x05, 0x01],
+        Whole,
+    ),
     (OBJECT_ID, &[0x00, 0x00, 0x00, 0x00], Content(4)),
     (OBJECT_ID, &[0x00, 0x00, 0x00, 0x02, 0x80, 0x01], Content(4)),
     (OBJECT_ID, &[0x00, 0x00, 0x00, 0x01, 0x88], Content(4)),
@@ -113,13 +134,33 @@ const ROWS: [(u32, &'static [u8], Outcome); 44] = [
     (EITHER, &[0x00, 0x01], Whole),
     (EITHER, &[0x01], Whole),
     (EITHER, &[0x02], Content(0)),
-    (RECORD, &[0x01, 0x01, 0x05, 0x00, 0x00, 0x00, 0x00, 0x00], Whole),
-    (RECORD, &[0x00, 0x00, 0x00, 0x00, 0x01, 0x01, 0x01, 0x00], Whole),
+    (
+        RECORD,
+        &[0x01, 0x01, 0x05, 0x00, 0x00, 0x00, 0x00, 0x00],
+        Whole,
+    ),
+    (
+        RECORD,
+        &[0x00, 0x00, 0x00, 0x00, 0x01, 0x01, 0x01, 0x00],
+        Whole,
+    ),
     (RECORD, &[0x02], Content(0)),
     (TAGGED, &[0x01, 0x05], Whole),
-    (LISTS, &[0x00, 0x00, 0x00, 0x01, 0x00, 0x00, 0x00, 0x02, 0x01, 0x00], Whole),
-    (LISTS, &[0x00, 0x00, 0x00, 0x02, 0x00, 0x01, 0xFF, 0xFE], Short),
-    (LISTS, &[0x00, 0x00, 0x00, 0x02, 0x00, 0x01, 0xFF, 0xFF], Content(4)),
+    (
+        LISTS,
+        &[0x00, 0x00, 0x00, 0x01, 0x00, 0x00, 0x00, 0x02, 0x01, 0x00],
+        Whole,
+    ),
+    (
+        LISTS,
+        &[0x00, 0x00, 0x00, 0x02, 0x00, 0x01, 0xFF, 0xFE],
+        Short,
+    ),
+    (
+        LISTS,
+        &[0x00, 0x00, 0x00, 0x02, 0x00, 0x01, 0xFF, 0xFF],
+        Content(4),
+    ),
 ];
 
 /// A value that was read is written back as the same octets.
@@ -127,7 +168,10 @@ fn check_whole(rt: &impl Abort, table: &TypeTable, of: TypeId, octets: &[u8], re
     assert_eq!(rt; read.used, octets.len());
     assert_eq!(rt; packed_len(table, of, &read.value), octets.len() as u64);
     let mut room = [0xEE; 16];
-    assert_eq!(rt; packed_write(table, of, &read.value, &mut room), octets.len());
+    assert_eq!(rt;
+        packed_write(table, of, &read.value, &mut room),
+        octets.len()
+    );
     assert_eq!(rt; &room[..octets.len()], octets);
 }
 

@@ -14,7 +14,13 @@ use asn1_types::{Node, Part, Parts, TypeId, TypeRow, TypeTable, Val};
 /// Puts a value of this row at a place of the room, and answers the place behind it. Of a value that doesn't fit the row, what
 /// doesn't fit is left out.
 #[cycle(writing)]
-pub(crate) fn put_value(table: &TypeTable, of: TypeId, value: &Val, out: &mut [u8], at: usize) -> usize
+pub(crate) fn put_value(
+    table: &TypeTable,
+    of: TypeId,
+    value: &Val,
+    out: &mut [u8],
+    at: usize,
+) -> usize
     requires { at + length (packed table.now of.0 value.now) ≤ length out.old }
     ensures { IsPut (packed table.now of.0 value.now) at out.old out.new result }
 {

@@ -53,7 +53,7 @@ of_choice-packed_len-requires t c =
 pub of_parts-of_part-requires : goal.of_parts-of_part-requires
 of_parts-of_part-requires t c =
     let lp : c.loop-index.index < length c.args.parts.now = omega (arith, c.min-count.ensures) in
-    let lt : c.index-parts-index.result.inner.0 < c.args.of.0 = each_part (λ m. m < c.args.of.0) c.args.parts.now c.loop-index.index c.index-parts-index.result c.requires lp c.index-parts-index.is in
+    let lt : c.index-parts-index.result.inner.0 < c.args.of.0 = each_part (λ m. m < c.args.of.0) c.args.parts.now c.loop-index.index c.index-parts-index.result c.requires.below lp c.index-parts-index.is in
     (omega arith, lt)
 
 pub of_parts-loop-index-preserved : goal.of_parts-loop-index-preserved
