@@ -3,6 +3,7 @@ pub mod Arcs
 pub mod Loops
 pub mod Rows
 pub mod Growing
+pub mod Inside
 pub mod Taking
 pub mod Spelled
 pub mod Parts

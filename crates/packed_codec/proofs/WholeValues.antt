@@ -1,5 +1,5 @@
 -- The laws of reading whole values.
-use Rattle.std.proofs.Common.{◌≡◌, ◌≢◌, ℕ, ◌+◌, ◌≤◌, ◌<◌, ◌^◌, List, [], ◌++◌, length, take, drop, Result, Ok, Err, refl, sym, ap, ◌∙◌, subst, arith, length-append, IfOk}
+use Rattle.std.proofs.Common.{◌≡◌, ◌≢◌, ℕ, ◌+◌, ◌≤◌, ◌<◌, ◌^◌, List, [], ◌++◌, length, take, drop, Result, Ok, Err, refl, sym, ap, ◌∙◌, subst, arith, length-append, IfOk, inl, inr}
 use Rattle.std.proofs.lemmas.List.{append-nil, take_at, take-append-drop, length-take}
 use Rattle.asn1_types.specs.declared.row.TypeRow.{TypeRow}
 use Rattle.asn1_types.specs.Value.{Value}
@@ -10,8 +10,9 @@ use Rattle.packed_codec.specs.Octets.{AreOctets}
 use Rattle.packed_codec.specs.Reading.{Spot, Reading, ◌>>=◌, Gives}
 use Rattle.packed_codec.specs.Rules.{reads, most_items, start, read_at}
 use Rattle.packed_codec.specs.Writing.{packed, items}
-use Rattle.packed_codec.specs.Laws.{packs, Packed, IsRead, ReadIsSpelled, SpelledIsRead, NoneBegins, ReadStays, FaultStays, BeginningIsShort, WrittenIsRead}
+use Rattle.packed_codec.specs.Laws.{packs, Packed, IsRead, ReadIsSpelled, SpelledIsRead, NoneBegins, ReadStays, FaultStays, IsAt, FaultIsFirst, BeginsSpelled, OneHolds, OneOfThree, BeginningIsShort, WrittenIsRead}
 use Rattle.packed_codec.proofs.Growing.{grown, Grows, Grows-bind, with_spot, along_grows}
+use Rattle.packed_codec.proofs.Inside.{Inside, second, along_inside}
 use Rattle.packed_codec.proofs.Taking.{bind_ok, ok_is, octets_left}
 use Rattle.packed_codec.proofs.RowLaws.{along_found, along_only}
 
@@ -69,6 +70,12 @@ spelled_is_read rows n limit v spelled rest lt p =
 abbrev finished : Value × ℕ → Reading (Value × ℕ)
 finished x = Ok x
 
+abbrev failed : PackedFault → Reading (Value × ℕ)
+failed f = Err f
+
+err_is : (f g : PackedFault) → failed f ≡ failed g → f ≡ g
+err_is f g e = cc
+
 -- fronts of one list that are as long are one
 same_front : (a b x y : List ℕ) → a ++ x ≡ b ++ y → length a ≡ length b → a ≡ b
 same_front a b x y e len = sym (take_at a x (length a) refl) ∙ ap (take (length a)) e ∙ take_at b y (length a) (sym len)
@@ -105,6 +112,64 @@ beginning_is_short rows n limit v front back lt are p some = by_case (read_at ro
     by_case (Err (faults.NotSpelled place kind)) e = absurd (wrong (faults.NotSpelled place kind) (λ q. cc) e)
     by_case (Err (faults.TooLong place)) e = absurd (wrong (faults.TooLong place) (λ q. cc) e)
     by_case (Err faults.NoMemory) e = absurd (wrong faults.NoMemory (λ q. cc) e)
+
+-- ---- the first fault
+
+abbrev PlaceInside : ℕ → Reading (Value × ℕ) → Type 0
+PlaceInside end (Ok x) = Unit {0}
+PlaceInside end (Err fault) = (fault ≢ faults.NoMemory) × ((place : ℕ) → IsAt fault place → place ≤ end)
+
+place_inside : (end : ℕ) (r : Reading (Value × Spot)) → Inside second end r → PlaceInside end (r >>= (λ x. Ok (x.0, x.1.place)))
+place_inside end (Ok x) h = tt
+place_inside end (Err (faults.NotSpelled at kind)) h = (λ q. cc, λ place e. omega arith)
+place_inside end (Err faults.Short) h = (λ q. cc, λ place e. absurd e)
+place_inside end (Err (faults.TooLong at)) h = (λ q. cc, λ place e. omega arith)
+place_inside end (Err faults.NoMemory) h = absurd h
+
+fault_inside : (rows : List TypeRow) (n limit : ℕ) (bytes : List ℕ) → PlaceInside (length bytes) (read_at rows n limit bytes)
+unfolding read_at reads
+fault_inside rows n limit bytes =
+    place_inside (length bytes) (reads rows n limit (start bytes)) ((along_inside rows (length rows) n).each limit (start bytes) (length bytes) (omega arith))
+
+at_fault : (rows : List TypeRow) (n limit : ℕ) (bytes : List ℕ) (fault : PackedFault) → read_at rows n limit bytes ≡ Err fault → PlaceInside (length bytes) (Err fault)
+at_fault rows n limit bytes fault e = subst (λ (r : Reading (Value × ℕ)). PlaceInside (length bytes) r) e (fault_inside rows n limit bytes)
+
+pub fault_is_first : FaultIsFirst
+fault_is_first rows n limit bytes fault place at e = ((at_fault rows n limit bytes fault e).1 place at, λ k lt. before k lt (read_at rows n limit (take k bytes)) refl)
+  where
+    whole : (k : ℕ) → read_at rows n limit (take k bytes ++ drop k bytes) ≡ Err fault
+    whole k = ap (read_at rows n limit) (take-append-drop k bytes) ∙ e
+
+    wrong : (k : ℕ) → k < place → (f : PackedFault) → f ≢ faults.Short → read_at rows n limit (take k bytes) ≡ Err f → ⊥
+    wrong k lt f ne d =
+        let stays = fault_stays rows n limit (take k bytes) (drop k bytes) f ne d in
+        let same : f ≡ fault = err_is f fault (sym stays ∙ whole k) in
+        let le = (at_fault rows n limit (take k bytes) f d).1 place (subst (λ (g : PackedFault). IsAt g place) (sym same) at) in
+        omega (arith, length-take k bytes)
+
+    before : (k : ℕ) → k < place → (r : Reading (Value × ℕ)) → read_at rows n limit (take k bytes) ≡ r → r ≡ Err faults.Short
+    before k lt (Ok x) d = let stays = read_stays rows n limit (take k bytes) (drop k bytes) x.0 x.1 d in let no_way : finished x ≡ Err fault = sym stays ∙ whole k in absurd cc
+    before k lt (Err faults.Short) d = refl
+    before k lt (Err (faults.NotSpelled p kind)) d = absurd (wrong k lt (faults.NotSpelled p kind) (λ q. cc) d)
+    before k lt (Err (faults.TooLong p)) d = absurd (wrong k lt (faults.TooLong p) (λ q. cc) d)
+    before k lt (Err faults.NoMemory) d = absurd (wrong k lt faults.NoMemory (λ q. cc) d)
+
+pub one_of_three : OneOfThree
+one_of_three rows n limit bytes lt are = by_case (read_at rows n limit bytes) refl
+  where
+    not_spelled : (f : PackedFault) → read_at rows n limit bytes ≡ Err f → BeginsSpelled rows n limit bytes → ⊥
+    not_spelled f e p =
+        let read = spelled_is_read rows n limit p.0 (take p.1 bytes) (drop p.1 bytes) lt p.3 in
+        let same : read_at rows n limit bytes ≡ finished (p.0, length (take p.1 bytes)) = ap (read_at rows n limit) (sym (take-append-drop p.1 bytes)) ∙ read in
+        let wrong : failed f ≡ finished (p.0, length (take p.1 bytes)) = sym e ∙ same in
+        cc
+
+    by_case : (r : Reading (Value × ℕ)) → read_at rows n limit bytes ≡ r → OneHolds rows n limit bytes
+    by_case (Ok x) e = let found = read_is_spelled rows n limit bytes x.0 x.1 are e in inl ((x.0, x.1, found.0, found.1), λ f q. let wrong : finished x ≡ failed f = sym e ∙ q in cc)
+    by_case (Err faults.Short) e = inr (inr (not_spelled faults.Short e, e))
+    by_case (Err (faults.NotSpelled place kind)) e = inr (inl (not_spelled (faults.NotSpelled place kind) e, faults.NotSpelled place kind, place, refl, e))
+    by_case (Err (faults.TooLong place)) e = inr (inl (not_spelled (faults.TooLong place) e, faults.TooLong place, place, refl, e))
+    by_case (Err faults.NoMemory) e = absurd ((at_fault rows n limit bytes faults.NoMemory e).0 refl)
 
 -- ---- for the calls
 

@@ -1,12 +1,12 @@
 -- The packed spellings of values, and the laws of reading and of spellings.
-use Rattle.std.specs.Prelude.{◌≡◌, ◌≢◌, ℕ, ◌<◌, ◌≤◌, ◌^◌, Bool, true, false, List, ◌++◌, length, take, Some, Result, Ok, Err, MatchResult, slice_get}
+use Rattle.std.specs.Prelude.{◌≡◌, ◌≢◌, ℕ, ◌<◌, ◌≤◌, ◌^◌, ◌⊎◌, Bool, true, false, List, ◌++◌, length, take, Some, Result, Ok, Err, MatchResult, slice_get}
 use Rattle.asn1_types.specs.declared.row.TypeRow.{TypeRow}
 use Rattle.asn1_types.specs.declared.row.TypeRow.TheVariants as row
 use Rattle.asn1_types.specs.Rows.{along}
 use Rattle.asn1_types.specs.Fits.{fits_by, nothing_fits, fits}
 use Rattle.asn1_types.specs.Value.{Value}
 use Rattle.packed_codec.specs.declared.fault.PackedFault.{PackedFault}
-use Rattle.packed_codec.specs.declared.fault.PackedFault.TheVariants.{Short, NoMemory}
+use Rattle.packed_codec.specs.declared.fault.PackedFault.TheVariants.{NotSpelled, Short, TooLong, NoMemory}
 use Rattle.packed_codec.specs.declared.public.Read.{Read}
 use Rattle.packed_codec.specs.Octets.{AreOctets}
 use Rattle.packed_codec.specs.Rules.{most_items, read_at}
@@ -67,6 +67,32 @@ ReadStays = (rows : List TypeRow) (n limit : ℕ) (bytes more : List ℕ) (v : V
 abbrev pub FaultStays : Type 0
 FaultStays = (rows : List TypeRow) (n limit : ℕ) (bytes more : List ℕ) (fault : PackedFault)
     → fault ≢ Short → read_at rows n limit bytes ≡ Err fault → read_at rows n limit (bytes ++ more) ≡ Err fault
+
+-- a fault stands at this place
+abbrev pub IsAt : PackedFault → ℕ → Type 0
+IsAt (NotSpelled at kind) place = at ≡ place
+IsAt Short place = ⊥
+IsAt (TooLong at) place = at ≡ place
+IsAt NoMemory place = ⊥
+
+-- a fault is the first: nothing to the left of its place is at fault, since octets that end there are only too few
+abbrev pub FaultIsFirst : Type 0
+FaultIsFirst = (rows : List TypeRow) (n limit : ℕ) (bytes : List ℕ) (fault : PackedFault) (place : ℕ) → IsAt fault place
+    → read_at rows n limit bytes ≡ Err fault → (place ≤ length bytes) × ((k : ℕ) → k < place → read_at rows n limit (take k bytes) ≡ Err Short)
+
+-- a first part of the octets is a spelling
+abbrev pub BeginsSpelled : List TypeRow → ℕ → ℕ → List ℕ → Type 0
+BeginsSpelled rows n limit bytes = (v : Value) × (used : ℕ) × (used ≤ length bytes) × Packed rows n limit v (take used bytes)
+
+abbrev pub OneHolds : List TypeRow → ℕ → ℕ → List ℕ → Type 0
+OneHolds rows n limit bytes =
+    (BeginsSpelled rows n limit bytes × ((fault : PackedFault) → read_at rows n limit bytes ≢ Err fault))
+    ⊎ (((BeginsSpelled rows n limit bytes → ⊥) × (fault : PackedFault) × (place : ℕ) × IsAt fault place × (read_at rows n limit bytes ≡ Err fault))
+    ⊎ ((BeginsSpelled rows n limit bytes → ⊥) × (read_at rows n limit bytes ≡ Err Short)))
+
+-- Of all octets one holds and no other: a first part is a spelling, there is a first fault, or they are too short.
+abbrev pub OneOfThree : Type 0
+OneOfThree = (rows : List TypeRow) (n limit : ℕ) (bytes : List ℕ) → limit < 2 ^ 32 → AreOctets bytes → OneHolds rows n limit bytes
 
 -- a proper beginning of a spelling is too short
 abbrev pub BeginningIsShort : Type 0

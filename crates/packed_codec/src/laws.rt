@@ -1,6 +1,6 @@
 //! The laws of the packed syntax, each the contract of a function that does nothing.
 
-ghost use Rattle.packed_codec.specs.Laws.{ReadIsSpelled, SpelledIsRead, OneSpelling, NoneBegins, ReadStays, FaultStays, BeginningIsShort, WrittenIsRead, FittingPacks};
+ghost use Rattle.packed_codec.specs.Laws.{ReadIsSpelled, SpelledIsRead, OneSpelling, NoneBegins, ReadStays, FaultStays, FaultIsFirst, OneOfThree, BeginningIsShort, WrittenIsRead, FittingPacks};
 
 /// What is read is spelled by the octets used.
 pub fn read_is_spelled()
@@ -30,6 +30,17 @@ pub fn read_stays()
 /// A fault stays so, whatever follows.
 pub fn fault_stays()
     ensures { FaultStays }
+{}
+
+/// A fault is the first from the left: octets that end before its place are `Short`.
+pub fn fault_is_first()
+    ensures { FaultIsFirst }
+{}
+
+/// Of all octets one holds and no other: a first part is a spelling, there is a first fault, or
+/// they are too short.
+pub fn one_of_three()
+    ensures { OneOfThree }
 {}
 
 /// A proper beginning of a spelling is `Short`.

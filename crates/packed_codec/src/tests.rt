@@ -45,6 +45,14 @@ const TAGGED: u32 = 11;
 
 const LISTS: u32 = 12;
 
+const BOTH: u32 = 13;
+
+const CODE: u32 = 14;
+
+const INVOKE: u32 = 15;
+
+const APDU: u32 = 16;
+
 fn part(alloc: Global, name: &str, inner: u32, optional: bool) -> Result<Part, RowRefusal> {
     Ok(Part {
         name: Name::from_str(alloc, name)?,
@@ -89,10 +97,35 @@ fn table_of(alloc: Global) -> Result<TypeTable, RowRefusal> {
         inner: TypeId(INTEGER),
     })?;
     table.add(TypeRow::SequenceOf(TypeId(FLAGS)))?;
+    let mut parts = Parts::new(alloc);
+    parts.push(part(alloc, "a", INTEGER, false)?)?;
+    parts.push(part(alloc, "b", BOOLEAN, false)?)?;
+    table.add(TypeRow::Set(parts))?;
+    add_apdu(alloc, &mut table)?;
     Ok(table)
 }
 
-const ROWS: [(u32, &'static [u8], Outcome); 44] = [
+/// An APDU whose invocations have a number as their argument, as far as it is a value: its kind is
+/// an alternative's place.
+fn add_apdu(alloc: Global, table: &mut TypeTable) -> Result<(), RowRefusal> {
+    let mut codes = Parts::new(alloc);
+    codes.push(part(alloc, "local", INTEGER, false)?)?;
+    codes.push(part(alloc, "global", OBJECT_ID, false)?)?;
+    table.add(TypeRow::Choice(codes))?;
+    let mut parts = Parts::new(alloc);
+    parts.push(part(alloc, "invoke", INTEGER, false)?)?;
+    parts.push(part(alloc, "linked", TAGGED, true)?)?;
+    parts.push(part(alloc, "code", CODE, false)?)?;
+    parts.push(part(alloc, "argument", INTEGER, true)?)?;
+    table.add(TypeRow::Sequence(parts))?;
+    let mut kinds = Parts::new(alloc);
+    kinds.push(part(alloc, "none", NULL, false)?)?;
+    kinds.push(part(alloc, "invocation", INVOKE, false)?)?;
+    table.add(TypeRow::Choice(kinds))?;
+    Ok(())
+}
+
+const ROWS: [(u32, &'static [u8], Outcome); 46] = [
     (BOOLEAN, &[0x01], Whole),
     (BOOLEAN, &[0x02], Content(0)),
     (BOOLEAN, &[], Short),
