@@ -194,17 +194,23 @@ const ROWS: [(u32, &'static [u8], Outcome); 46] = [
         &[0x00, 0x00, 0x00, 0x02, 0x00, 0x01, 0xFF, 0xFF],
         Content(4),
     ),
+    (BOTH, &[0x01, 0x07, 0x01], Whole),
+    (
+        APDU,
+        &[0x01, 0x01, 0x01, 0x00, 0x00, 0x01, 0x01, 0x01, 0x01, 0x05],
+        Whole,
+    ),
 ];
 
 /// A value that was read is written back as the same octets.
 fn check_whole(rt: &impl Abort, table: &TypeTable, of: TypeId, octets: &[u8], read: &Read) {
     assert_eq!(rt; read.used, octets.len());
-    assert_eq!(rt; packed_len(table, of, &read.value), octets.len() as u64);
+    let size = packed_len(table, of, &read.value);
+    assert_eq!(rt; size, octets.len() as u64);
+    assert!(rt; size <= 16);
     let mut room = [0xEE; 16];
-    assert_eq!(rt;
-        packed_write(table, of, &read.value, &mut room),
-        octets.len()
-    );
+    let behind = packed_write(table, of, &read.value, &mut room);
+    assert_eq!(rt; behind, octets.len());
     assert_eq!(rt; &room[..octets.len()], octets);
 }
 
@@ -213,6 +219,7 @@ fn worked_rows(rt: HostRuntime) -> Result<(), Fail> {
     let table = table_of(rt.alloc())?;
     for (of, octets, outcome) in &ROWS {
         let of = TypeId(*of);
+        assert!(rt; table.has(of));
         match (packed_read(rt.alloc(), &table, of, octets), outcome) {
             (Ok(read), Whole) => check_whole(&rt, &table, of, octets, &read),
             (Err(PackedFault::NotSpelled { place, kind }), Content(at)) => {
@@ -229,10 +236,12 @@ fn worked_rows(rt: HostRuntime) -> Result<(), Fail> {
 #[test]
 fn a_lower_limit(rt: HostRuntime) -> Result<(), Fail> {
     let table = table_of(rt.alloc())?;
+    let of = TypeId(FLAGS);
+    assert!(rt; table.has(of));
     let flags = [0x00, 0x00, 0x00, 0x02, 0x00, 0x01];
-    let whole = packed_read_within(rt.alloc(), &table, TypeId(FLAGS), &flags, 6)?;
+    let whole = packed_read_within(rt.alloc(), &table, of, &flags, 6)?;
     assert_eq!(rt; whole.used, 6);
-    let fault = packed_read_within(rt.alloc(), &table, TypeId(FLAGS), &flags, 5);
+    let fault = packed_read_within(rt.alloc(), &table, of, &flags, 5);
     assert!(rt; matches!(&fault, Err(PackedFault::TooLong { place: 5 })));
     Ok(())
 }
