@@ -1,6 +1,6 @@
 -- Arcs, as they are read one after the other.
-use Rattle.std.proofs.Common.{◌≡◌, ◌≢◌, ℕ, suc, ◌+◌, ◌-◌, ◌*◌, ◌%◌, ◌<◌, ◌≤◌, min, Bool, true, false, not, ◌&&◌, cond, drop, get_or, add-one, drop-cons, List, [], ◌∷◌, ◌++◌, length, Option, Some, None, refl, sym, ap, ◌∙◌, append_assoc, append-nil, arith, length-append, ◌⊎◌, inl, inr}
-use Rattle.std.specs.Prelude.{nat_le, nat_lt, nat_eq, ◌↔◌, IsTrue, IsSome, IfSome}
+use Rattle.std.proofs.Common.{◌≡◌, ◌≢◌, ℕ, ◌+◌, ◌-◌, ◌*◌, ◌%◌, ◌<◌, ◌≤◌, min, Bool, true, false, not, ◌&&◌, cond, drop, get_or, add-one, drop-cons, List, [], ◌∷◌, ◌++◌, length, Option, Some, None, refl, sym, ap, ◌∙◌, append_assoc, append-nil, arith, length-append, inl, inr}
+use Rattle.std.specs.Prelude.{nat_eq, ◌↔◌, IsTrue, IsSome, IfSome}
 use Rattle.std.specs.Bool.{MatchBool}
 use Rattle.std.specs.List.{list_all}
 use Rattle.std.proofs.lemmas.List.{drop_all}
@@ -8,7 +8,7 @@ use Rattle.std.proofs.lemmas.List.Folds.{list_all-append}
 use Rattle.std.proofs.lemmas.Bool.{lt-leb, le-ltb, lt-ltb, ne_eqb}
 use Rattle.osi_base.specs.Oid.{is_oid, IsOid}
 use Rattle.asn1_types.specs.Fits.{has_32_bits}
-use Rattle.packed_codec.specs.ObjectIds.{sized, push_front, subidentifiers_of, arcs_from, judged, judged_arcs, joined, IsNoEnd}
+use Rattle.packed_codec.specs.ObjectIds.{sized, push_front, subidentifiers_of, judged, judged_arcs, joined, IsNoEnd}
 
 -- what was found before, and what is still found
 abbrev pub arcs_behind : List ℕ → Option (List ℕ) → Option (List ℕ)
@@ -37,10 +37,6 @@ ends [] n None h = refl
 ends [] n (Some ns) h = judged_none (joined [] n) ns h
 ends (a ∷ arcs) n None h = refl
 ends (a ∷ arcs) n (Some ns) h = joins (a ∷ arcs) n (Some ns) ∙ judged_none (joined (a ∷ arcs) n) ns h
-
--- an arc of more than 32 bits at the end
-pub too_large : (arcs : List ℕ) (n : ℕ) → 4294967296 ≤ n → list_all has_32_bits (arcs ++ n ∷ []) ≡ false
-too_large arcs n le = rw (list_all-append has_32_bits arcs (n ∷ []), le-ltb n 4294967296 le, and_false (list_all has_32_bits arcs)) refl
 
 -- ---- one digit after the other
 

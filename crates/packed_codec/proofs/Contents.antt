@@ -1,5 +1,5 @@
 -- Rows behind a size: contents and values are one another's.
-use Rattle.std.proofs.Common.{◌≡◌, ℕ, ℤ, Bool, true, false, not, ◌&&◌, List, [], ◌∷◌, length, Option, Some, None, refl, sym, ap, ◌∙◌, subst}
+use Rattle.std.proofs.Common.{◌≡◌, ℕ, ℤ, Bool, true, false, not, ◌&&◌, List, length, Option, Some, None, refl, sym, ap, ◌∙◌, subst}
 use Rattle.std.specs.Prelude.{nat_le, int_lt, option_map}
 use Rattle.std.specs.List.{list_all}
 use Rattle.osi_base.specs.Oid.{is_oid}

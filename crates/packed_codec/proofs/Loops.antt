@@ -1,12 +1,11 @@
 -- Reading one after the other, as loops do.
-use Rattle.std.proofs.Common.{◌≡◌, ℕ, suc, ◌+◌, ◌-◌, ◌<◌, length, drop, get_or, add-one, drop-cons, List, [], ◌∷◌, ◌++◌, Option, Result, Ok, Err, refl, sym, ap, ◌∙◌, subst, append_assoc, arith}
+use Rattle.std.proofs.Common.{◌≡◌, ℕ, suc, ◌+◌, ◌-◌, ◌<◌, length, List, [], ◌∷◌, ◌++◌, Ok, Err, refl, sym, ap, ◌∙◌, subst, append_assoc, arith}
 use Rattle.asn1_types.specs.Value.{Value}
-use Rattle.asn1_types.specs.declared.row.Part.{Part}
 use Rattle.packed_codec.specs.declared.spot.Spot as code
 use Rattle.packed_codec.specs.declared.fault.PackedFault.{PackedFault}
 use Rattle.packed_codec.specs.declared.fault.PackedFault.TheVariants as faults
 use Rattle.packed_codec.specs.Reading.{GoesOn, Spot, Reading, ◌>>=◌, Fails}
-use Rattle.packed_codec.specs.Rules.{Reader, part_at, parts_at, items_at}
+use Rattle.packed_codec.specs.Rules.{Reader, items_at}
 
 -- what was found before, and what is still found
 abbrev pub behind : {X : Type 0} → List X → Reading (List X × Spot) → Reading (List X × Spot)
@@ -15,17 +14,6 @@ behind front read = read >>= λ x. Ok (front ++ x.0, x.1)
 regroup : {X : Type 0} (front : List X) (o : X) (read : Reading (List X × Spot)) → behind front (read >>= λ x. Ok (o ∷ x.0, x.1)) ≡ behind (front ++ o ∷ []) read
 regroup {X} front o (Ok x) = ap (λ (os : List X). Ok (os, x.1)) (simp append_assoc)
 regroup front o (Err f) = refl
-
-pub parts_go_on : (inner : ℕ → Reader) (limit : ℕ) (parts : List Part) (i : ℕ) (p : Part) (front : List (Option Value)) (s : Spot) (o : Option Value) (next : Spot) (total : Reading (List (Option Value) × Spot))
-    → i < length parts → p ≡ get_or parts i p → part_at (inner p.inner.0) p limit s ≡ Ok (o, next)
-    → behind front (parts_at inner limit s (drop i parts)) ≡ total
-    → behind (front ++ o ∷ []) (parts_at inner limit next (drop (i + 1) parts)) ≡ total
-unfolding parts_at
-parts_go_on inner limit parts i p front s o next total lt at read so_far =
-    let cell : drop i parts ≡ p ∷ drop (i + 1) parts = rw (add-one, drop-cons parts i p lt, ← at) refl in
-    let one : behind front (parts_at inner limit s (drop i parts)) ≡ behind (front ++ o ∷ []) (parts_at inner limit next (drop (i + 1) parts)) =
-    rw (cell, read) (regroup front o (parts_at inner limit next (drop (i + 1) parts))) in
-    sym one ∙ so_far
 
 pub items_go_on : (inner : Reader) (limit n i : ℕ) (front : List Value) (s : Spot) (v : Value) (next : Spot) (total : Reading (List Value × Spot))
     → i < n → inner limit s ≡ Ok (v, next)

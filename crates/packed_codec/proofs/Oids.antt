@@ -1,15 +1,15 @@
 -- Contents of OBJECT IDENTIFIER: what is read is what is written, and what is written is read.
-use Rattle.std.proofs.Common.{◌≡◌, ◌≢◌, ℕ, zero, suc, ◌+◌, ◌-◌, ◌*◌, ◌^◌, ◌≤◌, ◌<◌, min, Bool, true, false, not, ◌&&◌, ◌||◌, cond, List, [], ◌∷◌, ◌++◌, length, Option, Some, None, refl, sym, ap, ◌∙◌, subst, arith, append_assoc, ◌⊎◌, inl, inr}
+use Rattle.std.proofs.Common.{◌≡◌, ◌≢◌, ℕ, zero, suc, ◌+◌, ◌-◌, ◌*◌, ◌^◌, ◌≤◌, ◌<◌, Bool, true, false, ◌&&◌, ◌||◌, cond, List, [], ◌∷◌, ◌++◌, length, Option, Some, None, refl, sym, ap, ◌∙◌, subst, arith, ◌⊎◌, inl, inr}
 use Rattle.std.specs.Prelude.{nat_lt, nat_le, nat_eq, slice_index}
 use Rattle.std.specs.List.{list_all, flat_map, AllByRecursion}
-use Rattle.std.proofs.lemmas.Bool.{lt-ltb, le-ltb, ltb-false, ltb-true, eqb-true, eqb-false, ne_eqb, leb-true}
+use Rattle.std.proofs.lemmas.Bool.{lt-ltb, le-ltb, ltb-false, ltb-true, eqb-false, ne_eqb, leb-true}
 use Rattle.osi_base.specs.Oid.{is_oid}
 use Rattle.asn1_types.specs.Fits.{has_32_bits}
 use Rattle.packed_codec.specs.Octets.{AreOctets}
-use Rattle.packed_codec.specs.ObjectIds.{sized, push_front, subidentifiers_of, first_arc, arcs_from, judged, judged_arcs, arcs_of, base_128, subidentifiers, arcs_octets}
+use Rattle.packed_codec.specs.ObjectIds.{sized, push_front, subidentifiers_of, first_arc, arcs_from, judged_arcs, arcs_of, base_128, subidentifiers, arcs_octets}
 use Rattle.packed_codec.proofs.Taking.{octets_tail}
 use Rattle.packed_codec.proofs.Spelled.{and_true, some_if}
-use Rattle.packed_codec.proofs.Base128.{AreDigits, low_bits, number_128, IsBase128, low_small, low_large, base_unique, base_128_is}
+use Rattle.packed_codec.proofs.Base128.{AreDigits, number_128, IsBase128, low_small, low_large, base_unique, base_128_is}
 
 abbrev AreSubidentifiers : List ℕ → List ℕ → Type 0
 AreSubidentifiers [] contents = contents ≡ []

@@ -1,11 +1,8 @@
 -- Texts that are put into a room one behind the other.
-use Rattle.std.proofs.Common.{◌≡◌, ℕ, zero, suc, ◌+◌, ◌-◌, ◌/◌, ◌%◌, ◌≤◌, ◌<◌, List, [], ◌∷◌, ◌++◌, length, take, drop, refl, sym, ap, ◌∙◌, subst, arith, length-append, append_assoc}
-use Rattle.std.proofs.Common.{set}
+use Rattle.std.proofs.Common.{◌≡◌, ℕ, zero, suc, ◌+◌, ◌≤◌, List, [], ◌∷◌, ◌++◌, length, take, drop, refl, sym, ap, ◌∙◌, subst, arith, length-append, append_assoc}
 use Rattle.std.proofs.Math.Seq.{drop-nil}
-use Rattle.std.proofs.lemmas.List.{take_at, drop_at, take-append-drop, length-take, length-drop, append-nil, take-set, drop-set}
-use borrow.Rule.Slice.PartMut.{put_mid}
-use Rattle.byteorder.specs.Endian.{big_bytes}
-use Rattle.packed_codec.specs.Writing.{IsPut, counted}
+use Rattle.std.proofs.lemmas.List.{take_at, drop_at, take-append-drop, length-take, length-drop, append-nil}
+use Rattle.packed_codec.specs.Writing.{IsPut}
 
 drop_drop : (m n : ℕ) (xs : List ℕ) → drop n (drop m xs) ≡ drop (m + n) xs
 drop_drop zero n xs = ap (λ (k : ℕ). drop k xs) (omega arith)
@@ -113,17 +110,6 @@ pub filled : (whole rest : List ℕ) (at next : ℕ) (old new : List ℕ) → re
 filled whole rest at next old new e f =
     as_text f.front whole at next old new (sym (append-nil f.front) ∙ ap (λ (x : List ℕ). f.front ++ x) (sym e) ∙ f.parts) f.put
 
--- ---- counts
-
--- a count is as its low 32 bits
-pub low_count : (n : ℕ) → big_bytes 4 (n % 4294967296) ≡ big_bytes 4 n
-low_count n =
-    let a : n % 4294967296 / 16777216 % 256 ≡ n / 16777216 % 256 = omega arith in
-    let b : n % 4294967296 / 65536 % 256 ≡ n / 65536 % 256 = omega arith in
-    let c : n % 4294967296 / 256 % 256 ≡ n / 256 % 256 = omega arith in
-    let d : n % 4294967296 % 256 ≡ n % 256 = omega arith in
-    λ i. a i ∷ b i ∷ c i ∷ d i ∷ []
-
 -- a count that is put before what stands there
 pub before : (c text : List ℕ) (at mid end next : ℕ) (old half new : List ℕ) → at + length (c ++ text) ≤ length old → mid ≡ at + length c → IsPut text mid old half end → IsPut c at half new next → IsPut (c ++ text) at old new end
 before c text at mid end next old half new le m p q =
@@ -143,15 +129,3 @@ before c text at mid end next old half new le m p q =
     take_front (suc at) zero xs ys le lx = absurd (omega arith)
     take_front (suc at) (suc mid) [] ys le lx = absurd (omega arith)
     take_front (suc at) (suc mid) (x ∷ xs) ys le lx = ap (λ (l : List ℕ). x ∷ l) (take_front at mid xs ys (omega arith) (omega arith))
-
--- a text at the front of a room
-pub at_front : (text old new : List ℕ) (next : ℕ) → IsPut text 0 old new next → new ≡ text ++ drop (length text) old
-at_front text old new next p = p.holds ∙ ap (λ (k : ℕ). text ++ drop k old) (omega arith)
-
--- ---- single writes
-
-pub pasted : (text : List ℕ) (at k : ℕ) (old : List ℕ) → k ≡ length text → put_mid at k old text ≡ take at old ++ (text ++ drop (at + length text) old)
-pasted text at k old e = ap (λ (x : List ℕ). take at old ++ (text ++ x)) (drop_drop at k old ∙ ap (λ (n : ℕ). drop (at + n) old) e)
-
-pub put_one : (at o : ℕ) (old : List ℕ) → at < length old → set old at o ≡ take at old ++ ((o ∷ []) ++ drop (at + 1) old)
-put_one at o old lt = sym (take-append-drop at (set old at o)) ∙ λ i. take-set old at o i ++ drop-set old at o lt i

@@ -1,18 +1,17 @@
 -- Each row: what is read is spelled so, and what is spelled so is read; and so down the table.
-use Rattle.std.proofs.Common.{◌≡◌, ◌≢◌, ℕ, zero, suc, ◌+◌, ◌-◌, ◌^◌, ◌≤◌, ◌<◌, Bool, true, false, ◌&&◌, cond, List, [], ◌∷◌, ◌++◌, length, Option, Some, None, Result, Ok, Err, refl, sym, ap, ◌∙◌, arith}
+use Rattle.std.proofs.Common.{◌≡◌, ◌≢◌, ℕ, zero, suc, Bool, ◌&&◌, List, length, Option, Some, None, refl, ap, ◌∙◌}
 use Rattle.std.specs.Prelude.{slice_get}
 use Rattle.asn1_types.specs.declared.row.TypeRow.{TypeRow}
 use Rattle.asn1_types.specs.declared.row.TypeRow.TheVariants as row
 use Rattle.asn1_types.specs.Rows.{of_row, along}
-use Rattle.asn1_types.specs.Fits.{has_32_bits, integer_fits, enumerated_fits, octets_fit, text_fits, object_id_fits, parts_fit, sequence_fits, list_fits, alternative_fits, choice_fits, fits_by, nothing_fits, fits}
+use Rattle.asn1_types.specs.Fits.{has_32_bits, integer_fits, enumerated_fits, octets_fit, text_fits, object_id_fits, fits_by, nothing_fits, fits}
 use Rattle.asn1_types.specs.Value.{Value}
 use Rattle.packed_codec.specs.declared.fault.PackedFault.TheVariants as faults
-use Rattle.packed_codec.specs.Reading.{Spot, Reading}
 use Rattle.packed_codec.specs.Rules.{Reader, dead, tagged_at, read_by}
 use Rattle.packed_codec.specs.Writing.{Writer, number_written, octets_written, text_written, object_id_written, nothing_written, write_by}
 use Rattle.packed_codec.specs.Laws.{packs_by, packs, HasNoAny, FittingPacks}
 use Rattle.packed_codec.proofs.Taking.{if_ok}
-use Rattle.packed_codec.proofs.Spelled.{at_spot, ReadAs, Found, Only, and_true, boolean_found, boolean_only, null_found, null_only, string_found, string_only, number_found, number_only, bits_found, bits_only}
+use Rattle.packed_codec.proofs.Spelled.{Found, Only, and_true, boolean_found, boolean_only, null_found, null_only, string_found, string_only, number_found, number_only, bits_found, bits_only}
 use Rattle.packed_codec.proofs.Contents.{integer_sized, enumerated_sized, octets_sized, text_sized, object_id_sized}
 use Rattle.packed_codec.proofs.Parts.{sequence_found, list_found, choice_found}
 use Rattle.packed_codec.proofs.PartsBack.{sequence_back, list_back, choice_back}
@@ -71,9 +70,6 @@ module _ (test : ℕ → Value → Bool) (write : ℕ → Writer) (inner : ℕ �
 -- ---- down the table
 
 module _ (rows : List TypeRow) where
-  test_at : ℕ → ℕ → Value → Bool
-  test_at turns n = along nothing_fits packs_by rows turns n
-
   of_row_found : (turns : ℕ) → ((m : ℕ) → Found (along nothing_fits packs_by rows turns m) (along nothing_written write_by rows turns m) (along dead read_by rows turns m)) → (o : Option TypeRow)
       → Found (of_row nothing_fits (packs_by (along nothing_fits packs_by rows turns)) o) (of_row nothing_written (write_by (along nothing_written write_by rows turns)) o) (of_row dead (read_by (along dead read_by rows turns)) o)
   of_row_found turns h None = dead_found nothing_fits nothing_written

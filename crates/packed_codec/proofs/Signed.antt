@@ -1,12 +1,11 @@
 -- The numbers that octets are.
-use Rattle.std.proofs.Common.{◌≡◌, ℕ, zero, suc, ◌+◌, ◌-◌, ◌*◌, ◌^◌, ◌<◌, ◌≤◌, ℤ, pos, negsuc, Bool, true, false, cond, List, [], ◌∷◌, ◌++◌, length, take, drop, refl, sym, ap, ◌∙◌, arith, get_or, add_assoc}
+use Rattle.std.proofs.Common.{◌≡◌, ℕ, zero, suc, ◌+◌, ◌-◌, ◌*◌, ◌^◌, ◌<◌, ◌≤◌, ℤ, negsuc, List, [], ◌∷◌, length, sym, ap, ◌∙◌, arith, add_assoc}
 use Rattle.std.specs.Int.{cast_signed, cast_unsigned}
-use Rattle.std.specs.Prelude.{slice_index, nat_lt, if◌then◌else◌}
+use Rattle.std.specs.Prelude.{slice_index}
 use Rattle.std.specs.Int.{w64}
 use Rattle.std.proofs.Math.Nat.{pow-le-pow_right, pow-suc, add-mul, mul_assoc, mul_comm, mul-le-mul_right}
 use Rattle.std.proofs.lemmas.Bool.{le-ltb, lt-ltb}
 use Rattle.std.proofs.lemmas.Int.{to_z_pos, of_z-to_z}
-use Rattle.std.proofs.lemmas.List.{get_or-drop, get_or-take, get_or_past, length-take}
 use Rattle.packed_codec.specs.Octets.{AreOctets}
 use Rattle.asn1_types.specs.Whole.{number_256}
 use Rattle.packed_codec.specs.Numbers.{signed_of}

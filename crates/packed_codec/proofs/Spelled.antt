@@ -1,5 +1,5 @@
 -- Values of one field, and values behind a size: what is read is spelled so, and what is spelled so is read.
-use Rattle.std.proofs.Common.{◌≡◌, ◌≢◌, ℕ, zero, suc, ◌+◌, ◌-◌, ◌^◌, ◌≤◌, ◌<◌, Bool, true, false, ◌&&◌, cond, List, [], ◌∷◌, ◌++◌, length, Option, Some, None, Result, Ok, Err, refl, sym, ap, ◌∙◌, subst, arith, length-append, append_assoc}
+use Rattle.std.proofs.Common.{◌≡◌, ℕ, zero, suc, ◌+◌, ◌-◌, ◌^◌, ◌≤◌, ◌<◌, Bool, true, false, ◌&&◌, cond, List, [], ◌∷◌, ◌++◌, length, Option, Some, None, Ok, refl, sym, ap, ◌∙◌, subst, arith, length-append, append_assoc}
 use Rattle.std.specs.Prelude.{nat_lt, nat_eq}
 use Rattle.std.specs.List.{list_all}
 use Rattle.std.proofs.lemmas.Bool.{ne_eqb, eqb-true}
@@ -9,12 +9,12 @@ use Rattle.asn1_types.proofs.FitLaws.{all_octets}
 use Rattle.asn1_types.specs.Value.{Value, boolean, integer, null, octets, bits, object_id, text, parts, list, chosen, any}
 use Rattle.packed_codec.specs.declared.fault.PackedFault.TheVariants as faults
 use Rattle.packed_codec.specs.Octets.{AreOctets}
-use Rattle.packed_codec.specs.Reading.{Spot, Reading, ◌>>=◌}
+use Rattle.packed_codec.specs.Reading.{Spot}
 use Rattle.packed_codec.specs.Fields.{announced_at, octet_at, count_at}
 use Rattle.packed_codec.specs.Numbers.{is_size}
 use Rattle.packed_codec.specs.Rules.{Reader, judge, boolean_rule, boolean_at, null_at, sized_at, number_at, string_at, bits_at, bits_size, bits_rule, most_items}
 use Rattle.packed_codec.specs.Writing.{Writer, counted, with_size, boolean_written, nothing_written, bits_written, items}
-use Rattle.packed_codec.proofs.Taking.{bind_ok, if_ok, done, ok_is, Took, took_octets, took_text, Announced, announced_found, announced_again, octet_found, octet_again, count_found, count_again}
+use Rattle.packed_codec.proofs.Taking.{bind_ok, if_ok, ok_is, Took, took_octets, took_text, announced_found, announced_again, octet_found, octet_again, count_found, count_again}
 
 abbrev pub at_spot : ℕ → List ℕ → ℕ → Spot
 at_spot place rest left = record { place = place; rest = rest; left = left }

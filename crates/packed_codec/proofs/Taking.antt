@@ -1,5 +1,5 @@
 -- Fields: what is read is spelled so, and what is spelled so is read.
-use Rattle.std.proofs.Common.{◌≡◌, ℕ, zero, suc, ◌+◌, ◌-◌, ◌*◌, ◌/◌, ◌%◌, ◌^◌, ◌≤◌, ◌<◌, Bool, true, false, cond, List, [], ◌∷◌, ◌++◌, length, take, drop, Result, Ok, Err, refl, sym, ap, ◌∙◌, subst, arith, length-append, append_assoc, ◌⊎◌, inl, inr}
+use Rattle.std.proofs.Common.{◌≡◌, ℕ, zero, suc, ◌+◌, ◌*◌, ◌/◌, ◌%◌, ◌^◌, ◌≤◌, ◌<◌, Bool, true, false, cond, List, [], ◌∷◌, ◌++◌, length, take, Ok, Err, refl, sym, ap, ◌∙◌, subst, arith, length-append, ◌⊎◌, inl, inr}
 use Rattle.std.specs.Prelude.{nat_lt, nat_eq, slice_index}
 use Rattle.std.proofs.lemmas.Bool.{le-ltb, ltb-false, ne_eqb}
 use Rattle.std.proofs.lemmas.List.{take_at, drop_at, take-append-drop, length-take}
@@ -8,7 +8,7 @@ use Rattle.byteorder.specs.Numbers.{big_number-reads_back}
 use Rattle.packed_codec.specs.declared.fault.PackedFault.{PackedFault}
 use Rattle.packed_codec.specs.declared.fault.PackedFault.TheVariants as faults
 use Rattle.packed_codec.specs.Octets.{AreOctets}
-use Rattle.packed_codec.specs.Reading.{Spot, Reading, ◌>>=◌, refuse, within}
+use Rattle.packed_codec.specs.Reading.{Spot, Reading, ◌>>=◌, within}
 use Rattle.packed_codec.specs.Fields.{moved, announced_at, field_at, octet_at, count_at}
 
 -- the value of a step that did not fail

@@ -11,7 +11,7 @@ use Rattle.packed_codec.specs.Reading.{Spot, Reading, ◌>>=◌, Gives}
 use Rattle.packed_codec.specs.Rules.{reads, most_items, start, read_at}
 use Rattle.packed_codec.specs.Writing.{packed, items}
 use Rattle.packed_codec.specs.Laws.{packs, Packed, IsRead, ReadIsSpelled, SpelledIsRead, NoneBegins, ReadStays, FaultStays, IsAt, FaultIsFirst, BeginsSpelled, OneHolds, OneOfThree, BeginningIsShort, WrittenIsRead}
-use Rattle.packed_codec.proofs.Growing.{grown, Grows, Grows-bind, with_spot, along_grows}
+use Rattle.packed_codec.proofs.Growing.{Grows, Grows-bind, with_spot, along_grows}
 use Rattle.packed_codec.proofs.Inside.{Inside, second, along_inside}
 use Rattle.packed_codec.proofs.Taking.{bind_ok, ok_is, octets_left}
 use Rattle.packed_codec.proofs.RowLaws.{along_found, along_only}

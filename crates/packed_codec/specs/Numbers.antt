@@ -1,5 +1,5 @@
 -- The contents of INTEGER and ENUMERATED: two's complement in as few octets as hold it (X.690 8.3).
-use Rattle.std.specs.Prelude.{ℕ, suc, ◌-◌, ◌^◌, ℤ, pos, negsuc, Bool, true, false, not, ◌&&◌, ◌||◌, Option, Some, None, List, [], ◌∷◌, length, nat_lt, nat_le, nat_eq, slice_index, if◌then◌else◌}
+use Rattle.std.specs.Prelude.{ℕ, suc, ◌-◌, ◌^◌, ℤ, pos, negsuc, Bool, false, not, ◌&&◌, ◌||◌, Option, Some, None, List, [], ◌∷◌, length, nat_lt, nat_le, nat_eq, slice_index, if◌then◌else◌}
 use Rattle.std.specs.Int.{w64, cast_unsigned, bytes_high_first}
 use Rattle.asn1_types.specs.Whole.{number_256}
 

@@ -204,8 +204,9 @@ fn put_items(
 }
 
 /// Puts the packed spelling of a value at the front of the room, and answers how many octets it
-/// has. What stands behind them is unchanged. No memory is taken. Of a value that fits this type it
-/// is the only spelling; of others it has the parts that can be written.
+/// has. What stands behind them is unchanged. No memory is taken. A value that fits this type, in a
+/// table without `Any`, has no other spelling; the limits on octets and items are the readers', and
+/// a count of more than 32 bits keeps its low ones. Of other values what doesn't fit is left out.
 pub fn packed_write(table: &TypeTable, of: TypeId, value: &Val, out: &mut [u8]) -> usize
     requires { length (packed table.now of.0 value.now) ≤ length out.old }
     ensures count { result ≡ length (packed table.now of.0 value.now) }

@@ -1,6 +1,4 @@
-use Rattle.std.proofs.Common.{◌≡◌, zero, length, ap, arith}
-use Rattle.std.specs.List.{flat_map}
-use Rattle.packed_codec.specs.ObjectIds.{base_128}
+use Rattle.std.proofs.Common.{length, ap, arith}
 use Rattle.packed_codec.proofs.Sums.{few_is, grow, all_grown}
 use Rattle.packed_codec.proofs.WriteLaws.{numbers_cell, numbers_done}
 use Rattle.packed_codec.proofs.measure.of_each.Goals as goal

@@ -1,4 +1,4 @@
-use Rattle.std.proofs.Common.{ℕ, zero, ◌<◌, ◌≤◌, ◌^◌, ◌*◌, ◌+◌, arith}
+use Rattle.std.proofs.Common.{zero, ◌<◌, ◌≤◌, ◌^◌, arith}
 use Rattle.std.proofs.Math.Nat.{pow-le-pow_right}
 use Rattle.packed_codec.proofs.numbers.number_256.Goals as goal
 

@@ -1,9 +1,7 @@
-use Rattle.std.proofs.Common.{◌≡◌, ◌+◌, ◌<◌, ◌^◌, ◌∙◌, ap, sym, arith, to_z, of_z}
-use Rattle.std.specs.Int.{w64}
-use Rattle.std.proofs.lemmas.Int.{of_z-to_z}
+use Rattle.std.proofs.Common.{◌+◌, ◌∙◌, ap, arith}
 use Rattle.asn1_types.specs.Whole.{number_256}
 use Rattle.packed_codec.specs.Octets.{AreOctets}
-use Rattle.packed_codec.proofs.Signed.{number_below, number_high, signed_low, signed_high, again}
+use Rattle.packed_codec.proofs.Signed.{number_high, signed_low, signed_high, again}
 use Rattle.packed_codec.proofs.numbers.signed_of.Goals as goal
 
 pub overflow_add-number : goal.overflow_add-number

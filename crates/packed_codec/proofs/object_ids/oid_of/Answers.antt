@@ -1,4 +1,4 @@
-use Rattle.std.proofs.Common.{◌≡◌, true, sym, ◌∙◌}
+use Rattle.std.proofs.Common.{◌≡◌, true}
 use Rattle.std.specs.List.{list_all}
 use Rattle.asn1_types.specs.Fits.{has_32_bits}
 use Rattle.packed_codec.proofs.Arcs.{arcs_judged}

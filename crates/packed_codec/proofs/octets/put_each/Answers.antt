@@ -1,4 +1,4 @@
-use Rattle.std.proofs.Common.{drop, arith}
+use Rattle.std.proofs.Common.{arith}
 use Rattle.std.specs.List.{flat_map}
 use Rattle.packed_codec.specs.ObjectIds.{base_128}
 use Rattle.packed_codec.proofs.Room.{unfilled, room_next, fill, filled}

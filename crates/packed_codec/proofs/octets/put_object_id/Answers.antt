@@ -1,8 +1,8 @@
-use Rattle.std.proofs.Common.{length, arith, length-append, subst, ℕ, ◌-◌, ◌+◌, ◌≡◌}
+use Rattle.std.proofs.Common.{length, arith, subst, ℕ, ◌-◌, ◌+◌, ◌≡◌}
 use Rattle.byteorder.specs.Endian.{big_bytes}
 use Rattle.packed_codec.specs.ObjectIds.{arcs_octets}
 use Rattle.packed_codec.specs.Writing.{IsPut}
-use Rattle.packed_codec.proofs.Room.{before, kept}
+use Rattle.packed_codec.proofs.Room.{before}
 use Rattle.packed_codec.proofs.octets.put_object_id.Goals as goal
 
 pub returns : goal.returns

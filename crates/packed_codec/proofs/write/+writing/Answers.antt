@@ -1,14 +1,13 @@
-use Rattle.std.proofs.Common.{◌≡◌, ◌<◌, ◌≤◌, ◌+◌, ◌∷◌, [], min, length, drop, sym, ap, ◌∙◌, arith, Some, None, length-append}
+use Rattle.std.proofs.Common.{◌≡◌, ◌<◌, [], length, sym, ap, ◌∙◌, arith, Some}
 use Rattle.std.specs.Prelude.{slice_get}
 use Rattle.std.specs.Option.{option_copied}
-use Rattle.byteorder.specs.Endian.{big_bytes}
 use Rattle.asn1_types.specs.declared.row.TypeRow.TheVariants.{Sequence, Set, SequenceOf, Choice, Tagged}
 use Rattle.asn1_types.specs.ValueView.{parts_of, values_of, value_of}
 use Rattle.asn1_types.proofs.Sound.{each_part, down_as, choice_few}
 use Rattle.asn1_types.proofs.FitLaws.{each_slot, not_within, false_not}
-use Rattle.packed_codec.specs.Writing.{packed, write_by, part_written, parts_written, values_written, how_many, IsPut}
-use Rattle.packed_codec.proofs.Room.{nothing, both, kept, as_text, unfilled, room_next, fill, filled, both_as, room_behind}
-use Rattle.packed_codec.proofs.WriteLaws.{packed_at, packed_past, parts_cell, parts_done, values_cell, values_done, many_is, room_as}
+use Rattle.packed_codec.specs.Writing.{packed, parts_written, values_written}
+use Rattle.packed_codec.proofs.Room.{nothing, as_text, unfilled, room_next, fill, filled, both_as, room_behind}
+use Rattle.packed_codec.proofs.WriteLaws.{packed_at, packed_past, parts_cell, parts_done, values_cell, values_done, room_as}
 use Rattle.packed_codec.proofs.Texts.{choice_text, list_text, plain_text, marked_text}
 use Rattle.packed_codec.proofs.write.+writing.Goals as goal
 
