@@ -1,0 +1,47 @@
+-- Reading one after the other, as loops do.
+use Rattle.std.proofs.Common.{◌≡◌, ℕ, suc, ◌+◌, ◌-◌, ◌<◌, length, List, [], ◌∷◌, ◌++◌, Ok, Err, refl, sym, ap, ◌∙◌, subst, append_assoc, arith}
+use Rattle.asn1_types.specs.Value.{Value}
+use Rattle.packed_codec.specs.declared.spot.Spot as code
+use Rattle.packed_codec.specs.declared.fault.PackedFault.{PackedFault}
+use Rattle.packed_codec.specs.declared.fault.PackedFault.TheVariants as faults
+use Rattle.packed_codec.specs.Reading.{GoesOn, Spot, Reading, ◌>>=◌, Fails}
+use Rattle.packed_codec.specs.Rules.{Reader, items_at}
+
+-- what was found before, and what is still found
+abbrev pub behind : {X : Type 0} → List X → Reading (List X × Spot) → Reading (List X × Spot)
+behind front read = read >>= λ x. Ok (front ++ x.0, x.1)
+
+regroup : {X : Type 0} (front : List X) (o : X) (read : Reading (List X × Spot)) → behind front (read >>= λ x. Ok (o ∷ x.0, x.1)) ≡ behind (front ++ o ∷ []) read
+regroup {X} front o (Ok x) = ap (λ (os : List X). Ok (os, x.1)) (simp append_assoc)
+regroup front o (Err f) = refl
+
+pub items_go_on : (inner : Reader) (limit n i : ℕ) (front : List Value) (s : Spot) (v : Value) (next : Spot) (total : Reading (List Value × Spot))
+    → i < n → inner limit s ≡ Ok (v, next)
+    → behind front (items_at inner (n - i) limit s) ≡ total
+    → behind (front ++ v ∷ []) (items_at inner (n - (i + 1)) limit next) ≡ total
+unfolding items_at
+items_go_on inner limit n i front s v next total lt read so_far =
+    let cell : n - i ≡ suc (n - (i + 1)) = omega arith in
+    let one : behind front (items_at inner (n - i) limit s) ≡ behind (front ++ v ∷ []) (items_at inner (n - (i + 1)) limit next) =
+    rw (cell, read) (regroup front v (items_at inner (n - (i + 1)) limit next)) in
+    sym one ∙ so_far
+
+-- what fails at its first step fails so
+Fails-bind : {A B : Type 0} (e : PackedFault) (read : Reading A) (f : A → Reading B) → Fails e read → Fails e (read >>= f)
+Fails-bind (faults.NotSpelled place kind) read f h = rw h refl
+Fails-bind faults.Short read f h = rw h refl
+Fails-bind (faults.TooLong place) read f h = rw h refl
+Fails-bind faults.NoMemory read f h = tt
+
+pub items_fail : (e : PackedFault) (inner : Reader) (limit n i : ℕ) (front : List Value) (s : Spot) (total : Reading (List Value × Spot))
+    → i < n → Fails e (inner limit s) → behind front (items_at inner (n - i) limit s) ≡ total → Fails e total
+unfolding items_at
+items_fail e inner limit n i front s total lt h so_far =
+    let cell : n - i ≡ suc (n - (i + 1)) = omega arith in
+    let one : Fails e (items_at inner (suc (n - (i + 1))) limit s) = Fails-bind e (inner limit s) _ h in
+    let F : ℕ → Type 0 = λ k. Fails e (items_at inner k limit s) in
+    let R : Reading (List Value × Spot) → Type 0 = λ r. Fails e r in
+    subst R so_far (Fails-bind e (items_at inner (n - i) limit s) _ (subst F (sym cell) one))
+
+pub goes_then : {place len : ℕ} {mid to : code.Spot} → GoesOn place len mid → GoesOn mid.place (length mid.rest.now) to → GoesOn place len to
+goes_then a b = record { whole = omega (arith, a.whole, b.whole); onward = omega (arith, a.onward, b.onward) }

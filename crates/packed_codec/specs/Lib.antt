@@ -1,0 +1,8 @@
+pub mod Octets
+pub mod Reading
+pub mod Fields
+pub mod Numbers
+pub mod ObjectIds
+pub mod Rules
+pub mod Writing
+pub mod Laws

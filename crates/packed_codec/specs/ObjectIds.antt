@@ -1,0 +1,77 @@
+-- The contents of OBJECT IDENTIFIER (X.690 8.19).
+use Rattle.std.specs.Prelude.{◌≡◌, ℕ, ◌<◌, ◌⊎◌, ◌++◌, length, ◌+◌, ◌-◌, ◌*◌, ◌/◌, ◌%◌, ◌^◌, min, Bool, true, false, not, ◌&&◌, Option, Some, None, List, [], ◌∷◌, nat_lt, nat_eq, if◌then◌else◌}
+use Rattle.std.specs.List.{list_all, flat_map}
+use Rattle.osi_base.specs.Oid.{is_oid}
+use Rattle.asn1_types.specs.Fits.{has_32_bits}
+
+-- ---- read
+
+-- numbers that are no arc are all one
+abbrev pub sized : ℕ → ℕ
+sized n = min n (2 ^ 40)
+
+abbrev pub push_front : ℕ → Option (List ℕ) → Option (List ℕ)
+push_front n None = None
+push_front n (Some ns) = Some (n ∷ ns)
+
+-- The subidentifiers: of each, seven bits an octet, with bit 8 set in all but the last and no leading `80`
+-- (X.690 8.19.2). Behind `number`, the digits of a subidentifier so far; `begun` says that there are some.
+abbrev pub subidentifiers_of : ℕ → Bool → List ℕ → Option (List ℕ)
+subidentifiers_of number begun [] = if begun then None else Some []
+subidentifiers_of number begun (digit ∷ digits) =
+    if nat_eq digit 128 && not begun then None
+    else (if nat_lt digit 128 then push_front (sized (128 * number + digit)) (subidentifiers_of 0 false digits)
+    else subidentifiers_of (sized (128 * number + (digit - 128))) true digits)
+
+-- 40 times the first arc and the second arc make the first subidentifier (X.690 8.19.4)
+abbrev pub first_arc : ℕ → ℕ
+first_arc n = if nat_lt n 40 then 0 else (if nat_lt n 80 then 1 else 2)
+
+abbrev pub arcs_from : List ℕ → List ℕ
+arcs_from [] = []
+arcs_from (first ∷ more) = first_arc first ∷ (first - 40 * first_arc first) ∷ more
+
+-- arcs, if each has 32 bits and they are an object identifier
+abbrev pub judged : List ℕ → Option (List ℕ)
+judged arcs = if list_all has_32_bits arcs && is_oid arcs then Some arcs else None
+
+abbrev pub judged_arcs : Option (List ℕ) → Option (List ℕ)
+judged_arcs None = None
+judged_arcs (Some ns) = judged (arcs_from ns)
+
+unfoldable pub arcs_of : List ℕ → Option (List ℕ)
+arcs_of octets = judged_arcs (subidentifiers_of 0 false octets)
+
+-- the arcs, once one more subidentifier is read
+abbrev pub joined : List ℕ → ℕ → List ℕ
+joined [] n = arcs_from (n ∷ [])
+joined (arc ∷ arcs) n = (arc ∷ arcs) ++ n ∷ []
+
+-- no object identifier begins with these arcs
+abbrev pub IsNoEnd : List ℕ → Type 0
+IsNoEnd arcs = (list_all has_32_bits arcs ≡ false) ⊎ (32 < length arcs)
+
+-- ---- written
+
+-- five digits of seven bits, with bit 8 set in all but the last
+abbrev pub digits_128 : ℕ → List ℕ
+digits_128 n =
+    (128 + n / 2 ^ 28 % 128) ∷ (128 + n / 2 ^ 21 % 128) ∷ (128 + n / 2 ^ 14 % 128) ∷ (128 + n / 2 ^ 7 % 128) ∷ (n % 128) ∷ []
+
+-- without leading zeros
+abbrev pub without_zeros : List ℕ → List ℕ
+without_zeros [] = []
+without_zeros (digit ∷ digits) = if nat_eq digit 128 then without_zeros digits else digit ∷ digits
+
+-- a subidentifier of at most 35 bits (X.690 8.19.2)
+unfoldable pub base_128 : ℕ → List ℕ
+base_128 n = without_zeros (digits_128 n)
+
+-- the first two arcs make one subidentifier
+abbrev pub subidentifiers : List ℕ → List ℕ
+subidentifiers [] = []
+subidentifiers (root ∷ []) = root ∷ []
+subidentifiers (root ∷ second ∷ arcs) = (40 * root + second) ∷ arcs
+
+unfoldable pub arcs_octets : List ℕ → List ℕ
+arcs_octets arcs = flat_map base_128 (subidentifiers arcs)

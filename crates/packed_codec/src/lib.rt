@@ -1,0 +1,29 @@
+//! The packed syntax, this project's own, for the types of `asn1_types`: one spelling for each
+//! value, without tags and without lengths of values that hold values.
+#![tactic(auto)]
+
+mod fault;
+mod fields;
+mod laws;
+mod measure;
+mod numbers;
+mod object_ids;
+mod octets;
+mod public;
+mod put;
+mod read;
+mod spot;
+mod strings;
+mod write;
+
+pub use fault::PackedFault;
+pub use laws::{
+    beginning_is_short, fault_is_first, fault_stays, fitting_packs, none_begins, one_of_three,
+    one_spelling, read_is_spelled, read_stays, spelled_is_read, written_is_read,
+};
+pub use measure::packed_len;
+pub use public::{LIMIT, Read, packed_read, packed_read_within};
+pub use write::packed_write;
+
+#[cfg(test)]
+mod tests;

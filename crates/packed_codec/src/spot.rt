@@ -1,0 +1,10 @@
+//! Where reading stands.
+
+/// A place in the octets, what stands from there on, and what may still be counted.
+#[derive(Clone, Copy)]
+pub struct Spot<'a> {
+    pub place: usize,
+    pub rest: &'a [u8],
+    /// How many items the lists that follow may have together.
+    pub left: u32,
+}

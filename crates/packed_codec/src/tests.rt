@@ -1,0 +1,247 @@
+//! Spellings from outside: each is read whole and written back, or its first fault is told.
+
+use super::*;
+use asn1_types::{
+    Class, Item, Named, Part, Parts, RowRefusal, TextKind, TypeId, TypeRow, TypeTable,
+};
+use osi_base::{Kind, Name};
+use std::alloc::Global;
+use std::process::Abort;
+use std::test::*;
+
+/// What octets are read as.
+enum Outcome {
+    Whole,
+    Content(usize),
+    Short,
+    TooLong(usize),
+}
+
+use Outcome::{Content, Short, TooLong, Whole};
+
+const BOOLEAN: u32 = 0;
+
+const INTEGER: u32 = 1;
+
+const NULL: u32 = 2;
+
+const BITS: u32 = 3;
+
+const OCTETS: u32 = 4;
+
+const DIGITS: u32 = 5;
+
+const OBJECT_ID: u32 = 6;
+
+const COLOUR: u32 = 7;
+
+const FLAGS: u32 = 8;
+
+const EITHER: u32 = 9;
+
+const RECORD: u32 = 10;
+
+const TAGGED: u32 = 11;
+
+const LISTS: u32 = 12;
+
+const BOTH: u32 = 13;
+
+const CODE: u32 = 14;
+
+const INVOKE: u32 = 15;
+
+const APDU: u32 = 16;
+
+fn part(alloc: Global, name: &str, inner: u32, optional: bool) -> Result<Part, RowRefusal> {
+    Ok(Part {
+        name: Name::from_str(alloc, name)?,
+        inner: TypeId(inner),
+        optional,
+    })
+}
+
+/// A table with a row for each constant above.
+fn table_of(alloc: Global) -> Result<TypeTable, RowRefusal> {
+    let mut table = TypeTable::new(alloc);
+    table.add(TypeRow::Boolean)?;
+    table.add(TypeRow::Integer {
+        low: -129,
+        high: 300,
+    })?;
+    table.add(TypeRow::Null)?;
+    table.add(TypeRow::BitString)?;
+    table.add(TypeRow::OctetString { most: 2 })?;
+    table.add(TypeRow::Text(TextKind::Numeric))?;
+    table.add(TypeRow::ObjectId)?;
+    let mut colours = Named::new(alloc);
+    colours.push(Item {
+        name: Name::from_str(alloc, "red")?,
+        number: 3,
+    })?;
+    table.add(TypeRow::Enumerated(colours))?;
+    table.add(TypeRow::SequenceOf(TypeId(BOOLEAN)))?;
+    let mut alternatives = Parts::new(alloc);
+    alternatives.push(part(alloc, "flag", BOOLEAN, false)?)?;
+    alternatives.push(part(alloc, "none", NULL, false)?)?;
+    table.add(TypeRow::Choice(alternatives))?;
+    let mut parts = Parts::new(alloc);
+    parts.push(part(alloc, "number", INTEGER, true)?)?;
+    parts.push(part(alloc, "flags", FLAGS, false)?)?;
+    parts.push(part(alloc, "flag", BOOLEAN, true)?)?;
+    table.add(TypeRow::Sequence(parts))?;
+    table.add(TypeRow::Tagged {
+        class: Class::Context,
+        number: 5,
+        explicit: true,
+        inner: TypeId(INTEGER),
+    })?;
+    table.add(TypeRow::SequenceOf(TypeId(FLAGS)))?;
+    let mut parts = Parts::new(alloc);
+    parts.push(part(alloc, "a", INTEGER, false)?)?;
+    parts.push(part(alloc, "b", BOOLEAN, false)?)?;
+    table.add(TypeRow::Set(parts))?;
+    add_apdu(alloc, &mut table)?;
+    Ok(table)
+}
+
+/// An APDU whose invocations have a number as their argument, as far as it is a value: its kind is
+/// an alternative's place.
+fn add_apdu(alloc: Global, table: &mut TypeTable) -> Result<(), RowRefusal> {
+    let mut codes = Parts::new(alloc);
+    codes.push(part(alloc, "local", INTEGER, false)?)?;
+    codes.push(part(alloc, "global", OBJECT_ID, false)?)?;
+    table.add(TypeRow::Choice(codes))?;
+    let mut parts = Parts::new(alloc);
+    parts.push(part(alloc, "invoke", INTEGER, false)?)?;
+    parts.push(part(alloc, "linked", TAGGED, true)?)?;
+    parts.push(part(alloc, "code", CODE, false)?)?;
+    parts.push(part(alloc, "argument", INTEGER, true)?)?;
+    table.add(TypeRow::Sequence(parts))?;
+    let mut kinds = Parts::new(alloc);
+    kinds.push(part(alloc, "none", NULL, false)?)?;
+    kinds.push(part(alloc, "invocation", INVOKE, false)?)?;
+    table.add(TypeRow::Choice(kinds))?;
+    Ok(())
+}
+
+const ROWS: [(u32, &'static [u8], Outcome); 46] = [
+    (BOOLEAN, &[0x01], Whole),
+    (BOOLEAN, &[0x02], Content(0)),
+    (BOOLEAN, &[], Short),
+    (INTEGER, &[0x01, 0x05], Whole),
+    (INTEGER, &[0x02, 0x01, 0x2C], Whole),
+    (INTEGER, &[0x02, 0x01, 0x2D], Content(1)),
+    (INTEGER, &[0x02, 0xFF, 0x7F], Whole),
+    (INTEGER, &[0x02, 0xFF, 0x7E], Content(1)),
+    (INTEGER, &[0x02, 0x00, 0x05], Content(1)),
+    (INTEGER, &[0x00], Content(0)),
+    (INTEGER, &[0x09], Content(0)),
+    (INTEGER, &[0x02, 0x01], Short),
+    (NULL, &[], Whole),
+    (BITS, &[0x04, 0x00, 0x00, 0x00, 0x01, 0x50], Whole),
+    (BITS, &[0x04, 0x00, 0x00, 0x00, 0x01, 0x5F], Content(5)),
+    (BITS, &[0x08], Content(0)),
+    (BITS, &[0x01, 0x00, 0x00, 0x00, 0x00], Content(1)),
+    (BITS, &[0x00, 0x00, 0x00, 0x00, 0x00], Whole),
+    (BITS, &[0x04, 0x00, 0x00], Short),
+    (OCTETS, &[0x00, 0x00, 0x00, 0x02, 0x0A, 0x0B], Whole),
+    (OCTETS, &[0x00, 0x00, 0x00, 0x03], Content(0)),
+    (OCTETS, &[0x00, 0x04, 0x00, 0x00], TooLong(0)),
+    (DIGITS, &[0x00, 0x00, 0x00, 0x03, 0x31, 0x20, 0x39], Whole),
+    (DIGITS, &[0x00, 0x00, 0x00, 0x02, 0x31, 0x41], Content(4)),
+    (
+        OBJECT_ID,
+        &[0x00, 0x00, 0x00, 0x04, 0x88, 0x37, 0x05, 0x01],
+        Whole,
+    ),
+    (OBJECT_ID, &[0x00, 0x00, 0x00, 0x00], Content(4)),
+    (OBJECT_ID, &[0x00, 0x00, 0x00, 0x02, 0x80, 0x01], Content(4)),
+    (OBJECT_ID, &[0x00, 0x00, 0x00, 0x01, 0x88], Content(4)),
+    (COLOUR, &[0x01, 0x03], Whole),
+    (COLOUR, &[0x01, 0x04], Content(1)),
+    (FLAGS, &[0x00, 0x00, 0x00, 0x02, 0x00, 0x01], Whole),
+    (FLAGS, &[0x00, 0x00, 0x00, 0x02, 0x00, 0x02], Content(5)),
+    (FLAGS, &[0x00, 0x02, 0x00, 0x00], Short),
+    (FLAGS, &[0x00, 0x02, 0x00, 0x01], Content(0)),
+    (EITHER, &[0x00, 0x01], Whole),
+    (EITHER, &[0x01], Whole),
+    (EITHER, &[0x02], Content(0)),
+    (
+        RECORD,
+        &[0x01, 0x01, 0x05, 0x00, 0x00, 0x00, 0x00, 0x00],
+        Whole,
+    ),
+    (
+        RECORD,
+        &[0x00, 0x00, 0x00, 0x00, 0x01, 0x01, 0x01, 0x00],
+        Whole,
+    ),
+    (RECORD, &[0x02], Content(0)),
+    (TAGGED, &[0x01, 0x05], Whole),
+    (
+        LISTS,
+        &[0x00, 0x00, 0x00, 0x01, 0x00, 0x00, 0x00, 0x02, 0x01, 0x00],
+        Whole,
+    ),
+    (
+        LISTS,
+        &[0x00, 0x00, 0x00, 0x02, 0x00, 0x01, 0xFF, 0xFE],
+        Short,
+    ),
+    (
+        LISTS,
+        &[0x00, 0x00, 0x00, 0x02, 0x00, 0x01, 0xFF, 0xFF],
+        Content(4),
+    ),
+    (BOTH, &[0x01, 0x07, 0x01], Whole),
+    (
+        APDU,
+        &[0x01, 0x01, 0x01, 0x00, 0x00, 0x01, 0x01, 0x01, 0x01, 0x05],
+        Whole,
+    ),
+];
+
+/// A value that was read is written back as the same octets.
+fn check_whole(rt: &impl Abort, table: &TypeTable, of: TypeId, octets: &[u8], read: &Read) {
+    assert_eq!(rt; read.used, octets.len());
+    let size = packed_len(table, of, &read.value);
+    assert_eq!(rt; size, octets.len() as u64);
+    assert!(rt; size <= 16);
+    let mut room = [0xEE; 16];
+    let behind = packed_write(table, of, &read.value, &mut room);
+    assert_eq!(rt; behind, octets.len());
+    assert_eq!(rt; &room[..octets.len()], octets);
+}
+
+#[test]
+fn worked_rows(rt: HostRuntime) -> Result<(), Fail> {
+    let table = table_of(rt.alloc())?;
+    for (of, octets, outcome) in &ROWS {
+        let of = TypeId(*of);
+        assert!(rt; table.has(of));
+        match (packed_read(rt.alloc(), &table, of, octets), outcome) {
+            (Ok(read), Whole) => check_whole(&rt, &table, of, octets, &read),
+            (Err(PackedFault::NotSpelled { place, kind }), Content(at)) => {
+                assert_eq!(rt; (place, kind), (*at, Kind::Content));
+            }
+            (Err(PackedFault::Short), Short) => {}
+            (Err(PackedFault::TooLong { place }), TooLong(at)) => assert_eq!(rt; place, *at),
+            _ => assert!(rt; false, "another outcome"),
+        }
+    }
+    Ok(())
+}
+
+#[test]
+fn a_lower_limit(rt: HostRuntime) -> Result<(), Fail> {
+    let table = table_of(rt.alloc())?;
+    let of = TypeId(FLAGS);
+    assert!(rt; table.has(of));
+    let flags = [0x00, 0x00, 0x00, 0x02, 0x00, 0x01];
+    let whole = packed_read_within(rt.alloc(), &table, of, &flags, 6)?;
+    assert_eq!(rt; whole.used, 6);
+    let fault = packed_read_within(rt.alloc(), &table, of, &flags, 5);
+    assert!(rt; matches!(&fault, Err(PackedFault::TooLong { place: 5 })));
+    Ok(())
+}
