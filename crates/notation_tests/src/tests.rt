@@ -1,3 +1,4 @@
+use notation_tokens::cut_text;
 use operation_notation::{NotationFault, NotationKind, lex, parse_module};
 use std::alloc::{AllocError, Global};
 use std::test::*;
@@ -221,6 +222,16 @@ fn each_token_has_its_place(rt: HostRuntime) -> Result<(), Fail> {
         Token { kind: Number, from: 12, to: 14, line: 2, column: 3 }, \
         Token { kind: Word, from: 15, to: 18, line: 2, column: 6 }, \
         Token { kind: Sign, from: 19, to: 22, line: 2, column: 10 }] })";
+    assert_eq!(rt; found.as_str(), wanted);
+    Ok(())
+}
+
+#[test]
+fn cutting_stops_at_an_octet_that_begins_nothing(rt: HostRuntime) -> Result<(), Fail> {
+    let found = format!(in rt.alloc(); "{:?}", cut_text(rt.alloc(), b"M\n $ M"))?;
+    let wanted = "Ok(Lexed { tokens: ListOf { items: [\
+        Token { kind: Word, from: 0, to: 1, line: 1, column: 1 }] }, \
+        stop: Some(BadCharacter), place: Place { line: 2, column: 2 } })";
     assert_eq!(rt; found.as_str(), wanted);
     Ok(())
 }
