@@ -3,16 +3,16 @@ use Rattle.std.proofs.Common.{◌≡◌, ℕ, zero, suc, ◌≤◌, Bool, true, 
 use Rattle.std.specs.Prelude.{if◌then◌else◌}
 use Rattle.std.specs.List.{AllByRecursion}
 use Rattle.std.proofs.lemmas.Slice.Eq.{bytes_eq-Decides}
-use Rattle.operation_notation.specs.Forms.{has_form}
-use Rattle.operation_notation.specs.Lexeme.{Lexeme, same, begins}
-use Rattle.operation_notation.specs.Words.{place, word_of}
-use Rattle.operation_notation.specs.Lexing.{first_place}
+use Rattle.notation_tokens.specs.Forms.{has_form}
+use Rattle.notation_tokens.specs.Lexeme.{Lexeme, same, begins}
+use Rattle.notation_tokens.specs.Words.{place, word_of}
+use Rattle.notation_tokens.specs.Lexing.{first_place}
 use Rattle.operation_notation.specs.Reading.{◌>>=◌, give, here, place_of, Read, token_at, refuse_as, kind_at, word_at, many_at, all_at, behind, listed_at}
 use Rattle.operation_notation.specs.Faults.{IsKind}
 use Rattle.operation_notation.specs.Grammar.{One, Then, Nothing, Either, Maybe, Many, The, Behind, Listed, Placed, StartsAt}
-use Rattle.operation_notation.specs.declared.token.TokenKind.{TokenKind}
-use Rattle.operation_notation.specs.declared.cursor.Place.{Place}
-use Rattle.operation_notation.specs.declared.fault.NotationKind.{NotationKind}
+use Rattle.notation_tokens.specs.declared.token.TokenKind.{TokenKind}
+use Rattle.notation_tokens.specs.declared.token.Place.{Place}
+use Rattle.notation_tokens.specs.declared.faults.NotationKind.{NotationKind}
 use Rattle.operation_notation.proofs.Means.{Front, never, after_ok, law_one, law_nothing}
 use Rattle.operation_notation.proofs.Starts.{Headed, Starts}
 use Rattle.operation_notation.proofs.Chains.{starts_at}

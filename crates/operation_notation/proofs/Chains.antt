@@ -4,10 +4,10 @@ use Rattle.std.specs.Prelude.{◌⊎◌, ◌||◌, not, if◌then◌else◌}
 use Rattle.std.specs.List.{list_any, list_all}
 use Rattle.std.specs.Str.{bytes_eq}
 use Rattle.std.proofs.lemmas.Bool.{not-true, not-false, both_ways}
-use Rattle.operation_notation.specs.Lexeme.{Lexeme, same, begins}
+use Rattle.notation_tokens.specs.Lexeme.{Lexeme, same, begins}
 use Rattle.operation_notation.specs.Reading.{◌>>=◌, give, here, place_of, Read, word_at, all_at, behind, listed_at}
 use Rattle.operation_notation.specs.Grammar.{Then, Nothing, Either, Maybe, Many, The, Behind, Listed, Placed, StartsAt}
-use Rattle.operation_notation.specs.declared.cursor.Place.{Place}
+use Rattle.notation_tokens.specs.declared.token.Place.{Place}
 use Rattle.operation_notation.proofs.Means.{Law, never, law_then, law_next, law_word, law_nothing, law_choice, law_maybe, Loops, law_all}
 use Rattle.operation_notation.proofs.Starts.{Headed, Starts, headed_append, headed_takes, starts_then, starts_either, among, Excludes, excludes_among, excludes_type_name, excludes_or, apart, type_named, no_type_name, among_all, all_from, or_true, begins_any, headed_any, headed_not, headed_is, fewer, fewer_one, starts_the}
 

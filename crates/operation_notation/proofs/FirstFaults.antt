@@ -3,17 +3,18 @@ use Rattle.std.proofs.Common.{◌≡◌, ℕ, ◌<◌, ◌≤◌, Bool, true, fa
 use Rattle.std.specs.Prelude.{IfErr, ◌⊎◌, nat_lt, unwrap_or, if◌then◌else◌}
 use Rattle.std.specs.List.{AllByRecursion}
 use Rattle.std.proofs.lemmas.Bool.{ltb-true, ltb-false}
-use Rattle.operation_notation.specs.Lexeme.{Lexeme, lexemes}
-use Rattle.operation_notation.specs.Lexing.{most_octets, lexed_of}
+use Rattle.notation_tokens.specs.Lexeme.{Lexeme, lexemes}
+use Rattle.notation_tokens.specs.Lexing.{most_octets, lexed_of}
 use Rattle.operation_notation.specs.Reading.{Read}
 use Rattle.operation_notation.specs.ReadingModules.{module_at, ended_at, whole_at}
 use Rattle.operation_notation.specs.GrammarModules.{Module}
-use Rattle.operation_notation.specs.Modules.{Answers, module_of, verdict, refused, unless_stopped, too_long}
+use Rattle.notation_tokens.specs.Texts.{Answers, unless_stopped, too_long}
+use Rattle.operation_notation.specs.Modules.{module_of, verdict, refused}
 use Rattle.operation_notation.specs.Faults.{IsFormed, Begins, IsKind, TooLong, TokenFault, EndFault, IsFirstFault}
-use Rattle.operation_notation.specs.declared.fault.NotationFault.{NotationFault}
-use Rattle.operation_notation.specs.declared.fault.NotationFault.TheVariants as faults
-use Rattle.operation_notation.specs.declared.fault.NotationKind.{NotationKind}
-use Rattle.operation_notation.specs.declared.fault.NotationKind.TheVariants.{TextTooLong, UnexpectedToken}
+use Rattle.notation_tokens.specs.declared.faults.NotationFault.{NotationFault}
+use Rattle.notation_tokens.specs.declared.faults.NotationFault.TheVariants as faults
+use Rattle.notation_tokens.specs.declared.faults.NotationKind.{NotationKind}
+use Rattle.notation_tokens.specs.declared.faults.NotationKind.TheVariants.{TextTooLong, UnexpectedToken}
 use Rattle.operation_notation.specs.declared.module.ModuleText.{ModuleText}
 use Rattle.operation_notation.proofs.Means.{ok_is, after_ok}
 use Rattle.operation_notation.proofs.Local.{fault}

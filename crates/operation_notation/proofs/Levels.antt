@@ -1,6 +1,6 @@
 -- Types at a number of levels.
 use Rattle.std.proofs.Common.{◌≡◌, ℕ, zero, suc, ◌-◌, ◌<◌, List, refl, arith}
-use Rattle.operation_notation.specs.Lexeme.{Lexeme}
+use Rattle.notation_tokens.specs.Lexeme.{Lexeme}
 use Rattle.operation_notation.specs.Reading.{refuse_as}
 use Rattle.operation_notation.specs.ReadingTypes.{type_at, type_text_at, deep_kind}
 

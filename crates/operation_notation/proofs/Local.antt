@@ -2,11 +2,11 @@
 use Rattle.std.proofs.Common.{◌≡◌, ℕ, zero, suc, ◌+◌, ◌<◌, ◌≤◌, Bool, true, false, List, [], ◌∷◌, ◌++◌, length, Option, Some, None, Ok, Err, refl, sym, ap, ◌∙◌, append_assoc, arith, inl, inr}
 use Rattle.std.specs.Prelude.{◌⊎◌, ◌||◌, if◌then◌else◌}
 use Rattle.std.proofs.lemmas.List.{length-append, append_cancel_right}
-use Rattle.operation_notation.specs.Lexeme.{Lexeme, begins, goes_on}
-use Rattle.operation_notation.specs.Words.{is_unsupported}
+use Rattle.notation_tokens.specs.Lexeme.{Lexeme, begins, goes_on}
+use Rattle.notation_tokens.specs.Words.{is_unsupported}
 use Rattle.operation_notation.specs.Reading.{◌>>=◌, after, give, here, place_of, Failure, Read, taken, token_at, refuse, refuse_as, kind_at, is_set_of, word_at, many_at, all_at, behind, listed_at, maybe_at}
-use Rattle.operation_notation.specs.declared.fault.NotationKind.{NotationKind}
-use Rattle.operation_notation.specs.declared.fault.NotationKind.TheVariants.{Unsupported, UnexpectedToken}
+use Rattle.notation_tokens.specs.declared.faults.NotationKind.{NotationKind}
+use Rattle.notation_tokens.specs.declared.faults.NotationKind.TheVariants.{Unsupported, UnexpectedToken}
 use Rattle.operation_notation.proofs.Means.{ok_is, after_ok, law_word}
 
 -- a token and what stands behind it begin with SET OF in both, or in neither

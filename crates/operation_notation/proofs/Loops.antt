@@ -1,7 +1,7 @@
 -- Loops that take one more while a test holds.
 use Rattle.std.proofs.Common.{◌≡◌, ℕ, zero, suc, ◌+◌, ◌-◌, ◌<◌, ◌≤◌, Bool, true, false, List, [], ◌∷◌, ◌++◌, length, Ok, Err, refl, sym, ap, ◌∙◌, append_assoc, arith}
 use Rattle.std.proofs.lemmas.List.{append-nil}
-use Rattle.operation_notation.specs.Lexeme.{Lexeme, begins}
+use Rattle.notation_tokens.specs.Lexeme.{Lexeme, begins}
 use Rattle.operation_notation.specs.Reading.{◌>>=◌, after, give, Failure, Read, Fails, many_at, all_at, listed_at, behind}
 use Rattle.operation_notation.specs.declared.fault.Refusal.{Refusal}
 use Rattle.operation_notation.specs.declared.fault.Refusal.TheVariants as refusals

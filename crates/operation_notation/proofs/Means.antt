@@ -2,8 +2,8 @@
 use Rattle.std.proofs.Common.{◌≡◌, ℕ, zero, suc, ◌<◌, ◌≤◌, Bool, true, false, List, [], ◌∷◌, ◌++◌, length, Option, Some, None, Ok, Err, refl, sym, ap, subst, ◌∙◌, append_assoc, arith, inl, inr}
 use Rattle.std.specs.Prelude.{if◌then◌else◌}
 use Rattle.std.proofs.lemmas.List.{length-append}
-use Rattle.operation_notation.specs.Lexeme.{Lexeme}
-use Rattle.operation_notation.specs.Words.{word_of}
+use Rattle.notation_tokens.specs.Lexeme.{Lexeme}
+use Rattle.notation_tokens.specs.Words.{word_of}
 use Rattle.operation_notation.specs.Reading.{◌>>=◌, after, give, Read, taken, token_at, word_at, many_at, all_at}
 use Rattle.operation_notation.specs.Grammar.{One, Then, Nothing, Either, Maybe, Many, The}
 

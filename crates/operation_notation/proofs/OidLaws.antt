@@ -7,14 +7,14 @@ use Rattle.std.specs.Str.Parse.{digits_value}
 use Rattle.std.proofs.lemmas.Bool.{not-true, leb-true, le-leb, false≢true}
 use Rattle.std.proofs.lemmas.Bool.Decides.{nat_tests}
 use Rattle.osi_base.specs.Oid.{IsOid}
-use Rattle.operation_notation.specs.Lexeme.{Lexeme, same, goes_on}
-use Rattle.operation_notation.specs.Words.{number, number_of, most_32, is_decimal, is_value_name, is_kind_word, begins_lower, arc_name_of, root_name, place}
+use Rattle.notation_tokens.specs.Lexeme.{Lexeme, same, goes_on}
+use Rattle.notation_tokens.specs.Words.{number, number_of, most_32, is_decimal, is_value_name, is_kind_word, begins_lower, arc_name_of, root_name, place}
 use Rattle.operation_notation.specs.Reading.{Read, number_at, many_at}
 use Rattle.operation_notation.specs.ReadingTypes.{starts_name, arc_name_at, bracketed_at, arc_at, alone_at, named_root_at, root_at, most_second, oid_at}
 use Rattle.operation_notation.specs.Grammar.{One, Then, Nothing, Either, Many, The}
 use Rattle.operation_notation.specs.GrammarTypes.{root_of, Arc, Root, OidSpelled}
-use Rattle.operation_notation.specs.declared.cursor.Place.{Place}
-use Rattle.operation_notation.proofs.Numbers.{both, joined}
+use Rattle.notation_tokens.specs.declared.token.Place.{Place}
+use Rattle.notation_tokens.proofs.Numbers.{both, joined}
 use Rattle.operation_notation.proofs.Means.{Front, Law, never, law_then, law_one, law_word, law_nothing, law_choice, Loops, many_found, many_only, many_count}
 use Rattle.operation_notation.proofs.Starts.{Headed, Starts, headed_takes, starts_then, starts_one, Excludes, excludes_value_name, excludes_among, excludes_or, no_value_name, or_false, value_named, begins_any, starts_the, among, fewer_one}
 use Rattle.operation_notation.proofs.Chains.{next, behind_starts, pick_may, excludes_text, or_left, or_right}

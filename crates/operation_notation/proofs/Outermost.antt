@@ -1,6 +1,6 @@
 -- The grammar of modules in which types stand in one another at most 256 levels deep.
 use Rattle.std.proofs.Common.{ℕ, List}
-use Rattle.operation_notation.specs.Lexeme.{Lexeme}
+use Rattle.notation_tokens.specs.Lexeme.{Lexeme}
 use Rattle.operation_notation.specs.Tree.{TypeTree}
 use Rattle.operation_notation.specs.GrammarTypes.{Type_of, most_levels}
 use Rattle.operation_notation.specs.GrammarModules as grammar

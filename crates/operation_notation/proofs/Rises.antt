@@ -1,23 +1,22 @@
 -- The places of what is derived are those of its tokens, in their order.
-use Rattle.std.proofs.Common.{codes, ◌≡◌, ℕ, zero, suc, ◌+◌, Bool, true, false, List, [], ◌∷◌, ◌++◌, length, take, drop, map, Option, Some, None, refl, sym, ap, subst, ◌∙◌, append_assoc, arith, inl, inr}
-use Rattle.std.specs.Prelude.{◌==◌, if◌then◌else◌}
+use Rattle.std.proofs.Common.{codes, ◌≡◌, ℕ, zero, suc, Bool, true, false, List, [], ◌∷◌, ◌++◌, Option, Some, None, refl, sym, ap, subst, ◌∙◌, append_assoc, inl, inr}
+use Rattle.std.specs.Prelude.{if◌then◌else◌}
 use Rattle.std.proofs.lemmas.List.{append-nil, map-append}
-use Rattle.operation_notation.specs.Lexeme.{Lexeme, lexemes}
-use Rattle.operation_notation.specs.Lexing.{behind_octet, behind_octets, first_place, piece_of, cut, cut_after, lexed_of}
+use Rattle.notation_tokens.specs.Lexeme.{Lexeme, lexemes}
+use Rattle.notation_tokens.specs.Lexing.{first_place, lexed_of}
 use Rattle.operation_notation.specs.Modules.{Reads}
-use Rattle.operation_notation.specs.declared.lexer.Lexed.{Lexed}
-use Rattle.operation_notation.specs.declared.lexer.Piece.{Piece}
-use Rattle.operation_notation.specs.declared.lexer.Piece.TheVariants.{Passed, Cut, Bad}
-use Rattle.operation_notation.specs.Words.{place, word_of, type_name_of, value_name_of, is_type_name, is_value_name, located}
+use Rattle.notation_tokens.specs.Words.{place, word_of, type_name_of, value_name_of, is_type_name, is_value_name, located}
 use Rattle.operation_notation.specs.Grammar.{One, Then, Nothing, Either, Maybe, Many, The, Behind, Listed, Placed, StartsAt}
 use Rattle.operation_notation.specs.GrammarTypes.{Range, RangeBehind, Size, SizeBehind, Item, Items, Part, Parts, Alternatives, Leaf, Plain, TypeBehind, Type_of}
 use Rattle.operation_notation.specs.GrammarModules.{NamedList, Code, HeadingSpelled}
 use Rattle.operation_notation.proofs.Outermost.{Use, SignatureSpelled, Operation, Error, OperationBody, ErrorBody, Assign, Module, OuterType}
 use Rattle.operation_notation.specs.Tree.{TypeTree, type_tree}
 use Rattle.operation_notation.specs.TreeView.{parts_of}
-use Rattle.operation_notation.specs.WellFormed.{name_place, name_places, item_places, range_places, type_places, plain_places, part_places, use_places, code_places, body_places, assignment_places, module_places, NotAfter, Rising, NeverFall}
-use Rattle.operation_notation.specs.declared.cursor.Place.{Place}
-use Rattle.operation_notation.specs.declared.module.Located.{Located}
+use Rattle.operation_notation.specs.WellFormed.{name_place, name_places, item_places, range_places, type_places, plain_places, part_places, use_places, code_places, body_places, assignment_places, module_places}
+use Rattle.notation_tokens.specs.Places.{NotAfter, Rising, NeverFall}
+use Rattle.notation_tokens.proofs.Climbing.{after_refl, after_trans, lower, places_of, lexed_rises}
+use Rattle.notation_tokens.specs.declared.token.Place.{Place}
+use Rattle.notation_tokens.specs.declared.token.Located.{Located}
 use Rattle.operation_notation.specs.declared.module.RangeText.{RangeText}
 use Rattle.operation_notation.specs.declared.module.ItemText.{ItemText}
 use Rattle.operation_notation.specs.declared.module.PartText.{PartText}
@@ -28,15 +27,6 @@ use Rattle.operation_notation.specs.declared.assignments.Heading.{Heading}
 use Rattle.operation_notation.specs.declared.bodies.Signature.{Signature}
 
 -- ---- the order of places
-
-after_refl : (p : Place) → NotAfter p p
-after_refl p = inr (refl, omega arith)
-
-after_trans : (p q r : Place) → NotAfter p q → NotAfter q r → NotAfter p r
-after_trans p q r (inl a) (inl b) = inl (omega arith)
-after_trans p q r (inl a) (inr b) = inl (omega (arith, b.0))
-after_trans p q r (inr a) (inl b) = inl (omega (arith, a.0))
-after_trans p q r (inr a) (inr b) = inr (a.0 ∙ b.0, omega (arith, a.1, b.1))
 
 -- what is left out falls no more
 rising_ends : (low high : Place) (ps : List Place) → Rising low high ps → NotAfter low high
@@ -52,18 +42,11 @@ split : (low high : Place) (x y : List Place) → Rising low high (x ++ y) → S
 split low high [] y h = record { mid = low; left = after_refl low; right = h }
 split low high (p ∷ x) y h = let s = split p high x y h.1 in record { mid = s.mid; left = (h.0, s.left); right = s.right }
 
-lower : (low low' high : Place) (ps : List Place) → NotAfter low low' → Rising low' high ps → Rising low high ps
-lower low low' high [] a h = after_trans low low' high a h
-lower low low' high (p ∷ ps) a h = (after_trans low low' p a h.0, h.1)
-
 join : (low mid high : Place) (x y : List Place) → Rising low mid x → Rising mid high y → Rising low high (x ++ y)
 join low mid high [] y h k = lower low mid high y h k
 join low mid high (p ∷ x) y h k = (h.0, join p mid high x y h.1 k)
 
 -- ---- places among those of tokens
-
-abbrev pub places_of : List Lexeme → List Place
-places_of ts = map place ts
 
 -- wherever the tokens' places rise, these do
 pub record Covers (ts : List Lexeme) (ps : List Place) : Type 0 where
@@ -337,36 +320,6 @@ cov_heading = whole (cov_bind [] one_name cov_type_name (λ name. cov_skip _ (λ
 
 pub cov_module : Cov Module module_places
 cov_module = whole (cov_bind [] heading_places cov_heading (λ h. cov_skip _ (λ _. cov_skip _ (λ imports. cov_bind _ assignment_places (cov_as (concat one_assignment) assignment_places concat_assignments (cov_many Assign one_assignment cov_assign)) (λ l. cov_skip _ (λ _. cov_nothing _ module_places refl))))))
-
--- ---- the tokens of a text
-
-octet_after : (p : Place) (c : ℕ) (b : Bool) → NotAfter p (if b then record { line = p.line + 1; column = 1 } else record { line = p.line; column = p.column + 1 })
-octet_after p c true = inl (omega arith)
-octet_after p c false = inr (refl, omega arith)
-
-octets_after : (p : Place) (cs : List ℕ) → NotAfter p (behind_octets p cs)
-octets_after p [] = after_refl p
-octets_after p (c ∷ cs) = after_trans p (behind_octet p c) _ (octet_after p c (c == 10)) (octets_after (behind_octet p c) cs)
-
-abbrev Climbs : List ℕ → Place → Lexed → Type 0
-Climbs source p l = Rising p l.place (places_of (lexemes source l.tokens))
-
-rises_after : (source : List ℕ) (more : ℕ → ℕ → Place → List ℕ → Lexed) → ((left from : ℕ) (p : Place) (rest : List ℕ) → Climbs source p (more left from p rest))
-    → (left from : ℕ) (p : Place) (rest : List ℕ) (piece : Piece) → Climbs source p (cut_after more left from p rest piece)
-rises_after source more ih left from p rest (Passed n) = lower p (behind_octets p (take n rest)) _ _ (octets_after p (take n rest)) (ih left (from + n) (behind_octets p (take n rest)) (drop n rest))
-rises_after source more ih zero from p rest (Cut kind n) = after_refl p
-rises_after source more ih (suc left) from p rest (Cut kind n) = (after_refl p, lower p (behind_octets p (take n rest)) _ _ (octets_after p (take n rest)) (ih left (from + n) (behind_octets p (take n rest)) (drop n rest)))
-rises_after source more ih left from p rest Bad = after_refl p
-
-cut_rises : (source : List ℕ) (turns left from : ℕ) (p : Place) (rest : List ℕ) → Climbs source p (cut turns left from p rest)
-unfolding cut
-cut_rises source turns left from p [] = after_refl p
-cut_rises source zero left from p (c ∷ cs) = after_refl p
-cut_rises source (suc turns) left from p (c ∷ cs) = rises_after source (cut turns) (cut_rises source turns) left from p (c ∷ cs) (piece_of (c ∷ cs))
-
-lexed_rises : (text : List ℕ) → Climbs text first_place (lexed_of text)
-unfolding lexed_of
-lexed_rises text = cut_rises text (length text) _ 0 first_place text
 
 -- the places of a module never fall
 pub module_rises : (text : List ℕ) (m : ModuleText) → Reads text m → NeverFall (module_places m)

@@ -5,12 +5,12 @@ use Rattle.std.specs.List.{list_any, list_all, AllByRecursion}
 use Rattle.std.specs.Str.{bytes_eq}
 use Rattle.std.proofs.lemmas.Bool.{not-true, both_ways}
 use Rattle.std.proofs.lemmas.Slice.Eq.{bytes_eq-Decides}
-use Rattle.operation_notation.specs.declared.token.TokenKind.{TokenKind}
-use Rattle.operation_notation.specs.Lexeme.{Lexeme, same, begins}
-use Rattle.operation_notation.specs.Words.{word_of, place, quoted, is_quoted, is_unsupported, is_type_name, is_value_name, begins_lower, begins_upper, is_kind_word}
+use Rattle.notation_tokens.specs.declared.token.TokenKind.{TokenKind}
+use Rattle.notation_tokens.specs.Lexeme.{Lexeme, same, begins}
+use Rattle.notation_tokens.specs.Words.{word_of, place, quoted, is_quoted, is_unsupported, is_type_name, is_value_name, begins_lower, begins_upper, is_kind_word}
 use Rattle.operation_notation.specs.Grammar.{One, Then, Either, The, Placed}
-use Rattle.operation_notation.specs.declared.cursor.Place.{Place}
-use Rattle.operation_notation.proofs.Numbers.{both, joined}
+use Rattle.notation_tokens.specs.declared.token.Place.{Place}
+use Rattle.notation_tokens.proofs.Numbers.{both, joined}
 
 -- a text whose first token passes a test
 pub record Headed (p : Lexeme → Bool) (ts : List Lexeme) : Type 0 where

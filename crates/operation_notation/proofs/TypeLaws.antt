@@ -4,8 +4,8 @@ use Rattle.std.specs.Prelude.{◌||◌, ◌&&◌, is_some, if◌then◌else◌}
 use Rattle.std.specs.List.{list_any}
 use Rattle.std.specs.Str.{bytes_eq}
 use Rattle.std.proofs.lemmas.Bool.{not-false}
-use Rattle.operation_notation.specs.Lexeme.{Lexeme, same, begins}
-use Rattle.operation_notation.specs.Words.{number, number_of, most_32, most_64, end_of, int_of, type_name_of, value_name_of, text_kind_of, text_kind_word, located}
+use Rattle.notation_tokens.specs.Lexeme.{Lexeme, same, begins}
+use Rattle.notation_tokens.specs.Words.{number, number_of, most_32, most_64, end_of, int_of, type_name_of, value_name_of, text_kind_of, text_kind_word, located}
 use Rattle.operation_notation.specs.Reading.{◌>>=◌, give, Read, refuse, refuse_as, word_at, number_at, number_64_at, int_at, end_at, type_name_at, value_name_at, maybe_at, listed_at, is_set_of}
 use Rattle.operation_notation.specs.ReadingTypes.{range_at, size_at, item_at, items_at, class_at, explicit_at, tag_at, optional_at, part_at, parts_at, alternatives_at, integer_at, octets_at, text_kind, text_kind_at, text_or_name_at, named_at, leaf_at, sequence_at, set_at, choice_at, plain_at, type_text_at, type_at, outer_type_at}
 use Rattle.operation_notation.specs.Grammar.{One, Then, Nothing, Either, The, Listed, Placed}
@@ -13,9 +13,9 @@ use Rattle.operation_notation.specs.GrammarTypes.{Range, Number64, Size, Item, I
 use Rattle.operation_notation.proofs.Outermost.{OuterType}
 use Rattle.operation_notation.specs.Tree.{TypeTree, type_tree, PlainTree, named, text, set}
 use Rattle.operation_notation.specs.TreeView.{parts_of}
-use Rattle.operation_notation.specs.declared.fault.NotationKind.TheVariants.{Unsupported}
-use Rattle.operation_notation.specs.declared.cursor.Place.{Place}
-use Rattle.operation_notation.specs.declared.module.Located.{Located}
+use Rattle.notation_tokens.specs.declared.faults.NotationKind.TheVariants.{Unsupported}
+use Rattle.notation_tokens.specs.declared.token.Place.{Place}
+use Rattle.notation_tokens.specs.declared.token.Located.{Located}
 use Rattle.operation_notation.proofs.Means.{Front, Law, never, law_one, law_word, law_nothing, law_choice}
 use Rattle.operation_notation.proofs.Starts.{Headed, Starts, starts_then, starts_one, starts_either, among, Excludes, excludes_among, excludes_type_name, excludes_value_name, type_named, value_named, begins_any, headed_not, fewer, fewer_one, starts_the, starts_word}
 use Rattle.operation_notation.proofs.Chains.{map_law, closes, closes_under, closed_by, excludes_text, MayStart, Picked, picks, weaker_headed, word_or_named, more_or_named, starts_maybe, or_left, or_right, or_named, excludes_or_named, next, law_any, law_behind, starts_behind, may_starts, may_then, may_nothing, may_either, behind_may, behind_starts, behind_word, same_excludes, law_placed, pick, pick_may, maybe_word, law_listed}

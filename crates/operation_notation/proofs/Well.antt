@@ -3,9 +3,9 @@ use Rattle.std.proofs.Common.{codes, ◌≡◌, ℕ, zero, suc, ◌<◌, ◌≤�
 use Rattle.std.specs.Prelude.{IfOk, ◌&&◌, not, if◌then◌else◌, IsTrue, IfSome}
 use Rattle.std.specs.List.{AllByRecursion}
 use Rattle.std.proofs.lemmas.Bool.{not-true}
-use Rattle.operation_notation.specs.Forms.{has_form}
-use Rattle.operation_notation.specs.Lexeme.{Lexeme, same, IsSpan, lexemes}
-use Rattle.operation_notation.specs.Words.{is_type_name, is_value_name, is_kind_word, is_quoted, is_unsupported, begins_upper, begins_lower, type_name_of, value_name_of, text_kind_of, text_kind_word, located, number_of, most_32}
+use Rattle.notation_tokens.specs.Forms.{has_form}
+use Rattle.notation_tokens.specs.Lexeme.{Lexeme, same, IsSpan, lexemes}
+use Rattle.notation_tokens.specs.Words.{is_type_name, is_value_name, is_kind_word, is_quoted, is_unsupported, begins_upper, begins_lower, type_name_of, value_name_of, text_kind_of, text_kind_word, located, number_of, most_32}
 use Rattle.operation_notation.specs.Grammar.{One, Then, Nothing, Either, Maybe, Many, Behind, Listed, Placed}
 use Rattle.operation_notation.specs.GrammarTypes.{Item, Items, Class, Tag, Optional, Part, Parts, Alternatives, Leaf, Plain, TypeBehind, Type_of}
 use Rattle.operation_notation.specs.GrammarModules.{NamedList, Code, HeadingSpelled}
@@ -13,21 +13,21 @@ use Rattle.operation_notation.proofs.Outermost.{Use, SignatureSpelled, Operation
 use Rattle.operation_notation.specs.Tree.{TypeTree}
 use Rattle.operation_notation.specs.TreeView.{parts_of}
 use Rattle.operation_notation.specs.WellFormed.{IsTypeName, IsValueName, IsTag, IsWellType, IsWellPlain, AreWellParts, HasPart, IsWellUse, IsWellCode, IsWellOperation, IsWellError, IsWellBody, IsWellAssignment, IsWellFormed}
-use Rattle.operation_notation.specs.declared.cursor.Place.{Place}
-use Rattle.operation_notation.specs.declared.token.Token.{Token}
-use Rattle.operation_notation.specs.declared.token.TokenKind.{TokenKind}
-use Rattle.operation_notation.specs.declared.module.Located.{Located}
+use Rattle.notation_tokens.specs.declared.token.Place.{Place}
+use Rattle.notation_tokens.specs.declared.token.Token.{Token}
+use Rattle.notation_tokens.specs.declared.token.TokenKind.{TokenKind}
+use Rattle.notation_tokens.specs.declared.token.Located.{Located}
 use Rattle.operation_notation.specs.declared.module.PartText.{PartText}
 use Rattle.operation_notation.specs.declared.module.ModuleText.{ModuleText}
 use Rattle.operation_notation.specs.declared.bodies.Signature.{Signature}
 use Rattle.operation_notation.specs.Modules.{Reads}
-use Rattle.operation_notation.specs.Lexing.{lexed_of}
-use Rattle.operation_notation.proofs.Numbers.{both}
+use Rattle.notation_tokens.specs.Lexing.{lexed_of}
+use Rattle.notation_tokens.proofs.Numbers.{both}
 use Rattle.operation_notation.proofs.OidLaws.{number_is}
-use Rattle.operation_notation.proofs.Spans.{lexed_spans}
+use Rattle.notation_tokens.proofs.Spans.{lexed_spans}
 use Rattle.operation_notation.proofs.Rises.{module_rises}
-use Rattle.operation_notation.specs.declared.fault.NotationFault.{NotationFault}
-use Rattle.operation_notation.proofs.Names.{lower_is_word, upper_is_word}
+use Rattle.notation_tokens.specs.declared.faults.NotationFault.{NotationFault}
+use Rattle.notation_tokens.proofs.Names.{lower_is_word, upper_is_word}
 
 abbrev Good : Lexeme → Type 0
 Good t = IsTrue (has_form t.kind t.text)

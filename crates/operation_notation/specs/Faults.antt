@@ -1,16 +1,16 @@
 -- What a text's first fault is, beside its grammar: what stands before it begins a module, and with it no module begins so.
 use Rattle.std.specs.Prelude.{◌≡◌, ◌<◌, ◌≤◌, ◌+◌, ◌⊎◌, ℕ, true, List, [], ◌∷◌, ◌++◌, length, unwrap_or}
 use Rattle.std.specs.List.{AllByRecursion}
-use Rattle.operation_notation.specs.Forms.{has_form}
-use Rattle.operation_notation.specs.Lexeme.{Lexeme, lexemes}
-use Rattle.operation_notation.specs.Lexing.{most_octets, lexed_of}
+use Rattle.notation_tokens.specs.Forms.{has_form}
+use Rattle.notation_tokens.specs.Lexeme.{Lexeme, lexemes}
+use Rattle.notation_tokens.specs.Lexing.{most_octets, lexed_of}
 use Rattle.operation_notation.specs.Reading.{kind_at, is_set_of}
 use Rattle.operation_notation.specs.GrammarTypes.{most_levels}
 use Rattle.operation_notation.specs.GrammarModules.{Module}
-use Rattle.operation_notation.specs.declared.fault.NotationFault.{NotationFault}
-use Rattle.operation_notation.specs.declared.fault.NotationFault.TheVariants as faults
-use Rattle.operation_notation.specs.declared.fault.NotationKind.{NotationKind}
-use Rattle.operation_notation.specs.declared.fault.NotationKind.TheVariants.{TextTooLong, UnexpectedToken, Unsupported}
+use Rattle.notation_tokens.specs.declared.faults.NotationFault.{NotationFault}
+use Rattle.notation_tokens.specs.declared.faults.NotationFault.TheVariants as faults
+use Rattle.notation_tokens.specs.declared.faults.NotationKind.{NotationKind}
+use Rattle.notation_tokens.specs.declared.faults.NotationKind.TheVariants.{TextTooLong, UnexpectedToken, Unsupported}
 use Rattle.operation_notation.specs.declared.module.ModuleText.{ModuleText}
 
 -- a token whose text has the form of its kind

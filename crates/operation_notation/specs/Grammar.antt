@@ -1,8 +1,8 @@
 -- The grammar's means, over tokens: which tokens spell which value. Nothing here says how tokens are read.
 use Rattle.std.specs.Prelude.{◌≡◌, ◌⊎◌, ℕ, List, [], ◌∷◌, ◌++◌, Option, Some, None}
-use Rattle.operation_notation.specs.Lexeme.{Lexeme}
-use Rattle.operation_notation.specs.Words.{place, word_of}
-use Rattle.operation_notation.specs.declared.cursor.Place.{Place}
+use Rattle.notation_tokens.specs.Lexeme.{Lexeme}
+use Rattle.notation_tokens.specs.Words.{place, word_of}
+use Rattle.notation_tokens.specs.declared.token.Place.{Place}
 
 -- which tokens spell which value
 abbrev pub Rule : Type 0 → Type 1

@@ -1,12 +1,12 @@
 -- The grammar of modules, operations and errors (X.680 13; X.880 8, in the profile that is supported), in which types stand in one
 -- another at most so many levels deep.
 use Rattle.std.specs.Prelude.{codes, ℕ, Bool, true, false, List, [], Some, None, unwrap_or}
-use Rattle.operation_notation.specs.Lexeme.{Lexeme}
-use Rattle.operation_notation.specs.Words.{int_of, bool_of, type_name_of, value_name_of}
+use Rattle.notation_tokens.specs.Lexeme.{Lexeme}
+use Rattle.notation_tokens.specs.Words.{int_of, bool_of, type_name_of, value_name_of}
 use Rattle.operation_notation.specs.Grammar.{◌>>=◌, One, Nothing, Either, Maybe, Many, The, Behind, Listed}
 use Rattle.operation_notation.specs.GrammarTypes.{OidSpelled, Number64, Type_of}
-use Rattle.operation_notation.specs.declared.cursor.Place.{Place}
-use Rattle.operation_notation.specs.declared.module.Located.{Located}
+use Rattle.notation_tokens.specs.declared.token.Place.{Place}
+use Rattle.notation_tokens.specs.declared.token.Located.{Located}
 use Rattle.operation_notation.specs.declared.module.UseText.{UseText}
 use Rattle.operation_notation.specs.declared.module.CodeText.{CodeText}
 use Rattle.operation_notation.specs.declared.module.OpText.{OpText}

@@ -1,8 +1,8 @@
 -- The grammar of object identifiers and types (X.680 17 to 31, X.680 32.3, in the profile of X.880 that is supported).
 use Rattle.std.specs.Prelude.{codes, ℕ, zero, suc, ℤ, pos, Bool, true, false, List, [], ◌∷◌, Option, Some, None, if◌then◌else◌}
 use Rattle.osi_base.specs.Oid.{IsOid}
-use Rattle.operation_notation.specs.Lexeme.{Lexeme}
-use Rattle.operation_notation.specs.Words.{most_32, most_64, number_of, int_of, end_of, text_kind_of, root_name, is_value_name, type_name_of, value_name_of, arc_name_of}
+use Rattle.notation_tokens.specs.Lexeme.{Lexeme}
+use Rattle.notation_tokens.specs.Words.{most_32, most_64, number_of, int_of, end_of, text_kind_of, root_name, is_value_name, type_name_of, value_name_of, arc_name_of}
 use Rattle.operation_notation.specs.Grammar.{◌>>=◌, One, Nothing, Either, Maybe, Many, The, Behind, Listed, Placed}
 use Rattle.operation_notation.specs.Tree.{TypeTree, type_tree, PlainTree, boolean, null, integer, enumerated, octets, bits, object_id, text, sequence_of, sequence, set, choice, named}
 use Rattle.operation_notation.specs.TreeView.{parts_of}
@@ -10,7 +10,7 @@ use Rattle.operation_notation.specs.declared.module.RangeText.{RangeText}
 use Rattle.operation_notation.specs.declared.module.TagText.{TagText}
 use Rattle.operation_notation.specs.declared.module.ItemText.{ItemText}
 use Rattle.operation_notation.specs.declared.module.PartText.{PartText}
-use Rattle.operation_notation.specs.declared.cursor.Place.{Place}
+use Rattle.notation_tokens.specs.declared.token.Place.{Place}
 
 -- ---- object identifiers (X.680 32.3): Oid = "{" Arc {Arc} "}"
 

@@ -2,17 +2,12 @@ pub mod Tree
 pub mod TreeCode
 pub mod TreeView
 pub mod TreeFalls
-pub mod Forms
-pub mod Lexeme
-pub mod Words
 pub mod Reading
 pub mod ReadingTypes
 pub mod ReadingModules
-pub mod Lexing
 pub mod Grammar
 pub mod GrammarTypes
 pub mod GrammarModules
 pub mod Modules
 pub mod Faults
 pub mod WellFormed
-pub mod Tokens

@@ -1,13 +1,13 @@
 -- Reading tokens from left to right, with the first fault that is met: the means.
 use Rattle.std.specs.Prelude.{◌≡◌, ℕ, zero, suc, ℤ, pos, codes, Bool, false, ◌&&◌, ◌||◌, List, [], ◌∷◌, length, Option, Some, None, Result, Ok, Err, if◌then◌else◌}
-use Rattle.operation_notation.specs.Lexeme.{Lexeme, same, begins}
-use Rattle.operation_notation.specs.Words.{most_64, is_unsupported, place, word_of, type_name_of, value_name_of, number_of, int_of, end_of, bool_of}
-use Rattle.operation_notation.specs.declared.fault.NotationKind.{NotationKind}
-use Rattle.operation_notation.specs.declared.fault.NotationKind.TheVariants.{Unsupported, UnexpectedToken}
+use Rattle.notation_tokens.specs.Lexeme.{Lexeme, same, begins}
+use Rattle.notation_tokens.specs.Words.{most_64, is_unsupported, place, word_of, type_name_of, value_name_of, number_of, int_of, end_of, bool_of}
+use Rattle.notation_tokens.specs.declared.faults.NotationKind.{NotationKind}
+use Rattle.notation_tokens.specs.declared.faults.NotationKind.TheVariants.{Unsupported, UnexpectedToken}
 use Rattle.operation_notation.specs.declared.fault.Refusal.{Refusal}
 use Rattle.operation_notation.specs.declared.fault.Refusal.TheVariants as refusals
-use Rattle.operation_notation.specs.declared.cursor.Place.{Place}
-use Rattle.operation_notation.specs.declared.module.Located.{Located}
+use Rattle.notation_tokens.specs.declared.token.Place.{Place}
+use Rattle.notation_tokens.specs.declared.token.Located.{Located}
 
 -- the tokens from the faulty one on (none where the text ends too early), and what is wrong with it
 pub record Failure : Type 0 where

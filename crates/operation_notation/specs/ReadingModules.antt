@@ -1,13 +1,13 @@
 -- Reading a module, with the first fault that is met.
 use Rattle.std.specs.Prelude.{ℕ, codes, Bool, true, false, ◌||◌, List, [], ◌∷◌, Option, Some, None, unwrap_or, Ok, if◌then◌else◌}
-use Rattle.operation_notation.specs.Lexeme.{Lexeme, begins, goes_on}
-use Rattle.operation_notation.specs.Words.{is_type_name, is_value_name}
+use Rattle.notation_tokens.specs.Lexeme.{Lexeme, begins, goes_on}
+use Rattle.notation_tokens.specs.Words.{is_type_name, is_value_name}
 use Rattle.operation_notation.specs.Reading.{◌>>=◌, Read, give, refuse, refuse_as, kind_at, word_at, type_name_at, value_name_at, number_64_at, int_at, bool_at, maybe_at, all_at, behind, listed_at}
 use Rattle.operation_notation.specs.ReadingTypes.{oid_at, starts_name, outer_type_at}
-use Rattle.operation_notation.specs.declared.fault.NotationKind.{NotationKind}
-use Rattle.operation_notation.specs.declared.fault.NotationKind.TheVariants.{Unsupported, UnexpectedToken}
-use Rattle.operation_notation.specs.declared.cursor.Place.{Place}
-use Rattle.operation_notation.specs.declared.module.Located.{Located}
+use Rattle.notation_tokens.specs.declared.faults.NotationKind.{NotationKind}
+use Rattle.notation_tokens.specs.declared.faults.NotationKind.TheVariants.{Unsupported, UnexpectedToken}
+use Rattle.notation_tokens.specs.declared.token.Place.{Place}
+use Rattle.notation_tokens.specs.declared.token.Located.{Located}
 use Rattle.operation_notation.specs.declared.module.UseText.{UseText}
 use Rattle.operation_notation.specs.declared.module.CodeText.{CodeText}
 use Rattle.operation_notation.specs.declared.module.OpText.{OpText}

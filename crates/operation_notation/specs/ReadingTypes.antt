@@ -1,19 +1,19 @@
 -- Reading types and object identifiers, with the first fault that is met.
 use Rattle.std.specs.Prelude.{ℕ, zero, suc, codes, Bool, true, false, ◌&&◌, List, [], ◌∷◌, Option, Some, None, is_some, nat_lt, Ok, if◌then◌else◌}
-use Rattle.operation_notation.specs.Lexeme.{Lexeme, begins, goes_on}
-use Rattle.operation_notation.specs.Words.{most_32, is_value_name, arc_name_of, root_name, text_kind_of}
+use Rattle.notation_tokens.specs.Lexeme.{Lexeme, begins, goes_on}
+use Rattle.notation_tokens.specs.Words.{most_32, is_value_name, arc_name_of, root_name, text_kind_of}
 use Rattle.operation_notation.specs.Reading.{◌>>=◌, Read, give, here, refuse, refuse_as, is_set_of, token_at, word_at, type_name_at, value_name_at, number_at, number_64_at, int_at, end_at, maybe_at, many_at, listed_at}
 use Rattle.operation_notation.specs.Tree.{TypeTree, type_tree, PlainTree, boolean, null, integer, enumerated, octets, bits, object_id, text, sequence_of, sequence, set, choice, named}
 use Rattle.operation_notation.specs.TreeView.{parts_of}
 use Rattle.operation_notation.specs.GrammarTypes.{most_levels}
-use Rattle.operation_notation.specs.declared.fault.NotationKind.{NotationKind}
-use Rattle.operation_notation.specs.declared.fault.NotationKind.TheVariants.{Unsupported, UnexpectedToken}
+use Rattle.notation_tokens.specs.declared.faults.NotationKind.{NotationKind}
+use Rattle.notation_tokens.specs.declared.faults.NotationKind.TheVariants.{Unsupported, UnexpectedToken}
 use Rattle.operation_notation.specs.declared.module.RangeText.{RangeText}
 use Rattle.operation_notation.specs.declared.module.TagText.{TagText}
 use Rattle.operation_notation.specs.declared.module.ItemText.{ItemText}
 use Rattle.operation_notation.specs.declared.module.PartText.{PartText}
-use Rattle.operation_notation.specs.declared.cursor.Place.{Place}
-use Rattle.operation_notation.specs.declared.module.Located.{Located}
+use Rattle.notation_tokens.specs.declared.token.Place.{Place}
+use Rattle.notation_tokens.specs.declared.token.Located.{Located}
 
 -- ---- object identifiers
 

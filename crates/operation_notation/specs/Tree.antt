@@ -1,6 +1,6 @@
 -- Types of the notation as trees (X.680 17; the profile has no other types). Each node has the place of its first token.
 use Rattle.std.specs.Prelude.{ℕ, ◌+◌, Bool, max, List, Option}
-use Rattle.operation_notation.specs.declared.module.Located.{Located}
+use Rattle.notation_tokens.specs.declared.token.Located.{Located}
 use Rattle.operation_notation.specs.declared.module.TagText.{TagText}
 use Rattle.operation_notation.specs.declared.module.RangeText.{RangeText}
 use Rattle.operation_notation.specs.declared.module.ItemText.{ItemText}

@@ -1,14 +1,15 @@
 -- What holds of every module that is read, beside that a text reads as it.
-use Rattle.std.specs.Prelude.{◌≡◌, ◌≤◌, ◌<◌, Bool, true, false, ◌&&◌, not, List, [], ◌∷◌, ◌++◌, ◌⊎◌, length, Option, Some, None, IsTrue, is_some, IfSome}
+use Rattle.std.specs.Prelude.{◌≡◌, ◌≤◌, ◌<◌, Bool, true, false, ◌&&◌, not, List, [], ◌∷◌, ◌++◌, length, Option, Some, None, IsTrue, is_some, IfSome}
 use Rattle.std.specs.List.{AllByRecursion}
-use Rattle.operation_notation.specs.Forms.{is_word}
-use Rattle.operation_notation.specs.Words.{is_quoted, is_unsupported, begins_upper, begins_lower}
+use Rattle.notation_tokens.specs.Forms.{is_word}
+use Rattle.notation_tokens.specs.Words.{is_quoted, is_unsupported, begins_upper, begins_lower}
 use Rattle.operation_notation.specs.Tree.{TypeTree, type_tree, PlainTree, boolean, null, integer, enumerated, octets, bits, object_id, text, sequence_of, sequence, set, choice, named, PartTrees, no_parts, part}
-use Rattle.operation_notation.specs.declared.module.Located.{Located}
+use Rattle.notation_tokens.specs.declared.token.Located.{Located}
 use Rattle.operation_notation.specs.declared.module.TagText.{TagText}
 use Rattle.operation_notation.specs.declared.module.ItemText.{ItemText}
 use Rattle.operation_notation.specs.declared.module.RangeText.{RangeText}
-use Rattle.operation_notation.specs.declared.cursor.Place.{Place}
+use Rattle.notation_tokens.specs.Places.{NeverFall}
+use Rattle.notation_tokens.specs.declared.token.Place.{Place}
 use Rattle.operation_notation.specs.declared.module.UseText.{UseText}
 use Rattle.operation_notation.specs.declared.module.CodeText.{CodeText}
 use Rattle.operation_notation.specs.declared.module.OpText.{OpText}
@@ -150,20 +151,6 @@ assignment_places (a ∷ more) = (name_place a.name ∷ body_places a.body) ++ a
 
 abbrev pub module_places : ModuleText → List Place
 module_places m = name_place m.name ∷ assignment_places m.assignments
-
--- one place isn't before the other
-abbrev pub NotAfter : Place → Place → Type 0
-NotAfter p q = (p.line < q.line) ⊎ (p.line ≡ q.line) × (p.column ≤ q.column)
-
--- places that never fall, from one to another
-abbrev pub Rising : Place → Place → List Place → Type 0
-Rising low high [] = NotAfter low high
-Rising low high (p ∷ ps) = NotAfter low p × Rising p high ps
-
--- places never fall in text order
-abbrev pub NeverFall : List Place → Type 0
-NeverFall [] = Unit {0}
-NeverFall (p ∷ ps) = (high : Place) × Rising p high ps
 
 pub record IsWellFormed (m : ModuleText) : Type 0 where
   pub name : IsTypeName m.name

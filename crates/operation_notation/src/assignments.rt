@@ -4,9 +4,10 @@ ghost use Rattle.std.specs.Prelude.{◌≡◌, ◌≤◌, ◌<◌, codes, length
 ghost use Rattle.operation_notation.specs.Reading.{Gives, behind};
 ghost use Rattle.operation_notation.specs.ReadingModules.{typed_at, opens_at, operation_body_at, error_body_at, body_at, valued_at, assignment_at, assignments_at, imported_at, listed_imports_at, maybe_oid_at, imports_at, maybe_imports_at, tagging_at, heading_at, module_at, whole_at};
 
-use crate::cursor::{Cursor, Place};
+use crate::cursor::Cursor;
 use crate::fault::Refusal;
-use crate::module::{Assignment, Assignments, Body, Located, ModuleText};
+use crate::module::{Assignment, Assignments, Body, ModuleText};
+use notation_tokens::{Located, Place};
 use osi_base::{ListOf, Oid};
 use std::alloc::Global;
 

@@ -4,9 +4,10 @@ ghost use Rattle.std.specs.Prelude.{◌≡◌, ◌≤◌, ◌<◌, codes, length
 ghost use Rattle.operation_notation.specs.Reading.{Gives, behind, listed_at, value_name_at};
 ghost use Rattle.operation_notation.specs.ReadingModules.{flag_at, flag_2_at, flag_or_at, passed_flag_at, use_at, maybe_use_at, names_at, named_list_at, priority_at, passed_priority_at, invoke_priority_at, local_at, global_at, code_value_at, code_at, maybe_code_at, signature_at, manner_at, operation_at, error_at};
 
-use crate::cursor::{Cursor, Place};
+use crate::cursor::Cursor;
 use crate::fault::Refusal;
-use crate::module::{CodeText, ErrText, Located, Locateds, OpText, UseText};
+use crate::module::{CodeText, ErrText, Locateds, OpText, UseText};
+use notation_tokens::{Located, Place};
 use osi_base::ListOf;
 use std::alloc::Global;
 

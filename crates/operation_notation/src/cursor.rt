@@ -1,21 +1,20 @@
 //! Where the parser stands, and the tokens that it takes one at a time.
 
 ghost use Rattle.std.specs.Prelude.{◌≡◌, ◌≤◌, ◌<◌, List, length, IfOk, OnOk, IsTrue, IfSome, is_some, ◌==◌};
-ghost use Rattle.operation_notation.specs.Lexeme.{Lexeme, IsSpan, lexemes, begins, goes_on};
+ghost use Rattle.notation_tokens.specs.Lexeme.{Lexeme, IsSpan, lexemes, begins, goes_on};
 ghost use Rattle.std.specs.List.{AllByRecursion};
-ghost use Rattle.operation_notation.specs.Words.{type_name_of, value_name_of, number_of, int_of, end_of, bool_of, text_kind_of, arc_name_of, root_name};
-ghost use Rattle.operation_notation.specs.Forms.{is_word};
+ghost use Rattle.notation_tokens.specs.Words.{type_name_of, value_name_of, number_of, int_of, end_of, bool_of, text_kind_of, arc_name_of, root_name};
+ghost use Rattle.notation_tokens.specs.Forms.{is_word};
 ghost use Rattle.operation_notation.specs.ReadingModules.{class_kind};
 ghost use Rattle.operation_notation.specs.Reading.{Gives, is_set_of, kind_at, word_at, type_name_at, value_name_at, number_at, number_64_at, int_at, end_at, bool_at, place_of};
 ghost use Rattle.operation_notation.specs.ReadingTypes.{starts_name, root_word, text_kind, arc_name_at, text_kind_at};
 
-use crate::fault::{NotationKind, Refusal};
-use crate::module::Located;
-use crate::token::Token;
-use crate::words::{
+use crate::fault::Refusal;
+use notation_tokens::words::{
     arc_word, integer, is_lower_name, is_same, is_unsupported_word, is_upper_name, natural,
     range_end, text_word, truth,
 };
+use notation_tokens::{Located, NotationKind, Place, Token};
 use osi_base::{Name, NoMemory};
 use std::alloc::Global;
 use std::marker::Model;
@@ -30,33 +29,13 @@ pub(crate) struct Cursor<'t> {
 impl<'t> Model for Cursor<'t> {
     ghost use Rattle.std.specs.Prelude.{List, length};
     ghost use Rattle.std.specs.List.{AllByRecursion};
-    ghost use Rattle.operation_notation.specs.Lexeme.{Lexeme, IsSpan, lexemes};
+    ghost use Rattle.notation_tokens.specs.Lexeme.{Lexeme, IsSpan, lexemes};
 
     ghost Value = { List Lexeme };
 
     ghost view = { λ c. lexemes c.source.now c.tokens.now };
 
     ghost invariant = { λ c. AllByRecursion (IsSpan c.source.now (length c.source.now)) c.tokens.now };
-}
-
-/// Where a token stands.
-#[derive(Clone, Copy, Debug, PartialEq, Eq)]
-pub(crate) struct Place {
-    pub line: u32,
-    pub column: u32,
-}
-
-impl Token {
-    /// Where the token stands.
-    pub(crate) fn place(&self) -> Place
-        ensures line { result.line ≡ self.now.line }
-        ensures column { result.column ≡ self.now.column }
-    {
-        Place {
-            line: self.line,
-            column: self.column,
-        }
-    }
 }
 
 /// The name that a word's octets are, at a place.
@@ -167,7 +146,7 @@ impl<'t> Cursor<'t> {
     }
 
     /// Goes past this word, and tells where it stands.
-    #[tactic(auto, unfolding(crate::specs::Reading::word_at, crate::specs::Words::word_of))]
+    #[tactic(auto, unfolding(crate::specs::Reading::word_at, notation_tokens::specs::Words::word_of))]
     pub fn expect(&mut self, word: &[u8]) -> Result<Place, Refusal>
         ensures gives { Gives result self.new (word_at word.now self.old) }
         ensures takes { OnOk result (length self.new < length self.old) }
@@ -183,7 +162,7 @@ impl<'t> Cursor<'t> {
     }
 
     /// A name that begins with a lower-case letter.
-    #[tactic(auto, unfolding(crate::specs::Reading::value_name_at, crate::specs::Words::value_name_of))]
+    #[tactic(auto, unfolding(crate::specs::Reading::value_name_at, notation_tokens::specs::Words::value_name_of))]
     pub fn value_name(&mut self, alloc: Global) -> Result<Located, Refusal>
         ensures gives { Gives result self.new (value_name_at self.old) }
         ensures takes { OnOk result (length self.new < length self.old) }
@@ -200,7 +179,7 @@ impl<'t> Cursor<'t> {
     }
 
     /// A name that begins with an upper-case letter and isn't a word of the grammar's.
-    #[tactic(auto, unfolding(crate::specs::Reading::type_name_at, crate::specs::Words::type_name_of))]
+    #[tactic(auto, unfolding(crate::specs::Reading::type_name_at, notation_tokens::specs::Words::type_name_of))]
     pub fn type_name(&mut self, alloc: Global) -> Result<Located, Refusal>
         ensures gives { Gives result self.new (type_name_at self.old) }
         ensures takes { OnOk result (length self.new < length self.old) }
@@ -309,7 +288,7 @@ impl<'t> Cursor<'t> {
     }
 
     /// A name before the number of an arc, which isn't kept.
-    #[tactic(auto, unfolding(crate::specs::ReadingTypes::arc_name_at, crate::specs::Words::arc_name_of))]
+    #[tactic(auto, unfolding(crate::specs::ReadingTypes::arc_name_at, notation_tokens::specs::Words::arc_name_of))]
     pub fn arc_name(&mut self) -> Result<Place, Refusal>
         ensures gives { Gives result self.new (arc_name_at self.old) }
         ensures takes { OnOk result (length self.new < length self.old) }

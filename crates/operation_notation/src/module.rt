@@ -1,6 +1,7 @@
 //! A module as it was read: each assignment with the places of its tokens.
 
-use osi_base::{ListOf, Name, Oid};
+use notation_tokens::Located;
+use osi_base::{ListOf, Oid};
 use std::marker::Model;
 
 /// A module: its name and object identifier, whether tags are implicit unless they say otherwise,
@@ -11,14 +12,6 @@ pub struct ModuleText {
     pub name_oid: Oid,
     pub implicit: bool,
     pub assignments: Assignments,
-}
-
-/// A name and the place of its token: line and column from 1, columns in octets.
-#[derive(Debug, Drop)]
-pub struct Located {
-    pub text: Name,
-    pub line: u32,
-    pub column: u32,
 }
 
 /// Names with their places, in text order.

@@ -1,69 +1,20 @@
-//! Lexing and parsing a text.
+//! Parsing a text.
 
 ghost use Rattle.std.specs.Prelude.{◌≡◌, ◌≤◌, length, IfOk, IfErr, Ok};
 ghost use Rattle.std.specs.List.{AllByRecursion};
-ghost use Rattle.operation_notation.specs.Lexeme.{IsSpan, lexemes};
+ghost use Rattle.notation_tokens.specs.Lexeme.{IsSpan, lexemes};
 ghost use Rattle.operation_notation.specs.ReadingModules.{whole_at};
-ghost use Rattle.operation_notation.specs.Modules.{Answers, Reads, fault_at, tokens_of, module_of, refused, verdict};
+ghost use Rattle.notation_tokens.specs.Texts.{Answers};
+ghost use Rattle.operation_notation.specs.Modules.{Reads, module_of, refused, verdict};
 ghost use Rattle.operation_notation.specs.Faults.{IsFirstFault};
-ghost use Rattle.operation_notation.specs.Tokens.{AreTokens};
 ghost use Rattle.operation_notation.specs.WellFormed.{IsWellFormed};
 ghost use Rattle.operation_notation.specs.declared.module.ModuleText.{ModuleText};
 
-use crate::cursor::{Cursor, Place};
-use crate::fault::{NotationFault, NotationKind, Refusal};
-use crate::lexer::{Lexed, MOST_OCTETS, cut_text};
+use crate::cursor::Cursor;
+use crate::fault::Refusal;
 use crate::module::ModuleText;
-use crate::token::Tokens;
+use notation_tokens::{Lexed, MOST_OCTETS, NotationFault, NotationKind, TOO_LONG, cut_text, fault};
 use std::alloc::Global;
-
-/// The fault of this kind at a place.
-fn fault(place: Place, kind: NotationKind) -> NotationFault
-    ensures { result ≡ fault_at place kind }
-{
-    NotationFault::At {
-        line: place.line,
-        column: place.column,
-        kind,
-    }
-}
-
-const TOO_LONG: NotationFault = NotationFault::At {
-    line: 1,
-    column: 1,
-    kind: NotationKind::TextTooLong,
-};
-
-/// The tokens of a text of at most 1,048,576 octets and 65,536 tokens, cut longest first.
-///
-/// # Errors
-///
-/// `At`, with the first of these: `TextTooLong` at line 1, column 1; `BadCharacter` at an octet
-/// outside comments that begins no token and is no white space; `TooManyTokens` at the first
-/// token past the limit. `NoMemory` where an allocation is refused.
-pub fn lex(alloc: Global, text: &[u8]) -> Result<Tokens, NotationFault>
-    // The tokens lie in order, each the longest of its kind, with its place.
-    ensures tokens { IfOk result (λ tokens. AreTokens text.now 0 tokens) }
-    // Which tokens or fault it is.
-    ensures exact { Answers result (tokens_of text.now) }
-{
-    cut_whole(alloc, text)
-}
-
-/// The tokens of a text, or its first fault.
-#[tactic(auto, unfolding(crate::specs::Modules::tokens_of))]
-fn cut_whole(alloc: Global, text: &[u8]) -> Result<Tokens, NotationFault>
-    ensures { Answers result (tokens_of text.now) }
-{
-    if text.len() > MOST_OCTETS {
-        return Err(TOO_LONG);
-    }
-    let lexed = cut_text(alloc, text)?;
-    match lexed.stop {
-        None => Ok(lexed.tokens),
-        Some(kind) => Err(fault(lexed.place, kind)),
-    }
-}
 
 /// The fault of this kind where a parser stands.
 fn fault_of(lexed: &Lexed, cursor: &Cursor<'_>, kind: NotationKind) -> NotationFault
@@ -118,7 +69,7 @@ pub fn parse_module(alloc: Global, text: &[u8]) -> Result<ModuleText, NotationFa
 }
 
 /// The module that a text is, or its first fault.
-#[tactic(auto, unfolding(crate::specs::Modules::module_of), using(crate::proofs::Spans::lexed_spans))]
+#[tactic(auto, unfolding(crate::specs::Modules::module_of), using(notation_tokens::proofs::Spans::lexed_spans))]
 fn read(alloc: Global, text: &[u8]) -> Result<ModuleText, NotationFault>
     ensures { Answers result (module_of text.now) }
 {

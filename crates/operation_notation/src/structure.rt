@@ -6,8 +6,9 @@ ghost use Rattle.operation_notation.specs.ReadingTypes.{optional_at, part_at, pa
 ghost use Rattle.operation_notation.specs.TreeView.{plain_of};
 
 use crate::cursor::Cursor;
-use crate::fault::{NotationKind, Refusal};
+use crate::fault::Refusal;
 use crate::module::{PartText, PlainText, TypeText};
+use notation_tokens::NotationKind;
 use osi_base::ListOf;
 use std::alloc::Global;
 

@@ -1,5 +1,5 @@
 use Rattle.std.proofs.lemmas.Str.{IsUtf8-from_ascii}
-use Rattle.operation_notation.proofs.Names.{ok_at_text, word_low}
+use Rattle.notation_tokens.proofs.Names.{ok_at_text, word_low}
 use Rattle.operation_notation.proofs.cursor.located.Goals as goal
 
 pub unwrap-text-requires : goal.unwrap-text-requires

@@ -1,5 +1,5 @@
 use Rattle.std.proofs.Common.{◌≤◌, codes, length}
-use Rattle.operation_notation.specs.Lexeme.{goes_on}
+use Rattle.notation_tokens.specs.Lexeme.{goes_on}
 use Rattle.operation_notation.specs.Reading.{all_at}
 use Rattle.operation_notation.specs.ReadingModules.{assignment_at}
 use Rattle.operation_notation.proofs.Loops.{Going}

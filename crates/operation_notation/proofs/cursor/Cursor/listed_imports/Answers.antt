@@ -1,9 +1,9 @@
 use Rattle.std.proofs.Common.{codes, List, ◌∷◌, [], ◌++◌, sym, ◌∙◌, refl, arith}
 use Rattle.std.proofs.lemmas.Result.{err_from_is_err_and}
 use Rattle.operation_notation.specs.ReadingModules.{listed_imports_at, imported_at}
-use Rattle.operation_notation.specs.Lexeme.{Lexeme, begins}
+use Rattle.notation_tokens.specs.Lexeme.{Lexeme, begins}
 use Rattle.operation_notation.specs.Reading.{◌>>=◌, Read, give, all_at, behind}
-use Rattle.operation_notation.specs.declared.cursor.Place.{Place}
+use Rattle.notation_tokens.specs.declared.token.Place.{Place}
 use Rattle.operation_notation.proofs.Loops.{stops, fails, goes, fails_behind, fails_before}
 use Rattle.operation_notation.proofs.cursor.Cursor.listed_imports.Goals as goal
 

@@ -1,8 +1,8 @@
 use Rattle.std.proofs.Common.{◌<◌, List, codes, length}
-use Rattle.operation_notation.specs.Lexeme.{begins}
+use Rattle.notation_tokens.specs.Lexeme.{begins}
 use Rattle.operation_notation.specs.Reading.{behind, all_at}
 use Rattle.operation_notation.specs.ReadingModules.{imported_at}
-use Rattle.operation_notation.specs.declared.cursor.Place.{Place}
+use Rattle.notation_tokens.specs.declared.token.Place.{Place}
 use Rattle.operation_notation.proofs.Loops.{Going}
 use Rattle.operation_notation.proofs.cursor.Cursor.listed_imports.Given as goal
 

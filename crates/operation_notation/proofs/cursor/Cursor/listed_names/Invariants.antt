@@ -1,5 +1,5 @@
 use Rattle.std.proofs.Common.{◌<◌, codes, length}
-use Rattle.operation_notation.specs.Lexeme.{begins}
+use Rattle.notation_tokens.specs.Lexeme.{begins}
 use Rattle.operation_notation.specs.Reading.{behind, listed_at, value_name_at}
 use Rattle.operation_notation.proofs.Loops.{Going}
 use Rattle.operation_notation.proofs.cursor.Cursor.listed_names.Given as goal

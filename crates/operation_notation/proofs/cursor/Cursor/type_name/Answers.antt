@@ -1,5 +1,5 @@
 use Rattle.std.proofs.Common.{sym}
-use Rattle.operation_notation.proofs.Names.{upper_is_word, first_has_form}
+use Rattle.notation_tokens.proofs.Names.{upper_is_word, first_has_form}
 use Rattle.operation_notation.proofs.cursor.Cursor.type_name.Goals as goal
 
 pub located-requires : goal.located-requires

@@ -1,0 +1,278 @@
+use notation_tokens::cut_text;
+use operation_notation::{NotationFault, NotationKind, lex, parse_module};
+use std::alloc::{AllocError, Global};
+use std::test::*;
+
+/// A module with five assignments.
+const CALC: &[u8] = b"Calc {2 999 7 1} DEFINITIONS IMPLICIT TAGS ::= BEGIN
+IMPORTS OPERATION, ERROR FROM Remote-Operations-Information-Objects
+  {joint-iso-itu-t remote-operations(4) informationObjects(5) version1(0)};
+add OPERATION ::= {ARGUMENT INTEGER RESULT INTEGER ERRORS {overflow} LINKED {ask} CODE local:1}
+store OPERATION ::= {ARGUMENT OCTET STRING RESULT NULL CODE local:2}
+ask OPERATION ::= {ARGUMENT INTEGER RESULT INTEGER CODE local:3}
+note OPERATION ::= {ARGUMENT IA5String RETURN RESULT FALSE CODE local:4}
+overflow ERROR ::= {PARAMETER INTEGER CODE local:1}
+END
+";
+
+const CALC_SHOWN: &str =
+    "ModuleText { name: Located { text: Name { text: \"Calc\" }, line: 1, column: 1 }, name_oid: \
+    Oid { arcs: [2, 999, 7, 1] }, implicit: true, assignments: ListOf { items: [Assignment { \
+    name: Located { text: Name { text: \"add\" }, line: 4, column: 1 }, body: Operation(OpText { \
+    argument: Some(UseText { line: 4, column: 20, of: TypeText { line: 4, column: 29, tag: None, \
+    plain: Integer(None) }, optional: false }), result: Some(UseText { line: 4, column: 37, of: \
+    TypeText { line: 4, column: 44, tag: None, plain: Integer(None) }, optional: false }), \
+    returns: true, always: true, errors: ListOf { items: [Located { text: Name { text: \
+    \"overflow\" }, line: 4, column: 60 }] }, linked: ListOf { items: [Located { text: Name { \
+    text: \"ask\" }, line: 4, column: 78 }] }, code: Some(CodeText { line: 4, column: 88, local: \
+    Some(1), global: None }) }) }, Assignment { name: Located { text: Name { text: \"store\" }, \
+    line: 5, column: 1 }, body: Operation(OpText { argument: Some(UseText { line: 5, column: 22, \
+    of: TypeText { line: 5, column: 31, tag: None, plain: Octets(None) }, optional: false }), \
+    result: Some(UseText { line: 5, column: 44, of: TypeText { line: 5, column: 51, tag: None, \
+    plain: Null }, optional: false }), returns: true, always: true, errors: ListOf { items: [] \
+    }, linked: ListOf { items: [] }, code: Some(CodeText { line: 5, column: 61, local: Some(2), \
+    global: None }) }) }, Assignment { name: Located { text: Name { text: \"ask\" }, line: 6, \
+    column: 1 }, body: Operation(OpText { argument: Some(UseText { line: 6, column: 20, of: \
+    TypeText { line: 6, column: 29, tag: None, plain: Integer(None) }, optional: false }), \
+    result: Some(UseText { line: 6, column: 37, of: TypeText { line: 6, column: 44, tag: None, \
+    plain: Integer(None) }, optional: false }), returns: true, always: true, errors: ListOf { \
+    items: [] }, linked: ListOf { items: [] }, code: Some(CodeText { line: 6, column: 57, local: \
+    Some(3), global: None }) }) }, Assignment { name: Located { text: Name { text: \"note\" }, \
+    line: 7, column: 1 }, body: Operation(OpText { argument: Some(UseText { line: 7, column: 21, \
+    of: TypeText { line: 7, column: 30, tag: None, plain: Text(1) }, optional: false }), result: \
+    None, returns: false, always: true, errors: ListOf { items: [] }, linked: ListOf { items: [] \
+    }, code: Some(CodeText { line: 7, column: 65, local: Some(4), global: None }) }) }, \
+    Assignment { name: Located { text: Name { text: \"overflow\" }, line: 8, column: 1 }, body: \
+    Error(ErrText { parameter: Some(UseText { line: 8, column: 21, of: TypeText { line: 8, \
+    column: 31, tag: None, plain: Integer(None) }, optional: false }), code: Some(CodeText { \
+    line: 8, column: 44, local: Some(1), global: None }) }) }] } }";
+
+/// A type with a tag, a size, an optional part and an alternative.
+const PARTS: &[u8] = b"M {2 999} DEFINITIONS ::= BEGIN
+T ::= [APPLICATION 3] IMPLICIT SEQUENCE {a OCTET STRING (SIZE (0..7)) OPTIONAL, b CHOICE {c U}}
+END
+";
+
+const PARTS_SHOWN: &str =
+    "ModuleText { name: Located { text: Name { text: \"M\" }, line: 1, column: 1 }, name_oid: Oid \
+    { arcs: [2, 999] }, implicit: false, assignments: ListOf { items: [Assignment { name: \
+    Located { text: Name { text: \"T\" }, line: 2, column: 1 }, body: Typed(TypeText { line: 2, \
+    column: 7, tag: Some(TagText { class: 1, number: 3, explicit: Some(false) }), plain: \
+    Sequence([PartText { name: Located { text: Name { text: \"a\" }, line: 2, column: 42 }, of: \
+    TypeText { line: 2, column: 44, tag: None, plain: Octets(Some(RangeText { line: 2, column: \
+    64, low: 0, high: 7 })) }, optional: true }, PartText { name: Located { text: Name { text: \
+    \"b\" }, line: 2, column: 81 }, of: TypeText { line: 2, column: 83, tag: None, plain: \
+    Choice([PartText { name: Located { text: Name { text: \"c\" }, line: 2, column: 91 }, of: \
+    TypeText { line: 2, column: 93, tag: None, plain: Named(Located { text: Name { text: \"U\" \
+    }, line: 2, column: 93 }) }, optional: false }]) }, optional: false }]) }) }] } }";
+
+/// A text with the place and kind of its first fault.
+type Row = (&'static [u8], u32, u32, NotationKind);
+
+const FAULTS: [Row; 23] = [
+    (
+        b"M {2 999 7 2} DEFINITIONS ::= BEGIN\na OPERATION ::= {RESULT REAL}\nEND\n",
+        2,
+        25,
+        NotationKind::Unsupported,
+    ),
+    (
+        b"M {2 999 7 2} DEFINITIONS ::= BEGIN\na OPERATION ::= {CODE $}\nEND\n",
+        2,
+        23,
+        NotationKind::BadCharacter,
+    ),
+    (b"M", 1, 2, NotationKind::UnexpectedToken),
+    (
+        b"M {2 999} DEFINITIONS ::= BEGIN a OPERATION ::= {CODE local:-0} END",
+        1,
+        61,
+        NotationKind::UnexpectedToken,
+    ),
+    (
+        b"M {2 999} DEFINITIONS ::= BEGIN T ::= SET OF NULL END",
+        1,
+        39,
+        NotationKind::Unsupported,
+    ),
+    (
+        b"M {2 999} DEFINITIONS ::= BEGIN T ::= B {} END",
+        1,
+        41,
+        NotationKind::Unsupported,
+    ),
+    (
+        b"M {2 999} DEFINITIONS ::= BEGIN IMPORTS X FROM Y; END",
+        1,
+        41,
+        NotationKind::Unsupported,
+    ),
+    (
+        b"M {2 999} DEFINITIONS ::= BEGIN IMPORTS ; END",
+        1,
+        41,
+        NotationKind::UnexpectedToken,
+    ),
+    (
+        b"M {2 999} DEFINITIONS ::= BEGIN IMPORTS FROM Y; END",
+        1,
+        41,
+        NotationKind::UnexpectedToken,
+    ),
+    (
+        b"M {2 999} DEFINITIONS ::= BEGIN T ::= INTEGER (0..9223372036854775808) END",
+        1,
+        51,
+        NotationKind::UnexpectedToken,
+    ),
+    (
+        b"M {2 999} DEFINITIONS ::= BEGIN T ::= SEQUENCE {a NULL DEFAULT NULL} END",
+        1,
+        56,
+        NotationKind::Unsupported,
+    ),
+    (
+        b"M {1 2 3 4 5 6 7 8 9 0 1 2 3 4 5 6 7 8 9 0 1 2 3 4 5 6 7 8 9 0 1 2 3}",
+        1,
+        68,
+        NotationKind::UnexpectedToken,
+    ),
+    (
+        b"M {iso member-body} DEFINITIONS",
+        1,
+        19,
+        NotationKind::UnexpectedToken,
+    ),
+    (b"M {3 1}", 1, 4, NotationKind::UnexpectedToken),
+    (b"M {1 40}", 1, 6, NotationKind::UnexpectedToken),
+    (b"M {2}", 1, 5, NotationKind::UnexpectedToken),
+    (b"M {2 4294967296}", 1, 6, NotationKind::UnexpectedToken),
+    (b"M {2 01}", 1, 6, NotationKind::UnexpectedToken),
+    (b"M- {2 999}", 1, 2, NotationKind::BadCharacter),
+    (
+        b"M -- to the next -- {2 $",
+        1,
+        24,
+        NotationKind::BadCharacter,
+    ),
+    (
+        b"M -- to the line's end\n{2 $",
+        2,
+        4,
+        NotationKind::BadCharacter,
+    ),
+    (
+        b"M {2 999} DEFINITIONS ::= BEGIN END END",
+        1,
+        37,
+        NotationKind::UnexpectedToken,
+    ),
+    (
+        b"M {2 999} DEFINITIONS ::= BEGIN a OPERATION ::= {LINKED {b} ERRORS {c}} END",
+        1,
+        61,
+        NotationKind::UnexpectedToken,
+    ),
+];
+
+/// What a text is as a module, printed.
+fn shown(alloc: Global, text: &[u8]) -> Result<String, AllocError> {
+    format!(in alloc; "{:?}", parse_module(alloc, text))
+}
+
+#[test]
+fn calc_has_its_five_assignments(rt: HostRuntime) -> Result<(), Fail> {
+    let found = shown(rt.alloc(), CALC)?;
+    let wanted = format!(in rt.alloc(); "Ok({CALC_SHOWN})")?;
+    assert_eq!(rt; found.as_str(), wanted.as_str());
+    Ok(())
+}
+
+#[test]
+fn a_type_has_its_tag_size_and_parts(rt: HostRuntime) -> Result<(), Fail> {
+    let found = shown(rt.alloc(), PARTS)?;
+    let wanted = format!(in rt.alloc(); "Ok({PARTS_SHOWN})")?;
+    assert_eq!(rt; found.as_str(), wanted.as_str());
+    Ok(())
+}
+
+/// Whether a module's text has this first fault.
+fn is_refused(alloc: Global, text: &[u8], line: u32, column: u32, kind: NotationKind) -> bool {
+    let fault = NotationFault::At { line, column, kind };
+    matches!(parse_module(alloc, text), Err(found) if found == fault)
+}
+
+#[test]
+fn first_faults(rt: HostRuntime) {
+    for (text, line, column, kind) in &FAULTS {
+        assert!(rt;
+            is_refused(rt.alloc(), text, *line, *column, *kind),
+            "{text:?}"
+        );
+    }
+}
+
+#[test]
+fn each_token_has_its_place(rt: HostRuntime) -> Result<(), Fail> {
+    let tokens = lex(rt.alloc(), b"M -- x --\n {-5 a-b ::=");
+    let found = format!(in rt.alloc(); "{tokens:?}")?;
+    let wanted = "Ok(ListOf { items: [\
+        Token { kind: Word, from: 0, to: 1, line: 1, column: 1 }, \
+        Token { kind: Sign, from: 11, to: 12, line: 2, column: 2 }, \
+        Token { kind: Number, from: 12, to: 14, line: 2, column: 3 }, \
+        Token { kind: Word, from: 15, to: 18, line: 2, column: 6 }, \
+        Token { kind: Sign, from: 19, to: 22, line: 2, column: 10 }] })";
+    assert_eq!(rt; found.as_str(), wanted);
+    Ok(())
+}
+
+#[test]
+fn cutting_stops_at_an_octet_that_begins_nothing(rt: HostRuntime) -> Result<(), Fail> {
+    let found = format!(in rt.alloc(); "{:?}", cut_text(rt.alloc(), b"M\n $ M"))?;
+    let wanted = "Ok(Lexed { tokens: ListOf { items: [\
+        Token { kind: Word, from: 0, to: 1, line: 1, column: 1 }] }, \
+        stop: Some(BadCharacter), place: Place { line: 2, column: 2 } })";
+    assert_eq!(rt; found.as_str(), wanted);
+    Ok(())
+}
+
+/// `T ::= ` and so many times `SEQUENCE OF`, and NULL.
+fn nested(alloc: Global, times: usize) -> Result<Vec<u8>, AllocError> {
+    let mut text = Vec::from_slice(alloc, b"M {2 999} DEFINITIONS ::= BEGIN T ::= ")?;
+    for _ in 0..times {
+        text.extend_from_slice(b"SEQUENCE OF ")?;
+    }
+    text.extend_from_slice(b"NULL END")?;
+    Ok(text)
+}
+
+#[test]
+fn types_nest_256_deep(rt: HostRuntime) -> Result<(), Fail> {
+    let most = nested(rt.alloc(), 255)?;
+    assert!(rt; parse_module(rt.alloc(), &most).is_ok());
+    let deeper = nested(rt.alloc(), 256)?;
+    let column = 39 + 256 * 12;
+    assert!(rt; is_refused(rt.alloc(), &deeper, 1, column, NotationKind::Unsupported));
+    Ok(())
+}
+
+#[test]
+fn texts_have_at_most_1_048_576_octets(rt: HostRuntime) -> Result<(), Fail> {
+    let spaces = vec![in rt.alloc(); 32_u8; 1_048_577]?;
+    assert!(rt; is_refused(rt.alloc(), &spaces, 1, 1, NotationKind::TextTooLong));
+    assert!(rt; lex(rt.alloc(), &spaces[1..]).is_ok());
+    Ok(())
+}
+
+#[test]
+fn texts_have_at_most_65_536_tokens(rt: HostRuntime) -> Result<(), Fail> {
+    let commas = vec![in rt.alloc(); 44_u8; 65_537]?;
+    let fault = NotationFault::At {
+        line: 1,
+        column: 65_537,
+        kind: NotationKind::TooManyTokens,
+    };
+    assert!(rt; matches!(lex(rt.alloc(), &commas), Err(found) if found == fault));
+    assert!(rt; lex(rt.alloc(), &commas[1..]).is_ok());
+    Ok(())
+}

@@ -1,0 +1,14 @@
+//! The tokens of the notation of remote operations (X.680 12, in this project's profile): how a
+//! text is cut into them, and which words, names and numbers they are.
+#![tactic(auto)]
+
+mod faults;
+mod lexer;
+mod lexing;
+mod token;
+pub mod words;
+
+pub use faults::{NotationFault, NotationKind};
+pub use lexer::{Lexed, MOST_OCTETS, cut_text};
+pub use lexing::{TOO_LONG, fault, lex};
+pub use token::{Located, Place, Token, TokenKind, Tokens};
