@@ -6,11 +6,14 @@ mod fields;
 mod laws;
 mod length;
 mod order;
+mod plain;
 mod primitives;
 mod public;
 mod read;
 mod spot;
 mod strings;
+#[cfg(test)]
+mod tests;
 mod write;
 #[cfg(test)]
 mod writing_tests;

@@ -7,18 +7,18 @@ ghost use Rattle.asn1_types.specs.Table.{IsSound};
 ghost use Rattle.asn1_types.specs.Value as tree;
 ghost use Rattle.asn1_types.specs.ValueView.{values_of, parts_of};
 ghost use Rattle.ber_codec.specs.Reading.{Gives, Fails, spot_of, opened_of, ahead_of, LiesIn, GoesOn, spot_in, IsBefore, Follows};
-ghost use Rattle.ber_codec.specs.Rules.{tag_or, is_opened, expect_at, primitive_at, always, boolean_rule, is_strict_boolean, integer_rule, enumerated_rule, null_rule, object_id_rule, first_of, last_of, open_at, close_at, is_part, place_of, all_items_at, list_item_at, list_done, list_at, part_at, parts_at, sequence_at, choice_at, any_at, explicit_at, or_explicit, tagged_at, read_by, reads, no_parts_of, nothing_filled, is_free, stands, is_filled, set_done, late_kind, late_at, ordered_at, fill_at, slot_at, set_at};
+ghost use Rattle.ber_codec.specs.Rules.{tag_or, is_opened, expect_at, first_of, last_of, open_at, close_at, is_part, place_of, all_items_at, list_item_at, list_done, list_at, part_at, parts_at, sequence_at, choice_at, any_at, explicit_at, or_explicit, tagged_at, read_by, reads, no_parts_of, nothing_filled, is_free, stands, is_filled, set_done, late_kind, late_at, ordered_at, fill_at, slot_at, set_at};
 ghost use Rattle.ber_codec.specs.Order.{rank};
 
 use crate::fault::ReadFault;
 use crate::fields::{contents, extent, look, refusal};
 use crate::order::rank;
-use crate::primitives::{arcs_of, integer_of};
+use crate::plain::{boolean, enumerated, integer, null, object_id};
 use crate::spot::{Ahead, Opened, Scope, Spot, Tag};
 use crate::strings::{bit_string, octet_string, text};
 use asn1_types::{
-    Class, Item, MaybeVals, Node, Part, Parts, TypeId, TypeRow, TypeTable, Val, Vals, begins,
-    is_item, is_no_tag, same_class, text_number,
+    Class, MaybeVals, Node, Part, Parts, TypeId, TypeRow, TypeTable, Val, Vals, begins, is_no_tag,
+    same_class, text_number,
 };
 use osi_base::{Kind, NoMemory, Octets};
 use std::alloc::Global;
@@ -43,131 +43,6 @@ pub(crate) fn expect(tag: Tag, constructed: bool, opened: &Opened) -> Result<(),
         Ok(())
     } else {
         Err(refusal(opened.start.place, Kind::Tag))
-    }
-}
-
-/// A BOOLEAN.
-#[tactic(auto, unfolding(crate::specs::Rules::primitive_at))]
-fn boolean<'a>(
-    tag: Tag,
-    scope: &Scope,
-    opened: &Opened<'a>,
-    spot: Spot<'a>,
-) -> Result<(Val, Spot<'a>), ReadFault>
-    requires { spot.place + length spot.rest.now < 2 ^ 63 }
-    ensures gives { Gives (λ x. (x.0, spot_of x.1)) result (primitive_at boolean_rule is_strict_boolean tag scope.now (opened_of opened.now) (spot_of spot.entry)) }
-    ensures stops { IfOk result (λ x. GoesOn spot.entry.place (length spot.entry.rest.now) x.1) }
-{
-    expect(tag, false, opened)?;
-    let (place, octets, after) = contents(scope, spot)?;
-    match octets {
-        [octet] => {
-            if scope.strict && *octet != 0 && *octet != 255 {
-                return Err(refusal(place, Kind::Form));
-            }
-            let node = Node::Bool(*octet != 0);
-            Ok((Val { node }, after))
-        }
-        _ => Err(refusal(place, Kind::Content)),
-    }
-}
-
-/// An ENUMERATED of these items.
-#[tactic(auto, unfolding(crate::specs::Rules::primitive_at))]
-fn enumerated<'a>(
-    items: &[Item],
-    tag: Tag,
-    scope: &Scope,
-    opened: &Opened<'a>,
-    spot: Spot<'a>,
-) -> Result<(Val, Spot<'a>), ReadFault>
-    requires { spot.place + length spot.rest.now < 2 ^ 63 }
-    ensures gives { Gives (λ x. (x.0, spot_of x.1)) result (primitive_at (enumerated_rule items.now) always tag scope.now (opened_of opened.now) (spot_of spot.entry)) }
-    ensures stops { IfOk result (λ x. GoesOn spot.entry.place (length spot.entry.rest.now) x.1) }
-{
-    expect(tag, false, opened)?;
-    let (place, octets, after) = contents(scope, spot)?;
-    match integer_of(octets) {
-        Some(number) if is_item(items, number) => Ok((
-            Val {
-                node: Node::Int(number),
-            },
-            after,
-        )),
-        _ => Err(refusal(place, Kind::Content)),
-    }
-}
-
-/// An INTEGER from `low` to `high`.
-#[tactic(auto, unfolding(crate::specs::Rules::primitive_at))]
-fn integer<'a>(
-    low: i64,
-    high: i64,
-    tag: Tag,
-    scope: &Scope,
-    opened: &Opened<'a>,
-    spot: Spot<'a>,
-) -> Result<(Val, Spot<'a>), ReadFault>
-    requires { spot.place + length spot.rest.now < 2 ^ 63 }
-    ensures gives { Gives (λ x. (x.0, spot_of x.1)) result (primitive_at (integer_rule low high) always tag scope.now (opened_of opened.now) (spot_of spot.entry)) }
-    ensures stops { IfOk result (λ x. GoesOn spot.entry.place (length spot.entry.rest.now) x.1) }
-{
-    expect(tag, false, opened)?;
-    let (place, octets, after) = contents(scope, spot)?;
-    match integer_of(octets) {
-        Some(number) if low <= number && number <= high => Ok((
-            Val {
-                node: Node::Int(number),
-            },
-            after,
-        )),
-        _ => Err(refusal(place, Kind::Content)),
-    }
-}
-
-/// A NULL.
-#[tactic(auto, unfolding(crate::specs::Rules::primitive_at))]
-fn null<'a>(
-    tag: Tag,
-    scope: &Scope,
-    opened: &Opened<'a>,
-    spot: Spot<'a>,
-) -> Result<(Val, Spot<'a>), ReadFault>
-    requires { spot.place + length spot.rest.now < 2 ^ 63 }
-    ensures gives { Gives (λ x. (x.0, spot_of x.1)) result (primitive_at null_rule always tag scope.now (opened_of opened.now) (spot_of spot.entry)) }
-    ensures stops { IfOk result (λ x. GoesOn spot.entry.place (length spot.entry.rest.now) x.1) }
-{
-    expect(tag, false, opened)?;
-    let (place, octets, after) = contents(scope, spot)?;
-    match octets {
-        [] => Ok((Val { node: Node::Null }, after)),
-        _ => Err(refusal(place, Kind::Content)),
-    }
-}
-
-/// An OBJECT IDENTIFIER.
-#[tactic(auto, unfolding(crate::specs::Rules::primitive_at))]
-fn object_id<'a>(
-    alloc: Global,
-    tag: Tag,
-    scope: &Scope,
-    opened: &Opened<'a>,
-    spot: Spot<'a>,
-) -> Result<(Val, Spot<'a>), ReadFault>
-    requires { spot.place + length spot.rest.now < 2 ^ 63 }
-    ensures gives { Gives (λ x. (x.0, spot_of x.1)) result (primitive_at object_id_rule always tag scope.now (opened_of opened.now) (spot_of spot.entry)) }
-    ensures stops { IfOk result (λ x. GoesOn spot.entry.place (length spot.entry.rest.now) x.1) }
-{
-    expect(tag, false, opened)?;
-    let (place, octets, after) = contents(scope, spot)?;
-    match arcs_of(alloc, octets)? {
-        Some(oid) => Ok((
-            Val {
-                node: Node::ObjectId(oid),
-            },
-            after,
-        )),
-        None => Err(refusal(place, Kind::Content)),
     }
 }
 
