@@ -20,7 +20,7 @@ use Rattle.dialogue.specs.State.{State, passes_over}
 use Rattle.dialogue.specs.Taking.{shown_of}
 use Rattle.dialogue.specs.History.{Step, fed, took, gave, after, after_all}
 use Rattle.dialogue.specs.Feeding.{Feeds, Reads, passes, waits, takes, refuses, fails, read_message}
-use Rattle.dialogue.specs.World.{World, other, stepping, state_at, first_octets, Runs, ends, carries}
+use Rattle.dialogue.specs.World.{World, other, stepping, state_at, first_octets, Runs, ends, calls, carries, breaks}
 use Rattle.dialogue.specs.Laws.{Passed, sendings, takings, octets_given, whole_within, KeepsLaws, ShowsItsMessages, EachCarryShows}
 use Rattle.dialogue.proofs.Reading.{ReadingLaws}
 use Rattle.dialogue.proofs.Readings.{reading_laws}
@@ -73,25 +73,53 @@ module _ (t : Tables) (laws : ReadingLaws t) where
   abbrev given : List ℕ → List Step
   given front = gave (length front) ∷ []
 
+  -- ---- a run of one carry
+
+  pub record CarryMade (setup : Setup) (w v : World) (from : Side) (most : Option ℕ) (carried : Carried) : Type 0 where
+    pub steps : List Step
+    pub feeds : Feeds t (state_at t (other from) w) (first_octets most (state_at t from w).waiting) steps carried.shown
+    pub world : v ≡ stepping (other from) (stepping from w (given (first_octets most (state_at t from w).waiting))) steps
+
+  no_event : (setup : Setup) (u v : World) (all : List Event) (told : List Entry) → Runs t setup u all told v → all ≡ [] → v ≡ u
+  no_event setup u v all told ends e = refl
+  no_event setup u v all told (calls side call next) e = absurd cc
+  no_event setup u v all told (carries side most steps shown fd next) e = absurd cc
+  no_event setup u v all told (breaks next) e = absurd cc
+
+  one_carry : (setup : Setup) (w v : World) (all : List Event) (told : List Entry) → Runs t setup w all told v → (from : Side) (most : Option ℕ) (carried : Carried)
+      → all ≡ events.Carry from most ∷ [] → told ≡ entries.Carry from most carried ∷ [] → CarryMade setup w v from most carried
+  one_carry setup w v all told ends from most carried e f = absurd cc
+  one_carry setup w v all told (calls side call next) from most carried e f = absurd cc
+  one_carry setup w v all told (breaks next) from most carried e f = absurd cc
+  one_carry setup w v all told (carries {more = more} {told = rest} side m steps shown fd next) from most carried e f =
+      let k : Carried = record { octets = first_octets m (state_at t side w).waiting; shown = shown } in
+      let sides : side ≡ from = cc in
+      let mosts : m ≡ most = cc in
+      let over : more ≡ [] = cc in
+      let same : k ≡ carried = cc in
+      let made : CarryMade setup w v side m k =
+      record { steps = steps; feeds = fd; world = no_event setup (stepping (other side) (stepping side w (given (first_octets m (state_at t side w).waiting))) steps) v more rest next over } in
+      subst (λ (x : Side). CarryMade setup w v x most carried) sides
+      (subst (λ (x : Option ℕ). CarryMade setup w v side x carried) mosts (subst (CarryMade setup w v side m) same made))
+
   carry_shows : (setup : Setup) (all : List Event) (told : List Entry) (w v : World) (from : Side) (most : Option ℕ) (carried : Carried)
-      → Runs t setup [] all told w → Runs t setup w (events.Carry from most ∷ []) (entries.Carry from most carried ∷ []) v → (b : Bool) → passes_over (state_at t (other from) w).phase ≡ b
+      → Runs t setup [] all told w → Runs t setup w (events.Carry from most ∷ []) (entries.Carry from most carried ∷ []) v → CarryMade setup w v from most carried → (b : Bool) → passes_over (state_at t (other from) w).phase ≡ b
       → MatchBool b (carried.shown ≡ []) (ShowsItsMessages t from w v carried)
-  carry_shows setup all told w v from most carried run (carries _ _ steps shown fd ends) true over =
-      (over_feeds t laws (state_at t (other from) w) (first_octets most (state_at t from w).waiting) steps shown over fd).0.shown
-  carry_shows setup all told w v from most carried run (carries _ _ steps shown fd ends) false up =
+  carry_shows setup all told w v from most carried run carry made true over =
+      (over_feeds t laws (state_at t (other from) w) (first_octets most (state_at t from w).waiting) made.steps carried.shown over made.feeds).0.shown
+  carry_shows setup all told w v from most carried run carry made false up =
       let front = first_octets most (state_at t from w).waiting in
       let u = stepping from w (given front) in
-      let x = stepping (other from) u steps in
       let good = good_run t laws setup [] w all told run (good_start t laws) in
       let counted = counted_run t setup [] w all told run (counted_start t) in
-      let later = counted_run t setup w x (events.Carry from most ∷ []) (entries.Carry from most (record { octets = front; shown = shown }) ∷ []) (carries from most steps shown fd ends) counted in
-      let r = feeds_new (state_at t (other from) w) front steps shown fd (carry_steps t laws from most steps shown w fd good) (tally t (other from) w) in
-      let there : tally t (other from) x ≡ adds_all t (tally t (other from) w) steps =
-      tally-stepping t (other from) u steps ∙ ap (λ (k : Tally). adds_all t k steps) (tally-stepping_other t from w (given front)) in
+      let good_later = good_run t laws setup w v (events.Carry from most ∷ []) (entries.Carry from most carried ∷ []) carry good in
+      let counted_later = counted_run t setup w v (events.Carry from most ∷ []) (entries.Carry from most carried ∷ []) carry counted in
+      let r = feeds_new (state_at t (other from) w) front made.steps carried.shown made.feeds (carry_steps t laws from most made.steps carried.shown w made.feeds good) (tally t (other from) w) in
+      let there : tally t (other from) v ≡ adds_all t (tally t (other from) w) made.steps =
+      ap (tally t (other from)) made.world ∙ tally-stepping t (other from) u made.steps ∙ ap (λ (k : Tally). adds_all t k made.steps) (tally-stepping_other t from w (given front)) in
       let before : takings (other from) w ≡ whole_within t (octets_given from w) (sendings t from w) = (laws_of t laws w good counted).taken_when_whole from up in
-      let still : passes_over (state_at t (other from) x).phase ≡ false = ap (λ (k : Tally). passes_over k.state.phase) there ∙ ap passes_over r.phase ∙ up in
-      let after_it : takings (other from) x ≡ whole_within t (octets_given from x) (sendings t from x) =
-      (laws_of t laws x (good_carry t laws from most steps shown w fd good) later).taken_when_whole from still in
+      let still : passes_over (state_at t (other from) v).phase ≡ false = ap (λ (k : Tally). passes_over k.state.phase) there ∙ ap passes_over r.phase ∙ up in
+      let after_it : takings (other from) v ≡ whole_within t (octets_given from v) (sendings t from v) = (laws_of t laws v good_later counted_later).taken_when_whole from still in
       record {
         new = r.new;
         whole = sym after_it ∙ ap (λ (k : Tally). k.taken) there ∙ r.taken ∙ ap (λ (ps : List Passed). ps ++ r.new) before;
@@ -100,4 +128,7 @@ module _ (t : Tables) (laws : ReadingLaws t) where
 
 pub each_carry_shows : EachCarryShows
 each_carry_shows t setup all told w v from most carried readable run carry =
-    carry_shows t (reading_laws t readable) setup all told w v from most carried run carry (passes_over (state_at t (other from) w).phase) refl
+    let laws = reading_laws t readable in
+    carry_shows t laws setup all told w v from most carried run carry
+    (one_carry t laws setup w v (events.Carry from most ∷ []) (entries.Carry from most carried ∷ []) carry from most carried refl refl)
+    (passes_over (state_at t (other from) w).phase) refl

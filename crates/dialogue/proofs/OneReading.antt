@@ -26,7 +26,7 @@ use Rattle.dialogue.proofs.Readings.{reading_laws}
 
 -- the place of what was read, if it is a fault
 abbrev place_in : Result (Value × ℕ) ReadFault → Option ℕ
-place_in (Err fault) = place_of fault
+place_in (Err f) = place_of f
 place_in _ = None
 
 -- what is short has no fault
@@ -45,7 +45,7 @@ not_short f place e s = let no : place_of Short ≡ Some place = ap place_of (sy
 -- and it stays, whatever follows
 faulty_stays : (text more : List ℕ) (place : ℕ) → IsFaulty text place → IsFaulty (text ++ more) place
 unfolding IsFaulty
-faulty_stays text more place bad = (bad.0, (fault_stays head_rows any_row false 262144 text more bad.0 (not_short bad.0 place bad.2) bad.1, bad.2))
+faulty_stays text more place bad = (bad.0, fault_stays head_rows any_row false 262144 text more bad.0 (not_short bad.0 place bad.2) bad.1, bad.2)
 
 -- ---- octets that come
 
