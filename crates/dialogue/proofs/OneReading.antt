@@ -175,9 +175,10 @@ module _ (t : Tables) (laws : ReadingLaws t) where
   pub over_feeds : (s : State) (ys : List ℕ) (zs : List Step) (js : List Indication) → passes_over s.phase ≡ true → Feeds t s ys zs js → ReadsNothing (feed_end ∷ []) js × (after_all t s zs ≡ dropped s)
   over_feeds s ys zs js over f =
       let here : Reads t (dropped s) f.reading js = subst (λ (v : State). Reads t v f.reading js) (over_after s ys over) f.reads in
-      let r = over_reads (dropped s) f.reading js over here in
-      (record { steps = refl; shown = r.shown },
-        ap (after_all t s) (f.all ∙ ap (λ (l : List Step). fed ys ∷ l) r.steps) ∙ over_after s ys over)
+      let r = over_reads (dropped s) f.reading js over here in (
+        record { steps = refl; shown = r.shown },
+        ap (after_all t s) (f.all ∙ ap (λ (l : List Step). fed ys ∷ l) r.steps) ∙ over_after s ys over,
+      )
 
   stands_on : (s : State) (ys : List ℕ) (c : Content) (used : ℕ) → StandsFirst t (bare_pair s) c used s.rest → StandsFirst t (bare_pair s) c used (s.rest ++ ys)
   stands_on s ys c used h = record {

@@ -1,9 +1,7 @@
 -- The replay of a schedule, from what the run of two new ends says.
-use Rattle.std.proofs.Common.{◌≡◌, ℕ, Bool, List, [], None, refl, subst}
-use Rattle.std.proofs.Math.Logic.{∥∥₁_elim}
+use Rattle.std.proofs.Common.{◌≡◌, ℕ, List, [], refl, subst}
 use Rattle.stub_tables.specs.declared.tables.Tables.{Tables}
 use Rattle.dialogue.specs.declared.config.Config.{Config}
-use Rattle.dialogue.specs.Config.{config_refusal, IsBare}
 use Rattle.dialogue.specs.declared.setup.Setup.{Setup}
 use Rattle.dialogue.specs.declared.event.Transcript.{Transcript}
 use Rattle.dialogue.specs.State.{bare_start}
@@ -12,10 +10,6 @@ use Rattle.duo.specs.Ran.{Stand, RanFromStart}
 use Rattle.script_text.specs.declared.schedule.Schedule.{Schedule}
 use Rattle.script_text.specs.Texts.{text_of}
 use Rattle.osi_tool.specs.Replaying.{Replayed}
-
--- no end refuses a configuration of a setup
-pub accepted : (initiator : Bool) (config : Config) → ∥ IsBare initiator config ∥₁ → config_refusal config ≡ None
-accepted initiator config h = ∥∥₁_elim h (hlevel) (λ (is : IsBare initiator config). is.accepted)
 
 -- an end that has made no step
 abbrev new_view : Tables → Config → EndView

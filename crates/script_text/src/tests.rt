@@ -79,10 +79,12 @@ fn reads_schedules(rt: HostRuntime) -> Result<(), Fail> {
 /// The line at which a schedule is refused for an unknown word, or 0 where it isn't.
 fn refused_line(alloc: Global, tables: &Tables, schedule: &str) -> u32 {
     match read_schedule(alloc, tables, schedule.as_bytes()) {
-        Err(ScriptFault::At {
-            line,
-            kind: ScriptKind::UnknownWord,
-        }) => line,
+        Err(
+            ScriptFault::At {
+                line,
+                kind: ScriptKind::UnknownWord,
+            },
+        ) => line,
         _ => 0,
     }
 }
