@@ -13,3 +13,5 @@ pub mod Counting
 pub mod Worlds
 pub mod Shown
 pub mod Readings
+pub mod OneReading
+pub mod Carries

@@ -337,7 +337,7 @@ module _ (t : Tables) (laws : ReadingLaws t) where
     no_fault = (refl, (refl, h.no_fault));
   }
 
-  good_run : (setup : Setup) (w v : World) (all : List Event) (told : List Entry) → Runs t setup w all told v → IsGood w → IsGood v
+  pub good_run : (setup : Setup) (w v : World) (all : List Event) (told : List Entry) → Runs t setup w all told v → IsGood w → IsGood v
   good_run setup w v all told ends h = h
   good_run setup w v all told (calls {more = more} {told = rest} side call next) h =
       good_run setup (stepping side w (call_steps t (config_at setup side) (state_at t side w) call)) v more rest next (good_call (config_at setup side) side call w h)

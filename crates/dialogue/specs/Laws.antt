@@ -1,5 +1,5 @@
 -- The laws of every run of two ends.
-use Rattle.std.specs.Prelude.{◌≡◌, ◌≢◌, ℕ, suc, ◌+◌, ◌-◌, nat_le, ℤ, pos, List, [], ◌∷◌, ◌++◌, map, length, Bool, true, false, Option, Some, None, Ok, Err, if◌then◌else◌}
+use Rattle.std.specs.Prelude.{◌≡◌, ◌≢◌, ℕ, suc, ◌+◌, ◌-◌, nat_le, ℤ, pos, List, [], ◌∷◌, ◌++◌, map, length, Bool, true, false, Option, Some, None, Ok, Err, if◌then◌else◌, MatchBool}
 use Rattle.std.specs.List.{AllByRecursion, flat_map}
 use Rattle.asn1_types.specs.declared.value.Val.{Val}
 use Rattle.osi_base.specs.declared.syntax.Pair.{Pair}
@@ -15,6 +15,8 @@ use Rattle.dialogue.specs.declared.call.Call.{Call}
 use Rattle.dialogue.specs.declared.call.Call.TheVariants as the_calls
 use Rattle.dialogue.specs.declared.setup.Setup.{Setup}
 use Rattle.dialogue.specs.declared.event.Event.{Event}
+use Rattle.dialogue.specs.declared.event.Event.TheVariants as events
+use Rattle.dialogue.specs.declared.event.Carried.{Carried}
 use Rattle.dialogue.specs.declared.event.Entry.{Entry}
 use Rattle.dialogue.specs.declared.event.Entry.TheVariants as entries
 use Rattle.dialogue.specs.declared.indication.Indication.{Indication}
@@ -232,6 +234,21 @@ indications_at side told = flat_map (shown_by side) told
 -- Carries to an end showed what its takings show, in their order, and nothing else.
 abbrev pub ShownAsTaken : Tables → List Entry → World → Type 0
 ShownAsTaken tables told w = (side : Side) → indications_at side told ≡ flat_map (λ (p : Passed). shown_of tables p.0.content) (takings side w)
+
+-- ---- each carry
+
+-- The messages whose last octet is in a carry are those of which the last octet was given after it and
+-- wasn't before. What the carry showed is what these show, in their order, and nothing else.
+pub record ShowsItsMessages (tables : Tables) (from : Side) (before later : World) (carried : Carried) : Type 0 where
+  pub new : List Passed
+  pub whole : whole_within tables (octets_given from later) (sendings tables from later) ≡ whole_within tables (octets_given from before) (sendings tables from before) ++ new
+  pub shown : carried.shown ≡ flat_map (λ (p : Passed). shown_of tables p.0.content) new
+
+-- Each carry of a run to an end that isn't over shows its messages. One that is over is shown nothing.
+abbrev pub EachCarryShows : Type 0
+EachCarryShows = (tables : Tables) (setup : Setup) (all : List Event) (told : List Entry) (before later : World) (from : Side) (most : Option ℕ) (carried : Carried) → IsReadable tables
+    → Runs tables setup [] all told before → Runs tables setup before (events.Carry from most ∷ []) (entries.Carry from most carried ∷ []) later
+    → MatchBool (passes_over (state_at tables (other from) before).phase) (carried.shown ≡ []) (ShowsItsMessages tables from before later carried)
 
 -- ---- the law of all runs
 

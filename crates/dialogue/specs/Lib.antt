@@ -5,5 +5,6 @@ pub mod Calls
 pub mod Taking
 pub mod History
 pub mod Feeding
+pub mod FeedLaws
 pub mod World
 pub mod Laws

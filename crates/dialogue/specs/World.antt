@@ -73,7 +73,3 @@ pub data Runs (tables : Tables) (setup : Setup) : World → List Event → List 
   breaks : {w v : World} {more : List Event} {told : List Entry}
       → Runs tables setup (stepping B (stepping A w (broke ∷ [])) (broke ∷ [])) more told v
       → Runs tables setup w (events.Break ∷ more) (entries.Break ∷ told) v
-
--- a world that a schedule leads to
-abbrev pub Reached : Tables → Setup → World → Type 0
-Reached tables setup w = (all : List Event) × (told : List Entry) × Runs tables setup [] all told w

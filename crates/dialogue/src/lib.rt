@@ -14,6 +14,6 @@ pub use call::{Call, CallRefusal};
 pub use config::{Config, ConfigRefusal, Mode, Phase, check_config};
 pub use event::{Carried, Entries, Entry, Event, Events, Transcript};
 pub use indication::{Indication, Indications};
-pub use laws::every_run_keeps_laws;
+pub use laws::{any_cutting, each_carry_shows, every_run_keeps_laws, one_feed};
 pub use opened::Opened;
 pub use setup::Setup;

@@ -50,8 +50,9 @@ impl<'t> End<'t> {
     ghost use Rattle.dialogue.specs.declared.config.ConfigRefusal.TheVariants as config_refusals;
     ghost use Rattle.dialogue.specs.History.{History, gave, broke};
 
-    /// An end of bare mode with these tables and this configuration, which has no contexts. It is
-    /// up at once. Refused is what `check_config` refuses, and want of memory.
+    /// An end of bare mode with these tables and this configuration, whatever mode that names: the
+    /// other modes aren't built yet, and no `Setup` has one. The end is up at once, and its one
+    /// context is that of bare mode. Refused is what `check_config` refuses, and want of memory.
     pub fn new(alloc: Global, tables: &'t Tables, config: Config) -> Result<End<'t>, ConfigRefusal>
         ensures made { IfOk result (λ end. end ≡ record { tables = tables.entry.now; config = config; state = bare_start tables.entry.now }) }
         ensures history { IfOk result (λ end. StandsFor end []) }
