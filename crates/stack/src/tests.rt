@@ -3,7 +3,7 @@
 use super::*;
 use asn1_types::{Node, TypeId, TypeRow, TypeTable, Val};
 use dialogue::{Call, CallRefusal, Config, Indication, Indications, Mode, Phase};
-use osi_base::{Copied, Layer, ListOf, Name, NoMemory, Octets, Oid};
+use osi_base::{Layer, ListOf, Name, NoMemory, Octets, Oid};
 use std::alloc::Global;
 use std::test::*;
 use stub_tables::{Code, ErrorRow, Operation, Tables, Use};
@@ -121,7 +121,7 @@ fn config(alloc: Global, initiator: bool) -> Result<Config, NoMemory> {
 /// A new end.
 fn end<'t>(alloc: Global, tables: &'t Tables, initiator: bool) -> Result<End<'t>, Fail> {
     let config = config(alloc, initiator)?;
-    Ok(End::new(alloc, tables, config.copy(alloc)?)?)
+    Ok(End::new(alloc, tables, config)?)
 }
 
 /// Whether all that waits are these octets. They are given out.
