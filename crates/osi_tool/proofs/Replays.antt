@@ -1,7 +1,11 @@
 -- The replay of a schedule, from what the run of two new ends says.
-use Rattle.std.proofs.Common.{◌≡◌, ℕ, List, [], refl, subst}
+use Rattle.std.proofs.Common.{◌≡◌, ℕ, Bool, true, List, [], Option, None, Some, is_none, refl, ap, subst}
+use Rattle.std.proofs.Math.Logic.{∥∥₁_elim}
+use mathlib.Core.Bool.{Bool-set}
 use Rattle.stub_tables.specs.declared.tables.Tables.{Tables}
 use Rattle.dialogue.specs.declared.config.Config.{Config}
+use Rattle.dialogue.specs.declared.config.ConfigRefusal.{ConfigRefusal}
+use Rattle.dialogue.specs.Config.{config_refusal, IsBare}
 use Rattle.dialogue.specs.declared.setup.Setup.{Setup}
 use Rattle.dialogue.specs.declared.event.Transcript.{Transcript}
 use Rattle.dialogue.specs.State.{bare_start}
@@ -10,6 +14,15 @@ use Rattle.duo.specs.Ran.{Stand, RanFromStart}
 use Rattle.script_text.specs.declared.schedule.Schedule.{Schedule}
 use Rattle.script_text.specs.Texts.{text_of}
 use Rattle.osi_tool.specs.Replaying.{Replayed}
+
+-- no end refuses a configuration of a setup
+none_of : (x : Option ConfigRefusal) → is_none x ≡ true → x ≡ None
+none_of None e = refl
+none_of (Some r) e = absurd cc
+
+pub accepted : (initiator : Bool) (config : Config) → ∥ IsBare initiator config ∥₁ → config_refusal config ≡ None
+accepted initiator config h =
+    none_of (config_refusal config) (∥∥₁_elim h (Bool-set (is_none (config_refusal config)) true) (λ (is : IsBare initiator config). ap is_none is.accepted))
 
 -- an end that has made no step
 abbrev new_view : Tables → Config → EndView

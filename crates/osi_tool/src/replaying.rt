@@ -1,10 +1,11 @@
 //! The replay of a schedule.
 
-ghost use Rattle.std.specs.Prelude.{◌≡◌, IfOk};
+ghost use Rattle.std.specs.Prelude.{◌≡◌, None, IfOk};
+ghost use Rattle.dialogue.specs.Config.{config_refusal};
 ghost use Rattle.dialogue.specs.State.{bare_start};
 ghost use Rattle.osi_tool.specs.Replaying.{Replayed};
 
-use dialogue::Config;
+use dialogue::{Config, ConfigRefusal};
 use duo::run_world;
 use osi_base::{NoMemory, Octets};
 use script_text::{Schedule, transcript_text};
@@ -12,13 +13,16 @@ use stack::End;
 use std::alloc::Global;
 use stub_tables::Tables;
 
-/// An end that has made no step. Its configuration is one of a setup, which no end refuses.
+/// An end that has made no step. Its configuration is one that no end refuses, so only memory can
+/// lack.
 fn new_end<'t>(alloc: Global, tables: &'t Tables, config: Config) -> Result<End<'t>, NoMemory>
+    requires { config_refusal config ≡ None }
     ensures { IfOk result (λ end. end ≡ record { tables = tables.entry.now; config = config; state = bare_start tables.entry.now }) }
 {
     match End::new(alloc, tables, config) {
         Ok(end) => Ok(end),
-        Err(_) => Err(NoMemory),
+        Err(ConfigRefusal::NoMemory) => Err(NoMemory),
+        Err(_) => unreachable!(),
     }
 }
 
