@@ -1,10 +1,12 @@
 //! Reads and writes two values over and over, so that a clock outside can time it. Its words say how
-//! often: reading the sequence, writing it, reading the invocation, writing it.
+//! often: in BER, reading the sequence, writing it, reading the invocation, writing it; then the same four
+//! in the packed syntax.
 #![tactic(auto)]
 
 mod rounds;
 mod samples;
 mod stopped;
+mod syntax;
 
 use rounds::{read_rounds, write_rounds};
 use samples::{Sample, invocation, sequence};
@@ -13,6 +15,7 @@ use std::env;
 use std::env::Env;
 use std::process::ExitCode;
 use stopped::Stopped;
+use syntax::{Ber, Packed, Syntax};
 
 /// The words after the program's name, as numbers. A word that is no number counts as 0.
 fn counts<R: Env + Alloc<A = Global>>(rt: &R) -> Result<Vec<u64>, Stopped> {
@@ -23,31 +26,30 @@ fn counts<R: Env + Alloc<A = Global>>(rt: &R) -> Result<Vec<u64>, Stopped> {
     Ok(counts)
 }
 
-/// Reads and writes a sample so often, and prints how many octets went each way.
-fn bench<R: Print + Alloc<A = Global>>(
+/// Reads and writes a sample so often in a syntax, and prints how many octets went each way.
+fn bench<S: Syntax, R: Print + Alloc<A = Global>>(
     rt: &R,
     name: &str,
     sample: &Sample,
     reads: u64,
     writes: u64,
 ) -> Result<(), Stopped> {
-    let read = read_rounds(rt.alloc(), sample, reads)?;
-    let written = write_rounds(rt.alloc(), sample, writes)?;
-    println!(rt; "{name}: {read} octets read, {written} octets written")?;
+    let read = read_rounds::<S>(rt.alloc(), sample, reads)?;
+    let written = write_rounds::<S>(rt.alloc(), sample, writes)?;
+    let syntax = S::name();
+    println!(rt; "{name}, {syntax}: {read} octets read, {written} octets written")?;
     Ok(())
 }
 
 fn run<R: Env + Print + Alloc<A = Global>>(rt: &R) -> Result<(), Stopped> {
     let counts = counts(rt)?;
     let count = |place: usize| counts.get(place).copied().unwrap_or(0);
-    bench(rt, "sequence", &sequence(rt.alloc())?, count(0), count(1))?;
-    bench(
-        rt,
-        "invocation",
-        &invocation(rt.alloc())?,
-        count(2),
-        count(3),
-    )
+    let sequence = sequence(rt.alloc())?;
+    let invocation = invocation(rt.alloc())?;
+    bench::<Ber, R>(rt, "sequence", &sequence, count(0), count(1))?;
+    bench::<Ber, R>(rt, "invocation", &invocation, count(2), count(3))?;
+    bench::<Packed, R>(rt, "sequence", &sequence, count(4), count(5))?;
+    bench::<Packed, R>(rt, "invocation", &invocation, count(6), count(7))
 }
 
 fn main(rt: HostRuntime) -> ExitCode {

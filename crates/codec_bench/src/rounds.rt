@@ -1,46 +1,54 @@
 //! Reading and writing over and over.
 
-ghost use Rattle.std.specs.Prelude.{◌≤◌, length};
-ghost use Rattle.ber_codec.specs.Writing.{written};
+ghost use Rattle.std.specs.Prelude.{◌≤◌, length, IfOk};
 
 use crate::samples::Sample;
 use crate::stopped::Stopped;
-use asn1_types::{TypeId, TypeTable, Val};
-use ber_codec::{ber_len, ber_octets, ber_read, ber_write};
+use crate::syntax::Syntax;
 use std::alloc::Global;
 
 /// Reads the sample's spelling so often, and answers how many octets were read.
-pub fn read_rounds(alloc: Global, sample: &Sample, rounds: u64) -> Result<u64, Stopped> {
-    let octets = ber_octets(alloc, &sample.table, sample.of, &sample.value)?;
+pub fn read_rounds<S: Syntax>(alloc: Global, sample: &Sample, rounds: u64) -> Result<u64, Stopped> {
+    let mut octets = room::<S>(alloc, sample)?;
+    write_over::<S>(sample, &mut octets, 1);
     if !sample.table.has(sample.of) {
         return Err(Stopped);
     }
     let mut read: u64 = 0;
     for _ in 0..rounds {
-        let Ok(whole) = ber_read(alloc, &sample.table, sample.of, octets.as_slice()) else {
-            return Err(Stopped);
-        };
-        read = read.saturating_add(whole.used as u64);
+        let used = S::read(alloc, sample, &octets)?;
+        read = read.saturating_add(used as u64);
     }
     Ok(read)
 }
 
 /// Writes the sample so often into one room, and answers how many octets were written.
-pub fn write_rounds(alloc: Global, sample: &Sample, rounds: u64) -> Result<u64, Stopped> {
-    let len = ber_len(&sample.table, sample.of, &sample.value);
+pub fn write_rounds<S: Syntax>(
+    alloc: Global,
+    sample: &Sample,
+    rounds: u64,
+) -> Result<u64, Stopped> {
+    let mut room = room::<S>(alloc, sample)?;
+    Ok(write_over::<S>(sample, &mut room, rounds))
+}
+
+/// A room for the sample's spelling.
+fn room<S: Syntax>(alloc: Global, sample: &Sample) -> Result<Vec<u8>, Stopped>
+    ensures { IfOk result (λ room. length (S.spelling sample.now.table sample.now.of.0 sample.now.value) ≤ length room.items) }
+{
+    let len = S::len(sample);
     if len == u64::MAX {
         return Err(Stopped);
     }
-    let mut room = vec![in alloc; 0; len as usize]?;
-    Ok(write_over(&sample.table, sample.of, &sample.value, &mut room, rounds))
+    Ok(vec![in alloc; 0; len as usize]?)
 }
 
-fn write_over(table: &TypeTable, of: TypeId, value: &Val, room: &mut [u8], rounds: u64) -> u64
-    requires { length (written table.now of.0 value.now) ≤ length room.old }
+fn write_over<S: Syntax>(sample: &Sample, room: &mut [u8], rounds: u64) -> u64
+    requires { length (S.spelling sample.now.table sample.now.of.0 sample.now.value) ≤ length room.old }
 {
     let mut written: u64 = 0;
     for _ in 0..rounds {
-        written = written.saturating_add(ber_write(table, of, value, room) as u64);
+        written = written.saturating_add(S::write(sample, room) as u64);
     }
     written
 }
