@@ -1,12 +1,8 @@
 -- Any one value: what is read is spelled so, and what is spelled so is read.
-use Rattle.std.proofs.Common.{◌≡◌, ◌≢◌, ℕ, zero, suc, ◌+◌, ◌-◌, ◌<◌, Bool, false, ◌&&◌, List, [], ◌∷◌, ◌++◌, ◌%◌, inl, inr, length, take, Ok, refl, sym, ap, ◌∙◌, subst, arith, append_assoc, length-append}
+use Rattle.std.proofs.Common.{◌≡◌, ℕ, ◌+◌, ◌-◌, ◌<◌, List, [], ◌∷◌, ◌++◌, ◌%◌, inl, inr, length, take, Ok, refl, sym, ap, ◌∙◌, subst, arith, length-append}
 use Rattle.std.specs.Prelude.{nat_eq}
-use Rattle.std.proofs.lemmas.Bool.{ne_eqb}
 use Rattle.std.proofs.lemmas.List.{take_at}
 use Rattle.osi_base.specs.declared.words.Kind.TheVariants.{Tag}
-use Rattle.asn1_types.specs.declared.row.Class.{Class}
-use Rattle.asn1_types.specs.declared.row.Class.TheVariants.{Universal}
-use Rattle.asn1_types.specs.Rows.{is_no_tag, same_class}
 use Rattle.asn1_types.specs.Value.{Value, boolean, integer, null, octets, bits, object_id, text, parts, list, chosen, any}
 use Rattle.ber_codec.specs.declared.fault.ReadFault.TheVariants as faults
 use Rattle.ber_codec.specs.declared.spot.Scope.{Scope}
@@ -14,9 +10,9 @@ use Rattle.ber_codec.specs.Reading.{Spot, Opened, within}
 use Rattle.ber_codec.specs.Fields.{identifier_at, high_at, digits_at, is_lax, opened_at}
 use Rattle.ber_codec.specs.Rules.{whole_at, any_at}
 use Rattle.ber_codec.specs.Spelling.{IsWhole, AnyIs}
-use Rattle.ber_codec.proofs.Identifiers.{IsIn, in_before, bind_ok, chosen_ok, unless_ok, ok_is, identifier_found, identifier_again}
+use Rattle.ber_codec.proofs.Identifiers.{IsIn, bind_ok, chosen_ok, unless_ok, ok_is, identifier_found}
 use Rattle.ber_codec.proofs.WholeReads.{IsTagged, whole_found, whole_only}
-use Rattle.ber_codec.proofs.Steady.{ReadAs, Found, ReadBack, Only, taken_then, head_some}
+use Rattle.ber_codec.proofs.Steady.{ReadAs, Found, ReadBack, Only}
 
 pub any_found : Found any_at (λ strict. AnyIs)
 unfolding any_at

@@ -1,5 +1,5 @@
 -- Whole values of any type: what is read is spelled so, what is spelled so is read, and it stays so.
-use Rattle.std.proofs.Common.{◌≡◌, ◌≢◌, ℕ, zero, suc, ◌+◌, ◌-◌, ◌<◌, Bool, true, false, ◌&&◌, cond, List, [], ◌∷◌, ◌++◌, length, Option, Some, Ok, Err, refl, sym, ap, ◌∙◌, subst, arith, append_assoc, length-append, ◌⊎◌, inl, inr}
+use Rattle.std.proofs.Common.{◌≡◌, ◌≢◌, ℕ, zero, suc, ◌+◌, ◌-◌, ◌<◌, Bool, true, false, ◌&&◌, cond, List, [], ◌∷◌, ◌++◌, length, Option, Some, Ok, Err, refl, sym, ap, ◌∙◌, subst, arith, append_assoc, length-append, inl, inr}
 use Rattle.std.specs.Prelude.{nat_eq}
 use Rattle.std.proofs.lemmas.Bool.{ne_eqb, eqb-true}
 use Rattle.osi_base.specs.declared.words.Kind.TheVariants.{Tag}
@@ -14,8 +14,8 @@ use Rattle.ber_codec.specs.Reading.{Spot, Opened, Reading, ◌>>=◌}
 use Rattle.ber_codec.specs.Fields.{capped, identifier_at, inside, is_end, cut_off, lacking, definite_at, extent_at, contents_at}
 use Rattle.ber_codec.specs.Rules.{all_items_at, anew, sized_at, marked_at, whole_at}
 use Rattle.ber_codec.specs.Spelling.{IsLength, IsIdentifier, Steps, ItemsAre, IsSized, AreAll, IsMarked, IsWhole}
-use Rattle.ber_codec.proofs.Identifiers.{IsIn, in_before, Taken, bind_ok, chosen_ok, unless_ok, ok_is, IdentifierFound, identifier_found, identifier_again}
-use Rattle.ber_codec.proofs.Lengths.{Until, Marked, contents_found, contents_again, extent_found, extent_marked, length_first, lacking_not_ok}
+use Rattle.ber_codec.proofs.Identifiers.{IsIn, in_before, bind_ok, chosen_ok, unless_ok, ok_is, IdentifierFound, identifier_found, identifier_again}
+use Rattle.ber_codec.proofs.Lengths.{Marked, contents_found, contents_again, extent_found, extent_marked, length_first}
 use Rattle.ber_codec.proofs.Steady.{ReadAs, Found, ReadBack, Only, taken_octets, taken_then, head_some}
 use Rattle.ber_codec.proofs.Constructed.{BodyFound, BodyOnly}
 use Rattle.ber_codec.proofs.Growing.{grown, Grows, Grows-bind, Grows-cond, with_spot, with_contents, extent_grows, contents_grow}

@@ -18,8 +18,8 @@ use crate::spot::{Ahead, Opened, Scope, Spot, Tag};
 use crate::strings::{bit_string, octet_string, text};
 use crate::whole::whole_value;
 use asn1_types::{
-    Class, MaybeVals, Node, Part, Parts, TypeId, TypeRow, TypeTable, Val, Vals, begins,
-    same_class, text_number,
+    Class, MaybeVals, Node, Part, Parts, TypeId, TypeRow, TypeTable, Val, Vals, begins, same_class,
+    text_number,
 };
 use osi_base::{Kind, NoMemory, Octets};
 use std::alloc::Global;

@@ -1,6 +1,6 @@
-use Rattle.std.proofs.Common.{rules, arith, ◌≡◌, ◌-◌, ◌+◌, length, option_map, true, false, Some, None, refl, sym, ap, ◌∙◌}
-use Rattle.std.specs.Prelude.{List, Option, ℕ, ◌&&◌}
-use Rattle.asn1_types.specs.Whole.{behind_identifier, behind_sized, is_constructed, is_marked, behind_values, behind_whole}
+use Rattle.std.proofs.Common.{rules, arith, ◌≡◌, ◌-◌, ◌+◌, length, false, Some, sym, ap, ◌∙◌}
+use Rattle.std.specs.Prelude.{◌&&◌}
+use Rattle.asn1_types.specs.Whole.{is_constructed, is_marked, behind_values, behind_whole}
 use Rattle.asn1_types.proofs.Behind.{values_end, values_step, values_out, whole_none, whole_some, length_marked, length_sized}
 use Rattle.asn1_types.proofs.whole.+wholes.Goals as goal
 

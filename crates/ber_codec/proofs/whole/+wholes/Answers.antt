@@ -1,4 +1,4 @@
-use Rattle.std.proofs.Common.{◌≡◌, ◌-◌, ◌+◌, Some, Ok, true, false, refl, sym, ap, ◌∙◌, subst, arith, rules, length}
+use Rattle.std.proofs.Common.{◌≡◌, ◌-◌, ◌+◌, Some, Ok, false, refl, sym, ap, ◌∙◌, subst, arith, rules, length}
 use Rattle.std.specs.Prelude.{◌&&◌}
 use Rattle.asn1_types.specs.Rows.{is_no_tag}
 use Rattle.asn1_types.specs.Whole.{is_marked}
