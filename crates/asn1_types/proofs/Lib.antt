@@ -4,3 +4,4 @@ pub mod Sound
 pub mod Names
 pub mod Adding
 pub mod FitLaws
+pub mod Behind

@@ -1,7 +1,7 @@
 //! One whole value of any type, as octets.
 
-ghost use Rattle.std.specs.Prelude.{◌≡◌, ◌≤◌, length, option_map};
-ghost use Rattle.asn1_types.specs.Whole.{number_256, behind_digits, behind_high, behind_identifier, is_counted, is_sized, is_whole};
+ghost use Rattle.std.specs.Prelude.{◌≡◌, ◌≤◌, length, drop, option_map};
+ghost use Rattle.asn1_types.specs.Whole.{number_256, behind_digits, behind_high, behind_identifier, behind_counted, behind_sized, is_constructed, is_marked, is_ended, behind_values, behind_whole, is_whole};
 
 /// What stands behind the digits of a tag number (X.690 8.1.2.4.2).
 fn behind_digits(digits: &[u8]) -> Option<&[u8]>
@@ -53,40 +53,119 @@ fn number_256(octets: &[u8]) -> u64
     number
 }
 
-/// Whether `size` octets of a length stand here, and then that many octets (X.690 8.1.3.5).
-fn is_counted(size: usize, rest: &[u8]) -> bool
-    ensures { result ≡ is_counted size rest.now }
+/// What stands behind `size` octets of a length, and then that many octets (X.690 8.1.3.5).
+fn behind_counted(size: usize, rest: &[u8]) -> Option<&[u8]>
+    ensures { option_map (λ rest. rest.now) result ≡ behind_counted size rest.now }
 {
     if size < 1 || 8 < size || rest.len() < size {
-        return false;
+        return None;
     }
-    number_256(&rest[..size]) == (rest.len() - size) as u64
+    let count = number_256(&rest[..size]);
+    let contents = &rest[size..];
+    if (contents.len() as u64) < count {
+        return None;
+    }
+    Some(&contents[count as usize..])
 }
 
-/// Whether a length stands here, and then that many octets (X.690 8.1.3).
-fn is_sized(octets: &[u8]) -> bool
-    ensures { result ≡ is_sized octets.now }
+/// What stands behind a definite length, and then that many octets (X.690 8.1.3.3).
+fn behind_sized(octets: &[u8]) -> Option<&[u8]>
+    ensures { option_map (λ rest. rest.now) result ≡ behind_sized octets.now }
 {
     match octets {
-        [] => false,
+        [] => None,
         [first, rest @ ..] => {
             if *first < 128 {
-                *first as usize == rest.len()
+                let count = *first as usize;
+                if rest.len() < count {
+                    return None;
+                }
+                Some(&rest[count..])
             } else {
-                is_counted(*first as usize - 128, rest)
+                behind_counted(*first as usize - 128, rest)
             }
         }
     }
 }
 
-/// Whether these octets are one whole value of any type: any identifier but UNIVERSAL 0, a
-/// definite length, and that many octets (X.690 8.1).
+/// Whether an identifier of a constructed value stands here (X.690 8.1.2.5).
+fn is_constructed(octets: &[u8]) -> bool
+    ensures { result ≡ is_constructed octets.now }
+{
+    match octets {
+        [] => false,
+        [first, ..] => *first / 32 % 2 == 1,
+    }
+}
+
+/// Whether an indefinite length stands here (X.690 8.1.3.6).
+fn is_marked(octets: &[u8]) -> bool
+    ensures { result ≡ is_marked octets.now }
+{
+    match octets {
+        [] => false,
+        [first, ..] => *first == 128,
+    }
+}
+
+/// Whether end-of-contents stand here (X.690 8.1.5).
+fn is_ended(octets: &[u8]) -> bool
+    ensures { result ≡ is_ended octets.now }
+{
+    match octets {
+        [] | [_] => false,
+        [first, second, ..] => *first == 0 && *second == 0,
+    }
+}
+
+/// What stands behind so many octets.
+fn behind(count: usize, octets: &[u8]) -> &[u8]
+    requires { count ≤ length octets.now }
+    ensures { result.now ≡ drop count octets.now }
+{
+    &octets[count..]
+}
+
+/// What stands behind whole values and end-of-contents.
+#[cycle(wholes)]
+fn behind_values(levels: u32, octets: &[u8]) -> Option<&[u8]>
+    ensures { option_map (λ rest. rest.now) result ≡ behind_values (behind_whole levels) (length octets.now) octets.now }
+{
+    let mut rest = octets;
+    for _turn in 0..octets.len() {
+        if is_ended(rest) {
+            return Some(behind(2, rest));
+        }
+        rest = behind_whole(levels, rest)?;
+    }
+    None
+}
+
+/// What stands behind one whole value with at most `levels` levels in indefinite contents.
+#[cycle(wholes)]
+fn behind_whole(levels: u32, octets: &[u8]) -> Option<&[u8]>
+    ensures { option_map (λ rest. rest.now) result ≡ behind_whole levels octets.now }
+{
+    if levels == 0 {
+        return None;
+    }
+    let rest = behind_identifier(octets)?;
+    if is_marked(rest) && is_constructed(octets) {
+        behind_values(levels - 1, behind(1, rest))
+    } else {
+        behind_sized(rest)
+    }
+}
+
+/// Whether these octets are one whole value of any type (X.690 8.1): any identifier but UNIVERSAL 0,
+/// and a definite length with that many octets, or an indefinite length with whole values and
+/// end-of-contents, 32 levels deep at most.
 #[tactic(auto, unfolding(crate::specs::Whole::is_whole))]
 pub fn is_whole(octets: &[u8]) -> bool
     ensures { result ≡ is_whole octets.now }
 {
-    match behind_identifier(octets) {
-        None => false,
-        Some(rest) => is_sized(rest),
+    match behind_whole(32, octets) {
+        Some([]) => true,
+        _ => false,
     }
 }

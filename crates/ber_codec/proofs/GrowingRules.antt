@@ -7,17 +7,18 @@ use Rattle.asn1_types.specs.declared.row.Class.TheVariants.{Universal}
 use Rattle.asn1_types.specs.declared.row.Part.{Part}
 use Rattle.asn1_types.specs.declared.row.TypeRow.{TypeRow}
 use Rattle.asn1_types.specs.declared.row.TypeRow.TheVariants as row
-use Rattle.asn1_types.specs.Rows.{of_row, along, begins, is_no_tag, text_number}
+use Rattle.asn1_types.specs.Rows.{of_row, along, begins, text_number}
 use Rattle.asn1_types.specs.Value.{Value}
 use Rattle.ber_codec.specs.declared.spot.Scope.{Scope}
 use Rattle.ber_codec.specs.declared.spot.Tag as tags
 use Rattle.ber_codec.specs.declared.spot.StringKind.TheVariants.{OfOctets, OfBits}
 use Rattle.ber_codec.specs.Reading.{Spot, Opened, Ahead, ended, begun, Reading}
-use Rattle.ber_codec.specs.Fields.{extent_at, contents_at, look_at}
-use Rattle.ber_codec.specs.Rules.{Reader, expect_at, first_of, last_of, open_at, close_at, explicit_at, present_at, part_at, parts_at, sequence_at, choice_at, anew, any_at, dead, or_explicit, all_items_at, slot_at, set_done, nothing_filled, read_by, tag_or, always, boolean_rule, is_strict_boolean, integer_rule, enumerated_rule, null_rule, object_id_rule, whole_octets, whole_text, whole_bits, has_zero_bits}
-use Rattle.ber_codec.proofs.Growing.{grown, grown_opened, grown_ahead, Grows, Grows-bind, Grows-same, Grows-cond, with_spot, with_opened, with_contents, extent_grows, contents_grow, look_grows}
+use Rattle.ber_codec.specs.Fields.{extent_at, look_at}
+use Rattle.ber_codec.specs.Rules.{Reader, expect_at, first_of, last_of, open_at, close_at, explicit_at, present_at, part_at, parts_at, sequence_at, choice_at, whole_at, any_at, dead, or_explicit, all_items_at, slot_at, set_done, nothing_filled, read_by, tag_or, always, boolean_rule, is_strict_boolean, integer_rule, enumerated_rule, null_rule, object_id_rule, whole_octets, whole_text, whole_bits, has_zero_bits}
+use Rattle.ber_codec.proofs.Growing.{grown, grown_opened, grown_ahead, Grows, Grows-bind, Grows-same, Grows-cond, with_spot, with_opened, extent_grows, look_grows}
 use Rattle.ber_codec.proofs.Steady.{Run}
 use Rattle.ber_codec.proofs.Items.{GrowsRun, constructed_grows}
+use Rattle.ber_codec.proofs.WholeReads.{whole_grows}
 use Rattle.ber_codec.proofs.Sets.{set_grows}
 use Rattle.ber_codec.proofs.Segments.{prim_grows, string_grows, list_grows}
 
@@ -58,9 +59,8 @@ pub any_grows : GrowsRun any_at
 unfolding any_at
 any_grows = record {
   grows = λ scope o s more.
-      Grows-cond (with_spot more) (is_no_tag o.class o.number) _ _ _ _ (λ t. refl) (λ t.
-      Grows-bind (with_contents more) (with_spot more) (contents_at (anew scope) s.place s.rest) (contents_at (anew scope) s.place (s.rest ++ more)) _ _ (contents_grow (anew scope) s.place s.rest more) (λ c e.
-      kept o.start.rest c.2 more));
+      Grows-bind (with_spot more) (with_spot more) (whole_at 32 tt scope o s) (whole_at 32 tt scope (grown_opened more o) (grown more s)) _ _ ((whole_grows 32 tt).grows scope o s more) (λ w e.
+      kept o.start.rest w.1 more);
 }
   where
     kept : (rest : List ℕ) (after : Spot) (more : List ℕ) → ◌≡◌ {A = Reading (Value × Spot)} (Ok (Rattle.asn1_types.specs.Value.any (take (length (rest ++ more) - length (after.rest ++ more)) (rest ++ more)), grown more after)) (Ok (Rattle.asn1_types.specs.Value.any (take (length rest - length after.rest) rest), grown more after))

@@ -1,5 +1,5 @@
 -- Each spelling begins with an identifier.
-use Rattle.std.proofs.Common.{◌≡◌, ℕ, zero, suc, Bool, true, false, List, [], ◌∷◌, ◌++◌, Option, Some, None, sym, ap, ◌∙◌, append_assoc, ◌⊎◌, inl, inr}
+use Rattle.std.proofs.Common.{◌≡◌, ℕ, zero, suc, Bool, true, false, List, [], ◌∷◌, ◌++◌, Option, Some, None, sym, ap, ◌∙◌, subst, append_assoc, ◌⊎◌, inl, inr}
 use Rattle.std.specs.Prelude.{slice_get}
 use Rattle.asn1_types.specs.declared.row.Class.{Class}
 use Rattle.asn1_types.specs.declared.row.Class.TheVariants.{Universal}
@@ -14,7 +14,7 @@ use Rattle.ber_codec.specs.declared.spot.StringKind.TheVariants.{OfOctets, OfBit
 use Rattle.ber_codec.specs.declared.spot.Gathered.{Gathered}
 use Rattle.ber_codec.specs.Order.{front_rank}
 use Rattle.ber_codec.specs.Rules.{tag_or, always, string_rule, nothing, whole_octets, whole_text, whole_bits, has_zero_bits}
-use Rattle.ber_codec.specs.Spelling.{IsIdentifier, IsDefinite, IsIndefinite, IsPrimitive, IsConstructed, BooleanIs, IntegerIs, EnumeratedIs, NullIs, ObjectIdIs, AnyIs, Spelled, ItemsAre, SegmentIs, StringIs, SequenceIs, SetIs, ListIs, ChoiceIs, OrExplicit, RowIs, RowOr, SpelledBy}
+use Rattle.ber_codec.specs.Spelling.{IsIdentifier, IsDefinite, IsIndefinite, IsPrimitive, IsConstructed, BooleanIs, IntegerIs, EnumeratedIs, NullIs, ObjectIdIs, IsWhole, AnyIs, Spelled, ItemsAre, SegmentIs, StringIs, SequenceIs, SetIs, ListIs, ChoiceIs, OrExplicit, RowIs, RowOr, SpelledBy}
 use Rattle.ber_codec.proofs.Orders.{front_head}
 
 pub record Headed (s : List ℕ) : Type 0 where
@@ -51,8 +51,12 @@ string_headed kind whole canonical tag strict levels v s (inr p) = constructed_h
 pub record AreHeaded (rel : Spelled) : Type 0 where
   pub is : (t : Option tags.Tag) (strict : Bool) (levels : ℕ) (v : Value) (s : List ℕ) → rel t strict levels v s → Headed s
 
+whole_headed : (inner : ℕ) (os : List ℕ) → IsWhole (suc inner) os → Headed os
+whole_headed inner os (inl w) = record { class = w.class; constructed = w.constructed; number = w.number; head = w.head; tail = w.size ++ w.contents; is_identifier = w.is_identifier; are = w.are }
+whole_headed inner os (inr w) = record { class = w.class; constructed = true; number = w.number; head = w.head; tail = 128 ∷ (w.contents ++ (0 ∷ 0 ∷ [])); is_identifier = w.is_identifier; are = w.are }
+
 any_headed : (levels : ℕ) (v : Value) (s : List ℕ) → AnyIs levels v s → Headed s
-any_headed levels (any os) s p = record { class = p.2.class; constructed = p.2.constructed; number = p.2.number; head = p.2.head; tail = p.2.size ++ p.2.contents; is_identifier = p.2.is_identifier; are = p.1 ∙ p.2.are }
+any_headed levels (any os) s p = subst Headed (sym p.1) (whole_headed 31 os p.2)
 any_headed levels (boolean x) s p = absurd p
 any_headed levels (integer x) s p = absurd p
 any_headed levels null s p = absurd p

@@ -234,7 +234,7 @@ extent_found scope place (first ∷ rest) x s e =
           }))
     ]
 
-length_first : (strict : Bool) (first : ℕ) (digits : List ℕ) (n : ℕ) → IsLength strict (first ∷ digits) n → nat_eq first 128 ≡ false
+pub length_first : (strict : Bool) (first : ℕ) (digits : List ℕ) (n : ℕ) → IsLength strict (first ∷ digits) n → nat_eq first 128 ≡ false
 length_first strict first digits n (inl h) = let lt : first < 128 = h.0 in let ne : first ≢ 128 = omega arith in ne_eqb first 128 ne
 length_first strict first digits n (inr h) = let some = h.some in let size = h.size in let ne : first ≢ 128 = λ e. omega arith in ne_eqb first 128 ne
 

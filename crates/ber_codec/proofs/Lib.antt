@@ -16,6 +16,7 @@ pub mod Turns
 pub mod Sequences
 pub mod Distinct
 pub mod SequencesBack
+pub mod WholeReads
 pub mod Anys
 pub mod Oids
 pub mod RowLaws

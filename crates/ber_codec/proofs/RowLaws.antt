@@ -24,7 +24,8 @@ use Rattle.ber_codec.proofs.SequencesBack.{sequence_only, choice_only}
 use Rattle.ber_codec.proofs.Distinct.{AnyAllows}
 use Rattle.ber_codec.proofs.Heads.{AreHeaded, along_headed}
 use Rattle.ber_codec.proofs.Sets.{set_found, set_only}
-use Rattle.ber_codec.proofs.Anys.{any_found, any_only, IsTagged}
+use Rattle.ber_codec.proofs.WholeReads.{IsTagged}
+use Rattle.ber_codec.proofs.Anys.{any_found, any_only}
 use Rattle.ber_codec.proofs.Contents.{boolean_sound, boolean_complete, integer_sound, integer_complete, enumerated_sound, enumerated_complete, null_sound, null_complete}
 use Rattle.ber_codec.proofs.Segments.{string_found, string_only, list_found, list_only}
 use Rattle.ber_codec.proofs.Oids.{object_id_sound, object_id_complete}

@@ -1,6 +1,8 @@
 -- Values one after the other, as loops read them.
-use Rattle.std.proofs.Common.{◌≡◌, ℕ, zero, suc, ◌-◌, ◌<◌, Bool, true, false, cond, Option, Some, Ok, Err, refl, sym, ap, ◌∙◌, arith}
+use Rattle.std.proofs.Common.{◌≡◌, ℕ, zero, suc, ◌-◌, ◌<◌, Bool, true, false, ◌&&◌, cond, Option, Some, Ok, Err, refl, sym, ap, ◌∙◌, arith}
+use Rattle.asn1_types.specs.Rows.{is_no_tag}
 use Rattle.asn1_types.specs.Value.{Value}
+use Rattle.asn1_types.specs.Whole.{is_marked}
 use Rattle.ber_codec.specs.declared.fault.ReadFault.{ReadFault}
 use Rattle.ber_codec.specs.declared.fault.ReadFault.TheVariants as faults
 use Rattle.osi_base.specs.declared.words.Kind.TheVariants.{Tag}
@@ -10,7 +12,7 @@ use Rattle.ber_codec.specs.declared.spot.StringKind.{StringKind}
 use Rattle.ber_codec.specs.declared.spot.Gathered.{Gathered}
 use Rattle.ber_codec.specs.Reading.{Spot, Opened, ended, begun, Reading, ◌>>=◌, Fails, refuse}
 use Rattle.ber_codec.specs.Fields.{extent_at, look_at}
-use Rattle.ber_codec.specs.Rules.{expect_at, judge, form_at, item_at, items_at, all_items_at, constructed_at, primitive_at, always, segment_tag, nothing, segment_rule, segment_at, segmented_at}
+use Rattle.ber_codec.specs.Rules.{expect_at, judge, form_at, item_at, items_at, all_items_at, constructed_at, primitive_at, always, segment_tag, nothing, segment_rule, segment_at, segmented_at, anew, sized_at, marked_at, whole_at}
 use Rattle.ber_codec.proofs.Steps.{Fails-bind, Fails-same}
 use Rattle.ber_codec.proofs.Steady.{form_passes}
 
@@ -68,3 +70,26 @@ segmented_gives kind whole tag scope x o s m after u g expected lax extent gathe
     ∙ bind_is (form_at scope o.start.place false) _ tt (form_passes scope o.start.place false (λ s. absurd (let wrong : false ≡ true = sym lax ∙ s in cc)))
     ∙ bind_is (extent_at scope s.place s.rest) _ (x, m) extent
     ∙ bind_is (all_items_at (segment_at kind 32) (λ (h : Gathered). Some h) nothing x m) _ (g, after) gathered)
+
+-- ---- whole values
+
+pub whole_none : (levels : ℕ) (scope : Scope) (o : Opened) (s : Spot) → levels ≡ 0 → whole_at levels tt scope o s ≡ refuse o.start.place Tag
+unfolding whole_at
+whole_none zero scope o s e = refl
+whole_none (suc levels) scope o s e = absurd (omega arith)
+
+pub whole_no_tag : (levels : ℕ) (scope : Scope) (o : Opened) (s : Spot) → is_no_tag o.class o.number ≡ true → whole_at levels tt scope o s ≡ refuse o.start.place Tag
+unfolding whole_at
+whole_no_tag zero scope o s e = refl
+whole_no_tag (suc levels) scope o s e = rw e refl
+
+pub whole_marked : (levels : ℕ) (scope : Scope) (o : Opened) (s : Spot) → 0 < levels → is_no_tag o.class o.number ≡ false → is_marked s.rest ≡ true → o.constructed ≡ true
+    → marked_at (all_items_at (whole_at (levels - 1)) (λ (u : Unit {0}). Some u) tt) (anew levels scope) s ≡ whole_at levels tt scope o s
+unfolding whole_at
+whole_marked zero scope o s lt t m c = absurd (omega arith)
+whole_marked (suc levels) scope o s lt t m c = let less : suc levels - 1 ≡ levels = omega arith in rw (less, t, m, c) refl
+
+pub whole_sized : (levels : ℕ) (scope : Scope) (o : Opened) (s : Spot) → 0 < levels → is_no_tag o.class o.number ≡ false → (is_marked s.rest && o.constructed) ≡ false → sized_at (anew levels scope) s ≡ whole_at levels tt scope o s
+unfolding whole_at
+whole_sized zero scope o s lt t m = absurd (omega arith)
+whole_sized (suc levels) scope o s lt t m = rw (t, m) refl

@@ -1,8 +1,8 @@
 -- Each DER spelling is one whole value, as `fits` tests it.
-use Rattle.std.proofs.Common.{◌≡◌, ◌≢◌, ℕ, zero, suc, ◌+◌, ◌-◌, ◌*◌, ◌%◌, ◌^◌, ◌<◌, ◌≤◌, Bool, true, false, ◌&&◌, List, [], ◌∷◌, ◌++◌, length, take, Option, Some, None, refl, sym, ap, ◌∙◌, subst, arith, length-append, ◌⊎◌, inl, inr}
-use Rattle.std.specs.Prelude.{slice_get, nat_le, nat_eq}
+use Rattle.std.proofs.Common.{◌≡◌, ◌≢◌, ℕ, zero, suc, ◌+◌, ◌-◌, ◌*◌, ◌%◌, ◌^◌, ◌<◌, ◌≤◌, Bool, true, false, ◌&&◌, List, [], ◌∷◌, ◌++◌, length, take, drop, Option, Some, None, refl, sym, ap, ◌∙◌, subst, arith, append_assoc, length-append, ◌⊎◌, inl, inr}
+use Rattle.std.specs.Prelude.{slice_get, nat_le}
 use Rattle.std.proofs.lemmas.Bool.{lt-ltb, le-ltb, le-leb, lt-leb, eq-eqb, ne_eqb, eqb-false}
-use Rattle.std.proofs.lemmas.List.{take_at}
+use Rattle.std.proofs.lemmas.List.{take_at, drop_at, append-nil}
 use Rattle.asn1_types.specs.declared.row.Class.{Class}
 use Rattle.asn1_types.specs.declared.row.Class.TheVariants.{Universal, Application, Context, Private}
 use Rattle.asn1_types.specs.declared.row.Part.{Part}
@@ -11,18 +11,20 @@ use Rattle.asn1_types.specs.declared.row.TypeRow.TheVariants as row
 use Rattle.asn1_types.specs.Rows.{is_no_tag, text_number}
 use Rattle.asn1_types.specs.Table.{IsSound, is_bad_range}
 use Rattle.asn1_types.specs.Value.{Value, boolean, integer, null, octets, bits, object_id, text, parts, list, chosen, any}
-use Rattle.asn1_types.specs.Whole.{number_256, behind_digits, behind_high, behind_identifier, is_counted, is_sized, is_sized_behind, is_whole}
+use Rattle.asn1_types.specs.Whole.{number_256, behind_digits, behind_high, behind_identifier, behind_octets, behind_counted, behind_sized, is_constructed as is_formed, is_marked, is_ended, behind_values, behind_whole, is_nothing, is_whole}
 use Rattle.asn1_types.specs.Fits.{fits}
 use Rattle.asn1_types.proofs.Sound.{sound_row}
 use Rattle.ber_codec.specs.declared.spot.Tag as tags
-use Rattle.ber_codec.specs.Fields.{number_from}
+use Rattle.ber_codec.specs.Fields.{is_constructed, number_from}
 use Rattle.ber_codec.specs.declared.spot.StringKind.{StringKind}
 use Rattle.ber_codec.specs.declared.spot.StringKind.TheVariants.{OfOctets, OfBits}
 use Rattle.ber_codec.specs.Rules.{tag_or, string_rule, whole_octets, whole_bits, whole_text, has_zero_bits, always}
 use Rattle.ber_codec.specs.declared.spot.Gathered.{Gathered}
-use Rattle.ber_codec.specs.Spelling.{AreDigits, low_bits, IsBase128, leading, IsIdentifier, IsLength, IsDefinite, IsIndefinite, IsPrimitive, IsConstructed, IsWhole, Spelled, SequenceIs, SetIs, ChoiceIs, BooleanIs, IntegerIs, EnumeratedIs, StringIs, ListIs, NullIs, ObjectIdIs, AnyIs, RowIs, RowOr, SpelledBy, Spells, OrExplicit}
+use Rattle.ber_codec.specs.Spelling.{AreDigits, low_bits, IsBase128, leading, IsIdentifier, IsLength, IsDefinite, IsIndefinite, IsPrimitive, IsConstructed, AreAll, IsWhole, Spelled, SequenceIs, SetIs, ChoiceIs, BooleanIs, IntegerIs, EnumeratedIs, StringIs, ListIs, NullIs, ObjectIdIs, AnyIs, RowIs, RowOr, SpelledBy, Spells, OrExplicit}
 use Rattle.ber_codec.specs.Writing.{written}
-use Rattle.ber_codec.proofs.Identifiers.{low_at}
+use Rattle.ber_codec.proofs.Identifiers.{low_at, form_at}
+use Rattle.ber_codec.proofs.Lengths.{length_first}
+use Rattle.ber_codec.proofs.Steady.{Head, head_some}
 use Rattle.ber_codec.proofs.RowLaws.{text_tag}
 use Rattle.ber_codec.proofs.Written.{written_spelled}
 use Rattle.ber_codec.proofs.Wholes.{whole_is}
@@ -98,31 +100,94 @@ both : (a b : Bool) → a ≡ true → b ≡ true → (a && b) ≡ true
 both true b e f = f
 both false b e f = absurd cc
 
-counted : (digits contents : List ℕ) (n : ℕ) → n ≡ length digits → 1 ≤ length digits → length digits ≤ 8 → number_from 0 digits ≡ length contents → is_counted n (digits ++ contents) ≡ true
-counted digits contents n is some few number =
-    let len : length (digits ++ contents) ≡ length digits + length contents = length-append digits contents in
-    let front : take n (digits ++ contents) ≡ digits = take_at digits contents n (sym is) in
-    let value : number_256 0 (take n (digits ++ contents)) ≡ length contents = ap (number_256 0) front ∙ same_number 0 digits ∙ number in
-    both (nat_le 1 n && nat_le n 8 && nat_le n (length (digits ++ contents))) (nat_eq (number_256 0 (take n (digits ++ contents))) (length (digits ++ contents) - n))
-    (both (nat_le 1 n && nat_le n 8) (nat_le n (length (digits ++ contents))) (both (nat_le 1 n) (nat_le n 8) (le-leb 1 n (omega arith)) (le-leb n 8 (omega arith))) (le-leb n (length (digits ++ contents)) (omega arith)))
-    (eq-eqb (number_256 0 (take n (digits ++ contents))) (length (digits ++ contents) - n) (value ∙ omega arith))
+passed : (count : ℕ) (contents rest : List ℕ) → count ≡ length contents → behind_octets count (contents ++ rest) ≡ Some rest
+passed count contents rest is =
+    let enough : count ≤ length (contents ++ rest) = omega (arith, length-append contents rest) in
+    rw (le-leb count (length (contents ++ rest)) enough, drop_at contents rest count (sym is)) refl
 
-sized : (size contents : List ℕ) → IsLength false size (length contents) → is_sized (size ++ contents) ≡ true
-sized [] contents h = absurd h
-sized (first ∷ digits) contents (inl h) =
-    ap (λ (ds : List ℕ). is_sized (first ∷ (ds ++ contents))) h.1 ∙ rw (lt-ltb first 128 h.0) (eq-eqb first (length contents) (sym h.2))
-sized (first ∷ digits) contents (inr l) =
+counted : (digits contents rest : List ℕ) (n : ℕ) → n ≡ length digits → 1 ≤ length digits → length digits ≤ 8 → number_from 0 digits ≡ length contents → behind_counted n (digits ++ (contents ++ rest)) ≡ Some rest
+counted digits contents rest n is some few number =
+    let len : length (digits ++ (contents ++ rest)) ≡ length digits + length (contents ++ rest) = length-append digits (contents ++ rest) in
+    let front : take n (digits ++ (contents ++ rest)) ≡ digits = take_at digits (contents ++ rest) n (sym is) in
+    let back : drop n (digits ++ (contents ++ rest)) ≡ contents ++ rest = drop_at digits (contents ++ rest) n (sym is) in
+    let test = both (nat_le 1 n && nat_le n 8) (nat_le n (length (digits ++ (contents ++ rest)))) (both (nat_le 1 n) (nat_le n 8) (le-leb 1 n (omega arith)) (le-leb n 8 (omega arith))) (le-leb n (length (digits ++ (contents ++ rest))) (omega arith)) in
+    rw (test, front, back) (passed (number_256 0 digits) contents rest (same_number 0 digits ∙ number))
+
+sized : (size contents rest : List ℕ) → IsLength false size (length contents) → behind_sized (size ++ (contents ++ rest)) ≡ Some rest
+sized [] contents rest h = absurd h
+sized (first ∷ digits) contents rest (inl h) =
+    ap (λ (ds : List ℕ). behind_sized (first ∷ (ds ++ (contents ++ rest)))) h.1 ∙ rw (lt-ltb first 128 h.0) (passed first contents rest (sym h.2))
+sized (first ∷ digits) contents rest (inr l) =
     let size : first ≡ 128 + length digits = l.size in
     let large : 128 ≤ first = omega arith in
-    rw (le-ltb first 128 large) (counted digits contents (first - 128) (omega arith) l.some l.few l.number)
+    rw (le-ltb first 128 large) (counted digits contents rest (first - 128) (omega arith) l.some l.few l.number)
+
+-- ---- whole values
+
+regroup : (head size contents rest : List ℕ) → (head ++ (size ++ contents)) ++ rest ≡ head ++ (size ++ (contents ++ rest))
+regroup head size contents rest = simp append_assoc
+
+regroup_marked : (head contents rest : List ℕ) → (head ++ (128 ∷ (contents ++ (0 ∷ 0 ∷ [])))) ++ rest ≡ head ++ (128 ∷ (contents ++ (0 ∷ 0 ∷ rest)))
+regroup_marked head contents rest = simp append_assoc
+
+formed : (class : Class) (constructed : Bool) (number : ℕ) (head rest : List ℕ) → IsIdentifier class constructed number head → is_formed (head ++ rest) ≡ constructed
+formed class constructed number [] rest h = absurd h
+formed class constructed number (first ∷ digits) rest (inl h) = ap is_constructed h.1 ∙ form_at class constructed number (omega (arith, h.0))
+formed class constructed number (first ∷ digits) rest (inr h) = ap is_constructed h.1 ∙ form_at class constructed 31 (omega arith)
+
+unmarked : (size behind : List ℕ) (n : ℕ) → IsLength false size n → is_marked (size ++ behind) ≡ false
+unmarked [] behind n h = absurd h
+unmarked (first ∷ digits) behind n h = length_first false first digits n h
+
+headed : (a b : List ℕ) → Head a → Head (a ++ b)
+headed a b h = record { first = h.first; others = h.others ++ b; are = ap (λ (x : List ℕ). x ++ b) h.are; some = h.some }
+
+whole_head : (depth : ℕ) (os : List ℕ) → IsWhole depth os → Head os
+whole_head zero os h = absurd h
+whole_head (suc inner) os (inl w) = subst Head (sym w.are) (headed w.head (w.size ++ w.contents) (head_some w.class w.constructed w.number w.head w.is_tag w.is_identifier))
+whole_head (suc inner) os (inr w) = subst Head (sym w.are) (headed w.head (128 ∷ (w.contents ++ (0 ∷ 0 ∷ []))) (head_some w.class true w.number w.head w.is_tag w.is_identifier))
+
+not_ended : (first : ℕ) (rest : List ℕ) → first ≢ 0 → is_ended (first ∷ rest) ≡ false
+not_ended first [] ne = refl
+not_ended first (second ∷ rest) ne = rw (ne_eqb first 0 ne) refl
+
+headed_goes_on : (os rest : List ℕ) → Head os → is_ended (os ++ rest) ≡ false
+headed_goes_on os rest h = ap (λ (x : List ℕ). is_ended (x ++ rest)) h.are ∙ not_ended h.first (h.others ++ rest) h.some
+
+values_passed : (depth : ℕ) → ((os rest : List ℕ) → IsWhole depth os → behind_whole depth (os ++ rest) ≡ Some rest) → (turns : ℕ) (values : List (List ℕ)) (contents rest : List ℕ)
+    → AreAll (IsWhole depth) values contents → length contents < turns → behind_values (behind_whole depth) turns (contents ++ (0 ∷ 0 ∷ rest)) ≡ Some rest
+unfolding behind_values
+values_passed depth h zero values contents rest p lt = absurd (omega arith)
+values_passed depth h (suc turns) [] contents rest p lt = ap (λ (c : List ℕ). behind_values (behind_whole depth) (suc turns) (c ++ (0 ∷ 0 ∷ rest))) p
+values_passed depth h (suc turns) (s ∷ more) contents rest p lt =
+    let others : List ℕ = p.0 in
+    let tail : List ℕ = others ++ (0 ∷ 0 ∷ rest) in
+    let head = whole_head depth s p.2 in
+    let len : length contents ≡ length s + length others = ap length p.1 ∙ length-append s others in
+    let some : length s ≡ suc (length head.others) = ap length head.are in
+    let later = values_passed depth h turns more others rest p.3 (omega arith) in
+    let whole : contents ++ (0 ∷ 0 ∷ rest) ≡ s ++ tail = ap (λ (c : List ℕ). c ++ (0 ∷ 0 ∷ rest)) p.1 ∙ append_assoc s others (0 ∷ 0 ∷ rest) in
+    ap (λ (c : List ℕ). behind_values (behind_whole depth) (suc turns) c) whole ∙ rw (headed_goes_on s tail head, h s tail p.2) later
+
+whole_passed : (depth : ℕ) (os rest : List ℕ) → IsWhole depth os → behind_whole depth (os ++ rest) ≡ Some rest
+unfolding behind_whole
+whole_passed zero os rest h = absurd h
+whole_passed (suc inner) os rest (inl w) =
+    let tail : List ℕ = w.size ++ (w.contents ++ rest) in
+    let parts : os ++ rest ≡ w.head ++ tail = ap (λ (x : List ℕ). x ++ rest) w.are ∙ regroup w.head w.size w.contents rest in
+    ap (behind_whole (suc inner)) parts
+    ∙ rw (identifier_passed w.class w.constructed w.number w.head tail w.is_tag w.is_identifier, unmarked w.size (w.contents ++ rest) (length w.contents) w.is_length) (sized w.size w.contents rest w.is_length)
+whole_passed (suc inner) os rest (inr w) =
+    let inside : List ℕ = w.contents ++ (0 ∷ 0 ∷ rest) in
+    let parts : os ++ rest ≡ w.head ++ (128 ∷ inside) = ap (λ (x : List ℕ). x ++ rest) w.are ∙ regroup_marked w.head w.contents rest in
+    let values = values_passed inner (λ t r g. whole_passed inner t r g) (length inside) w.values w.contents rest w.holds (omega (arith, length-append w.contents (0 ∷ 0 ∷ rest))) in
+    ap (behind_whole (suc inner)) parts
+    ∙ rw (identifier_passed w.class true w.number w.head (128 ∷ inside) w.is_tag w.is_identifier, formed w.class true w.number w.head (128 ∷ inside) w.is_identifier) values
 
 -- the test passes each whole value
-pub is_whole_of : (os : List ℕ) → IsWhole os → is_whole os ≡ true
+pub is_whole_of : (os : List ℕ) → IsWhole 32 os → is_whole os ≡ true
 unfolding is_whole
-is_whole_of os w =
-    ap (λ (x : List ℕ). is_sized_behind (behind_identifier x)) w.are
-    ∙ ap is_sized_behind (identifier_passed w.class w.constructed w.number w.head (w.size ++ w.contents) w.is_tag w.is_identifier)
-    ∙ sized w.size w.contents w.is_length
+is_whole_of os w = ap is_nothing (ap (behind_whole 32) (sym (append-nil os)) ∙ whole_passed 32 os [] w)
 
 -- ---- DER spellings
 
@@ -139,8 +204,8 @@ any_length [] n h = absurd h
 any_length (first ∷ digits) n (inl h) = inl h
 any_length (first ∷ digits) n (inr l) = inr (record { size = l.size; some = l.some; few = l.few; number = l.number; shortest = λ f. absurd cc })
 
-definite_whole : (constructed : Bool) (tag : tags.Tag) (P : List ℕ → Type 0) (s : List ℕ) → is_no_tag tag.class tag.number ≡ false → IsDefinite true constructed tag P s → IsWhole s
-definite_whole constructed tag P s t d = record {
+definite_whole : (constructed : Bool) (tag : tags.Tag) (P : List ℕ → Type 0) (s : List ℕ) → is_no_tag tag.class tag.number ≡ false → IsDefinite true constructed tag P s → IsWhole 32 s
+definite_whole constructed tag P s t d = inl (record {
   class = tag.class;
   constructed = constructed;
   number = tag.number;
@@ -151,30 +216,30 @@ definite_whole constructed tag P s t d = record {
   is_identifier = d.is_identifier;
   is_length = any_length d.size (length d.contents) d.is_length;
   are = d.are;
-}
+})
 
-primitive_whole : (tag : tags.Tag) (levels : ℕ) (P : List ℕ → Type 0) (s : List ℕ) → is_no_tag tag.class tag.number ≡ false → IsPrimitive tag true levels P s → IsWhole s
+primitive_whole : (tag : tags.Tag) (levels : ℕ) (P : List ℕ → Type 0) (s : List ℕ) → is_no_tag tag.class tag.number ≡ false → IsPrimitive tag true levels P s → IsWhole 32 s
 primitive_whole tag levels P s t p = definite_whole false tag P s t p.form
 
-constructed_whole : (tag : tags.Tag) (levels : ℕ) (P : ℕ → List ℕ → Type 0) (s : List ℕ) → is_no_tag tag.class tag.number ≡ false → IsConstructed tag true levels P s → IsWhole s
+constructed_whole : (tag : tags.Tag) (levels : ℕ) (P : ℕ → List ℕ → Type 0) (s : List ℕ) → is_no_tag tag.class tag.number ≡ false → IsConstructed tag true levels P s → IsWhole 32 s
 constructed_whole tag levels P s t p = by_form p.form
   where
-    by_form : IsDefinite true true tag (P p.inner) s ⊎ ((true ≡ false) × IsIndefinite tag (P p.inner) s) → IsWhole s
+    by_form : IsDefinite true true tag (P p.inner) s ⊎ ((true ≡ false) × IsIndefinite tag (P p.inner) s) → IsWhole 32 s
     by_form (inl d) = definite_whole true tag (P p.inner) s t d
     by_form (inr i) = let no : true ≡ false = i.0 in absurd cc
 
 -- in DER a string is one segment
 string_whole : (kind : StringKind) (whole : Gathered → Option Value) (canonical : List ℕ → Bool) (tag : tags.Tag) (levels : ℕ) (v : Value) (s : List ℕ) → is_no_tag tag.class tag.number ≡ false
-    → StringIs kind whole canonical tag true levels v s → IsWhole s
+    → StringIs kind whole canonical tag true levels v s → IsWhole 32 s
 string_whole kind whole canonical tag levels v s t (inl p) = primitive_whole tag levels (λ c. (string_rule kind whole c ≡ Some v) × (true ≡ true → canonical c ≡ true)) s t p
 string_whole kind whole canonical tag levels v s t (inr p) = absurd (let no : true ≡ false = p.0 in cc)
 
 -- what holds of a row: each DER spelling under a tag that isn't UNIVERSAL 0 is whole
 record AreWhole (rel : Spelled) : Type 0 where
-  is : (t : Option tags.Tag) (levels : ℕ) (v : Value) (s : List ℕ) → OkTag t → rel t true levels v s → IsWhole s
+  is : (t : Option tags.Tag) (levels : ℕ) (v : Value) (s : List ℕ) → OkTag t → rel t true levels v s → IsWhole 32 s
 
-any_whole : (levels : ℕ) (v : Value) (s : List ℕ) → AnyIs levels v s → IsWhole s
-any_whole levels (any os) s p = subst IsWhole (sym p.1) p.2
+any_whole : (levels : ℕ) (v : Value) (s : List ℕ) → AnyIs levels v s → IsWhole 32 s
+any_whole levels (any os) s p = subst (IsWhole 32) (sym p.1) p.2
 any_whole levels (boolean x) s p = absurd p
 any_whole levels (integer x) s p = absurd p
 any_whole levels null s p = absurd p
@@ -186,12 +251,12 @@ any_whole levels (parts x) s p = absurd p
 any_whole levels (list x) s p = absurd p
 any_whole levels (chosen n x) s p = absurd p
 
-explicit_whole : (P : Bool → ℕ → Value → List ℕ → Type 0) → ((levels : ℕ) (v : Value) (s : List ℕ) → P true levels v s → IsWhole s) → (t : Option tags.Tag) (levels : ℕ) (v : Value) (s : List ℕ) → OkTag t → OrExplicit P t true levels v s → IsWhole s
+explicit_whole : (P : Bool → ℕ → Value → List ℕ → Type 0) → ((levels : ℕ) (v : Value) (s : List ℕ) → P true levels v s → IsWhole 32 s) → (t : Option tags.Tag) (levels : ℕ) (v : Value) (s : List ℕ) → OkTag t → OrExplicit P t true levels v s → IsWhole 32 s
 explicit_whole P each None levels v s ok p = each levels v s p
 explicit_whole P each (Some t) levels v s ok p = constructed_whole t levels (λ inner contents. P true inner v contents) s ok p
 
 module _ (rel : ℕ → Spelled) (each : (m : ℕ) → AreWhole (rel m)) where
-  chosen_whole : (ps : List Part) (levels : ℕ) (v : Value) (s : List ℕ) → ChoiceIs rel ps true levels v s → IsWhole s
+  chosen_whole : (ps : List Part) (levels : ℕ) (v : Value) (s : List ℕ) → ChoiceIs rel ps true levels v s → IsWhole 32 s
   chosen_whole ps levels (chosen which v) s p = (each p.0.inner.0).is None levels v s tt p.2
   chosen_whole ps levels (boolean x) s p = absurd p
   chosen_whole ps levels (integer x) s p = absurd p
@@ -204,7 +269,7 @@ module _ (rel : ℕ → Spelled) (each : (m : ℕ) → AreWhole (rel m)) where
   chosen_whole ps levels (list x) s p = absurd p
   chosen_whole ps levels (any x) s p = absurd p
 
-  row_whole : (r : TypeRow) → is_bad_range r ≡ false → (t : Option tags.Tag) (levels : ℕ) (v : Value) (s : List ℕ) → OkTag t → RowIs rel r t true levels v s → IsWhole s
+  row_whole : (r : TypeRow) → is_bad_range r ≡ false → (t : Option tags.Tag) (levels : ℕ) (v : Value) (s : List ℕ) → OkTag t → RowIs rel r t true levels v s → IsWhole 32 s
   row_whole row.Boolean good t levels v s ok p = primitive_whole (tag_or t Universal 1) levels (BooleanIs true v) s (tag_ok t Universal 1 ok refl) p
   row_whole (row.Integer low high) good t levels v s ok p = primitive_whole (tag_or t Universal 2) levels (IntegerIs low high v) s (tag_ok t Universal 2 ok refl) p
   row_whole (row.Enumerated items) good t levels v s ok p = primitive_whole (tag_or t Universal 10) levels (EnumeratedIs items v) s (tag_ok t Universal 10 ok refl) p
@@ -227,12 +292,12 @@ module _ (rows : List TypeRow) (sound : IsSound rows) where
   all_whole zero n = record { is = λ t levels v s ok p. absurd p }
   all_whole (suc turns) n = record { is = by_row (slice_get rows n) refl (λ m. all_whole turns m) }
     where
-      by_row : (o : Option TypeRow) → slice_get rows n ≡ o → ((m : ℕ) → AreWhole (SpelledBy rows turns m)) → (t : Option tags.Tag) (levels : ℕ) (v : Value) (s : List ℕ) → OkTag t → RowOr (RowIs (SpelledBy rows turns)) o t true levels v s → IsWhole s
+      by_row : (o : Option TypeRow) → slice_get rows n ≡ o → ((m : ℕ) → AreWhole (SpelledBy rows turns m)) → (t : Option tags.Tag) (levels : ℕ) (v : Value) (s : List ℕ) → OkTag t → RowOr (RowIs (SpelledBy rows turns)) o t true levels v s → IsWhole 32 s
       by_row None g h t levels v s ok p = absurd p
       by_row (Some r) g h t levels v s ok p = row_whole (SpelledBy rows turns) h r (sound_row rows sound n r g).range t levels v s ok p
 
   -- what DER spells is one whole value
-  pub der_whole : (n limit : ℕ) (v : Value) (s : List ℕ) → Spells rows n true limit v s → IsWhole s
+  pub der_whole : (n limit : ℕ) (v : Value) (s : List ℕ) → Spells rows n true limit v s → IsWhole 32 s
   der_whole n limit v s p = (all_whole (length rows) n).is None 32 v s tt p.by
 
   pub der_is_whole : (n limit : ℕ) (v : Value) (s : List ℕ) → Spells rows n true limit v s → is_whole s ≡ true

@@ -1,14 +1,14 @@
 -- One whole value, as `fits` tests it.
-use Rattle.std.proofs.Common.{◌≡◌, ◌≢◌, ℕ, ◌+◌, ◌-◌, ◌*◌, ◌%◌, ◌<◌, ◌≤◌, Bool, true, false, ◌&&◌, ◌||◌, cond, List, [], ◌∷◌, ◌++◌, length, take, drop, Option, Some, None, refl, sym, ap, ◌∙◌, arith, length-take, inl, inr}
-use Rattle.std.specs.Prelude.{nat_lt, nat_le, nat_eq}
+use Rattle.std.proofs.Common.{◌≡◌, ◌≢◌, ℕ, zero, suc, ◌+◌, ◌-◌, ◌*◌, ◌%◌, ◌<◌, ◌≤◌, Bool, true, false, ◌&&◌, ◌||◌, cond, List, [], ◌∷◌, ◌++◌, length, take, drop, Option, Some, None, refl, sym, ap, ◌∙◌, subst, arith, append_assoc, length-take, inl, inr}
+use Rattle.std.specs.Prelude.{option_and_then, nat_lt, nat_le, nat_eq}
 use Rattle.std.proofs.lemmas.Bool.{cases_lt, lt-ltb, le-ltb, ltb-true, ltb-false, leb-true, leb-false, eqb-true, eqb-false, ne_eqb}
-use Rattle.std.proofs.lemmas.List.{take-append-drop, length-drop}
+use Rattle.std.proofs.lemmas.List.{take-append-drop, append-nil}
 use Rattle.asn1_types.specs.declared.row.Class.{Class}
 use Rattle.asn1_types.specs.declared.row.Class.TheVariants.{Universal, Application, Context, Private}
 use Rattle.asn1_types.specs.Rows.{is_no_tag, same_class}
-use Rattle.asn1_types.specs.Whole.{number_256, behind_digits, behind_high, behind_identifier, is_counted, is_sized, is_sized_behind, is_whole}
+use Rattle.asn1_types.specs.Whole.{number_256, behind_digits, behind_high, behind_identifier, behind_octets, behind_counted, behind_sized, is_constructed as is_formed, is_marked, is_ended, behind_values, behind_length, behind_whole, is_nothing, is_whole}
 use Rattle.ber_codec.specs.Fields.{class_of, is_constructed, number_from}
-use Rattle.ber_codec.specs.Spelling.{AreDigits, low_bits, number_128, IsBase128, leading, IsIdentifier, IsLength, IsWhole}
+use Rattle.ber_codec.specs.Spelling.{AreDigits, low_bits, number_128, IsBase128, leading, IsIdentifier, IsLength, IsSized, AreAll, IsMarked, IsWhole}
 use Rattle.ber_codec.proofs.Identifiers.{first_is}
 
 and_true : (a b : Bool) → (a && b) ≡ true → (a ≡ true) × (b ≡ true)
@@ -29,35 +29,49 @@ same_number n (o ∷ os) = same_number (256 * n + o) os
 
 -- ---- lengths
 
-record Sized (octets : List ℕ) : Type 0 where
+some_cond : {A : Type 0} (b : Bool) (o : Option A) (x : A) → cond b o None ≡ Some x → (b ≡ true) × (o ≡ Some x)
+some_cond true o x e = (refl, e)
+some_cond false o x e = absurd cc
+
+behind_taken : (count : ℕ) (octets rest : List ℕ) → behind_octets count octets ≡ Some rest → (count ≤ length octets) × (octets ≡ take count octets ++ rest)
+behind_taken count octets rest e =
+    let t = some_cond (nat_le count (length octets)) (Some (drop count octets)) rest e in
+    let same : drop count octets ≡ rest = let f = t.1 in cc in
+    (leb-true count (length octets) t.0, sym (take-append-drop count octets) ∙ ap (λ (x : List ℕ). take count octets ++ x) same)
+
+record Sized (octets rest : List ℕ) : Type 0 where
   size : List ℕ
   contents : List ℕ
   is_length : IsLength false size (length contents)
-  are : octets ≡ size ++ contents
+  are : octets ≡ size ++ (contents ++ rest)
 
-sized : (octets : List ℕ) → is_sized octets ≡ true → Sized octets
-sized [] e = absurd cc
-sized (first ∷ rest) e = by_test (nat_lt first 128) refl e
+sized : (octets rest : List ℕ) → behind_sized octets ≡ Some rest → Sized octets rest
+sized [] rest e = absurd cc
+sized (first ∷ more) rest e = by_test (nat_lt first 128) refl e
   where
-    by_test : (b : Bool) → nat_lt first 128 ≡ b → cond b (nat_eq first (length rest)) (is_counted (first - 128) rest) ≡ true → Sized (first ∷ rest)
-    by_test true t e = record { size = first ∷ []; contents = rest; is_length = inl (ltb-true first 128 t, refl, sym (eqb-true first (length rest) e)); are = refl }
+    by_test : (b : Bool) → nat_lt first 128 ≡ b → cond b (behind_octets first more) (behind_counted (first - 128) more) ≡ Some rest → Sized (first ∷ more) rest
+    by_test true t e =
+        let k = behind_taken first more rest e in
+        let len : length (take first more) ≡ first = omega (arith, length-take first more, k.0) in
+        record { size = first ∷ []; contents = take first more; is_length = inl (ltb-true first 128 t, refl, len); are = ap (λ (x : List ℕ). first ∷ x) k.1 }
     by_test false t e =
         let n : ℕ = first - 128 in
-        let a = and_true (nat_le 1 n && nat_le n 8 && nat_le n (length rest)) (nat_eq (number_256 0 (take n rest)) (length rest - n)) e in
-        let b = and_true (nat_le 1 n && nat_le n 8) (nat_le n (length rest)) a.0 in
+        let number : ℕ = number_256 0 (take n more) in
+        let a = some_cond (nat_le 1 n && nat_le n 8 && nat_le n (length more)) (behind_octets number (drop n more)) rest e in
+        let b = and_true (nat_le 1 n && nat_le n 8) (nat_le n (length more)) a.0 in
         let d = and_true (nat_le 1 n) (nat_le n 8) b.0 in
+        let k = behind_taken number (drop n more) rest a.1 in
         let ge : 128 ≤ first = ltb-false first 128 t in
         let some : 1 ≤ n = leb-true 1 n d.0 in
         let few : n ≤ 8 = leb-true n 8 d.1 in
-        let there : n ≤ length rest = leb-true n (length rest) b.1 in
-        let len : length (take n rest) ≡ n = omega (arith, length-take n rest) in
-        let behind : length (drop n rest) ≡ length rest - n = length-drop n rest in
-        let number : number_256 0 (take n rest) ≡ length rest - n = eqb-true (number_256 0 (take n rest)) (length rest - n) a.1 in
+        let there : n ≤ length more = leb-true n (length more) b.1 in
+        let len : length (take n more) ≡ n = omega (arith, length-take n more) in
+        let all : length (take number (drop n more)) ≡ number = omega (arith, length-take number (drop n more), k.0) in
         record {
-          size = first ∷ take n rest;
-          contents = drop n rest;
-          is_length = inr (record { size = omega arith; some = omega arith; few = omega arith; number = sym (same_number 0 (take n rest)) ∙ number ∙ sym behind; shortest = λ f. absurd cc });
-          are = ap (λ (x : List ℕ). first ∷ x) (sym (take-append-drop n rest));
+          size = first ∷ take n more;
+          contents = take number (drop n more);
+          is_length = inr (record { size = omega arith; some = omega arith; few = omega arith; number = sym (same_number 0 (take n more)) ∙ sym all; shortest = λ f. absurd cc });
+          are = ap (λ (x : List ℕ). first ∷ x) (sym (take-append-drop n more) ∙ ap (λ (x : List ℕ). take n more ++ x) k.1);
         }
 
 -- ---- identifiers
@@ -151,6 +165,7 @@ record Identified (octets rest : List ℕ) : Type 0 where
   is_tag : is_no_tag class number ≡ false
   head : List ℕ
   is_identifier : IsIdentifier class constructed number head
+  formed : is_formed octets ≡ constructed
   parts : octets ≡ head ++ rest
 
 and_false : (b : Bool) → (b && false) ≡ false
@@ -179,6 +194,7 @@ identified (first ∷ more) rest e =
           is_tag = high_tag (class_of first) h.number h.large;
           head = first ∷ h.digits;
           is_identifier = inr (h.large, first_is first lt ∙ ap (λ (n : ℕ). leading (class_of first) (is_constructed first) + n) k, h.base);
+          formed = refl;
           parts = ap (λ (x : List ℕ). first ∷ x) h.parts;
         }
     by_form first more rest ne two lt false t e =
@@ -191,30 +207,108 @@ identified (first ∷ more) rest e =
           is_tag = no_tag first ne two;
           head = first ∷ [];
           is_identifier = inl (below (first % 32) (omega arith) k, first_is first lt, refl);
+          formed = refl;
           parts = ap (λ (x : List ℕ). first ∷ x) same;
         }
       where
         below : (k : ℕ) → k < 32 → k ≢ 31 → k < 31
         below k lt ne = elim (cases_lt k 31) [ inl low ↦ low | inr high ↦ absurd (ne (omega arith)) ]
 
-pub whole_is : (os : List ℕ) → is_whole os ≡ true → IsWhole os
-unfolding is_whole
-whole_is os e = by_rest (behind_identifier os) refl e
+-- ---- whole values
+
+regroup : (head size contents rest : List ℕ) → (head ++ (size ++ contents)) ++ rest ≡ head ++ (size ++ (contents ++ rest))
+regroup head size contents rest = simp append_assoc
+
+regroup_marked : (head contents rest : List ℕ) → (head ++ (128 ∷ (contents ++ (0 ∷ 0 ∷ [])))) ++ rest ≡ head ++ (128 ∷ (contents ++ (0 ∷ 0 ∷ rest)))
+regroup_marked head contents rest = simp append_assoc
+
+then_some : (f : List ℕ → Option (List ℕ)) (o : Option (List ℕ)) (x : List ℕ) → option_and_then f o ≡ Some x → (y : List ℕ) × (o ≡ Some y) × (f y ≡ Some x)
+then_some f None x e = absurd cc
+then_some f (Some y) x e = (y, refl, e)
+
+record Behind (depth : ℕ) (octets rest : List ℕ) : Type 0 where
+  text : List ℕ
+  parts : octets ≡ text ++ rest
+  whole : IsWhole depth text
+
+record Values (depth : ℕ) (octets rest : List ℕ) : Type 0 where
+  values : List (List ℕ)
+  contents : List ℕ
+  holds : AreAll (IsWhole depth) values contents
+  parts : octets ≡ contents ++ (0 ∷ 0 ∷ rest)
+
+ended_is : (octets : List ℕ) → is_ended octets ≡ true → octets ≡ 0 ∷ 0 ∷ drop 2 octets
+ended_is [] e = absurd cc
+ended_is (first ∷ []) e = absurd cc
+ended_is (first ∷ second ∷ rest) e =
+    let t = and_true (nat_eq first 0) (nat_eq second 0) e in
+    ap (λ (x : ℕ). x ∷ second ∷ rest) (eqb-true first 0 t.0) ∙ ap (λ (x : ℕ). 0 ∷ x ∷ rest) (eqb-true second 0 t.1)
+
+marked_is : (octets : List ℕ) → is_marked octets ≡ true → octets ≡ 128 ∷ drop 1 octets
+marked_is [] e = absurd cc
+marked_is (first ∷ rest) e = ap (λ (x : ℕ). x ∷ rest) (eqb-true first 128 e)
+
+values_are : (depth : ℕ) → ((octets rest : List ℕ) → behind_whole depth octets ≡ Some rest → Behind depth octets rest) → (turns : ℕ) (octets rest : List ℕ) → behind_values (behind_whole depth) turns octets ≡ Some rest → Values depth octets rest
+unfolding behind_values
+values_are depth h zero octets rest e = absurd cc
+values_are depth h (suc turns) octets rest e = by_test (is_ended octets) refl e (λ x g. values_are depth h turns x rest g)
   where
-    by_rest : (o : Option (List ℕ)) → behind_identifier os ≡ o → is_sized_behind o ≡ true → IsWhole os
-    by_rest None t e = absurd cc
-    by_rest (Some rest) t e =
-        let i = identified os rest t in
-        let s = sized rest e in
+    by_test : (b : Bool) → is_ended octets ≡ b → cond b (Some (drop 2 octets)) (option_and_then (behind_values (behind_whole depth) turns) (behind_whole depth octets)) ≡ Some rest
+        → ((x : List ℕ) → behind_values (behind_whole depth) turns x ≡ Some rest → Values depth x rest) → Values depth octets rest
+    by_test true t e later =
+        let same : drop 2 octets ≡ rest = cc in
+        record { values = []; contents = []; holds = refl; parts = ended_is octets t ∙ ap (λ (x : List ℕ). 0 ∷ 0 ∷ x) same }
+    by_test false t e later =
+        let b = then_some (behind_values (behind_whole depth) turns) (behind_whole depth octets) rest e in
+        let w = h octets b.0 b.1 in
+        let r = later b.0 b.2 in
         record {
+          values = w.text ∷ r.values;
+          contents = w.text ++ r.contents;
+          holds = (r.contents, refl, w.whole, r.holds);
+          parts = w.parts ∙ ap (λ (x : List ℕ). w.text ++ x) r.parts ∙ sym (append_assoc w.text r.contents (0 ∷ 0 ∷ rest));
+        }
+
+behind_is : (depth : ℕ) (octets rest : List ℕ) → behind_whole depth octets ≡ Some rest → Behind depth octets rest
+unfolding behind_whole
+behind_is zero octets rest e = absurd cc
+behind_is (suc inner) octets rest e =
+    let b = then_some (behind_length (behind_whole inner) (is_formed octets)) (behind_identifier octets) rest e in
+    by_test b.0 (identified octets b.0 b.1) (is_marked b.0 && is_formed octets) refl b.2 (λ os r g. behind_is inner os r g)
+  where
+    by_test : (more : List ℕ) → Identified octets more → (b : Bool) → (is_marked more && is_formed octets) ≡ b
+        → cond b (behind_values (behind_whole inner) (length (drop 1 more)) (drop 1 more)) (behind_sized more) ≡ Some rest
+        → ((os r : List ℕ) → behind_whole inner os ≡ Some r → Behind inner os r) → Behind (suc inner) octets rest
+    by_test more i true t e h =
+        let both = and_true (is_marked more) (is_formed octets) t in
+        let v = values_are inner h (length (drop 1 more)) (drop 1 more) rest e in
+        let formed : i.constructed ≡ true = sym i.formed ∙ both.1 in
+        let text : List ℕ = i.head ++ (128 ∷ (v.contents ++ (0 ∷ 0 ∷ []))) in
+        let whole : IsMarked (IsWhole inner) text = record {
           class = i.class;
-          constructed = i.constructed;
           number = i.number;
           is_tag = i.is_tag;
           head = i.head;
-          size = s.size;
-          contents = s.contents;
-          is_identifier = i.is_identifier;
-          is_length = s.is_length;
-          are = i.parts ∙ ap (λ (x : List ℕ). i.head ++ x) s.are;
-        }
+          values = v.values;
+          contents = v.contents;
+          is_identifier = subst (λ (f : Bool). IsIdentifier i.class f i.number i.head) formed i.is_identifier;
+          holds = v.holds;
+          are = refl;
+        } in
+        record { text = text; parts = i.parts ∙ ap (λ (x : List ℕ). i.head ++ x) (marked_is more both.0 ∙ ap (λ (x : List ℕ). 128 ∷ x) v.parts) ∙ sym (regroup_marked i.head v.contents rest); whole = inr whole }
+    by_test more i false t e h =
+        let s = sized more rest e in
+        let text : List ℕ = i.head ++ (s.size ++ s.contents) in
+        let whole : IsSized text = record { class = i.class; constructed = i.constructed; number = i.number; is_tag = i.is_tag; head = i.head; size = s.size; contents = s.contents; is_identifier = i.is_identifier; is_length = s.is_length; are = refl } in
+        record { text = text; parts = i.parts ∙ ap (λ (x : List ℕ). i.head ++ x) s.are ∙ sym (regroup i.head s.size s.contents rest); whole = inl whole }
+
+pub whole_is : (os : List ℕ) → is_whole os ≡ true → IsWhole 32 os
+unfolding is_whole
+whole_is os e = by_rest (behind_whole 32 os) refl e
+  where
+    by_rest : (o : Option (List ℕ)) → behind_whole 32 os ≡ o → is_nothing o ≡ true → IsWhole 32 os
+    by_rest None t e = absurd cc
+    by_rest (Some (octet ∷ rest)) t e = absurd cc
+    by_rest (Some []) t e =
+        let b = behind_is 32 os [] t in
+        subst (IsWhole 32) (sym (b.parts ∙ append-nil b.text)) b.whole

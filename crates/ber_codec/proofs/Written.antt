@@ -348,7 +348,7 @@ module _ (fit : ℕ → Value → Bool) (write : ℕ → Writer) (rel : ℕ → 
   chosen_written levels qs (list vs) le e short = absurd cc
   chosen_written levels qs (any os) le e short = absurd cc
 
-any_written_is : ((os : List ℕ) → is_whole os ≡ true → IsWhole os) → (levels : ℕ) (v : Value) → 0 < levels → any_fits v ≡ true → AnyIs levels v (any_written v)
+any_written_is : ((os : List ℕ) → is_whole os ≡ true → IsWhole 32 os) → (levels : ℕ) (v : Value) → 0 < levels → any_fits v ≡ true → AnyIs levels v (any_written v)
 any_written_is whole levels (any os) lt e = (lt, refl, whole os e)
 any_written_is whole levels null lt e = absurd cc
 any_written_is whole levels (integer z) lt e = absurd cc
@@ -394,7 +394,7 @@ told_of rows sound turns m strict levels v s p =
       rank_is = ap front_rank (sym (append-nil s)) ∙ front_read scope 0 (s ++ []) r.opened r.spot r.opens;
     }
 
-module _ (whole : (os : List ℕ) → is_whole os ≡ true → IsWhole os) where
+module _ (whole : (os : List ℕ) → is_whole os ≡ true → IsWhole 32 os) where
   module _ (openings : ℕ → List Opening) (fit : ℕ → Value → Bool) (write : ℕ → Writer) (rel : ℕ → Spelled) (nest : ℕ → ℕ) (each : (m : ℕ) → RowWritten (fit m) (write m) (rel m) (nest m))
       (told : (m : ℕ) (strict : Bool) (levels : ℕ) (v : Value) (s : List ℕ) → rel m None strict levels v s → Told openings m s)
     where

@@ -30,6 +30,10 @@ pub data Ahead : Type 0 where
 abbrev pub spot_of : code.Spot → Spot
 spot_of s = record { place = s.place; rest = s.rest.now }
 
+-- where reading goes on, and nothing else
+abbrev pub behind_of : code.Spot → Unit {0} × Spot
+behind_of s = (tt, spot_of s)
+
 abbrev pub opened_of : codes.Opened → Opened
 opened_of o = record { start = spot_of o.start; class = o.class; constructed = o.constructed; number = o.number }
 

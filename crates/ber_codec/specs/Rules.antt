@@ -12,6 +12,7 @@ use Rattle.asn1_types.specs.declared.row.TypeRow.TheVariants as row
 use Rattle.asn1_types.specs.Rows.{along, begins, same_class, is_no_tag, text_number}
 use Rattle.asn1_types.specs.Value.{Value, boolean, integer, null, octets, bits, object_id, text, parts, list, chosen, any}
 use Rattle.asn1_types.specs.ValueView.{parts_of, values_of}
+use Rattle.asn1_types.specs.Whole.{is_marked}
 use Rattle.asn1_types.specs.Fits.{is_item, is_text, are_bits}
 use Rattle.ber_codec.specs.declared.fault.ReadFault.TheVariants.{NotSpelled, Short}
 use Rattle.ber_codec.specs.declared.spot.Scope.{Scope}
@@ -381,18 +382,37 @@ choice_at begins inner which (p ∷ ps) scope opened spot =
       Ok (chosen which v.0, v.1))
     else choice_at begins inner (suc which) ps scope opened spot
 
--- ---- one whole value of any type
+-- ---- one whole value of any type (X.690 8.1)
 
--- its levels are counted anew, and it has no fault of kind Form
-abbrev pub anew : Scope → Scope
-anew scope = record { levels = 32; limit = scope.limit; end = scope.end; marked = scope.marked; strict = false }
+-- its levels are its own, and it has no fault of kind Form
+abbrev pub anew : ℕ → Scope → Scope
+anew levels scope = record { levels = levels; limit = scope.limit; end = scope.end; marked = scope.marked; strict = false }
 
-unfoldable pub any_at : Scope → Opened → Spot → Reading (Value × Spot)
-any_at scope opened spot =
+-- a definite length, and that many octets (X.690 8.1.3.3)
+abbrev pub sized_at : Scope → Spot → Reading (Unit {0} × Spot)
+sized_at scope spot = do
+  c ← contents_at scope spot.place spot.rest
+  Ok (tt, c.2)
+
+-- an indefinite length, and contents (X.690 8.1.3.6)
+abbrev pub marked_at : (Scope → Spot → Reading (Unit {0} × Spot)) → Scope → Spot → Reading (Unit {0} × Spot)
+marked_at body scope spot = do
+  x ← extent_at scope spot.place spot.rest
+  body x.0 x.1
+
+-- A value is sized, or constructed of whole values up to end-of-contents.
+unfoldable pub whole_at : ℕ → Unit {0} → Scope → Opened → Spot → Reading (Unit {0} × Spot)
+whole_at zero before scope opened spot = refuse opened.start.place Tag
+whole_at (suc inner) before scope opened spot =
     if is_no_tag opened.class opened.number then refuse opened.start.place Tag
-    else (do
-      c ← contents_at (anew scope) spot.place spot.rest
-      Ok (any (take (length opened.start.rest - length c.2.rest) opened.start.rest), c.2))
+    else (if is_marked spot.rest && opened.constructed then marked_at (all_items_at (whole_at inner) (λ (u : Unit {0}). Some u) tt) (anew (suc inner) scope) spot
+    else sized_at (anew (suc inner) scope) spot)
+
+-- levels are counted from 1 to 32
+unfoldable pub any_at : Scope → Opened → Spot → Reading (Value × Spot)
+any_at scope opened spot = do
+  w ← whole_at 32 tt scope opened spot
+  Ok (any (take (length opened.start.rest - length w.1.rest) opened.start.rest), w.1)
 
 -- ---- each row
 

@@ -150,8 +150,8 @@ ObjectIdIs v contents = ⊥
 
 -- ---- any one whole value (X.690 8.1)
 
--- any identifier but UNIVERSAL 0, a length, and that many octets
-pub record IsWhole (spelled : List ℕ) : Type 0 where
+-- any identifier but UNIVERSAL 0, a definite length, and that many octets
+pub record IsSized (spelled : List ℕ) : Type 0 where
   pub class : Class
   pub constructed : Bool
   pub number : ℕ
@@ -163,8 +163,31 @@ pub record IsWhole (spelled : List ℕ) : Type 0 where
   pub is_length : IsLength false size (length contents)
   pub are : spelled ≡ head ++ (size ++ contents)
 
+-- contents that are such values one after the other
+abbrev pub AreAll : (List ℕ → Type 0) → List (List ℕ) → List ℕ → Type 0
+AreAll P [] contents = contents ≡ []
+AreAll P (s ∷ more) contents = (others : List ℕ) × (contents ≡ s ++ others) × P s × AreAll P more others
+
+-- any identifier of a constructed value but UNIVERSAL 0, `80`, such values, and end-of-contents (X.690 8.1.3.6, 8.1.5)
+pub record IsMarked (P : List ℕ → Type 0) (spelled : List ℕ) : Type 0 where
+  pub class : Class
+  pub number : ℕ
+  pub is_tag : is_no_tag class number ≡ false
+  pub head : List ℕ
+  pub values : List (List ℕ)
+  pub contents : List ℕ
+  pub is_identifier : IsIdentifier class true number head
+  pub holds : AreAll P values contents
+  pub are : spelled ≡ head ++ (128 ∷ (contents ++ (0 ∷ 0 ∷ [])))
+
+-- Definite contents aren't looked into; indefinite ones are whole values with a level less.
+abbrev pub IsWhole : ℕ → List ℕ → Type 0
+IsWhole zero spelled = ⊥
+IsWhole (suc inner) spelled = IsSized spelled ⊎ IsMarked (IsWhole inner) spelled
+
+-- its levels are counted from 1 to 32, whatever encloses it
 abbrev pub AnyIs : ℕ → Value → List ℕ → Type 0
-AnyIs levels (any os) spelled = (0 < levels) × (spelled ≡ os) × IsWhole os
+AnyIs levels (any os) spelled = (0 < levels) × (spelled ≡ os) × IsWhole 32 os
 AnyIs levels v spelled = ⊥
 
 -- ---- strings (X.690 8.6, 8.7, 8.23)

@@ -14,6 +14,7 @@ mod spot;
 mod strings;
 #[cfg(test)]
 mod tests;
+mod whole;
 mod write;
 #[cfg(test)]
 mod writing_tests;

@@ -11,14 +11,15 @@ ghost use Rattle.ber_codec.specs.Rules.{tag_or, is_opened, expect_at, first_of, 
 ghost use Rattle.ber_codec.specs.Order.{rank};
 
 use crate::fault::ReadFault;
-use crate::fields::{contents, extent, look, refusal};
+use crate::fields::{extent, look, refusal};
 use crate::order::rank;
 use crate::plain::{boolean, enumerated, integer, null, object_id};
 use crate::spot::{Ahead, Opened, Scope, Spot, Tag};
 use crate::strings::{bit_string, octet_string, text};
+use crate::whole::whole_value;
 use asn1_types::{
-    Class, MaybeVals, Node, Part, Parts, TypeId, TypeRow, TypeTable, Val, Vals, begins, is_no_tag,
-    same_class, text_number,
+    Class, MaybeVals, Node, Part, Parts, TypeId, TypeRow, TypeTable, Val, Vals, begins, same_class,
+    text_number,
 };
 use osi_base::{Kind, NoMemory, Octets};
 use std::alloc::Global;
@@ -93,17 +94,7 @@ fn any<'a>(
     ensures gives { Gives (λ x. (x.0, spot_of x.1)) result (any_at scope.now (opened_of opened.now) (spot_of spot.entry)) }
     ensures stops { IfOk result (λ x. GoesOn spot.entry.place (length spot.entry.rest.now) x.1) }
 {
-    if is_no_tag(opened.class, opened.number) {
-        return Err(refusal(opened.start.place, Kind::Tag));
-    }
-    let anew = Scope {
-        levels: 32,
-        limit: scope.limit,
-        end: scope.end,
-        marked: scope.marked,
-        strict: false,
-    };
-    let (_, _, after) = contents(&anew, spot)?;
+    let after = whole_value(32, scope, opened, spot)?;
     let whole = opened.start.rest;
     let octets = Octets::from_slice(alloc, &whole[..whole.len() - after.rest.len()])?;
     Ok((

@@ -18,6 +18,8 @@ const OCTETS: u32 = 4;
 
 const IA5: u32 = 5;
 
+const ANY: u32 = 6;
+
 fn part(alloc: Global, name: &str, inner: u32) -> Result<Part, NoMemory> {
     Ok(Part {
         name: Name::from_str(alloc, name)?,
@@ -41,6 +43,7 @@ fn table(alloc: Global) -> Result<TypeTable, RowRefusal> {
     table.add(TypeRow::BitString)?;
     table.add(TypeRow::OctetString { most: 262_144 })?;
     table.add(TypeRow::Text(TextKind::Ia5))?;
+    table.add(TypeRow::Any)?;
     Ok(table)
 }
 
@@ -79,7 +82,7 @@ fn worked_rows(rt: HostRuntime) {
         Result<usize, ReadFault>,
         Result<usize, ReadFault>,
         &[u8],
-    ); 18] = [
+    ); 23] = [
         (
             INTEGER,
             &[2, 2, 0, 5],
@@ -182,6 +185,35 @@ fn worked_rows(rt: HostRuntime) {
             &[],
         ),
         (SET, &[0x31, 6, 2, 1, 7, 1], short, at(5, Kind::Form), &[]),
+        (
+            ANY,
+            &[0x30, 0x80, 2, 1, 5, 0, 0],
+            Ok(7),
+            Ok(7),
+            &[0x30, 0x80, 2, 1, 5, 0, 0],
+        ),
+        (
+            ANY,
+            &[0x30, 0x80, 0x31, 0x80, 0, 0, 4, 2, 0, 0, 0, 0, 9],
+            Ok(12),
+            Ok(12),
+            &[0x30, 0x80, 0x31, 0x80, 0, 0, 4, 2, 0, 0, 0, 0],
+        ),
+        (ANY, &[0x30, 0x80, 0], short, short, &[]),
+        (
+            ANY,
+            &[0x30, 0x80, 0, 5, 0],
+            at(2, Kind::Tag),
+            at(2, Kind::Tag),
+            &[],
+        ),
+        (
+            ANY,
+            &[4, 0x80, 0, 0],
+            at(1, Kind::Length),
+            at(1, Kind::Length),
+            &[],
+        ),
     ];
     for (of, octets, ber, der, written) in rows {
         assert!(rt; answers(rt.alloc(), of, octets, written) == Some((ber, der, true)));
@@ -196,6 +228,11 @@ fn limits(rt: HostRuntime) -> Result<(), Fail> {
     assert!(rt; table.has(of));
     let deep = [0x24, 0x80].repeat(rt.alloc(), 40)?;
     let read = ber_read(rt.alloc(), &table, of, deep.as_slice());
+    assert!(rt; read.map(|read| read.used) == Err(ReadFault::TooDeep { place: 64 }));
+    let any = TypeId(ANY);
+    assert!(rt; table.has(any));
+    let deep = [0x30, 0x80].repeat(rt.alloc(), 40)?;
+    let read = ber_read(rt.alloc(), &table, any, deep.as_slice());
     assert!(rt; read.map(|read| read.used) == Err(ReadFault::TooDeep { place: 64 }));
     let mut long = vec![in rt.alloc(); 0; 262_144]?;
     assert!(rt; long.len() == 262_144);
