@@ -6,9 +6,9 @@ use Rattle.std.proofs.lemmas.Bool.{cases_lt}
 use Rattle.asn1_types.specs.declared.row.Part.{Part}
 use Rattle.asn1_types.specs.Value.{Value}
 use Rattle.asn1_types.specs.ValueView.{parts_of, values_of}
-use Rattle.ber_codec.specs.Writing.{Writer, high_digits, base_128, digits_256, base_256, natural_octets, part_contents, parts_contents, values_contents}
-use Rattle.ber_codec.proofs.Digits.{high_step, high_append, low_step, low_append, nat_step, nat_append, nat_last}
-use Rattle.ber_codec.proofs.WriteLaws.{parts_before, parts_none, values_before}
+use Rattle.ber_spelling.specs.Writing.{Writer, high_digits, base_128, digits_256, base_256, natural_octets, part_contents, parts_contents, values_contents}
+use Rattle.ber_spelling.proofs.Digits.{high_step, high_append, low_step, low_append, nat_step, nat_append, nat_last}
+use Rattle.ber_spelling.proofs.WriteLaws.{parts_before, parts_none, values_before}
 
 one_more : (l : List ℕ) (d : ℕ) → length (l ++ d ∷ []) ≡ suc (length l)
 one_more l d = let e = length-append l (d ∷ []) in omega arith

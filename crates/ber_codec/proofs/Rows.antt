@@ -10,10 +10,10 @@ use Rattle.asn1_types.specs.Rows.{names_of, rows_of_parts, begins}
 use Rattle.asn1_types.specs.Table.{IsSound}
 use Rattle.asn1_types.proofs.Along.{settled}
 use Rattle.asn1_types.proofs.Sound.{is_down}
-use Rattle.ber_codec.specs.declared.spot.Scope.{Scope}
-use Rattle.ber_codec.specs.Reading.{Spot, Ahead, Reading, ◌>>=◌}
-use Rattle.ber_codec.specs.Rules.{Reader, part_at, parts_at, sequence_at, choice_at, list_at, constructed_at, all_items_at, fill_at, slot_at, set_done, nothing_filled, or_explicit, tagged_at, expect_at, tag_or, dead, read_by, reads}
-use Rattle.ber_codec.specs.Fields.{extent_at, look_at}
+use Rattle.ber_spelling.specs.declared.spot.Scope.{Scope}
+use Rattle.ber_spelling.specs.Reading.{Spot, Ahead, Reading, ◌>>=◌}
+use Rattle.ber_spelling.specs.Rules.{Reader, part_at, parts_at, sequence_at, choice_at, list_at, constructed_at, all_items_at, fill_at, slot_at, set_done, nothing_filled, or_explicit, tagged_at, expect_at, tag_or, dead, read_by, reads}
+use Rattle.ber_spelling.specs.Fields.{extent_at, look_at}
 use Rattle.asn1_types.specs.Value.{Value, chosen, parts}
 use Rattle.asn1_types.specs.ValueView.{parts_of}
 use Rattle.asn1_types.specs.declared.row.Class.TheVariants.{Universal}

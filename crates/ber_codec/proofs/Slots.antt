@@ -8,14 +8,14 @@ use Rattle.osi_base.specs.declared.words.Kind.TheVariants.{Missing, Extra}
 use Rattle.asn1_types.specs.declared.row.Class.{Class}
 use Rattle.asn1_types.specs.Value.{parts}
 use Rattle.asn1_types.specs.ValueView.{parts_of}
-use Rattle.ber_codec.specs.declared.fault.ReadFault.{ReadFault}
-use Rattle.ber_codec.specs.declared.spot.Scope.{Scope}
-use Rattle.ber_codec.specs.Reading.{Spot, Opened, Reading, ◌>>=◌, ended, refuse, Fails}
-use Rattle.ber_codec.specs.Fields.{look_at}
-use Rattle.ber_codec.specs.Order.{Filled}
-use Rattle.ber_codec.specs.Rules.{Reader, items_at, no_parts_of, stands, is_filled, set_done, is_free, ordered_at, filled_by, fill_at, slot_at}
-use Rattle.ber_codec.proofs.Steps.{Fails-bind, Fails-same}
-use Rattle.ber_codec.proofs.Turns.{turn_is}
+use Rattle.ber_spelling.specs.declared.fault.ReadFault.{ReadFault}
+use Rattle.ber_spelling.specs.declared.spot.Scope.{Scope}
+use Rattle.ber_spelling.specs.Reading.{Spot, Opened, Reading, ◌>>=◌, ended, refuse, Fails}
+use Rattle.ber_spelling.specs.Fields.{look_at}
+use Rattle.ber_spelling.specs.Order.{Filled}
+use Rattle.ber_spelling.specs.Rules.{Reader, items_at, no_parts_of, stands, is_filled, set_done, is_free, ordered_at, filled_by, fill_at, slot_at}
+use Rattle.ber_spelling.proofs.Steps.{Fails-bind, Fails-same}
+use Rattle.ber_spelling.proofs.Turns.{turn_is}
 
 none_next : (ps : List Part) (i : ℕ) → i < length ps → no_parts_of (drop i ps) ≡ None ∷ no_parts_of (drop (suc i) ps)
 none_next [] i lt = absurd (omega arith)

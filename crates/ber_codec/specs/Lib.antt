@@ -1,9 +1,5 @@
-pub mod Octets
-pub mod Reading
-pub mod Fields
-pub mod Primitives
-pub mod Order
-pub mod Rules
-pub mod Spelling
-pub mod Laws
-pub mod Writing
+pub mod Calls
+pub use Rattle.ber_spelling.specs.Reading
+pub use Rattle.ber_spelling.specs.Rules
+pub use Rattle.ber_spelling.specs.Spelling
+pub use Rattle.ber_spelling.specs.Writing

@@ -2,16 +2,14 @@
 
 ghost use Rattle.std.specs.Prelude.{◌≡◌, ℕ, ◌≤◌, ◌<◌, false, true, length, take, IfOk};
 ghost use Rattle.asn1_types.specs.Value as tree;
-ghost use Rattle.ber_codec.specs.Reading.{Gives};
-ghost use Rattle.ber_codec.specs.Rules.{read_at};
-ghost use Rattle.ber_codec.specs.Spelling.{Spells};
-ghost use Rattle.ber_codec.specs.Laws.{IsRead};
+ghost use Rattle.ber_spelling.specs.Reading.{Gives};
+ghost use Rattle.ber_spelling.specs.Rules.{read_at};
+ghost use Rattle.ber_spelling.specs.Spelling.{Spells};
+ghost use Rattle.ber_codec.specs.Calls.{IsRead};
 
-use crate::fault::ReadFault;
-use crate::fields::identifier;
 use crate::read::value;
-use crate::spot::{Scope, Spot};
 use asn1_types::{TypeId, TypeTable, Val};
+use ber_spelling::{ReadFault, Scope, Spot, identifier};
 use std::alloc::Global;
 
 /// How many octets a value may have.
@@ -75,7 +73,7 @@ pub fn der_read(
     read_whole(alloc, table, of, bytes, LIMIT, true)
 }
 
-#[tactic(auto, unfolding(crate::specs::Rules::read_at, crate::specs::Rules::value_at))]
+#[tactic(auto, unfolding(ber_spelling::specs::Rules::read_at, ber_spelling::specs::Rules::value_at))]
 fn read_all(
     alloc: Global,
     table: &TypeTable,

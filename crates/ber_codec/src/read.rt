@@ -6,49 +6,23 @@ ghost use Rattle.asn1_types.specs.Rows.{begins, rows_of_parts, names_of};
 ghost use Rattle.asn1_types.specs.Table.{IsSound};
 ghost use Rattle.asn1_types.specs.Value as tree;
 ghost use Rattle.asn1_types.specs.ValueView.{values_of, parts_of};
-ghost use Rattle.ber_codec.specs.Reading.{Gives, Fails, spot_of, opened_of, ahead_of, LiesIn, GoesOn, spot_in, IsBefore, Follows};
-ghost use Rattle.ber_codec.specs.Rules.{tag_or, is_opened, expect_at, first_of, last_of, open_at, close_at, is_part, place_of, all_items_at, list_item_at, list_done, list_at, part_at, parts_at, sequence_at, choice_at, any_at, explicit_at, or_explicit, tagged_at, read_by, reads, no_parts_of, nothing_filled, is_free, stands, is_filled, set_done, late_kind, late_at, ordered_at, fill_at, slot_at, set_at};
-ghost use Rattle.ber_codec.specs.Order.{rank};
+ghost use Rattle.ber_spelling.specs.Reading.{Gives, Fails, spot_of, opened_of, ahead_of, LiesIn, GoesOn, spot_in, IsBefore, Follows};
+ghost use Rattle.ber_spelling.specs.Rules.{first_of, last_of, open_at, close_at, is_part, place_of, all_items_at, list_item_at, list_done, list_at, part_at, parts_at, sequence_at, choice_at, any_at, explicit_at, or_explicit, tagged_at, read_by, reads, no_parts_of, nothing_filled, is_free, stands, is_filled, set_done, late_kind, late_at, ordered_at, fill_at, slot_at, set_at};
+ghost use Rattle.ber_spelling.specs.Order.{rank};
 
-use crate::fault::ReadFault;
-use crate::fields::{extent, look, refusal};
-use crate::order::rank;
-use crate::plain::{boolean, enumerated, integer, null, object_id};
-use crate::spot::{Ahead, Opened, Scope, Spot, Tag};
-use crate::strings::{bit_string, octet_string, text};
-use crate::whole::whole_value;
 use asn1_types::{
-    Class, MaybeVals, Node, Part, Parts, TypeId, TypeRow, TypeTable, Val, Vals, begins, same_class,
+    Class, MaybeVals, Node, Part, Parts, TypeId, TypeRow, TypeTable, Val, Vals, begins,
     text_number,
+};
+use ber_spelling::{
+    Ahead, Opened, ReadFault, Scope, Spot, Tag, bit_string, boolean, enumerated, expect, extent,
+    integer, look, null, object_id, octet_string, rank, refusal, tag_or, text, whole_value,
 };
 use osi_base::{Kind, NoMemory, Octets};
 use std::alloc::Global;
 
-pub(crate) fn tag_or(tag: Option<Tag>, class: Class, number: u32) -> Tag
-    ensures { result ≡ tag_or tag class number }
-{
-    match tag {
-        None => Tag { class, number },
-        Some(tag) => tag,
-    }
-}
-
-/// Whether this identifier is of this tag and form.
-pub(crate) fn expect(tag: Tag, constructed: bool, opened: &Opened) -> Result<(), ReadFault>
-    ensures { Gives (λ x. x) result (expect_at tag constructed (opened_of opened.now)) }
-{
-    if same_class(opened.class, tag.class)
-        && opened.number == tag.number as u64
-        && opened.constructed == constructed
-    {
-        Ok(())
-    } else {
-        Err(refusal(opened.start.place, Kind::Tag))
-    }
-}
-
 /// Opens a constructed value that holds one value.
-#[tactic(auto, unfolding(crate::specs::Rules::open_at))]
+#[tactic(auto, unfolding(ber_spelling::specs::Rules::open_at))]
 fn open<'a>(
     tag: Tag,
     scope: &Scope,
@@ -69,7 +43,7 @@ fn open<'a>(
 }
 
 /// Closes a constructed value that holds one value.
-#[tactic(auto, unfolding(crate::specs::Rules::close_at))]
+#[tactic(auto, unfolding(ber_spelling::specs::Rules::close_at))]
 fn close<'a>(scope: &Scope, spot: Spot<'a>) -> Result<Spot<'a>, ReadFault>
     requires { spot.place + length spot.rest.now < 2 ^ 63 }
     ensures gives { Gives (λ x. spot_of x) result (close_at scope.now (spot_of spot.entry)) }
@@ -82,7 +56,7 @@ fn close<'a>(scope: &Scope, spot: Spot<'a>) -> Result<Spot<'a>, ReadFault>
 }
 
 /// Any one value, as octets.
-#[tactic(auto, unfolding(crate::specs::Rules::any_at))]
+#[tactic(auto, unfolding(ber_spelling::specs::Rules::any_at))]
 fn any<'a>(
     alloc: Global,
     scope: &Scope,
@@ -285,7 +259,7 @@ fn items<'a>(
     Err(ReadFault::Short)
 }
 
-#[tactic(auto, unfolding(crate::specs::Rules::explicit_at))]
+#[tactic(auto, unfolding(ber_spelling::specs::Rules::explicit_at))]
 fn tagged_any<'a>(
     alloc: Global,
     tag: Tag,
@@ -303,7 +277,7 @@ fn tagged_any<'a>(
 }
 
 #[cycle(reading)]
-#[tactic(auto, unfolding(crate::specs::Rules::explicit_at))]
+#[tactic(auto, unfolding(ber_spelling::specs::Rules::explicit_at))]
 fn tagged<'a>(
     alloc: Global,
     table: &TypeTable,
@@ -326,7 +300,7 @@ fn tagged<'a>(
 }
 
 #[cycle(reading)]
-#[tactic(auto, unfolding(crate::specs::Rules::explicit_at))]
+#[tactic(auto, unfolding(ber_spelling::specs::Rules::explicit_at))]
 fn tagged_choice<'a>(
     alloc: Global,
     table: &TypeTable,
@@ -359,7 +333,7 @@ fn tagged_choice<'a>(
 
 /// The alternative of a CHOICE that begins with this identifier.
 #[cycle(reading)]
-#[tactic(auto, unfolding(crate::specs::Rules::choice_at))]
+#[tactic(auto, unfolding(ber_spelling::specs::Rules::choice_at))]
 fn choice<'a>(
     alloc: Global,
     table: &TypeTable,
@@ -391,7 +365,7 @@ fn choice<'a>(
 }
 
 #[cycle(reading)]
-#[tactic(auto, unfolding(crate::specs::Rules::sequence_at))]
+#[tactic(auto, unfolding(ber_spelling::specs::Rules::sequence_at))]
 fn sequence<'a>(
     alloc: Global,
     table: &TypeTable,
@@ -422,7 +396,7 @@ fn sequence<'a>(
 
 /// The parts of a SEQUENCE in their order, from what stands ahead to the end of its contents.
 #[cycle(reading)]
-#[tactic(auto, unfolding(crate::specs::Rules::parts_at))]
+#[tactic(auto, unfolding(ber_spelling::specs::Rules::parts_at))]
 fn parts_of<'a>(
     alloc: Global,
     table: &TypeTable,
@@ -452,7 +426,7 @@ fn parts_of<'a>(
 
 /// One part of a SEQUENCE, if it is there, and what stands behind it.
 #[cycle(reading)]
-#[tactic(auto, unfolding(crate::specs::Rules::part_at))]
+#[tactic(auto, unfolding(ber_spelling::specs::Rules::part_at))]
 fn part_of<'a>(
     alloc: Global,
     table: &TypeTable,
@@ -601,7 +575,7 @@ fn is_filled(parts: &[Part], found: &[Option<Val>]) -> bool
 
 /// The part of a SET that begins with this identifier, and its slot, which must be free.
 #[cycle(reading)]
-#[tactic(auto, unfolding(crate::specs::Rules::slot_at))]
+#[tactic(auto, unfolding(ber_spelling::specs::Rules::slot_at))]
 fn slot<'a>(
     alloc: Global,
     table: &TypeTable,

@@ -6,15 +6,13 @@ ghost use Rattle.std.specs.List.{AllByRecursion, flat_map};
 ghost use Rattle.asn1_types.specs.Rows.{rows_of_parts};
 ghost use Rattle.asn1_types.specs.Table.{IsSound};
 ghost use Rattle.asn1_types.specs.ValueView.{parts_of, values_of};
-ghost use Rattle.ber_codec.specs.Spelling.{leading, subidentifiers};
-ghost use Rattle.ber_codec.specs.Writing.{base_128, base_256, natural_octets, integer_octets, identifier, length_octets, definite, boolean_contents, integer_contents, octets_contents, text_contents, bits_contents, object_id_contents, values_contents, list_contents, part_contents, parts_contents, sequence_contents, alternative_written, choice_written, any_written, under, write_by, writes, written, of_rank, set_parts};
-ghost use Rattle.ber_codec.specs.Order.{rank};
+ghost use Rattle.ber_spelling.specs.Spelling.{leading, subidentifiers};
+ghost use Rattle.ber_spelling.specs.Writing.{base_128, base_256, natural_octets, integer_octets, identifier, length_octets, definite, boolean_contents, integer_contents, octets_contents, text_contents, bits_contents, object_id_contents, values_contents, list_contents, part_contents, parts_contents, sequence_contents, alternative_written, choice_written, any_written, under, write_by, writes, written, of_rank, set_parts};
+ghost use Rattle.ber_spelling.specs.Order.{rank};
 
 use crate::length::ber_len;
-use crate::order::{RANKS, rank_of};
-use crate::read::tag_or;
-use crate::spot::Tag;
 use asn1_types::{Class, Node, Part, Parts, TypeId, TypeRow, TypeTable, Val, text_number};
+use ber_spelling::{RANKS, Tag, rank_of, tag_or};
 use osi_base::{NoMemory, Octets};
 use std::alloc::Global;
 
@@ -73,7 +71,7 @@ fn put_base_256(number: u64, room: &mut [u8], end: usize) -> usize
 }
 
 /// An INTEGER's contents (X.690 8.3). Below 0 they are those of -1 less the number, with each bit turned.
-#[tactic(auto, unfolding(crate::specs::Writing::integer_octets))]
+#[tactic(auto, unfolding(ber_spelling::specs::Writing::integer_octets))]
 fn put_integer(number: i64, room: &mut [u8], end: usize) -> usize
     requires room { length (integer_octets number) ≤ end }
     requires end { end ≤ length room.old }

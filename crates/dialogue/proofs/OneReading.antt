@@ -5,9 +5,9 @@ use Rattle.std.proofs.lemmas.List.{append-nil, length-append, length-take, take-
 use Rattle.osi_base.specs.declared.syntax.Pair.{Pair}
 use Rattle.osi_base.specs.declared.words.Layer.TheVariants.{Rose}
 use Rattle.asn1_types.specs.Value.{Value}
-use Rattle.ber_codec.specs.declared.fault.ReadFault.{ReadFault}
-use Rattle.ber_codec.specs.declared.fault.ReadFault.TheVariants.{Short}
-use Rattle.ber_codec.proofs.WholeValues.{fault_stays}
+use Rattle.ber_spelling.specs.declared.fault.ReadFault.{ReadFault}
+use Rattle.ber_spelling.specs.declared.fault.ReadFault.TheVariants.{Short}
+use Rattle.ber_spelling.proofs.WholeValues.{fault_stays}
 use Rattle.stub_tables.specs.declared.tables.Tables.{Tables}
 use Rattle.stub_tables.specs.Heads.{head_rows, any_row}
 use Rattle.stub_tables.specs.Apdus.{IsWhole, IsShort, IsFaulty, place_of}

@@ -2,11 +2,11 @@
 use Rattle.std.proofs.Common.{◌≡◌, ℕ, zero, suc, ◌≤◌, List, [], length, take, Some, Result, Ok, Err, refl, sym, ap, subst, arith, false, IfOk}
 use Rattle.osi_base.specs.declared.fault.NoMemory.{NoMemory}
 use Rattle.asn1_types.specs.Value.{Value, boolean, integer, null, octets, bits, object_id, text, parts, list, chosen, any}
-use Rattle.ber_codec.specs.declared.fault.ReadFault.{ReadFault}
-use Rattle.ber_codec.specs.declared.fault.ReadFault.TheVariants.{Short}
-use Rattle.ber_codec.specs.Rules.{read_at}
-use Rattle.ber_codec.specs.Spelling.{Ber, AnyIs}
-use Rattle.ber_codec.proofs.WholeValues.{none_begins}
+use Rattle.ber_spelling.specs.declared.fault.ReadFault.{ReadFault}
+use Rattle.ber_spelling.specs.declared.fault.ReadFault.TheVariants.{Short}
+use Rattle.ber_spelling.specs.Rules.{read_at}
+use Rattle.ber_spelling.specs.Spelling.{Ber, AnyIs}
+use Rattle.ber_spelling.proofs.WholeValues.{none_begins}
 use Rattle.stub_tables.specs.declared.tables.Tables.{Tables}
 use Rattle.stub_tables.specs.declared.apdu.Apdu.{Apdu}
 use Rattle.stub_tables.specs.declared.apdu.Apdu.TheVariants as apdus
@@ -16,8 +16,8 @@ use Rattle.stub_tables.proofs.Readings.{heads_sound, nothing_whole}
 use Rattle.rose.specs.declared.first.Content.{Content}
 use Rattle.rose.specs.declared.first.Content.TheVariants as content
 use Rattle.rose.specs.First.{Says}
-use Rattle.ber_codec.specs.declared.fault.ReadFault.TheVariants as faults
-use Rattle.ber_codec.specs.Reading.{Fails}
+use Rattle.ber_spelling.specs.declared.fault.ReadFault.TheVariants as faults
+use Rattle.ber_spelling.specs.Reading.{Fails}
 use Rattle.rose.specs.declared.whole.Found.{Found}
 use Rattle.rose.specs.Found.{IsFront, IsFound, refused_as}
 use Rattle.rose.specs.Pieces.{IsSaid}

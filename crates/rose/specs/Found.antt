@@ -1,8 +1,8 @@
 -- What stands first in octets, whatever it says.
 use Rattle.std.specs.Prelude.{ℕ, ◌≤◌, ◌<◌, List, length, take, Result, Ok, Err}
 use Rattle.osi_base.specs.declared.fault.NoMemory.{NoMemory}
-use Rattle.ber_codec.specs.declared.fault.ReadFault.{ReadFault}
-use Rattle.ber_codec.specs.declared.fault.ReadFault.TheVariants as faults
+use Rattle.ber_spelling.specs.declared.fault.ReadFault.{ReadFault}
+use Rattle.ber_spelling.specs.declared.fault.ReadFault.TheVariants as faults
 use Rattle.stub_tables.specs.Apdus.{IsWhole, IsShort, IsFaulty}
 use Rattle.rose.specs.declared.whole.Found as founds
 use Rattle.rose.specs.declared.whole.Found.TheVariants as found

@@ -4,7 +4,7 @@ use Rattle.asn1_types.specs.Value.{Value, integer, object_id, parts, chosen, any
 use Rattle.asn1_types.specs.declared.value.Val.{Val}
 use Rattle.asn1_types.specs.declared.table.TypeTable.{TypeTable}
 use Rattle.asn1_types.specs.declared.row.TypeRow.{TypeRow}
-use Rattle.ber_codec.specs.Spelling.{Ber}
+use Rattle.ber_spelling.specs.Spelling.{Ber}
 use Rattle.stub_tables.specs.declared.tables.Tables.{Tables}
 use Rattle.stub_tables.specs.declared.apdu.Apdu.{Apdu}
 use Rattle.stub_tables.specs.declared.apdu.Returned.{Returned}

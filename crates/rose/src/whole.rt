@@ -2,7 +2,7 @@
 
 ghost use Rattle.std.specs.Prelude.{◌≡◌, ◌≤◌, ◌<◌, ℕ, length, take, IfOk};
 ghost use Rattle.asn1_types.specs.Value as tree;
-ghost use Rattle.ber_codec.specs.declared.fault.ReadFault.TheVariants as faults;
+ghost use Rattle.ber_spelling.specs.declared.fault.ReadFault.TheVariants as faults;
 ghost use Rattle.stub_tables.specs.Heads.{head_rows};
 ghost use Rattle.rose.specs.First.{Says, Stands};
 ghost use Rattle.rose.specs.Found.{IsFound, refused_as};

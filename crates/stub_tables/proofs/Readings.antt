@@ -10,12 +10,12 @@ use Rattle.asn1_types.specs.declared.row.TypeRow.{TypeRow}
 use Rattle.asn1_types.specs.Rows.{nesting, openings}
 use Rattle.asn1_types.specs.Table.{IsSound, refusal}
 use Rattle.asn1_types.specs.Value.{Value, MaybeValues, any, present}
-use Rattle.ber_codec.specs.declared.fault.ReadFault.{ReadFault}
-use Rattle.ber_codec.specs.declared.fault.ReadFault.TheVariants.{NotSpelled, Short, TooDeep, TooLong, NoMemory}
-use Rattle.ber_codec.specs.Rules.{read_at, value_at}
-use Rattle.ber_codec.specs.Fields.{identifier_at}
-use Rattle.ber_codec.specs.Spelling.{Ber, Spells as SpellsValue}
-use Rattle.ber_codec.proofs.WholeValues.{spelled_is_read, none_begins, fault_stays}
+use Rattle.ber_spelling.specs.declared.fault.ReadFault.{ReadFault}
+use Rattle.ber_spelling.specs.declared.fault.ReadFault.TheVariants.{NotSpelled, Short, TooDeep, TooLong, NoMemory}
+use Rattle.ber_spelling.specs.Rules.{read_at, value_at}
+use Rattle.ber_spelling.specs.Fields.{identifier_at}
+use Rattle.ber_spelling.specs.Spelling.{Ber, Spells as SpellsValue}
+use Rattle.ber_spelling.proofs.WholeValues.{spelled_is_read, none_begins, fault_stays}
 use Rattle.stub_tables.specs.declared.tables.Tables.{Tables}
 use Rattle.stub_tables.specs.declared.operation.Code.{Code}
 use Rattle.stub_tables.specs.declared.operation.Code.TheVariants.{Local, Global}

@@ -15,13 +15,13 @@ use Rattle.asn1_types.specs.Rows.{along}
 use Rattle.asn1_types.specs.Value.{Value, integer, object_id, parts, any, MaybeValues, no_parts, absent, present}
 use Rattle.asn1_types.specs.Whole.{is_whole}
 use Rattle.asn1_types.specs.Fits.{is_number, integer_fits, object_id_fits, fits}
-use Rattle.ber_codec.specs.declared.spot.Tag as tags
-use Rattle.ber_codec.specs.Spelling.{Ber}
-use Rattle.ber_codec.specs.Writing.{Writer, parts_contents, write_by, nothing_written, writes, written, definite}
-use Rattle.ber_codec.proofs.WrittenFields.{contents_short}
-use Rattle.ber_codec.proofs.Written.{written_spelled as value_spelled}
-use Rattle.ber_codec.proofs.Wholes.{whole_is}
-use Rattle.ber_codec.proofs.WholeSpelled.{written_whole as value_whole}
+use Rattle.ber_spelling.specs.declared.spot.Tag as tags
+use Rattle.ber_spelling.specs.Spelling.{Ber}
+use Rattle.ber_spelling.specs.Writing.{Writer, parts_contents, write_by, nothing_written, writes, written, definite}
+use Rattle.ber_spelling.proofs.WrittenFields.{contents_short}
+use Rattle.ber_spelling.proofs.Written.{written_spelled as value_spelled}
+use Rattle.ber_spelling.proofs.Wholes.{whole_is}
+use Rattle.ber_spelling.proofs.WholeSpelled.{written_whole as value_whole}
 use Rattle.stub_tables.specs.declared.tables.Tables.{Tables}
 use Rattle.stub_tables.specs.declared.operation.Code.{Code}
 use Rattle.stub_tables.specs.declared.operation.Code.TheVariants.{Local, Global}

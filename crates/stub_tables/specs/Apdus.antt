@@ -7,11 +7,11 @@ use Rattle.asn1_types.specs.declared.value.Val.{Val}
 use Rattle.asn1_types.specs.declared.table.TypeTable.{TypeTable}
 use Rattle.asn1_types.specs.declared.row.TypeId.{TypeId}
 use Rattle.asn1_types.specs.Value.{Value, any}
-use Rattle.ber_codec.specs.declared.fault.ReadFault.{ReadFault}
-use Rattle.ber_codec.specs.declared.fault.ReadFault.TheVariants.{NotSpelled, Short, TooDeep, TooLong}
-use Rattle.ber_codec.specs.Rules.{read_at}
-use Rattle.ber_codec.specs.Spelling.{Ber}
-use Rattle.ber_codec.specs.Writing.{written}
+use Rattle.ber_spelling.specs.declared.fault.ReadFault.{ReadFault}
+use Rattle.ber_spelling.specs.declared.fault.ReadFault.TheVariants.{NotSpelled, Short, TooDeep, TooLong}
+use Rattle.ber_spelling.specs.Rules.{read_at}
+use Rattle.ber_spelling.specs.Spelling.{Ber}
+use Rattle.ber_spelling.specs.Writing.{written}
 use Rattle.stub_tables.specs.declared.tables.Tables.{Tables}
 use Rattle.stub_tables.specs.declared.operation.Code.{Code}
 use Rattle.stub_tables.specs.declared.operation.Use.{Use}

@@ -1,6 +1,6 @@
 use Rattle.std.proofs.Common.{arith}
 use Rattle.ber_codec.proofs.Counts.{base_256_is, low_more}
-use Rattle.ber_codec.proofs.Digits.{base_256_few}
+use Rattle.ber_spelling.proofs.Digits.{base_256_few}
 use Rattle.ber_codec.proofs.length.base_256_len.Goals as goal
 
 pub loop-high-init : goal.loop-high-init

@@ -1,5 +1,5 @@
 use Rattle.std.proofs.Common.{arith}
-use Rattle.ber_codec.proofs.Digits.{base_256_few}
+use Rattle.ber_spelling.proofs.Digits.{base_256_few}
 use Rattle.ber_codec.proofs.length.length_len.Goals as goal
 
 pub overflow_add-result : goal.overflow_add-result

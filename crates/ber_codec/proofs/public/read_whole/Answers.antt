@@ -1,5 +1,5 @@
 use Rattle.std.proofs.Common.{arith}
-use Rattle.ber_codec.proofs.WholeValues.{is_found, is_only}
+use Rattle.ber_codec.proofs.Calls.{is_found, is_only}
 use Rattle.ber_codec.proofs.public.read_whole.Goals as goal
 
 pub returns-clause-found : goal.returns-clause-found

@@ -2,17 +2,17 @@ use Rattle.std.proofs.Common.{◌≡◌, ◌<◌, ◌+◌, ◌-◌, ◌++◌, �
 use Rattle.std.specs.Prelude.{List, Option, slice_set}
 use Rattle.std.proofs.lemmas.Option.{slice_get_within}
 use Rattle.asn1_types.specs.Value.{Value}
-use Rattle.ber_codec.specs.Order.{rank}
+use Rattle.ber_spelling.specs.Order.{rank}
 use Rattle.asn1_types.specs.declared.row.TypeRow.TheVariants.{Sequence, SequenceOf, Set, Choice, Tagged}
 use Rattle.asn1_types.specs.Rows.{begins}
 use Rattle.asn1_types.proofs.Sound.{each_part, down_as, choice_few}
-use Rattle.ber_codec.specs.Reading.{opened_of, spot_of, ahead_of, LiesIn}
-use Rattle.ber_codec.specs.Rules.{items_at, list_item_at, list_done, reads, slot_at, set_done, is_free, is_filled}
+use Rattle.ber_spelling.specs.Reading.{opened_of, spot_of, ahead_of, LiesIn}
+use Rattle.ber_spelling.specs.Rules.{items_at, list_item_at, list_done, reads, slot_at, set_done, is_free, is_filled}
 use Rattle.ber_codec.proofs.Slots.{none_length, set_length, slot_taken, slot_fails, slot_gives, set_full, set_lacks, turns_lack}
 use Rattle.ber_codec.proofs.Rows.{reads_at}
-use Rattle.ber_codec.proofs.Loops.{parts_go_on, goes_then}
-use Rattle.ber_codec.proofs.Steps.{Fails-bind}
-use Rattle.ber_codec.proofs.Turns.{bind_is, look_fails, step_fails, step_goes, turns_end, no_turns}
+use Rattle.ber_spelling.proofs.Loops.{parts_go_on, goes_then}
+use Rattle.ber_spelling.proofs.Steps.{Fails-bind}
+use Rattle.ber_spelling.proofs.Turns.{bind_is, look_fails, step_fails, step_goes, turns_end, no_turns}
 use Rattle.ber_codec.proofs.read.+reading.Goals as goal
 
 pub choice-begins-requires : goal.choice-begins-requires

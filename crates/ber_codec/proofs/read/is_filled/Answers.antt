@@ -1,5 +1,5 @@
 use Rattle.std.proofs.Common.{◌≡◌, false, true, arith, ◌<◌, length}
-use Rattle.ber_codec.specs.Rules.{stands}
+use Rattle.ber_spelling.specs.Rules.{stands}
 use Rattle.ber_codec.proofs.Slots.{filled_step, filled_none}
 use Rattle.ber_codec.proofs.read.is_filled.Goals as goal
 

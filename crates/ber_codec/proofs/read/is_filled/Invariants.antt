@@ -1,5 +1,5 @@
 use Rattle.std.proofs.Common.{◌≡◌, drop}
-use Rattle.ber_codec.specs.Rules.{is_filled}
+use Rattle.ber_spelling.specs.Rules.{is_filled}
 use Rattle.ber_codec.proofs.read.is_filled.Given as goal
 
 abbrev pub invariant-loop-index : goal.invariant-loop-index

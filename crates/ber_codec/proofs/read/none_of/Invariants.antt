@@ -1,5 +1,5 @@
 use Rattle.std.proofs.Common.{◌≡◌, ◌++◌, drop}
-use Rattle.ber_codec.specs.Rules.{no_parts_of}
+use Rattle.ber_spelling.specs.Rules.{no_parts_of}
 use Rattle.ber_codec.proofs.read.none_of.Given as goal
 
 abbrev pub invariant-loop-part : goal.invariant-loop-part

@@ -7,11 +7,11 @@ use Rattle.asn1_types.specs.declared.row.TypeRow.TheVariants.{Sequence, Sequence
 use Rattle.asn1_types.proofs.Sound.{each_part, down_as}
 use Rattle.asn1_types.proofs.FitLaws.{not_within, false_not, each_slot}
 use Rattle.asn1_types.specs.ValueView.{parts_of}
-use Rattle.ber_codec.specs.Order.{ranks}
-use Rattle.ber_codec.specs.Writing.{Writer, of_rank, parts_contents, risen_parts, writes}
+use Rattle.ber_spelling.specs.Order.{ranks}
+use Rattle.ber_spelling.specs.Writing.{Writer, of_rank, parts_contents, risen_parts, writes}
 use Rattle.ber_codec.proofs.Counts.{parts_room, values_room}
 use Rattle.ber_codec.proofs.SetCounts.{risen_room}
-use Rattle.ber_codec.proofs.WriteLaws.{parts_past, risen_begin, risen_next, risen_end, writes_at, writes_past}
+use Rattle.ber_spelling.proofs.WriteLaws.{parts_past, risen_begin, risen_next, risen_end, writes_at, writes_past}
 use Rattle.ber_codec.proofs.write.+writing.Goals as goal
 
 pub put_value-put_row-requires : goal.put_value-put_row-requires

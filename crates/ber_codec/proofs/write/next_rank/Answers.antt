@@ -1,7 +1,7 @@
 use Rattle.std.proofs.Common.{◌<◌, ◌-◌, arith, length}
 use Rattle.asn1_types.proofs.Sound.{each_part}
-use Rattle.ber_codec.specs.Writing.{of_rank, writes}
-use Rattle.ber_codec.proofs.WriteLaws.{parts_past, parts_still}
+use Rattle.ber_spelling.specs.Writing.{of_rank, writes}
+use Rattle.ber_spelling.proofs.WriteLaws.{parts_past, parts_still}
 use Rattle.ber_codec.proofs.write.next_rank.Goals as goal
 
 pub loop-index-init : goal.loop-index-init

@@ -1,5 +1,5 @@
 use Rattle.std.proofs.Common.{arith}
-use Rattle.ber_codec.proofs.Digits.{base_256_few}
+use Rattle.ber_spelling.proofs.Digits.{base_256_few}
 use Rattle.ber_codec.proofs.write.put_length.Goals as goal
 
 pub overflow_cast-end : goal.overflow_cast-end

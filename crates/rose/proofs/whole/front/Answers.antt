@@ -1,8 +1,8 @@
 use Rattle.std.proofs.Common.{List, false, subst, take}
 use Rattle.asn1_types.specs.declared.row.TypeRow.{TypeRow}
-use Rattle.ber_codec.specs.Reading.{Fails}
-use Rattle.ber_codec.specs.Rules.{read_at}
-use Rattle.ber_codec.specs.Spelling.{Ber}
+use Rattle.ber_spelling.specs.Reading.{Fails}
+use Rattle.ber_spelling.specs.Rules.{read_at}
+use Rattle.ber_spelling.specs.Spelling.{Ber}
 use Rattle.stub_tables.specs.Heads.{any_row}
 use Rattle.rose.proofs.Firsts.{front, refused_found}
 use Rattle.rose.proofs.whole.front.Goals as goal

@@ -1,6 +1,6 @@
 use Rattle.std.proofs.Common.{List, None, subst}
 use Rattle.asn1_types.specs.declared.row.TypeRow.{TypeRow}
-use Rattle.ber_codec.specs.Spelling.{Ber}
+use Rattle.ber_spelling.specs.Spelling.{Ber}
 use Rattle.stub_tables.specs.Heads.{apdu_row}
 use Rattle.rose.specs.Pieces.{IsReadWhole}
 use Rattle.rose.proofs.Firsts.{says_all, says_none}

@@ -1,9 +1,0 @@
-use Rattle.std.proofs.Common.{arith}
-use Rattle.std.proofs.lemmas.Result.{err_from_is_err_and}
-use Rattle.ber_codec.proofs.Steps.{digits_cut, Fails-same}
-use Rattle.ber_codec.proofs.fields.digits.Goals as goal
-
-pub returns-in_err-check_within-clause-gives : goal.returns-in_err-check_within-clause-gives
-returns-in_err-check_within-clause-gives c =
-    let p = err_from_is_err_and c.from_residual.result c.from_residual.ensures.1 in
-    rw (p.1, p.2) (Fails-same _ _ _ c.loop-index.invariant.so_far (digits_cut _ _ _ _ _ _ _ (omega arith) c.in_err-check_within.ensures.gives))

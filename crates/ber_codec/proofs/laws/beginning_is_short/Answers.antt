@@ -1,5 +1,0 @@
-use Rattle.ber_codec.proofs.WholeValues.{beginning_is_short}
-use Rattle.ber_codec.proofs.laws.beginning_is_short.Goals as goal
-
-pub returns : goal.returns
-returns c = beginning_is_short

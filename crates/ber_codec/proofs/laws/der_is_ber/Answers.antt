@@ -1,5 +1,0 @@
-use Rattle.ber_codec.proofs.Lax.{der_is_ber}
-use Rattle.ber_codec.proofs.laws.der_is_ber.Goals as goal
-
-pub returns : goal.returns
-returns c = der_is_ber

@@ -1,5 +1,0 @@
-use Rattle.ber_codec.proofs.WholeSpelled.{der_is_whole}
-use Rattle.ber_codec.proofs.laws.der_is_whole.Goals as goal
-
-pub returns : goal.returns
-returns c = λ rows n limit v spelled sound. der_is_whole rows sound n limit v spelled

@@ -1,5 +1,0 @@
-use Rattle.ber_codec.proofs.WholeValues.{fault_stays}
-use Rattle.ber_codec.proofs.laws.fault_stays.Goals as goal
-
-pub returns : goal.returns
-returns c = fault_stays

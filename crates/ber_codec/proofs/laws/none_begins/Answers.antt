@@ -1,5 +1,0 @@
-use Rattle.ber_codec.proofs.WholeValues.{none_begins}
-use Rattle.ber_codec.proofs.laws.none_begins.Goals as goal
-
-pub returns : goal.returns
-returns c = none_begins

@@ -1,5 +1,0 @@
-use Rattle.ber_codec.proofs.WholeValues.{one_of_three}
-use Rattle.ber_codec.proofs.laws.one_of_three.Goals as goal
-
-pub returns : goal.returns
-returns c = one_of_three

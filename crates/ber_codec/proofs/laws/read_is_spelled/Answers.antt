@@ -1,5 +1,0 @@
-use Rattle.ber_codec.proofs.WholeValues.{read_is_spelled}
-use Rattle.ber_codec.proofs.laws.read_is_spelled.Goals as goal
-
-pub returns : goal.returns
-returns c = read_is_spelled

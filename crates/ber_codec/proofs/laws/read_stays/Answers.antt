@@ -1,5 +1,0 @@
-use Rattle.ber_codec.proofs.WholeValues.{read_stays}
-use Rattle.ber_codec.proofs.laws.read_stays.Goals as goal
-
-pub returns : goal.returns
-returns c = read_stays

@@ -1,5 +1,0 @@
-use Rattle.ber_codec.proofs.WholeValues.{spelled_is_read}
-use Rattle.ber_codec.proofs.laws.spelled_is_read.Goals as goal
-
-pub returns : goal.returns
-returns c = spelled_is_read

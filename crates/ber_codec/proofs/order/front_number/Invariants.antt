@@ -1,9 +1,0 @@
-use Rattle.std.proofs.Common.{◌≡◌, ◌≤◌, ◌^◌, drop}
-use Rattle.ber_codec.specs.Order.{front_number}
-use Rattle.ber_codec.proofs.order.front_number.Given as goal
-
-abbrev pub invariant-loop-digit : goal.invariant-loop-digit
-invariant-loop-digit l = record {
-  small : l.number ≤ 2 ^ 32;
-  so_far : front_number l.number (drop l.digit-index l.digits) ≡ front_number 0 l.digits;
-}

@@ -1,4 +1,0 @@
-use Rattle.ber_codec.proofs.strings.bit_string.Goals as goal
-
-pub returns-clause-gives : goal.returns-clause-gives
-returns-clause-gives c = c.string.ensures.gives

@@ -1,0 +1,25 @@
+use Rattle.std.proofs.Common.{◌+◌, ◌∙◌, ap, arith}
+use Rattle.ber_spelling.specs.Fields.{number_from}
+use Rattle.ber_spelling.specs.Octets.{AreOctets}
+use Rattle.ber_spelling.proofs.Numbers.{number_high, signed_low, signed_high, again}
+use Rattle.ber_spelling.proofs.primitives.signed_of.Goals as goal
+
+pub overflow_add-number : goal.overflow_add-number
+overflow_add-number c =
+    let octets : AreOctets c.args.octets.now = record { each = λ i. omega (arith, c.type_inv.octets i) } in
+    omega (arith, number_high 0 c.args.octets.now octets)
+
+pub returns-then-octets-lt128 : goal.returns-then-octets-lt128
+returns-then-octets-lt128 c =
+    let os = c.args.octets.now in
+    let octets : AreOctets os = record { each = λ i. omega (arith, c.type_inv.octets i) } in
+    again c.cast_signed.result c.number_of-number.result (number_from 0 os) c.cast_signed.ensures (omega arith) c.number_of-number.ensures
+    ∙ signed_low os octets c.requires.some c.requires.few c.if-octets-lt128.true
+
+pub returns-else-octets-lt128 : goal.returns-else-octets-lt128
+returns-else-octets-lt128 c =
+    let os = c.args.octets.now in
+    let octets : AreOctets os = record { each = λ i. omega (arith, c.type_inv.octets i) } in
+    again c.cast_signed-else-octets-lt128.result (c.number_of-number.result + c.above.result) (number_from 0 os + c.above.result) c.cast_signed-else-octets-lt128.ensures
+    (omega (arith, number_high 0 os octets)) (ap (λ n. n + c.above.result) c.number_of-number.ensures)
+    ∙ signed_high os c.above.result octets c.requires.some c.requires.few c.if-octets-lt128.false c.above.ensures

@@ -1,0 +1,75 @@
+-- The laws of reading and of spellings.
+use Rattle.std.specs.Prelude.{◌≡◌, ◌≢◌, ℕ, ◌<◌, ◌≤◌, ◌^◌, Bool, true, false, List, ◌++◌, length, take, Ok, Err, ◌⊎◌}
+use Rattle.asn1_types.specs.declared.row.TypeRow.{TypeRow}
+use Rattle.asn1_types.specs.Table.{IsSound}
+use Rattle.asn1_types.specs.Value.{Value}
+use Rattle.asn1_types.specs.Fits.{fits}
+use Rattle.asn1_types.specs.Whole.{is_whole}
+use Rattle.ber_spelling.specs.declared.fault.ReadFault.{ReadFault}
+use Rattle.ber_spelling.specs.declared.fault.ReadFault.TheVariants.{Short}
+use Rattle.ber_spelling.specs.Octets.{AreOctets}
+use Rattle.ber_spelling.specs.Rules.{read_at}
+use Rattle.ber_spelling.specs.Spelling.{Spells}
+use Rattle.ber_spelling.specs.Writing.{written}
+
+-- what is read is spelled by its octets
+abbrev pub ReadIsSpelled : Type 0
+ReadIsSpelled = (rows : List TypeRow) (n : ℕ) (strict : Bool) (limit : ℕ) (bytes : List ℕ) (v : Value) (used : ℕ) → AreOctets bytes
+    → read_at rows n strict limit bytes ≡ Ok (v, used) → (used ≤ length bytes) × Spells rows n strict limit v (take used bytes)
+
+-- what is spelled is read, whatever follows
+abbrev pub SpelledIsRead : Type 0
+SpelledIsRead = (rows : List TypeRow) (n : ℕ) (strict : Bool) (limit : ℕ) (v : Value) (spelled rest : List ℕ) → IsSound rows
+    → Spells rows n strict limit v spelled → read_at rows n strict limit (spelled ++ rest) ≡ Ok (v, length spelled)
+
+-- no spelling of a row's values begins another, and each spells one value
+abbrev pub NoneBegins : Type 0
+NoneBegins = (rows : List TypeRow) (n : ℕ) (strict : Bool) (limit : ℕ) (v w : Value) (a b x y : List ℕ) → IsSound rows
+    → Spells rows n strict limit v a → Spells rows n strict limit w b → a ++ x ≡ b ++ y → (a ≡ b) × (v ≡ w)
+
+-- what was read stays so, whatever follows
+abbrev pub ReadStays : Type 0
+ReadStays = (rows : List TypeRow) (n : ℕ) (strict : Bool) (limit : ℕ) (bytes more : List ℕ) (v : Value) (used : ℕ)
+    → read_at rows n strict limit bytes ≡ Ok (v, used) → read_at rows n strict limit (bytes ++ more) ≡ Ok (v, used)
+
+-- a fault stays so, whatever follows
+abbrev pub FaultStays : Type 0
+FaultStays = (rows : List TypeRow) (n : ℕ) (strict : Bool) (limit : ℕ) (bytes more : List ℕ) (fault : ReadFault)
+    → fault ≢ Short → read_at rows n strict limit bytes ≡ Err fault → read_at rows n strict limit (bytes ++ more) ≡ Err fault
+
+-- a proper beginning of a spelling is too short
+abbrev pub BeginningIsShort : Type 0
+BeginningIsShort = (rows : List TypeRow) (n : ℕ) (strict : Bool) (limit : ℕ) (v : Value) (front back : List ℕ) → IsSound rows → AreOctets (front ++ back)
+    → Spells rows n strict limit v (front ++ back) → 0 < length back → read_at rows n strict limit front ≡ Err Short
+
+-- What is written of a value that fits is spelled so, as far as lengths have 8 octets.
+abbrev pub WrittenIsSpelled : Type 0
+WrittenIsSpelled = (rows : List TypeRow) (n : ℕ) (v : Value) → IsSound rows → fits rows n v ≡ true
+    → (strict : Bool) (limit : ℕ) → limit < 2 ^ 64 → length (written rows n v) ≤ limit → Spells rows n strict limit v (written rows n v)
+
+-- what is written of a value that fits is read back, whatever follows
+abbrev pub WrittenIsRead : Type 0
+WrittenIsRead = (rows : List TypeRow) (n : ℕ) (v : Value) → IsSound rows → fits rows n v ≡ true
+    → (strict : Bool) (limit : ℕ) (rest : List ℕ) → limit < 2 ^ 64 → length (written rows n v) ≤ limit → read_at rows n strict limit (written rows n v ++ rest) ≡ Ok (v, length (written rows n v))
+
+-- what is spelled in DER is spelled so in BER
+abbrev pub DerIsBer : Type 0
+DerIsBer = (rows : List TypeRow) (n : ℕ) (limit : ℕ) (v : Value) (spelled : List ℕ) → Spells rows n true limit v spelled → Spells rows n false limit v spelled
+
+-- a first part of the octets is a spelling
+abbrev pub BeginsSpelled : List TypeRow → ℕ → Bool → ℕ → List ℕ → Type 0
+BeginsSpelled rows n strict limit bytes = (v : Value) × (used : ℕ) × (used ≤ length bytes) × Spells rows n strict limit v (take used bytes)
+
+abbrev pub OneHolds : List TypeRow → ℕ → Bool → ℕ → List ℕ → Type 0
+OneHolds rows n strict limit bytes =
+    (BeginsSpelled rows n strict limit bytes × ((fault : ReadFault) → read_at rows n strict limit bytes ≢ Err fault))
+    ⊎ (((BeginsSpelled rows n strict limit bytes → ⊥) × (fault : ReadFault) × (fault ≢ Short) × (read_at rows n strict limit bytes ≡ Err fault))
+    ⊎ ((BeginsSpelled rows n strict limit bytes → ⊥) × (read_at rows n strict limit bytes ≡ Err Short)))
+
+-- Of all octets one holds and no other: a first part is a spelling, there is a first fault, or they are too short.
+abbrev pub OneOfThree : Type 0
+OneOfThree = (rows : List TypeRow) (n : ℕ) (strict : Bool) (limit : ℕ) (bytes : List ℕ) → IsSound rows → AreOctets bytes → OneHolds rows n strict limit bytes
+
+-- A DER spelling is one whole value of any type: each length is definite, and no tag is UNIVERSAL 0.
+abbrev pub DerIsWhole : Type 0
+DerIsWhole = (rows : List TypeRow) (n : ℕ) (limit : ℕ) (v : Value) (spelled : List ℕ) → IsSound rows → Spells rows n true limit v spelled → is_whole spelled ≡ true

@@ -1,0 +1,414 @@
+//! The fields of BER: identifiers, lengths, contents and their ends (X.690 8.1).
+
+ghost use Rattle.std.specs.Prelude.{◌≡◌, ◌∷◌, ◌+◌, ◌-◌, ◌≤◌, ◌<◌, ◌^◌, length, take, IfOk, Err};
+ghost use Rattle.ber_spelling.specs.Reading.{Gives, within, spot_of, opened_of, ahead_of, is_past, LiesIn, GoesOn, Opens};
+ghost use Rattle.ber_spelling.specs.Fields.{class_of, is_constructed, capped, digits_at, high_at, identifier_at, number_from, announced_at, long_at, definite_at, extent_at, contents_at, begin_at, mark_at, look_at, is_end, lacking};
+
+use crate::fault::ReadFault;
+use crate::spot::{Ahead, Opened, Scope, Spot};
+use asn1_types::Class;
+use osi_base::Kind;
+
+/// The fault of kind `kind` in the field at `place`, counted in octets from 0.
+pub fn refusal(place: usize, kind: Kind) -> ReadFault
+    ensures { result ≡ ReadFault.NotSpelled place kind }
+{
+    ReadFault::NotSpelled { place, kind }
+}
+
+fn is_past(end: Option<usize>, until: u64) -> bool
+    ensures { result ≡ is_past end until }
+{
+    match end {
+        None => false,
+        Some(end) => (end as u64) < until,
+    }
+}
+
+pub(crate) fn is_end(end: Option<usize>, place: usize) -> bool
+    ensures { result ≡ is_end end place }
+{
+    match end {
+        None => false,
+        Some(end) => end <= place,
+    }
+}
+
+/// Whether a field at this place that goes on until `until` stays within the limit and the
+/// enclosing contents.
+#[tactic(auto, unfolding(crate::specs::Reading::within))]
+fn check_within(scope: &Scope, place: usize, until: u64) -> Result<(), ReadFault>
+    ensures gives { Gives (λ x. x) result (within scope.now place until) }
+    ensures reach { IfOk result (λ _. until ≤ scope.now.limit) }
+{
+    if (scope.limit as u64) < until {
+        return Err(ReadFault::TooLong { place });
+    }
+    if is_past(scope.end, until) {
+        return Err(refusal(place, Kind::Length));
+    }
+    Ok(())
+}
+
+pub(crate) fn class_of(first: u8) -> Class
+    ensures { result ≡ class_of first }
+{
+    if first < 64 {
+        Class::Universal
+    } else if first < 128 {
+        Class::Application
+    } else if first < 192 {
+        Class::Context
+    } else {
+        Class::Private
+    }
+}
+
+fn is_constructed(first: u8) -> bool
+    ensures { result ≡ is_constructed first }
+{
+    first / 32 % 2 == 1
+}
+
+/// The number that digits of seven bits are, from the place behind `place` on.
+#[tactic(auto, unfolding(crate::specs::Fields::digits_at))]
+fn digits<'a>(scope: &Scope, place: usize, digits: &'a [u8]) -> Result<(u64, Spot<'a>), ReadFault>
+    requires { place + length digits.now + 1 < 2 ^ 63 }
+    ensures gives { Gives (λ x. (x.0, spot_of x.1)) result (digits_at scope.now place 0 (place + 1) digits.now) }
+    ensures stops { IfOk result (λ x. GoesOn (place + 1) (length digits.now) x.1) }
+    ensures small { IfOk result (λ x. x.0 ≤ 2 ^ 32) }
+{
+    let mut number: u64 = 0;
+    for (index, digit) in digits.iter().enumerate() {
+        check_within(scope, place, (place + 2 + index) as u64)?;
+        let low = (*digit & 0x7f) as u64;
+        number = (128 * number + low).min(0x1_0000_0000);
+        if *digit < 128 {
+            return Ok((
+                number,
+                Spot {
+                    place: place + 2 + index,
+                    rest: &digits[index + 1..],
+                },
+            ));
+        }
+    }
+    check_within(scope, place, (place + 2 + digits.len()) as u64)?;
+    Err(ReadFault::Short)
+}
+
+/// The identifier at this spot (X.690 8.1.2).
+#[tactic(auto, unfolding(crate::specs::Fields::high_at))]
+fn high<'a>(
+    scope: &Scope,
+    start: Spot<'a>,
+    first: u8,
+    digits_of: &'a [u8],
+) -> Result<(Opened<'a>, Spot<'a>), ReadFault>
+    requires whole { start.place + length digits_of.now + 1 < 2 ^ 63 }
+    requires first { start.rest.now ≡ first ∷ digits_of.now }
+    ensures gives { Gives (λ x. (opened_of x.0, spot_of x.1)) result (high_at scope.now start.entry.place first digits_of.now) }
+    ensures stops { IfOk result (λ x. Opens start.entry.place (length start.entry.rest.now) x.0 x.1) }
+{
+    let (number, after) = digits(scope, start.place, digits_of)?;
+    if number < 31 || digits_of.first() == Some(&0x80) {
+        return Err(refusal(start.place, Kind::Tag));
+    }
+    let opened = Opened {
+        start,
+        class: class_of(first),
+        constructed: is_constructed(first),
+        number,
+    };
+    Ok((opened, after))
+}
+
+/// The identifier at this spot (X.690 8.1.2), and where reading goes on; or the first fault in it.
+#[tactic(auto, unfolding(crate::specs::Fields::identifier_at))]
+pub fn identifier<'a>(scope: &Scope, start: Spot<'a>) -> Result<(Opened<'a>, Spot<'a>), ReadFault>
+    requires { start.place + length start.rest.now < 2 ^ 63 }
+    ensures gives { Gives (λ x. (opened_of x.0, spot_of x.1)) result (identifier_at scope.now start.entry.place start.entry.rest.now) }
+    ensures stops { IfOk result (λ x. Opens start.entry.place (length start.entry.rest.now) x.0 x.1) }
+{
+    match start.rest {
+        [] => Err(ReadFault::Short),
+        [first, rest @ ..] => {
+            if scope.levels == 0 {
+                return Err(ReadFault::TooDeep { place: start.place });
+            }
+            check_within(scope, start.place, start.place as u64 + 1)?;
+            if *first % 32 == 31 {
+                return high(scope, start, *first, rest);
+            }
+            let opened = Opened {
+                start,
+                class: class_of(*first),
+                constructed: is_constructed(*first),
+                number: (*first % 32) as u64,
+            };
+            Ok((
+                opened,
+                Spot {
+                    place: start.place + 1,
+                    rest,
+                },
+            ))
+        }
+    }
+}
+
+/// The number that at most 8 octets are, the most significant first.
+pub(crate) fn number_of(octets: &[u8]) -> u64
+    requires { length octets.now ≤ 8 }
+    ensures { result ≡ number_from 0 octets.now }
+{
+    let mut number: u64 = 0;
+    for octet in octets {
+        number = 256 * number + *octet as u64;
+    }
+    number
+}
+
+/// Whether `count` octets from `from` on, of a field at this place, stay within the limit and the
+/// enclosing contents.
+#[tactic(auto, unfolding(crate::specs::Reading::within))]
+fn check_reach(scope: &Scope, place: usize, from: usize, count: u64) -> Result<(), ReadFault>
+    requires { from < 2 ^ 63 }
+    ensures gives { Gives (λ x. x) result (within scope.now place (from + count)) }
+    ensures reach { IfOk result (λ _. from + count ≤ scope.now.limit) }
+{
+    if count > u32::MAX as u64 {
+        return Err(ReadFault::TooLong { place });
+    }
+    check_within(scope, place, from as u64 + count)
+}
+
+/// A length whose field ends before `rest`.
+#[tactic(auto, unfolding(crate::specs::Fields::announced_at))]
+fn announced<'a>(
+    scope: &Scope,
+    place: usize,
+    count: u64,
+    minimal: bool,
+    spot: Spot<'a>,
+) -> Result<(u64, Spot<'a>), ReadFault>
+    requires { spot.place < 2 ^ 63 }
+    ensures gives { Gives (λ x. (x.0, spot_of x.1)) result (announced_at scope.now place count minimal spot.entry.place spot.entry.rest.now) }
+    ensures stops { IfOk result (λ x. (x.1.place ≡ spot.entry.place) × (x.1.rest.now ≡ spot.entry.rest.now) × (spot.entry.place + x.0 ≤ scope.now.limit)) }
+{
+    check_reach(scope, place, spot.place, count)?;
+    if scope.strict && !minimal {
+        return Err(refusal(place, Kind::Form));
+    }
+    Ok((count, spot))
+}
+
+/// A length in the long form, behind its first octet, which says `size` octets (X.690 8.1.3.5).
+#[tactic(auto, unfolding(crate::specs::Fields::long_at))]
+fn long<'a>(
+    scope: &Scope,
+    place: usize,
+    size: u8,
+    rest: &'a [u8],
+) -> Result<(u64, Spot<'a>), ReadFault>
+    requires { place + 1 + length rest.now < 2 ^ 63 }
+    ensures gives { Gives (λ x. (x.0, spot_of x.1)) result (long_at scope.now place size rest.now) }
+    ensures stops { IfOk result (λ x. GoesOn (place + 1) (length rest.now) x.1) }
+    ensures reach { IfOk result (λ x. x.1.place + x.0 ≤ scope.now.limit) }
+{
+    check_reach(scope, place, place + 1, size as u64)?;
+    if rest.len() < size as usize {
+        return Err(ReadFault::Short);
+    }
+    if size > 8 {
+        return Err(refusal(place, Kind::Length));
+    }
+    let (octets, after) = rest.split_at(size as usize);
+    let count = number_of(octets);
+    let minimal = count >= 128 && octets.first() != Some(&0);
+    announced(
+        scope,
+        place,
+        count,
+        minimal,
+        Spot {
+            place: place + 1 + size as usize,
+            rest: after,
+        },
+    )
+}
+
+/// What is wrong where no octet is left.
+#[tactic(auto, unfolding(crate::specs::Reading::within))]
+fn lacking(scope: &Scope, place: usize) -> ReadFault
+    requires { place < 2 ^ 63 }
+    ensures { lacking {A = Unit {0}} scope.now place ≡ Err result }
+{
+    if is_end(scope.end, place) {
+        if (scope.limit as u64) < place as u64 + 1 {
+            return ReadFault::TooLong { place };
+        }
+        return refusal(place, Kind::Length);
+    }
+    ReadFault::Short
+}
+
+/// A definite length (X.690 8.1.3.3).
+#[tactic(auto, unfolding(crate::specs::Fields::definite_at))]
+fn definite<'a>(scope: &Scope, spot: Spot<'a>) -> Result<(u64, Spot<'a>), ReadFault>
+    requires { spot.place + length spot.rest.now < 2 ^ 63 }
+    ensures gives { Gives (λ x. (x.0, spot_of x.1)) result (definite_at scope.now spot.entry.place spot.entry.rest.now) }
+    ensures stops { IfOk result (λ x. GoesOn spot.entry.place (length spot.entry.rest.now) x.1) }
+    ensures reach { IfOk result (λ x. x.1.place + x.0 ≤ scope.now.limit) }
+{
+    match spot.rest {
+        [] => Err(lacking(scope, spot.place)),
+        [first, rest @ ..] => {
+            check_within(scope, spot.place, spot.place as u64 + 1)?;
+            let behind = Spot {
+                place: spot.place + 1,
+                rest,
+            };
+            match *first {
+                0..=127 => announced(scope, spot.place, *first as u64, true, behind),
+                128 | 255 => Err(refusal(spot.place, Kind::Length)),
+                _ => long(scope, spot.place, *first - 128, rest),
+            }
+        }
+    }
+}
+
+/// The octets of a primitive value, behind their length.
+#[tactic(auto, unfolding(crate::specs::Fields::contents_at))]
+pub(crate) fn contents<'a>(
+    scope: &Scope,
+    spot: Spot<'a>,
+) -> Result<(usize, &'a [u8], Spot<'a>), ReadFault>
+    requires { spot.place + length spot.rest.now < 2 ^ 63 }
+    ensures gives { Gives (λ x. (x.0, x.1.now, spot_of x.2)) result (contents_at scope.now spot.entry.place spot.entry.rest.now) }
+    ensures stops { IfOk result (λ x. GoesOn spot.entry.place (length spot.entry.rest.now) x.2) }
+{
+    let (count, spot) = definite(scope, spot)?;
+    if (spot.rest.len() as u64) < count {
+        return Err(ReadFault::Short);
+    }
+    let (octets, rest) = spot.rest.split_at(count as usize);
+    Ok((
+        spot.place,
+        octets,
+        Spot {
+            place: spot.place + count as usize,
+            rest,
+        },
+    ))
+}
+
+/// The scope that the length of a constructed value gives its contents (X.690 8.1.3), and where they
+/// begin; or the first fault in it.
+#[tactic(auto, unfolding(crate::specs::Fields::extent_at))]
+pub fn extent<'a>(scope: &Scope, spot: Spot<'a>) -> Result<(Scope, Spot<'a>), ReadFault>
+    requires { spot.place + length spot.rest.now < 2 ^ 63 }
+    ensures gives { Gives (λ x. (x.0, spot_of x.1)) result (extent_at scope.now spot.entry.place spot.entry.rest.now) }
+    ensures stops { IfOk result (λ x. GoesOn spot.entry.place (length spot.entry.rest.now) x.1) }
+{
+    match spot.rest {
+        [] => Err(lacking(scope, spot.place)),
+        [first, rest @ ..] => {
+            if *first != 128 {
+                let (count, spot) = definite(scope, spot)?;
+                let end = Some(spot.place + count as usize);
+                return Ok((inside(scope, end, false), spot));
+            }
+            check_within(scope, spot.place, spot.place as u64 + 1)?;
+            if scope.strict {
+                return Err(refusal(spot.place, Kind::Form));
+            }
+            Ok((
+                inside(scope, scope.end, true),
+                Spot {
+                    place: spot.place + 1,
+                    rest,
+                },
+            ))
+        }
+    }
+}
+
+/// The scope of contents.
+fn inside(scope: &Scope, end: Option<usize>, marked: bool) -> Scope
+    ensures { result ≡ record { levels = scope.now.levels - 1; limit = scope.now.limit; end = end; marked = marked; strict = scope.now.strict } }
+{
+    Scope {
+        levels: scope.levels.saturating_sub(1),
+        limit: scope.limit,
+        end,
+        marked,
+        strict: scope.strict,
+    }
+}
+
+/// What begins here.
+#[tactic(auto, unfolding(crate::specs::Fields::look_at))]
+fn begin<'a>(scope: &Scope, spot: Spot<'a>) -> Result<Ahead<'a>, ReadFault>
+    requires { spot.place + length spot.rest.now < 2 ^ 63 }
+    ensures gives { Gives (λ x. ahead_of x) result (begin_at scope.now spot.entry.place spot.entry.rest.now) }
+    ensures stops { IfOk result (LiesIn spot.entry.place (length spot.entry.rest.now)) }
+{
+    let (opened, after) = identifier(scope, spot)?;
+    Ok(Ahead::Begun(opened, after))
+}
+
+/// Whether contents end at end-of-contents octets, or what begins here.
+fn mark<'a>(scope: &Scope, spot: Spot<'a>) -> Result<Ahead<'a>, ReadFault>
+    requires { spot.place + length spot.rest.now < 2 ^ 63 }
+    ensures gives { Gives (λ x. ahead_of x) result (mark_at scope.now spot.entry.place spot.entry.rest.now) }
+    ensures stops { IfOk result (LiesIn spot.entry.place (length spot.entry.rest.now)) }
+{
+    match spot.rest {
+        [] => Err(ReadFault::Short),
+        [0, after @ ..] => {
+            if is_past(scope.end, spot.place as u64 + 2) {
+                check_within(scope, spot.place, spot.place as u64 + 2)?;
+                return Err(ReadFault::Short);
+            }
+            match after {
+                [] => Err(ReadFault::Short),
+                [0, rest @ ..] => {
+                    check_within(scope, spot.place, spot.place as u64 + 2)?;
+                    Ok(Ahead::Ended {
+                        place: spot.place,
+                        after: Spot {
+                            place: spot.place + 2,
+                            rest,
+                        },
+                    })
+                }
+                _ => begin(scope, spot),
+            }
+        }
+        _ => begin(scope, spot),
+    }
+}
+
+/// Whether contents end here (X.690 8.1.5), or what begins here; or the first fault in it.
+#[tactic(auto, unfolding(crate::specs::Fields::look_at))]
+pub fn look<'a>(scope: &Scope, spot: Spot<'a>) -> Result<Ahead<'a>, ReadFault>
+    requires { spot.place + length spot.rest.now < 2 ^ 63 }
+    ensures gives { Gives (λ x. ahead_of x) result (look_at scope.now spot.entry.place spot.entry.rest.now) }
+    ensures stops { IfOk result (LiesIn spot.entry.place (length spot.entry.rest.now)) }
+{
+    if scope.marked {
+        if is_end(scope.end, spot.place) {
+            check_within(scope, spot.place, spot.place as u64 + 1)?;
+            return Err(ReadFault::Short);
+        }
+        return mark(scope, spot);
+    }
+    if is_end(scope.end, spot.place) {
+        return Ok(Ahead::Ended {
+            place: spot.place,
+            after: spot,
+        });
+    }
+    begin(scope, spot)
+}

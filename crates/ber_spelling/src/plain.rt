@@ -1,0 +1,142 @@
+//! Reading primitive values other than strings.
+
+ghost use Rattle.std.specs.Prelude.{◌+◌, ◌<◌, ◌^◌, length, IfOk};
+ghost use Rattle.ber_spelling.specs.Reading.{Gives, spot_of, opened_of, GoesOn};
+ghost use Rattle.ber_spelling.specs.Rules.{primitive_at, always, boolean_rule, is_strict_boolean, integer_rule, enumerated_rule, null_rule, object_id_rule};
+
+use crate::fault::ReadFault;
+use crate::fields::{contents, refusal};
+use crate::primitives::{arcs_of, integer_of};
+use crate::spot::{Opened, Scope, Spot, Tag};
+use crate::tag::expect;
+use asn1_types::{Item, Node, Val, is_item};
+use osi_base::Kind;
+use std::alloc::Global;
+
+/// A BOOLEAN behind its identifier (X.690 8.2), and where reading goes on; or the first fault in it.
+#[tactic(auto, unfolding(crate::specs::Rules::primitive_at))]
+pub fn boolean<'a>(
+    tag: Tag,
+    scope: &Scope,
+    opened: &Opened<'a>,
+    spot: Spot<'a>,
+) -> Result<(Val, Spot<'a>), ReadFault>
+    requires { spot.place + length spot.rest.now < 2 ^ 63 }
+    ensures gives { Gives (λ x. (x.0, spot_of x.1)) result (primitive_at boolean_rule is_strict_boolean tag scope.now (opened_of opened.now) (spot_of spot.entry)) }
+    ensures stops { IfOk result (λ x. GoesOn spot.entry.place (length spot.entry.rest.now) x.1) }
+{
+    expect(tag, false, opened)?;
+    let (place, octets, after) = contents(scope, spot)?;
+    match octets {
+        [octet] => {
+            if scope.strict && *octet != 0 && *octet != 255 {
+                return Err(refusal(place, Kind::Form));
+            }
+            let node = Node::Bool(*octet != 0);
+            Ok((Val { node }, after))
+        }
+        _ => Err(refusal(place, Kind::Content)),
+    }
+}
+
+/// An ENUMERATED of these items behind its identifier (X.690 8.4), and where
+/// reading goes on; or the first fault in it.
+#[tactic(auto, unfolding(crate::specs::Rules::primitive_at))]
+pub fn enumerated<'a>(
+    items: &[Item],
+    tag: Tag,
+    scope: &Scope,
+    opened: &Opened<'a>,
+    spot: Spot<'a>,
+) -> Result<(Val, Spot<'a>), ReadFault>
+    requires { spot.place + length spot.rest.now < 2 ^ 63 }
+    ensures gives { Gives (λ x. (x.0, spot_of x.1)) result (primitive_at (enumerated_rule items.now) always tag scope.now (opened_of opened.now) (spot_of spot.entry)) }
+    ensures stops { IfOk result (λ x. GoesOn spot.entry.place (length spot.entry.rest.now) x.1) }
+{
+    expect(tag, false, opened)?;
+    let (place, octets, after) = contents(scope, spot)?;
+    match integer_of(octets) {
+        Some(number) if is_item(items, number) => Ok((
+            Val {
+                node: Node::Int(number),
+            },
+            after,
+        )),
+        _ => Err(refusal(place, Kind::Content)),
+    }
+}
+
+/// An INTEGER from `low` to `high` behind its identifier (X.690 8.3), and where
+/// reading goes on; or the first fault in it.
+#[tactic(auto, unfolding(crate::specs::Rules::primitive_at))]
+pub fn integer<'a>(
+    low: i64,
+    high: i64,
+    tag: Tag,
+    scope: &Scope,
+    opened: &Opened<'a>,
+    spot: Spot<'a>,
+) -> Result<(Val, Spot<'a>), ReadFault>
+    requires { spot.place + length spot.rest.now < 2 ^ 63 }
+    ensures gives { Gives (λ x. (x.0, spot_of x.1)) result (primitive_at (integer_rule low high) always tag scope.now (opened_of opened.now) (spot_of spot.entry)) }
+    ensures stops { IfOk result (λ x. GoesOn spot.entry.place (length spot.entry.rest.now) x.1) }
+{
+    expect(tag, false, opened)?;
+    let (place, octets, after) = contents(scope, spot)?;
+    match integer_of(octets) {
+        Some(number) if low <= number && number <= high => Ok((
+            Val {
+                node: Node::Int(number),
+            },
+            after,
+        )),
+        _ => Err(refusal(place, Kind::Content)),
+    }
+}
+
+/// A NULL behind its identifier (X.690 8.8), and where reading goes on; or the first fault in it.
+#[tactic(auto, unfolding(crate::specs::Rules::primitive_at))]
+pub fn null<'a>(
+    tag: Tag,
+    scope: &Scope,
+    opened: &Opened<'a>,
+    spot: Spot<'a>,
+) -> Result<(Val, Spot<'a>), ReadFault>
+    requires { spot.place + length spot.rest.now < 2 ^ 63 }
+    ensures gives { Gives (λ x. (x.0, spot_of x.1)) result (primitive_at null_rule always tag scope.now (opened_of opened.now) (spot_of spot.entry)) }
+    ensures stops { IfOk result (λ x. GoesOn spot.entry.place (length spot.entry.rest.now) x.1) }
+{
+    expect(tag, false, opened)?;
+    let (place, octets, after) = contents(scope, spot)?;
+    match octets {
+        [] => Ok((Val { node: Node::Null }, after)),
+        _ => Err(refusal(place, Kind::Content)),
+    }
+}
+
+/// An OBJECT IDENTIFIER behind its identifier (X.690 8.19), and where
+/// reading goes on; or the first fault in it.
+#[tactic(auto, unfolding(crate::specs::Rules::primitive_at))]
+pub fn object_id<'a>(
+    alloc: Global,
+    tag: Tag,
+    scope: &Scope,
+    opened: &Opened<'a>,
+    spot: Spot<'a>,
+) -> Result<(Val, Spot<'a>), ReadFault>
+    requires { spot.place + length spot.rest.now < 2 ^ 63 }
+    ensures gives { Gives (λ x. (x.0, spot_of x.1)) result (primitive_at object_id_rule always tag scope.now (opened_of opened.now) (spot_of spot.entry)) }
+    ensures stops { IfOk result (λ x. GoesOn spot.entry.place (length spot.entry.rest.now) x.1) }
+{
+    expect(tag, false, opened)?;
+    let (place, octets, after) = contents(scope, spot)?;
+    match arcs_of(alloc, octets)? {
+        Some(oid) => Ok((
+            Val {
+                node: Node::ObjectId(oid),
+            },
+            after,
+        )),
+        None => Err(refusal(place, Kind::Content)),
+    }
+}

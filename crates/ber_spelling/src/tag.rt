@@ -1,0 +1,35 @@
+//! The tag that a value must have.
+
+ghost use Rattle.std.specs.Prelude.{◌≡◌};
+ghost use Rattle.ber_spelling.specs.Reading.{Gives, opened_of};
+ghost use Rattle.ber_spelling.specs.Rules.{tag_or, expect_at};
+
+use crate::fault::ReadFault;
+use crate::fields::refusal;
+use crate::spot::{Opened, Tag};
+use asn1_types::{Class, same_class};
+use osi_base::Kind;
+
+/// A given tag, or else this one.
+pub fn tag_or(tag: Option<Tag>, class: Class, number: u32) -> Tag
+    ensures { result ≡ tag_or tag class number }
+{
+    match tag {
+        None => Tag { class, number },
+        Some(tag) => tag,
+    }
+}
+
+/// Whether this identifier is of this tag and form; else a fault of kind `Tag` at its place.
+pub fn expect(tag: Tag, constructed: bool, opened: &Opened) -> Result<(), ReadFault>
+    ensures { Gives (λ x. x) result (expect_at tag constructed (opened_of opened.now)) }
+{
+    if same_class(opened.class, tag.class)
+        && opened.number == tag.number as u64
+        && opened.constructed == constructed
+    {
+        Ok(())
+    } else {
+        Err(refusal(opened.start.place, Kind::Tag))
+    }
+}
