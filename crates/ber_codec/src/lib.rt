@@ -1,6 +1,7 @@
 //! BER and DER (X.690) for the types of `asn1_types`.
 #![tactic(auto)]
 
+mod at_once;
 mod length;
 mod public;
 mod read;

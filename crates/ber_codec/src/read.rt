@@ -10,13 +10,14 @@ ghost use Rattle.ber_spelling.specs.Reading.{Gives, Fails, spot_of, opened_of, a
 ghost use Rattle.ber_spelling.specs.Rules.{first_of, last_of, open_at, close_at, is_part, place_of, all_items_at, list_item_at, list_done, list_at, part_at, parts_at, sequence_at, choice_at, any_at, explicit_at, or_explicit, tagged_at, read_by, reads, no_parts_of, nothing_filled, is_free, stands, is_filled, set_done, late_kind, late_at, ordered_at, fill_at, slot_at, set_at};
 ghost use Rattle.ber_spelling.specs.Order.{rank};
 
+use crate::at_once::at_once;
 use asn1_types::{
-    Class, MaybeVals, Node, Part, Parts, TypeId, TypeRow, TypeTable, Val, Vals, begins,
-    text_number,
+    Class, MaybeVals, Node, Part, Parts, TypeId, TypeRow, TypeTable, Val, Vals, begins, text_number,
 };
 use ber_spelling::{
     Ahead, Opened, ReadFault, Scope, Spot, Tag, bit_string, boolean, enumerated, expect, extent,
-    integer, look, null, object_id, octet_string, rank, refusal, tag_or, text, whole_value,
+    integer, look, look_shortly, null, object_id, octet_string, rank, refusal, tag_or, text,
+    whole_value,
 };
 use osi_base::{Kind, NoMemory, Octets};
 use std::alloc::Global;
@@ -57,6 +58,7 @@ fn close<'a>(scope: &Scope, spot: Spot<'a>) -> Result<Spot<'a>, ReadFault>
 
 /// Any one value, as octets.
 #[tactic(auto, unfolding(ber_spelling::specs::Rules::any_at))]
+#[inline(never)]
 fn any<'a>(
     alloc: Global,
     scope: &Scope,
@@ -100,6 +102,7 @@ pub(crate) fn value<'a>(
 }
 
 #[cycle(reading)]
+#[inline(always)]
 fn value_as<'a>(
     alloc: Global,
     table: &TypeTable,
@@ -201,6 +204,7 @@ fn value_as<'a>(
 
 /// A SEQUENCE OF.
 #[cycle(reading)]
+#[inline(never)]
 fn list<'a>(
     alloc: Global,
     table: &TypeTable,
@@ -247,6 +251,13 @@ fn items<'a>(
     let mut found = Vec::new(alloc);
     let mut spot = spot;
     for _turn in 0..spot.rest.len() + 1 {
+        if let Some((opened, after)) = look_shortly(scope, spot) {
+            if let Some((value, next)) = at_once(table, inner, scope, &opened, after) {
+                found.push(value)?;
+                spot = next;
+                continue;
+            }
+        }
         match look(scope, spot)? {
             Ahead::Ended { after, .. } => return Ok((found, after)),
             Ahead::Begun(opened, after) => {
@@ -260,6 +271,7 @@ fn items<'a>(
 }
 
 #[tactic(auto, unfolding(ber_spelling::specs::Rules::explicit_at))]
+#[inline(never)]
 fn tagged_any<'a>(
     alloc: Global,
     tag: Tag,
@@ -278,6 +290,7 @@ fn tagged_any<'a>(
 
 #[cycle(reading)]
 #[tactic(auto, unfolding(ber_spelling::specs::Rules::explicit_at))]
+#[inline(never)]
 fn tagged<'a>(
     alloc: Global,
     table: &TypeTable,
@@ -301,6 +314,7 @@ fn tagged<'a>(
 
 #[cycle(reading)]
 #[tactic(auto, unfolding(ber_spelling::specs::Rules::explicit_at))]
+#[inline(never)]
 fn tagged_choice<'a>(
     alloc: Global,
     table: &TypeTable,
@@ -334,6 +348,7 @@ fn tagged_choice<'a>(
 /// The alternative of a CHOICE that begins with this identifier.
 #[cycle(reading)]
 #[tactic(auto, unfolding(ber_spelling::specs::Rules::choice_at))]
+#[inline(never)]
 fn choice<'a>(
     alloc: Global,
     table: &TypeTable,
@@ -366,6 +381,7 @@ fn choice<'a>(
 
 #[cycle(reading)]
 #[tactic(auto, unfolding(ber_spelling::specs::Rules::sequence_at))]
+#[inline(never)]
 fn sequence<'a>(
     alloc: Global,
     table: &TypeTable,
@@ -444,6 +460,9 @@ fn part_of<'a>(
 {
     if let Ahead::Begun(opened, after) = ahead {
         if begins(table, part.inner, opened.class, opened.number) {
+            if let Some((value, after)) = at_once(table, part.inner, scope, &opened, after) {
+                return Ok((Some(value), look(scope, after)?));
+            }
             let (value, after) = value(alloc, table, part.inner, None, scope, &opened, after)?;
             return Ok((Some(value), look(scope, after)?));
         }
@@ -460,6 +479,7 @@ fn part_of<'a>(
 
 /// A SET.
 #[cycle(reading)]
+#[inline(never)]
 fn set<'a>(
     alloc: Global,
     table: &TypeTable,

@@ -10,13 +10,15 @@ use asn1_types::Class;
 use osi_base::Kind;
 
 /// The fault of kind `kind` in the field at `place`, counted in octets from 0.
+#[inline(always)]
 pub fn refusal(place: usize, kind: Kind) -> ReadFault
     ensures { result ≡ ReadFault.NotSpelled place kind }
 {
     ReadFault::NotSpelled { place, kind }
 }
 
-fn is_past(end: Option<usize>, until: u64) -> bool
+#[inline(always)]
+pub(crate) fn is_past(end: Option<usize>, until: u64) -> bool
     ensures { result ≡ is_past end until }
 {
     match end {
@@ -25,6 +27,7 @@ fn is_past(end: Option<usize>, until: u64) -> bool
     }
 }
 
+#[inline(always)]
 pub(crate) fn is_end(end: Option<usize>, place: usize) -> bool
     ensures { result ≡ is_end end place }
 {
@@ -37,6 +40,7 @@ pub(crate) fn is_end(end: Option<usize>, place: usize) -> bool
 /// Whether a field at this place that goes on until `until` stays within the limit and the
 /// enclosing contents.
 #[tactic(auto, unfolding(crate::specs::Reading::within))]
+#[inline(always)]
 fn check_within(scope: &Scope, place: usize, until: u64) -> Result<(), ReadFault>
     ensures gives { Gives (λ x. x) result (within scope.now place until) }
     ensures reach { IfOk result (λ _. until ≤ scope.now.limit) }
@@ -50,6 +54,7 @@ fn check_within(scope: &Scope, place: usize, until: u64) -> Result<(), ReadFault
     Ok(())
 }
 
+#[inline(always)]
 pub(crate) fn class_of(first: u8) -> Class
     ensures { result ≡ class_of first }
 {
@@ -64,7 +69,8 @@ pub(crate) fn class_of(first: u8) -> Class
     }
 }
 
-fn is_constructed(first: u8) -> bool
+#[inline(always)]
+pub(crate) fn is_constructed(first: u8) -> bool
     ensures { result ≡ is_constructed first }
 {
     first / 32 % 2 == 1
@@ -99,6 +105,7 @@ fn digits<'a>(scope: &Scope, place: usize, digits: &'a [u8]) -> Result<(u64, Spo
 
 /// The identifier at this spot (X.690 8.1.2).
 #[tactic(auto, unfolding(crate::specs::Fields::high_at))]
+#[inline(never)]
 fn high<'a>(
     scope: &Scope,
     start: Spot<'a>,
@@ -125,6 +132,7 @@ fn high<'a>(
 
 /// The identifier at this spot (X.690 8.1.2), and where reading goes on; or the first fault in it.
 #[tactic(auto, unfolding(crate::specs::Fields::identifier_at))]
+#[inline(always)]
 pub fn identifier<'a>(scope: &Scope, start: Spot<'a>) -> Result<(Opened<'a>, Spot<'a>), ReadFault>
     requires { start.place + length start.rest.now < 2 ^ 63 }
     ensures gives { Gives (λ x. (opened_of x.0, spot_of x.1)) result (identifier_at scope.now start.entry.place start.entry.rest.now) }
@@ -158,6 +166,7 @@ pub fn identifier<'a>(scope: &Scope, start: Spot<'a>) -> Result<(Opened<'a>, Spo
 }
 
 /// The number that at most 8 octets are, the most significant first.
+#[inline(always)]
 pub(crate) fn number_of(octets: &[u8]) -> u64
     requires { length octets.now ≤ 8 }
     ensures { result ≡ number_from 0 octets.now }
@@ -172,6 +181,7 @@ pub(crate) fn number_of(octets: &[u8]) -> u64
 /// Whether `count` octets from `from` on, of a field at this place, stay within the limit and the
 /// enclosing contents.
 #[tactic(auto, unfolding(crate::specs::Reading::within))]
+#[inline(always)]
 fn check_reach(scope: &Scope, place: usize, from: usize, count: u64) -> Result<(), ReadFault>
     requires { from < 2 ^ 63 }
     ensures gives { Gives (λ x. x) result (within scope.now place (from + count)) }
@@ -185,6 +195,7 @@ fn check_reach(scope: &Scope, place: usize, from: usize, count: u64) -> Result<(
 
 /// A length whose field ends before `rest`.
 #[tactic(auto, unfolding(crate::specs::Fields::announced_at))]
+#[inline(always)]
 fn announced<'a>(
     scope: &Scope,
     place: usize,
@@ -205,6 +216,7 @@ fn announced<'a>(
 
 /// A length in the long form, behind its first octet, which says `size` octets (X.690 8.1.3.5).
 #[tactic(auto, unfolding(crate::specs::Fields::long_at))]
+#[inline(never)]
 fn long<'a>(
     scope: &Scope,
     place: usize,
@@ -240,6 +252,7 @@ fn long<'a>(
 
 /// What is wrong where no octet is left.
 #[tactic(auto, unfolding(crate::specs::Reading::within))]
+#[inline(never)]
 fn lacking(scope: &Scope, place: usize) -> ReadFault
     requires { place < 2 ^ 63 }
     ensures { lacking {A = Unit {0}} scope.now place ≡ Err result }
@@ -255,6 +268,7 @@ fn lacking(scope: &Scope, place: usize) -> ReadFault
 
 /// A definite length (X.690 8.1.3.3).
 #[tactic(auto, unfolding(crate::specs::Fields::definite_at))]
+#[inline(always)]
 fn definite<'a>(scope: &Scope, spot: Spot<'a>) -> Result<(u64, Spot<'a>), ReadFault>
     requires { spot.place + length spot.rest.now < 2 ^ 63 }
     ensures gives { Gives (λ x. (x.0, spot_of x.1)) result (definite_at scope.now spot.entry.place spot.entry.rest.now) }
@@ -280,6 +294,7 @@ fn definite<'a>(scope: &Scope, spot: Spot<'a>) -> Result<(u64, Spot<'a>), ReadFa
 
 /// The octets of a primitive value, behind their length.
 #[tactic(auto, unfolding(crate::specs::Fields::contents_at))]
+#[inline(always)]
 pub(crate) fn contents<'a>(
     scope: &Scope,
     spot: Spot<'a>,
@@ -306,6 +321,7 @@ pub(crate) fn contents<'a>(
 /// The scope that the length of a constructed value gives its contents (X.690 8.1.3), and where they
 /// begin; or the first fault in it.
 #[tactic(auto, unfolding(crate::specs::Fields::extent_at))]
+#[inline(always)]
 pub fn extent<'a>(scope: &Scope, spot: Spot<'a>) -> Result<(Scope, Spot<'a>), ReadFault>
     requires { spot.place + length spot.rest.now < 2 ^ 63 }
     ensures gives { Gives (λ x. (x.0, spot_of x.1)) result (extent_at scope.now spot.entry.place spot.entry.rest.now) }
@@ -335,6 +351,7 @@ pub fn extent<'a>(scope: &Scope, spot: Spot<'a>) -> Result<(Scope, Spot<'a>), Re
 }
 
 /// The scope of contents.
+#[inline(always)]
 fn inside(scope: &Scope, end: Option<usize>, marked: bool) -> Scope
     ensures { result ≡ record { levels = scope.now.levels - 1; limit = scope.now.limit; end = end; marked = marked; strict = scope.now.strict } }
 {
@@ -349,6 +366,7 @@ fn inside(scope: &Scope, end: Option<usize>, marked: bool) -> Scope
 
 /// What begins here.
 #[tactic(auto, unfolding(crate::specs::Fields::look_at))]
+#[inline(always)]
 fn begin<'a>(scope: &Scope, spot: Spot<'a>) -> Result<Ahead<'a>, ReadFault>
     requires { spot.place + length spot.rest.now < 2 ^ 63 }
     ensures gives { Gives (λ x. ahead_of x) result (begin_at scope.now spot.entry.place spot.entry.rest.now) }
@@ -359,6 +377,7 @@ fn begin<'a>(scope: &Scope, spot: Spot<'a>) -> Result<Ahead<'a>, ReadFault>
 }
 
 /// Whether contents end at end-of-contents octets, or what begins here.
+#[inline(never)]
 fn mark<'a>(scope: &Scope, spot: Spot<'a>) -> Result<Ahead<'a>, ReadFault>
     requires { spot.place + length spot.rest.now < 2 ^ 63 }
     ensures gives { Gives (λ x. ahead_of x) result (mark_at scope.now spot.entry.place spot.entry.rest.now) }
@@ -392,6 +411,7 @@ fn mark<'a>(scope: &Scope, spot: Spot<'a>) -> Result<Ahead<'a>, ReadFault>
 
 /// Whether contents end here (X.690 8.1.5), or what begins here; or the first fault in it.
 #[tactic(auto, unfolding(crate::specs::Fields::look_at))]
+#[inline(always)]
 pub fn look<'a>(scope: &Scope, spot: Spot<'a>) -> Result<Ahead<'a>, ReadFault>
     requires { spot.place + length spot.rest.now < 2 ^ 63 }
     ensures gives { Gives (λ x. ahead_of x) result (look_at scope.now spot.entry.place spot.entry.rest.now) }

@@ -7,6 +7,7 @@ mod laws;
 mod order;
 mod plain;
 mod primitives;
+mod short;
 mod spot;
 mod strings;
 mod tag;
@@ -20,6 +21,7 @@ pub use laws::{
 };
 pub use order::{RANKS, rank, rank_of};
 pub use plain::{boolean, enumerated, integer, null, object_id};
+pub use short::{integer_shortly, look_shortly};
 pub use spot::{Ahead, Gathered, Opened, Scope, Spot, StringKind, StringRule, Tag};
 pub use strings::{bit_string, octet_string, text};
 pub use tag::{expect, tag_or};

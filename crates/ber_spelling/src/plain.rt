@@ -15,6 +15,7 @@ use std::alloc::Global;
 
 /// A BOOLEAN behind its identifier (X.690 8.2), and where reading goes on; or the first fault in it.
 #[tactic(auto, unfolding(crate::specs::Rules::primitive_at))]
+#[inline(never)]
 pub fn boolean<'a>(
     tag: Tag,
     scope: &Scope,
@@ -42,6 +43,7 @@ pub fn boolean<'a>(
 /// An ENUMERATED of these items behind its identifier (X.690 8.4), and where
 /// reading goes on; or the first fault in it.
 #[tactic(auto, unfolding(crate::specs::Rules::primitive_at))]
+#[inline(never)]
 pub fn enumerated<'a>(
     items: &[Item],
     tag: Tag,
@@ -69,6 +71,7 @@ pub fn enumerated<'a>(
 /// An INTEGER from `low` to `high` behind its identifier (X.690 8.3), and where
 /// reading goes on; or the first fault in it.
 #[tactic(auto, unfolding(crate::specs::Rules::primitive_at))]
+#[inline(never)]
 pub fn integer<'a>(
     low: i64,
     high: i64,
@@ -96,6 +99,7 @@ pub fn integer<'a>(
 
 /// A NULL behind its identifier (X.690 8.8), and where reading goes on; or the first fault in it.
 #[tactic(auto, unfolding(crate::specs::Rules::primitive_at))]
+#[inline(never)]
 pub fn null<'a>(
     tag: Tag,
     scope: &Scope,
@@ -117,6 +121,7 @@ pub fn null<'a>(
 /// An OBJECT IDENTIFIER behind its identifier (X.690 8.19), and where
 /// reading goes on; or the first fault in it.
 #[tactic(auto, unfolding(crate::specs::Rules::primitive_at))]
+#[inline(never)]
 pub fn object_id<'a>(
     alloc: Global,
     tag: Tag,

@@ -9,6 +9,7 @@ use crate::fields::number_of;
 use osi_base::{NoMemory, Oid};
 use std::alloc::Global;
 
+#[inline(always)]
 fn is_padded(octets: &[u8]) -> bool
     ensures { result ≡ is_padded octets.now }
 {
@@ -19,6 +20,7 @@ fn is_padded(octets: &[u8]) -> bool
 }
 
 /// What completes a number of this many octets to 64 bits.
+#[inline(always)]
 fn above(len: usize) -> u64
     requires some { 1 ≤ len }
     requires few { len ≤ 8 }
@@ -37,6 +39,7 @@ fn above(len: usize) -> u64
 }
 
 /// The number that 1 to 8 octets are in two's complement (X.690 8.3.3).
+#[inline(always)]
 fn signed_of(octets: &[u8]) -> i64
     requires some { 1 ≤ length octets.now }
     requires few { length octets.now ≤ 8 }
@@ -52,6 +55,7 @@ fn signed_of(octets: &[u8]) -> i64
 
 /// The INTEGER of these contents, if they are one (X.690 8.3).
 #[tactic(auto, unfolding(crate::specs::Primitives::integer_of))]
+#[inline(always)]
 pub(crate) fn integer_of(octets: &[u8]) -> Option<i64>
     ensures { result ≡ integer_of octets.now }
 {

@@ -355,6 +355,7 @@ fn string<'a>(
 
 /// An OCTET STRING of at most `most` octets behind its identifier (X.690 8.7), and where
 /// reading goes on; or the first fault in it.
+#[inline(never)]
 pub fn octet_string<'a>(
     alloc: Global,
     most: u32,
@@ -371,6 +372,7 @@ pub fn octet_string<'a>(
 }
 
 /// A BIT STRING behind its identifier (X.690 8.6), and where reading goes on; or the first fault in it.
+#[inline(never)]
 pub fn bit_string<'a>(
     alloc: Global,
     tag: Tag,
@@ -387,6 +389,7 @@ pub fn bit_string<'a>(
 
 /// A text of this kind behind its identifier (X.690 8.23), and where
 /// reading goes on; or the first fault in it.
+#[inline(never)]
 pub fn text<'a>(
     alloc: Global,
     kind: TextKind,

@@ -11,6 +11,7 @@ use asn1_types::{Class, same_class};
 use osi_base::Kind;
 
 /// A given tag, or else this one.
+#[inline(always)]
 pub fn tag_or(tag: Option<Tag>, class: Class, number: u32) -> Tag
     ensures { result ≡ tag_or tag class number }
 {
@@ -21,6 +22,7 @@ pub fn tag_or(tag: Option<Tag>, class: Class, number: u32) -> Tag
 }
 
 /// Whether this identifier is of this tag and form; else a fault of kind `Tag` at its place.
+#[inline(always)]
 pub fn expect(tag: Tag, constructed: bool, opened: &Opened) -> Result<(), ReadFault>
     ensures { Gives (λ x. x) result (expect_at tag constructed (opened_of opened.now)) }
 {

@@ -102,6 +102,19 @@ items-returns-in_err-value-in-Begun-clause-gives t c =
     (c.in_ok-after.ensures.gives ∙ ap (λ a. Ok (ahead_of a)) c.in-Begun.is) (Fails-bind c.in_err-value-in-Begun.field-0.0 (reads c.args.table.now c.args.inner.0 None c.args.scope.now (opened_of c.in-Begun.opened) (spot_of c.in-Begun.after)) _ c.in_err-value-in-Begun.ensures.gives) in
     search rules
 
+pub items-loop-turn-preserved-in-Some-at_once : goal.items-loop-turn-preserved-in-Some-at_once
+items-loop-turn-preserved-in-Some-at_once t c =
+    let less : length c.args.spot.rest.now + 1 - c.loop-turn._turn - 1 ≡ length c.args.spot.rest.now + 1 - (c.loop-turn._turn + 1) = omega arith in
+    let more = c.loop-turn.found.items ++ c.in-Some-at_once.value ∷ [] in
+    let goes = step_goes (list_item_at (reads c.args.table.now c.args.inner.0)) list_done (length c.args.spot.rest.now + 1 - c.loop-turn._turn) c.loop-turn.found.items more c.args.scope.now (spot_of c.loop-turn.spot) (opened_of c.in-Some.opened) (spot_of c.in-Some.after) (spot_of c.in-Some-at_once.next) _ (omega arith) c.loop-turn.invariant.so_far
+    c.in-Some.ensures.gives
+    (bind_is (reads c.args.table.now c.args.inner.0 None c.args.scope.now (opened_of c.in-Some.opened) (spot_of c.in-Some.after)) _ (c.in-Some-at_once.value, spot_of c.in-Some-at_once.next) c.in-Some-at_once.ensures.gives) in
+    record {
+      onward = goes_then c.loop-turn.invariant.onward (goes_then c.in-Some.ensures.stops.behind c.in-Some-at_once.ensures.stops);
+      so_far = ap (λ found. items_at (list_item_at (reads c.args.table.now c.args.inner.0)) list_done (length c.args.spot.rest.now + 1 - (c.loop-turn._turn + 1)) found c.args.scope.now (spot_of c.in-Some-at_once.next)) c.in_ok-push.ensures.items
+          ∙ ap (λ k. items_at (list_item_at (reads c.args.table.now c.args.inner.0)) list_done k more c.args.scope.now (spot_of c.in-Some-at_once.next)) (sym less) ∙ goes;
+    }
+
 pub items-loop-turn-preserved : goal.items-loop-turn-preserved
 items-loop-turn-preserved t c =
     let opens = subst (LiesIn c.loop-turn.spot.place (length c.loop-turn.spot.rest.now)) c.in-Begun.is c.in_ok-after.ensures.stops in
