@@ -4,3 +4,4 @@ pub mod Counts
 pub mod SetCounts
 pub mod WrittenLoops
 pub mod Calls
+pub mod PartsFrom

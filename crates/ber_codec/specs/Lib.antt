@@ -1,4 +1,5 @@
 pub mod Calls
+pub mod Parts
 pub use Rattle.ber_spelling.specs.Reading
 pub use Rattle.ber_spelling.specs.Rules
 pub use Rattle.ber_spelling.specs.Spelling

@@ -6,9 +6,10 @@ ghost use Rattle.asn1_types.specs.Rows.{begins, rows_of_parts, names_of};
 ghost use Rattle.asn1_types.specs.Table.{IsSound};
 ghost use Rattle.asn1_types.specs.Value as tree;
 ghost use Rattle.asn1_types.specs.ValueView.{values_of, parts_of};
-ghost use Rattle.ber_spelling.specs.Reading.{Gives, Fails, spot_of, opened_of, ahead_of, LiesIn, GoesOn, spot_in, IsBefore, Follows};
+ghost use Rattle.ber_spelling.specs.Reading.{begun, Opens, Gives, Fails, spot_of, opened_of, ahead_of, LiesIn, GoesOn, spot_in, IsBefore, Follows};
 ghost use Rattle.ber_spelling.specs.Rules.{first_of, last_of, open_at, close_at, is_part, place_of, all_items_at, list_item_at, list_done, list_at, part_at, parts_at, sequence_at, choice_at, any_at, explicit_at, or_explicit, tagged_at, read_by, reads, no_parts_of, nothing_filled, is_free, stands, is_filled, set_done, late_kind, late_at, ordered_at, fill_at, slot_at, set_at};
 ghost use Rattle.ber_spelling.specs.Order.{rank};
+ghost use Rattle.ber_codec.specs.Parts.{absent_at, found_at, part_from, parts_from};
 
 use crate::at_once::at_once;
 use asn1_types::{
@@ -368,7 +369,7 @@ fn choice<'a>(
 {
     for (which, part) in alternatives.iter().enumerate() {
         if begins(table, part.inner, opened.class, opened.number) {
-            let (value, after) = value(alloc, table, part.inner, None, scope, opened, spot)?;
+            let (value, after) = untagged(alloc, table, part.inner, scope, opened, spot)?;
             let node = Node::Chosen {
                 which: which as u32,
                 value: Box::new(alloc, value)?,
@@ -400,8 +401,7 @@ fn sequence<'a>(
 {
     expect(tag, true, opened)?;
     let (inside, spot) = extent(scope, spot)?;
-    let ahead = look(&inside, spot)?;
-    let (found, after) = parts_of(alloc, table, of, parts.as_slice(), &inside, ahead)?;
+    let (found, after) = parts_of(alloc, table, of, parts.as_slice(), &inside, spot)?;
     Ok((
         Val {
             node: Node::Parts(found),
@@ -410,71 +410,148 @@ fn sequence<'a>(
     ))
 }
 
-/// The parts of a SEQUENCE in their order, from what stands ahead to the end of its contents.
+/// The parts of a SEQUENCE in their order, up to the end of its contents.
 #[cycle(reading)]
-#[tactic(auto, unfolding(ber_spelling::specs::Rules::parts_at))]
 fn parts_of<'a>(
     alloc: Global,
     table: &TypeTable,
     of: TypeId,
     parts: &[Part],
     scope: &Scope,
-    ahead: Ahead<'a>,
+    spot: Spot<'a>,
 ) -> Result<(MaybeVals, Spot<'a>), ReadFault>
     requires below { AllByRecursion (λ m. m < of.0) (rows_of_parts parts.now) }
     requires row { of.0 ≤ length table.now }
-    requires start { IsBefore ahead }
-    ensures gives { Gives (λ x. (x.0.items, spot_of x.1)) result (parts_at (begins table.now) (reads table.now) scope.now (ahead_of ahead.entry) parts.now) }
-    ensures stops { IfOk result (λ x. Follows ahead.entry x.1) }
+    requires whole { spot.place + length spot.rest.now < 2 ^ 63 }
+    ensures gives { Gives (λ x. (x.0.items, spot_of x.1)) result (parts_from (begins table.now) (reads table.now) scope.now (spot_of spot.entry) parts.now) }
+    ensures stops { IfOk result (λ x. GoesOn spot.entry.place (length spot.entry.rest.now) x.1) }
 {
     let mut found = Vec::new(alloc);
-    let mut ahead = ahead;
+    let mut spot = spot;
     for part in parts {
-        let (value, next) = part_of(alloc, table, of, part, scope, ahead)?;
+        let (value, next) = part_of(alloc, table, of, part, scope, spot)?;
         found.push(value)?;
-        ahead = next;
+        spot = next;
     }
-    match ahead {
-        Ahead::Ended { after, .. } => Ok((found, after)),
-        Ahead::Begun(opened, _) => Err(refusal(opened.start.place, Kind::Extra)),
-    }
+    let after = close(scope, spot)?;
+    Ok((found, after))
 }
 
-/// One part of a SEQUENCE, if it is there, and what stands behind it.
+/// One part of a SEQUENCE, if it is there, and where reading goes on.
 #[cycle(reading)]
-#[tactic(auto, unfolding(ber_spelling::specs::Rules::part_at))]
+#[inline(always)]
+#[tactic(auto, unfolding(crate::specs::Parts::part_from))]
 fn part_of<'a>(
     alloc: Global,
     table: &TypeTable,
     of: TypeId,
     part: &Part,
     scope: &Scope,
-    ahead: Ahead<'a>,
-) -> Result<(Option<Val>, Ahead<'a>), ReadFault>
+    spot: Spot<'a>,
+) -> Result<(Option<Val>, Spot<'a>), ReadFault>
     requires below { part.now.inner.0 < of.0 }
     requires row { of.0 ≤ length table.now }
-    requires start { IsBefore ahead }
-    ensures gives { Gives (λ x. (x.0, ahead_of x.1)) result (part_at (begins table.now) (reads table.now part.now.inner.0) part.now scope.now (ahead_of ahead.entry)) }
-    ensures stops { IfOk result (λ x. Follows ahead.entry (spot_in x.1)) }
-    ensures start { IfOk result (λ x. IsBefore x.1) }
+    requires whole { spot.place + length spot.rest.now < 2 ^ 63 }
+    ensures gives { Gives (λ x. (x.0, spot_of x.1)) result (part_from (begins table.now) (reads table.now part.now.inner.0) part.now scope.now (spot_of spot.entry)) }
+    ensures stops { IfOk result (λ x. GoesOn spot.entry.place (length spot.entry.rest.now) x.1) }
 {
-    if let Ahead::Begun(opened, after) = ahead {
-        if begins(table, part.inner, opened.class, opened.number) {
-            if let Some((value, after)) = at_once(table, part.inner, scope, &opened, after) {
-                return Ok((Some(value), look(scope, after)?));
-            }
-            let (value, after) = value(alloc, table, part.inner, None, scope, &opened, after)?;
-            return Ok((Some(value), look(scope, after)?));
+    if let Some((opened, after)) = look_shortly(scope, spot) {
+        return part_begun(alloc, table, of, part, scope, spot, &opened, after);
+    }
+    part_behind(alloc, table, of, part, scope, spot)
+}
+
+/// As `part_of`, whatever stands there.
+#[cycle(reading)]
+#[inline(never)]
+#[tactic(auto, unfolding(crate::specs::Parts::part_from))]
+fn part_behind<'a>(
+    alloc: Global,
+    table: &TypeTable,
+    of: TypeId,
+    part: &Part,
+    scope: &Scope,
+    spot: Spot<'a>,
+) -> Result<(Option<Val>, Spot<'a>), ReadFault>
+    requires below { part.now.inner.0 < of.0 }
+    requires row { of.0 ≤ length table.now }
+    requires whole { spot.place + length spot.rest.now < 2 ^ 63 }
+    ensures gives { Gives (λ x. (x.0, spot_of x.1)) result (part_from (begins table.now) (reads table.now part.now.inner.0) part.now scope.now (spot_of spot.entry)) }
+    ensures stops { IfOk result (λ x. GoesOn spot.entry.place (length spot.entry.rest.now) x.1) }
+{
+    match look(scope, spot)? {
+        Ahead::Ended { place, .. } => absent(part, place, spot),
+        Ahead::Begun(opened, after) => {
+            part_begun(alloc, table, of, part, scope, spot, &opened, after)
         }
     }
+}
+
+/// A part that is not there, which leaves the spot as it is.
+#[inline(always)]
+fn absent<'a>(
+    part: &Part,
+    place: usize,
+    spot: Spot<'a>,
+) -> Result<(Option<Val>, Spot<'a>), ReadFault>
+    ensures gives { Gives (λ x. (x.0, spot_of x.1)) result (absent_at part.now.optional place (spot_of spot.entry)) }
+    ensures stops { IfOk result (λ x. GoesOn spot.entry.place (length spot.entry.rest.now) x.1) }
+{
     if part.optional {
-        return Ok((None, ahead));
+        Ok((None, spot))
+    } else {
+        Err(refusal(place, Kind::Missing))
     }
-    let place = match ahead {
-        Ahead::Ended { place, .. } => place,
-        Ahead::Begun(opened, _) => opened.start.place,
-    };
-    Err(refusal(place, Kind::Missing))
+}
+
+/// The part that begins with this identifier, if one does; else the spot is left as it is.
+#[cycle(reading)]
+#[inline(always)]
+fn part_begun<'a>(
+    alloc: Global,
+    table: &TypeTable,
+    of: TypeId,
+    part: &Part,
+    scope: &Scope,
+    spot: Spot<'a>,
+    opened: &Opened<'a>,
+    after: Spot<'a>,
+) -> Result<(Option<Val>, Spot<'a>), ReadFault>
+    requires below { part.now.inner.0 < of.0 }
+    requires row { of.0 ≤ length table.now }
+    requires whole { spot.place + length spot.rest.now < 2 ^ 63 }
+    requires start { Opens spot.place (length spot.rest.now) opened.now after }
+    ensures gives { Gives (λ x. (x.0, spot_of x.1)) result (found_at (begins table.now) (reads table.now part.now.inner.0) part.now scope.now (spot_of spot.entry) (begun (opened_of opened.now) (spot_of after.entry))) }
+    ensures stops { IfOk result (λ x. GoesOn spot.entry.place (length spot.entry.rest.now) x.1) }
+{
+    if begins(table, part.inner, opened.class, opened.number) {
+        let (value, next) = untagged(alloc, table, part.inner, scope, opened, after)?;
+        return Ok((Some(value), next));
+    }
+    absent(part, opened.start.place, spot)
+}
+
+/// A value of this row under its own tag.
+#[cycle(reading)]
+#[inline(always)]
+fn untagged<'a>(
+    alloc: Global,
+    table: &TypeTable,
+    of: TypeId,
+    scope: &Scope,
+    opened: &Opened<'a>,
+    spot: Spot<'a>,
+) -> Result<(Val, Spot<'a>), ReadFault>
+    requires row { of.0 < length table.now }
+    requires whole { spot.place + length spot.rest.now < 2 ^ 63 }
+    requires start { GoesOn opened.now.start.place (length opened.now.start.rest.now) spot }
+    ensures gives { Gives (λ x. (x.0, spot_of x.1)) result (reads table.now of.0 None scope.now (opened_of opened.now) (spot_of spot.entry)) }
+    ensures stops { IfOk result (λ x. GoesOn spot.entry.place (length spot.entry.rest.now) x.1) }
+{
+    match at_once(table, of, scope, opened, spot) {
+        Some(found) => Ok(found),
+        None => value(alloc, table, of, None, scope, opened, spot),
+    }
 }
 
 /// A SET.

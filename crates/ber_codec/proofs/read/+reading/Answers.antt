@@ -10,7 +10,8 @@ use Rattle.ber_spelling.specs.Reading.{opened_of, spot_of, ahead_of, LiesIn}
 use Rattle.ber_spelling.specs.Rules.{items_at, list_item_at, list_done, reads, slot_at, set_done, is_free, is_filled}
 use Rattle.ber_codec.proofs.Slots.{none_length, set_length, slot_taken, slot_fails, slot_gives, set_full, set_lacks, turns_lack}
 use Rattle.ber_codec.proofs.Rows.{reads_at}
-use Rattle.ber_spelling.proofs.Loops.{parts_go_on, goes_then}
+use Rattle.ber_spelling.proofs.Loops.{goes_then}
+use Rattle.ber_codec.proofs.PartsFrom.{part_fails, part_goes_on, end_fails, end_gives, sequence_fails, sequence_gives}
 use Rattle.ber_spelling.proofs.Steps.{Fails-bind}
 use Rattle.ber_spelling.proofs.Turns.{bind_is, look_fails, step_fails, step_goes, turns_end, no_turns}
 use Rattle.ber_codec.proofs.read.+reading.Goals as goal
@@ -20,22 +21,44 @@ choice-begins-requires t c =
     let lt : c.index-alternatives-which.result.inner.0 < c.args.of.0 = each_part (λ m. m < c.args.of.0) c.args.alternatives.now c.loop-which.which c.index-alternatives-which.result c.requires.below c.loop-which-test.true c.index-alternatives-which.is in
     omega arith
 
-pub choice-value-requires : goal.choice-value-requires
-choice-value-requires t c =
+pub choice-untagged-requires : goal.choice-untagged-requires
+choice-untagged-requires t c =
     let lt : c.index-alternatives-which.result.inner.0 < c.args.of.0 = each_part (λ m. m < c.args.of.0) c.args.alternatives.now c.loop-which.which c.index-alternatives-which.result c.requires.below c.loop-which-test.true c.index-alternatives-which.is in
     (omega arith, (omega arith, (c.requires.whole, c.requires.start)))
 
 pub parts_of-part_of-requires : goal.parts_of-part_of-requires
 parts_of-part_of-requires t c =
     let lt : c.part-item.result.inner.0 < c.args.of.0 = each_part (λ m. m < c.args.of.0) c.args.parts.now c.loop-part.part-index c.part-item.result c.requires.below c.loop-part-test.true c.part-item.is in
-    (omega arith, (lt, (c.requires.row, c.loop-part.invariant.start)))
+    (omega arith, (lt, (c.requires.row, omega (arith, c.requires.whole, c.loop-part.invariant.onward.whole))))
 
 pub parts_of-loop-part-preserved : goal.parts_of-loop-part-preserved
 parts_of-loop-part-preserved t c = record {
-  start = c.in_ok-value.ensures.start;
   onward = goes_then c.loop-part.invariant.onward c.in_ok-value.ensures.stops;
-  so_far = rw c.in_ok-push.ensures.items (parts_go_on (begins c.args.table.now) (reads c.args.table.now) c.args.scope.now c.args.parts.now c.loop-part.part-index c.part-item.result c.loop-part.found.items (ahead_of c.loop-part.ahead) c.in_ok-value.value (ahead_of c.in_ok-value.next) _ c.loop-part-test.true c.part-item.is c.in_ok-value.ensures.gives c.loop-part.invariant.so_far);
+  so_far = rw c.in_ok-push.ensures.items (part_goes_on (begins c.args.table.now) (reads c.args.table.now) c.args.scope.now c.args.parts.now c.loop-part.part-index c.part-item.result c.loop-part.found.items (spot_of c.loop-part.spot) _ c.loop-part-test.true c.part-item.is c.loop-part.invariant.so_far c.in_ok-value.value (spot_of c.in_ok-value.next) c.in_ok-value.ensures.gives);
 }
+
+pub parts_of-returns-in_err-value-clause-gives : goal.parts_of-returns-in_err-value-clause-gives
+parts_of-returns-in_err-value-clause-gives t c =
+    let h = part_fails (begins c.args.table.now) (reads c.args.table.now) c.args.scope.now c.args.parts.now c.loop-part.part-index c.part-item.result c.loop-part.found.items (spot_of c.loop-part.spot) _ c.loop-part-test.true c.part-item.is c.loop-part.invariant.so_far c.in_err-value.field-0.0 c.in_err-value.ensures.gives in
+    search rules
+
+pub parts_of-returns-in_err-after-clause-gives : goal.parts_of-returns-in_err-after-clause-gives
+parts_of-returns-in_err-after-clause-gives t c =
+    let h = end_fails (begins c.args.table.now) (reads c.args.table.now) c.args.scope.now c.args.parts.now c.loop-part.part-index c.loop-part.found.items (spot_of c.loop-part.spot) _ (omega (arith, c.loop-part-test.false)) c.loop-part.invariant.so_far c.in_err-after.field-0.0 c.in_err-after.ensures.gives in
+    search rules
+
+pub parts_of-returns-clause-gives : goal.parts_of-returns-clause-gives
+parts_of-returns-clause-gives t c =
+    end_gives (begins c.args.table.now) (reads c.args.table.now) c.args.scope.now c.args.parts.now c.loop-part.part-index c.loop-part.found.items (spot_of c.loop-part.spot) _ (omega (arith, c.loop-part-test.false)) c.loop-part.invariant.so_far (spot_of c.in_ok-after.after) c.in_ok-after.ensures.gives
+
+pub sequence-returns-in_err-found-clause-gives : goal.sequence-returns-in_err-found-clause-gives
+sequence-returns-in_err-found-clause-gives t c =
+    let h = sequence_fails (begins c.args.table.now) (reads c.args.table.now) c.args.parts.now c.args.tag c.args.scope.now c.in_ok-inside.inside (opened_of c.args.opened.now) (spot_of c.args.spot) (spot_of c.in_ok-inside.spot) _ c.in_ok-expect.ensures c.in_ok-inside.ensures.gives c.in_err-found.field-0.0 (rw c.as_slice.ensures at c.in_err-found.ensures.gives) in
+    search rules
+
+pub sequence-returns-clause-gives : goal.sequence-returns-clause-gives
+sequence-returns-clause-gives t c =
+    sequence_gives (begins c.args.table.now) (reads c.args.table.now) c.args.parts.now c.args.tag c.args.scope.now c.in_ok-inside.inside (opened_of c.args.opened.now) (spot_of c.args.spot) (spot_of c.in_ok-inside.spot) _ c.in_ok-expect.ensures c.in_ok-inside.ensures.gives c.in_ok-found.found.items (spot_of c.in_ok-found.after) (rw c.as_slice.ensures at c.in_ok-found.ensures.gives)
 
 pub tagged_choice-choice-requires : goal.tagged_choice-choice-requires
 tagged_choice-choice-requires t c =

@@ -3,6 +3,7 @@ use Rattle.asn1_types.specs.Rows.{begins}
 use Rattle.ber_spelling.specs.Reading.{opened_of, spot_of, ahead_of, IsBefore, GoesOn, Follows, spot_in}
 use Rattle.ber_spelling.specs.Rules.{items_at, all_items_at, list_item_at, list_done, choice_at, parts_at, reads, slot_at, set_done, nothing_filled}
 use Rattle.ber_spelling.proofs.Loops.{parts_behind}
+use Rattle.ber_codec.specs.Parts.{parts_from}
 use Rattle.ber_codec.proofs.read.+reading.Given as goal
 
 abbrev pub decreases-value : goal.decreases-value
@@ -46,11 +47,19 @@ invariant-choice-loop-which l =
     choice_at (begins l.table) (reads l.table) l.which (drop l.which l.alternatives) l.scope (opened_of l.opened) (spot_of l.spot)
     ≡ choice_at (begins l.table) (reads l.table) 0 l.alternatives l.scope (opened_of l.opened) (spot_of l.spot)
 
+abbrev pub decreases-part_behind : goal.decreases-part_behind
+decreases-part_behind l = 8 * l.of.0 + 2
+
+abbrev pub decreases-part_begun : goal.decreases-part_begun
+decreases-part_begun l = 8 * l.of.0 + 1
+
+abbrev pub decreases-untagged : goal.decreases-untagged
+decreases-untagged l = 8 * l.of.0 + 8
+
 abbrev pub invariant-parts_of-loop-part : goal.invariant-parts_of-loop-part
 invariant-parts_of-loop-part l = record {
-  start : IsBefore l.ahead;
-  onward : Follows l.fn.ahead (spot_in l.ahead);
-  so_far : parts_behind l.found.items (parts_at (begins l.table) (reads l.table) l.scope (ahead_of l.ahead) (drop l.part-index l.parts)) ≡ parts_at (begins l.table) (reads l.table) l.scope (ahead_of l.fn.ahead) l.parts;
+  onward : GoesOn l.fn.spot.place (length l.fn.spot.rest.now) l.spot;
+  so_far : parts_behind l.found.items (parts_from (begins l.table) (reads l.table) l.scope (spot_of l.spot) (drop l.part-index l.parts)) ≡ parts_from (begins l.table) (reads l.table) l.scope (spot_of l.fn.spot) l.parts;
 }
 
 abbrev pub decreases-set : goal.decreases-set

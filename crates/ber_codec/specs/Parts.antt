@@ -1,0 +1,35 @@
+-- Parts of a SEQUENCE (X.690 8.9), read from where the next one may stand, and not from what was seen to stand there.
+use Rattle.std.specs.Prelude.{ℕ, Bool, Option, Some, None, List, Ok, if◌then◌else◌}
+use Rattle.osi_base.specs.declared.words.Kind.TheVariants.{Missing}
+use Rattle.asn1_types.specs.declared.row.Class.{Class}
+use Rattle.asn1_types.specs.declared.row.Part.{Part}
+use Rattle.asn1_types.specs.Value.{Value}
+use Rattle.ber_spelling.specs.declared.spot.Scope.{Scope}
+use Rattle.ber_spelling.specs.Reading.{Spot, Ahead, ended, begun, Reading, ◌>>=◌, refuse}
+use Rattle.ber_spelling.specs.Fields.{look_at}
+use Rattle.ber_spelling.specs.Rules.{Reader, is_part, place_of, parts_at}
+
+abbrev pub taken_at : Reader → Scope → Ahead → Reading (Option Value × Spot)
+taken_at inner scope (ended place after) = refuse place Missing
+taken_at inner scope (begun opened after) = do
+  v ← inner None scope opened after
+  Ok (Some v.0, v.1)
+
+-- a part that is not there leaves the spot as it is
+abbrev pub absent_at : Bool → ℕ → Spot → Reading (Option Value × Spot)
+absent_at optional place spot = if optional then Ok (None, spot) else refuse place Missing
+
+abbrev pub found_at : (ℕ → Class → ℕ → Bool) → Reader → Part → Scope → Spot → Ahead → Reading (Option Value × Spot)
+found_at begins inner p scope spot ahead = if is_part begins p ahead then taken_at inner scope ahead else absent_at p.optional (place_of ahead) spot
+
+-- one part, if it is there, and where reading goes on
+unfoldable pub part_from : (ℕ → Class → ℕ → Bool) → Reader → Part → Scope → Spot → Reading (Option Value × Spot)
+part_from begins inner p scope spot = do
+  a ← look_at scope spot.place spot.rest
+  found_at begins inner p scope spot a
+
+-- all parts, up to the end of the contents
+unfoldable pub parts_from : (ℕ → Class → ℕ → Bool) → (ℕ → Reader) → Scope → Spot → List Part → Reading (List (Option Value) × Spot)
+parts_from begins inner scope spot ps = do
+  a ← look_at scope spot.place spot.rest
+  parts_at begins inner scope a ps
