@@ -4,7 +4,7 @@ ghost use Rattle.std.specs.Prelude.{◌≡◌, ℕ, ◌≤◌, ◌<◌, List, le
 ghost use Rattle.osi_base.specs.Outside.{last_count};
 ghost use Rattle.asn1_types.specs.declared.row.TypeRow.{TypeRow};
 ghost use Rattle.asn1_types.specs.Value.{Value};
-ghost use Rattle.ber_spelling.specs.Writing.{written};
+ghost use Rattle.ber_codec.specs.Writing.{written};
 ghost use Rattle.packed_codec.specs.Writing.{packed};
 
 use crate::samples::Sample;
