@@ -1,5 +1,5 @@
 -- Reading from the left: what the readers give is a function of the octets.
-use Rattle.std.specs.Prelude.{◌≡◌, ℕ, ◌+◌, ◌^◌, ◌<◌, ◌≤◌, Bool, false, Option, Some, None, List, length, Result, Ok, Err, nat_lt, if◌then◌else◌}
+use Rattle.std.specs.Prelude.{◌≡◌, ℕ, ◌+◌, ◌≤◌, Bool, false, Option, Some, None, List, length, Result, Ok, Err, nat_lt, if◌then◌else◌}
 use Rattle.osi_base.specs.declared.words.Kind.{Kind}
 use Rattle.osi_base.specs.declared.words.Kind.TheVariants.{Length}
 use Rattle.asn1_types.specs.declared.row.Class.{Class}
@@ -88,17 +88,3 @@ pub record Opens (place len : ℕ) (opened : codes.Opened) (to : code.Spot) : Ty
 abbrev pub LiesIn : ℕ → ℕ → aheads.Ahead → Type 0
 LiesIn place len (ahead.Ended at after) = GoesOn place len after
 LiesIn place len (ahead.Begun opened after) = Opens place len opened after
-
--- where reading goes on
-abbrev pub spot_in : aheads.Ahead → code.Spot
-spot_in (ahead.Ended place after) = after
-spot_in (ahead.Begun opened after) = after
-
--- what begins lies right before where reading goes on
-abbrev pub IsBefore : aheads.Ahead → Type 0
-IsBefore (ahead.Ended place after) = after.place + length after.rest.now < 2 ^ 63
-IsBefore (ahead.Begun opened after) = (after.place + length after.rest.now < 2 ^ 63) × GoesOn opened.start.place (length opened.start.rest.now) after
-
--- reading went on from there and came here
-abbrev pub Follows : aheads.Ahead → code.Spot → Type 0
-Follows a to = GoesOn (spot_in a).place (length (spot_in a).rest.now) to

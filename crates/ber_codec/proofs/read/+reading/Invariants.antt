@@ -1,8 +1,8 @@
 use Rattle.std.proofs.Common.{◌≡◌, ◌+◌, ◌-◌, ◌*◌, [], drop, length}
 use Rattle.asn1_types.specs.Rows.{begins}
-use Rattle.ber_spelling.specs.Reading.{opened_of, spot_of, ahead_of, IsBefore, GoesOn, Follows, spot_in}
-use Rattle.ber_spelling.specs.Rules.{items_at, all_items_at, list_item_at, list_done, choice_at, parts_at, reads, slot_at, set_done, nothing_filled}
-use Rattle.ber_spelling.proofs.Loops.{parts_behind}
+use Rattle.ber_spelling.specs.Reading.{opened_of, spot_of, GoesOn}
+use Rattle.ber_spelling.specs.Rules.{items_at, all_items_at, list_item_at, list_done, choice_at, reads, slot_at, set_done, nothing_filled}
+use Rattle.ber_codec.proofs.PartsFrom.{parts_behind}
 use Rattle.ber_codec.specs.Parts.{parts_from}
 use Rattle.ber_codec.proofs.read.+reading.Given as goal
 
