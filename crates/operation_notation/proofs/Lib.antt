@@ -13,4 +13,7 @@ pub mod Local
 pub mod LocalRules
 pub mod Begun
 pub mod BegunRules
+pub mod BegunModules
+pub mod TooDeep
+pub mod Wider
 pub mod FirstFaults

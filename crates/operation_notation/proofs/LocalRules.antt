@@ -4,11 +4,12 @@ use Rattle.std.specs.Prelude.{◌||◌, is_some, unwrap_or, if◌then◌else◌}
 use Rattle.std.proofs.lemmas.List.{length-append}
 use Rattle.notation_tokens.specs.Lexeme.{Lexeme, goes_on}
 use Rattle.notation_tokens.specs.Words.{most_32, most_64, is_type_name, is_value_name}
-use Rattle.operation_notation.specs.Reading.{◌>>=◌, give, Read, refuse, is_set_of, word_at, number_at, number_64_at, int_at, end_at, bool_at, type_name_at, value_name_at}
-use Rattle.operation_notation.specs.ReadingTypes.{starts_name, root_word, text_kind, arc_name_at, bracketed_at, arc_at, alone_at, named_root_at, root_at, most_second, oid_at, range_at, size_at, item_at, items_at, class_at, explicit_at, tag_at, optional_at, part_at, parts_at, alternatives_at, integer_at, octets_at, text_kind_at, named_at, text_or_name_at, leaf_at, sequence_at, set_at, choice_at, plain_at, type_text_at, deep_kind, type_at, outer_type_at}
+use Rattle.operation_notation.specs.Reading.{◌>>=◌, give, Read, refuse, refuse_as, is_set_of, token_at, word_at, number_at, number_64_at, int_at, end_at, bool_at, type_name_at, value_name_at}
+use Rattle.operation_notation.specs.ReadingTypes.{starts_name, root_word, text_kind, arc_name_at, bracketed_at, arc_at, alone_at, named_root_at, root_at, most_second, oid_at, range_at, size_at, item_at, items_at, class_at, explicit_at, tag_at, optional_at, part_at, parts_at, alternatives_at, integer_at, octets_at, text_kind_at, named_at, text_or_name_at, leaf_at, sequence_at, set_at, choice_at, plain_at, type_text_at, starts_type, deep_kind, type_at, outer_type_at}
 use Rattle.operation_notation.specs.ReadingModules.{flag_at, flag_2_at, flag_or_at, passed_flag_at, use_at, maybe_use_at, names_at, named_list_at, priority_at, passed_priority_at, invoke_priority_at, local_at, global_at, code_value_at, code_at, maybe_code_at, signature_at, manner_at, operation_at, error_at, typed_at, opens_at, operation_body_at, error_body_at, body_at, valued_at, assignment_at, assignments_at, class_kind, imported_at, listed_imports_at, maybe_oid_at, imports_at, maybe_imports_at, tagging_at, heading_at, module_at, ended_at, whole_at}
-use Rattle.operation_notation.proofs.Outermost.{Module}
-use Rattle.operation_notation.specs.Tree.{TypeTree, type_tree}
+use Rattle.operation_notation.specs.GrammarTypes.{Extent}
+use Rattle.operation_notation.specs.GrammarModules.{name_of, Module}
+use Rattle.operation_notation.specs.Tree.{TypeTree, type_tree, named}
 use Rattle.notation_tokens.specs.declared.faults.NotationKind.{NotationKind}
 use Rattle.notation_tokens.specs.declared.faults.NotationKind.TheVariants.{Unsupported}
 use Rattle.notation_tokens.specs.declared.token.Located.{Located}
@@ -138,19 +139,23 @@ kind_word_far : (x : List Lexeme) (t : Lexeme) (u v : List Lexeme) → is_some (
 kind_word_far [] t u v = refl
 kind_word_far (s ∷ x) t u v = refl
 
-l_named : (name : Located) → Local (named_at name)
-l_named name = lpick (codes "{") (refuse_by (λ ts. Unsupported) (λ x t u v l. refl)) (local_give _)
+l_brace : (wide : Bool) (name : Located) → Local (λ ts. if wide then (word_at (codes "{") >>= λ _. give (named name)) ts else refuse_as Unsupported ts)
+l_brace true name = l_stands (codes "{") (named name)
+l_brace false name = refuse_by (λ ts. Unsupported) (λ x t u v l. refl)
 
-l_text_or_name : Local text_or_name_at
+l_named : (ext : Extent) (name : Located) → Local (named_at ext name)
+l_named ext name = lpick (codes "{") (l_brace ext.wide name) (local_give (named name))
+
+l_text_or_name : (ext : Extent) → Local (text_or_name_at ext)
 unfolding text_or_name_at
-l_text_or_name = local_choice (λ ts. is_some (text_kind ts)) _ _ (λ x t u v l. kind_word_far x t u v) (lthen l_text_kind (λ k. local_give _)) (lthen l_type_name l_named)
+l_text_or_name ext = local_choice (λ ts. is_some (text_kind ts)) _ _ (λ x t u v l. kind_word_far x t u v) (lthen l_text_kind (λ k. local_give _)) (lthen l_type_name (l_named ext))
 
-l_leaf : Local leaf_at
+l_leaf : (ext : Extent) → Local (leaf_at ext)
 unfolding leaf_at
-l_leaf = lpick (codes "BOOLEAN") (l_stands (codes "BOOLEAN") _) (lpick (codes "NULL") (l_stands (codes "NULL") _) (lpick (codes "INTEGER") l_integer (lpick (codes "ENUMERATED") (lthen (lword (codes "ENUMERATED")) (λ _. lthen l_items (λ items. local_give _)))
-    (lpick (codes "OCTET") l_octets (lpick (codes "BIT") (lthen (lword (codes "BIT")) (λ _. l_stands (codes "STRING") _)) (lpick (codes "OBJECT") (lthen (lword (codes "OBJECT")) (λ _. l_stands (codes "IDENTIFIER") _)) l_text_or_name))))))
+l_leaf ext = lpick (codes "BOOLEAN") (l_stands (codes "BOOLEAN") _) (lpick (codes "NULL") (l_stands (codes "NULL") _) (lpick (codes "INTEGER") l_integer (lpick (codes "ENUMERATED") (lthen (lword (codes "ENUMERATED")) (λ _. lthen l_items (λ items. local_give _)))
+    (lpick (codes "OCTET") l_octets (lpick (codes "BIT") (lthen (lword (codes "BIT")) (λ _. l_stands (codes "STRING") _)) (lpick (codes "OBJECT") (lthen (lword (codes "OBJECT")) (λ _. l_stands (codes "IDENTIFIER") _)) (l_text_or_name ext)))))))
 
-module _ (inner : List Lexeme → Read TypeTree) (li : Local inner) where
+module _ (ext : Extent) (inner : List Lexeme → Read TypeTree) (li : Local inner) where
   l_part : (may : Bool) → Local (part_at may inner)
   unfolding part_at
   l_part may = lthen l_value_name (λ name. lthen li (λ of. lthen (l_optional may) (λ optional. local_give _)))
@@ -175,26 +180,27 @@ module _ (inner : List Lexeme → Read TypeTree) (li : Local inner) where
   unfolding choice_at
   l_choice = lthen (lword (codes "CHOICE")) (λ _. lthen l_alternatives (λ parts. local_give _))
 
-  l_plain : Local (plain_at inner)
+  l_plain : Local (plain_at ext inner)
   unfolding plain_at
-  l_plain = lpick (codes "SEQUENCE") l_sequence (lpick (codes "SET") l_set (lpick (codes "CHOICE") l_choice l_leaf))
+  l_plain = lpick (codes "SEQUENCE") l_sequence (lpick (codes "SET") l_set (lpick (codes "CHOICE") l_choice (l_leaf ext)))
 
-  l_type_text : Local (type_text_at inner)
+  l_type_text : Local (type_text_at ext inner)
   unfolding type_text_at
   l_type_text = lthen local_here (λ at. lthen (lmaybe (codes "[") l_tag) (λ tag. lthen l_plain (λ plain. local_give (type_tree at.line at.column tag plain))))
 
 deep_far : (x : List Lexeme) (t : Lexeme) (u v : List Lexeme) → Alike t u v → deep_kind (x ++ t ∷ u) ≡ deep_kind (x ++ t ∷ v)
-deep_far [] t u v l = refl
-deep_far (s ∷ x) t u v l = refl
+unfolding deep_kind
+deep_far [] t u v l = ap (λ (k : NotationKind). if starts_type (t ∷ []) then Unsupported else k) (kind_local [] t u v l)
+deep_far (s ∷ x) t u v l = ap (λ (k : NotationKind). if starts_type (s ∷ []) then Unsupported else k) (kind_local (s ∷ x) t u v l)
 
-l_type : (levels : ℕ) → Local (type_at levels)
+l_type : (ext : Extent) (levels : ℕ) → Local (type_at ext levels)
 unfolding type_at
-l_type zero = refuse_by deep_kind deep_far
-l_type (suc n) = l_type_text (type_at n) (l_type n)
+l_type ext zero = refuse_by deep_kind deep_far
+l_type ext (suc n) = l_type_text ext (type_at ext n) (l_type ext n)
 
-l_outer : Local outer_type_at
+l_outer : (ext : Extent) → Local (outer_type_at ext)
 unfolding outer_type_at
-l_outer = l_type 256
+l_outer ext = l_type ext ext.levels
 
 -- ---- bodies
 
@@ -214,13 +220,13 @@ l_passed_flag : (w : List ℕ) → Local (passed_flag_at w)
 unfolding passed_flag_at
 l_passed_flag w = lmaybe w (l_flag w)
 
-l_use : (w : List ℕ) → Local (use_at w)
+l_use : (ext : Extent) (w : List ℕ) → Local (use_at ext w)
 unfolding use_at
-l_use w = lthen (lword w) (λ at. lthen l_outer (λ of. lthen (lmaybe (codes "OPTIONAL") (l_flag (codes "OPTIONAL"))) (λ o. local_give (record { line = at.line; column = at.column; of = of; optional = unwrap_or o false }))))
+l_use ext w = lthen (lword w) (λ at. lthen (l_outer ext) (λ of. lthen (lmaybe (codes "OPTIONAL") (l_flag (codes "OPTIONAL"))) (λ o. local_give (record { line = at.line; column = at.column; of = of; optional = unwrap_or o false }))))
 
-l_maybe_use : (w : List ℕ) → Local (maybe_use_at w)
+l_maybe_use : (ext : Extent) (w : List ℕ) → Local (maybe_use_at ext w)
 unfolding maybe_use_at
-l_maybe_use w = lmaybe w (l_use w)
+l_maybe_use ext w = lmaybe w (l_use ext w)
 
 l_names : Local names_at
 unfolding names_at
@@ -262,85 +268,89 @@ l_maybe_code : Local maybe_code_at
 unfolding maybe_code_at
 l_maybe_code = lmaybe (codes "CODE") l_code
 
-l_signature : Local signature_at
+l_signature : (ext : Extent) → Local (signature_at ext)
 unfolding signature_at
-l_signature = lthen (l_maybe_use (codes "ARGUMENT")) (λ a. lthen (l_maybe_use (codes "RESULT")) (λ r. lthen (l_flag_or (codes "RETURN") (codes "RESULT")) (λ f. local_give _)))
+l_signature ext = lthen (l_maybe_use ext (codes "ARGUMENT")) (λ a. lthen (l_maybe_use ext (codes "RESULT")) (λ r. lthen (l_flag_or (codes "RETURN") (codes "RESULT")) (λ f. local_give _)))
 
 l_manner : Local manner_at
 unfolding manner_at
 l_manner = lthen (l_passed_flag (codes "SYNCHRONOUS")) (λ _. lthen (l_passed_flag (codes "IDEMPOTENT")) (λ _. lthen (l_flag_or (codes "ALWAYS") (codes "RESPONDS")) (λ always. lthen l_invoke (λ _. lthen (l_passed_priority (codes "RESULT-PRIORITY")) (λ _. local_give always)))))
 
-l_operation : Local operation_at
+l_operation : (ext : Extent) → Local (operation_at ext)
 unfolding operation_at
-l_operation = lthen l_signature (λ s. lthen (l_named_list (codes "ERRORS")) (λ e. lthen (l_named_list (codes "LINKED")) (λ k. lthen l_manner (λ a. lthen l_maybe_code (λ c. local_give (record { argument = s.argument; result = s.result; returns = s.returns; always = a; errors = e; linked = k; code = c }))))))
+l_operation ext = lthen (l_signature ext) (λ s. lthen (l_named_list (codes "ERRORS")) (λ e. lthen (l_named_list (codes "LINKED")) (λ k. lthen l_manner (λ a. lthen l_maybe_code (λ c. local_give (record { argument = s.argument; result = s.result; returns = s.returns; always = a; errors = e; linked = k; code = c }))))))
 
-l_error : Local error_at
+l_error : (ext : Extent) → Local (error_at ext)
 unfolding error_at
-l_error = lthen (l_maybe_use (codes "PARAMETER")) (λ p. lthen (l_passed_priority (codes "PRIORITY")) (λ _. lthen l_maybe_code (λ c. local_give _)))
+l_error ext = lthen (l_maybe_use ext (codes "PARAMETER")) (λ p. lthen (l_passed_priority (codes "PRIORITY")) (λ _. lthen l_maybe_code (λ c. local_give _)))
 
 -- ---- assignments and modules
 
-l_typed : Local typed_at
+l_typed : (ext : Extent) → Local (typed_at ext)
 unfolding typed_at
-l_typed = lthen l_type_name (λ name. lthen (lword (codes "::=")) (λ _. lthen l_outer (λ of. local_give _)))
+l_typed ext = lthen l_type_name (λ name. lthen (lword (codes "::=")) (λ _. lthen (l_outer ext) (λ of. local_give _)))
 
 l_opens : (w : List ℕ) → Local (opens_at w)
 unfolding opens_at
 l_opens w = lbehind w (lbehind (codes "::=") (lword (codes "{")))
 
-l_operation_body : Local operation_body_at
+l_operation_body : (ext : Extent) → Local (operation_body_at ext)
 unfolding operation_body_at
-l_operation_body = lthen (l_opens (codes "OPERATION")) (λ _. lthen l_operation (λ o. lthen (lword (codes "}")) (λ _. local_give _)))
+l_operation_body ext = lthen (l_opens (codes "OPERATION")) (λ _. lthen (l_operation ext) (λ o. lthen (lword (codes "}")) (λ _. local_give _)))
 
-l_error_body : Local error_body_at
+l_error_body : (ext : Extent) → Local (error_body_at ext)
 unfolding error_body_at
-l_error_body = lthen (l_opens (codes "ERROR")) (λ _. lthen l_error (λ o. lthen (lword (codes "}")) (λ _. local_give _)))
+l_error_body ext = lthen (l_opens (codes "ERROR")) (λ _. lthen (l_error ext) (λ o. lthen (lword (codes "}")) (λ _. local_give _)))
 
-l_body : Local body_at
+l_body : (ext : Extent) → Local (body_at ext)
 unfolding body_at
-l_body = lpick (codes "OPERATION") l_operation_body l_error_body
+l_body ext = lpick (codes "OPERATION") (l_operation_body ext) (l_error_body ext)
 
-l_valued : Local valued_at
+l_valued : (ext : Extent) → Local (valued_at ext)
 unfolding valued_at
-l_valued = lthen l_value_name (λ name. lthen l_body (λ body. local_give _))
+l_valued ext = lthen l_value_name (λ name. lthen (l_body ext) (λ body. local_give _))
 
-l_assignment : Local assignment_at
+l_assignment : (ext : Extent) → Local (assignment_at ext)
 unfolding assignment_at
-l_assignment = local_choice starts_name _ _ (λ x t u v l. name_far x t u v) l_valued l_typed
+l_assignment ext = local_choice starts_name _ _ (λ x t u v l. name_far x t u v) (l_valued ext) (l_typed ext)
 
-assignment_takes : Takes assignment_at
-assignment_takes ts a rest e =
-    let x = law_assign.found ts a rest e in
-    omega (arith, ap length x.parts, length-append x.text rest, headed_takes assigned x.text (starts_assign x.text a x.spelled))
+assignment_takes : (ext : Extent) → Takes (assignment_at ext)
+assignment_takes ext ts a rest e =
+    let x = (law_assign ext).found ts a rest e in
+    omega (arith, ap length x.parts, length-append x.text rest, headed_takes assigned x.text (starts_assign ext x.text a x.spelled))
 
-l_assignments : Local assignments_at
+l_assignments : (ext : Extent) → Local (assignments_at ext)
 unfolding assignments_at
-l_assignments = local_all (goes_on (codes "END")) assignment_at (λ x t u v l. goes_on_far (codes "END") x t u v) refl assignment_takes l_assignment
+l_assignments ext = local_all (goes_on (codes "END")) (assignment_at ext) (λ x t u v l. goes_on_far (codes "END") x t u v) refl (assignment_takes ext) (l_assignment ext)
 
 class_far : (x : List Lexeme) (t : Lexeme) (u v : List Lexeme) → Alike t u v → class_kind (x ++ t ∷ u) ≡ class_kind (x ++ t ∷ v)
 unfolding class_kind
 class_far [] t u v l = ap (λ (k : NotationKind). if is_type_name t.kind t.text || is_value_name t.kind t.text then Unsupported else k) (kind_local [] t u v l)
 class_far (s ∷ x) t u v l = ap (λ (k : NotationKind). if is_type_name s.kind s.text || is_value_name s.kind s.text then Unsupported else k) (kind_local (s ∷ x) t u v l)
 
-l_imported : Local imported_at
-unfolding imported_at
-l_imported = lpick (codes "OPERATION") (lword (codes "OPERATION")) (lpick (codes "ERROR") (lword (codes "ERROR")) (refuse_by class_kind class_far))
+l_other : (wide : Bool) → Local (λ ts. if wide then token_at name_of ts else refuse_as (class_kind ts) ts)
+l_other true = local_one name_of
+l_other false = refuse_by class_kind class_far
 
-l_listed_imports : Local listed_imports_at
+l_imported : (ext : Extent) → Local (imported_at ext)
+unfolding imported_at
+l_imported ext = lpick (codes "OPERATION") (lword (codes "OPERATION")) (lpick (codes "ERROR") (lword (codes "ERROR")) (l_other ext.wide))
+
+l_listed_imports : (ext : Extent) → Local (listed_imports_at ext)
 unfolding listed_imports_at
-l_listed_imports = lthen l_imported (λ first. lthen (lmore (codes ",") l_imported) (λ others. local_give first))
+l_listed_imports ext = lthen (l_imported ext) (λ first. lthen (lmore (codes ",") (l_imported ext)) (λ others. local_give first))
 
 l_maybe_oid : Local maybe_oid_at
 unfolding maybe_oid_at
 l_maybe_oid = lmaybe (codes "{") l_oid
 
-l_imports : Local imports_at
+l_imports : (ext : Extent) → Local (imports_at ext)
 unfolding imports_at
-l_imports = lthen (lword (codes "IMPORTS")) (λ _. lthen l_listed_imports (λ _. lthen (lword (codes "FROM")) (λ _. lthen l_type_name (λ _. lthen l_maybe_oid (λ _. lword (codes ";"))))))
+l_imports ext = lthen (lword (codes "IMPORTS")) (λ _. lthen (l_listed_imports ext) (λ _. lthen (lword (codes "FROM")) (λ _. lthen l_type_name (λ _. lthen l_maybe_oid (λ _. lword (codes ";"))))))
 
-l_maybe_imports : Local maybe_imports_at
+l_maybe_imports : (ext : Extent) → Local (maybe_imports_at ext)
 unfolding maybe_imports_at
-l_maybe_imports = lmaybe (codes "IMPORTS") l_imports
+l_maybe_imports ext = lmaybe (codes "IMPORTS") (l_imports ext)
 
 l_tags : (w : List ℕ) (b : Bool) → Local (word_at w >>= λ _. word_at (codes "TAGS") >>= λ _. give b)
 l_tags w b = lthen (lword w) (λ _. lthen (lword (codes "TAGS")) (λ _. local_give b))
@@ -353,9 +363,9 @@ l_heading : Local heading_at
 unfolding heading_at
 l_heading = lthen l_type_name (λ name. lthen l_oid (λ oid. lthen (lword (codes "DEFINITIONS")) (λ _. lthen l_tagging (λ implicit. lthen (lword (codes "::=")) (λ _. local_give _)))))
 
-pub l_module : Local module_at
+pub l_module : (ext : Extent) → Local (module_at ext)
 unfolding module_at
-l_module = lthen l_heading (λ heading. lthen (lword (codes "BEGIN")) (λ _. lthen l_maybe_imports (λ _. lthen l_assignments (λ assignments. lthen (lword (codes "END")) (λ _. local_give (record { name = heading.name; name_oid = heading.name_oid; implicit = heading.implicit; assignments = assignments }))))))
+l_module ext = lthen l_heading (λ heading. lthen (lword (codes "BEGIN")) (λ _. lthen (l_maybe_imports ext) (λ _. lthen (l_assignments ext) (λ assignments. lthen (lword (codes "END")) (λ _. local_give (record { name = heading.name; name_oid = heading.name_oid; implicit = heading.implicit; assignments = assignments }))))))
 
 -- ---- no module goes on from a fault
 
@@ -378,15 +388,15 @@ ended_err found (s ∷ x) y t u v k l e = (local_refuse {A = ModuleText}).err (s
 l_ended : (found : ModuleText) → Local (ended_at found)
 l_ended found = record { ok_front = ended_ok_front found; err_front = ended_err_front found; ok = ended_ok found; err = ended_err found }
 
-l_whole : Local whole_at
+l_whole : (ext : Extent) → Local (whole_at ext)
 unfolding whole_at
-l_whole = lthen l_module l_ended
+l_whole ext = lthen (l_module ext) l_ended
 
 -- no module begins with the tokens up to a faulty one, with it
-pub none_goes_on : (x : List Lexeme) (t : Lexeme) (u v : List Lexeme) (kind : NotationKind) (m : ModuleText) → Alike t u v → whole_at (x ++ t ∷ u) ≡ Err (fault (t ∷ u) kind) → Module (x ++ t ∷ v) m → ⊥
-none_goes_on x t u v kind m l e d =
-    let stopped = l_whole.err x [] t u v kind l e in
-    let read = whole_only (x ++ t ∷ v) m d in
+pub none_goes_on : (ext : Extent) (x : List Lexeme) (t : Lexeme) (u v : List Lexeme) (kind : NotationKind) (m : ModuleText) → Alike t u v → whole_at ext (x ++ t ∷ u) ≡ Err (fault (t ∷ u) kind) → Module ext (x ++ t ∷ v) m → ⊥
+none_goes_on ext x t u v kind m l e d =
+    let stopped = (l_whole ext).err x [] t u v kind l e in
+    let read = whole_only ext (x ++ t ∷ v) m d in
     let answer : Read ModuleText = Ok (m, []) in
     let clash : answer ≡ Err (fault (t ∷ v) kind) = sym read ∙ stopped in
     absurd cc

@@ -7,7 +7,7 @@ use Rattle.notation_tokens.specs.Forms.{has_form}
 use Rattle.notation_tokens.specs.Lexeme.{Lexeme, same, IsSpan, lexemes}
 use Rattle.notation_tokens.specs.Words.{is_type_name, is_value_name, is_kind_word, is_quoted, is_unsupported, begins_upper, begins_lower, type_name_of, value_name_of, text_kind_of, text_kind_word, located, number_of, most_32}
 use Rattle.operation_notation.specs.Grammar.{One, Then, Nothing, Either, Maybe, Many, Behind, Listed, Placed}
-use Rattle.operation_notation.specs.GrammarTypes.{Item, Items, Class, Tag, Optional, Part, Parts, Alternatives, Leaf, Plain, TypeBehind, Type_of}
+use Rattle.operation_notation.specs.GrammarTypes.{Item, Items, Class, Tag, Optional, Part, Parts, Alternatives, narrow, Leaf, Plain, TypeBehind, Type_of}
 use Rattle.operation_notation.specs.GrammarModules.{NamedList, Code, HeadingSpelled}
 use Rattle.operation_notation.proofs.Outermost.{Use, SignatureSpelled, Operation, Error, OperationBody, ErrorBody, Assign, Module, OuterType}
 use Rattle.operation_notation.specs.Tree.{TypeTree}
@@ -172,7 +172,7 @@ kind_low text k e = go (same text (codes "UTF8String")) (same text (codes "IA5St
     go false false false false true h = let i : 4 ≡ k = cc in omega arith
     go false false false false false h = absurd cc
 
-well_leaf : Well Leaf IsWellPlain
+well_leaf : Well (Leaf narrow) IsWellPlain
 well_leaf =
     well_either (well_skip (λ _. well_nothing IsWellPlain tt))
     (well_either (well_skip (λ _. well_nothing IsWellPlain tt))
@@ -182,7 +182,7 @@ well_leaf =
     (well_either (well_skip (λ _. well_skip (λ _. well_nothing IsWellPlain tt)))
     (well_either (well_skip (λ _. well_skip (λ _. well_nothing IsWellPlain tt)))
     (well_either (well_bind (λ k. k ≤ 4) (well_one text_kind_of (λ k. k ≤ 4) (λ t k g e. kind_low t.text k e)) (λ kind k. well_nothing IsWellPlain k))
-    (well_bind IsTypeName well_type_name (λ name n. well_nothing IsWellPlain n)))))))))
+    (well_bind IsTypeName well_type_name (λ name n. well_either (λ ts a f d. absurd d) (well_nothing IsWellPlain n))))))))))
 
 module _ (Inner : List Lexeme → TypeTree → Type 0) (inner : Well Inner IsWellType) where
   well_part : (may : Bool) → Well (Part may Inner) (WellPart may)
@@ -196,19 +196,19 @@ module _ (Inner : List Lexeme → TypeTree → Type 0) (inner : Well Inner IsWel
   well_alternatives : Well (Alternatives Inner) (SomeAll (WellPart false))
   well_alternatives = well_skip (λ _. well_bind (SomeAll (WellPart false)) (well_listed (codes ",") (Part false Inner) (WellPart false) (well_part false)) (λ parts p. well_skip (λ _. well_nothing (SomeAll (WellPart false)) p)))
 
-  well_plain : Well (Plain Inner) IsWellPlain
+  well_plain : Well (Plain narrow Inner) IsWellPlain
   well_plain =
       well_either (well_skip (λ _. well_either (well_skip (λ _. well_bind IsWellType inner (λ item t. well_nothing IsWellPlain t))) (well_bind (AllByRecursion (WellPart true)) well_parts (λ parts p. well_nothing IsWellPlain (parts_well true parts p)))))
       (well_either (well_skip (λ _. well_bind (AllByRecursion (WellPart true)) well_parts (λ parts p. well_nothing IsWellPlain (parts_well true parts p))))
       (well_either (well_skip (λ _. well_bind (SomeAll (WellPart false)) well_alternatives (λ parts p. well_nothing IsWellPlain (has_part parts p.0, parts_well false parts p.1)))) well_leaf))
 
-  well_type_behind : (at : Place) → Well (TypeBehind Inner at) IsWellType
+  well_type_behind : (at : Place) → Well (TypeBehind narrow Inner at) IsWellType
   well_type_behind at = well_bind (λ o. IfSome o IsTag) (well_maybe well_tag) (λ tag g. well_bind IsWellPlain well_plain (λ plain p. well_nothing IsWellType (g, p)))
 
-well_type : (levels : ℕ) → Well (Type_of levels) IsWellType
+well_type : (levels : ℕ) → Well (Type_of narrow levels) IsWellType
 unfolding Type_of
 well_type zero ts t f d = absurd d
-well_type (suc n) ts t f d = well_placed (well_type_behind (Type_of n) (well_type n)) ts t f d
+well_type (suc n) ts t f d = well_placed (well_type_behind (Type_of narrow n) (well_type n)) ts t f d
 
 well_outer_type : Well OuterType IsWellType
 well_outer_type = well_type 256

@@ -1,11 +1,11 @@
 -- What a text's first fault is, beside its grammar: what stands before it begins a module, and with it no module begins so.
-use Rattle.std.specs.Prelude.{◌≡◌, ◌<◌, ◌≤◌, ◌+◌, ◌⊎◌, ℕ, true, List, [], ◌∷◌, ◌++◌, length, unwrap_or}
+use Rattle.std.specs.Prelude.{◌≡◌, ◌<◌, ◌≤◌, ◌⊎◌, ℕ, true, List, [], ◌∷◌, ◌++◌, length, unwrap_or}
 use Rattle.std.specs.List.{AllByRecursion}
 use Rattle.notation_tokens.specs.Forms.{has_form}
 use Rattle.notation_tokens.specs.Lexeme.{Lexeme, lexemes}
 use Rattle.notation_tokens.specs.Lexing.{most_octets, lexed_of}
 use Rattle.operation_notation.specs.Reading.{kind_at, is_set_of}
-use Rattle.operation_notation.specs.GrammarTypes.{most_levels}
+use Rattle.operation_notation.specs.GrammarTypes.{Extent, narrow, deeper, wide}
 use Rattle.operation_notation.specs.GrammarModules.{Module}
 use Rattle.notation_tokens.specs.declared.faults.NotationFault.{NotationFault}
 use Rattle.notation_tokens.specs.declared.faults.NotationFault.TheVariants as faults
@@ -17,18 +17,29 @@ use Rattle.operation_notation.specs.declared.module.ModuleText.{ModuleText}
 abbrev pub IsFormed : Lexeme → Type 0
 IsFormed t = has_form t.kind t.text ≡ true
 
--- these tokens go on to a module in which types stand in one another at most so many levels deep
-pub record Begins (levels : ℕ) (front : List Lexeme) : Type 0 where
+-- these tokens go on to a module
+pub record Begins (ext : Extent) (front : List Lexeme) : Type 0 where
   pub back : List Lexeme
   pub whole : ModuleText
   pub formed : AllByRecursion IsFormed back
-  pub spelled : Module levels (front ++ back) whole
+  pub spelled : Module ext (front ++ back) whole
 
--- the kind of fault at the first of these tokens, or at the end: where what stands there is unsupported wherever it stands
--- (`kind_at`) the fault is so; where it isn't, it may be unsupported where it stands
-abbrev pub IsKind : List Lexeme → NotationKind → Type 0
-IsKind [] kind = kind ≡ UnexpectedToken
-IsKind (t ∷ ts) kind = (kind ≡ kind_at (t ∷ ts)) ⊎ (kind ≡ Unsupported)
+-- these tokens and one more go on to a module, in which OF stands behind that one exactly where it does now
+pub record GoesOn (ext : Extent) (front : List Lexeme) (token : Lexeme) (behind : List Lexeme) : Type 0 where
+  pub others : List Lexeme
+  pub whole : ModuleText
+  pub formed : AllByRecursion IsFormed others
+  pub alike : is_set_of (token ∷ behind) ≡ is_set_of (token ∷ others)
+  pub spelled : Module ext (front ++ token ∷ others) whole
+
+-- What isn't supported: what is so wherever it stands (`kind_at`: a word or sign of the list, and SET with OF behind it), and that with
+-- which the wide grammar goes on: a brace behind a Name, an import of another name, and the first token of a type one level too deep.
+abbrev pub IsUnsupported : List Lexeme → Lexeme → List Lexeme → Type 0
+IsUnsupported front token behind = (kind_at (token ∷ behind) ≡ Unsupported) ⊎ GoesOn wide front token behind
+
+-- the kind of a fault at a token
+abbrev pub IsKind : List Lexeme → Lexeme → List Lexeme → NotationKind → Type 0
+IsKind front token behind kind = ((kind ≡ Unsupported) × IsUnsupported front token behind) ⊎ ((kind ≡ UnexpectedToken) × (IsUnsupported front token behind → ⊥))
 
 -- more octets than a text may have
 pub record TooLong (text : List ℕ) (line column : ℕ) (kind : NotationKind) : Type 0 where
@@ -45,17 +56,17 @@ pub record TokenFault (text : List ℕ) (line column : ℕ) (kind : NotationKind
   pub token : Lexeme
   pub behind : List Lexeme
   pub whole : lexemes text (lexed_of text).tokens ≡ front ++ token ∷ behind
-  pub start : Begins (most_levels + 1) front
-  pub past : (others : List Lexeme) (m : ModuleText) → is_set_of (token ∷ behind) ≡ is_set_of (token ∷ others) → Module most_levels (front ++ token ∷ others) m → ⊥
+  pub start : Begins deeper front
+  pub past : (others : List Lexeme) (m : ModuleText) → is_set_of (token ∷ behind) ≡ is_set_of (token ∷ others) → Module narrow (front ++ token ∷ others) m → ⊥
   pub at_line : token.line ≡ line
   pub at_column : token.column ≡ column
-  pub is : IsKind (token ∷ behind) kind
+  pub is : IsKind front token behind kind
 
 -- Tokens that end too early, or cutting that stopped behind them: all of them begin a module. The fault is what cutting stopped for,
 -- or else the text's end.
 pub record EndFault (text : List ℕ) (line column : ℕ) (kind : NotationKind) : Type 0 where
   pub fits : length text ≤ most_octets
-  pub start : Begins (most_levels + 1) (lexemes text (lexed_of text).tokens)
+  pub start : Begins deeper (lexemes text (lexed_of text).tokens)
   pub at_line : (lexed_of text).place.line ≡ line
   pub at_column : (lexed_of text).place.column ≡ column
   pub is : kind ≡ unwrap_or (lexed_of text).stop UnexpectedToken
