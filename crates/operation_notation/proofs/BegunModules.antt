@@ -15,8 +15,9 @@ use Rattle.notation_tokens.specs.declared.faults.NotationKind.TheVariants.{Unsup
 use Rattle.operation_notation.specs.declared.module.ModuleText.{ModuleText}
 use Rattle.operation_notation.proofs.Starts.{type_named, value_named}
 use Rattle.operation_notation.proofs.ModuleLaws.{FirstImported, fore_to, excludes_named}
+use Rattle.operation_notation.proofs.Clear.{not_set}
 use Rattle.operation_notation.proofs.Begun.{Goes, KindOf, Begun, begun_refuse, begun_give, bthen, bbehind, bwiden, alone, bsame, bpick, bmaybe, ball}
-use Rattle.operation_notation.proofs.BegunRules.{word, sign, not_set, b_type_name, b_value_name, b_flag, b_flag_or, b_named_list, b_passed_priority, b_manner, b_maybe_code, b_opens, b_maybe_oid, b_heading, b_ended}
+use Rattle.operation_notation.proofs.BegunRules.{word, sign, b_type_name, b_value_name, b_flag, b_flag_or, b_named_list, b_passed_priority, b_manner, b_maybe_code, b_opens, b_maybe_oid, b_heading, b_ended}
 
 -- another name behind IMPORTS or a comma
 other_goes : (wide : Bool) (t : Lexeme) (u : List Lexeme) → type_named t || value_named t ≡ true → wide ≡ true → Goes (Where wide (One name_of)) [] t u

@@ -24,6 +24,7 @@ use Rattle.operation_notation.proofs.Starts.{Starts, starts_then, among, or_fals
 use Rattle.operation_notation.proofs.Local.{fault}
 use Rattle.operation_notation.proofs.TypeLaws.{any_token, starts_any, plain_words}
 use Rattle.operation_notation.proofs.Chains.{or_named, same_excludes}
+use Rattle.operation_notation.proofs.Clear.{not_set}
 use Rattle.operation_notation.proofs.OidLaws.{Bracketed, ArcUpTo, NamedRoot, RootUpTo, FewArcs, ArcsUpTo, arcs_to, alone_found, root_found, root_step, root_plain, root_none, named_root_spelled}
 use Rattle.operation_notation.proofs.Begun.{Goes, KindOf, Halts, Begun, now, kind_map, kind_is, refused_at, begun_refuse, begun_one, begun_word, begun_give, bthen, bbehind, bwiden, bsame, bpick, bmaybe, begun_counted, blisted, bplaced}
 
@@ -211,10 +212,6 @@ b_octets = bthen (word (codes "OCTET") refl) (λ _. bthen (word (codes "STRING")
 b_text : {s : Bool} → Begun s Text (text_kind_at >>= λ kind. give (text kind))
 unfolding text_kind_at
 b_text = bthen (begun_one text_kind_of Word (codes "IA5String") 1 refl null_kind) (λ kind. begun_give (text kind))
-
--- a token that isn't SET
-pub not_set : (t : Lexeme) (u v : List Lexeme) → among (codes "SET" ∷ []) t ≡ false → is_set_of (t ∷ u) ≡ is_set_of (t ∷ v)
-not_set t u v e = let no : same t.text (codes "SET") ≡ false = sym (or_false (same t.text (codes "SET"))) ∙ e in rw no refl
 
 word_is : (w : List ℕ) (t : Lexeme) → same t.text w ≡ true → word_of w t ≡ Some (place t)
 unfolding word_of

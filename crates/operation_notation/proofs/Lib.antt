@@ -9,6 +9,7 @@ pub mod OidLaws
 pub mod ModuleLaws
 pub mod Well
 pub mod Rises
+pub mod Clear
 pub mod Local
 pub mod LocalRules
 pub mod Begun

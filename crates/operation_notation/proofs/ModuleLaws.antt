@@ -334,7 +334,7 @@ law_other : (wide : Bool) → Law (Where wide (One name_of)) (λ ts. if wide the
 law_other true = law_one name_of
 law_other false = record { found = λ ts a rest e. absurd cc; only = λ text a rest d st. absurd d }
 
-name_is : (t : Lexeme) (a : Place) → name_of t ≡ Some a → type_named t || value_named t ≡ true
+pub name_is : (t : Lexeme) (a : Place) → name_of t ≡ Some a → type_named t || value_named t ≡ true
 name_is t a e = go (type_named t || value_named t) refl e
   where
     go : (b : Bool) → type_named t || value_named t ≡ b → (if b then Some (place t) else None) ≡ Some a → b ≡ true

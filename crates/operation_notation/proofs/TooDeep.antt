@@ -20,7 +20,8 @@ use Rattle.operation_notation.proofs.Starts.{among, among_all, type_named, or_tr
 use Rattle.operation_notation.proofs.Chains.{or_right}
 use Rattle.operation_notation.proofs.TypeLaws.{law_type, starts_type_behind}
 use Rattle.operation_notation.proofs.Begun.{AreFillers, Filled, Goes, KindOf, Begun, begun_refuse, word_passes}
-use Rattle.operation_notation.proofs.BegunRules.{not_set, b_type_text}
+use Rattle.operation_notation.proofs.BegunRules.{b_type_text}
+use Rattle.operation_notation.proofs.Clear.{not_set}
 use Rattle.operation_notation.proofs.BegunModules.{b_whole}
 
 -- ---- a text for each token with which a type begins

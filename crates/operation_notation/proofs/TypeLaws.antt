@@ -53,7 +53,7 @@ pub starts_any : {A : Type 0} (test : Lexeme → Option A) → Starts (One test)
 unfolding any_token
 starts_any test = starts_one test any_token (λ t a e. refl)
 
-value_name_is : (t : Lexeme) (a : Located) → value_name_of t ≡ Some a → value_named t ≡ true
+pub value_name_is : (t : Lexeme) (a : Located) → value_name_of t ≡ Some a → value_named t ≡ true
 unfolding value_name_of
 value_name_is t a e = go (value_named t) refl e
   where
@@ -64,7 +64,7 @@ value_name_is t a e = go (value_named t) refl e
 pub starts_value_name : Starts (One value_name_of) value_named
 starts_value_name = starts_one value_name_of value_named value_name_is
 
-type_name_is : (t : Lexeme) (a : Located) → type_name_of t ≡ Some a → type_named t ≡ true
+pub type_name_is : (t : Lexeme) (a : Located) → type_name_of t ≡ Some a → type_named t ≡ true
 unfolding type_name_of
 type_name_is t a e = go (type_named t) refl e
   where

@@ -1,5 +1,5 @@
 -- What a text's first fault is, beside its grammar: what stands before it begins a module, and with it no module begins so.
-use Rattle.std.specs.Prelude.{◌≡◌, ◌<◌, ◌≤◌, ◌⊎◌, ℕ, true, List, [], ◌∷◌, ◌++◌, length, unwrap_or}
+use Rattle.std.specs.Prelude.{◌≡◌, ◌<◌, ◌≤◌, ◌⊎◌, ℕ, true, false, List, [], ◌∷◌, ◌++◌, length, unwrap_or}
 use Rattle.std.specs.List.{AllByRecursion}
 use Rattle.notation_tokens.specs.Forms.{has_form}
 use Rattle.notation_tokens.specs.Lexeme.{Lexeme, lexemes}
@@ -23,6 +23,11 @@ pub record Begins (ext : Extent) (front : List Lexeme) : Type 0 where
   pub whole : ModuleText
   pub formed : AllByRecursion IsFormed back
   pub spelled : Module ext (front ++ back) whole
+
+-- no SET with OF behind it begins in these tokens, in front of the rest
+abbrev pub NoSetOf : List Lexeme → List Lexeme → Type 0
+NoSetOf [] rest = Unit {0}
+NoSetOf (t ∷ ts) rest = (is_set_of (t ∷ (ts ++ rest)) ≡ false) × NoSetOf ts rest
 
 -- these tokens and one more go on to a module, in which OF stands behind that one exactly where it does now
 pub record GoesOn (ext : Extent) (front : List Lexeme) (token : Lexeme) (behind : List Lexeme) : Type 0 where
