@@ -8,6 +8,7 @@ use Rattle.notation_tokens.specs.Lexeme.{Lexeme, same, begins}
 use Rattle.notation_tokens.specs.Words.{place, word_of}
 use Rattle.notation_tokens.specs.Lexing.{first_place}
 use Rattle.operation_notation.specs.Reading.{◌>>=◌, give, here, place_of, Read, token_at, refuse_as, kind_at, is_set_of, word_at, many_at, all_at, behind, listed_at}
+use Rattle.operation_notation.specs.Faults.{IsFormed}
 use Rattle.operation_notation.specs.Grammar.{One, Then, Nothing, Either, Maybe, Many, The, Behind, Listed, Placed, StartsAt}
 use Rattle.notation_tokens.specs.declared.token.TokenKind.{TokenKind}
 use Rattle.notation_tokens.specs.declared.token.Place.{Place}
@@ -20,7 +21,7 @@ use Rattle.operation_notation.proofs.Local.{fault, failed, fault_is, after_err, 
 
 -- a token with which a text may be filled up
 pub record IsFiller (t : Lexeme) : Type 0 where
-  pub form : has_form t.kind t.text ≡ true
+  pub form : IsFormed t
   pub at : place t ≡ first_place
 
 abbrev pub AreFillers : List Lexeme → Type 0
@@ -119,7 +120,7 @@ module _ {A : Type 0} (test : Lexeme → Option A) (kind : TokenKind) (text : Li
   filler_token = record { kind = kind; text = text; line = 1; column = 1 }
 
   one_filled : test filler_token ≡ Some a → Filled (One test)
-  one_filled e = record { text = filler_token ∷ []; value = a; filler = (record { form = form; at = refl }, tt); spelled = record { token = filler_token; alone = refl; passes = e } }
+  one_filled e = record { text = filler_token ∷ []; value = a; filler = (record { form = inl form; at = refl }, tt); spelled = record { token = filler_token; alone = refl; passes = e } }
 
   one_halts : {s : Bool} → test filler_token ≡ Some a → (ts rest : List Lexeme) (k : NotationKind) → token_at test ts ≡ Err (fault rest k) → Halts s (One test) ts rest k
   one_halts {s = s} w [] rest k e = refused_at [] rest (kind_at []) k (one_filled w) (kind_is s (One test) []) e

@@ -74,3 +74,8 @@ clears_many test f cf (suc n) = clears_choice test (f >>= λ a. many_at test f n
 
 pub clears_all : {A : Type 0} (test : List Lexeme → Bool) (f : List Lexeme → Read A) → Clears f → Clears (all_at test f)
 clears_all test f cf ts = clears_many test f cf (length ts) ts
+
+-- no SET OF begins at one of the tokens
+pub clear_at : (x : List Lexeme) (t : Lexeme) (y rest : List Lexeme) → NoSetOf (x ++ t ∷ y) rest → is_set_of (t ∷ (y ++ rest)) ≡ false
+clear_at [] t y rest c = c.0
+clear_at (s ∷ x) t y rest c = clear_at x t y rest c.1

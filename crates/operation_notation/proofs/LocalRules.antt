@@ -1,13 +1,13 @@
 -- Each reading looks no further than its fault.
 use Rattle.std.proofs.Common.{codes, ◌≡◌, ℕ, zero, suc, Bool, true, false, List, [], ◌∷◌, ◌++◌, length, Option, Some, None, Ok, Err, refl, sym, ap, ◌∙◌, arith}
-use Rattle.std.specs.Prelude.{◌||◌, is_some, unwrap_or, if◌then◌else◌}
+use Rattle.std.specs.Prelude.{◌||◌, ◌&&◌, is_some, unwrap_or, if◌then◌else◌}
 use Rattle.std.proofs.lemmas.List.{length-append}
 use Rattle.notation_tokens.specs.Lexeme.{Lexeme, same, goes_on}
 use Rattle.notation_tokens.specs.Words.{place, word_of, most_32, most_64, is_type_name, is_value_name, number, number_of, int, int_of, end_word, end_of, bool_word, bool_of, type_name_of, value_name_of, arc_name_of, text_kind_word, text_kind_of}
 use Rattle.operation_notation.specs.Reading.{◌>>=◌, after, give, Read, taken, refuse, refuse_as, is_set_of, token_at, word_at, number_at, number_64_at, int_at, end_at, bool_at, type_name_at, value_name_at}
-use Rattle.operation_notation.specs.ReadingTypes.{starts_name, root_word, text_kind, arc_name_at, bracketed_at, arc_at, alone_at, named_root_at, root_at, most_second, oid_at, range_at, size_at, item_at, items_at, class_at, explicit_at, tag_at, optional_at, part_at, parts_at, alternatives_at, integer_at, octets_at, text_kind_at, named_at, text_or_name_at, leaf_at, sequence_at, set_at, choice_at, plain_at, type_text_at, starts_type, deep_kind, type_at, outer_type_at}
+use Rattle.operation_notation.specs.ReadingTypes.{starts_name, root_word, text_kind, arc_name_at, bracketed_at, arc_at, alone_at, named_root_at, root_at, most_second, oid_at, range_at, size_at, item_at, items_at, class_at, explicit_at, tag_at, optional_at, part_at, parts_at, alternatives_at, integer_at, octets_at, text_kind_at, named_at, text_or_name_at, leaf_at, sequence_at, set_at, choice_at, plain_at, type_text_at, starts_type, deep_kind, starts_mark, type_at, outer_type_at}
 use Rattle.operation_notation.specs.ReadingModules.{flag_at, flag_2_at, flag_or_at, passed_flag_at, use_at, maybe_use_at, names_at, named_list_at, priority_at, passed_priority_at, invoke_priority_at, local_at, global_at, code_value_at, code_at, maybe_code_at, signature_at, manner_at, operation_at, error_at, typed_at, opens_at, operation_body_at, error_body_at, body_at, valued_at, assignment_at, assignments_at, class_kind, imported_at, listed_imports_at, maybe_oid_at, imports_at, maybe_imports_at, tagging_at, heading_at, module_at, ended_at, whole_at}
-use Rattle.operation_notation.specs.GrammarTypes.{Extent}
+use Rattle.operation_notation.specs.GrammarTypes.{Extent, is_empty, mark_of}
 use Rattle.operation_notation.specs.GrammarModules.{name_of, Module}
 use Rattle.operation_notation.specs.Tree.{TypeTree, type_tree, PlainTree, named, set}
 use Rattle.operation_notation.specs.TreeView.{parts_of}
@@ -18,7 +18,7 @@ use Rattle.notation_tokens.specs.declared.token.Located.{Located}
 use Rattle.operation_notation.specs.declared.module.ModuleText.{ModuleText}
 use Rattle.operation_notation.proofs.Starts.{headed_takes, value_named, excludes_type_name, excludes_value_name}
 use Rattle.operation_notation.proofs.Chains.{excludes_text}
-use Rattle.operation_notation.proofs.TypeLaws.{type_name_is, value_name_is}
+use Rattle.operation_notation.proofs.TypeLaws.{type_name_is, value_name_is, mark_is}
 use Rattle.operation_notation.proofs.Clear.{Cut, leftover, Clears, no_cut, join_cut, clears_choice}
 use Rattle.operation_notation.proofs.ModuleLaws.{law_assign, starts_assign, whole_only, assigned, excludes_named, name_is}
 use Rattle.operation_notation.proofs.Local.{Alike, Looks, Local, fault, set_of_local, kind_local, refuse_by, local_refuse, local_give, looks_one, looks_then, looks_choice, Other, local_one, local_choice, local_peek, local_here, goes_on_far, lthen, lpick, lmaybe, lword, lbehind, local_counted, Takes, local_all, llisted, lmore}
@@ -229,9 +229,17 @@ unfolding deep_kind
 deep_far [] t u v l = ap (λ (k : NotationKind). if starts_type (t ∷ []) then Unsupported else k) (kind_local [] t u v l)
 deep_far (s ∷ x) t u v l = ap (λ (k : NotationKind). if starts_type (s ∷ []) then Unsupported else k) (kind_local (s ∷ x) t u v l)
 
+mark_far : (x : List Lexeme) (t : Lexeme) (u v : List Lexeme) → starts_mark (x ++ t ∷ u) ≡ starts_mark (x ++ t ∷ v)
+mark_far [] t u v = refl
+mark_far (s ∷ x) t u v = refl
+
+l_mark : (marks : Bool) → Local (λ ts. if marks && starts_mark ts then token_at mark_of ts else refuse_as (deep_kind ts) ts)
+l_mark true = local_choice starts_mark (token_at mark_of) (λ ts. refuse_as (deep_kind ts) ts) (λ x t u v l. mark_far x t u v) (local_one mark_of (λ t a e. excludes_text is_empty (codes "SET" ∷ []) refl t (mark_is t a e))) (refuse_by deep_kind deep_far)
+l_mark false = refuse_by deep_kind deep_far
+
 l_type : (ext : Extent) (levels : ℕ) → Local (type_at ext levels)
 unfolding type_at
-l_type ext zero = refuse_by deep_kind deep_far
+l_type ext zero = l_mark ext.marked
 l_type ext (suc n) = l_type_text ext (type_at ext n) (l_type ext n)
 
 l_outer : (ext : Extent) → Local (outer_type_at ext)
@@ -420,7 +428,7 @@ ended_err found (s ∷ x) y t u v k l e = (local_refuse {A = ModuleText}).looks.
 l_ended : (found : ModuleText) → Local (ended_at found)
 l_ended found = record { clears = ended_clears found; looks = record { ok = ended_ok found; err = ended_err found } }
 
-l_whole : (ext : Extent) → Local (whole_at ext)
+pub l_whole : (ext : Extent) → Local (whole_at ext)
 unfolding whole_at
 l_whole ext = lthen (l_module ext) l_ended
 

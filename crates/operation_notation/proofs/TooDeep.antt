@@ -8,7 +8,7 @@ use Rattle.notation_tokens.specs.Lexing.{first_place}
 use Rattle.operation_notation.specs.Reading.{Read, refuse_as, kind_at, is_set_of, word_at, number_at, int_at, value_name_at, many_at}
 use Rattle.operation_notation.specs.ReadingTypes.{item_at, items_at, class_at, explicit_at, tag_at, optional_at, part_at, parts_at, alternatives_at, integer_at, octets_at, text_kind_at, text_or_name_at, leaf_at, sequence_at, set_at, choice_at, plain_at, type_text_at, type_words, starts_type, deep_kind, type_at, outer_type_at}
 use Rattle.operation_notation.specs.Grammar.{Placed}
-use Rattle.operation_notation.specs.GrammarTypes.{Extent, narrow, deeper, wide, Null, TypeBehind, Type_of, OuterType}
+use Rattle.operation_notation.specs.GrammarTypes.{Extent, narrow, marked, wide, Null, TypeBehind, Type_of, OuterType}
 use Rattle.operation_notation.specs.GrammarModules.{Module}
 use Rattle.operation_notation.specs.ReadingModules.{whole_at}
 use Rattle.operation_notation.specs.Tree.{TypeTree, type_tree, null, named}
@@ -45,19 +45,19 @@ read_so t back value filler apart e =
 
 sample_tagged : (kind : TokenKind) (line column : ℕ) → Sample (record { kind = kind; text = codes "["; line = line; column = column })
 unfolding same type_at type_text_at plain_at sequence_at set_at choice_at alternatives_at parts_at part_at optional_at leaf_at text_or_name_at integer_at octets_at items_at item_at tag_at class_at explicit_at word_at word_of number_at number int_at int value_name_at value_name_of is_value_name text_kind_at text_kind_word many_at
-sample_tagged kind line column = read_so _ (tok Number (codes "0") ∷ tok Sign (codes "]") ∷ tok Word (codes "NULL") ∷ []) _ (record { form = refl; at = refl }, (record { form = refl; at = refl }, (record { form = refl; at = refl }, tt))) (λ u more e. refl) refl
+sample_tagged kind line column = read_so _ (tok Number (codes "0") ∷ tok Sign (codes "]") ∷ tok Word (codes "NULL") ∷ []) _ (record { form = inl refl; at = refl }, (record { form = inl refl; at = refl }, (record { form = inl refl; at = refl }, tt))) (λ u more e. refl) refl
 
 sample_sequence : (kind : TokenKind) (line column : ℕ) → Sample (record { kind = kind; text = codes "SEQUENCE"; line = line; column = column })
 unfolding same type_at type_text_at plain_at sequence_at set_at choice_at alternatives_at parts_at part_at optional_at leaf_at text_or_name_at integer_at octets_at items_at item_at tag_at class_at explicit_at word_at word_of number_at number int_at int value_name_at value_name_of is_value_name text_kind_at text_kind_word many_at
-sample_sequence kind line column = read_so _ (tok Sign (codes "{") ∷ tok Sign (codes "}") ∷ []) _ (record { form = refl; at = refl }, (record { form = refl; at = refl }, tt)) (λ u more e. refl) refl
+sample_sequence kind line column = read_so _ (tok Sign (codes "{") ∷ tok Sign (codes "}") ∷ []) _ (record { form = inl refl; at = refl }, (record { form = inl refl; at = refl }, tt)) (λ u more e. refl) refl
 
 sample_set : (kind : TokenKind) (line column : ℕ) → Sample (record { kind = kind; text = codes "SET"; line = line; column = column })
 unfolding same type_at type_text_at plain_at sequence_at set_at choice_at alternatives_at parts_at part_at optional_at leaf_at text_or_name_at integer_at octets_at items_at item_at tag_at class_at explicit_at word_at word_of number_at number int_at int value_name_at value_name_of is_value_name text_kind_at text_kind_word many_at
-sample_set kind line column = read_so _ (tok Sign (codes "{") ∷ tok Sign (codes "}") ∷ []) _ (record { form = refl; at = refl }, (record { form = refl; at = refl }, tt)) (λ u more e. refl) refl
+sample_set kind line column = read_so _ (tok Sign (codes "{") ∷ tok Sign (codes "}") ∷ []) _ (record { form = inl refl; at = refl }, (record { form = inl refl; at = refl }, tt)) (λ u more e. refl) refl
 
 sample_choice : (kind : TokenKind) (line column : ℕ) → Sample (record { kind = kind; text = codes "CHOICE"; line = line; column = column })
 unfolding same type_at type_text_at plain_at sequence_at set_at choice_at alternatives_at parts_at part_at optional_at leaf_at text_or_name_at integer_at octets_at items_at item_at tag_at class_at explicit_at word_at word_of number_at number int_at int value_name_at value_name_of is_value_name text_kind_at text_kind_word many_at
-sample_choice kind line column = read_so _ (tok Sign (codes "{") ∷ tok Word (codes "a") ∷ tok Word (codes "NULL") ∷ tok Sign (codes "}") ∷ []) _ (record { form = refl; at = refl }, (record { form = refl; at = refl }, (record { form = refl; at = refl }, (record { form = refl; at = refl }, tt)))) (λ u more e. refl) refl
+sample_choice kind line column = read_so _ (tok Sign (codes "{") ∷ tok Word (codes "a") ∷ tok Word (codes "NULL") ∷ tok Sign (codes "}") ∷ []) _ (record { form = inl refl; at = refl }, (record { form = inl refl; at = refl }, (record { form = inl refl; at = refl }, (record { form = inl refl; at = refl }, tt)))) (λ u more e. refl) refl
 
 sample_boolean : (kind : TokenKind) (line column : ℕ) → Sample (record { kind = kind; text = codes "BOOLEAN"; line = line; column = column })
 unfolding same type_at type_text_at plain_at sequence_at set_at choice_at alternatives_at parts_at part_at optional_at leaf_at text_or_name_at integer_at octets_at items_at item_at tag_at class_at explicit_at word_at word_of number_at number int_at int value_name_at value_name_of is_value_name text_kind_at text_kind_word many_at
@@ -73,19 +73,19 @@ sample_integer kind line column = read_so _ ([]) _ tt (λ u more e. refl) refl
 
 sample_enumerated : (kind : TokenKind) (line column : ℕ) → Sample (record { kind = kind; text = codes "ENUMERATED"; line = line; column = column })
 unfolding same type_at type_text_at plain_at sequence_at set_at choice_at alternatives_at parts_at part_at optional_at leaf_at text_or_name_at integer_at octets_at items_at item_at tag_at class_at explicit_at word_at word_of number_at number int_at int value_name_at value_name_of is_value_name text_kind_at text_kind_word many_at
-sample_enumerated kind line column = read_so _ (tok Sign (codes "{") ∷ tok Word (codes "a") ∷ tok Sign (codes "(") ∷ tok Number (codes "0") ∷ tok Sign (codes ")") ∷ tok Sign (codes "}") ∷ []) _ (record { form = refl; at = refl }, (record { form = refl; at = refl }, (record { form = refl; at = refl }, (record { form = refl; at = refl }, (record { form = refl; at = refl }, (record { form = refl; at = refl }, tt)))))) (λ u more e. refl) refl
+sample_enumerated kind line column = read_so _ (tok Sign (codes "{") ∷ tok Word (codes "a") ∷ tok Sign (codes "(") ∷ tok Number (codes "0") ∷ tok Sign (codes ")") ∷ tok Sign (codes "}") ∷ []) _ (record { form = inl refl; at = refl }, (record { form = inl refl; at = refl }, (record { form = inl refl; at = refl }, (record { form = inl refl; at = refl }, (record { form = inl refl; at = refl }, (record { form = inl refl; at = refl }, tt)))))) (λ u more e. refl) refl
 
 sample_octets : (kind : TokenKind) (line column : ℕ) → Sample (record { kind = kind; text = codes "OCTET"; line = line; column = column })
 unfolding same type_at type_text_at plain_at sequence_at set_at choice_at alternatives_at parts_at part_at optional_at leaf_at text_or_name_at integer_at octets_at items_at item_at tag_at class_at explicit_at word_at word_of number_at number int_at int value_name_at value_name_of is_value_name text_kind_at text_kind_word many_at
-sample_octets kind line column = read_so _ (tok Word (codes "STRING") ∷ []) _ (record { form = refl; at = refl }, tt) (λ u more e. refl) refl
+sample_octets kind line column = read_so _ (tok Word (codes "STRING") ∷ []) _ (record { form = inl refl; at = refl }, tt) (λ u more e. refl) refl
 
 sample_bits : (kind : TokenKind) (line column : ℕ) → Sample (record { kind = kind; text = codes "BIT"; line = line; column = column })
 unfolding same type_at type_text_at plain_at sequence_at set_at choice_at alternatives_at parts_at part_at optional_at leaf_at text_or_name_at integer_at octets_at items_at item_at tag_at class_at explicit_at word_at word_of number_at number int_at int value_name_at value_name_of is_value_name text_kind_at text_kind_word many_at
-sample_bits kind line column = read_so _ (tok Word (codes "STRING") ∷ []) _ (record { form = refl; at = refl }, tt) (λ u more e. refl) refl
+sample_bits kind line column = read_so _ (tok Word (codes "STRING") ∷ []) _ (record { form = inl refl; at = refl }, tt) (λ u more e. refl) refl
 
 sample_object : (kind : TokenKind) (line column : ℕ) → Sample (record { kind = kind; text = codes "OBJECT"; line = line; column = column })
 unfolding same type_at type_text_at plain_at sequence_at set_at choice_at alternatives_at parts_at part_at optional_at leaf_at text_or_name_at integer_at octets_at items_at item_at tag_at class_at explicit_at word_at word_of number_at number int_at int value_name_at value_name_of is_value_name text_kind_at text_kind_word many_at
-sample_object kind line column = read_so _ (tok Word (codes "IDENTIFIER") ∷ []) _ (record { form = refl; at = refl }, tt) (λ u more e. refl) refl
+sample_object kind line column = read_so _ (tok Word (codes "IDENTIFIER") ∷ []) _ (record { form = inl refl; at = refl }, tt) (λ u more e. refl) refl
 
 sample_text_0 : (kind : TokenKind) (line column : ℕ) → Sample (record { kind = kind; text = codes "UTF8String"; line = line; column = column })
 unfolding same type_at type_text_at plain_at sequence_at set_at choice_at alternatives_at parts_at part_at optional_at leaf_at text_or_name_at integer_at octets_at items_at item_at tag_at class_at explicit_at word_at word_of number_at number int_at int value_name_at value_name_of is_value_name text_kind_at text_kind_word many_at
@@ -157,7 +157,7 @@ deep_goes t u e plain = let x = sample t u e in record { back = x.back; value = 
 
 -- ---- kinds
 
-set_of_kind : (t : Lexeme) (u : List Lexeme) → is_set_of (t ∷ u) ≡ true → kind_at (t ∷ u) ≡ Unsupported
+pub set_of_kind : (t : Lexeme) (u : List Lexeme) → is_set_of (t ∷ u) ≡ true → kind_at (t ∷ u) ≡ Unsupported
 unfolding kind_at
 set_of_kind t u e = ap (λ (b : Bool). if b then Unsupported else UnexpectedToken) (or_right (is_unsupported t.text) (is_set_of (t ∷ u)) e)
 
@@ -196,7 +196,7 @@ one_level : (ext : Extent) (Inner : List Lexeme → TypeTree → Type 0) → Fil
 one_level ext Inner = record {
   text = null_token ∷ [];
   value = type_tree 1 1 None null;
-  filler = (record { form = refl; at = refl }, tt);
+  filler = (record { form = inl refl; at = refl }, tt);
   spelled = record {
     at = first_place;
     starts = refl;
@@ -214,9 +214,15 @@ one_level ext Inner = record {
 abbrev deep_refused : List Lexeme → Read TypeTree
 deep_refused ts = refuse_as (deep_kind ts) ts
 
-weak_base : Begun false (Type_of deeper 1) deep_refused
+abbrev mark : Lexeme
+mark = tok Word []
+
+mark_filled : Filled (Type_of marked 0)
 unfolding Type_of
-weak_base = begun_refuse deep_kind (one_level deeper (Type_of deeper 0)) (weak_deep (Placed (TypeBehind deeper (Type_of deeper 0))))
+mark_filled = record { text = mark ∷ []; value = type_tree 1 1 None null; filler = (record { form = inr refl; at = refl }, tt); spelled = record { token = mark; alone = refl; passes = refl } }
+
+mark_base : Begun false (Type_of marked 0) deep_refused
+mark_base = begun_refuse deep_kind mark_filled (weak_deep (Type_of marked 0))
 
 wide_filled : Filled (Type_of wide 2)
 unfolding Type_of
@@ -236,9 +242,9 @@ unfolding Type_of type_at
 b_type ext base b zero = b
 b_type ext base b (suc n) = b_type_text ext (Type_of ext (up n base)) (type_at narrow n) (b_type ext base b n) (starts_type_behind ext (Type_of ext (up n base)) (type_at ext (up n base)) (law_type ext (up n base)))
 
-b_deeper : Begun false (OuterType deeper) (outer_type_at narrow)
+b_marked : Begun false (OuterType marked) (outer_type_at narrow)
 unfolding outer_type_at
-b_deeper = b_type deeper 1 weak_base 256
+b_marked = b_type marked 0 mark_base 256
 
 b_wide : Begun true (OuterType wide) (outer_type_at narrow)
 unfolding outer_type_at
@@ -246,8 +252,8 @@ b_wide = b_type wide 2 wide_base 256
 
 -- ---- modules
 
-pub deeper_module : Begun false (Module deeper) (whole_at narrow)
-deeper_module = b_whole deeper b_deeper
+pub marked_module : Begun false (Module marked) (whole_at narrow)
+marked_module = b_whole marked b_marked
 
 pub wide_module : Begun true (Module wide) (whole_at narrow)
 wide_module = b_whole wide b_wide

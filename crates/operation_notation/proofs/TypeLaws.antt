@@ -6,11 +6,11 @@ use Rattle.std.specs.Str.{bytes_eq}
 use Rattle.std.proofs.lemmas.Bool.{not-false}
 use Rattle.notation_tokens.specs.Lexeme.{Lexeme, same, begins}
 use Rattle.notation_tokens.specs.Words.{number, number_of, most_32, most_64, end_of, int_of, type_name_of, value_name_of, text_kind_of, text_kind_word, located}
-use Rattle.operation_notation.specs.Reading.{◌>>=◌, give, Read, refuse, refuse_as, word_at, number_at, number_64_at, int_at, end_at, type_name_at, value_name_at, maybe_at, listed_at, is_set_of}
-use Rattle.operation_notation.specs.ReadingTypes.{range_at, size_at, item_at, items_at, class_at, explicit_at, tag_at, optional_at, part_at, parts_at, alternatives_at, integer_at, octets_at, text_kind, text_kind_at, text_or_name_at, named_at, leaf_at, sequence_at, set_at, choice_at, plain_at, type_text_at, type_at, outer_type_at}
+use Rattle.operation_notation.specs.Reading.{◌>>=◌, give, Read, refuse, refuse_as, token_at, word_at, number_at, number_64_at, int_at, end_at, type_name_at, value_name_at, maybe_at, listed_at, is_set_of}
+use Rattle.operation_notation.specs.ReadingTypes.{range_at, size_at, item_at, items_at, class_at, explicit_at, tag_at, optional_at, part_at, parts_at, alternatives_at, integer_at, octets_at, text_kind, text_kind_at, text_or_name_at, named_at, leaf_at, sequence_at, set_at, choice_at, plain_at, type_text_at, deep_kind, starts_mark, type_at, outer_type_at}
 use Rattle.operation_notation.specs.Grammar.{One, Then, Nothing, Either, Where, The, Listed, Placed}
-use Rattle.operation_notation.specs.GrammarTypes.{Range, Number64, Size, Item, Items, Class, Explicit, Tag, Optional, Part, Parts, Alternatives, Integer, OctetString, Text, Named, Leaf, Sequence, Set, Choice, Plain, TypeBehind, Type_of, OuterType, Extent}
-use Rattle.operation_notation.specs.Tree.{TypeTree, type_tree, PlainTree, named, text, set}
+use Rattle.operation_notation.specs.GrammarTypes.{Range, Number64, Size, Item, Items, Class, Explicit, Tag, Optional, Part, Parts, Alternatives, Integer, OctetString, Text, Named, Leaf, Sequence, Set, Choice, Plain, TypeBehind, Type_of, OuterType, Extent, is_empty, mark_of}
+use Rattle.operation_notation.specs.Tree.{TypeTree, type_tree, PlainTree, null, named, text, set}
 use Rattle.operation_notation.specs.TreeView.{parts_of}
 use Rattle.notation_tokens.specs.declared.faults.NotationKind.TheVariants.{Unsupported}
 use Rattle.notation_tokens.specs.declared.token.Place.{Place}
@@ -364,9 +364,30 @@ module _ (ext : Extent) (Inner : List Lexeme → TypeTree → Type 0) (inner : L
   unfolding type_text_at
   law_type_text = law_placed (or_named (codes "[" ∷ plain_words)) starts_type_behind law_type_behind
 
+-- a mark, where one may stand
+pub mark_is : (t : Lexeme) (a : TypeTree) → mark_of t ≡ Some a → is_empty t.text ≡ true
+mark_is t a e = go (is_empty t.text) refl e
+  where
+    go : (b : Bool) → is_empty t.text ≡ b → (if b then Some (type_tree t.line t.column None null) else None) ≡ Some a → b ≡ true
+    go true is h = refl
+    go false is h = absurd cc
+
+mark_found : (b : Bool) (ts : List Lexeme) (a : TypeTree) (rest : List Lexeme) → (if b then token_at mark_of ts else refuse_as (deep_kind ts) ts) ≡ Ok (a, rest) → Front (One mark_of) ts a rest
+mark_found true ts a rest e = (law_one mark_of).found ts a rest e
+mark_found false ts a rest e = absurd cc
+
+law_mark : (marks : Bool) → Law (Where marks (One mark_of)) (λ ts. if marks && starts_mark ts then token_at mark_of ts else refuse_as (deep_kind ts) ts) (begins_any type_stops)
+law_mark true = record {
+  found = λ ts a rest e. mark_found (starts_mark ts) ts a rest e;
+  only = λ text a rest d st.
+      ap (λ (b : Bool). if b then token_at mark_of (text ++ rest) else refuse_as (deep_kind (text ++ rest)) (text ++ rest)) (ap (λ (z : List Lexeme). starts_mark (z ++ rest)) d.alone ∙ mark_is d.token a d.passes)
+      ∙ (law_one mark_of).only text a rest d refl;
+}
+law_mark false = record { found = λ ts a rest e. absurd cc; only = λ text a rest d st. absurd d }
+
 law_no_type : (ext : Extent) → Law (Type_of ext 0) (type_at ext 0) (begins_any type_stops)
 unfolding Type_of type_at
-law_no_type ext = record { found = λ ts a rest e. absurd cc; only = λ text a rest d st. absurd d }
+law_no_type ext = law_mark ext.marked
 
 pub law_type : (ext : Extent) (levels : ℕ) → Law (Type_of ext levels) (type_at ext levels) (begins_any type_stops)
 unfolding Type_of type_at

@@ -29,17 +29,17 @@ use Rattle.operation_notation.proofs.Rises.{module_rises}
 use Rattle.notation_tokens.specs.declared.faults.NotationFault.{NotationFault}
 use Rattle.notation_tokens.proofs.Names.{lower_is_word, upper_is_word}
 
-abbrev Good : Lexeme → Type 0
+abbrev pub Good : Lexeme → Type 0
 Good t = IsTrue (has_form t.kind t.text)
 
-abbrev Fine : List Lexeme → Type 0
+abbrev pub Fine : List Lexeme → Type 0
 Fine ts = AllByRecursion Good ts
 
 fine_front : (x y : List Lexeme) → Fine (x ++ y) → Fine x
 fine_front [] y f = tt
 fine_front (t ∷ x) y f = (f.0, fine_front x y f.1)
 
-fine_back : (x y : List Lexeme) → Fine (x ++ y) → Fine y
+pub fine_back : (x y : List Lexeme) → Fine (x ++ y) → Fine y
 fine_back [] y f = f
 fine_back (t ∷ x) y f = fine_back x y f.1
 
@@ -260,7 +260,7 @@ well_module : Well Module WellParts
 well_module = well_bind (λ h. IsTypeName h.name) well_heading (λ heading h. well_skip (λ _. well_skip (λ imports. well_bind (AllByRecursion IsWellAssignment) (well_many Assign IsWellAssignment well_assign) (λ assignments a. well_skip (λ _. well_nothing WellParts (record { name = h; assignments = a }))))))
 
 -- the tokens of a text have the forms of their kinds
-fine_lexemes : (source : List ℕ) (len : ℕ) (ts : List Token) → AllByRecursion (IsSpan source len) ts → Fine (lexemes source ts)
+pub fine_lexemes : (source : List ℕ) (len : ℕ) (ts : List Token) → AllByRecursion (IsSpan source len) ts → Fine (lexemes source ts)
 fine_lexemes source len [] all = tt
 fine_lexemes source len (t ∷ ts) all = (all.0.form, fine_lexemes source len ts all.1)
 

@@ -12,10 +12,12 @@ use Rattle.operation_notation.specs.declared.module.ItemText.{ItemText}
 use Rattle.operation_notation.specs.declared.module.PartText.{PartText}
 use Rattle.notation_tokens.specs.declared.token.Place.{Place}
 
--- How far a grammar goes: how many levels deep types may stand in one another, and whether some of what isn't supported may stand too:
--- a brace behind a Name that is used as a type, and an import of another name than the two classes'.
+-- How far a grammar goes: how many levels deep types may stand in one another; whether a mark may stand where a type would be one level
+-- too deep; and whether some of what isn't supported may stand: a brace behind a Name that is used as a type, and an import of another
+-- name than the two classes'.
 pub record Extent : Type 0 where
   pub levels : ℕ
+  pub marked : Bool
   pub wide : Bool
 
 -- how many levels deep types may stand in one another
@@ -24,15 +26,23 @@ most_levels = 256
 
 -- the notation
 abbrev pub narrow : Extent
-narrow = record { levels = most_levels; wide = false }
+narrow = record { levels = most_levels; marked = false; wide = false }
 
--- the notation with types one level deeper
-abbrev pub deeper : Extent
-deeper = record { levels = most_levels + 1; wide = false }
+-- the notation with marks, so that what stands in front of a type one level too deep begins a module too
+abbrev pub marked : Extent
+marked = record { levels = most_levels; marked = true; wide = false }
 
 -- the notation with a little of what isn't supported; a CHOICE one level too deep holds a type one level deeper
 abbrev pub wide : Extent
-wide = record { levels = most_levels + 2; wide = true }
+wide = record { levels = most_levels + 2; marked = false; wide = true }
+
+-- a mark is a token without text, which no text holds
+abbrev pub is_empty : List ℕ → Bool
+is_empty [] = true
+is_empty (c ∷ cs) = false
+
+abbrev pub mark_of : Lexeme → Option TypeTree
+mark_of t = if is_empty t.text then Some (type_tree t.line t.column None null) else None
 
 -- ---- object identifiers (X.680 32.3): Oid = "{" Arc {Arc} "}"
 
@@ -237,7 +247,7 @@ TypeBehind ext Inner at = do
 
 -- a type in which types stand in one another at most so many levels deep
 unfoldable pub Type_of : Extent → ℕ → List Lexeme → TypeTree → Type 0
-Type_of ext zero ts t = ⊥
+Type_of ext zero ts t = Where ext.marked (One mark_of) ts t
 Type_of ext (suc levels) ts t = Placed (TypeBehind ext (Type_of ext levels)) ts t
 
 -- a type at the outermost level

@@ -6,7 +6,7 @@ use Rattle.notation_tokens.specs.Words.{most_32, is_type_name, is_value_name, ar
 use Rattle.operation_notation.specs.Reading.{◌>>=◌, Read, give, here, refuse, refuse_as, kind_at, is_set_of, token_at, word_at, type_name_at, value_name_at, number_at, number_64_at, int_at, end_at, maybe_at, many_at, listed_at}
 use Rattle.operation_notation.specs.Tree.{TypeTree, type_tree, PlainTree, boolean, null, integer, enumerated, octets, bits, object_id, text, sequence_of, sequence, set, choice, named}
 use Rattle.operation_notation.specs.TreeView.{parts_of}
-use Rattle.operation_notation.specs.GrammarTypes.{Extent}
+use Rattle.operation_notation.specs.GrammarTypes.{Extent, is_empty, mark_of}
 use Rattle.notation_tokens.specs.declared.faults.NotationKind.{NotationKind}
 use Rattle.notation_tokens.specs.declared.faults.NotationKind.TheVariants.{Unsupported}
 use Rattle.operation_notation.specs.declared.module.RangeText.{RangeText}
@@ -232,9 +232,13 @@ starts_type (t ∷ ts) = list_any (same t.text) type_words || is_type_name t.kin
 unfoldable pub deep_kind : List Lexeme → NotationKind
 deep_kind ts = if starts_type ts then Unsupported else kind_at ts
 
+abbrev pub starts_mark : List Lexeme → Bool
+starts_mark [] = false
+starts_mark (t ∷ ts) = is_empty t.text
+
 -- a type in which types stand in one another at most so many levels deep
 unfoldable pub type_at : Extent → ℕ → List Lexeme → Read TypeTree
-type_at ext zero ts = refuse_as (deep_kind ts) ts
+type_at ext zero ts = if ext.marked && starts_mark ts then token_at mark_of ts else refuse_as (deep_kind ts) ts
 type_at ext (suc levels) ts = type_text_at ext (type_at ext levels) ts
 
 -- a type at the outermost level
