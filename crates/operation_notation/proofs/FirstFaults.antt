@@ -101,11 +101,13 @@ end_fault text fits unread kind x l c k e =
 -- ---- SET OF
 
 -- no module holds SET OF
+pub module_clear : (ext : Extent) (ts : List Lexeme) (m : ModuleText) → Module ext ts m → NoSetOf ts []
+module_clear ext ts m d =
+    let cut = left_by (whole_at ext) (l_whole ext).clears ts (Ok (m, [])) (whole_only ext ts m d) in
+    subst (λ (z : List Lexeme). NoSetOf z []) (sym (cut.is ∙ append-nil cut.text)) cut.clear
+
 pub module_apart : (ext : Extent) (x : List Lexeme) (t : Lexeme) (y : List Lexeme) (m : ModuleText) → Module ext (x ++ t ∷ y) m → is_set_of (t ∷ y) ≡ false
-module_apart ext x t y m d =
-    let cut = left_by (whole_at ext) (l_whole ext).clears (x ++ t ∷ y) (Ok (m, [])) (whole_only ext (x ++ t ∷ y) m d) in
-    let all : cut.text ≡ x ++ t ∷ y = sym (cut.is ∙ append-nil cut.text) in
-    ap (λ (z : List Lexeme). is_set_of (t ∷ z)) (sym (append-nil y)) ∙ clear_at x t y [] (subst (λ (z : List Lexeme). NoSetOf z []) all cut.clear)
+module_apart ext x t y m d = ap (λ (z : List Lexeme). is_set_of (t ∷ z)) (sym (append-nil y)) ∙ clear_at x t y [] (module_clear ext (x ++ t ∷ y) m d)
 
 none_with : (ext : Extent) (x : List Lexeme) (t : Lexeme) (u others : List Lexeme) (k : NotationKind) (m : ModuleText) → whole_at ext (x ++ t ∷ u) ≡ Err (fault (t ∷ u) k) → is_set_of (t ∷ u) ≡ false → Module ext (x ++ t ∷ others) m → ⊥
 none_with ext x t u others k m stops plain d = none_goes_on ext x t u others k m (plain ∙ sym (module_apart ext x t others m d)) stops d

@@ -18,3 +18,4 @@ pub mod BegunModules
 pub mod TooDeep
 pub mod Wider
 pub mod FirstFaults
+pub mod OneFault

@@ -75,3 +75,10 @@ pub record EndFault (text : List ℕ) (line column : ℕ) (kind : NotationKind) 
 abbrev pub IsFirstFault : List ℕ → NotationFault → Type 0
 IsFirstFault text faults.NoMemory = Unit {0}
 IsFirstFault text (faults.At line column kind) = TooLong text line column kind ⊎ (TokenFault text line column kind ⊎ EndFault text line column kind)
+
+-- a text with a first fault
+pub record Faulty (text : List ℕ) : Type 0 where
+  pub line : ℕ
+  pub column : ℕ
+  pub kind : NotationKind
+  pub first : IsFirstFault text (faults.At line column kind)
