@@ -1,10 +1,10 @@
 -- Where reading stops, what it passed begins a module: the rules that depend on how far the grammar goes.
-use Rattle.std.proofs.Common.{codes, ◌≡◌, ℕ, Bool, true, false, List, [], ◌∷◌, ◌++◌, refl, subst, inl, inr}
+use Rattle.std.proofs.Common.{codes, ◌≡◌, ℕ, Bool, true, false, List, [], ◌∷◌, refl, subst, inl, inr}
 use Rattle.std.specs.Prelude.{◌||◌, if◌then◌else◌}
 use Rattle.notation_tokens.specs.Forms.{has_form}
 use Rattle.notation_tokens.specs.Lexeme.{Lexeme, begins, goes_on}
 use Rattle.notation_tokens.specs.Words.{place}
-use Rattle.operation_notation.specs.Reading.{◌>>=◌, give, kind_at, word_at}
+use Rattle.operation_notation.specs.Reading.{kind_at, word_at}
 use Rattle.operation_notation.specs.ReadingTypes.{starts_name, outer_type_at}
 use Rattle.operation_notation.specs.ReadingModules.{use_at, maybe_use_at, signature_at, operation_at, error_at, typed_at, operation_body_at, error_body_at, body_at, valued_at, assignment_at, assignments_at, class_kind, imported_at, listed_imports_at, imports_at, maybe_imports_at, module_at, whole_at}
 use Rattle.operation_notation.specs.Grammar.{One, Then, Nothing, Either, Where, Maybe, Many}

@@ -1,6 +1,6 @@
 -- Where reading stops, what it passed begins a module: the rules that are the same however far the grammar goes, and types.
-use Rattle.std.proofs.Common.{codes, ◌≡◌, ℕ, zero, suc, ◌+◌, Bool, true, false, List, [], ◌∷◌, ◌++◌, Option, Some, None, Ok, Err, refl, sym, ap, subst, ◌∙◌, arith, inl, inr}
-use Rattle.std.specs.Prelude.{◌||◌, pos, is_some, nat_le, if◌then◌else◌}
+use Rattle.std.proofs.Common.{codes, ◌≡◌, ℕ, Bool, true, false, List, [], ◌∷◌, ◌++◌, Option, Some, None, Ok, Err, refl, sym, ap, ◌∙◌, arith, inl, inr}
+use Rattle.std.specs.Prelude.{pos, is_some, nat_le, if◌then◌else◌}
 use Rattle.std.proofs.lemmas.Bool.{le-leb}
 use Rattle.notation_tokens.specs.Forms.{has_form}
 use Rattle.notation_tokens.specs.Lexeme.{Lexeme, same, begins, goes_on}
@@ -8,7 +8,7 @@ use Rattle.notation_tokens.specs.Words.{place, word_of, most_32, most_64, number
 use Rattle.operation_notation.specs.Reading.{◌>>=◌, give, Read, refuse_as, kind_at, is_set_of, word_at, type_name_at, value_name_at, number_at, number_64_at, int_at, end_at, bool_at, maybe_at, many_at, behind, listed_at}
 use Rattle.operation_notation.specs.ReadingTypes.{starts_name, arc_name_at, bracketed_at, arc_at, alone_at, named_root_at, root_at, most_second, oid_at, range_at, size_at, item_at, items_at, class_at, explicit_at, tag_at, optional_at, part_at, parts_at, alternatives_at, text_kind, text_kind_at, named_at, text_or_name_at, integer_at, octets_at, leaf_at, sequence_at, set_at, choice_at, plain_at, type_text_at}
 use Rattle.operation_notation.specs.ReadingModules.{flag_at, flag_2_at, flag_or_at, passed_flag_at, names_at, named_list_at, priority_at, passed_priority_at, invoke_priority_at, local_at, global_at, code_value_at, code_at, maybe_code_at, manner_at, opens_at, maybe_oid_at, tagging_at, heading_at, ended_at}
-use Rattle.operation_notation.specs.Grammar.{One, Then, Nothing, Either, Where, Maybe, Many, The, Behind, Listed, Placed}
+use Rattle.operation_notation.specs.Grammar.{One, Then, Nothing, Either, Where, Maybe, The, Behind, Listed, Placed}
 use Rattle.operation_notation.specs.GrammarTypes.{Extent, narrow, OidSpelled, Range, Number64, Size, Item, Items, Class, Explicit, Tag, Optional, Part, Parts, Alternatives, Integer, OctetString, Text, Named, Leaf, Sequence, Set, Choice, Plain, TypeBehind}
 use Rattle.operation_notation.specs.GrammarModules.{Flag, FlagOr, Names, NamedList, Priority, Local, Global, Code, Manner, Opens, Tagging, HeadingSpelled}
 use Rattle.operation_notation.specs.Tree.{TypeTree, type_tree, PlainTree, named, text, set}
@@ -20,7 +20,7 @@ use Rattle.notation_tokens.specs.declared.token.Place.{Place}
 use Rattle.notation_tokens.specs.declared.token.Located.{Located}
 use Rattle.operation_notation.specs.declared.module.ModuleText.{ModuleText}
 use Rattle.operation_notation.proofs.Means.{Front}
-use Rattle.operation_notation.proofs.Starts.{Starts, starts_then, among, or_false}
+use Rattle.operation_notation.proofs.Starts.{Starts, starts_then}
 use Rattle.operation_notation.proofs.Local.{fault}
 use Rattle.operation_notation.proofs.TypeLaws.{any_token, starts_any, plain_words}
 use Rattle.operation_notation.proofs.Chains.{or_named, same_excludes}

@@ -1,6 +1,6 @@
 -- A text reads as a module or has one first fault, and never both.
-use Rattle.std.proofs.Common.{◌≡◌, ℕ, ◌<◌, ◌≤◌, Bool, true, false, List, [], ◌∷◌, ◌++◌, length, Option, Some, None, Result, Ok, Err, refl, sym, ap, subst, ◌∙◌, append_assoc, arith, inl, inr}
-use Rattle.std.specs.Prelude.{◌⊎◌, ◌&&◌, codes, nat_lt, unwrap_or, if◌then◌else◌}
+use Rattle.std.proofs.Common.{◌≡◌, ℕ, Bool, true, false, List, [], ◌∷◌, ◌++◌, length, Option, Some, None, Result, Ok, Err, refl, sym, ap, subst, ◌∙◌, append_assoc, arith, inl, inr}
+use Rattle.std.specs.Prelude.{◌⊎◌, ◌&&◌, codes, nat_lt, if◌then◌else◌}
 use Rattle.notation_tokens.specs.Lexeme.{Lexeme, lexemes, same}
 use Rattle.notation_tokens.specs.Lexing.{most_octets, lexed_of}
 use Rattle.notation_tokens.specs.Texts.{unless_stopped, too_long}
@@ -11,7 +11,7 @@ use Rattle.operation_notation.specs.GrammarTypes.{narrow, marked}
 use Rattle.operation_notation.specs.GrammarModules.{Module}
 use Rattle.operation_notation.specs.ReadingModules.{whole_at}
 use Rattle.operation_notation.specs.Modules.{Reads, module_of, verdict, refused}
-use Rattle.operation_notation.specs.Faults.{Begins, NoSetOf, IsUnsupported, IsKind, TooLong, TokenFault, EndFault, IsFirstFault, Faulty}
+use Rattle.operation_notation.specs.Faults.{Begins, NoSetOf, IsKind, TokenFault, IsFirstFault, Faulty}
 use Rattle.notation_tokens.specs.declared.faults.NotationFault.{NotationFault}
 use Rattle.notation_tokens.specs.declared.faults.NotationFault.TheVariants as faults
 use Rattle.notation_tokens.specs.declared.faults.NotationKind.{NotationKind}
@@ -72,7 +72,7 @@ not_before : (x : List Lexeme) (s : Lexeme) (u y : List Lexeme) (t : Lexeme) (v 
 not_before x s u y t v past start apart b =
     let plain : is_set_of (s ∷ (b.between ++ t ∷ v)) ≡ false = clear_at x s b.between (t ∷ v) (subst (λ (z : List Lexeme). NoSetOf z (t ∷ v)) b.is apart) in
     past (ap (λ (z : List Lexeme). is_set_of (s ∷ z)) b.rest ∙ plain) (b.between ++ start.back) start.whole
-        (subst (λ (z : List Lexeme). Module marked z start.whole) (ap (λ (z : List Lexeme). z ++ start.back) b.is ∙ append_assoc x (s ∷ b.between) start.back) start.spelled)
+    (subst (λ (z : List Lexeme). Module marked z start.whole) (ap (λ (z : List Lexeme). z ++ start.back) b.is ∙ append_assoc x (s ∷ b.between) start.back) start.spelled)
 
 not_past : (ts x : List Lexeme) (s : Lexeme) (u : List Lexeme) → ts ≡ x ++ s ∷ u → Past x s u → Begins marked ts → ⊥
 not_past ts x s u whole past start =
@@ -95,7 +95,7 @@ module _ (text : List ℕ) (l c : ℕ) (k : NotationKind) (m d : ℕ) (j : Notat
   two_tokens : (f : TokenFault text l c k) (g : TokenFault text m d j) → Order f.front f.token f.behind g.front g.token g.behind → Same l c k m d j
   two_tokens f g (inl h) =
       let moved : IsKind g.front g.token g.behind k =
-          subst (λ (z : List Lexeme). IsKind g.front g.token z k) h.behind (subst (λ (z : Lexeme). IsKind g.front z f.behind k) h.token (subst (λ (z : List Lexeme). IsKind z f.token f.behind k) h.front f.is)) in
+      subst (λ (z : List Lexeme). IsKind g.front g.token z k) h.behind (subst (λ (z : Lexeme). IsKind g.front z f.behind k) h.token (subst (λ (z : List Lexeme). IsKind z f.token f.behind k) h.front f.is)) in
       record {
         line = sym f.at_line ∙ ap (λ (z : Lexeme). z.line) h.token ∙ g.at_line;
         column = sym f.at_column ∙ ap (λ (z : Lexeme). z.column) h.token ∙ g.at_column;

@@ -1,10 +1,10 @@
 -- The notation and a grammar that goes further are read alike, up to where reading the notation stops for what the other goes on with.
-use Rattle.std.proofs.Common.{codes, ◌≡◌, ℕ, zero, suc, Bool, true, false, List, [], ◌∷◌, ◌++◌, length, Option, Some, None, Ok, Err, refl, sym, ap, ◌∙◌, inl, inr}
+use Rattle.std.proofs.Common.{codes, ◌≡◌, ℕ, zero, suc, Bool, true, false, List, [], ◌∷◌, ◌++◌, length, Some, None, Ok, Err, refl, sym, ap, ◌∙◌, inl, inr}
 use Rattle.std.specs.Prelude.{◌⊎◌, ◌||◌, is_some, if◌then◌else◌}
 use Rattle.std.specs.List.{list_any}
 use Rattle.notation_tokens.specs.Lexeme.{Lexeme, same, begins, goes_on}
 use Rattle.notation_tokens.specs.Words.{is_type_name, type_name_of, text_kind_word}
-use Rattle.operation_notation.specs.Reading.{◌>>=◌, after, give, here, Failure, Read, refuse, kind_at, is_set_of, token_at, word_at, type_name_at, value_name_at, maybe_at, many_at, all_at, behind, listed_at}
+use Rattle.operation_notation.specs.Reading.{◌>>=◌, after, give, here, Failure, Read, refuse, kind_at, is_set_of, token_at, word_at, type_name_at, value_name_at, maybe_at, many_at, all_at, listed_at}
 use Rattle.operation_notation.specs.ReadingTypes.{starts_name, tag_at, part_at, parts_at, alternatives_at, text_kind, text_kind_at, named_at, text_or_name_at, leaf_at, sequence_at, set_at, choice_at, plain_at, type_text_at, type_words, starts_type, deep_kind, starts_mark, type_at, outer_type_at}
 use Rattle.operation_notation.specs.ReadingModules.{use_at, maybe_use_at, signature_at, operation_at, error_at, typed_at, operation_body_at, error_body_at, body_at, valued_at, assignment_at, assignments_at, class_kind, imported_at, listed_imports_at, imports_at, maybe_imports_at, heading_at, module_at, whole_at}
 use Rattle.operation_notation.specs.GrammarTypes.{Extent, narrow, marked, wide, is_empty, mark_of}
