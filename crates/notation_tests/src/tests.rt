@@ -69,7 +69,7 @@ const PARTS_SHOWN: &str =
 /// A text with the place and kind of its first fault.
 type Row = (&'static [u8], u32, u32, NotationKind);
 
-const FAULTS: [Row; 23] = [
+const FAULTS: [Row; 25] = [
     (
         b"M {2 999 7 2} DEFINITIONS ::= BEGIN\na OPERATION ::= {RESULT REAL}\nEND\n",
         2,
@@ -106,6 +106,18 @@ const FAULTS: [Row; 23] = [
         1,
         41,
         NotationKind::Unsupported,
+    ),
+    (
+        b"M {2 999} DEFINITIONS ::= BEGIN IMPORTS ERROR, x FROM Y; END",
+        1,
+        48,
+        NotationKind::Unsupported,
+    ),
+    (
+        b"M {2 999} DEFINITIONS ::= BEGIN IMPORTS 7 FROM Y; END",
+        1,
+        41,
+        NotationKind::UnexpectedToken,
     ),
     (
         b"M {2 999} DEFINITIONS ::= BEGIN IMPORTS ; END",
@@ -236,23 +248,40 @@ fn cutting_stops_at_an_octet_that_begins_nothing(rt: HostRuntime) -> Result<(), 
     Ok(())
 }
 
-/// `T ::= ` and so many times `SEQUENCE OF`, and NULL.
-fn nested(alloc: Global, times: usize) -> Result<Vec<u8>, AllocError> {
+/// `T ::= ` and so many times `SEQUENCE OF`, and these tokens.
+fn nested(alloc: Global, times: usize, tokens: &[u8]) -> Result<Vec<u8>, AllocError> {
     let mut text = Vec::from_slice(alloc, b"M {2 999} DEFINITIONS ::= BEGIN T ::= ")?;
     for _ in 0..times {
         text.extend_from_slice(b"SEQUENCE OF ")?;
     }
-    text.extend_from_slice(b"NULL END")?;
+    text.extend_from_slice(tokens)?;
+    text.extend_from_slice(b" END")?;
     Ok(text)
 }
 
 #[test]
 fn types_nest_256_deep(rt: HostRuntime) -> Result<(), Fail> {
-    let most = nested(rt.alloc(), 255)?;
+    let most = nested(rt.alloc(), 255, b"NULL")?;
     assert!(rt; parse_module(rt.alloc(), &most).is_ok());
-    let deeper = nested(rt.alloc(), 256)?;
     let column = 39 + 256 * 12;
-    assert!(rt; is_refused(rt.alloc(), &deeper, 1, column, NotationKind::Unsupported));
+    let types: [&'static [u8]; 6] = [b"NULL", b"U", b"[1] NULL", b"CHOICE {", b"SET {}", b"SET OF"];
+    for tokens in types {
+        let deeper = nested(rt.alloc(), 256, tokens)?;
+        assert!(rt; is_refused(rt.alloc(), &deeper, 1, column, NotationKind::Unsupported));
+    }
+    Ok(())
+}
+
+#[test]
+fn no_type_begins_too_deep(rt: HostRuntime) -> Result<(), Fail> {
+    let column = 39 + 256 * 12;
+    let others: [&'static [u8]; 4] = [b"}", b"u", b"7", b"OPTIONAL"];
+    for tokens in others {
+        let deeper = nested(rt.alloc(), 256, tokens)?;
+        assert!(rt; is_refused(rt.alloc(), &deeper, 1, column, NotationKind::UnexpectedToken));
+    }
+    let real = nested(rt.alloc(), 256, b"REAL")?;
+    assert!(rt; is_refused(rt.alloc(), &real, 1, column, NotationKind::Unsupported));
     Ok(())
 }
 

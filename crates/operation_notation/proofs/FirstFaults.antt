@@ -1,32 +1,43 @@
 -- What is refused is the text's first fault.
-use Rattle.std.proofs.Common.{◌≡◌, ℕ, ◌<◌, ◌≤◌, Bool, true, false, List, [], ◌∷◌, ◌++◌, length, Option, Some, None, Result, Ok, Err, refl, sym, ap, subst, ◌∙◌, append-nil, inl, inr}
-use Rattle.std.specs.Prelude.{IfErr, ◌⊎◌, nat_lt, unwrap_or, if◌then◌else◌}
+use Rattle.std.proofs.Common.{◌≡◌, ℕ, ◌<◌, ◌≤◌, Bool, true, false, List, [], ◌∷◌, ◌++◌, length, Option, Some, None, Result, Ok, Err, refl, sym, ap, subst, ◌∙◌, append_assoc, append-nil, inl, inr}
+use Rattle.std.specs.Prelude.{IfErr, IsTrue, ◌⊎◌, ◌||◌, nat_lt, unwrap_or, if◌then◌else◌}
 use Rattle.std.specs.List.{AllByRecursion}
 use Rattle.std.proofs.lemmas.Bool.{ltb-true, ltb-false}
+use Rattle.std.proofs.lemmas.List.{append_cancel_right}
 use Rattle.notation_tokens.specs.Lexeme.{Lexeme, lexemes}
+use Rattle.notation_tokens.specs.Words.{is_unsupported}
+use Rattle.notation_tokens.specs.Forms.{has_form}
+use Rattle.notation_tokens.specs.declared.token.TokenKind.{TokenKind}
+use Rattle.notation_tokens.specs.declared.token.TokenKind.TheVariants.{Word, Number, Sign}
 use Rattle.notation_tokens.specs.Lexing.{most_octets, lexed_of}
-use Rattle.operation_notation.specs.Reading.{Read}
+use Rattle.operation_notation.specs.Reading.{Read, kind_at, is_set_of}
 use Rattle.operation_notation.specs.ReadingModules.{module_at, ended_at, whole_at}
+use Rattle.operation_notation.specs.GrammarTypes.{Extent, narrow, marked, wide, is_empty}
 use Rattle.operation_notation.specs.GrammarModules.{Module}
 use Rattle.notation_tokens.specs.Texts.{Answers, unless_stopped, too_long}
-use Rattle.operation_notation.specs.Modules.{module_of, verdict, refused}
-use Rattle.operation_notation.specs.Faults.{IsFormed, Begins, IsKind, TooLong, TokenFault, EndFault, IsFirstFault}
+use Rattle.operation_notation.specs.Modules.{Reads, module_of, verdict, refused}
+use Rattle.operation_notation.specs.Faults.{IsFormed, Begins, NoSetOf, IsUnsupported, IsKind, TooLong, TokenFault, EndFault, IsFirstFault}
 use Rattle.notation_tokens.specs.declared.faults.NotationFault.{NotationFault}
 use Rattle.notation_tokens.specs.declared.faults.NotationFault.TheVariants as faults
 use Rattle.notation_tokens.specs.declared.faults.NotationKind.{NotationKind}
-use Rattle.notation_tokens.specs.declared.faults.NotationKind.TheVariants.{TextTooLong, UnexpectedToken}
+use Rattle.notation_tokens.specs.declared.faults.NotationKind.TheVariants.{TextTooLong, UnexpectedToken, Unsupported}
 use Rattle.operation_notation.specs.declared.module.ModuleText.{ModuleText}
 use Rattle.operation_notation.proofs.Means.{ok_is, after_ok}
-use Rattle.operation_notation.proofs.Local.{fault}
-use Rattle.operation_notation.proofs.LocalRules.{none_goes_on}
-use Rattle.operation_notation.proofs.Begun.{AreFillers, Halts}
-use Rattle.operation_notation.proofs.BegunRules.{more_levels, b_whole}
+use Rattle.operation_notation.proofs.Local.{fault, failed}
+use Rattle.operation_notation.proofs.LocalRules.{l_whole, none_goes_on}
+use Rattle.operation_notation.proofs.Clear.{left_by, clear_at}
+use Rattle.operation_notation.proofs.ModuleLaws.{whole_only, reads_only}
+use Rattle.operation_notation.proofs.Well.{Fine, fine_back, fine_lexemes}
+use Rattle.notation_tokens.proofs.Spans.{lexed_spans}
+use Rattle.operation_notation.proofs.Begun.{AreFillers, Goes, KindOf, Halts}
+use Rattle.operation_notation.proofs.TooDeep.{set_of_kind, marked_module, wide_module}
+use Rattle.operation_notation.proofs.Wider.{wide_stops, mark_stops}
 
 formed : (ts : List Lexeme) → AreFillers ts → AllByRecursion IsFormed ts
 formed [] a = tt
 formed (t ∷ ts) a = (a.0.form, formed ts a.1)
 
-start_of : (ts rest : List Lexeme) (k : NotationKind) (x : Halts (Module more_levels) ts rest k) → Begins more_levels x.front
+start_of : (ts rest : List Lexeme) (k : NotationKind) (x : Halts false (Module marked) ts rest k) → Begins marked x.front
 start_of ts rest k x = record { back = x.back; whole = x.value; formed = formed x.back x.filler; spelled = x.spelled }
 
 -- ---- what stands where
@@ -48,42 +59,113 @@ ended_all : (m : ModuleText) (ts : List Lexeme) (a : ModuleText) (rest : List Le
 ended_all m [] a rest e = sym (ap (λ (z : ModuleText × List Lexeme). z.1) (ok_is (m, []) (a, rest) e))
 ended_all m (t ∷ ts) a rest e = absurd cc
 
-whole_all : (ts : List Lexeme) (a : ModuleText) (rest : List Lexeme) → whole_at ts ≡ Ok (a, rest) → rest ≡ []
+whole_all : (ts : List Lexeme) (a : ModuleText) (rest : List Lexeme) → whole_at narrow ts ≡ Ok (a, rest) → rest ≡ []
 unfolding whole_at
-whole_all ts a rest e = let p = after_ok (module_at ts) ended_at a rest e in ended_all p.value p.mid a rest p.behind
+whole_all ts a rest e = let p = after_ok (module_at narrow ts) ended_at a rest e in ended_all p.value p.mid a rest p.behind
 
-whole_begins : (ts : List Lexeme) (a : ModuleText) (rest : List Lexeme) → whole_at ts ≡ Ok (a, rest) → Begins more_levels ts
+whole_begins : (ts : List Lexeme) (a : ModuleText) (rest : List Lexeme) → whole_at narrow ts ≡ Ok (a, rest) → Begins marked ts
 whole_begins ts a rest e =
-    let x = b_whole.found ts a rest e in
+    let x = marked_module.found ts a rest e in
     let all : ts ≡ x.text = x.parts ∙ ap (λ (z : List Lexeme). x.text ++ z) (whole_all ts a rest e) ∙ append-nil x.text in
-    record { back = []; whole = a; formed = tt; spelled = subst (λ (z : List Lexeme). Module more_levels z a) (sym all ∙ sym (append-nil ts)) x.spelled }
+    record { back = []; whole = a; formed = tt; spelled = subst (λ (z : List Lexeme). Module marked z a) (sym all ∙ sym (append-nil ts)) x.spelled }
 
 -- ---- faults
 
 abbrev tokens : List ℕ → List Lexeme
 tokens text = lexemes text (lexed_of text).tokens
 
-stopped_fault : (text : List ℕ) → length text ≤ most_octets → Begins more_levels (tokens text) → (m : ModuleText) (o : Option NotationKind) → (lexed_of text).stop ≡ o → (l c : ℕ) (k : NotationKind)
-    → unless_stopped o (lexed_of text).place m ≡ answered (faults.At l c k) → EndFault text l c k
-stopped_fault text fits start m None is l c k e = absurd cc
-stopped_fault text fits start m (Some kind) is l c k e =
-    let q = same_at (lexed_of text).place.line (lexed_of text).place.column kind l c k e in
-    record { fits = fits; start = start; at_line = q.line; at_column = q.column; is = sym q.kind ∙ sym (ap (λ (o : Option NotationKind). unwrap_or o UnexpectedToken) is) }
+abbrev Unread : List ℕ → Type 0
+Unread text = (m : ModuleText) → Reads text m → ⊥
 
-end_fault : (text : List ℕ) → length text ≤ most_octets → (kind : NotationKind) → Halts (Module more_levels) (tokens text) [] kind → (l c : ℕ) (k : NotationKind)
+stopped_fault : (text : List ℕ) → length text ≤ most_octets → Unread text → Begins marked (tokens text) → (m : ModuleText) (o : Option NotationKind) → (lexed_of text).stop ≡ o → (l c : ℕ) (k : NotationKind)
+    → unless_stopped o (lexed_of text).place m ≡ answered (faults.At l c k) → EndFault text l c k
+stopped_fault text fits unread start m None is l c k e = absurd cc
+stopped_fault text fits unread start m (Some kind) is l c k e =
+    let q = same_at (lexed_of text).place.line (lexed_of text).place.column kind l c k e in
+    record { fits = fits; start = start; unread = unread; at_line = q.line; at_column = q.column; is = sym q.kind ∙ sym (ap (λ (o : Option NotationKind). unwrap_or o UnexpectedToken) is) }
+
+end_fault : (text : List ℕ) → length text ≤ most_octets → Unread text → (kind : NotationKind) → Halts false (Module marked) (tokens text) [] kind → (l c : ℕ) (k : NotationKind)
     → refused (lexed_of text) [] kind ≡ answered (faults.At l c k) → EndFault text l c k
-end_fault text fits kind x l c k e =
+end_fault text fits unread kind x l c k e =
     let q = same_at (lexed_of text).place.line (lexed_of text).place.column (unwrap_or (lexed_of text).stop kind) l c k e in
     let all : x.front ≡ tokens text = sym (x.whole ∙ append-nil x.front) in
     record {
       fits = fits;
-      start = subst (λ (z : List Lexeme). Begins more_levels z) all (start_of (tokens text) [] kind x);
+      start = subst (λ (z : List Lexeme). Begins marked z) all (start_of (tokens text) [] kind x);
+      unread = unread;
       at_line = q.line;
       at_column = q.column;
       is = sym q.kind ∙ ap (λ (j : NotationKind). unwrap_or (lexed_of text).stop j) x.kind;
     }
 
-token_fault : (text : List ℕ) → length text ≤ most_octets → (t : Lexeme) (u : List Lexeme) (kind : NotationKind) → whole_at (tokens text) ≡ Err (fault (t ∷ u) kind) → Halts (Module more_levels) (tokens text) (t ∷ u) kind
+-- ---- SET OF
+
+-- no module holds SET OF
+pub module_clear : (ext : Extent) (ts : List Lexeme) (m : ModuleText) → Module ext ts m → NoSetOf ts []
+module_clear ext ts m d =
+    let cut = left_by (whole_at ext) (l_whole ext).clears ts (Ok (m, [])) (whole_only ext ts m d) in
+    subst (λ (z : List Lexeme). NoSetOf z []) (sym (cut.is ∙ append-nil cut.text)) cut.clear
+
+pub module_apart : (ext : Extent) (x : List Lexeme) (t : Lexeme) (y : List Lexeme) (m : ModuleText) → Module ext (x ++ t ∷ y) m → is_set_of (t ∷ y) ≡ false
+module_apart ext x t y m d = ap (λ (z : List Lexeme). is_set_of (t ∷ z)) (sym (append-nil y)) ∙ clear_at x t y [] (module_clear ext (x ++ t ∷ y) m d)
+
+none_with : (ext : Extent) (x : List Lexeme) (t : Lexeme) (u others : List Lexeme) (k : NotationKind) (m : ModuleText) → whole_at ext (x ++ t ∷ u) ≡ Err (fault (t ∷ u) k) → is_set_of (t ∷ u) ≡ false → Module ext (x ++ t ∷ others) m → ⊥
+none_with ext x t u others k m stops plain d = none_goes_on ext x t u others k m (plain ∙ sym (module_apart ext x t others m d)) stops d
+
+-- ---- the kind of a fault at a token, by the wide grammar
+
+unsupported_is : (front : List Lexeme) (t : Lexeme) (u : List Lexeme) → Goes (Module wide) front t u → Begins wide (front ++ t ∷ [])
+unsupported_is front t u g = record { back = g.back; whole = g.value; formed = formed g.back g.filler; spelled = subst (λ (z : List Lexeme). Module wide z g.value) (sym (append_assoc front (t ∷ []) g.back)) g.spelled }
+
+plain_set : (t : Lexeme) (u : List Lexeme) (b : Bool) → is_set_of (t ∷ u) ≡ b → kind_at (t ∷ u) ≡ UnexpectedToken → b ≡ false
+plain_set t u true e plain = let clash : Unsupported ≡ UnexpectedToken = sym (set_of_kind t u e) ∙ plain in absurd cc
+plain_set t u false e plain = refl
+
+unexpected_is : (front : List Lexeme) (t : Lexeme) (u : List Lexeme) → whole_at narrow (front ++ t ∷ u) ≡ Err (fault (t ∷ u) UnexpectedToken) → kind_at (t ∷ u) ≡ UnexpectedToken → IsUnsupported front t u → ⊥
+unexpected_is front t u stops plain (inl e) = let clash : UnexpectedToken ≡ Unsupported = sym plain ∙ e in absurd cc
+unexpected_is front t u stops plain (inr b) =
+    none_with wide front t u b.back UnexpectedToken b.whole (wide_stops front t u stops) (plain_set t u (is_set_of (t ∷ u)) refl plain) (subst (λ (z : List Lexeme). Module wide z b.whole) (append_assoc front (t ∷ []) b.back) b.spelled)
+
+either_kind : (t : Lexeme) (u : List Lexeme) → (kind_at (t ∷ u) ≡ Unsupported) ⊎ (kind_at (t ∷ u) ≡ UnexpectedToken)
+unfolding kind_at
+either_kind t u = go (is_unsupported t.text || is_set_of (t ∷ u))
+  where
+    go : (b : Bool) → ((if b then Unsupported else UnexpectedToken) ≡ Unsupported) ⊎ ((if b then Unsupported else UnexpectedToken) ≡ UnexpectedToken)
+    go true = inl refl
+    go false = inr refl
+
+plain_kind : (front : List Lexeme) (t : Lexeme) (u : List Lexeme) (k : NotationKind) → whole_at narrow (front ++ t ∷ u) ≡ Err (fault (t ∷ u) k) → k ≡ kind_at (t ∷ u) → (kind_at (t ∷ u) ≡ Unsupported) ⊎ (kind_at (t ∷ u) ≡ UnexpectedToken) → IsKind front t u k
+plain_kind front t u k stops is (inl e) = inl (is ∙ e, inl e)
+plain_kind front t u k stops is (inr e) = inr (is ∙ e, unexpected_is front t u (stops ∙ ap (λ (j : NotationKind). failed (fault (t ∷ u) j)) (is ∙ e)) e)
+
+kind_here : (front : List Lexeme) (t : Lexeme) (u : List Lexeme) (k : NotationKind) → whole_at narrow (front ++ t ∷ u) ≡ Err (fault (t ∷ u) k) → KindOf true (Module wide) front (t ∷ u) k → IsKind front t u k
+kind_here front t u k stops (inl e) = plain_kind front t u k stops e (either_kind t u)
+kind_here front t u k stops (inr p) = inl (p.0, inr (unsupported_is front t u (p.1 refl)))
+
+kind_of : (ts : List Lexeme) (t : Lexeme) (u : List Lexeme) (k : NotationKind) (front : List Lexeme) → ts ≡ front ++ t ∷ u → whole_at narrow ts ≡ Err (fault (t ∷ u) k) → IsKind front t u k
+kind_of ts t u k front whole stops =
+    let x = wide_module.halts ts (t ∷ u) k stops in
+    let one : x.front ≡ front = append_cancel_right x.front front (t ∷ u) (sym x.whole ∙ whole) in
+    kind_here front t u k (ap (whole_at narrow) (sym whole) ∙ stops) (subst (λ (z : List Lexeme). KindOf true (Module wide) z (t ∷ u) k) one x.kind)
+
+apart_of : (ts : List Lexeme) (t : Lexeme) (u : List Lexeme) (k : NotationKind) (front : List Lexeme) → ts ≡ front ++ t ∷ u → whole_at narrow ts ≡ Err (fault (t ∷ u) k) → NoSetOf front (t ∷ u)
+apart_of ts t u k front whole stops =
+    let cut = left_by (whole_at narrow) (l_whole narrow).clears ts (Err (fault (t ∷ u) k)) stops in
+    subst (λ (z : List Lexeme). NoSetOf z (t ∷ u)) (append_cancel_right cut.text front (t ∷ u) (sym cut.is ∙ whole)) cut.clear
+
+form_text : (kind : TokenKind) (text : List ℕ) → IsTrue (has_form kind text) → is_empty text ≡ false
+form_text Word [] h = absurd cc
+form_text Number [] h = absurd cc
+form_text Sign [] h = absurd cc
+form_text kind (c ∷ text) h = refl
+
+-- no token of a text is a mark
+not_empty : (text : List ℕ) (t : Lexeme) (u front : List Lexeme) → tokens text ≡ front ++ t ∷ u → is_empty t.text ≡ false
+not_empty text t u front whole =
+    let fine = fine_back front (t ∷ u) (subst Fine whole (fine_lexemes text (length text) (lexed_of text).tokens (lexed_spans text))) in
+    form_text t.kind t.text fine.0
+
+token_fault : (text : List ℕ) → length text ≤ most_octets → (t : Lexeme) (u : List Lexeme) (kind : NotationKind) → whole_at narrow (tokens text) ≡ Err (fault (t ∷ u) kind) → Halts false (Module marked) (tokens text) (t ∷ u) kind
     → (l c : ℕ) (k : NotationKind) → refused (lexed_of text) (t ∷ u) kind ≡ answered (faults.At l c k) → TokenFault text l c k
 token_fault text fits t u kind stops x l c k e =
     let q = same_at t.line t.column kind l c k e in
@@ -94,32 +176,36 @@ token_fault text fits t u kind stops x l c k e =
       behind = u;
       whole = x.whole;
       start = start_of (tokens text) (t ∷ u) kind x;
-      past = λ others m alike d. none_goes_on x.front t u others kind m alike (ap whole_at (sym x.whole) ∙ stops) d;
+      apart = apart_of (tokens text) t u kind x.front x.whole stops;
+      past = λ plain others m d. none_with marked x.front t u others kind m (mark_stops (x.front ++ t ∷ u) t u kind (not_empty text t u x.front x.whole) (ap (whole_at narrow) (sym x.whole) ∙ stops)) plain d;
       at_line = q.line;
       at_column = q.column;
-      is = subst (λ (j : NotationKind). IsKind (t ∷ u) j) q.kind x.kind;
+      is = subst (λ (j : NotationKind). IsKind x.front t u j) q.kind (kind_of (tokens text) t u kind x.front x.whole stops);
     }
 
-refused_fault : (text : List ℕ) → length text ≤ most_octets → (rest : List Lexeme) (kind : NotationKind) → whole_at (tokens text) ≡ Err (fault rest kind) → (l c : ℕ) (k : NotationKind)
+refused_fault : (text : List ℕ) → length text ≤ most_octets → Unread text → (rest : List Lexeme) (kind : NotationKind) → whole_at narrow (tokens text) ≡ Err (fault rest kind) → (l c : ℕ) (k : NotationKind)
     → refused (lexed_of text) rest kind ≡ answered (faults.At l c k) → TokenFault text l c k ⊎ EndFault text l c k
-refused_fault text fits [] kind stops l c k e = inr (end_fault text fits kind (b_whole.halts (tokens text) [] kind stops) l c k e)
-refused_fault text fits (t ∷ u) kind stops l c k e = inl (token_fault text fits t u kind stops (b_whole.halts (tokens text) (t ∷ u) kind stops) l c k e)
+refused_fault text fits unread [] kind stops l c k e = inr (end_fault text fits unread kind (marked_module.halts (tokens text) [] kind stops) l c k e)
+refused_fault text fits unread (t ∷ u) kind stops l c k e = inl (token_fault text fits t u kind stops (marked_module.halts (tokens text) (t ∷ u) kind stops) l c k e)
 
-verdict_fault : (text : List ℕ) → length text ≤ most_octets → (r : Read ModuleText) → whole_at (tokens text) ≡ r → (l c : ℕ) (k : NotationKind)
+verdict_fault : (text : List ℕ) → length text ≤ most_octets → Unread text → (r : Read ModuleText) → whole_at narrow (tokens text) ≡ r → (l c : ℕ) (k : NotationKind)
     → verdict (lexed_of text) r ≡ answered (faults.At l c k) → TokenFault text l c k ⊎ EndFault text l c k
-verdict_fault text fits (Ok x) is l c k e = inr (stopped_fault text fits (whole_begins (tokens text) x.0 x.1 is) x.0 (lexed_of text).stop refl l c k e)
-verdict_fault text fits (Err d) is l c k e = refused_fault text fits d.rest d.kind is l c k e
+verdict_fault text fits unread (Ok x) is l c k e = inr (stopped_fault text fits unread (whole_begins (tokens text) x.0 x.1 is) x.0 (lexed_of text).stop refl l c k e)
+verdict_fault text fits unread (Err d) is l c k e = refused_fault text fits unread d.rest d.kind is l c k e
 
 long_fault : (text : List ℕ) → most_octets < length text → (l c : ℕ) (k : NotationKind) → answered (faults.At 1 1 TextTooLong) ≡ answered (faults.At l c k) → TooLong text l c k
 long_fault text long l c k e = let q = same_at 1 1 TextTooLong l c k e in record { long = long; at_line = sym q.line; at_column = sym q.column; is = sym q.kind }
 
-fault_first : (text : List ℕ) (l c : ℕ) (k : NotationKind) → module_of text ≡ answered (faults.At l c k) → IsFirstFault text (faults.At l c k)
+not_read : (text : List ℕ) (m : ModuleText) (l c : ℕ) (k : NotationKind) → module_of text ≡ answered (faults.At l c k) → Reads text m → ⊥
+not_read text m l c k e d = let clash : Ok m ≡ answered (faults.At l c k) = sym (reads_only text m d) ∙ e in absurd cc
+
+pub fault_first : (text : List ℕ) (l c : ℕ) (k : NotationKind) → module_of text ≡ answered (faults.At l c k) → IsFirstFault text (faults.At l c k)
 unfolding module_of
 fault_first text l c k e = go (nat_lt most_octets (length text)) refl e
   where
-    go : (b : Bool) → nat_lt most_octets (length text) ≡ b → (if b then too_long else verdict (lexed_of text) (whole_at (tokens text))) ≡ answered (faults.At l c k) → IsFirstFault text (faults.At l c k)
+    go : (b : Bool) → nat_lt most_octets (length text) ≡ b → (if b then too_long else verdict (lexed_of text) (whole_at narrow (tokens text))) ≡ answered (faults.At l c k) → IsFirstFault text (faults.At l c k)
     go true is h = inl (long_fault text (ltb-true _ _ is) l c k h)
-    go false is h = inr (verdict_fault text (ltb-false _ _ is) (whole_at (tokens text)) refl l c k h)
+    go false is h = inr (verdict_fault text (ltb-false _ _ is) (λ m d. not_read text m l c k e d) (whole_at narrow (tokens text)) refl l c k h)
 
 pub answer_first : (text : List ℕ) (r : Result ModuleText NotationFault) → Answers r (module_of text) → IfErr r (λ e. IsFirstFault text e)
 answer_first text (Ok m) h = tt

@@ -9,8 +9,13 @@ pub mod OidLaws
 pub mod ModuleLaws
 pub mod Well
 pub mod Rises
+pub mod Clear
 pub mod Local
 pub mod LocalRules
 pub mod Begun
 pub mod BegunRules
+pub mod BegunModules
+pub mod TooDeep
+pub mod Wider
 pub mod FirstFaults
+pub mod OneFault

@@ -1,46 +1,39 @@
 -- How far reading looks: a token that it doesn't take decides, with whether OF stands behind it, and nothing further does.
 use Rattle.std.proofs.Common.{◌≡◌, ℕ, zero, suc, ◌+◌, ◌<◌, ◌≤◌, Bool, true, false, List, [], ◌∷◌, ◌++◌, length, Option, Some, None, Ok, Err, refl, sym, ap, ◌∙◌, append_assoc, arith, inl, inr}
-use Rattle.std.specs.Prelude.{◌⊎◌, ◌||◌, if◌then◌else◌}
+use Rattle.std.specs.Prelude.{codes, ◌⊎◌, ◌||◌, if◌then◌else◌}
 use Rattle.std.proofs.lemmas.List.{length-append, append_cancel_right}
-use Rattle.notation_tokens.specs.Lexeme.{Lexeme, begins, goes_on}
-use Rattle.notation_tokens.specs.Words.{is_unsupported}
+use Rattle.notation_tokens.specs.Lexeme.{Lexeme, same, begins, goes_on}
+use Rattle.notation_tokens.specs.Words.{place, word_of, is_unsupported}
 use Rattle.operation_notation.specs.Reading.{◌>>=◌, after, give, here, place_of, Failure, Read, taken, token_at, refuse, refuse_as, kind_at, is_set_of, word_at, many_at, all_at, behind, listed_at, maybe_at}
 use Rattle.notation_tokens.specs.declared.faults.NotationKind.{NotationKind}
 use Rattle.notation_tokens.specs.declared.faults.NotationKind.TheVariants.{Unsupported, UnexpectedToken}
+use Rattle.notation_tokens.specs.declared.token.Place.{Place}
 use Rattle.operation_notation.proofs.Means.{ok_is, after_ok, law_word}
+use Rattle.operation_notation.proofs.Starts.{among, apart}
+use Rattle.operation_notation.proofs.Chains.{same_excludes}
+use Rattle.operation_notation.proofs.Clear.{Clears, left_by, no_cut, clears_one, clears_then, clears_choice, clears_all}
 
 -- a token and what stands behind it begin with SET OF in both, or in neither
 abbrev pub Alike : Lexeme → List Lexeme → List Lexeme → Type 0
 Alike t u v = is_set_of (t ∷ u) ≡ is_set_of (t ∷ v)
 
--- some tokens, and then the rest
-pub record EndsWith (ts rest : List Lexeme) : Type 0 where
-  pub text : List Lexeme
-  pub is : ts ≡ text ++ rest
-
 abbrev pub fault : List Lexeme → NotationKind → Failure
 fault rest kind = record { rest = rest; kind = kind }
 
-pub record Local {A : Type 0} (f : List Lexeme → Read A) : Type 0 where
-  pub ok_front : (ts : List Lexeme) (a : A) (rest : List Lexeme) → f ts ≡ Ok (a, rest) → EndsWith ts rest
-  pub err_front : (ts rest : List Lexeme) (k : NotationKind) → f ts ≡ Err (fault rest k) → EndsWith ts rest
+-- what stands behind a token that isn't taken doesn't matter
+pub record Looks {A : Type 0} (f : List Lexeme → Read A) : Type 0 where
   pub ok : (x y : List Lexeme) (t : Lexeme) (u v : List Lexeme) (a : A) → Alike t u v → f (x ++ t ∷ u) ≡ Ok (a, y ++ t ∷ u) → f (x ++ t ∷ v) ≡ Ok (a, y ++ t ∷ v)
   pub err : (x y : List Lexeme) (t : Lexeme) (u v : List Lexeme) (k : NotationKind) → Alike t u v → f (x ++ t ∷ u) ≡ Err (fault (y ++ t ∷ u) k) → f (x ++ t ∷ v) ≡ Err (fault (y ++ t ∷ v) k)
+
+pub record Local {A : Type 0} (f : List Lexeme → Read A) : Type 0 where
+  pub clears : Clears f
+  pub looks : Looks f
 
 abbrev pub failed : {A : Type 0} → Failure → Read A
 failed e = Err e
 
 pub fault_is : {A : Type 0} (d e : Failure) → failed {A = A} d ≡ failed e → d ≡ e
 fault_is d e h = cc
-
-self : (ts : List Lexeme) → EndsWith ts ts
-self ts = record { text = []; is = refl }
-
-ends_at : (ts rest : List Lexeme) → ts ≡ rest → EndsWith ts rest
-ends_at ts rest e = record { text = []; is = e }
-
-joined_ends : (a b c : List Lexeme) → EndsWith a b → EndsWith b c → EndsWith a c
-joined_ends a b c p q = record { text = p.text ++ q.text; is = p.is ∙ ap (λ (z : List Lexeme). p.text ++ z) q.is ∙ sym (append_assoc p.text q.text c) }
 
 -- ---- what is wrong with a token
 
@@ -58,14 +51,15 @@ kind_local (s ∷ r ∷ x) t u v e = refl
 -- a refusal whose kind looks no further
 pub refuse_by : {A : Type 0} (kind : List Lexeme → NotationKind) → ((x : List Lexeme) (t : Lexeme) (u v : List Lexeme) → Alike t u v → kind (x ++ t ∷ u) ≡ kind (x ++ t ∷ v)) → Local {A = A} (λ ts. refuse_as (kind ts) ts)
 refuse_by {A = A} kind same_kind = record {
-  ok_front = λ ts a rest e. absurd cc;
-  err_front = λ ts rest k e. ends_at ts rest (ap (λ (z : Failure). z.rest) (fault_is (fault ts (kind ts)) (fault rest k) e));
-  ok = λ x y t u v a l e. absurd cc;
-  err = λ x y t u v k l e.
-      let d = fault_is (fault (x ++ t ∷ u) (kind (x ++ t ∷ u))) (fault (y ++ t ∷ u) k) e in
-      let front : x ≡ y = append_cancel_right x y (t ∷ u) (ap (λ (z : Failure). z.rest) d) in
-      let kind_is : kind (x ++ t ∷ v) ≡ k = sym (same_kind x t u v l) ∙ ap (λ (z : Failure). z.kind) d in
-      ap (λ (z : List Lexeme). failed (fault (z ++ t ∷ v) (kind (x ++ t ∷ v)))) front ∙ ap (λ (z : NotationKind). failed (fault (y ++ t ∷ v) z)) kind_is;
+  clears = no_cut;
+  looks = record {
+    ok = λ x y t u v a l e. absurd cc;
+    err = λ x y t u v k l e.
+        let d = fault_is (fault (x ++ t ∷ u) (kind (x ++ t ∷ u))) (fault (y ++ t ∷ u) k) e in
+        let front : x ≡ y = append_cancel_right x y (t ∷ u) (ap (λ (z : Failure). z.rest) d) in
+        let kind_is : kind (x ++ t ∷ v) ≡ k = sym (same_kind x t u v l) ∙ ap (λ (z : Failure). z.kind) d in
+        ap (λ (z : List Lexeme). failed (fault (z ++ t ∷ v) (kind (x ++ t ∷ v)))) front ∙ ap (λ (z : NotationKind). failed (fault (y ++ t ∷ v) z)) kind_is;
+  };
 }
 
 pub local_refuse : {A : Type 0} → Local {A = A} refuse
@@ -75,13 +69,14 @@ local_refuse = refuse_by kind_at kind_local
 
 pub local_give : {A : Type 0} (a : A) → Local (give a)
 local_give a = record {
-  ok_front = λ ts b rest e. ends_at ts rest (ap (λ (z : _ × List Lexeme). z.1) (ok_is (a, ts) (b, rest) e));
-  err_front = λ ts rest k e. absurd cc;
-  ok = λ x y t u v b l e.
-      let p = ok_is (a, x ++ t ∷ u) (b, y ++ t ∷ u) e in
-      let front : x ≡ y = append_cancel_right x y (t ∷ u) (ap (λ (z : _ × List Lexeme). z.1) p) in
-      ap (λ (z : List Lexeme). Ok (a, z ++ t ∷ v)) front ∙ ap (λ (c : _). Ok (c, y ++ t ∷ v)) (ap (λ (z : _ × List Lexeme). z.0) p);
-  err = λ x y t u v k l e. absurd cc;
+  clears = no_cut;
+  looks = record {
+    ok = λ x y t u v b l e.
+        let p = ok_is (a, x ++ t ∷ u) (b, y ++ t ∷ u) e in
+        let front : x ≡ y = append_cancel_right x y (t ∷ u) (ap (λ (z : _ × List Lexeme). z.1) p) in
+        ap (λ (z : List Lexeme). Ok (a, z ++ t ∷ v)) front ∙ ap (λ (c : _). Ok (c, y ++ t ∷ v)) (ap (λ (z : _ × List Lexeme). z.0) p);
+    err = λ x y t u v k l e. absurd cc;
+  };
 }
 
 too_long : (y : List Lexeme) (t : Lexeme) (u : List Lexeme) → u ≡ y ++ t ∷ u → ⊥
@@ -102,14 +97,6 @@ left_out (Some b) s ts d e = absurd cc
 left_out None s ts d e = (refl, e)
 
 module _ {A : Type 0} (test : Lexeme → Option A) where
-  one_ok_front : (ts : List Lexeme) (a : A) (rest : List Lexeme) → token_at test ts ≡ Ok (a, rest) → EndsWith ts rest
-  one_ok_front [] a rest e = absurd cc
-  one_ok_front (s ∷ ts) a rest e = record { text = s ∷ []; is = ap (λ (z : List Lexeme). s ∷ z) (took (test s) s ts a rest e).left }
-
-  one_err_front : (ts rest : List Lexeme) (k : NotationKind) → token_at test ts ≡ Err (fault rest k) → EndsWith ts rest
-  one_err_front [] rest k e = (local_refuse {A = A}).err_front [] rest k e
-  one_err_front (s ∷ ts) rest k e = (local_refuse {A = A}).err_front (s ∷ ts) rest k (left_out (test s) s ts (fault rest k) e).1
-
   one_ok : (x y : List Lexeme) (t : Lexeme) (u v : List Lexeme) (a : A) → Alike t u v → token_at test (x ++ t ∷ u) ≡ Ok (a, y ++ t ∷ u) → token_at test (x ++ t ∷ v) ≡ Ok (a, y ++ t ∷ v)
   one_ok [] y t u v a l e = absurd (too_long y t u (took (test t) t u a (y ++ t ∷ u) e).left)
   one_ok (s ∷ x) y t u v a l e =
@@ -119,13 +106,17 @@ module _ {A : Type 0} (test : Lexeme → Option A) where
   one_err : (x y : List Lexeme) (t : Lexeme) (u v : List Lexeme) (k : NotationKind) → Alike t u v → token_at test (x ++ t ∷ u) ≡ Err (fault (y ++ t ∷ u) k) → token_at test (x ++ t ∷ v) ≡ Err (fault (y ++ t ∷ v) k)
   one_err [] y t u v k l e =
       let p = left_out (test t) t u (fault (y ++ t ∷ u) k) e in
-      ap (λ (o : Option A). taken o t v) p.0 ∙ (local_refuse {A = A}).err [] y t u v k l p.1
+      ap (λ (o : Option A). taken o t v) p.0 ∙ (local_refuse {A = A}).looks.err [] y t u v k l p.1
   one_err (s ∷ x) y t u v k l e =
       let p = left_out (test s) s (x ++ t ∷ u) (fault (y ++ t ∷ u) k) e in
-      ap (λ (o : Option A). taken o s (x ++ t ∷ v)) p.0 ∙ (local_refuse {A = A}).err (s ∷ x) y t u v k l p.1
+      ap (λ (o : Option A). taken o s (x ++ t ∷ v)) p.0 ∙ (local_refuse {A = A}).looks.err (s ∷ x) y t u v k l p.1
 
-  pub local_one : Local (token_at test)
-  local_one = record { ok_front = one_ok_front; err_front = one_err_front; ok = one_ok; err = one_err }
+  pub looks_one : Looks (token_at test)
+  looks_one = record { ok = one_ok; err = one_err }
+
+  -- a test that SET doesn't pass
+  pub local_one : ((t : Lexeme) (a : A) → test t ≡ Some a → among (codes "SET" ∷ []) t ≡ false) → Local (token_at test)
+  local_one other = record { clears = clears_one test other; looks = looks_one }
 
 -- ---- one behind the other
 
@@ -133,34 +124,22 @@ pub after_err : {A B : Type 0} (x : Read A) (k : A → List Lexeme → Read B) (
 after_err (Ok p) k d e = inr (p, refl, e)
 after_err (Err c) k d e = inl (ap failed (sym (fault_is c d e)))
 
-module _ {A B : Type 0} (f : List Lexeme → Read A) (h : A → List Lexeme → Read B) (lf : Local f) (lh : (a : A) → Local (h a)) where
-  then_ok_front : (ts : List Lexeme) (b : B) (rest : List Lexeme) → (f >>= h) ts ≡ Ok (b, rest) → EndsWith ts rest
-  then_ok_front ts b rest e =
-      let p = after_ok (f ts) h b rest e in
-      joined_ends ts p.mid rest (lf.ok_front ts p.value p.mid p.is) ((lh p.value).ok_front p.mid b rest p.behind)
-
-  then_err_front : (ts rest : List Lexeme) (k : NotationKind) → (f >>= h) ts ≡ Err (fault rest k) → EndsWith ts rest
-  then_err_front ts rest k e =
-      elim (after_err (f ts) h (fault rest k) e) [
-        | inl q ↦ lf.err_front ts rest k (sym q)
-        | inr q ↦ joined_ends ts q.0.1 rest (lf.ok_front ts q.0.0 q.0.1 q.1) ((lh q.0.0).err_front q.0.1 rest k q.2)
-      ]
-
+module _ {A B : Type 0} (f : List Lexeme → Read A) (h : A → List Lexeme → Read B) (lf : Looks f) (lh : (a : A) → Local (h a)) where
   then_ok : (x y : List Lexeme) (t : Lexeme) (u v : List Lexeme) (b : B) → Alike t u v → (f >>= h) (x ++ t ∷ u) ≡ Ok (b, y ++ t ∷ u) → (f >>= h) (x ++ t ∷ v) ≡ Ok (b, y ++ t ∷ v)
   then_ok x y t u v b l e =
       let p = after_ok (f (x ++ t ∷ u)) h b (y ++ t ∷ u) e in
-      let w = (lh p.value).ok_front p.mid b (y ++ t ∷ u) p.behind in
+      let w = left_by (h p.value) (lh p.value).clears p.mid (Ok (b, y ++ t ∷ u)) p.behind in
       let mid : p.mid ≡ (w.text ++ y) ++ t ∷ u = w.is ∙ sym (append_assoc w.text y (t ∷ u)) in
       let one = lf.ok x (w.text ++ y) t u v p.value l (p.is ∙ ap (λ (z : List Lexeme). Ok (p.value, z)) mid) in
-      let two = (lh p.value).ok (w.text ++ y) y t u v b l (ap (h p.value) (sym mid) ∙ p.behind) in
+      let two = (lh p.value).looks.ok (w.text ++ y) y t u v b l (ap (h p.value) (sym mid) ∙ p.behind) in
       ap (λ (z : Read A). after z h) one ∙ two
 
   then_err_in : (x y : List Lexeme) (t : Lexeme) (u v : List Lexeme) (k : NotationKind) → Alike t u v → (p : A × List Lexeme) → f (x ++ t ∷ u) ≡ Ok p → h p.0 p.1 ≡ Err (fault (y ++ t ∷ u) k) → (f >>= h) (x ++ t ∷ v) ≡ Err (fault (y ++ t ∷ v) k)
   then_err_in x y t u v k l p is e =
-      let w = (lh p.0).err_front p.1 (y ++ t ∷ u) k e in
+      let w = left_by (h p.0) (lh p.0).clears p.1 (Err (fault (y ++ t ∷ u) k)) e in
       let mid : p.1 ≡ (w.text ++ y) ++ t ∷ u = w.is ∙ sym (append_assoc w.text y (t ∷ u)) in
       let one = lf.ok x (w.text ++ y) t u v p.0 l (is ∙ ap (λ (z : List Lexeme). Ok (p.0, z)) mid) in
-      let two = (lh p.0).err (w.text ++ y) y t u v k l (ap (h p.0) (sym mid) ∙ e) in
+      let two = (lh p.0).looks.err (w.text ++ y) y t u v k l (ap (h p.0) (sym mid) ∙ e) in
       ap (λ (z : Read A). after z h) one ∙ two
 
   then_err : (x y : List Lexeme) (t : Lexeme) (u v : List Lexeme) (k : NotationKind) → Alike t u v → (f >>= h) (x ++ t ∷ u) ≡ Err (fault (y ++ t ∷ u) k) → (f >>= h) (x ++ t ∷ v) ≡ Err (fault (y ++ t ∷ v) k)
@@ -170,22 +149,14 @@ module _ {A B : Type 0} (f : List Lexeme → Read A) (h : A → List Lexeme → 
         | inr q ↦ then_err_in x y t u v k l q.0 q.1 q.2
       ]
 
-  pub local_then : Local (f >>= h)
-  local_then = record { ok_front = then_ok_front; err_front = then_err_front; ok = then_ok; err = then_err }
+  pub looks_then : Looks (f >>= h)
+  looks_then = record { ok = then_ok; err = then_err }
 
 -- ---- choices
 
-module _ {A : Type 0} (test : List Lexeme → Bool) (f g : List Lexeme → Read A) (far : (x : List Lexeme) (t : Lexeme) (u v : List Lexeme) → Alike t u v → test (x ++ t ∷ u) ≡ test (x ++ t ∷ v)) (lf : Local f) (lg : Local g) where
+module _ {A : Type 0} (test : List Lexeme → Bool) (f g : List Lexeme → Read A) (far : (x : List Lexeme) (t : Lexeme) (u v : List Lexeme) → Alike t u v → test (x ++ t ∷ u) ≡ test (x ++ t ∷ v)) (lf : Looks f) (lg : Looks g) where
   abbrev chosen : Bool → List Lexeme → Read A
   chosen b ts = if b then f ts else g ts
-
-  chosen_ok_front : (b : Bool) (ts : List Lexeme) (a : A) (rest : List Lexeme) → chosen b ts ≡ Ok (a, rest) → EndsWith ts rest
-  chosen_ok_front true = lf.ok_front
-  chosen_ok_front false = lg.ok_front
-
-  chosen_err_front : (b : Bool) (ts rest : List Lexeme) (k : NotationKind) → chosen b ts ≡ Err (fault rest k) → EndsWith ts rest
-  chosen_err_front true = lf.err_front
-  chosen_err_front false = lg.err_front
 
   chosen_ok : (b : Bool) (x y : List Lexeme) (t : Lexeme) (u v : List Lexeme) (a : A) → Alike t u v → chosen b (x ++ t ∷ u) ≡ Ok (a, y ++ t ∷ u) → chosen b (x ++ t ∷ v) ≡ Ok (a, y ++ t ∷ v)
   chosen_ok true = lf.ok
@@ -195,25 +166,27 @@ module _ {A : Type 0} (test : List Lexeme → Bool) (f g : List Lexeme → Read 
   chosen_err true = lf.err
   chosen_err false = lg.err
 
-  pub local_choice : Local (λ ts. if test ts then f ts else g ts)
-  local_choice = record {
-    ok_front = λ ts. chosen_ok_front (test ts) ts;
-    err_front = λ ts. chosen_err_front (test ts) ts;
+  pub looks_choice : Looks (λ ts. if test ts then f ts else g ts)
+  looks_choice = record {
     ok = λ x y t u v a l e. ap (λ (b : Bool). chosen b (x ++ t ∷ v)) (sym (far x t u v l)) ∙ chosen_ok (test (x ++ t ∷ u)) x y t u v a l e;
     err = λ x y t u v k l e. ap (λ (b : Bool). chosen b (x ++ t ∷ v)) (sym (far x t u v l)) ∙ chosen_err (test (x ++ t ∷ u)) x y t u v k l e;
   }
+
+pub local_choice : {A : Type 0} (test : List Lexeme → Bool) (f g : List Lexeme → Read A) → ((x : List Lexeme) (t : Lexeme) (u v : List Lexeme) → Alike t u v → test (x ++ t ∷ u) ≡ test (x ++ t ∷ v)) → Local f → Local g → Local (λ ts. if test ts then f ts else g ts)
+local_choice test f g far lf lg = record { clears = clears_choice test f g lf.clears (λ ts e. lg.clears ts); looks = looks_choice test f g far lf.looks lg.looks }
 
 -- ---- what is looked at and not taken
 
 pub local_peek : {A : Type 0} (q : List Lexeme → A) → ((x : List Lexeme) (t : Lexeme) (u v : List Lexeme) → q (x ++ t ∷ u) ≡ q (x ++ t ∷ v)) → Local (λ ts. Ok (q ts, ts))
 local_peek q far = record {
-  ok_front = λ ts b rest e. ends_at ts rest (ap (λ (z : _ × List Lexeme). z.1) (ok_is (q ts, ts) (b, rest) e));
-  err_front = λ ts rest k e. absurd cc;
-  ok = λ x y t u v b l e.
-      let p = ok_is (q (x ++ t ∷ u), x ++ t ∷ u) (b, y ++ t ∷ u) e in
-      let front : x ≡ y = append_cancel_right x y (t ∷ u) (ap (λ (z : _ × List Lexeme). z.1) p) in
-      ap (λ (z : List Lexeme). Ok (q (x ++ t ∷ v), z ++ t ∷ v)) front ∙ ap (λ (c : _). Ok (c, y ++ t ∷ v)) (sym (far x t u v) ∙ ap (λ (z : _ × List Lexeme). z.0) p);
-  err = λ x y t u v k l e. absurd cc;
+  clears = no_cut;
+  looks = record {
+    ok = λ x y t u v b l e.
+        let p = ok_is (q (x ++ t ∷ u), x ++ t ∷ u) (b, y ++ t ∷ u) e in
+        let front : x ≡ y = append_cancel_right x y (t ∷ u) (ap (λ (z : _ × List Lexeme). z.1) p) in
+        ap (λ (z : List Lexeme). Ok (q (x ++ t ∷ v), z ++ t ∷ v)) front ∙ ap (λ (c : _). Ok (c, y ++ t ∷ v)) (sym (far x t u v) ∙ ap (λ (z : _ × List Lexeme). z.0) p);
+    err = λ x y t u v k l e. absurd cc;
+  };
 }
 
 place_far : (x : List Lexeme) (t : Lexeme) (u v : List Lexeme) → place_of (x ++ t ∷ u) ≡ place_of (x ++ t ∷ v)
@@ -234,7 +207,7 @@ goes_on_far w (s ∷ x) t u v = refl
 -- ---- with less to write
 
 pub lthen : {A B : Type 0} {f : List Lexeme → Read A} {h : A → List Lexeme → Read B} → Local f → ((a : A) → Local (h a)) → Local (f >>= h)
-lthen {f = f} {h = h} lf lh = local_then f h lf lh
+lthen {f = f} {h = h} lf lh = record { clears = clears_then f h lf.clears (λ a. (lh a).clears); looks = looks_then f h lf.looks lh }
 
 pub lpick : {A : Type 0} {f g : List Lexeme → Read A} (w : List ℕ) → Local f → Local g → Local (λ ts. if begins w ts then f ts else g ts)
 lpick {f = f} {g = g} w lf lg = local_choice (begins w) f g (λ x t u v l. begins_far w x t u v) lf lg
@@ -242,12 +215,24 @@ lpick {f = f} {g = g} w lf lg = local_choice (begins w) f g (λ x t u v l. begin
 pub lmaybe : {A : Type 0} {f : List Lexeme → Read A} (w : List ℕ) → Local f → Local (maybe_at w f)
 lmaybe w lf = lpick w (lthen lf (λ a. local_give (Some a))) (local_give None)
 
-pub lword : (w : List ℕ) → Local (word_at w)
-unfolding word_at
-lword w = local_one _
+-- a word that isn't SET
+abbrev pub Other : List ℕ → Type 0
+Other w = apart (w ∷ []) (codes "SET" ∷ []) ≡ true
 
-pub lbehind : {A : Type 0} {f : List Lexeme → Read A} (w : List ℕ) → Local f → Local (behind w f)
-lbehind w lf = lthen (lword w) (λ p. lf)
+word_text : (w : List ℕ) (t : Lexeme) (a : Place) → word_of w t ≡ Some a → same t.text w ≡ true
+unfolding word_of
+word_text w t a e = go (same t.text w) refl e
+  where
+    go : (b : Bool) → same t.text w ≡ b → (if b then Some (place t) else None) ≡ Some a → b ≡ true
+    go true is h = refl
+    go false is h = absurd cc
+
+pub lword : (w : List ℕ) → Other w → Local (word_at w)
+unfolding word_at
+lword w o = local_one (word_of w) (λ t a e. same_excludes w (codes "SET" ∷ []) o t (word_text w t a e))
+
+pub lbehind : {A : Type 0} {f : List Lexeme → Read A} (w : List ℕ) → Other w → Local f → Local (behind w f)
+lbehind w o lf = lthen (lword w o) (λ p. lf)
 
 -- ---- again and again
 
@@ -280,27 +265,28 @@ enough test f none takes (suc n) (suc m) ts p q = ap (λ (r : Read (List _)). if
 
 pub local_all : {A : Type 0} (test : List Lexeme → Bool) (f : List Lexeme → Read A) → ((x : List Lexeme) (t : Lexeme) (u v : List Lexeme) → Alike t u v → test (x ++ t ∷ u) ≡ test (x ++ t ∷ v)) → test [] ≡ false → Takes f → Local f → Local (all_at test f)
 local_all test f far none takes lf = record {
-  ok_front = λ ts l rest e. (local_many test f far lf (length ts)).ok_front ts l rest e;
-  err_front = λ ts rest k e. (local_many test f far lf (length ts)).err_front ts rest k e;
-  ok = λ x y t u v l same_of e.
-      let n = length (x ++ t ∷ u) + length (x ++ t ∷ v) in
-      enough test f none takes (length (x ++ t ∷ v)) n (x ++ t ∷ v) (omega arith) (omega arith)
-      ∙ (local_many test f far lf n).ok x y t u v l same_of (enough test f none takes n (length (x ++ t ∷ u)) (x ++ t ∷ u) (omega arith) (omega arith) ∙ e);
-  err = λ x y t u v k same_of e.
-      let n = length (x ++ t ∷ u) + length (x ++ t ∷ v) in
-      enough test f none takes (length (x ++ t ∷ v)) n (x ++ t ∷ v) (omega arith) (omega arith)
-      ∙ (local_many test f far lf n).err x y t u v k same_of (enough test f none takes n (length (x ++ t ∷ u)) (x ++ t ∷ u) (omega arith) (omega arith) ∙ e);
+  clears = clears_all test f lf.clears;
+  looks = record {
+    ok = λ x y t u v l same_of e.
+        let n = length (x ++ t ∷ u) + length (x ++ t ∷ v) in
+        enough test f none takes (length (x ++ t ∷ v)) n (x ++ t ∷ v) (omega arith) (omega arith)
+        ∙ (local_many test f far lf n).looks.ok x y t u v l same_of (enough test f none takes n (length (x ++ t ∷ u)) (x ++ t ∷ u) (omega arith) (omega arith) ∙ e);
+    err = λ x y t u v k same_of e.
+        let n = length (x ++ t ∷ u) + length (x ++ t ∷ v) in
+        enough test f none takes (length (x ++ t ∷ v)) n (x ++ t ∷ v) (omega arith) (omega arith)
+        ∙ (local_many test f far lf n).looks.err x y t u v k same_of (enough test f none takes n (length (x ++ t ∷ u)) (x ++ t ∷ u) (omega arith) (omega arith) ∙ e);
+  };
 }
 
 behind_takes : {A : Type 0} (w : List ℕ) (f : List Lexeme → Read A) → Local f → Takes (behind w f)
 behind_takes w f lf ts a rest e =
     let p = after_ok (word_at w ts) (λ q. f) a rest e in
     let x = (law_word w).found ts p.value p.mid p.is in
-    let y = lf.ok_front p.mid a rest p.behind in
+    let y = left_by f lf.clears p.mid (Ok (a, rest)) p.behind in
     omega (arith, ap length x.parts, length-append x.text p.mid, ap length x.spelled.alone, ap length y.is, length-append y.text rest)
 
-pub llisted : {A : Type 0} {f : List Lexeme → Read A} (w : List ℕ) → Local f → Local (listed_at w f)
-llisted {f = f} w lf = lthen lf (λ first. lthen (local_all (begins w) (behind w f) (λ x t u v l. begins_far w x t u v) refl (behind_takes w f lf) (lbehind w lf)) (λ others. local_give (first ∷ others)))
+pub llisted : {A : Type 0} {f : List Lexeme → Read A} (w : List ℕ) → Other w → Local f → Local (listed_at w f)
+llisted {f = f} w o lf = lthen lf (λ first. lthen (local_all (begins w) (behind w f) (λ x t u v l. begins_far w x t u v) refl (behind_takes w f lf) (lbehind w o lf)) (λ others. local_give (first ∷ others)))
 
-pub lmore : {A : Type 0} {f : List Lexeme → Read A} (w : List ℕ) → Local f → Local (all_at (begins w) (behind w f))
-lmore {f = f} w lf = local_all (begins w) (behind w f) (λ x t u v l. begins_far w x t u v) refl (behind_takes w f lf) (lbehind w lf)
+pub lmore : {A : Type 0} {f : List Lexeme → Read A} (w : List ℕ) → Other w → Local f → Local (all_at (begins w) (behind w f))
+lmore {f = f} w o lf = local_all (begins w) (behind w f) (λ x t u v l. begins_far w x t u v) refl (behind_takes w f lf) (lbehind w o lf)

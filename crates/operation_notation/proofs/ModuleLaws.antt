@@ -1,5 +1,5 @@
 -- Reading modules against their grammar.
-use Rattle.std.proofs.Common.{codes, ◌≡◌, ℕ, Bool, true, false, List, [], ◌∷◌, ◌++◌, length, Option, Some, None, Result, Ok, Err, refl, sym, ap, subst, ◌∙◌, arith, inl, inr}
+use Rattle.std.proofs.Common.{codes, ◌≡◌, ℕ, Bool, true, false, List, [], ◌∷◌, ◌++◌, length, Option, Some, None, Result, Ok, Err, refl, sym, ap, subst, ◌∙◌, arith}
 use Rattle.std.specs.Prelude.{IfOk, ◌||◌, ◌&&◌, not, nat_lt, if◌then◌else◌}
 use Rattle.std.specs.List.{list_any, list_all}
 use Rattle.std.specs.Char.{is_ascii_uppercase, is_ascii_lowercase}
@@ -8,8 +8,8 @@ use Rattle.std.proofs.lemmas.Bool.{not-false, ltb-false, le-ltb}
 use Rattle.std.proofs.lemmas.List.{append-nil}
 use Rattle.std.proofs.lemmas.Bool.Decides.{nat_tests}
 use Rattle.notation_tokens.specs.Lexeme.{Lexeme, lexemes, same, begins, goes_on}
-use Rattle.notation_tokens.specs.Words.{bool_of, is_value_name, is_kind_word, begins_lower, begins_upper}
-use Rattle.operation_notation.specs.Reading.{◌>>=◌, after, give, Read, refuse_as, word_at, bool_at, all_at, behind}
+use Rattle.notation_tokens.specs.Words.{place, bool_of, is_value_name, is_kind_word, begins_lower, begins_upper}
+use Rattle.operation_notation.specs.Reading.{◌>>=◌, after, give, Read, refuse_as, token_at, word_at, bool_at, all_at, behind}
 use Rattle.operation_notation.specs.ReadingTypes.{starts_name}
 use Rattle.operation_notation.specs.ReadingModules.{flag_at, flag_2_at, flag_or_at, passed_flag_at, use_at, maybe_use_at, names_at, named_list_at, priority_at, passed_priority_at, invoke_priority_at, local_at, global_at, code_value_at, code_at, maybe_code_at, signature_at, manner_at, operation_at, error_at, typed_at, opens_at, operation_body_at, error_body_at, body_at, valued_at, assignment_at, assignments_at, class_kind, imported_at, listed_imports_at, maybe_oid_at, imports_at, maybe_imports_at, tagging_at, heading_at, module_at, ended_at, whole_at}
 use Rattle.notation_tokens.specs.Texts.{Answers, unless_stopped, too_long}
@@ -18,15 +18,14 @@ use Rattle.notation_tokens.specs.Lexing.{most_octets, lexed_of}
 use Rattle.notation_tokens.specs.declared.lexer.Lexed.{Lexed}
 use Rattle.notation_tokens.specs.declared.faults.NotationFault.{NotationFault}
 use Rattle.notation_tokens.specs.declared.faults.NotationKind.{NotationKind}
-use Rattle.operation_notation.specs.Grammar.{One, Then, Nothing, Either, Maybe, Many, The, Behind, Listed}
-use Rattle.operation_notation.specs.GrammarTypes.{OidSpelled}
-use Rattle.operation_notation.specs.GrammarModules.{Flag, FlagOr, Names, NamedList, Priority, Local, Global, Code, Manner, Opens, Imported, Imports, Tagging, HeadingSpelled}
-use Rattle.operation_notation.proofs.Outermost.{Use, SignatureSpelled, Operation, Error, Typed, OperationBody, ErrorBody, Valued, Assign, Module}
+use Rattle.operation_notation.specs.Grammar.{One, Then, Nothing, Either, Where, Maybe, Many, The, Behind, Listed}
+use Rattle.operation_notation.specs.GrammarTypes.{OidSpelled, Extent, narrow}
+use Rattle.operation_notation.specs.GrammarModules.{Flag, FlagOr, Use, Names, NamedList, Priority, Local, Global, Code, SignatureSpelled, Manner, Operation, Error, Typed, Opens, OperationBody, ErrorBody, Valued, Assign, name_of, Imported, Imports, Tagging, HeadingSpelled, Module}
 use Rattle.notation_tokens.specs.declared.token.Place.{Place}
 use Rattle.operation_notation.specs.declared.module.ModuleText.{ModuleText}
 use Rattle.operation_notation.specs.declared.module.Assignment.{Assignment}
 use Rattle.operation_notation.proofs.Means.{Law, never, law_then, law_one, law_word, law_nothing, law_choice, Loops, law_all, after_ok, ok_is}
-use Rattle.operation_notation.proofs.Starts.{Headed, Starts, headed_append, headed_takes, starts_then, starts_either, among, Excludes, excludes_among, excludes_type_name, excludes_value_name, excludes_or, type_named, value_named, type_name_parts, no_value_name, no_type_name, begins_any, headed_any, headed_is, fewer, fewer_one, starts_the, starts_word, or_false}
+use Rattle.operation_notation.proofs.Starts.{Headed, Starts, headed_append, headed_takes, starts_then, starts_one, starts_either, among, Excludes, excludes_among, excludes_type_name, excludes_value_name, excludes_or, type_named, value_named, type_name_parts, no_value_name, no_type_name, begins_any, headed_any, headed_is, fewer, fewer_one, starts_the, starts_word, or_false}
 use Rattle.operation_notation.proofs.Chains.{next, map_law, law_weaken, law_any, law_behind, starts_behind, MayStart, may_starts, may_then, may_nothing, may_maybe, may_either, behind_may, behind_starts, behind_word, same_excludes, pick, pick_may, maybe_word, law_listed, weaker_headed, or_left, or_right}
 use Rattle.operation_notation.proofs.TypeLaws.{law_int, law_type_name, law_value_name, law_number_64, starts_value_name, starts_type_name, type_stops, part_stops, law_outer_type}
 use Rattle.operation_notation.proofs.OidLaws.{law_oid, law_same}
@@ -55,16 +54,16 @@ law_passed_flag : (w : List ℕ) → itself w → Law (Maybe (Flag w)) (passed_f
 unfolding passed_flag_at
 law_passed_flag w e = maybe_word (begins_any (w ∷ [])) w (law_flag w) (starts_behind w _) (fewer_one w (w ∷ []) e) (λ rest st. refl)
 
-law_use : (w : List ℕ) → Law (Use w) (use_at w) (begins_any part_stops)
+law_use : (ext : Extent) (w : List ℕ) → Law (Use ext w) (use_at ext w) (begins_any part_stops)
 unfolding use_at
-law_use w = next (law_word w) (λ at. behind_may type_stops part_stops (among (codes "OPTIONAL" ∷ [])) law_outer_type
+law_use ext w = next (law_word w) (λ at. behind_may type_stops part_stops (among (codes "OPTIONAL" ∷ [])) (law_outer_type ext)
     (λ of. map_law _ (maybe_word (begins_any part_stops) (codes "OPTIONAL") (law_flag (codes "OPTIONAL")) (starts_behind (codes "OPTIONAL") _) (fewer_one (codes "OPTIONAL") part_stops refl) (λ rest st. refl)))
     (λ of. may_then (may_maybe (starts_then _ _ _ (starts_word (codes "OPTIONAL") (codes "OPTIONAL" ∷ []) refl))) (λ o. may_nothing _ _))
     (excludes_among (codes "OPTIONAL" ∷ []) type_stops refl) refl)
 
-law_maybe_use : (w : List ℕ) → list_any (bytes_eq w) (w ∷ part_stops) ≡ true → list_all (λ v. list_any (bytes_eq v) (w ∷ part_stops)) part_stops ≡ true → Law (Maybe (Use w)) (maybe_use_at w) (begins_any (w ∷ part_stops))
+law_maybe_use : (ext : Extent) (w : List ℕ) → list_any (bytes_eq w) (w ∷ part_stops) ≡ true → list_all (λ v. list_any (bytes_eq v) (w ∷ part_stops)) part_stops ≡ true → Law (Maybe (Use ext w)) (maybe_use_at ext w) (begins_any (w ∷ part_stops))
 unfolding maybe_use_at
-law_maybe_use w e l = maybe_word (begins_any (w ∷ part_stops)) w (law_use w) (starts_then _ _ _ (starts_the w)) (fewer_one w (w ∷ part_stops) e) (fewer part_stops (w ∷ part_stops) l)
+law_maybe_use ext w e l = maybe_word (begins_any (w ∷ part_stops)) w (law_use ext w) (starts_then _ _ _ (starts_the w)) (fewer_one w (w ∷ part_stops) e) (fewer part_stops (w ∷ part_stops) l)
 
 law_names : Law Names names_at never
 unfolding names_at
@@ -122,8 +121,8 @@ signature_stops = codes "ARGUMENT" ∷ codes "RESULT" ∷ codes "RETURN" ∷ par
 may_flag_or : (w n : List ℕ) (ws : List (List ℕ)) → list_any (bytes_eq w) ws ≡ true → MayStart (FlagOr w n) (among ws)
 may_flag_or w n ws e = may_then (may_maybe (starts_then _ _ (among ws) (starts_word w ws e))) (λ o. may_nothing _ (among ws))
 
-may_use : (w : List ℕ) (ws : List (List ℕ)) → list_any (bytes_eq w) ws ≡ true → MayStart (Maybe (Use w)) (among ws)
-may_use w ws e = may_maybe (starts_then _ _ (among ws) (starts_word w ws e))
+may_use : (ext : Extent) (w : List ℕ) (ws : List (List ℕ)) → list_any (bytes_eq w) ws ≡ true → MayStart (Maybe (Use ext w)) (among ws)
+may_use ext w ws e = may_maybe (starts_then _ _ (among ws) (starts_word w ws e))
 
 may_behind : {A : Type 0} (r : List Lexeme → A → Type 0) (w : List ℕ) (ws : List (List ℕ)) → list_any (bytes_eq w) ws ≡ true → MayStart (Maybe (Behind w r)) (among ws)
 may_behind r w ws e = may_maybe (starts_then _ _ (among ws) (starts_word w ws e))
@@ -131,15 +130,15 @@ may_behind r w ws e = may_maybe (starts_then _ _ (among ws) (starts_word w ws e)
 may_named_list : (w : List ℕ) (ws : List (List ℕ)) → list_any (bytes_eq w) ws ≡ true → MayStart (NamedList w) (among ws)
 may_named_list w ws e = may_either (may_starts (starts_then _ _ (among ws) (starts_word w ws e))) (may_nothing [] (among ws))
 
-law_signature : Law SignatureSpelled signature_at (begins_any signature_stops)
+law_signature : (ext : Extent) → Law (SignatureSpelled ext) (signature_at ext) (begins_any signature_stops)
 unfolding signature_at
-law_signature =
-    behind_may (codes "ARGUMENT" ∷ part_stops) signature_stops (among result_words) (law_maybe_use (codes "ARGUMENT") refl refl)
-    (λ argument. behind_may (codes "RESULT" ∷ part_stops) signature_stops (among returns_words) (law_maybe_use (codes "RESULT") refl refl)
+law_signature ext =
+    behind_may (codes "ARGUMENT" ∷ part_stops) signature_stops (among result_words) (law_maybe_use ext (codes "ARGUMENT") refl refl)
+    (λ argument. behind_may (codes "RESULT" ∷ part_stops) signature_stops (among returns_words) (law_maybe_use ext (codes "RESULT") refl refl)
     (λ result. map_law _ (law_weaken (begins_any signature_stops) (law_flag_or (codes "RETURN") (codes "RESULT") refl) (fewer (codes "RETURN" ∷ []) signature_stops refl)))
     (λ result. may_then (may_flag_or (codes "RETURN") (codes "RESULT") returns_words refl) (λ o. may_nothing _ _))
     (excludes_among returns_words (codes "RESULT" ∷ part_stops) refl) refl)
-    (λ argument. may_then (may_use (codes "RESULT") result_words refl) (λ o. may_then (may_flag_or (codes "RETURN") (codes "RESULT") result_words refl) (λ p. may_nothing _ _)))
+    (λ argument. may_then (may_use ext (codes "RESULT") result_words refl) (λ o. may_then (may_flag_or (codes "RETURN") (codes "RESULT") result_words refl) (λ p. may_nothing _ _)))
     (excludes_among result_words (codes "ARGUMENT" ∷ part_stops) refl) refl
 
 abbrev manner_words : List (List ℕ)
@@ -203,10 +202,10 @@ may_manner : (ws : List (List ℕ)) → list_any (bytes_eq (codes "SYNCHRONOUS")
     → list_any (bytes_eq (codes "INVOKE")) ws ≡ true → list_any (bytes_eq (codes "RESULT-PRIORITY")) ws ≡ true → MayStart Manner (among ws)
 may_manner ws s i a v r = may_then (may_flag (codes "SYNCHRONOUS") ws s) (λ _. may_then (may_flag (codes "IDEMPOTENT") ws i) (λ _. may_then (may_flag_or (codes "ALWAYS") (codes "RESPONDS") ws a) (λ always. may_then (may_behind _ (codes "INVOKE") ws v) (λ _. may_manner_5 always ws r))))
 
-law_operation : Law Operation operation_at (begins_any operation_stops)
+law_operation : (ext : Extent) → Law (Operation ext) (operation_at ext) (begins_any operation_stops)
 unfolding operation_at
-law_operation =
-    behind_may signature_stops operation_stops (among errors_words) law_signature
+law_operation ext =
+    behind_may signature_stops operation_stops (among errors_words) (law_signature ext)
     (λ signature. behind_may (codes "ERRORS" ∷ []) operation_stops (among linked_words) (law_named_list (codes "ERRORS") refl)
     (λ errors. behind_may (codes "LINKED" ∷ []) operation_stops (among manner_code) (law_named_list (codes "LINKED") refl)
     (λ linked. behind_may manner_words operation_stops (among code_words) law_manner
@@ -223,10 +222,10 @@ error_stops = codes "PARAMETER" ∷ codes "PRIORITY" ∷ codes "CODE" ∷ part_s
 abbrev priority_words : List (List ℕ)
 priority_words = codes "PRIORITY" ∷ codes "CODE" ∷ []
 
-law_error : Law Error error_at (begins_any error_stops)
+law_error : (ext : Extent) → Law (Error ext) (error_at ext) (begins_any error_stops)
 unfolding error_at
-law_error =
-    behind_may (codes "PARAMETER" ∷ part_stops) error_stops (among priority_words) (law_maybe_use (codes "PARAMETER") refl refl)
+law_error ext =
+    behind_may (codes "PARAMETER" ∷ part_stops) error_stops (among priority_words) (law_maybe_use ext (codes "PARAMETER") refl refl)
     (λ parameter. behind_may (codes "PRIORITY" ∷ []) error_stops (among code_words) (law_passed_priority (codes "PRIORITY") refl)
     (λ _. map_law _ (law_weaken (begins_any error_stops) law_maybe_code (fewer code_words error_stops refl)))
     (λ _. may_then (may_code code_words refl) (λ code. may_nothing _ _)) (excludes_among code_words (codes "PRIORITY" ∷ []) refl) refl)
@@ -239,26 +238,26 @@ law_opens : (w : List ℕ) → Law (Opens w) (opens_at w) never
 unfolding opens_at
 law_opens w = law_behind w (law_behind (codes "::=") (law_word (codes "{")))
 
-law_operation_body : Law OperationBody operation_body_at never
+law_operation_body : (ext : Extent) → Law (OperationBody ext) (operation_body_at ext) never
 unfolding operation_body_at
-law_operation_body = next (law_opens (codes "OPERATION")) (λ _. behind_word operation_stops (codes "}") law_operation (λ operation _. law_nothing _ never) refl)
+law_operation_body ext = next (law_opens (codes "OPERATION")) (λ _. behind_word operation_stops (codes "}") (law_operation ext) (λ operation _. law_nothing _ never) refl)
 
-law_error_body : Law ErrorBody error_body_at never
+law_error_body : (ext : Extent) → Law (ErrorBody ext) (error_body_at ext) never
 unfolding error_body_at
-law_error_body = next (law_opens (codes "ERROR")) (λ _. behind_word error_stops (codes "}") law_error (λ error _. law_nothing _ never) refl)
+law_error_body ext = next (law_opens (codes "ERROR")) (λ _. behind_word error_stops (codes "}") (law_error ext) (λ error _. law_nothing _ never) refl)
 
-law_body : Law (Either OperationBody ErrorBody) body_at never
+law_body : (ext : Extent) → Law (Either (OperationBody ext) (ErrorBody ext)) (body_at ext) never
 unfolding body_at
-law_body = pick never (codes "OPERATION") (λ t. same t.text (codes "ERROR")) law_operation_body law_error_body
+law_body ext = pick never (codes "OPERATION") (λ t. same t.text (codes "ERROR")) (law_operation_body ext) (law_error_body ext)
     (starts_then _ _ _ (starts_behind (codes "OPERATION") _)) (starts_then _ _ _ (starts_behind (codes "ERROR") _)) (same_excludes (codes "ERROR") (codes "OPERATION" ∷ []) refl) (λ rest st. refl) (λ rest st. refl)
 
-law_valued : Law Valued valued_at never
+law_valued : (ext : Extent) → Law (Valued ext) (valued_at ext) never
 unfolding valued_at
-law_valued = next law_value_name (λ name. map_law _ law_body)
+law_valued ext = next law_value_name (λ name. map_law _ (law_body ext))
 
-law_typed : Law Typed typed_at (begins_any type_stops)
+law_typed : (ext : Extent) → Law (Typed ext) (typed_at ext) (begins_any type_stops)
 unfolding typed_at
-law_typed = next law_type_name (λ name. next (law_word (codes "::=")) (λ _. map_law _ law_outer_type))
+law_typed ext = next law_type_name (λ name. next (law_word (codes "::=")) (λ _. map_law _ (law_outer_type ext)))
 
 upper_not_lower : (c : ℕ) → is_ascii_uppercase c ≡ true → is_ascii_lowercase c ≡ false
 upper_not_lower c e = grind (arith, nat_tests)
@@ -275,11 +274,11 @@ type_no_value : (t : Lexeme) → type_named t ≡ true → value_named t ≡ fal
 unfolding is_value_name
 type_no_value t e = and_false (is_kind_word t.kind) (begins_lower t.text) (text_not_lower t.text (type_name_parts t.kind t.text e).0)
 
-starts_valued : Starts Valued value_named
-starts_valued = starts_then _ _ value_named starts_value_name
+starts_valued : (ext : Extent) → Starts (Valued ext) value_named
+starts_valued ext = starts_then _ _ value_named starts_value_name
 
-starts_typed : Starts Typed type_named
-starts_typed = starts_then _ _ type_named starts_type_name
+starts_typed : (ext : Extent) → Starts (Typed ext) type_named
+starts_typed ext = starts_then _ _ type_named starts_type_name
 
 valued_name : (y rest : List Lexeme) → Headed value_named y → starts_name (y ++ rest) ≡ true
 valued_name y rest h = ap (λ (z : List Lexeme). starts_name (z ++ rest)) h.is ∙ h.passes
@@ -287,18 +286,18 @@ valued_name y rest h = ap (λ (z : List Lexeme). starts_name (z ++ rest)) h.is �
 typed_no_name : (y rest : List Lexeme) → Headed type_named y → starts_name (y ++ rest) ≡ false
 typed_no_name y rest h = ap (λ (z : List Lexeme). starts_name (z ++ rest)) h.is ∙ type_no_value h.token h.passes
 
-pub law_assign : Law Assign assignment_at (begins_any type_stops)
+pub law_assign : (ext : Extent) → Law (Assign ext) (assignment_at ext) (begins_any type_stops)
 unfolding assignment_at
-law_assign = law_choice starts_name _ _ _ _ never (begins_any type_stops) (begins_any type_stops) law_valued law_typed
-    (record { tells = λ text a rest d st. valued_name text rest (starts_valued text a d); own_stops = λ rest st. refl })
-    (record { tells = λ text a rest d st. typed_no_name text rest (starts_typed text a d); own_stops = λ rest st. st })
+law_assign ext = law_choice starts_name _ _ _ _ never (begins_any type_stops) (begins_any type_stops) (law_valued ext) (law_typed ext)
+    (record { tells = λ text a rest d st. valued_name text rest (starts_valued ext text a d); own_stops = λ rest st. refl })
+    (record { tells = λ text a rest d st. typed_no_name text rest (starts_typed ext text a d); own_stops = λ rest st. st })
 
 abbrev pub assigned : Lexeme → Bool
 assigned t = value_named t || type_named t
 
-pub starts_assign : Starts Assign assigned
-starts_assign = starts_either _ _ assigned (λ text a d. weaker_headed value_named assigned text (λ t e. or_left _ (type_named t) e) (starts_valued text a d))
-    (λ text a d. weaker_headed type_named assigned text (λ t e. or_right (value_named t) _ e) (starts_typed text a d))
+pub starts_assign : (ext : Extent) → Starts (Assign ext) assigned
+starts_assign ext = starts_either _ _ assigned (λ text a d. weaker_headed value_named assigned text (λ t e. or_left _ (type_named t) e) (starts_valued ext text a d))
+    (λ text a d. weaker_headed type_named assigned text (λ t e. or_right (value_named t) _ e) (starts_typed ext text a d))
 
 excludes_assigned : (ws : List (List ℕ)) → list_all no_value_name ws ≡ true → list_all no_type_name ws ≡ true → Excludes assigned ws
 excludes_assigned ws v n = excludes_or value_named type_named ws (excludes_value_name ws v) (excludes_type_name ws n)
@@ -316,67 +315,78 @@ ending_stops : (rest : List Lexeme) → ending rest ≡ false → begins_any typ
 ending_stops [] st = refl
 ending_stops (t ∷ ts) st = same_excludes (codes "END") type_stops refl t (not-false (same t.text (codes "END")) st)
 
-assign_loops : Loops ending Assign (begins_any type_stops) ending
-assign_loops = record {
-  goes = λ text a rest d. goes_on_headed (codes "END") text rest assigned (starts_assign text a d) (excludes_assigned (codes "END" ∷ []) refl refl);
-  takes = λ text a d. headed_takes assigned text (starts_assign text a d);
+assign_loops : (ext : Extent) → Loops ending (Assign ext) (begins_any type_stops) ending
+assign_loops ext = record {
+  goes = λ text a rest d. goes_on_headed (codes "END") text rest assigned (starts_assign ext text a d) (excludes_assigned (codes "END" ∷ []) refl refl);
+  takes = λ text a d. headed_takes assigned text (starts_assign ext text a d);
   ends = λ rest st. st;
   last = ending_stops;
-  next = λ text a rest d. headed_any assigned type_stops text rest (starts_assign text a d) (excludes_assigned type_stops refl refl);
+  next = λ text a rest d. headed_any assigned type_stops text rest (starts_assign ext text a d) (excludes_assigned type_stops refl refl);
 }
 
-law_assignments : Law (Many Assign) assignments_at ending
+law_assignments : (ext : Extent) → Law (Many (Assign ext)) (assignments_at ext) ending
 unfolding assignments_at
-law_assignments = law_all ending Assign assignment_at (begins_any type_stops) ending law_assign assign_loops
+law_assignments ext = law_all ending (Assign ext) (assignment_at ext) (begins_any type_stops) ending (law_assign ext) (assign_loops ext)
 
 -- ---- imports
 
-record NoRule {A : Type 0} (ts : List Lexeme) (a : A) : Type 0 where
-  never_so : ⊥
+law_other : (wide : Bool) → Law (Where wide (One name_of)) (λ ts. if wide then token_at name_of ts else refuse_as (class_kind ts) ts) never
+law_other true = law_one name_of
+law_other false = record { found = λ ts a rest e. absurd cc; only = λ text a rest d st. absurd d }
 
-law_refused : (s : List Lexeme → Bool) → Law {A = Place} NoRule (λ ts. refuse_as (class_kind ts) ts) s
-law_refused s = record { found = λ ts a rest e. absurd cc; only = λ text a rest d st. absurd d.never_so }
+pub name_is : (t : Lexeme) (a : Place) → name_of t ≡ Some a → type_named t || value_named t ≡ true
+name_is t a e = go (type_named t || value_named t) refl e
+  where
+    go : (b : Bool) → type_named t || value_named t ≡ b → (if b then Some (place t) else None) ≡ Some a → b ≡ true
+    go true is h = refl
+    go false is h = absurd cc
 
-imported_to : (ts : List Lexeme) (a : Place) → Either (The (codes "OPERATION")) (Either (The (codes "ERROR")) NoRule) ts a → Imported ts a
-imported_to ts a (inl d) = inl d
-imported_to ts a (inr (inl d)) = inr d
-imported_to ts a (inr (inr d)) = absurd d.never_so
+starts_other : (wide : Bool) → Starts (Where wide (One name_of)) (λ t. type_named t || value_named t)
+starts_other true = starts_one name_of (λ t. type_named t || value_named t) name_is
+starts_other false = λ text a d. absurd d
 
-imported_from : (ts : List Lexeme) (a : Place) → Imported ts a → Either (The (codes "OPERATION")) (Either (The (codes "ERROR")) NoRule) ts a
-imported_from ts a (inl d) = inl d
-imported_from ts a (inr d) = inr (inl d)
+abbrev other_class : Lexeme → Bool
+other_class t = same t.text (codes "ERROR") || (type_named t || value_named t)
 
-law_imported : Law Imported imported_at never
+starts_other_class : (wide : Bool) → Starts (Either (The (codes "ERROR")) (Where wide (One name_of))) other_class
+starts_other_class wide = starts_either _ _ other_class (λ text a d. weaker_headed (λ t. same t.text (codes "ERROR")) other_class text (λ t e. or_left _ (type_named t || value_named t) e) (starts_the (codes "ERROR") text a d))
+    (λ text a d. weaker_headed (λ t. type_named t || value_named t) other_class text (λ t e. or_right (same t.text (codes "ERROR")) _ e) (starts_other wide text a d))
+
+pub excludes_named : (ws : List (List ℕ)) → list_all no_value_name ws ≡ true → list_all no_type_name ws ≡ true → Excludes (λ t. type_named t || value_named t) ws
+excludes_named ws v n = excludes_or type_named value_named ws (excludes_type_name ws n) (excludes_value_name ws v)
+
+law_imported : (ext : Extent) → Law (Imported ext) (imported_at ext) never
 unfolding imported_at
-law_imported = law_same
-    (pick never (codes "OPERATION") (among (codes "ERROR" ∷ [])) (law_word (codes "OPERATION"))
-    (pick never (codes "ERROR") (among []) (law_word (codes "ERROR")) (law_refused never) (starts_the (codes "ERROR")) (λ text a d. absurd d.never_so) (excludes_among [] (codes "ERROR" ∷ []) refl) (λ rest st. refl) (λ rest st. refl))
-    (starts_the (codes "OPERATION")) (starts_either _ _ (among (codes "ERROR" ∷ [])) (starts_word (codes "ERROR") (codes "ERROR" ∷ []) refl) (λ text a d. absurd d.never_so))
-    (excludes_among (codes "ERROR" ∷ []) (codes "OPERATION" ∷ []) refl) (λ rest st. refl) (λ rest st. refl))
-    imported_to imported_from
+law_imported ext =
+    pick never (codes "OPERATION") other_class (law_word (codes "OPERATION"))
+    (pick never (codes "ERROR") (λ t. type_named t || value_named t) (law_word (codes "ERROR")) (law_other ext.wide) (starts_the (codes "ERROR")) (starts_other ext.wide)
+    (excludes_named (codes "ERROR" ∷ []) refl refl) (λ rest st. refl) (λ rest st. refl))
+    (starts_the (codes "OPERATION")) (starts_other_class ext.wide)
+    (excludes_or (λ t. same t.text (codes "ERROR")) (λ t. type_named t || value_named t) (codes "OPERATION" ∷ []) (same_excludes (codes "ERROR") (codes "OPERATION" ∷ []) refl) (excludes_named (codes "OPERATION" ∷ []) refl refl))
+    (λ rest st. refl) (λ rest st. refl)
 
 abbrev comma : List (List ℕ)
 comma = codes "," ∷ []
 
-abbrev pub FirstImported : List Lexeme → Place → Type 0
-FirstImported = Then Imported (λ first. Then (Many (Behind (codes ",") Imported)) (λ _. Nothing first))
+abbrev pub FirstImported : (ext : Extent) → List Lexeme → Place → Type 0
+FirstImported ext = Then (Imported ext) (λ first. Then (Many (Behind (codes ",") (Imported ext))) (λ _. Nothing first))
 
-law_more_imports : Law (Many (Behind (codes ",") Imported)) (all_at (begins (codes ",")) (behind (codes ",") imported_at)) (begins_any comma)
-law_more_imports = law_all (begins (codes ",")) _ _ never (begins_any comma) (law_behind (codes ",") law_imported) (record {
-  goes = λ text a rest d. headed_is (codes ",") text rest (starts_behind (codes ",") Imported text a d);
-  takes = λ text a d. headed_takes (λ t. same t.text (codes ",")) text (starts_behind (codes ",") Imported text a d);
+law_more_imports : (ext : Extent) → Law (Many (Behind (codes ",") (Imported ext))) (all_at (begins (codes ",")) (behind (codes ",") (imported_at ext))) (begins_any comma)
+law_more_imports ext = law_all (begins (codes ",")) _ _ never (begins_any comma) (law_behind (codes ",") (law_imported ext)) (record {
+  goes = λ text a rest d. headed_is (codes ",") text rest (starts_behind (codes ",") (Imported ext) text a d);
+  takes = λ text a d. headed_takes (λ t. same t.text (codes ",")) text (starts_behind (codes ",") (Imported ext) text a d);
   ends = fewer_one (codes ",") comma refl;
   last = λ rest st. refl;
   next = λ text a rest d. refl;
 })
 
-pub law_listed_imports : Law FirstImported listed_imports_at (begins_any comma)
+pub law_listed_imports : (ext : Extent) → Law (FirstImported ext) (listed_imports_at ext) (begins_any comma)
 unfolding listed_imports_at
-law_listed_imports = next law_imported (λ first. map_law (λ _. first) law_more_imports)
+law_listed_imports ext = next (law_imported ext) (λ first. map_law (λ _. first) (law_more_imports ext))
 
 -- the same tokens in front of what doesn't ask for the value
-pub fore_to : {B : Type 0} (G : List Lexeme → B → Type 0) (ts : List Lexeme) (b : B) → Then FirstImported (λ _. G) ts b → Then (Listed (codes ",") Imported) (λ _. G) ts b
-fore_to G ts b d =
+pub fore_to : (ext : Extent) {B : Type 0} (G : List Lexeme → B → Type 0) (ts : List Lexeme) (b : B) → Then (FirstImported ext) (λ _. G) ts b → Then (Listed (codes ",") (Imported ext)) (λ _. G) ts b
+fore_to ext G ts b d =
     let e = d.first in
     record {
       front = d.front;
@@ -394,8 +404,8 @@ fore_to G ts b d =
       };
     }
 
-fore_from : {B : Type 0} (G : List Lexeme → B → Type 0) (ts : List Lexeme) (b : B) → Then (Listed (codes ",") Imported) (λ _. G) ts b → Then FirstImported (λ _. G) ts b
-fore_from G ts b d =
+fore_from : (ext : Extent) {B : Type 0} (G : List Lexeme → B → Type 0) (ts : List Lexeme) (b : B) → Then (Listed (codes ",") (Imported ext)) (λ _. G) ts b → Then (FirstImported ext) (λ _. G) ts b
+fore_from ext G ts b d =
     let e = d.first in
     record {
       front = d.front;
@@ -413,8 +423,8 @@ fore_from G ts b d =
       };
     }
 
-law_fore : {B : Type 0} {G : List Lexeme → B → Type 0} {f : List Lexeme → Read B} {u : List Lexeme → Bool} → Law (Then FirstImported (λ _. G)) f u → Law (Then (Listed (codes ",") Imported) (λ _. G)) f u
-law_fore {G = G} law = law_same law (fore_to G) (fore_from G)
+law_fore : (ext : Extent) {B : Type 0} {G : List Lexeme → B → Type 0} {f : List Lexeme → Read B} {u : List Lexeme → Bool} → Law (Then (FirstImported ext) (λ _. G)) f u → Law (Then (Listed (codes ",") (Imported ext)) (λ _. G)) f u
+law_fore ext {G = G} law = law_same law (fore_to ext G) (fore_from ext G)
 
 starts_oid : Starts OidSpelled (λ t. same t.text (codes "{"))
 starts_oid text a d = starts_then _ _ (λ t. same t.text (codes "{")) (starts_the (codes "{")) text a d.spelled
@@ -423,14 +433,14 @@ law_maybe_oid : Law (Maybe OidSpelled) maybe_oid_at (begins_any (codes "{" ∷ [
 unfolding maybe_oid_at
 law_maybe_oid = maybe_word (begins_any (codes "{" ∷ [])) (codes "{") law_oid starts_oid (fewer_one (codes "{") (codes "{" ∷ []) refl) (λ rest st. refl)
 
-law_imports : Law Imports imports_at never
+law_imports : (ext : Extent) → Law (Imports ext) (imports_at ext) never
 unfolding imports_at
-law_imports = next (law_word (codes "IMPORTS")) (λ _. law_fore (behind_word comma (codes "FROM") law_listed_imports (λ first _. next law_type_name (λ name.
+law_imports ext = next (law_word (codes "IMPORTS")) (λ _. law_fore ext (behind_word comma (codes "FROM") (law_listed_imports ext) (λ first _. next law_type_name (λ name.
     behind_starts (codes "{" ∷ []) (λ t. same t.text (codes ";")) law_maybe_oid (λ o. law_word (codes ";")) (λ o. starts_the (codes ";")) (same_excludes (codes ";") (codes "{" ∷ []) refl))) refl))
 
-law_maybe_imports : Law (Maybe Imports) maybe_imports_at (begins_any (codes "IMPORTS" ∷ []))
+law_maybe_imports : (ext : Extent) → Law (Maybe (Imports ext)) (maybe_imports_at ext) (begins_any (codes "IMPORTS" ∷ []))
 unfolding maybe_imports_at
-law_maybe_imports = maybe_word (begins_any (codes "IMPORTS" ∷ [])) (codes "IMPORTS") law_imports (starts_then _ _ _ (starts_the (codes "IMPORTS"))) (fewer_one (codes "IMPORTS") (codes "IMPORTS" ∷ []) refl) (λ rest st. refl)
+law_maybe_imports ext = maybe_word (begins_any (codes "IMPORTS" ∷ [])) (codes "IMPORTS") (law_imports ext) (starts_then _ _ _ (starts_the (codes "IMPORTS"))) (fewer_one (codes "IMPORTS") (codes "IMPORTS" ∷ []) refl) (λ rest st. refl)
 
 -- ---- modules
 
@@ -458,24 +468,24 @@ law_heading = next law_type_name (λ name. next law_oid (λ oid. next (law_word 
 abbrev tail_heads : Lexeme → Bool
 tail_heads t = assigned t || same t.text (codes "END")
 
-tail_headed : {B : Type 0} (g : List Assignment → Place → List Lexeme → B → Type 0) (l : List Assignment) (front back : List Lexeme) (b : B) → Many Assign front l → Then (The (codes "END")) (g l) back b → Headed tail_heads (front ++ back)
-tail_headed g [] front back b d e = subst (λ (z : List Lexeme). Headed tail_heads (z ++ back)) (sym d)
+tail_headed : (ext : Extent) {B : Type 0} (g : List Assignment → Place → List Lexeme → B → Type 0) (l : List Assignment) (front back : List Lexeme) (b : B) → Many (Assign ext) front l → Then (The (codes "END")) (g l) back b → Headed tail_heads (front ++ back)
+tail_headed ext g [] front back b d e = subst (λ (z : List Lexeme). Headed tail_heads (z ++ back)) (sym d)
     (weaker_headed (λ t. same t.text (codes "END")) tail_heads back (λ t h. or_right (assigned t) _ h) (starts_then _ _ (λ t. same t.text (codes "END")) (starts_the (codes "END")) back b e))
-tail_headed g (a ∷ l) front back b d e = headed_append tail_heads front back
-    (weaker_headed assigned tail_heads front (λ t h. or_left _ (same t.text (codes "END")) h) (subst (Headed assigned) (sym d.whole) (headed_append assigned d.front d.back (starts_assign d.front a d.first))))
+tail_headed ext g (a ∷ l) front back b d e = headed_append tail_heads front back
+    (weaker_headed assigned tail_heads front (λ t h. or_left _ (same t.text (codes "END")) h) (subst (Headed assigned) (sym d.whole) (headed_append assigned d.front d.back (starts_assign ext d.front a d.first))))
 
-starts_tail : {B : Type 0} (g : List Assignment → Place → List Lexeme → B → Type 0) → Starts (Then (Many Assign) (λ l. Then (The (codes "END")) (g l))) tail_heads
-starts_tail g text b d = subst (Headed tail_heads) (sym d.whole) (tail_headed g d.value d.front d.back b d.first d.second)
+starts_tail : (ext : Extent) {B : Type 0} (g : List Assignment → Place → List Lexeme → B → Type 0) → Starts (Then (Many (Assign ext)) (λ l. Then (The (codes "END")) (g l))) tail_heads
+starts_tail ext g text b d = subst (Headed tail_heads) (sym d.whole) (tail_headed ext g d.value d.front d.back b d.first d.second)
 
 excludes_tail : Excludes tail_heads (codes "IMPORTS" ∷ [])
 excludes_tail = excludes_or assigned (λ t. same t.text (codes "END")) (codes "IMPORTS" ∷ []) (excludes_assigned (codes "IMPORTS" ∷ []) refl refl) (same_excludes (codes "END") (codes "IMPORTS" ∷ []) refl)
 
-pub law_module : Law Module module_at never
+pub law_module : (ext : Extent) → Law (Module ext) (module_at ext) never
 unfolding module_at
-law_module = next law_heading (λ heading. next (law_word (codes "BEGIN")) (λ _. behind_starts (codes "IMPORTS" ∷ []) tail_heads law_maybe_imports
-    (λ imports. law_then _ _ ending _ _ never law_assignments (λ assignments. next (law_word (codes "END")) (λ _. law_nothing _ never))
+law_module ext = next law_heading (λ heading. next (law_word (codes "BEGIN")) (λ _. behind_starts (codes "IMPORTS" ∷ []) tail_heads (law_maybe_imports ext)
+    (λ imports. law_then _ _ ending _ _ never (law_assignments ext) (λ assignments. next (law_word (codes "END")) (λ _. law_nothing _ never))
     (λ assignments b y rest d st. goes_on_closed (codes "END") y rest (starts_then _ _ _ (starts_the (codes "END")) y b d)))
-    (λ imports. starts_tail _) excludes_tail))
+    (λ imports. starts_tail ext _) excludes_tail))
 
 -- ---- whole texts
 
@@ -484,23 +494,23 @@ ended_is found [] a rest e = (refl, ap (λ (z : ModuleText × List Lexeme). z.0)
 ended_is found (t ∷ ts) a rest e = absurd cc
 
 -- what is read is spelled so, to the last token
-pub whole_found : (ts : List Lexeme) (a : ModuleText) (rest : List Lexeme) → whole_at ts ≡ Ok (a, rest) → Module ts a
+pub whole_found : (ext : Extent) (ts : List Lexeme) (a : ModuleText) (rest : List Lexeme) → whole_at ext ts ≡ Ok (a, rest) → Module ext ts a
 unfolding whole_at
-whole_found ts a rest e =
-    let p = after_ok (module_at ts) ended_at a rest e in
-    let x = law_module.found ts p.value p.mid p.is in
+whole_found ext ts a rest e =
+    let p = after_ok (module_at ext ts) ended_at a rest e in
+    let x = (law_module ext).found ts p.value p.mid p.is in
     let q = ended_is p.value p.mid a rest p.behind in
     let all : ts ≡ x.text = x.parts ∙ ap (λ (z : List Lexeme). x.text ++ z) q.0 ∙ append-nil x.text in
-    subst (λ (z : List Lexeme). Module z a) (sym all) (subst (λ (m : ModuleText). Module x.text m) q.1 x.spelled)
+    subst (λ (z : List Lexeme). (Module ext) z a) (sym all) (subst (λ (m : ModuleText). (Module ext) x.text m) q.1 x.spelled)
 
 -- what is spelled so is read
-pub whole_only : (ts : List Lexeme) (a : ModuleText) → Module ts a → whole_at ts ≡ Ok (a, [])
+pub whole_only : (ext : Extent) (ts : List Lexeme) (a : ModuleText) → Module ext ts a → whole_at ext ts ≡ Ok (a, [])
 unfolding whole_at
-whole_only ts a d = ap (λ (x : Read ModuleText). after x ended_at) (ap module_at (sym (append-nil ts)) ∙ law_module.only ts a [] d refl)
+whole_only ext ts a d = ap (λ (x : Read ModuleText). after x ended_at) (ap (module_at ext) (sym (append-nil ts)) ∙ (law_module ext).only ts a [] d refl)
 
 -- no tokens spell two modules
-pub one_module : (ts : List Lexeme) (a b : ModuleText) → Module ts a → Module ts b → a ≡ b
-one_module ts a b d e = ap (λ (z : ModuleText × List Lexeme). z.0) (ok_is (a, []) (b, []) (sym (whole_only ts a d) ∙ whole_only ts b e))
+pub one_module : (ext : Extent) (ts : List Lexeme) (a b : ModuleText) → Module ext ts a → Module ext ts b → a ≡ b
+one_module ext ts a b d e = ap (λ (z : ModuleText × List Lexeme). z.0) (ok_is (a, []) (b, []) (sym (whole_only ext ts a d) ∙ whole_only ext ts b e))
 
 -- ---- texts
 
@@ -528,22 +538,22 @@ pub reads_found : (text : List ℕ) (a : ModuleText) → module_of text ≡ Ok a
 unfolding module_of
 reads_found text a e = go (nat_lt most_octets (length text)) refl e
   where
-    go : (b : Bool) → nat_lt most_octets (length text) ≡ b → (if b then too_long else verdict (lexed_of text) (whole_at (lexemes text (lexed_of text).tokens))) ≡ Ok a → Reads text a
+    go : (b : Bool) → nat_lt most_octets (length text) ≡ b → (if b then too_long else verdict (lexed_of text) (whole_at narrow (lexemes text (lexed_of text).tokens))) ≡ Ok a → Reads text a
     go true is h = absurd cc
     go false is h =
-        let p = verdict_found (lexed_of text) (whole_at (lexemes text (lexed_of text).tokens)) a h in
-        record { fits = ltb-false _ _ is; ends = p.stop; spelled = whole_found (lexemes text (lexed_of text).tokens) a p.rest p.is }
+        let p = verdict_found (lexed_of text) (whole_at narrow (lexemes text (lexed_of text).tokens)) a h in
+        record { fits = ltb-false _ _ is; ends = p.stop; spelled = whole_found narrow (lexemes text (lexed_of text).tokens) a p.rest p.is }
 
 -- what a text reads as is what it is read as
 pub reads_only : (text : List ℕ) (a : ModuleText) → Reads text a → module_of text ≡ Ok a
 unfolding module_of
 reads_only text a d =
     let fits : nat_lt most_octets (length text) ≡ false = le-ltb _ _ d.fits in
-    let read : whole_at (lexemes text (lexed_of text).tokens) ≡ Ok (a, []) = whole_only (lexemes text (lexed_of text).tokens) a d.spelled in
+    let read : (whole_at narrow) (lexemes text (lexed_of text).tokens) ≡ Ok (a, []) = whole_only narrow (lexemes text (lexed_of text).tokens) a d.spelled in
     rw (fits, read, d.ends) refl
 
 pub one_reading : (text : List ℕ) (a b : ModuleText) → Reads text a → Reads text b → a ≡ b
-one_reading text a b d e = one_module (lexemes text (lexed_of text).tokens) a b d.spelled e.spelled
+one_reading text a b d e = one_module narrow (lexemes text (lexed_of text).tokens) a b d.spelled e.spelled
 
 -- ---- what a function answers
 

@@ -2,7 +2,8 @@
 use Rattle.std.proofs.Common.{ℕ, List}
 use Rattle.notation_tokens.specs.Lexeme.{Lexeme}
 use Rattle.operation_notation.specs.Tree.{TypeTree}
-use Rattle.operation_notation.specs.GrammarTypes.{Type_of, most_levels}
+use Rattle.operation_notation.specs.GrammarTypes.{narrow}
+use Rattle.operation_notation.specs.GrammarTypes as types
 use Rattle.operation_notation.specs.GrammarModules as grammar
 use Rattle.operation_notation.specs.declared.module.UseText.{UseText}
 use Rattle.operation_notation.specs.declared.module.OpText.{OpText}
@@ -13,34 +14,34 @@ use Rattle.operation_notation.specs.declared.module.Assignment.{Assignment}
 use Rattle.operation_notation.specs.declared.module.ModuleText.{ModuleText}
 
 abbrev pub OuterType : List Lexeme → TypeTree → Type 0
-OuterType = Type_of most_levels
+OuterType = types.OuterType narrow
 
 abbrev pub Use : List ℕ → List Lexeme → UseText → Type 0
-Use = grammar.Use most_levels
+Use = grammar.Use narrow
 
 abbrev pub SignatureSpelled : List Lexeme → Signature → Type 0
-SignatureSpelled = grammar.SignatureSpelled most_levels
+SignatureSpelled = grammar.SignatureSpelled narrow
 
 abbrev pub Operation : List Lexeme → OpText → Type 0
-Operation = grammar.Operation most_levels
+Operation = grammar.Operation narrow
 
 abbrev pub Error : List Lexeme → ErrText → Type 0
-Error = grammar.Error most_levels
+Error = grammar.Error narrow
 
 abbrev pub Typed : List Lexeme → Assignment → Type 0
-Typed = grammar.Typed most_levels
+Typed = grammar.Typed narrow
 
 abbrev pub OperationBody : List Lexeme → Body → Type 0
-OperationBody = grammar.OperationBody most_levels
+OperationBody = grammar.OperationBody narrow
 
 abbrev pub ErrorBody : List Lexeme → Body → Type 0
-ErrorBody = grammar.ErrorBody most_levels
+ErrorBody = grammar.ErrorBody narrow
 
 abbrev pub Valued : List Lexeme → Assignment → Type 0
-Valued = grammar.Valued most_levels
+Valued = grammar.Valued narrow
 
 abbrev pub Assign : List Lexeme → Assignment → Type 0
-Assign = grammar.Assign most_levels
+Assign = grammar.Assign narrow
 
 abbrev pub Module : List Lexeme → ModuleText → Type 0
-Module = grammar.Module most_levels
+Module = grammar.Module narrow

@@ -7,7 +7,7 @@ use Rattle.notation_tokens.specs.Lexing.{first_place, lexed_of}
 use Rattle.operation_notation.specs.Modules.{Reads}
 use Rattle.notation_tokens.specs.Words.{place, word_of, type_name_of, value_name_of, is_type_name, is_value_name, located}
 use Rattle.operation_notation.specs.Grammar.{One, Then, Nothing, Either, Maybe, Many, The, Behind, Listed, Placed, StartsAt}
-use Rattle.operation_notation.specs.GrammarTypes.{Range, RangeBehind, Size, SizeBehind, Item, Items, Part, Parts, Alternatives, Leaf, Plain, TypeBehind, Type_of}
+use Rattle.operation_notation.specs.GrammarTypes.{Range, RangeBehind, Size, SizeBehind, Item, Items, Part, Parts, Alternatives, narrow, Leaf, Plain, TypeBehind, Type_of}
 use Rattle.operation_notation.specs.GrammarModules.{NamedList, Code, HeadingSpelled}
 use Rattle.operation_notation.proofs.Outermost.{Use, SignatureSpelled, Operation, Error, OperationBody, ErrorBody, Assign, Module, OuterType}
 use Rattle.operation_notation.specs.Tree.{TypeTree, type_tree}
@@ -94,6 +94,11 @@ cov_skip {P = P} pre w ts b d =
 
 cov_nothing : {A : Type 0} {a : A} (pre : List Place) (P : A → List Place) → P a ≡ pre → CovR pre (Nothing a) P
 cov_nothing pre P e ts b d = record { own = []; covered = covers_none ts; all = ap P (sym d.same_value) ∙ e ∙ sym (append-nil pre) }
+
+-- behind a rule that nothing spells
+cov_right : {A : Type 0} {r : List Lexeme → A → Type 0} {pre : List Place} {P : A → List Place} → CovR pre r P → CovR pre (Either (λ ts a. ⊥) r) P
+cov_right c ts a (inl d) = absurd d
+cov_right c ts a (inr d) = c ts a d
 
 -- the whole of a rule
 whole : {A : Type 0} {r : List Lexeme → A → Type 0} {P : A → List Place} → CovR [] r P → Cov r P
@@ -227,7 +232,7 @@ cov_item = whole (cov_bind [] one_name cov_value_name (λ name. cov_skip _ (λ _
 cov_items : Cov Items item_places
 cov_items = whole (cov_skip [] (λ _. cov_bind [] item_places (cov_as (concat one_item) item_places concat_items (cov_listed (codes ",") Item one_item cov_item)) (λ items. cov_skip _ (λ _. cov_nothing _ item_places refl))))
 
-cov_leaf : Cov Leaf plain_places
+cov_leaf : Cov (Leaf narrow) plain_places
 cov_leaf =
     cov_either (whole (cov_skip [] (λ _. cov_nothing [] plain_places refl)))
     (cov_either (whole (cov_skip [] (λ _. cov_nothing [] plain_places refl)))
@@ -237,7 +242,7 @@ cov_leaf =
     (cov_either (whole (cov_skip [] (λ _. cov_skip [] (λ _. cov_nothing [] plain_places refl))))
     (cov_either (whole (cov_skip [] (λ _. cov_skip [] (λ _. cov_nothing [] plain_places refl))))
     (cov_either (whole (cov_skip [] (λ kind. cov_nothing [] plain_places refl)))
-    (whole (cov_bind [] one_name cov_type_name (λ name. cov_nothing _ plain_places refl))))))))))
+    (whole (cov_bind [] one_name cov_type_name (λ name. cov_right (cov_nothing _ plain_places refl)))))))))))
 
 module _ (Inner : List Lexeme → TypeTree → Type 0) (inner : Cov Inner type_places) where
   cov_part : (may : Bool) → Cov (Part may Inner) one_part
@@ -249,7 +254,7 @@ module _ (Inner : List Lexeme → TypeTree → Type 0) (inner : Cov Inner type_p
   cov_alternatives : Cov (Alternatives Inner) (concat one_part)
   cov_alternatives = whole (cov_skip [] (λ _. cov_bind [] (concat one_part) (cov_listed (codes ",") (Part false Inner) one_part (cov_part false)) (λ parts. cov_skip _ (λ _. cov_nothing _ (concat one_part) refl))))
 
-  cov_plain : Cov (Plain Inner) plain_places
+  cov_plain : Cov (Plain narrow Inner) plain_places
   cov_plain =
       cov_either (cov_behind (codes "SEQUENCE") (cov_either (cov_behind (codes "OF") (whole (cov_bind [] type_places inner (λ item. cov_nothing _ plain_places refl)))) (whole (cov_bind [] (concat one_part) cov_parts (λ ps. cov_nothing _ plain_places (sym (concat_parts ps)))))))
       (cov_either (cov_behind (codes "SET") (whole (cov_bind [] (concat one_part) cov_parts (λ ps. cov_nothing _ plain_places (sym (concat_parts ps))))))
@@ -258,19 +263,19 @@ module _ (Inner : List Lexeme → TypeTree → Type 0) (inner : Cov Inner type_p
   abbrev inside_places : TypeTree → List Place
   inside_places (type_tree line column tag plain) = plain_places plain
 
-  cov_type_behind : (at : Place) → Cov (TypeBehind Inner at) inside_places
+  cov_type_behind : (at : Place) → Cov (TypeBehind narrow Inner at) inside_places
   cov_type_behind at = whole (cov_skip [] (λ tag. cov_bind [] plain_places cov_plain (λ plain. cov_nothing _ inside_places refl)))
 
-  type_at_place : (at : Place) (ts : List Lexeme) (t : TypeTree) → TypeBehind Inner at ts t → type_places t ≡ at ∷ inside_places t
+  type_at_place : (at : Place) (ts : List Lexeme) (t : TypeTree) → TypeBehind narrow Inner at ts t → type_places t ≡ at ∷ inside_places t
   type_at_place at ts t d = subst (λ (z : TypeTree). type_places z ≡ at ∷ inside_places z) d.second.second.same_value refl
 
-  cov_placed_type : Cov (Placed (TypeBehind Inner)) type_places
+  cov_placed_type : Cov (Placed (TypeBehind narrow Inner)) type_places
   cov_placed_type = cov_placed type_places inside_places cov_type_behind type_at_place
 
-cov_type : (levels : ℕ) → Cov (Type_of levels) type_places
+cov_type : (levels : ℕ) → Cov (Type_of narrow levels) type_places
 unfolding Type_of
 cov_type zero ts t d = absurd d
-cov_type (suc n) ts t d = cov_placed_type (Type_of n) (cov_type n) ts t d
+cov_type (suc n) ts t d = cov_placed_type (Type_of narrow n) (cov_type n) ts t d
 
 cov_outer_type : Cov OuterType type_places
 cov_outer_type = cov_type 256

@@ -6,12 +6,11 @@ use Rattle.std.specs.Str.{bytes_eq}
 use Rattle.std.proofs.lemmas.Bool.{not-false}
 use Rattle.notation_tokens.specs.Lexeme.{Lexeme, same, begins}
 use Rattle.notation_tokens.specs.Words.{number, number_of, most_32, most_64, end_of, int_of, type_name_of, value_name_of, text_kind_of, text_kind_word, located}
-use Rattle.operation_notation.specs.Reading.{◌>>=◌, give, Read, refuse, refuse_as, word_at, number_at, number_64_at, int_at, end_at, type_name_at, value_name_at, maybe_at, listed_at, is_set_of}
-use Rattle.operation_notation.specs.ReadingTypes.{range_at, size_at, item_at, items_at, class_at, explicit_at, tag_at, optional_at, part_at, parts_at, alternatives_at, integer_at, octets_at, text_kind, text_kind_at, text_or_name_at, named_at, leaf_at, sequence_at, set_at, choice_at, plain_at, type_text_at, type_at, outer_type_at}
-use Rattle.operation_notation.specs.Grammar.{One, Then, Nothing, Either, The, Listed, Placed}
-use Rattle.operation_notation.specs.GrammarTypes.{Range, Number64, Size, Item, Items, Class, Explicit, Tag, Optional, Part, Parts, Alternatives, Integer, OctetString, Text, Named, Leaf, Sequence, Set, Choice, Plain, TypeBehind, Type_of}
-use Rattle.operation_notation.proofs.Outermost.{OuterType}
-use Rattle.operation_notation.specs.Tree.{TypeTree, type_tree, PlainTree, named, text, set}
+use Rattle.operation_notation.specs.Reading.{◌>>=◌, give, Read, refuse, refuse_as, token_at, word_at, number_at, number_64_at, int_at, end_at, type_name_at, value_name_at, maybe_at, listed_at, is_set_of}
+use Rattle.operation_notation.specs.ReadingTypes.{range_at, size_at, item_at, items_at, class_at, explicit_at, tag_at, optional_at, part_at, parts_at, alternatives_at, integer_at, octets_at, text_kind, text_kind_at, text_or_name_at, named_at, leaf_at, sequence_at, set_at, choice_at, plain_at, type_text_at, deep_kind, starts_mark, type_at, outer_type_at}
+use Rattle.operation_notation.specs.Grammar.{One, Then, Nothing, Either, Where, The, Listed, Placed}
+use Rattle.operation_notation.specs.GrammarTypes.{Range, Number64, Size, Item, Items, Class, Explicit, Tag, Optional, Part, Parts, Alternatives, Integer, OctetString, Text, Named, Leaf, Sequence, Set, Choice, Plain, TypeBehind, Type_of, OuterType, Extent, is_empty, mark_of}
+use Rattle.operation_notation.specs.Tree.{TypeTree, type_tree, PlainTree, null, named, text, set}
 use Rattle.operation_notation.specs.TreeView.{parts_of}
 use Rattle.notation_tokens.specs.declared.faults.NotationKind.TheVariants.{Unsupported}
 use Rattle.notation_tokens.specs.declared.token.Place.{Place}
@@ -54,7 +53,7 @@ pub starts_any : {A : Type 0} (test : Lexeme → Option A) → Starts (One test)
 unfolding any_token
 starts_any test = starts_one test any_token (λ t a e. refl)
 
-value_name_is : (t : Lexeme) (a : Located) → value_name_of t ≡ Some a → value_named t ≡ true
+pub value_name_is : (t : Lexeme) (a : Located) → value_name_of t ≡ Some a → value_named t ≡ true
 unfolding value_name_of
 value_name_is t a e = go (value_named t) refl e
   where
@@ -65,7 +64,7 @@ value_name_is t a e = go (value_named t) refl e
 pub starts_value_name : Starts (One value_name_of) value_named
 starts_value_name = starts_one value_name_of value_named value_name_is
 
-type_name_is : (t : Lexeme) (a : Located) → type_name_of t ≡ Some a → type_named t ≡ true
+pub type_name_is : (t : Lexeme) (a : Located) → type_name_of t ≡ Some a → type_named t ≡ true
 unfolding type_name_of
 type_name_is t a e = go (type_named t) refl e
   where
@@ -212,11 +211,11 @@ law_octets = next (law_word (codes "OCTET")) (λ _. next (law_word (codes "STRIN
 abbrev kinds : List (List ℕ)
 kinds = codes "UTF8String" ∷ codes "IA5String" ∷ codes "VisibleString" ∷ codes "PrintableString" ∷ codes "NumericString" ∷ []
 
-neither : (a b : Bool) → a || b ≡ false → (a ≡ false) × (b ≡ false)
+pub neither : (a b : Bool) → a || b ≡ false → (a ≡ false) × (b ≡ false)
 neither true b e = absurd cc
 neither false b e = (refl, e)
 
-kinds_none : (t : Lexeme) → among kinds t ≡ false → text_kind_word t.text ≡ None
+pub kinds_none : (t : Lexeme) → among kinds t ≡ false → text_kind_word t.text ≡ None
 unfolding text_kind_word
 kinds_none t e =
     let s : List ℕ → Bool = same t.text in
@@ -238,27 +237,26 @@ law_text : Law Text (text_kind_at >>= λ kind. give (text kind)) never
 unfolding text_kind_at
 law_text = map_law _ (law_one text_kind_of)
 
-named_found : (name : Located) (b : Bool) (ts : List Lexeme) (a : PlainTree) (rest : List Lexeme) → (if b then refuse_as Unsupported ts else Ok (named name, ts)) ≡ Ok (a, rest) → Front (Nothing (named name)) ts a rest
-named_found name true ts a rest e = absurd cc
-named_found name false ts a rest e = (law_nothing (named name) never).found ts a rest e
+brace_law : (wide : Bool) (name : Located) → Law (Where wide (Then (The (codes "{")) (λ _. Nothing (named name)))) (λ ts. if wide then (word_at (codes "{") >>= λ _. give (named name)) ts else refuse_as Unsupported ts) never
+brace_law true name = law_stands (codes "{") (named name)
+brace_law false name = record { found = λ ts a rest e. absurd cc; only = λ text a rest d st. absurd d }
 
-law_named_end : (name : Located) → Law (Nothing (named name)) (named_at name) (begins_any type_stops)
-law_named_end name = record {
-  found = λ ts a rest e. named_found name (begins (codes "{") ts) ts a rest e;
-  only = λ text a rest d st.
-      ap (λ (z : List Lexeme). named_at name (z ++ rest)) d.none
-      ∙ ap (λ (b : Bool). if b then refuse_as Unsupported rest else Ok (named name, rest)) (fewer_one (codes "{") type_stops refl rest st)
-      ∙ ap (λ (c : PlainTree). Ok (c, rest)) d.same_value;
-}
+starts_brace : (wide : Bool) (name : Located) → Starts (Where wide (Then (The (codes "{")) (λ _. Nothing (named name)))) (λ t. same t.text (codes "{"))
+starts_brace true name = starts_stands (codes "{") (named name)
+starts_brace false name = λ text a d. absurd d
 
-law_named : Law Named (type_name_at >>= named_at) (begins_any type_stops)
-law_named = next law_type_name law_named_end
+law_named_end : (ext : Extent) (name : Located) → Law (Either (Where ext.wide (Then (The (codes "{")) (λ _. Nothing (named name)))) (Nothing (named name))) (named_at ext name) (begins_any type_stops)
+law_named_end ext name = pick_may (begins_any type_stops) (codes "{") (among []) (brace_law ext.wide name) (law_nothing (named name) (begins_any type_stops)) (starts_brace ext.wide name) (may_nothing (named name) (among []))
+    (excludes_among [] (codes "{" ∷ []) refl) (fewer_one (codes "{") type_stops refl) (λ rest st. refl) (λ rest st. st)
+
+law_named : (ext : Extent) → Law (Named ext) (type_name_at >>= named_at ext) (begins_any type_stops)
+law_named ext = next law_type_name (law_named_end ext)
 
 starts_text : Starts Text (among kinds)
 starts_text = starts_then _ _ (among kinds) (starts_one text_kind_of (among kinds) kind_among)
 
-starts_named : Starts Named type_named
-starts_named = starts_then _ _ type_named starts_type_name
+starts_named : (ext : Extent) → Starts (Named ext) type_named
+starts_named ext = starts_then _ _ type_named starts_type_name
 
 some_kind : (t : Lexeme) (k : ℕ) → text_kind_of t ≡ Some k → is_some (text_kind_of t) ≡ true
 some_kind t k e = ap is_some e
@@ -274,22 +272,22 @@ no_kind_of_headed y rest h =
     ap (λ (z : List Lexeme). is_some (text_kind (z ++ rest))) h.is
     ∙ ap is_some (kinds_none h.token (excludes_type_name kinds refl h.token h.passes))
 
-law_text_or_name : Picked (Either Text Named) text_or_name_at kinds (begins_any type_stops)
+law_text_or_name : (ext : Extent) → Picked (Either Text (Named ext)) (text_or_name_at ext) kinds (begins_any type_stops)
 unfolding text_or_name_at
-law_text_or_name = record {
-  law = law_choice (λ ts. is_some (text_kind ts)) _ _ _ _ never (begins_any type_stops) (begins_any type_stops) law_text law_named
+law_text_or_name ext = record {
+  law = law_choice (λ ts. is_some (text_kind ts)) _ _ _ _ never (begins_any type_stops) (begins_any type_stops) law_text (law_named ext)
       (record { tells = λ text a rest d st. kind_of_headed text rest (starts_kind text a d); own_stops = λ rest st. refl })
-      (record { tells = λ text a rest d st. no_kind_of_headed text rest (starts_named text a d); own_stops = λ rest st. st });
+      (record { tells = λ text a rest d st. no_kind_of_headed text rest (starts_named ext text a d); own_stops = λ rest st. st });
   starts = starts_either _ _ (or_named kinds) (λ text a d. weaker_headed (among kinds) (or_named kinds) text (λ t e. or_left _ (type_named t) e) (starts_text text a d))
-      (λ text a d. weaker_headed type_named (or_named kinds) text (λ t e. or_right (among kinds t) _ e) (starts_named text a d));
+      (λ text a d. weaker_headed type_named (or_named kinds) text (λ t e. or_right (among kinds t) _ e) (starts_named ext text a d));
 }
 
 abbrev leaf_words : List (List ℕ)
 leaf_words = codes "BOOLEAN" ∷ codes "NULL" ∷ codes "INTEGER" ∷ codes "ENUMERATED" ∷ codes "OCTET" ∷ codes "BIT" ∷ codes "OBJECT" ∷ kinds
 
-law_leaf : Picked Leaf leaf_at leaf_words (begins_any type_stops)
+law_leaf : (ext : Extent) → Picked (Leaf ext) (leaf_at ext) leaf_words (begins_any type_stops)
 unfolding leaf_at
-law_leaf =
+law_leaf ext =
     picks (codes "BOOLEAN") (law_stands (codes "BOOLEAN") _) (starts_stands (codes "BOOLEAN") _) (λ rest st. refl) refl refl
     (picks (codes "NULL") (law_stands (codes "NULL") _) (starts_stands (codes "NULL") _) (λ rest st. refl) refl refl
     (picks (codes "INTEGER") law_integer (starts_then _ _ _ (starts_the (codes "INTEGER"))) (λ rest st. st) refl refl
@@ -297,7 +295,7 @@ law_leaf =
     (picks (codes "OCTET") law_octets (starts_then _ _ _ (starts_the (codes "OCTET"))) (λ rest st. st) refl refl
     (picks (codes "BIT") (next (law_word (codes "BIT")) (λ _. law_stands (codes "STRING") _)) (starts_then _ _ _ (starts_the (codes "BIT"))) (λ rest st. refl) refl refl
     (picks (codes "OBJECT") (next (law_word (codes "OBJECT")) (λ _. law_stands (codes "IDENTIFIER") _)) (starts_then _ _ _ (starts_the (codes "OBJECT"))) (λ rest st. refl) refl refl
-    law_text_or_name))))))
+    (law_text_or_name ext)))))))
 
 -- ---- types that hold types
 
@@ -311,7 +309,7 @@ and_false false = refl
 set_only : (text rest : List Lexeme) → Headed (λ t. same t.text (codes "{")) text → begins (codes "OF") (text ++ rest) ≡ false
 set_only x rest h = headed_not (λ t. same t.text (codes "{")) (codes "OF") x rest h (same_excludes (codes "{") (codes "OF" ∷ []) refl)
 
-module _ (Inner : List Lexeme → TypeTree → Type 0) (inner : List Lexeme → Read TypeTree) (law : Law Inner inner (begins_any type_stops)) where
+module _ (ext : Extent) (Inner : List Lexeme → TypeTree → Type 0) (inner : List Lexeme → Read TypeTree) (law : Law Inner inner (begins_any type_stops)) where
   law_sequence : Law (Sequence Inner) (sequence_at inner) (begins_any type_stops)
   unfolding sequence_at
   law_sequence = next (law_word (codes "SEQUENCE")) (λ _. pick (begins_any type_stops) (codes "OF") (λ t. same t.text (codes "{"))
@@ -342,39 +340,60 @@ module _ (Inner : List Lexeme → TypeTree → Type 0) (inner : List Lexeme → 
     only = λ text a rest d st. ap (λ (b : Bool). if b then refuse (text ++ rest) else (word_at (codes "SET") >>= λ _. parts_at inner >>= λ parts. give (set (parts_of parts))) (text ++ rest)) (not_set_of text a rest d) ∙ set_law.only text a rest d st;
   }
 
-  law_plain : Picked (Plain Inner) (plain_at inner) plain_words (begins_any type_stops)
+  law_plain : Picked (Plain ext Inner) (plain_at ext inner) plain_words (begins_any type_stops)
   unfolding plain_at
   law_plain =
       picks (codes "SEQUENCE") law_sequence (starts_behind (codes "SEQUENCE") _) (λ rest st. st) refl refl
       (picks (codes "SET") law_set (starts_behind (codes "SET") _) (λ rest st. st) refl refl
-      (picks (codes "CHOICE") law_choice_type (starts_behind (codes "CHOICE") _) (λ rest st. st) refl refl law_leaf))
+      (picks (codes "CHOICE") law_choice_type (starts_behind (codes "CHOICE") _) (λ rest st. st) refl refl (law_leaf ext)))
 
   -- a tag, or none, in front of words and names
-  law_type_behind : (at : Place) → Law (TypeBehind Inner at) (maybe_at (codes "[") tag_at >>= λ tag. plain_at inner >>= λ plain. give (type_tree at.line at.column tag plain)) (begins_any type_stops)
+  law_type_behind : (at : Place) → Law (TypeBehind ext Inner at) (maybe_at (codes "[") tag_at >>= λ tag. plain_at ext inner >>= λ plain. give (type_tree at.line at.column tag plain)) (begins_any type_stops)
   law_type_behind at = behind_starts (codes "[" ∷ manners) (or_named plain_words)
       (maybe_word (begins_any (codes "[" ∷ manners)) (codes "[") law_tag (starts_then _ _ _ (starts_the (codes "["))) (fewer_one (codes "[") (codes "[" ∷ manners) refl) (fewer manners (codes "[" ∷ manners) refl))
       (λ tag. map_law _ law_plain.law)
       (λ tag. starts_then _ _ (or_named plain_words) law_plain.starts) (excludes_or_named plain_words (codes "[" ∷ manners) refl refl)
 
-  pub starts_type_behind : (at : Place) → Starts (TypeBehind Inner at) (or_named (codes "[" ∷ plain_words))
+  pub starts_type_behind : (at : Place) → Starts (TypeBehind ext Inner at) (or_named (codes "[" ∷ plain_words))
   starts_type_behind at x a d = starts_maybe (or_named (codes "[" ∷ plain_words))
       (λ y b e. weaker_headed _ (or_named (codes "[" ∷ plain_words)) y (word_or_named (codes "[") plain_words) (starts_then _ _ _ (starts_the (codes "[")) y b e))
       (λ o y b e. weaker_headed _ (or_named (codes "[" ∷ plain_words)) y (more_or_named (codes "[") plain_words) (starts_then _ _ (or_named plain_words) law_plain.starts y b e))
       x a d
 
-  law_type_text : Law (Placed (TypeBehind Inner)) (type_text_at inner) (begins_any type_stops)
+  law_type_text : Law (Placed (TypeBehind ext Inner)) (type_text_at ext inner) (begins_any type_stops)
   unfolding type_text_at
   law_type_text = law_placed (or_named (codes "[" ∷ plain_words)) starts_type_behind law_type_behind
 
-law_no_type : Law (Type_of 0) (type_at 0) (begins_any type_stops)
-unfolding Type_of type_at
-law_no_type = record { found = λ ts a rest e. absurd cc; only = λ text a rest d st. absurd d }
+-- a mark, where one may stand
+pub mark_is : (t : Lexeme) (a : TypeTree) → mark_of t ≡ Some a → is_empty t.text ≡ true
+mark_is t a e = go (is_empty t.text) refl e
+  where
+    go : (b : Bool) → is_empty t.text ≡ b → (if b then Some (type_tree t.line t.column None null) else None) ≡ Some a → b ≡ true
+    go true is h = refl
+    go false is h = absurd cc
 
-pub law_type : (levels : ℕ) → Law (Type_of levels) (type_at levels) (begins_any type_stops)
-unfolding Type_of type_at
-law_type zero = law_no_type
-law_type (suc n) = law_type_text (Type_of n) (type_at n) (law_type n)
+mark_found : (b : Bool) (ts : List Lexeme) (a : TypeTree) (rest : List Lexeme) → (if b then token_at mark_of ts else refuse_as (deep_kind ts) ts) ≡ Ok (a, rest) → Front (One mark_of) ts a rest
+mark_found true ts a rest e = (law_one mark_of).found ts a rest e
+mark_found false ts a rest e = absurd cc
 
-pub law_outer_type : Law OuterType outer_type_at (begins_any type_stops)
+law_mark : (marks : Bool) → Law (Where marks (One mark_of)) (λ ts. if marks && starts_mark ts then token_at mark_of ts else refuse_as (deep_kind ts) ts) (begins_any type_stops)
+law_mark true = record {
+  found = λ ts a rest e. mark_found (starts_mark ts) ts a rest e;
+  only = λ text a rest d st.
+      ap (λ (b : Bool). if b then token_at mark_of (text ++ rest) else refuse_as (deep_kind (text ++ rest)) (text ++ rest)) (ap (λ (z : List Lexeme). starts_mark (z ++ rest)) d.alone ∙ mark_is d.token a d.passes)
+      ∙ (law_one mark_of).only text a rest d refl;
+}
+law_mark false = record { found = λ ts a rest e. absurd cc; only = λ text a rest d st. absurd d }
+
+law_no_type : (ext : Extent) → Law (Type_of ext 0) (type_at ext 0) (begins_any type_stops)
+unfolding Type_of type_at
+law_no_type ext = law_mark ext.marked
+
+pub law_type : (ext : Extent) (levels : ℕ) → Law (Type_of ext levels) (type_at ext levels) (begins_any type_stops)
+unfolding Type_of type_at
+law_type ext zero = (law_no_type ext)
+law_type ext (suc n) = law_type_text ext (Type_of ext n) (type_at ext n) (law_type ext n)
+
+pub law_outer_type : (ext : Extent) → Law (OuterType ext) (outer_type_at ext) (begins_any type_stops)
 unfolding outer_type_at
-law_outer_type = law_type 256
+law_outer_type ext = law_type ext ext.levels

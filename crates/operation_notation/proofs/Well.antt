@@ -7,7 +7,7 @@ use Rattle.notation_tokens.specs.Forms.{has_form}
 use Rattle.notation_tokens.specs.Lexeme.{Lexeme, same, IsSpan, lexemes}
 use Rattle.notation_tokens.specs.Words.{is_type_name, is_value_name, is_kind_word, is_quoted, is_unsupported, begins_upper, begins_lower, type_name_of, value_name_of, text_kind_of, text_kind_word, located, number_of, most_32}
 use Rattle.operation_notation.specs.Grammar.{One, Then, Nothing, Either, Maybe, Many, Behind, Listed, Placed}
-use Rattle.operation_notation.specs.GrammarTypes.{Item, Items, Class, Tag, Optional, Part, Parts, Alternatives, Leaf, Plain, TypeBehind, Type_of}
+use Rattle.operation_notation.specs.GrammarTypes.{Item, Items, Class, Tag, Optional, Part, Parts, Alternatives, narrow, Leaf, Plain, TypeBehind, Type_of}
 use Rattle.operation_notation.specs.GrammarModules.{NamedList, Code, HeadingSpelled}
 use Rattle.operation_notation.proofs.Outermost.{Use, SignatureSpelled, Operation, Error, OperationBody, ErrorBody, Assign, Module, OuterType}
 use Rattle.operation_notation.specs.Tree.{TypeTree}
@@ -29,17 +29,17 @@ use Rattle.operation_notation.proofs.Rises.{module_rises}
 use Rattle.notation_tokens.specs.declared.faults.NotationFault.{NotationFault}
 use Rattle.notation_tokens.proofs.Names.{lower_is_word, upper_is_word}
 
-abbrev Good : Lexeme → Type 0
+abbrev pub Good : Lexeme → Type 0
 Good t = IsTrue (has_form t.kind t.text)
 
-abbrev Fine : List Lexeme → Type 0
+abbrev pub Fine : List Lexeme → Type 0
 Fine ts = AllByRecursion Good ts
 
 fine_front : (x y : List Lexeme) → Fine (x ++ y) → Fine x
 fine_front [] y f = tt
 fine_front (t ∷ x) y f = (f.0, fine_front x y f.1)
 
-fine_back : (x y : List Lexeme) → Fine (x ++ y) → Fine y
+pub fine_back : (x y : List Lexeme) → Fine (x ++ y) → Fine y
 fine_back [] y f = f
 fine_back (t ∷ x) y f = fine_back x y f.1
 
@@ -172,7 +172,7 @@ kind_low text k e = go (same text (codes "UTF8String")) (same text (codes "IA5St
     go false false false false true h = let i : 4 ≡ k = cc in omega arith
     go false false false false false h = absurd cc
 
-well_leaf : Well Leaf IsWellPlain
+well_leaf : Well (Leaf narrow) IsWellPlain
 well_leaf =
     well_either (well_skip (λ _. well_nothing IsWellPlain tt))
     (well_either (well_skip (λ _. well_nothing IsWellPlain tt))
@@ -182,7 +182,7 @@ well_leaf =
     (well_either (well_skip (λ _. well_skip (λ _. well_nothing IsWellPlain tt)))
     (well_either (well_skip (λ _. well_skip (λ _. well_nothing IsWellPlain tt)))
     (well_either (well_bind (λ k. k ≤ 4) (well_one text_kind_of (λ k. k ≤ 4) (λ t k g e. kind_low t.text k e)) (λ kind k. well_nothing IsWellPlain k))
-    (well_bind IsTypeName well_type_name (λ name n. well_nothing IsWellPlain n)))))))))
+    (well_bind IsTypeName well_type_name (λ name n. well_either (λ ts a f d. absurd d) (well_nothing IsWellPlain n))))))))))
 
 module _ (Inner : List Lexeme → TypeTree → Type 0) (inner : Well Inner IsWellType) where
   well_part : (may : Bool) → Well (Part may Inner) (WellPart may)
@@ -196,19 +196,19 @@ module _ (Inner : List Lexeme → TypeTree → Type 0) (inner : Well Inner IsWel
   well_alternatives : Well (Alternatives Inner) (SomeAll (WellPart false))
   well_alternatives = well_skip (λ _. well_bind (SomeAll (WellPart false)) (well_listed (codes ",") (Part false Inner) (WellPart false) (well_part false)) (λ parts p. well_skip (λ _. well_nothing (SomeAll (WellPart false)) p)))
 
-  well_plain : Well (Plain Inner) IsWellPlain
+  well_plain : Well (Plain narrow Inner) IsWellPlain
   well_plain =
       well_either (well_skip (λ _. well_either (well_skip (λ _. well_bind IsWellType inner (λ item t. well_nothing IsWellPlain t))) (well_bind (AllByRecursion (WellPart true)) well_parts (λ parts p. well_nothing IsWellPlain (parts_well true parts p)))))
       (well_either (well_skip (λ _. well_bind (AllByRecursion (WellPart true)) well_parts (λ parts p. well_nothing IsWellPlain (parts_well true parts p))))
       (well_either (well_skip (λ _. well_bind (SomeAll (WellPart false)) well_alternatives (λ parts p. well_nothing IsWellPlain (has_part parts p.0, parts_well false parts p.1)))) well_leaf))
 
-  well_type_behind : (at : Place) → Well (TypeBehind Inner at) IsWellType
+  well_type_behind : (at : Place) → Well (TypeBehind narrow Inner at) IsWellType
   well_type_behind at = well_bind (λ o. IfSome o IsTag) (well_maybe well_tag) (λ tag g. well_bind IsWellPlain well_plain (λ plain p. well_nothing IsWellType (g, p)))
 
-well_type : (levels : ℕ) → Well (Type_of levels) IsWellType
+well_type : (levels : ℕ) → Well (Type_of narrow levels) IsWellType
 unfolding Type_of
 well_type zero ts t f d = absurd d
-well_type (suc n) ts t f d = well_placed (well_type_behind (Type_of n) (well_type n)) ts t f d
+well_type (suc n) ts t f d = well_placed (well_type_behind (Type_of narrow n) (well_type n)) ts t f d
 
 well_outer_type : Well OuterType IsWellType
 well_outer_type = well_type 256
@@ -260,7 +260,7 @@ well_module : Well Module WellParts
 well_module = well_bind (λ h. IsTypeName h.name) well_heading (λ heading h. well_skip (λ _. well_skip (λ imports. well_bind (AllByRecursion IsWellAssignment) (well_many Assign IsWellAssignment well_assign) (λ assignments a. well_skip (λ _. well_nothing WellParts (record { name = h; assignments = a }))))))
 
 -- the tokens of a text have the forms of their kinds
-fine_lexemes : (source : List ℕ) (len : ℕ) (ts : List Token) → AllByRecursion (IsSpan source len) ts → Fine (lexemes source ts)
+pub fine_lexemes : (source : List ℕ) (len : ℕ) (ts : List Token) → AllByRecursion (IsSpan source len) ts → Fine (lexemes source ts)
 fine_lexemes source len [] all = tt
 fine_lexemes source len (t ∷ ts) all = (all.0.form, fine_lexemes source len ts all.1)
 

@@ -1,5 +1,5 @@
 -- The grammar's means, over tokens: which tokens spell which value. Nothing here says how tokens are read.
-use Rattle.std.specs.Prelude.{◌≡◌, ◌⊎◌, ℕ, List, [], ◌∷◌, ◌++◌, Option, Some, None}
+use Rattle.std.specs.Prelude.{◌≡◌, ◌⊎◌, ℕ, Bool, true, false, List, [], ◌∷◌, ◌++◌, Option, Some, None}
 use Rattle.notation_tokens.specs.Lexeme.{Lexeme}
 use Rattle.notation_tokens.specs.Words.{place, word_of}
 use Rattle.notation_tokens.specs.declared.token.Place.{Place}
@@ -35,6 +35,11 @@ pub record Nothing {A : Type 0} (a : A) (ts : List Lexeme) (b : A) : Type 0 wher
 -- one rule or the other
 abbrev pub Either : {A : Type 0} → (List Lexeme → A → Type 0) → (List Lexeme → A → Type 0) → List Lexeme → A → Type 0
 Either r s ts a = r ts a ⊎ s ts a
+
+-- a rule, where it holds
+abbrev pub Where : {A : Type 0} → Bool → (List Lexeme → A → Type 0) → List Lexeme → A → Type 0
+Where true r ts a = r ts a
+Where false r ts a = ⊥
 
 -- a rule, or nothing
 abbrev pub Maybe : {A : Type 0} → (List Lexeme → A → Type 0) → List Lexeme → Option A → Type 0

@@ -1,10 +1,9 @@
--- The grammar of modules, operations and errors (X.680 13; X.880 8, in the profile that is supported), in which types stand in one
--- another at most so many levels deep.
-use Rattle.std.specs.Prelude.{codes, ℕ, Bool, true, false, List, [], Some, None, unwrap_or}
+-- The grammar of modules, operations and errors (X.680 13; X.880 8, in the profile that is supported), to an extent.
+use Rattle.std.specs.Prelude.{codes, ℕ, Bool, true, false, ◌||◌, List, [], Option, Some, None, unwrap_or, if◌then◌else◌}
 use Rattle.notation_tokens.specs.Lexeme.{Lexeme}
-use Rattle.notation_tokens.specs.Words.{int_of, bool_of, type_name_of, value_name_of}
-use Rattle.operation_notation.specs.Grammar.{◌>>=◌, One, Nothing, Either, Maybe, Many, The, Behind, Listed}
-use Rattle.operation_notation.specs.GrammarTypes.{OidSpelled, Number64, Type_of}
+use Rattle.notation_tokens.specs.Words.{place, is_type_name, is_value_name, int_of, bool_of, type_name_of, value_name_of}
+use Rattle.operation_notation.specs.Grammar.{◌>>=◌, One, Nothing, Either, Where, Maybe, Many, The, Behind, Listed}
+use Rattle.operation_notation.specs.GrammarTypes.{Extent, OidSpelled, Number64, OuterType}
 use Rattle.notation_tokens.specs.declared.token.Place.{Place}
 use Rattle.notation_tokens.specs.declared.token.Located.{Located}
 use Rattle.operation_notation.specs.declared.module.UseText.{UseText}
@@ -27,10 +26,10 @@ abbrev pub FlagOr : List ℕ → List ℕ → List Lexeme → Bool → Type 0
 FlagOr word next = Maybe (Behind word (Flag next)) >>= λ flag. Nothing (unwrap_or flag true)
 
 -- a word and Type ["OPTIONAL" Bool]; FALSE where no Bool is written
-abbrev pub Use : ℕ → List ℕ → List Lexeme → UseText → Type 0
-Use levels word = do
+abbrev pub Use : Extent → List ℕ → List Lexeme → UseText → Type 0
+Use ext word = do
   at ← The word
-  of ← Type_of levels
+  of ← OuterType ext
   optional ← Maybe (Flag (codes "OPTIONAL"))
   Nothing (record { line = at.line; column = at.column; of = of; optional = unwrap_or optional false })
 
@@ -72,10 +71,10 @@ abbrev pub Code : List Lexeme → CodeText → Type 0
 Code = Behind (codes "CODE") (Either Local Global)
 
 -- ["ARGUMENT" Type ["OPTIONAL" Bool]] ["RESULT" Type ["OPTIONAL" Bool]] ["RETURN" "RESULT" Bool]
-abbrev pub SignatureSpelled : ℕ → List Lexeme → Signature → Type 0
-SignatureSpelled levels = do
-  argument ← Maybe (Use levels (codes "ARGUMENT"))
-  result ← Maybe (Use levels (codes "RESULT"))
+abbrev pub SignatureSpelled : Extent → List Lexeme → Signature → Type 0
+SignatureSpelled ext = do
+  argument ← Maybe (Use ext (codes "ARGUMENT"))
+  result ← Maybe (Use ext (codes "RESULT"))
   returns ← FlagOr (codes "RETURN") (codes "RESULT")
   Nothing (record { argument = argument; result = result; returns = returns })
 
@@ -91,9 +90,9 @@ Manner = do
   Nothing always
 
 -- OpBody: its signature, ["ERRORS" Names] ["LINKED" Names], its manner, ["CODE" Code]
-abbrev pub Operation : ℕ → List Lexeme → OpText → Type 0
-Operation levels = do
-  signature ← SignatureSpelled levels
+abbrev pub Operation : Extent → List Lexeme → OpText → Type 0
+Operation ext = do
+  signature ← SignatureSpelled ext
   errors ← NamedList (codes "ERRORS")
   linked ← NamedList (codes "LINKED")
   always ← Manner
@@ -101,19 +100,19 @@ Operation levels = do
   Nothing (record { argument = signature.argument; result = signature.result; returns = signature.returns; always = always; errors = errors; linked = linked; code = code })
 
 -- ErrBody
-abbrev pub Error : ℕ → List Lexeme → ErrText → Type 0
-Error levels = do
-  parameter ← Maybe (Use levels (codes "PARAMETER"))
+abbrev pub Error : Extent → List Lexeme → ErrText → Type 0
+Error ext = do
+  parameter ← Maybe (Use ext (codes "PARAMETER"))
   _ ← Maybe (Behind (codes "PRIORITY") Priority)
   code ← Maybe Code
   Nothing (record { parameter = parameter; code = code })
 
 -- Name "::=" Type
-abbrev pub Typed : ℕ → List Lexeme → Assignment → Type 0
-Typed levels = do
+abbrev pub Typed : Extent → List Lexeme → Assignment → Type 0
+Typed ext = do
   name ← One type_name_of
   _ ← The (codes "::=")
-  of ← Type_of levels
+  of ← OuterType ext
   Nothing (record { name = name; body = bodies.Typed of })
 
 -- a word, "::=" and "{"
@@ -121,39 +120,43 @@ abbrev pub Opens : List ℕ → List Lexeme → Place → Type 0
 Opens word = Behind word (Behind (codes "::=") (The (codes "{")))
 
 -- "OPERATION" "::=" "{" OpBody "}"
-abbrev pub OperationBody : ℕ → List Lexeme → Body → Type 0
-OperationBody levels = do
+abbrev pub OperationBody : Extent → List Lexeme → Body → Type 0
+OperationBody ext = do
   _ ← Opens (codes "OPERATION")
-  operation ← Operation levels
+  operation ← Operation ext
   _ ← The (codes "}")
   Nothing (bodies.Operation operation)
 
 -- "ERROR" "::=" "{" ErrBody "}"
-abbrev pub ErrorBody : ℕ → List Lexeme → Body → Type 0
-ErrorBody levels = do
+abbrev pub ErrorBody : Extent → List Lexeme → Body → Type 0
+ErrorBody ext = do
   _ ← Opens (codes "ERROR")
-  error ← Error levels
+  error ← Error ext
   _ ← The (codes "}")
   Nothing (bodies.Error error)
 
-abbrev pub Valued : ℕ → List Lexeme → Assignment → Type 0
-Valued levels = do
+abbrev pub Valued : Extent → List Lexeme → Assignment → Type 0
+Valued ext = do
   name ← One value_name_of
-  body ← Either (OperationBody levels) (ErrorBody levels)
+  body ← Either (OperationBody ext) (ErrorBody ext)
   Nothing (record { name = name; body = body })
 
-abbrev pub Assign : ℕ → List Lexeme → Assignment → Type 0
-Assign levels = Either (Valued levels) (Typed levels)
+abbrev pub Assign : Extent → List Lexeme → Assignment → Type 0
+Assign ext = Either (Valued ext) (Typed ext)
 
--- Class = "OPERATION" | "ERROR"
-abbrev pub Imported : List Lexeme → Place → Type 0
-Imported = Either (The (codes "OPERATION")) (The (codes "ERROR"))
+-- a name of either form
+abbrev pub name_of : Lexeme → Option Place
+name_of t = if is_type_name t.kind t.text || is_value_name t.kind t.text then Some (place t) else None
+
+-- Class = "OPERATION" | "ERROR", and another name where it may stand
+abbrev pub Imported : Extent → List Lexeme → Place → Type 0
+Imported ext = Either (The (codes "OPERATION")) (Either (The (codes "ERROR")) (Where ext.wide (One name_of)))
 
 -- Imports = "IMPORTS" Class {"," Class} "FROM" Name [Oid] ";"
-abbrev pub Imports : List Lexeme → Place → Type 0
-Imports = do
+abbrev pub Imports : Extent → List Lexeme → Place → Type 0
+Imports ext = do
   _ ← The (codes "IMPORTS")
-  _ ← Listed (codes ",") Imported
+  _ ← Listed (codes ",") (Imported ext)
   _ ← The (codes "FROM")
   _ ← One type_name_of
   _ ← Maybe OidSpelled
@@ -175,11 +178,11 @@ HeadingSpelled = do
   Nothing (record { name = name; name_oid = oid; implicit = implicit })
 
 -- Module: its heading, "BEGIN" [Imports] {Assign} "END"
-abbrev pub Module : ℕ → List Lexeme → ModuleText → Type 0
-Module levels = do
+abbrev pub Module : Extent → List Lexeme → ModuleText → Type 0
+Module ext = do
   heading ← HeadingSpelled
   _ ← The (codes "BEGIN")
-  _ ← Maybe Imports
-  assignments ← Many (Assign levels)
+  _ ← Maybe (Imports ext)
+  assignments ← Many (Assign ext)
   _ ← The (codes "END")
   Nothing (record { name = heading.name; name_oid = heading.name_oid; implicit = heading.implicit; assignments = assignments })

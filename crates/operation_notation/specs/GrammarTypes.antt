@@ -1,9 +1,9 @@
 -- The grammar of object identifiers and types (X.680 17 to 31, X.680 32.3, in the profile of X.880 that is supported).
-use Rattle.std.specs.Prelude.{codes, ℕ, zero, suc, ℤ, pos, Bool, true, false, List, [], ◌∷◌, Option, Some, None, if◌then◌else◌}
+use Rattle.std.specs.Prelude.{codes, ℕ, zero, suc, ◌+◌, ℤ, pos, Bool, true, false, List, [], ◌∷◌, Option, Some, None, if◌then◌else◌}
 use Rattle.osi_base.specs.Oid.{IsOid}
 use Rattle.notation_tokens.specs.Lexeme.{Lexeme}
 use Rattle.notation_tokens.specs.Words.{most_32, most_64, number_of, int_of, end_of, text_kind_of, root_name, is_value_name, type_name_of, value_name_of, arc_name_of}
-use Rattle.operation_notation.specs.Grammar.{◌>>=◌, One, Nothing, Either, Maybe, Many, The, Behind, Listed, Placed}
+use Rattle.operation_notation.specs.Grammar.{◌>>=◌, One, Nothing, Either, Where, Maybe, Many, The, Behind, Listed, Placed}
 use Rattle.operation_notation.specs.Tree.{TypeTree, type_tree, PlainTree, boolean, null, integer, enumerated, octets, bits, object_id, text, sequence_of, sequence, set, choice, named}
 use Rattle.operation_notation.specs.TreeView.{parts_of}
 use Rattle.operation_notation.specs.declared.module.RangeText.{RangeText}
@@ -11,6 +11,38 @@ use Rattle.operation_notation.specs.declared.module.TagText.{TagText}
 use Rattle.operation_notation.specs.declared.module.ItemText.{ItemText}
 use Rattle.operation_notation.specs.declared.module.PartText.{PartText}
 use Rattle.notation_tokens.specs.declared.token.Place.{Place}
+
+-- How far a grammar goes: how many levels deep types may stand in one another; whether a mark may stand where a type would be one level
+-- too deep; and whether some of what isn't supported may stand: a brace behind a Name that is used as a type, and an import of another
+-- name than the two classes'.
+pub record Extent : Type 0 where
+  pub levels : ℕ
+  pub marked : Bool
+  pub wide : Bool
+
+-- how many levels deep types may stand in one another
+abbrev pub most_levels : ℕ
+most_levels = 256
+
+-- the notation
+abbrev pub narrow : Extent
+narrow = record { levels = most_levels; marked = false; wide = false }
+
+-- the notation with marks, so that what stands in front of a type one level too deep begins a module too
+abbrev pub marked : Extent
+marked = record { levels = most_levels; marked = true; wide = false }
+
+-- the notation with a little of what isn't supported; a CHOICE one level too deep holds a type one level deeper
+abbrev pub wide : Extent
+wide = record { levels = most_levels + 2; marked = false; wide = true }
+
+-- a mark is a token without text, which no text holds
+abbrev pub is_empty : List ℕ → Bool
+is_empty [] = true
+is_empty (c ∷ cs) = false
+
+abbrev pub mark_of : Lexeme → Option TypeTree
+mark_of t = if is_empty t.text then Some (type_tree t.line t.column None null) else None
 
 -- ---- object identifiers (X.680 32.3): Oid = "{" Arc {Arc} "}"
 
@@ -183,12 +215,15 @@ ObjectIdentifier = do
 abbrev pub Text : List Lexeme → PlainTree → Type 0
 Text = One text_kind_of >>= λ kind. Nothing (text kind)
 
-abbrev pub Named : List Lexeme → PlainTree → Type 0
-Named = One type_name_of >>= λ name. Nothing (named name)
+-- a Name, and a brace behind it where one may stand
+abbrev pub Named : Extent → List Lexeme → PlainTree → Type 0
+Named ext = do
+  name ← One type_name_of
+  Either (Where ext.wide (The (codes "{") >>= λ _. Nothing (named name))) (Nothing (named name))
 
 -- types that hold no others
-abbrev pub Leaf : List Lexeme → PlainTree → Type 0
-Leaf = Either Boolean (Either Null (Either Integer (Either Enumerated (Either OctetString (Either BitString (Either ObjectIdentifier (Either Text Named)))))))
+abbrev pub Leaf : Extent → List Lexeme → PlainTree → Type 0
+Leaf ext = Either Boolean (Either Null (Either Integer (Either Enumerated (Either OctetString (Either BitString (Either ObjectIdentifier (Either Text (Named ext))))))))
 
 -- "SEQUENCE" "OF" Type | "SEQUENCE" Parts
 abbrev pub Sequence : (List Lexeme → TypeTree → Type 0) → List Lexeme → PlainTree → Type 0
@@ -200,21 +235,21 @@ Set Inner = Behind (codes "SET") (Parts Inner >>= λ parts. Nothing (set (parts_
 abbrev pub Choice : (List Lexeme → TypeTree → Type 0) → List Lexeme → PlainTree → Type 0
 Choice Inner = Behind (codes "CHOICE") (Alternatives Inner >>= λ parts. Nothing (choice (parts_of parts)))
 
-abbrev pub Plain : (List Lexeme → TypeTree → Type 0) → List Lexeme → PlainTree → Type 0
-Plain Inner = Either (Sequence Inner) (Either (Set Inner) (Either (Choice Inner) Leaf))
+abbrev pub Plain : Extent → (List Lexeme → TypeTree → Type 0) → List Lexeme → PlainTree → Type 0
+Plain ext Inner = Either (Sequence Inner) (Either (Set Inner) (Either (Choice Inner) (Leaf ext)))
 
 -- Type = [Tag] Plain, with the place of its first token
-abbrev pub TypeBehind : (List Lexeme → TypeTree → Type 0) → Place → List Lexeme → TypeTree → Type 0
-TypeBehind Inner at = do
+abbrev pub TypeBehind : Extent → (List Lexeme → TypeTree → Type 0) → Place → List Lexeme → TypeTree → Type 0
+TypeBehind ext Inner at = do
   tag ← Maybe Tag
-  plain ← Plain Inner
+  plain ← Plain ext Inner
   Nothing (type_tree at.line at.column tag plain)
 
 -- a type in which types stand in one another at most so many levels deep
-unfoldable pub Type_of : ℕ → List Lexeme → TypeTree → Type 0
-Type_of zero ts t = ⊥
-Type_of (suc levels) ts t = Placed (TypeBehind (Type_of levels)) ts t
+unfoldable pub Type_of : Extent → ℕ → List Lexeme → TypeTree → Type 0
+Type_of ext zero ts t = Where ext.marked (One mark_of) ts t
+Type_of ext (suc levels) ts t = Placed (TypeBehind ext (Type_of ext levels)) ts t
 
--- how many levels deep types may stand in one another
-abbrev pub most_levels : ℕ
-most_levels = 256
+-- a type at the outermost level
+abbrev pub OuterType : Extent → List Lexeme → TypeTree → Type 0
+OuterType ext = Type_of ext ext.levels

@@ -5,7 +5,7 @@ use Rattle.notation_tokens.specs.Words.{place}
 use Rattle.notation_tokens.specs.Lexing.{most_octets, lexed_of}
 use Rattle.notation_tokens.specs.Texts.{fault_at, unless_stopped, too_long}
 use Rattle.operation_notation.specs.Reading.{Read}
-use Rattle.operation_notation.specs.GrammarTypes.{most_levels}
+use Rattle.operation_notation.specs.GrammarTypes.{narrow}
 use Rattle.operation_notation.specs.GrammarModules.{Module}
 use Rattle.operation_notation.specs.ReadingModules.{whole_at}
 use Rattle.notation_tokens.specs.declared.faults.NotationFault.{NotationFault}
@@ -17,7 +17,7 @@ use Rattle.operation_notation.specs.declared.module.ModuleText.{ModuleText}
 pub record Reads (text : List ℕ) (m : ModuleText) : Type 0 where
   pub fits : length text ≤ most_octets
   pub ends : (lexed_of text).stop ≡ None
-  pub spelled : Module most_levels (lexemes text (lexed_of text).tokens) m
+  pub spelled : Module narrow (lexemes text (lexed_of text).tokens) m
 
 -- where reading stops at a token, that is the fault; where it comes to the tokens' end, it is what cutting stopped for, or the text's end
 abbrev pub refused : Lexed → List Lexeme → NotationKind → Result ModuleText NotationFault
@@ -30,4 +30,4 @@ verdict l (Err e) = refused l e.rest e.kind
 
 -- the module of a text, or the text's first fault
 unfoldable pub module_of : List ℕ → Result ModuleText NotationFault
-module_of text = if nat_lt most_octets (length text) then too_long else verdict (lexed_of text) (whole_at (lexemes text (lexed_of text).tokens))
+module_of text = if nat_lt most_octets (length text) then too_long else verdict (lexed_of text) (whole_at narrow (lexemes text (lexed_of text).tokens))

@@ -2,8 +2,10 @@
 use Rattle.std.specs.Prelude.{ℕ, codes, Bool, true, false, ◌||◌, List, [], ◌∷◌, Option, Some, None, unwrap_or, Ok, if◌then◌else◌}
 use Rattle.notation_tokens.specs.Lexeme.{Lexeme, begins, goes_on}
 use Rattle.notation_tokens.specs.Words.{is_type_name, is_value_name}
-use Rattle.operation_notation.specs.Reading.{◌>>=◌, Read, give, refuse, refuse_as, kind_at, word_at, type_name_at, value_name_at, number_64_at, int_at, bool_at, maybe_at, all_at, behind, listed_at}
+use Rattle.operation_notation.specs.Reading.{◌>>=◌, Read, give, refuse, refuse_as, kind_at, token_at, word_at, type_name_at, value_name_at, number_64_at, int_at, bool_at, maybe_at, all_at, behind, listed_at}
 use Rattle.operation_notation.specs.ReadingTypes.{oid_at, starts_name, outer_type_at}
+use Rattle.operation_notation.specs.GrammarTypes.{Extent}
+use Rattle.operation_notation.specs.GrammarModules.{name_of}
 use Rattle.notation_tokens.specs.declared.faults.NotationKind.{NotationKind}
 use Rattle.notation_tokens.specs.declared.faults.NotationKind.TheVariants.{Unsupported, UnexpectedToken}
 use Rattle.notation_tokens.specs.declared.token.Place.{Place}
@@ -30,10 +32,10 @@ unfoldable pub flag_2_at : List ℕ → List ℕ → List Lexeme → Read Bool
 flag_2_at word next = behind word (behind next bool_at)
 
 -- a type behind a word
-unfoldable pub use_at : List ℕ → List Lexeme → Read UseText
-use_at word = do
+unfoldable pub use_at : Extent → List ℕ → List Lexeme → Read UseText
+use_at ext word = do
   at ← word_at word
-  of ← outer_type_at
+  of ← outer_type_at ext
   optional ← maybe_at (codes "OPTIONAL") (flag_at (codes "OPTIONAL"))
   give (record { line = at.line; column = at.column; of = of; optional = unwrap_or optional false })
 
@@ -79,8 +81,8 @@ code_at = behind (codes "CODE") code_value_at
 
 -- ---- bodies
 
-unfoldable pub maybe_use_at : List ℕ → List Lexeme → Read (Option UseText)
-maybe_use_at word = maybe_at word (use_at word)
+unfoldable pub maybe_use_at : Extent → List ℕ → List Lexeme → Read (Option UseText)
+maybe_use_at ext word = maybe_at word (use_at ext word)
 
 -- a truth value behind two words; true where they don't stand
 unfoldable pub flag_or_at : List ℕ → List ℕ → List Lexeme → Read Bool
@@ -101,10 +103,10 @@ unfoldable pub maybe_code_at : List Lexeme → Read (Option CodeText)
 maybe_code_at = maybe_at (codes "CODE") code_at
 
 -- what an operation takes and gives
-unfoldable pub signature_at : List Lexeme → Read Signature
-signature_at = do
-  argument ← maybe_use_at (codes "ARGUMENT")
-  result ← maybe_use_at (codes "RESULT")
+unfoldable pub signature_at : Extent → List Lexeme → Read Signature
+signature_at ext = do
+  argument ← maybe_use_at ext (codes "ARGUMENT")
+  result ← maybe_use_at ext (codes "RESULT")
   returns ← flag_or_at (codes "RETURN") (codes "RESULT")
   give (record { argument = argument; result = result; returns = returns })
 
@@ -118,60 +120,60 @@ manner_at = do
   _ ← passed_priority_at (codes "RESULT-PRIORITY")
   give always
 
-unfoldable pub operation_at : List Lexeme → Read OpText
-operation_at = do
-  signature ← signature_at
+unfoldable pub operation_at : Extent → List Lexeme → Read OpText
+operation_at ext = do
+  signature ← signature_at ext
   errors ← named_list_at (codes "ERRORS")
   linked ← named_list_at (codes "LINKED")
   always ← manner_at
   code ← maybe_code_at
   give (record { argument = signature.argument; result = signature.result; returns = signature.returns; always = always; errors = errors; linked = linked; code = code })
 
-unfoldable pub error_at : List Lexeme → Read ErrText
-error_at = do
-  parameter ← maybe_use_at (codes "PARAMETER")
+unfoldable pub error_at : Extent → List Lexeme → Read ErrText
+error_at ext = do
+  parameter ← maybe_use_at ext (codes "PARAMETER")
   _ ← passed_priority_at (codes "PRIORITY")
   code ← maybe_code_at
   give (record { parameter = parameter; code = code })
 
 -- ---- assignments
 
-unfoldable pub typed_at : List Lexeme → Read Assignment
-typed_at = do
+unfoldable pub typed_at : Extent → List Lexeme → Read Assignment
+typed_at ext = do
   name ← type_name_at
   _ ← word_at (codes "::=")
-  of ← outer_type_at
+  of ← outer_type_at ext
   give (record { name = name; body = bodies.Typed of })
 
 -- ::= and a brace behind a word
 unfoldable pub opens_at : List ℕ → List Lexeme → Read Place
 opens_at word = behind word (behind (codes "::=") (word_at (codes "{")))
 
-unfoldable pub operation_body_at : List Lexeme → Read Body
-operation_body_at = do
+unfoldable pub operation_body_at : Extent → List Lexeme → Read Body
+operation_body_at ext = do
   _ ← opens_at (codes "OPERATION")
-  operation ← operation_at
+  operation ← operation_at ext
   _ ← word_at (codes "}")
   give (bodies.Operation operation)
 
-unfoldable pub error_body_at : List Lexeme → Read Body
-error_body_at = do
+unfoldable pub error_body_at : Extent → List Lexeme → Read Body
+error_body_at ext = do
   _ ← opens_at (codes "ERROR")
-  error ← error_at
+  error ← error_at ext
   _ ← word_at (codes "}")
   give (bodies.Error error)
 
-unfoldable pub body_at : List Lexeme → Read Body
-body_at ts = if begins (codes "OPERATION") ts then operation_body_at ts else error_body_at ts
+unfoldable pub body_at : Extent → List Lexeme → Read Body
+body_at ext ts = if begins (codes "OPERATION") ts then operation_body_at ext ts else error_body_at ext ts
 
-unfoldable pub valued_at : List Lexeme → Read Assignment
-valued_at = do
+unfoldable pub valued_at : Extent → List Lexeme → Read Assignment
+valued_at ext = do
   name ← value_name_at
-  body ← body_at
+  body ← body_at ext
   give (record { name = name; body = body })
 
-unfoldable pub assignment_at : List Lexeme → Read Assignment
-assignment_at ts = if starts_name ts then valued_at ts else typed_at ts
+unfoldable pub assignment_at : Extent → List Lexeme → Read Assignment
+assignment_at ext ts = if starts_name ts then valued_at ext ts else typed_at ext ts
 
 -- ---- modules
 
@@ -181,25 +183,26 @@ class_kind [] = UnexpectedToken
 class_kind (t ∷ ts) = if is_type_name t.kind t.text || is_value_name t.kind t.text then Unsupported else kind_at (t ∷ ts)
 
 -- an information object class that may be imported
-unfoldable pub imported_at : List Lexeme → Read Place
-imported_at ts =
+unfoldable pub imported_at : Extent → List Lexeme → Read Place
+imported_at ext ts =
     if begins (codes "OPERATION") ts then word_at (codes "OPERATION") ts else
-    if begins (codes "ERROR") ts then word_at (codes "ERROR") ts else refuse_as (class_kind ts) ts
+    if begins (codes "ERROR") ts then word_at (codes "ERROR") ts else
+    if ext.wide then token_at name_of ts else refuse_as (class_kind ts) ts
 
-unfoldable pub listed_imports_at : List Lexeme → Read Place
-listed_imports_at = do
-  first ← imported_at
-  _ ← all_at (begins (codes ",")) (behind (codes ",") imported_at)
+unfoldable pub listed_imports_at : Extent → List Lexeme → Read Place
+listed_imports_at ext = do
+  first ← imported_at ext
+  _ ← all_at (begins (codes ",")) (behind (codes ",") (imported_at ext))
   give first
 
 unfoldable pub maybe_oid_at : List Lexeme → Read (Option (List ℕ))
 maybe_oid_at = maybe_at (codes "{") oid_at
 
 -- imports, which aren't kept
-unfoldable pub imports_at : List Lexeme → Read Place
-imports_at = do
+unfoldable pub imports_at : Extent → List Lexeme → Read Place
+imports_at ext = do
   _ ← word_at (codes "IMPORTS")
-  _ ← listed_imports_at
+  _ ← listed_imports_at ext
   _ ← word_at (codes "FROM")
   _ ← type_name_at
   _ ← maybe_oid_at
@@ -211,11 +214,11 @@ tagging_at ts =
     if begins (codes "EXPLICIT") ts then (behind (codes "EXPLICIT") (word_at (codes "TAGS")) >>= λ _. give false) ts else
     if begins (codes "IMPLICIT") ts then (behind (codes "IMPLICIT") (word_at (codes "TAGS")) >>= λ _. give true) ts else Ok (false, ts)
 
-unfoldable pub maybe_imports_at : List Lexeme → Read (Option Place)
-maybe_imports_at = maybe_at (codes "IMPORTS") imports_at
+unfoldable pub maybe_imports_at : Extent → List Lexeme → Read (Option Place)
+maybe_imports_at ext = maybe_at (codes "IMPORTS") (imports_at ext)
 
-unfoldable pub assignments_at : List Lexeme → Read (List Assignment)
-assignments_at = all_at (goes_on (codes "END")) assignment_at
+unfoldable pub assignments_at : Extent → List Lexeme → Read (List Assignment)
+assignments_at ext = all_at (goes_on (codes "END")) (assignment_at ext)
 
 -- what stands before a module's ::=
 unfoldable pub heading_at : List Lexeme → Read Heading
@@ -227,12 +230,12 @@ heading_at = do
   _ ← word_at (codes "::=")
   give (record { name = name; name_oid = oid; implicit = implicit })
 
-unfoldable pub module_at : List Lexeme → Read ModuleText
-module_at = do
+unfoldable pub module_at : Extent → List Lexeme → Read ModuleText
+module_at ext = do
   heading ← heading_at
   _ ← word_at (codes "BEGIN")
-  _ ← maybe_imports_at
-  assignments ← assignments_at
+  _ ← maybe_imports_at ext
+  assignments ← assignments_at ext
   _ ← word_at (codes "END")
   give (record { name = heading.name; name_oid = heading.name_oid; implicit = heading.implicit; assignments = assignments })
 
@@ -241,5 +244,5 @@ ended_at found [] = Ok (found, [])
 ended_at found (t ∷ ts) = refuse (t ∷ ts)
 
 -- a module and nothing behind it
-unfoldable pub whole_at : List Lexeme → Read ModuleText
-whole_at = module_at >>= ended_at
+unfoldable pub whole_at : Extent → List Lexeme → Read ModuleText
+whole_at ext = module_at ext >>= ended_at

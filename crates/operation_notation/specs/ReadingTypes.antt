@@ -1,13 +1,14 @@
 -- Reading types and object identifiers, with the first fault that is met.
-use Rattle.std.specs.Prelude.{ℕ, zero, suc, codes, Bool, true, false, ◌&&◌, List, [], ◌∷◌, Option, Some, None, is_some, nat_lt, Ok, if◌then◌else◌}
-use Rattle.notation_tokens.specs.Lexeme.{Lexeme, begins, goes_on}
-use Rattle.notation_tokens.specs.Words.{most_32, is_value_name, arc_name_of, root_name, text_kind_of}
-use Rattle.operation_notation.specs.Reading.{◌>>=◌, Read, give, here, refuse, refuse_as, is_set_of, token_at, word_at, type_name_at, value_name_at, number_at, number_64_at, int_at, end_at, maybe_at, many_at, listed_at}
+use Rattle.std.specs.Prelude.{ℕ, zero, suc, codes, Bool, true, false, ◌&&◌, ◌||◌, List, [], ◌∷◌, Option, Some, None, is_some, nat_lt, Ok, if◌then◌else◌}
+use Rattle.std.specs.List.{list_any}
+use Rattle.notation_tokens.specs.Lexeme.{Lexeme, same, begins, goes_on}
+use Rattle.notation_tokens.specs.Words.{most_32, is_type_name, is_value_name, arc_name_of, root_name, text_kind_of}
+use Rattle.operation_notation.specs.Reading.{◌>>=◌, Read, give, here, refuse, refuse_as, kind_at, is_set_of, token_at, word_at, type_name_at, value_name_at, number_at, number_64_at, int_at, end_at, maybe_at, many_at, listed_at}
 use Rattle.operation_notation.specs.Tree.{TypeTree, type_tree, PlainTree, boolean, null, integer, enumerated, octets, bits, object_id, text, sequence_of, sequence, set, choice, named}
 use Rattle.operation_notation.specs.TreeView.{parts_of}
-use Rattle.operation_notation.specs.GrammarTypes.{most_levels}
+use Rattle.operation_notation.specs.GrammarTypes.{Extent, is_empty, mark_of}
 use Rattle.notation_tokens.specs.declared.faults.NotationKind.{NotationKind}
-use Rattle.notation_tokens.specs.declared.faults.NotationKind.TheVariants.{Unsupported, UnexpectedToken}
+use Rattle.notation_tokens.specs.declared.faults.NotationKind.TheVariants.{Unsupported}
 use Rattle.operation_notation.specs.declared.module.RangeText.{RangeText}
 use Rattle.operation_notation.specs.declared.module.TagText.{TagText}
 use Rattle.operation_notation.specs.declared.module.ItemText.{ItemText}
@@ -157,12 +158,15 @@ unfoldable pub text_kind_at : List Lexeme → Read ℕ
 text_kind_at = token_at text_kind_of
 
 -- behind a Name nothing in braces is supported
-abbrev pub named_at : Located → List Lexeme → Read PlainTree
-named_at name ts = if begins (codes "{") ts then refuse_as Unsupported ts else Ok (named name, ts)
+abbrev pub brace_at : Extent → Located → List Lexeme → Read PlainTree
+brace_at ext name ts = if ext.wide then (word_at (codes "{") >>= λ _. give (named name)) ts else refuse_as Unsupported ts
+
+abbrev pub named_at : Extent → Located → List Lexeme → Read PlainTree
+named_at ext name ts = if begins (codes "{") ts then brace_at ext name ts else Ok (named name, ts)
 
 -- a text, or the name of a type
-unfoldable pub text_or_name_at : List Lexeme → Read PlainTree
-text_or_name_at ts = if is_some (text_kind ts) then (text_kind_at >>= λ kind. give (text kind)) ts else (type_name_at >>= named_at) ts
+unfoldable pub text_or_name_at : Extent → List Lexeme → Read PlainTree
+text_or_name_at ext ts = if is_some (text_kind ts) then (text_kind_at >>= λ kind. give (text kind)) ts else (type_name_at >>= named_at ext) ts
 
 unfoldable pub integer_at : List Lexeme → Read PlainTree
 integer_at = do
@@ -178,15 +182,15 @@ octets_at = do
   give (octets size)
 
 -- types that hold no other types
-unfoldable pub leaf_at : List Lexeme → Read PlainTree
-leaf_at ts =
+unfoldable pub leaf_at : Extent → List Lexeme → Read PlainTree
+leaf_at ext ts =
     if begins (codes "BOOLEAN") ts then (word_at (codes "BOOLEAN") >>= λ _. give boolean) ts else
     if begins (codes "NULL") ts then (word_at (codes "NULL") >>= λ _. give null) ts else
     if begins (codes "INTEGER") ts then integer_at ts else
     if begins (codes "ENUMERATED") ts then (word_at (codes "ENUMERATED") >>= λ _. items_at >>= λ items. give (enumerated items)) ts else
     if begins (codes "OCTET") ts then octets_at ts else
     if begins (codes "BIT") ts then (word_at (codes "BIT") >>= λ _. word_at (codes "STRING") >>= λ _. give bits) ts else
-    if begins (codes "OBJECT") ts then (word_at (codes "OBJECT") >>= λ _. word_at (codes "IDENTIFIER") >>= λ _. give object_id) ts else text_or_name_at ts
+    if begins (codes "OBJECT") ts then (word_at (codes "OBJECT") >>= λ _. word_at (codes "IDENTIFIER") >>= λ _. give object_id) ts else text_or_name_at ext ts
 
 -- a type without its tag, over what reads a type inside it
 unfoldable pub sequence_at : (List Lexeme → Read TypeTree) → List Lexeme → Read PlainTree
@@ -203,29 +207,40 @@ choice_at inner = do
   parts ← alternatives_at inner
   give (choice (parts_of parts))
 
-unfoldable pub plain_at : (List Lexeme → Read TypeTree) → List Lexeme → Read PlainTree
-plain_at inner ts =
+unfoldable pub plain_at : Extent → (List Lexeme → Read TypeTree) → List Lexeme → Read PlainTree
+plain_at ext inner ts =
     if begins (codes "SEQUENCE") ts then sequence_at inner ts else
     if begins (codes "SET") ts then set_at inner ts else
-    if begins (codes "CHOICE") ts then choice_at inner ts else leaf_at ts
+    if begins (codes "CHOICE") ts then choice_at inner ts else leaf_at ext ts
 
-unfoldable pub type_text_at : (List Lexeme → Read TypeTree) → List Lexeme → Read TypeTree
-type_text_at inner = do
+unfoldable pub type_text_at : Extent → (List Lexeme → Read TypeTree) → List Lexeme → Read TypeTree
+type_text_at ext inner = do
   at ← here
   tag ← maybe_at (codes "[") tag_at
-  plain ← plain_at inner
+  plain ← plain_at ext inner
   give (type_tree at.line at.column tag plain)
 
+-- the words with which a type begins
+abbrev pub type_words : List (List ℕ)
+type_words = codes "[" ∷ codes "SEQUENCE" ∷ codes "SET" ∷ codes "CHOICE" ∷ codes "BOOLEAN" ∷ codes "NULL" ∷ codes "INTEGER" ∷ codes "ENUMERATED" ∷ codes "OCTET" ∷ codes "BIT" ∷ codes "OBJECT" ∷ codes "UTF8String" ∷ codes "IA5String" ∷ codes "VisibleString" ∷ codes "PrintableString" ∷ codes "NumericString" ∷ []
+
+abbrev pub starts_type : List Lexeme → Bool
+starts_type [] = false
+starts_type (t ∷ ts) = list_any (same t.text) type_words || is_type_name t.kind t.text
+
 -- what is wrong with a token at which a type would stand too deep in others
-abbrev pub deep_kind : List Lexeme → NotationKind
-deep_kind [] = UnexpectedToken
-deep_kind (t ∷ ts) = Unsupported
+unfoldable pub deep_kind : List Lexeme → NotationKind
+deep_kind ts = if starts_type ts then Unsupported else kind_at ts
+
+abbrev pub starts_mark : List Lexeme → Bool
+starts_mark [] = false
+starts_mark (t ∷ ts) = is_empty t.text
 
 -- a type in which types stand in one another at most so many levels deep
-unfoldable pub type_at : ℕ → List Lexeme → Read TypeTree
-type_at zero ts = refuse_as (deep_kind ts) ts
-type_at (suc levels) ts = type_text_at (type_at levels) ts
+unfoldable pub type_at : Extent → ℕ → List Lexeme → Read TypeTree
+type_at ext zero ts = if ext.marked && starts_mark ts then token_at mark_of ts else refuse_as (deep_kind ts) ts
+type_at ext (suc levels) ts = type_text_at ext (type_at ext levels) ts
 
 -- a type at the outermost level
-unfoldable pub outer_type_at : List Lexeme → Read TypeTree
-outer_type_at = type_at most_levels
+unfoldable pub outer_type_at : Extent → List Lexeme → Read TypeTree
+outer_type_at ext = type_at ext ext.levels

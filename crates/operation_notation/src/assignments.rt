@@ -1,6 +1,7 @@
 //! Parsing modules and their assignments.
 
 ghost use Rattle.std.specs.Prelude.{◌≡◌, ◌≤◌, ◌<◌, codes, length, OnOk};
+ghost use Rattle.operation_notation.specs.GrammarTypes.{narrow};
 ghost use Rattle.operation_notation.specs.Reading.{Gives, behind};
 ghost use Rattle.operation_notation.specs.ReadingModules.{typed_at, opens_at, operation_body_at, error_body_at, body_at, valued_at, assignment_at, assignments_at, imported_at, listed_imports_at, maybe_oid_at, imports_at, maybe_imports_at, tagging_at, heading_at, module_at, whole_at};
 
@@ -23,7 +24,7 @@ impl<'t> Cursor<'t> {
     /// An assignment of a type.
     #[tactic(auto, unfolding(crate::specs::ReadingModules::typed_at))]
     fn typed(&mut self, alloc: Global) -> Result<Assignment, Refusal>
-        ensures gives { Gives result self.new (typed_at self.old) }
+        ensures gives { Gives result self.new (typed_at narrow self.old) }
         ensures takes { OnOk result (length self.new < length self.old) }
         ensures keeps { length self.new ≤ length self.old }
     {
@@ -51,7 +52,7 @@ impl<'t> Cursor<'t> {
     /// What follows the name of an operation.
     #[tactic(auto, unfolding(crate::specs::ReadingModules::operation_body_at))]
     fn operation_body(&mut self, alloc: Global) -> Result<Body, Refusal>
-        ensures gives { Gives result self.new (operation_body_at self.old) }
+        ensures gives { Gives result self.new (operation_body_at narrow self.old) }
         ensures takes { OnOk result (length self.new < length self.old) }
         ensures keeps { length self.new ≤ length self.old }
     {
@@ -64,7 +65,7 @@ impl<'t> Cursor<'t> {
     /// What follows the name of an error.
     #[tactic(auto, unfolding(crate::specs::ReadingModules::error_body_at))]
     fn error_body(&mut self, alloc: Global) -> Result<Body, Refusal>
-        ensures gives { Gives result self.new (error_body_at self.old) }
+        ensures gives { Gives result self.new (error_body_at narrow self.old) }
         ensures takes { OnOk result (length self.new < length self.old) }
         ensures keeps { length self.new ≤ length self.old }
     {
@@ -77,7 +78,7 @@ impl<'t> Cursor<'t> {
     /// What follows the name of an operation or error.
     #[tactic(auto, unfolding(crate::specs::ReadingModules::body_at))]
     fn body(&mut self, alloc: Global) -> Result<Body, Refusal>
-        ensures gives { Gives result self.new (body_at self.old) }
+        ensures gives { Gives result self.new (body_at narrow self.old) }
         ensures takes { OnOk result (length self.new < length self.old) }
         ensures keeps { length self.new ≤ length self.old }
     {
@@ -91,7 +92,7 @@ impl<'t> Cursor<'t> {
     /// An assignment of an operation or error.
     #[tactic(auto, unfolding(crate::specs::ReadingModules::valued_at))]
     fn valued(&mut self, alloc: Global) -> Result<Assignment, Refusal>
-        ensures gives { Gives result self.new (valued_at self.old) }
+        ensures gives { Gives result self.new (valued_at narrow self.old) }
         ensures takes { OnOk result (length self.new < length self.old) }
         ensures keeps { length self.new ≤ length self.old }
     {
@@ -103,7 +104,7 @@ impl<'t> Cursor<'t> {
     /// An assignment.
     #[tactic(auto, unfolding(crate::specs::ReadingModules::assignment_at))]
     fn assignment(&mut self, alloc: Global) -> Result<Assignment, Refusal>
-        ensures gives { Gives result self.new (assignment_at self.old) }
+        ensures gives { Gives result self.new (assignment_at narrow self.old) }
         ensures takes { OnOk result (length self.new < length self.old) }
         ensures keeps { length self.new ≤ length self.old }
     {
@@ -117,7 +118,7 @@ impl<'t> Cursor<'t> {
     /// The assignments up to the module's end.
     #[tactic(auto, using(crate::proofs::Loops::goes, crate::proofs::Loops::starts), unfolding(crate::specs::ReadingModules::assignments_at))]
     fn assignments(&mut self, alloc: Global) -> Result<Assignments, Refusal>
-        ensures gives { Gives result self.new (assignments_at self.old) }
+        ensures gives { Gives result self.new (assignments_at narrow self.old) }
         ensures keeps { length self.new ≤ length self.old }
     {
         let mut assignments = ListOf::new(alloc);
@@ -130,7 +131,7 @@ impl<'t> Cursor<'t> {
     /// An information object class that may be imported.
     #[tactic(auto, unfolding(crate::specs::ReadingModules::imported_at))]
     fn imported(&mut self) -> Result<Place, Refusal>
-        ensures gives { Gives result self.new (imported_at self.old) }
+        ensures gives { Gives result self.new (imported_at narrow self.old) }
         ensures takes { OnOk result (length self.new < length self.old) }
         ensures keeps { length self.new ≤ length self.old }
     {
@@ -145,7 +146,7 @@ impl<'t> Cursor<'t> {
 
     /// A class behind a comma.
     fn next_imported(&mut self) -> Result<Place, Refusal>
-        ensures gives { Gives result self.new (behind (codes ",") imported_at self.old) }
+        ensures gives { Gives result self.new (behind (codes ",") (imported_at narrow) self.old) }
         ensures takes { OnOk result (length self.new < length self.old) }
         ensures keeps { length self.new ≤ length self.old }
     {
@@ -156,7 +157,7 @@ impl<'t> Cursor<'t> {
     /// The imported classes, parted by commas.
     #[tactic(auto, using(crate::proofs::Loops::goes), unfolding(crate::specs::ReadingModules::listed_imports_at))]
     fn listed_imports(&mut self) -> Result<Place, Refusal>
-        ensures gives { Gives result self.new (listed_imports_at self.old) }
+        ensures gives { Gives result self.new (listed_imports_at narrow self.old) }
         ensures takes { OnOk result (length self.new < length self.old) }
         ensures keeps { length self.new ≤ length self.old }
     {
@@ -183,7 +184,7 @@ impl<'t> Cursor<'t> {
     /// The imports, which aren't kept.
     #[tactic(auto, unfolding(crate::specs::ReadingModules::imports_at))]
     fn imports(&mut self, alloc: Global) -> Result<Place, Refusal>
-        ensures gives { Gives result self.new (imports_at self.old) }
+        ensures gives { Gives result self.new (imports_at narrow self.old) }
         ensures takes { OnOk result (length self.new < length self.old) }
         ensures keeps { length self.new ≤ length self.old }
     {
@@ -198,7 +199,7 @@ impl<'t> Cursor<'t> {
     /// The imports, or nothing.
     #[tactic(auto, unfolding(crate::specs::ReadingModules::maybe_imports_at))]
     fn maybe_imports(&mut self, alloc: Global) -> Result<Option<Place>, Refusal>
-        ensures gives { Gives result self.new (maybe_imports_at self.old) }
+        ensures gives { Gives result self.new (maybe_imports_at narrow self.old) }
         ensures keeps { length self.new ≤ length self.old }
     {
         if self.is(b"IMPORTS") {
@@ -249,7 +250,7 @@ impl<'t> Cursor<'t> {
     /// A module.
     #[tactic(auto, unfolding(crate::specs::ReadingModules::module_at))]
     fn module(&mut self, alloc: Global) -> Result<ModuleText, Refusal>
-        ensures gives { Gives result self.new (module_at self.old) }
+        ensures gives { Gives result self.new (module_at narrow self.old) }
         ensures takes { OnOk result (length self.new < length self.old) }
         ensures keeps { length self.new ≤ length self.old }
     {
@@ -269,7 +270,7 @@ impl<'t> Cursor<'t> {
     /// A module with no token behind it.
     #[tactic(auto, unfolding(crate::specs::ReadingModules::whole_at))]
     pub fn whole(&mut self, alloc: Global) -> Result<ModuleText, Refusal>
-        ensures gives { Gives result self.new (whole_at self.old) }
+        ensures gives { Gives result self.new (whole_at narrow self.old) }
         ensures takes { OnOk result (length self.new < length self.old) }
         ensures keeps { length self.new ≤ length self.old }
     {

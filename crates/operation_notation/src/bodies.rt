@@ -1,6 +1,7 @@
 //! Parsing the bodies of operations and errors.
 
 ghost use Rattle.std.specs.Prelude.{◌≡◌, ◌≤◌, ◌<◌, codes, length, OnOk};
+ghost use Rattle.operation_notation.specs.GrammarTypes.{narrow};
 ghost use Rattle.operation_notation.specs.Reading.{Gives, behind, listed_at, value_name_at};
 ghost use Rattle.operation_notation.specs.ReadingModules.{flag_at, flag_2_at, flag_or_at, passed_flag_at, use_at, maybe_use_at, names_at, named_list_at, priority_at, passed_priority_at, invoke_priority_at, local_at, global_at, code_value_at, code_at, maybe_code_at, signature_at, manner_at, operation_at, error_at};
 
@@ -72,7 +73,7 @@ impl<'t> Cursor<'t> {
     /// A type behind a word.
     #[tactic(auto, unfolding(crate::specs::ReadingModules::use_at))]
     pub fn use_text(&mut self, alloc: Global, word: &[u8]) -> Result<UseText, Refusal>
-        ensures gives { Gives result self.new (use_at word.now self.old) }
+        ensures gives { Gives result self.new (use_at narrow word.now self.old) }
         ensures takes { OnOk result (length self.new < length self.old) }
         ensures keeps { length self.new ≤ length self.old }
     {
@@ -94,7 +95,7 @@ impl<'t> Cursor<'t> {
     /// A type behind a word, or nothing.
     #[tactic(auto, unfolding(crate::specs::ReadingModules::maybe_use_at))]
     pub fn maybe_use(&mut self, alloc: Global, word: &[u8]) -> Result<Option<UseText>, Refusal>
-        ensures gives { Gives result self.new (maybe_use_at word.now self.old) }
+        ensures gives { Gives result self.new (maybe_use_at narrow word.now self.old) }
         ensures keeps { length self.new ≤ length self.old }
     {
         if self.is(word) {
@@ -274,7 +275,7 @@ impl<'t> Cursor<'t> {
     /// What an operation takes and gives.
     #[tactic(auto, unfolding(crate::specs::ReadingModules::signature_at))]
     fn signature(&mut self, alloc: Global) -> Result<Signature, Refusal>
-        ensures gives { Gives result self.new (signature_at self.old) }
+        ensures gives { Gives result self.new (signature_at narrow self.old) }
         ensures keeps { length self.new ≤ length self.old }
     {
         let argument = self.maybe_use(alloc, b"ARGUMENT")?;
@@ -304,7 +305,7 @@ impl<'t> Cursor<'t> {
     /// The body of an operation, without its braces.
     #[tactic(auto, unfolding(crate::specs::ReadingModules::operation_at))]
     pub fn operation(&mut self, alloc: Global) -> Result<OpText, Refusal>
-        ensures gives { Gives result self.new (operation_at self.old) }
+        ensures gives { Gives result self.new (operation_at narrow self.old) }
         ensures keeps { length self.new ≤ length self.old }
     {
         let signature = self.signature(alloc)?;
@@ -326,7 +327,7 @@ impl<'t> Cursor<'t> {
     /// The body of an error, without its braces.
     #[tactic(auto, unfolding(crate::specs::ReadingModules::error_at))]
     pub fn error(&mut self, alloc: Global) -> Result<ErrText, Refusal>
-        ensures gives { Gives result self.new (error_at self.old) }
+        ensures gives { Gives result self.new (error_at narrow self.old) }
         ensures keeps { length self.new ≤ length self.old }
     {
         let parameter = self.maybe_use(alloc, b"PARAMETER")?;

@@ -1,13 +1,13 @@
 //! Where the parser stands, and the tokens that it takes one at a time.
 
 ghost use Rattle.std.specs.Prelude.{◌≡◌, ◌≤◌, ◌<◌, List, length, IfOk, OnOk, IsTrue, IfSome, is_some, ◌==◌};
-ghost use Rattle.notation_tokens.specs.Lexeme.{Lexeme, IsSpan, lexemes, begins, goes_on};
-ghost use Rattle.std.specs.List.{AllByRecursion};
+ghost use Rattle.notation_tokens.specs.Lexeme.{Lexeme, IsSpan, lexemes, same, begins, goes_on};
+ghost use Rattle.std.specs.List.{AllByRecursion, list_any};
 ghost use Rattle.notation_tokens.specs.Words.{type_name_of, value_name_of, number_of, int_of, end_of, bool_of, text_kind_of, arc_name_of, root_name};
 ghost use Rattle.notation_tokens.specs.Forms.{is_word};
 ghost use Rattle.operation_notation.specs.ReadingModules.{class_kind};
 ghost use Rattle.operation_notation.specs.Reading.{Gives, is_set_of, kind_at, word_at, type_name_at, value_name_at, number_at, number_64_at, int_at, end_at, bool_at, place_of};
-ghost use Rattle.operation_notation.specs.ReadingTypes.{starts_name, root_word, text_kind, arc_name_at, text_kind_at};
+ghost use Rattle.operation_notation.specs.ReadingTypes.{type_words, starts_type, starts_name, root_word, text_kind, arc_name_at, text_kind_at};
 
 use crate::fault::Refusal;
 use notation_tokens::words::{
@@ -49,6 +49,40 @@ fn located(alloc: Global, text: &[u8], place: Place) -> Result<Located, NoMemory
         line: place.line,
         column: place.column,
     })
+}
+
+/// Whether the text is one of these words.
+fn is_one_of(text: &[u8], words: &[&[u8]]) -> bool
+    ensures { result ≡ list_any (λ word. same text.now word.now) words.now }
+{
+    words.iter().any(|word| is_same(text, word))
+}
+
+/// Whether a type begins with this word or sign.
+fn is_type_word(text: &[u8]) -> bool
+    ensures { result ≡ list_any (same text.now) type_words }
+{
+    is_one_of(
+        text,
+        &[
+            b"[",
+            b"SEQUENCE",
+            b"SET",
+            b"CHOICE",
+            b"BOOLEAN",
+            b"NULL",
+            b"INTEGER",
+            b"ENUMERATED",
+            b"OCTET",
+            b"BIT",
+            b"OBJECT",
+            b"UTF8String",
+            b"IA5String",
+            b"VisibleString",
+            b"PrintableString",
+            b"NumericString",
+        ],
+    )
 }
 
 impl<'t> Cursor<'t> {
@@ -331,6 +365,19 @@ impl<'t> Cursor<'t> {
         match self.tokens {
             [] => false,
             [token, ..] => text_word(&self.source[token.from..token.to]).is_some(),
+        }
+    }
+
+    /// Whether the next token is one with which a type begins.
+    pub fn starts_type(&self) -> bool
+        ensures { result ≡ starts_type self.now }
+    {
+        match self.tokens {
+            [] => false,
+            [token, ..] => {
+                let text = &self.source[token.from..token.to];
+                is_type_word(text) || is_upper_name(token.kind, text)
+            }
         }
     }
 }

@@ -13,7 +13,7 @@ mod parser;
 mod structure;
 mod types;
 
-pub use laws::one_reading;
+pub use laws::{module_or_fault, no_set_of, one_fault, one_reading};
 pub use module::{
     Assignment, Assignments, Body, CodeText, ErrText, ItemText, ItemTexts, Locateds, ModuleText,
     OpText, PartText, PartTexts, PlainText, RangeText, TagText, TypeText, UseText,

@@ -3,6 +3,7 @@
 ghost use Rattle.std.specs.Prelude.{◌≡◌, ◌≤◌, length, IfOk, IfErr, Ok};
 ghost use Rattle.std.specs.List.{AllByRecursion};
 ghost use Rattle.notation_tokens.specs.Lexeme.{IsSpan, lexemes};
+ghost use Rattle.operation_notation.specs.GrammarTypes.{narrow};
 ghost use Rattle.operation_notation.specs.ReadingModules.{whole_at};
 ghost use Rattle.notation_tokens.specs.Texts.{Answers};
 ghost use Rattle.operation_notation.specs.Modules.{Reads, module_of, refused, verdict};
@@ -32,7 +33,7 @@ fn fault_of(lexed: &Lexed, cursor: &Cursor<'_>, kind: NotationKind) -> NotationF
 /// The module that the tokens of a text are.
 fn parse(alloc: Global, text: &[u8], lexed: &Lexed) -> Result<ModuleText, NotationFault>
     requires { AllByRecursion (IsSpan text.now (length text.now)) lexed.now.tokens }
-    ensures { Answers result (verdict lexed.now (whole_at (lexemes text.now lexed.now.tokens))) }
+    ensures { Answers result (verdict lexed.now (whole_at narrow (lexemes text.now lexed.now.tokens))) }
 {
     let mut cursor = Cursor::new(text, lexed.tokens.as_slice());
     match cursor.whole(alloc) {

@@ -1,6 +1,7 @@
 //! Parsing types that hold types.
 
 ghost use Rattle.std.specs.Prelude.{◌≡◌, ◌≤◌, ◌<◌, codes, length, OnOk};
+ghost use Rattle.operation_notation.specs.GrammarTypes.{narrow};
 ghost use Rattle.operation_notation.specs.Reading.{Gives, GivesAs, behind, listed_at};
 ghost use Rattle.operation_notation.specs.ReadingTypes.{optional_at, part_at, parts_at, alternatives_at, sequence_at, set_at, choice_at, plain_at, type_text_at, type_at, outer_type_at, deep_kind};
 ghost use Rattle.operation_notation.specs.TreeView.{plain_of};
@@ -34,7 +35,7 @@ impl<'t> Cursor<'t> {
     #[cycle(types)]
     #[tactic(auto, unfolding(crate::specs::ReadingTypes::part_at))]
     fn part(&mut self, alloc: Global, levels: u32, may: bool) -> Result<PartText, Refusal>
-        ensures gives { Gives result self.new (part_at may (type_at levels) self.old) }
+        ensures gives { Gives result self.new (part_at may (type_at narrow levels) self.old) }
         ensures takes { OnOk result (length self.new < length self.old) }
         ensures keeps { length self.new ≤ length self.old }
     {
@@ -47,7 +48,7 @@ impl<'t> Cursor<'t> {
     /// A part behind a comma.
     #[cycle(types)]
     fn next_part(&mut self, alloc: Global, levels: u32, may: bool) -> Result<PartText, Refusal>
-        ensures gives { Gives result self.new (behind (codes ",") (part_at may (type_at levels)) self.old) }
+        ensures gives { Gives result self.new (behind (codes ",") (part_at may (type_at narrow levels)) self.old) }
         ensures takes { OnOk result (length self.new < length self.old) }
         ensures keeps { length self.new ≤ length self.old }
     {
@@ -64,7 +65,7 @@ impl<'t> Cursor<'t> {
         levels: u32,
         may: bool,
     ) -> Result<ListOf<PartText>, Refusal>
-        ensures gives { Gives result self.new (listed_at (codes ",") (part_at may (type_at levels)) self.old) }
+        ensures gives { Gives result self.new (listed_at (codes ",") (part_at may (type_at narrow levels)) self.old) }
         ensures takes { OnOk result (length self.new < length self.old) }
         ensures keeps { length self.new ≤ length self.old }
     {
@@ -80,7 +81,7 @@ impl<'t> Cursor<'t> {
     #[cycle(types)]
     #[tactic(auto, unfolding(crate::specs::ReadingTypes::parts_at))]
     fn parts(&mut self, alloc: Global, levels: u32) -> Result<ListOf<PartText>, Refusal>
-        ensures gives { Gives result self.new (parts_at (type_at levels) self.old) }
+        ensures gives { Gives result self.new (parts_at (type_at narrow levels) self.old) }
         ensures takes { OnOk result (length self.new < length self.old) }
         ensures keeps { length self.new ≤ length self.old }
     {
@@ -98,7 +99,7 @@ impl<'t> Cursor<'t> {
     #[cycle(types)]
     #[tactic(auto, unfolding(crate::specs::ReadingTypes::alternatives_at))]
     fn alternatives(&mut self, alloc: Global, levels: u32) -> Result<ListOf<PartText>, Refusal>
-        ensures gives { Gives result self.new (alternatives_at (type_at levels) self.old) }
+        ensures gives { Gives result self.new (alternatives_at (type_at narrow levels) self.old) }
         ensures takes { OnOk result (length self.new < length self.old) }
         ensures keeps { length self.new ≤ length self.old }
     {
@@ -112,7 +113,7 @@ impl<'t> Cursor<'t> {
     #[cycle(types)]
     #[tactic(auto, unfolding(crate::specs::ReadingTypes::sequence_at))]
     fn sequence(&mut self, alloc: Global, levels: u32) -> Result<PlainText, Refusal>
-        ensures gives { GivesAs plain_of result self.new (sequence_at (type_at levels) self.old) }
+        ensures gives { GivesAs plain_of result self.new (sequence_at (type_at narrow levels) self.old) }
         ensures takes { OnOk result (length self.new < length self.old) }
         ensures keeps { length self.new ≤ length self.old }
     {
@@ -131,7 +132,7 @@ impl<'t> Cursor<'t> {
     #[cycle(types)]
     #[tactic(auto, unfolding(crate::specs::ReadingTypes::set_at))]
     fn set(&mut self, alloc: Global, levels: u32) -> Result<PlainText, Refusal>
-        ensures gives { GivesAs plain_of result self.new (set_at (type_at levels) self.old) }
+        ensures gives { GivesAs plain_of result self.new (set_at (type_at narrow levels) self.old) }
         ensures takes { OnOk result (length self.new < length self.old) }
         ensures keeps { length self.new ≤ length self.old }
     {
@@ -147,7 +148,7 @@ impl<'t> Cursor<'t> {
     #[cycle(types)]
     #[tactic(auto, unfolding(crate::specs::ReadingTypes::choice_at))]
     fn choice(&mut self, alloc: Global, levels: u32) -> Result<PlainText, Refusal>
-        ensures gives { GivesAs plain_of result self.new (choice_at (type_at levels) self.old) }
+        ensures gives { GivesAs plain_of result self.new (choice_at (type_at narrow levels) self.old) }
         ensures takes { OnOk result (length self.new < length self.old) }
         ensures keeps { length self.new ≤ length self.old }
     {
@@ -160,7 +161,7 @@ impl<'t> Cursor<'t> {
     #[cycle(types)]
     #[tactic(auto, unfolding(crate::specs::ReadingTypes::plain_at))]
     fn plain(&mut self, alloc: Global, levels: u32) -> Result<PlainText, Refusal>
-        ensures gives { GivesAs plain_of result self.new (plain_at (type_at levels) self.old) }
+        ensures gives { GivesAs plain_of result self.new (plain_at narrow (type_at narrow levels) self.old) }
         ensures takes { OnOk result (length self.new < length self.old) }
         ensures keeps { length self.new ≤ length self.old }
     {
@@ -179,7 +180,7 @@ impl<'t> Cursor<'t> {
     #[cycle(types)]
     #[tactic(auto, unfolding(crate::specs::ReadingTypes::type_text_at))]
     fn type_over(&mut self, alloc: Global, levels: u32) -> Result<TypeText, Refusal>
-        ensures gives { Gives result self.new (type_text_at (type_at levels) self.old) }
+        ensures gives { Gives result self.new (type_text_at narrow (type_at narrow levels) self.old) }
         ensures takes { OnOk result (length self.new < length self.old) }
         ensures keeps { length self.new ≤ length self.old }
     {
@@ -202,7 +203,7 @@ impl<'t> Cursor<'t> {
     #[cycle(types)]
     #[tactic(auto, using(crate::proofs::Levels::type_at_none, crate::proofs::Levels::type_at_some))]
     pub fn type_text(&mut self, alloc: Global, levels: u32) -> Result<TypeText, Refusal>
-        ensures gives { Gives result self.new (type_at levels self.old) }
+        ensures gives { Gives result self.new (type_at narrow levels self.old) }
         ensures takes { OnOk result (length self.new < length self.old) }
         ensures keeps { length self.new ≤ length self.old }
     {
@@ -216,21 +217,22 @@ impl<'t> Cursor<'t> {
     /// A type at the outermost level.
     #[tactic(auto, unfolding(crate::specs::ReadingTypes::outer_type_at))]
     pub fn outer_type(&mut self, alloc: Global) -> Result<TypeText, Refusal>
-        ensures gives { Gives result self.new (outer_type_at self.old) }
+        ensures gives { Gives result self.new (outer_type_at narrow self.old) }
         ensures takes { OnOk result (length self.new < length self.old) }
         ensures keeps { length self.new ≤ length self.old }
     {
         self.type_text(alloc, MOST_LEVELS)
     }
 
-    /// The kind of fault that a type is where no further level is read.
+    /// The kind of fault that the next token is where a type would stand too deep.
+    #[tactic(auto, unfolding(crate::specs::ReadingTypes::deep_kind))]
     fn deep(&self) -> NotationKind
         ensures { result ≡ deep_kind self.now }
     {
-        if self.is_done() {
-            NotationKind::UnexpectedToken
-        } else {
+        if self.starts_type() {
             NotationKind::Unsupported
+        } else {
+            self.kind()
         }
     }
 }

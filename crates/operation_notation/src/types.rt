@@ -1,6 +1,7 @@
 //! Parsing types.
 
 ghost use Rattle.std.specs.Prelude.{◌≡◌, ◌≤◌, ◌<◌, codes, length, IfOk, OnOk};
+ghost use Rattle.operation_notation.specs.GrammarTypes.{narrow};
 ghost use Rattle.operation_notation.specs.Reading.{Gives, GivesAs, behind, listed_at};
 ghost use Rattle.operation_notation.specs.ReadingTypes.{range_at, size_at, item_at, items_at, class_at, explicit_at, tag_at, text_or_name_at, integer_at, octets_at, leaf_at};
 ghost use Rattle.operation_notation.specs.TreeView.{plain_of};
@@ -169,7 +170,7 @@ impl<'t> Cursor<'t> {
     /// A text, or the name of a type.
     #[tactic(auto, unfolding(crate::specs::ReadingTypes::text_or_name_at))]
     fn text_or_name(&mut self, alloc: Global) -> Result<PlainText, Refusal>
-        ensures gives { GivesAs plain_of result self.new (text_or_name_at self.old) }
+        ensures gives { GivesAs plain_of result self.new (text_or_name_at narrow self.old) }
         ensures takes { OnOk result (length self.new < length self.old) }
         ensures keeps { length self.new ≤ length self.old }
     {
@@ -219,7 +220,7 @@ impl<'t> Cursor<'t> {
     /// A type that holds no other types, without its tag.
     #[tactic(auto, unfolding(crate::specs::ReadingTypes::leaf_at))]
     pub fn leaf(&mut self, alloc: Global) -> Result<PlainText, Refusal>
-        ensures gives { GivesAs plain_of result self.new (leaf_at self.old) }
+        ensures gives { GivesAs plain_of result self.new (leaf_at narrow self.old) }
         ensures takes { OnOk result (length self.new < length self.old) }
         ensures keeps { length self.new ≤ length self.old }
     {

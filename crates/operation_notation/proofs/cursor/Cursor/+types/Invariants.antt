@@ -1,5 +1,6 @@
 use Rattle.std.proofs.Common.{◌+◌, ◌*◌, ◌<◌, codes, length}
 use Rattle.notation_tokens.specs.Lexeme.{begins}
+use Rattle.operation_notation.specs.GrammarTypes.{narrow}
 use Rattle.operation_notation.specs.Reading.{behind, listed_at}
 use Rattle.operation_notation.specs.ReadingTypes.{part_at, type_at}
 use Rattle.operation_notation.proofs.Loops.{Going}
@@ -40,7 +41,7 @@ decreases-type_over l = 10 * l.levels + 9
 
 abbrev pub invariant-listed_parts-loop-alloc : goal.invariant-listed_parts-loop-alloc
 invariant-listed_parts-loop-alloc l =
-    let r = part_at l.may (type_at l.levels) in
+    let r = part_at l.may (type_at narrow l.levels) in
     record {
       going : Going (begins (codes ",")) (behind (codes ",") r) l.parts l.self (listed_at (codes ",") r l.fn.self);
       shorter : length l.self < length l.fn.self;
