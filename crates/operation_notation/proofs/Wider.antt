@@ -197,13 +197,13 @@ module _ (E : Failure → Type 0) (ext : Extent) (a_outer : Agree E (outer_type_
 
 -- ---- the wide grammar
 
-abbrev Unsup : Failure → Type 0
-Unsup d = d.kind ≡ Unsupported
+abbrev AtUnsupported : Failure → Type 0
+AtUnsupported d = d.kind ≡ Unsupported
 
-wide_named : (name : Located) → Agree Unsup (named_at narrow name) (named_at wide name)
+wide_named : (name : Located) → Agree AtUnsupported (named_at narrow name) (named_at wide name)
 wide_named name ts = go (begins (codes "{") ts) refl
   where
-    go : (b : Bool) → begins (codes "{") ts ≡ b → (named_at narrow name ts ≡ named_at wide name ts) ⊎ Stopped Unsup (named_at narrow name ts)
+    go : (b : Bool) → begins (codes "{") ts ≡ b → (named_at narrow name ts ≡ named_at wide name ts) ⊎ Stopped AtUnsupported (named_at narrow name ts)
     go true e = inr (record { at = fault ts Unsupported; is = rw e refl; sort = refl })
     go false e = inl (rw e refl)
 
@@ -232,11 +232,11 @@ no_type f (t ∷ ts) e =
     let q5 = neither (s (codes "NumericString")) _ q4.1 in
     rw (p0.0, p1.0, p2.0, p3.0, p4.0, p5.0, p6.0, p7.0, p8.0, p9.0, q0.0, q1.0, q2.0, q3.0, q4.0, q5.0, named.1) refl
 
-wide_deep : Agree Unsup (type_at narrow 0) (type_at wide 2)
+wide_deep : Agree AtUnsupported (type_at narrow 0) (type_at wide 2)
 unfolding type_at deep_kind
 wide_deep ts = go (starts_type ts) refl
   where
-    go : (b : Bool) → starts_type ts ≡ b → (failed (fault ts (if starts_type ts then Unsupported else kind_at ts)) ≡ type_text_at wide (type_at wide 1) ts) ⊎ Stopped Unsup (failed {A = TypeTree} (fault ts (if starts_type ts then Unsupported else kind_at ts)))
+    go : (b : Bool) → starts_type ts ≡ b → (failed (fault ts (if starts_type ts then Unsupported else kind_at ts)) ≡ type_text_at wide (type_at wide 1) ts) ⊎ Stopped AtUnsupported (failed {A = TypeTree} (fault ts (if starts_type ts then Unsupported else kind_at ts)))
     go true e = inr (record { at = fault ts Unsupported; is = rw e refl; sort = refl })
     go false e = inl (ap (λ (b : Bool). failed (fault ts (if b then Unsupported else kind_at ts))) e ∙ no_type (type_at wide 1) ts e)
 
@@ -244,32 +244,32 @@ abbrev two_more : ℕ → ℕ
 two_more zero = 2
 two_more (suc n) = suc (two_more n)
 
-wide_type : (levels : ℕ) → Agree Unsup (type_at narrow levels) (type_at wide (two_more levels))
+wide_type : (levels : ℕ) → Agree AtUnsupported (type_at narrow levels) (type_at wide (two_more levels))
 unfolding type_at
 wide_type zero = wide_deep
-wide_type (suc n) = a_type_text Unsup wide wide_named (type_at narrow n) (type_at wide (two_more n)) (wide_type n)
+wide_type (suc n) = a_type_text AtUnsupported wide wide_named (type_at narrow n) (type_at wide (two_more n)) (wide_type n)
 
-wide_outer : Agree Unsup (outer_type_at narrow) (outer_type_at wide)
+wide_outer : Agree AtUnsupported (outer_type_at narrow) (outer_type_at wide)
 unfolding outer_type_at
 wide_outer = wide_type 256
 
-wide_other : Agree Unsup (λ ts. failed {A = Place} (fault ts (class_kind ts))) (λ ts. if true then token_at name_of ts else refuse ts)
+wide_other : Agree AtUnsupported (λ ts. failed {A = Place} (fault ts (class_kind ts))) (λ ts. if true then token_at name_of ts else refuse ts)
 unfolding class_kind kind_at
 wide_other [] = inl refl
 wide_other (t ∷ ts) = go (type_named t || value_named t) refl
   where
-    go : (b : Bool) → type_named t || value_named t ≡ b → (failed {A = Place} (fault (t ∷ ts) (class_kind (t ∷ ts))) ≡ token_at name_of (t ∷ ts)) ⊎ Stopped Unsup (failed {A = Place} (fault (t ∷ ts) (class_kind (t ∷ ts))))
+    go : (b : Bool) → type_named t || value_named t ≡ b → (failed {A = Place} (fault (t ∷ ts) (class_kind (t ∷ ts))) ≡ token_at name_of (t ∷ ts)) ⊎ Stopped AtUnsupported (failed {A = Place} (fault (t ∷ ts) (class_kind (t ∷ ts))))
     go true e = inr (record { at = fault (t ∷ ts) Unsupported; is = rw e refl; sort = refl })
     go false e = inl (rw e refl)
 
-wide_imported : Agree Unsup (imported_at narrow) (imported_at wide)
+wide_imported : Agree AtUnsupported (imported_at narrow) (imported_at wide)
 unfolding imported_at
 wide_imported = apick (begins (codes "OPERATION")) (same_way _) (apick (begins (codes "ERROR")) (same_way _) wide_other)
 
 -- at a token that is unexpected in the notation reading stops in the wide grammar too
 pub wide_stops : (x : List Lexeme) (t : Lexeme) (u : List Lexeme) → whole_at narrow (x ++ t ∷ u) ≡ Err (fault (t ∷ u) UnexpectedToken) → whole_at wide (x ++ t ∷ u) ≡ Err (fault (t ∷ u) UnexpectedToken)
 wide_stops x t u e =
-    elim (a_whole Unsup wide wide_outer wide_imported (x ++ t ∷ u)) [
+    elim (a_whole AtUnsupported wide wide_outer wide_imported (x ++ t ∷ u)) [
       | inl q ↦ sym q ∙ e
       | inr q ↦ let clash : UnexpectedToken ≡ Unsupported = ap (λ (d : Failure). d.kind) (fault_is (fault (t ∷ u) UnexpectedToken) q.at (sym e ∙ q.is)) ∙ q.sort in absurd cc
     ]

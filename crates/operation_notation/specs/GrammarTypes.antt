@@ -245,7 +245,7 @@ TypeBehind ext Inner at = do
   plain ← Plain ext Inner
   Nothing (type_tree at.line at.column tag plain)
 
--- a type in which types stand in one another at most so many levels deep
+-- a type in which types stand in one another at most so many levels deep; behind the last level, a mark where one may stand
 unfoldable pub Type_of : Extent → ℕ → List Lexeme → TypeTree → Type 0
 Type_of ext zero ts t = Where ext.marked (One mark_of) ts t
 Type_of ext (suc levels) ts t = Placed (TypeBehind ext (Type_of ext levels)) ts t

@@ -224,6 +224,7 @@ type_text_at ext inner = do
 abbrev pub type_words : List (List ℕ)
 type_words = codes "[" ∷ codes "SEQUENCE" ∷ codes "SET" ∷ codes "CHOICE" ∷ codes "BOOLEAN" ∷ codes "NULL" ∷ codes "INTEGER" ∷ codes "ENUMERATED" ∷ codes "OCTET" ∷ codes "BIT" ∷ codes "OBJECT" ∷ codes "UTF8String" ∷ codes "IA5String" ∷ codes "VisibleString" ∷ codes "PrintableString" ∷ codes "NumericString" ∷ []
 
+-- a token with which a type begins
 abbrev pub starts_type : List Lexeme → Bool
 starts_type [] = false
 starts_type (t ∷ ts) = list_any (same t.text) type_words || is_type_name t.kind t.text
@@ -232,6 +233,7 @@ starts_type (t ∷ ts) = list_any (same t.text) type_words || is_type_name t.kin
 unfoldable pub deep_kind : List Lexeme → NotationKind
 deep_kind ts = if starts_type ts then Unsupported else kind_at ts
 
+-- a mark, which stands for a type too deep where marks may stand
 abbrev pub starts_mark : List Lexeme → Bool
 starts_mark [] = false
 starts_mark (t ∷ ts) = is_empty t.text
