@@ -264,7 +264,14 @@ fn types_nest_256_deep(rt: HostRuntime) -> Result<(), Fail> {
     let most = nested(rt.alloc(), 255, b"NULL")?;
     assert!(rt; parse_module(rt.alloc(), &most).is_ok());
     let column = 39 + 256 * 12;
-    let types: [&'static [u8]; 6] = [b"NULL", b"U", b"[1] NULL", b"CHOICE {", b"SET {}", b"SET OF"];
+    let types: [&'static [u8]; 6] = [
+        b"NULL",
+        b"U",
+        b"[1] NULL",
+        b"CHOICE {",
+        b"SET {}",
+        b"SET OF",
+    ];
     for tokens in types {
         let deeper = nested(rt.alloc(), 256, tokens)?;
         assert!(rt; is_refused(rt.alloc(), &deeper, 1, column, NotationKind::Unsupported));
@@ -278,7 +285,15 @@ fn no_type_begins_too_deep(rt: HostRuntime) -> Result<(), Fail> {
     let others: [&'static [u8]; 4] = [b"}", b"u", b"7", b"OPTIONAL"];
     for tokens in others {
         let deeper = nested(rt.alloc(), 256, tokens)?;
-        assert!(rt; is_refused(rt.alloc(), &deeper, 1, column, NotationKind::UnexpectedToken));
+        assert!(rt;
+            is_refused(
+                rt.alloc(),
+                &deeper,
+                1,
+                column,
+                NotationKind::UnexpectedToken
+            )
+        );
     }
     let real = nested(rt.alloc(), 256, b"REAL")?;
     assert!(rt; is_refused(rt.alloc(), &real, 1, column, NotationKind::Unsupported));
