@@ -5,3 +5,4 @@ pub mod SetCounts
 pub mod WrittenLoops
 pub mod Calls
 pub mod PartsFrom
+pub mod AtOnce

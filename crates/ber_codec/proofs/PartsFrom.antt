@@ -14,14 +14,10 @@ use Rattle.ber_spelling.specs.Reading.{Spot, Opened, Ahead, ended, begun, Readin
 use Rattle.ber_spelling.specs.Fields.{look_at, extent_at}
 use Rattle.ber_spelling.specs.Rules.{Reader, part_at, parts_at, present_at, last_of, close_at, expect_at, sequence_at}
 use Rattle.ber_spelling.proofs.Steps.{Fails-bind, Fails-same}
-use Rattle.ber_codec.specs.Parts.{taken_at, absent_at, found_at, part_from, parts_from}
+use Rattle.ber_codec.specs.Parts.{taken_at, absent_at, found_at, part_from, parts_from, parts_behind}
 
 abbrev Parts : Type 0
 Parts = Reading (List (Option Value) × Spot)
-
--- what was found before, and what is still found
-abbrev pub parts_behind : List (Option Value) → Parts → Parts
-parts_behind front read = read >>= λ x. Ok (front ++ x.0, x.1)
 
 abbrev cons : Option Value → List (Option Value) × Spot → Parts
 cons o more = Ok (o ∷ more.0, more.1)

@@ -1,3 +1,4 @@
+pub mod AtOnce
 pub mod Calls
 pub mod Parts
 pub use Rattle.ber_spelling.specs.Reading

@@ -1,5 +1,5 @@
 -- Parts of a SEQUENCE (X.690 8.9), read from where the next one may stand, and not from what was seen to stand there.
-use Rattle.std.specs.Prelude.{ℕ, Bool, Option, Some, None, List, Ok, if◌then◌else◌}
+use Rattle.std.specs.Prelude.{ℕ, Bool, Option, Some, None, List, ◌++◌, Ok, if◌then◌else◌}
 use Rattle.osi_base.specs.declared.words.Kind.TheVariants.{Missing}
 use Rattle.asn1_types.specs.declared.row.Class.{Class}
 use Rattle.asn1_types.specs.declared.row.Part.{Part}
@@ -33,3 +33,7 @@ unfoldable pub parts_from : (ℕ → Class → ℕ → Bool) → (ℕ → Reader
 parts_from begins inner scope spot ps = do
   a ← look_at scope spot.place spot.rest
   parts_at begins inner scope a ps
+
+-- what was found before, and what is still found
+abbrev pub parts_behind : List (Option Value) → Reading (List (Option Value) × Spot) → Reading (List (Option Value) × Spot)
+parts_behind front read = read >>= λ x. Ok (front ++ x.0, x.1)

@@ -1,15 +1,18 @@
 //! Reading whole values.
 
-ghost use Rattle.std.specs.Prelude.{◌≡◌, ℕ, ◌≤◌, ◌<◌, false, true, length, take, IfOk};
+ghost use Rattle.std.specs.Prelude.{◌≡◌, ℕ, ◌+◌, ◌≤◌, ◌<◌, ◌^◌, false, true, None, length, take, IfOk, IfSome};
+ghost use Rattle.std.specs.List.{AllByRecursion};
+ghost use Rattle.asn1_types.specs.Rows.{begins, rows_of_parts};
 ghost use Rattle.asn1_types.specs.Value as tree;
-ghost use Rattle.ber_spelling.specs.Reading.{Gives};
-ghost use Rattle.ber_spelling.specs.Rules.{read_at};
+ghost use Rattle.ber_spelling.specs.Reading.{Gives, GoesOn, opened_of, spot_of};
+ghost use Rattle.ber_spelling.specs.Rules.{outermost, reads, sequence_at, read_at};
 ghost use Rattle.ber_spelling.specs.Spelling.{Spells};
-ghost use Rattle.ber_codec.specs.Calls.{IsRead};
+ghost use Rattle.ber_codec.specs.Calls.{IsRead, GivesRead};
 
-use crate::read::value;
-use asn1_types::{TypeId, TypeTable, Val};
-use ber_spelling::{ReadFault, Scope, Spot, identifier};
+use crate::at_once::first_identifier;
+use crate::read::{sequence, value};
+use asn1_types::{Class, Parts, TypeId, TypeRow, TypeTable, Val};
+use ber_spelling::{Opened, ReadFault, Scope, Spot, Tag, identifier};
 use std::alloc::Global;
 
 /// How many octets a value may have.
@@ -74,6 +77,7 @@ pub fn der_read(
 }
 
 #[tactic(auto, unfolding(ber_spelling::specs::Rules::read_at, ber_spelling::specs::Rules::value_at))]
+#[inline(always)]
 fn read_all(
     alloc: Global,
     table: &TypeTable,
@@ -85,25 +89,134 @@ fn read_all(
     requires { of.0 < length table.now }
     ensures exact { Gives (λ r. (r.value, r.used)) result (read_at table.now of.0 strict limit bytes.now) }
 {
-    let scope = Scope {
+    let scope = outermost(limit, strict);
+    match first_identifier(limit, bytes) {
+        Some((opened, spot)) => read_behind(alloc, table, of, &scope, &opened, spot),
+        None => read_from(alloc, table, of, bytes, limit, strict),
+    }
+}
+
+/// The scope of a whole value.
+#[inline(always)]
+fn outermost(limit: u32, strict: bool) -> Scope
+    ensures { result ≡ outermost limit strict }
+{
+    Scope {
         levels: 32,
         limit,
         end: None,
         marked: false,
         strict,
-    };
+    }
+}
+
+/// As `read_all`, whatever the octets begin with.
+#[tactic(auto, unfolding(ber_spelling::specs::Rules::read_at, ber_spelling::specs::Rules::value_at))]
+#[inline(never)]
+fn read_from(
+    alloc: Global,
+    table: &TypeTable,
+    of: TypeId,
+    bytes: &[u8],
+    limit: u32,
+    strict: bool,
+) -> Result<Read, ReadFault>
+    requires { of.0 < length table.now }
+    ensures exact { Gives (λ r. (r.value, r.used)) result (read_at table.now of.0 strict limit bytes.now) }
+{
+    let scope = outermost(limit, strict);
     let start = Spot {
         place: 0,
         rest: bytes,
     };
     let (opened, spot) = identifier(&scope, start)?;
-    let (value, spot) = value(alloc, table, of, None, &scope, &opened, spot)?;
-    Ok(Read {
-        value,
-        used: spot.place,
-    })
+    read_behind(alloc, table, of, &scope, &opened, spot)
 }
 
+/// The SEQUENCE that a row is, or is under one implicit tag: its row, its parts and its tag.
+#[inline(always)]
+fn sequence_of(table: &TypeTable, of: TypeId) -> Option<(TypeId, &Parts, Tag)>
+    requires { of.0 < length table.now }
+    ensures row { IfSome result (λ x. x.0.0 ≤ length table.now) }
+    ensures below { IfSome result (λ x. AllByRecursion (λ m. m < x.0.0) (rows_of_parts x.1.now)) }
+    ensures is { IfSome result (λ x. reads table.now of.0 None ≡ sequence_at (begins table.now) (reads table.now) x.1.now x.2) }
+{
+    match table.row(of) {
+        TypeRow::Tagged {
+            class,
+            number,
+            explicit,
+            inner,
+        } => {
+            let tag = Tag {
+                class: *class,
+                number: *number,
+            };
+            match table.row(*inner) {
+                TypeRow::Sequence(parts) if !*explicit => Some((*inner, parts, tag)),
+                _ => None,
+            }
+        }
+        TypeRow::Sequence(parts) => {
+            let tag = Tag {
+                class: Class::Universal,
+                number: 16,
+            };
+            Some((of, parts, tag))
+        }
+        _ => None,
+    }
+}
+
+/// What stands behind an identifier, as a value of a row that is a SEQUENCE.
+#[inline(always)]
+fn read_sequence<'a>(
+    alloc: Global,
+    table: &TypeTable,
+    of: TypeId,
+    row: TypeId,
+    parts: &Parts,
+    tag: Tag,
+    scope: &Scope,
+    opened: &Opened<'a>,
+    spot: Spot<'a>,
+) -> Result<(Val, Spot<'a>), ReadFault>
+    requires row { row.0 ≤ length table.now }
+    requires below { AllByRecursion (λ m. m < row.0) (rows_of_parts parts.now) }
+    requires is { reads table.now of.0 None ≡ sequence_at (begins table.now) (reads table.now) parts.now tag }
+    requires whole { spot.place + length spot.rest.now < 2 ^ 63 }
+    ensures gives { Gives (λ x. (x.0, spot_of x.1)) result (reads table.now of.0 None scope.now (opened_of opened.now) (spot_of spot.entry)) }
+    ensures stops { IfOk result (λ x. GoesOn spot.entry.place (length spot.entry.rest.now) x.1) }
+{
+    sequence(alloc, table, row, parts, tag, scope, opened, spot)
+}
+
+/// The value behind its identifier. Most values are a SEQUENCE.
+#[inline(always)]
+fn read_behind<'a>(
+    alloc: Global,
+    table: &TypeTable,
+    of: TypeId,
+    scope: &Scope,
+    opened: &Opened<'a>,
+    spot: Spot<'a>,
+) -> Result<Read, ReadFault>
+    requires row { of.0 < length table.now }
+    requires whole { spot.place + length spot.rest.now < 2 ^ 63 }
+    requires start { GoesOn opened.now.start.place (length opened.now.start.rest.now) spot }
+    ensures { GivesRead result (reads table.now of.0 None scope.now (opened_of opened.now) (spot_of spot.entry)) }
+{
+    if let Some((row, parts, tag)) = sequence_of(table, of) {
+        let (value, after) = read_sequence(alloc, table, of, row, parts, tag, scope, opened, spot)?;
+        let used = after.place;
+        return Ok(Read { value, used });
+    }
+    let (value, after) = value(alloc, table, of, None, scope, opened, spot)?;
+    let used = after.place;
+    Ok(Read { value, used })
+}
+
+#[inline(always)]
 fn read_whole(
     alloc: Global,
     table: &TypeTable,

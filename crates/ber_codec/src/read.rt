@@ -11,14 +11,13 @@ ghost use Rattle.ber_spelling.specs.Rules.{open_at, close_at, all_items_at, list
 ghost use Rattle.ber_spelling.specs.Order.{rank};
 ghost use Rattle.ber_codec.specs.Parts.{absent_at, found_at, part_from, parts_from};
 
-use crate::at_once::at_once;
+use crate::at_once::{integer_ahead, parts_at_once, reach};
 use asn1_types::{
     Class, MaybeVals, Node, Part, Parts, TypeId, TypeRow, TypeTable, Val, Vals, begins, text_number,
 };
 use ber_spelling::{
     Ahead, Opened, ReadFault, Scope, Spot, Tag, bit_string, boolean, enumerated, expect, extent,
-    integer, look, look_shortly, null, object_id, octet_string, rank, refusal, tag_or, text,
-    whole_value,
+    integer, look, null, object_id, octet_string, rank, refusal, tag_or, text, whole_value,
 };
 use osi_base::{Kind, NoMemory, Octets};
 use std::alloc::Global;
@@ -44,9 +43,26 @@ fn open<'a>(
     }
 }
 
-/// Closes a constructed value that holds one value.
-#[tactic(auto, unfolding(ber_spelling::specs::Rules::close_at))]
+/// Closes contents of which nothing more is to come.
+#[tactic(auto, unfolding(ber_spelling::specs::Rules::close_at, ber_spelling::specs::Fields::look_at))]
+#[inline(always)]
 fn close<'a>(scope: &Scope, spot: Spot<'a>) -> Result<Spot<'a>, ReadFault>
+    requires { spot.place + length spot.rest.now < 2 ^ 63 }
+    ensures gives { Gives (λ x. spot_of x) result (close_at scope.now (spot_of spot.entry)) }
+    ensures stops { IfOk result (λ x. GoesOn spot.entry.place (length spot.entry.rest.now) x) }
+{
+    if let Some(end) = scope.end {
+        if end <= spot.place && !scope.marked {
+            return Ok(spot);
+        }
+    }
+    close_behind(scope, spot)
+}
+
+/// As `close`, wherever the contents end.
+#[tactic(auto, unfolding(ber_spelling::specs::Rules::close_at))]
+#[inline(never)]
+fn close_behind<'a>(scope: &Scope, spot: Spot<'a>) -> Result<Spot<'a>, ReadFault>
     requires { spot.place + length spot.rest.now < 2 ^ 63 }
     ensures gives { Gives (λ x. spot_of x) result (close_at scope.now (spot_of spot.entry)) }
     ensures stops { IfOk result (λ x. GoesOn spot.entry.place (length spot.entry.rest.now) x) }
@@ -102,6 +118,7 @@ pub(crate) fn value<'a>(
     value_as(alloc, table, of, table.row(of), tag, scope, opened, spot)
 }
 
+/// As `value`, of the row that stands in the table.
 #[cycle(reading)]
 #[inline(always)]
 fn value_as<'a>(
@@ -249,12 +266,15 @@ fn items<'a>(
     ensures gives { Gives (λ x. (tree.list (values_of x.0.items), spot_of x.1)) result (all_items_at (list_item_at (reads table.now inner.0)) list_done [] scope.now (spot_of spot.entry)) }
     ensures stops { IfOk result (λ x. GoesOn spot.entry.place (length spot.entry.rest.now) x.1) }
 {
+    let row = table.row(inner);
+    let reach = reach(scope, spot);
     let mut found = Vec::new(alloc);
     let mut spot = spot;
     for _turn in 0..spot.rest.len() + 1 {
-        if let Some((opened, after)) = look_shortly(scope, spot) {
-            if let Some((value, next)) = at_once(table, inner, scope, &opened, after) {
-                found.push(value)?;
+        if let TypeRow::Integer { low, high } = row {
+            if let Some((number, next)) = integer_ahead(*low, *high, scope, reach, spot) {
+                let node = Node::Int(number);
+                found.push(Val { node })?;
                 spot = next;
                 continue;
             }
@@ -369,7 +389,7 @@ fn choice<'a>(
 {
     for (which, part) in alternatives.iter().enumerate() {
         if begins(table, part.inner, opened.class, opened.number) {
-            let (value, after) = untagged(alloc, table, part.inner, scope, opened, spot)?;
+            let (value, after) = value(alloc, table, part.inner, None, scope, opened, spot)?;
             let node = Node::Chosen {
                 which: which as u32,
                 value: Box::new(alloc, value)?,
@@ -383,7 +403,7 @@ fn choice<'a>(
 #[cycle(reading)]
 #[tactic(auto, unfolding(ber_spelling::specs::Rules::sequence_at))]
 #[inline(never)]
-fn sequence<'a>(
+pub(crate) fn sequence<'a>(
     alloc: Global,
     table: &TypeTable,
     of: TypeId,
@@ -412,6 +432,7 @@ fn sequence<'a>(
 
 /// The parts of a SEQUENCE in their order, up to the end of its contents.
 #[cycle(reading)]
+#[inline(always)]
 fn parts_of<'a>(
     alloc: Global,
     table: &TypeTable,
@@ -426,12 +447,14 @@ fn parts_of<'a>(
     ensures gives { Gives (λ x. (x.0.items, spot_of x.1)) result (parts_from (begins table.now) (reads table.now) scope.now (spot_of spot.entry) parts.now) }
     ensures stops { IfOk result (λ x. GoesOn spot.entry.place (length spot.entry.rest.now) x.1) }
 {
-    let mut found = Vec::new(alloc);
-    let mut spot = spot;
-    for part in parts {
+    let mut found = Vec::with_capacity(alloc, parts.len())?;
+    let mut spot = parts_at_once(alloc, table, parts, scope, spot, &mut found);
+    while found.len() < parts.len() {
+        let part = &parts[found.len()];
         let (value, next) = part_of(alloc, table, of, part, scope, spot)?;
-        found.push(value)?;
-        spot = next;
+        found.push_reserved(value);
+        let rest = &parts[found.len()..];
+        spot = parts_at_once(alloc, table, rest, scope, next, &mut found);
     }
     let after = close(scope, spot)?;
     Ok((found, after))
@@ -439,33 +462,9 @@ fn parts_of<'a>(
 
 /// One part of a SEQUENCE, if it is there, and where reading goes on.
 #[cycle(reading)]
-#[inline(always)]
-#[tactic(auto, unfolding(crate::specs::Parts::part_from))]
-fn part_of<'a>(
-    alloc: Global,
-    table: &TypeTable,
-    of: TypeId,
-    part: &Part,
-    scope: &Scope,
-    spot: Spot<'a>,
-) -> Result<(Option<Val>, Spot<'a>), ReadFault>
-    requires below { part.now.inner.0 < of.0 }
-    requires row { of.0 ≤ length table.now }
-    requires whole { spot.place + length spot.rest.now < 2 ^ 63 }
-    ensures gives { Gives (λ x. (x.0, spot_of x.1)) result (part_from (begins table.now) (reads table.now part.now.inner.0) part.now scope.now (spot_of spot.entry)) }
-    ensures stops { IfOk result (λ x. GoesOn spot.entry.place (length spot.entry.rest.now) x.1) }
-{
-    if let Some((opened, after)) = look_shortly(scope, spot) {
-        return part_begun(alloc, table, of, part, scope, spot, &opened, after);
-    }
-    part_behind(alloc, table, of, part, scope, spot)
-}
-
-/// As `part_of`, whatever stands there.
-#[cycle(reading)]
 #[inline(never)]
 #[tactic(auto, unfolding(crate::specs::Parts::part_from))]
-fn part_behind<'a>(
+fn part_of<'a>(
     alloc: Global,
     table: &TypeTable,
     of: TypeId,
@@ -525,33 +524,10 @@ fn part_begun<'a>(
     ensures stops { IfOk result (λ x. GoesOn spot.entry.place (length spot.entry.rest.now) x.1) }
 {
     if begins(table, part.inner, opened.class, opened.number) {
-        let (value, next) = untagged(alloc, table, part.inner, scope, opened, after)?;
+        let (value, next) = value(alloc, table, part.inner, None, scope, opened, after)?;
         return Ok((Some(value), next));
     }
     absent(part, opened.start.place, spot)
-}
-
-/// A value of this row under its own tag.
-#[cycle(reading)]
-#[inline(always)]
-fn untagged<'a>(
-    alloc: Global,
-    table: &TypeTable,
-    of: TypeId,
-    scope: &Scope,
-    opened: &Opened<'a>,
-    spot: Spot<'a>,
-) -> Result<(Val, Spot<'a>), ReadFault>
-    requires row { of.0 < length table.now }
-    requires whole { spot.place + length spot.rest.now < 2 ^ 63 }
-    requires start { GoesOn opened.now.start.place (length opened.now.start.rest.now) spot }
-    ensures gives { Gives (λ x. (x.0, spot_of x.1)) result (reads table.now of.0 None scope.now (opened_of opened.now) (spot_of spot.entry)) }
-    ensures stops { IfOk result (λ x. GoesOn spot.entry.place (length spot.entry.rest.now) x.1) }
-{
-    match at_once(table, of, scope, opened, spot) {
-        Some(found) => Ok(found),
-        None => value(alloc, table, of, None, scope, opened, spot),
-    }
 }
 
 /// A SET.

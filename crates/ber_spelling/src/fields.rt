@@ -18,7 +18,7 @@ pub fn refusal(place: usize, kind: Kind) -> ReadFault
 }
 
 #[inline(always)]
-pub(crate) fn is_past(end: Option<usize>, until: u64) -> bool
+fn is_past(end: Option<usize>, until: u64) -> bool
     ensures { result ≡ is_past end until }
 {
     match end {
@@ -28,7 +28,7 @@ pub(crate) fn is_past(end: Option<usize>, until: u64) -> bool
 }
 
 #[inline(always)]
-pub(crate) fn is_end(end: Option<usize>, place: usize) -> bool
+fn is_end(end: Option<usize>, place: usize) -> bool
     ensures { result ≡ is_end end place }
 {
     match end {
@@ -54,8 +54,9 @@ fn check_within(scope: &Scope, place: usize, until: u64) -> Result<(), ReadFault
     Ok(())
 }
 
+/// The class of an identifier that begins with this octet (X.690 8.1.2.2).
 #[inline(always)]
-pub(crate) fn class_of(first: u8) -> Class
+pub fn class_of(first: u8) -> Class
     ensures { result ≡ class_of first }
 {
     if first < 64 {
@@ -70,7 +71,7 @@ pub(crate) fn class_of(first: u8) -> Class
 }
 
 #[inline(always)]
-pub(crate) fn is_constructed(first: u8) -> bool
+fn is_constructed(first: u8) -> bool
     ensures { result ≡ is_constructed first }
 {
     first / 32 % 2 == 1

@@ -7,21 +7,20 @@ mod laws;
 mod order;
 mod plain;
 mod primitives;
-mod short;
 mod spot;
 mod strings;
 mod tag;
 mod whole;
 
 pub use fault::ReadFault;
-pub use fields::{extent, identifier, look, refusal};
+pub use fields::{class_of, extent, identifier, look, refusal};
 pub use laws::{
     beginning_is_short, der_is_ber, der_is_whole, fault_stays, none_begins, one_of_three,
     read_is_spelled, read_stays, spelled_is_read, written_is_read, written_is_spelled,
 };
 pub use order::{RANKS, rank, rank_of};
 pub use plain::{boolean, enumerated, integer, null, object_id};
-pub use short::{integer_shortly, look_shortly};
+pub use primitives::integer_of;
 pub use spot::{Ahead, Gathered, Opened, Scope, Spot, StringKind, StringRule, Tag};
 pub use strings::{bit_string, octet_string, text};
 pub use tag::{expect, tag_or};

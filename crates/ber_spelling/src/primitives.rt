@@ -1,6 +1,6 @@
 //! The contents of primitive values.
 
-ghost use Rattle.std.specs.Prelude.{◌≡◌, ◌+◌, ◌≤◌, ◌<◌, ◌^◌, length, Some, slice_index, IfOk, option_map, false, if◌then◌else◌, None};
+ghost use Rattle.std.specs.Prelude.{◌≡◌, ◌∷◌, [], ◌+◌, ◌≤◌, ◌<◌, ◌^◌, length, Some, slice_index, IfOk, option_map, false, if◌then◌else◌, None};
 ghost use Rattle.std.specs.List.{list_all};
 ghost use Rattle.ber_spelling.specs.Fields.{number_from};
 ghost use Rattle.ber_spelling.specs.Primitives.{is_padded, is_integer, signed_of, integer_of, subidentifiers_of, arcs_from, arcs_of, is_arc};
@@ -53,10 +53,34 @@ fn signed_of(octets: &[u8]) -> i64
     }
 }
 
-/// The INTEGER of these contents, if they are one (X.690 8.3).
+/// The INTEGER of these contents, if they are one (X.690 8.3): 1 to 8 octets without padding.
 #[tactic(auto, unfolding(crate::specs::Primitives::integer_of))]
 #[inline(always)]
-pub(crate) fn integer_of(octets: &[u8]) -> Option<i64>
+pub fn integer_of(octets: &[u8]) -> Option<i64>
+    ensures { result ≡ integer_of octets.now }
+{
+    match octets {
+        [only] => Some(small(*only)),
+        [first, second] if !is_padded(octets) => Some(256 * small(*first) + *second as i64),
+        _ => long_integer_of(octets),
+    }
+}
+
+/// The number that one octet is in two's complement.
+#[inline(always)]
+fn small(octet: u8) -> i64
+    ensures { result ≡ signed_of (octet ∷ []) }
+{
+    if octet < 128 {
+        octet as i64
+    } else {
+        octet as i64 - 256
+    }
+}
+
+/// As `integer_of`, however many octets there are.
+#[tactic(auto, unfolding(crate::specs::Primitives::integer_of))]
+fn long_integer_of(octets: &[u8]) -> Option<i64>
     ensures { result ≡ integer_of octets.now }
 {
     if octets.is_empty() || octets.len() > 8 || is_padded(octets) {

@@ -1,15 +1,25 @@
-use Rattle.std.proofs.Common.{◌≡◌, ◌<◌, ◌+◌, ◌-◌, ◌++◌, ◌∷◌, [], suc, true, false, None, Some, Ok, refl, sym, ap, ◌∙◌, subst, arith, rules, length}
+use Rattle.std.proofs.Common.{◌≡◌, ◌≤◌, ◌<◌, ◌+◌, ◌-◌, take, drop, ◌++◌, ◌∷◌, [], suc, true, false, None, Some, Ok, refl, sym, ap, ◌∙◌, subst, arith, rules, length}
 use Rattle.std.specs.Prelude.{List, Option, slice_set}
 use Rattle.std.proofs.lemmas.Option.{slice_get_within}
+use Rattle.std.proofs.lemmas.List.{take_rest, length-drop, drop-drop}
 use Rattle.asn1_types.specs.Value.{Value}
 use Rattle.ber_spelling.specs.Order.{rank}
 use Rattle.asn1_types.specs.declared.row.TypeRow.TheVariants.{Sequence, SequenceOf, Set, Choice, Tagged}
+use Rattle.asn1_types.specs.declared.row.Part.{Part}
 use Rattle.asn1_types.specs.Rows.{begins}
-use Rattle.asn1_types.proofs.Sound.{each_part, down_as, choice_few}
+use Rattle.ber_codec.specs.Parts.{parts_from, parts_behind}
+use Rattle.asn1_types.proofs.Sound.{each_part, down_as, choice_few, later_parts}
 use Rattle.ber_spelling.specs.Reading.{opened_of, spot_of, ahead_of, LiesIn}
 use Rattle.ber_spelling.specs.Rules.{items_at, list_item_at, list_done, reads, slot_at, set_done, is_free, is_filled}
 use Rattle.ber_codec.proofs.Slots.{none_length, set_length, slot_taken, slot_fails, slot_gives, set_full, set_lacks, turns_lack}
 use Rattle.ber_codec.proofs.Rows.{reads_at}
+use Rattle.ber_codec.proofs.AtOnce.{reads_it, lower}
+use Rattle.ber_codec.specs.AtOnce.{integer_opened, behind}
+use Rattle.std.specs.Vec.{vec_len}
+use Rattle.std.proofs.lemmas.Int.{to_z-of_z}
+use mir.Syntax.{w64}
+use mir.Val.{SFits}
+use Rattle.asn1_types.specs.Value as tree
 use Rattle.ber_spelling.proofs.Loops.{goes_then}
 use Rattle.ber_codec.proofs.PartsFrom.{part_fails, part_goes_on, end_fails, end_gives, sequence_fails, sequence_gives}
 use Rattle.ber_spelling.proofs.Steps.{Fails-bind}
@@ -21,35 +31,10 @@ choice-begins-requires t c =
     let lt : c.index-alternatives-which.result.inner.0 < c.args.of.0 = each_part (λ m. m < c.args.of.0) c.args.alternatives.now c.loop-which.which c.index-alternatives-which.result c.requires.below c.loop-which-test.true c.index-alternatives-which.is in
     omega arith
 
-pub choice-untagged-requires : goal.choice-untagged-requires
-choice-untagged-requires t c =
+pub choice-value-requires : goal.choice-value-requires
+choice-value-requires t c =
     let lt : c.index-alternatives-which.result.inner.0 < c.args.of.0 = each_part (λ m. m < c.args.of.0) c.args.alternatives.now c.loop-which.which c.index-alternatives-which.result c.requires.below c.loop-which-test.true c.index-alternatives-which.is in
     (omega arith, (omega arith, (c.requires.whole, c.requires.start)))
-
-pub parts_of-part_of-requires : goal.parts_of-part_of-requires
-parts_of-part_of-requires t c =
-    let lt : c.part-item.result.inner.0 < c.args.of.0 = each_part (λ m. m < c.args.of.0) c.args.parts.now c.loop-part.part-index c.part-item.result c.requires.below c.loop-part-test.true c.part-item.is in
-    (omega arith, (lt, (c.requires.row, omega (arith, c.requires.whole, c.loop-part.invariant.onward.whole))))
-
-pub parts_of-loop-part-preserved : goal.parts_of-loop-part-preserved
-parts_of-loop-part-preserved t c = record {
-  onward = goes_then c.loop-part.invariant.onward c.in_ok-value.ensures.stops;
-  so_far = rw c.in_ok-push.ensures.items (part_goes_on (begins c.args.table.now) (reads c.args.table.now) c.args.scope.now c.args.parts.now c.loop-part.part-index c.part-item.result c.loop-part.found.items (spot_of c.loop-part.spot) _ c.loop-part-test.true c.part-item.is c.loop-part.invariant.so_far c.in_ok-value.value (spot_of c.in_ok-value.next) c.in_ok-value.ensures.gives);
-}
-
-pub parts_of-returns-in_err-value-clause-gives : goal.parts_of-returns-in_err-value-clause-gives
-parts_of-returns-in_err-value-clause-gives t c =
-    let h = part_fails (begins c.args.table.now) (reads c.args.table.now) c.args.scope.now c.args.parts.now c.loop-part.part-index c.part-item.result c.loop-part.found.items (spot_of c.loop-part.spot) _ c.loop-part-test.true c.part-item.is c.loop-part.invariant.so_far c.in_err-value.field-0.0 c.in_err-value.ensures.gives in
-    search rules
-
-pub parts_of-returns-in_err-after-clause-gives : goal.parts_of-returns-in_err-after-clause-gives
-parts_of-returns-in_err-after-clause-gives t c =
-    let h = end_fails (begins c.args.table.now) (reads c.args.table.now) c.args.scope.now c.args.parts.now c.loop-part.part-index c.loop-part.found.items (spot_of c.loop-part.spot) _ (omega (arith, c.loop-part-test.false)) c.loop-part.invariant.so_far c.in_err-after.field-0.0 c.in_err-after.ensures.gives in
-    search rules
-
-pub parts_of-returns-clause-gives : goal.parts_of-returns-clause-gives
-parts_of-returns-clause-gives t c =
-    end_gives (begins c.args.table.now) (reads c.args.table.now) c.args.scope.now c.args.parts.now c.loop-part.part-index c.loop-part.found.items (spot_of c.loop-part.spot) _ (omega (arith, c.loop-part-test.false)) c.loop-part.invariant.so_far (spot_of c.in_ok-after.after) c.in_ok-after.ensures.gives
 
 pub sequence-returns-in_err-found-clause-gives : goal.sequence-returns-in_err-found-clause-gives
 sequence-returns-in_err-found-clause-gives t c =
@@ -124,19 +109,6 @@ items-returns-in_err-value-in-Begun-clause-gives t c =
     let h = step_fails (list_item_at (reads c.args.table.now c.args.inner.0)) list_done c.in_err-value-in-Begun.field-0.0 (length c.args.spot.rest.now + 1 - c.loop-turn._turn) c.loop-turn.found.items c.args.scope.now (spot_of c.loop-turn.spot) (opened_of c.in-Begun.opened) (spot_of c.in-Begun.after) _ (omega arith) c.loop-turn.invariant.so_far
     (c.in_ok-after.ensures.gives ∙ ap (λ a. Ok (ahead_of a)) c.in-Begun.is) (Fails-bind c.in_err-value-in-Begun.field-0.0 (reads c.args.table.now c.args.inner.0 None c.args.scope.now (opened_of c.in-Begun.opened) (spot_of c.in-Begun.after)) _ c.in_err-value-in-Begun.ensures.gives) in
     search rules
-
-pub items-loop-turn-preserved-in-Some-at_once : goal.items-loop-turn-preserved-in-Some-at_once
-items-loop-turn-preserved-in-Some-at_once t c =
-    let less : length c.args.spot.rest.now + 1 - c.loop-turn._turn - 1 ≡ length c.args.spot.rest.now + 1 - (c.loop-turn._turn + 1) = omega arith in
-    let more = c.loop-turn.found.items ++ c.in-Some-at_once.value ∷ [] in
-    let goes = step_goes (list_item_at (reads c.args.table.now c.args.inner.0)) list_done (length c.args.spot.rest.now + 1 - c.loop-turn._turn) c.loop-turn.found.items more c.args.scope.now (spot_of c.loop-turn.spot) (opened_of c.in-Some.opened) (spot_of c.in-Some.after) (spot_of c.in-Some-at_once.next) _ (omega arith) c.loop-turn.invariant.so_far
-    c.in-Some.ensures.gives
-    (bind_is (reads c.args.table.now c.args.inner.0 None c.args.scope.now (opened_of c.in-Some.opened) (spot_of c.in-Some.after)) _ (c.in-Some-at_once.value, spot_of c.in-Some-at_once.next) c.in-Some-at_once.ensures.gives) in
-    record {
-      onward = goes_then c.loop-turn.invariant.onward (goes_then c.in-Some.ensures.stops.behind c.in-Some-at_once.ensures.stops);
-      so_far = ap (λ found. items_at (list_item_at (reads c.args.table.now c.args.inner.0)) list_done (length c.args.spot.rest.now + 1 - (c.loop-turn._turn + 1)) found c.args.scope.now (spot_of c.in-Some-at_once.next)) c.in_ok-push.ensures.items
-          ∙ ap (λ k. items_at (list_item_at (reads c.args.table.now c.args.inner.0)) list_done k more c.args.scope.now (spot_of c.in-Some-at_once.next)) (sym less) ∙ goes;
-    }
 
 pub items-loop-turn-preserved : goal.items-loop-turn-preserved
 items-loop-turn-preserved t c =
@@ -251,3 +223,67 @@ slots-loop-turn-preserved t c =
 pub slots-returns-clause-gives : goal.slots-returns-clause-gives
 slots-returns-clause-gives t c =
     no_turns (slot_at (begins c.args.table.now) (reads c.args.table.now) 0 c.args.parts.now) (set_done c.args.parts.now) (length c.args.spot.rest.now + 1 - c.loop-turn._turn) (record { found = c.loop-turn.found.items; least = c.loop-turn.least }) c.args.scope.now (spot_of c.loop-turn.spot) _ (omega arith) c.loop-turn.invariant.so_far
+
+pub items-loop-turn-preserved-in-Some : goal.items-loop-turn-preserved-in-Some
+items-loop-turn-preserved-in-Some t c =
+    let low : SFits w64 c.in-Integer.low = search rules in
+    let high : SFits w64 c.in-Integer.high = search rules in
+    let number : SFits w64 c.in-Some.number = search rules in
+    let gives = simp to_z-of_z at c.in-Some.ensures.gives in
+    let pushed = simp to_z-of_z at c.in_ok-push.ensures.items in
+    let less : length c.args.spot.rest.now + 1 - c.loop-turn._turn - 1 ≡ length c.args.spot.rest.now + 1 - (c.loop-turn._turn + 1) = omega arith in
+    let more = c.loop-turn.found.items ++ tree.integer c.in-Some.number ∷ [] in
+    let read = reads_it c.args.table.now c.row-row.ensures.sound c.args.inner.0 c.in-Integer.low c.in-Integer.high c.in-Some.number (c.row-row.ensures.value ∙ ap Some c.in-Integer.is) c.args.scope.now (spot_of c.loop-turn.spot) (spot_of c.in-Some.next) c.in-Some.ensures.looks gives in
+    let goes = step_goes (list_item_at (reads c.args.table.now c.args.inner.0)) list_done (length c.args.spot.rest.now + 1 - c.loop-turn._turn) c.loop-turn.found.items more c.args.scope.now (spot_of c.loop-turn.spot) (integer_opened (spot_of c.loop-turn.spot)) (behind (spot_of c.loop-turn.spot)) (spot_of c.in-Some.next) _ (omega arith) c.loop-turn.invariant.so_far
+    c.in-Some.ensures.looks
+    (bind_is (reads c.args.table.now c.args.inner.0 None c.args.scope.now (integer_opened (spot_of c.loop-turn.spot)) (behind (spot_of c.loop-turn.spot))) _ (tree.integer c.in-Some.number, spot_of c.in-Some.next) read) in
+    record {
+      onward = goes_then c.loop-turn.invariant.onward c.in-Some.ensures.stops;
+      so_far = ap (λ found. items_at (list_item_at (reads c.args.table.now c.args.inner.0)) list_done (length c.args.spot.rest.now + 1 - (c.loop-turn._turn + 1)) found c.args.scope.now (spot_of c.in-Some.next)) pushed
+          ∙ ap (λ k. items_at (list_item_at (reads c.args.table.now c.args.inner.0)) list_done k more c.args.scope.now (spot_of c.in-Some.next)) (sym less) ∙ goes;
+    }
+
+pub parts_of-part_of-requires : goal.parts_of-part_of-requires
+parts_of-part_of-requires t c =
+    let lt : c.index-parts-len.result.inner.0 < c.args.of.0 = each_part (λ m. m < c.args.of.0) c.args.parts.now c.len-in-loop-alloc.result c.index-parts-len.result c.requires.below (omega arith) c.index-parts-len.is in
+    (omega arith, (lt, (c.requires.row, omega (arith, c.requires.whole, c.loop-alloc.invariant.onward.whole))))
+
+pub parts_of-returns-in_err-value-clause-gives : goal.parts_of-returns-in_err-value-clause-gives
+parts_of-returns-in_err-value-clause-gives t c =
+    let h = part_fails (begins c.args.table.now) (reads c.args.table.now) c.args.scope.now c.args.parts.now (vec_len c.loop-alloc.found) c.index-parts-len.result c.loop-alloc.found.items (spot_of c.loop-alloc.spot) _ (omega arith) (rw c.len-in-loop-alloc.ensures at c.index-parts-len.is) c.loop-alloc.invariant.so_far c.in_err-value.field-0.0 c.in_err-value.ensures.gives in
+    search rules
+
+pub parts_of-parts_at_once-spot-requires-in-loop-alloc-clause-below : goal.parts_of-parts_at_once-spot-requires-in-loop-alloc-clause-below
+parts_of-parts_at_once-spot-requires-in-loop-alloc-clause-below t c =
+    later_parts (λ m. m < length c.args.table.now) c.args.parts.now _ _ (lower c.args.parts.now c.args.of.0 (length c.args.table.now) c.requires.row c.requires.below)
+
+pub parts_of-loop-alloc-preserved : goal.parts_of-loop-alloc-preserved
+parts_of-loop-alloc-preserved t c =
+    let goes = part_goes_on (begins c.args.table.now) (reads c.args.table.now) c.args.scope.now c.args.parts.now (vec_len c.loop-alloc.found) c.index-parts-len.result c.loop-alloc.found.items (spot_of c.loop-alloc.spot) _ (omega arith) (rw c.len-in-loop-alloc.ensures at c.index-parts-len.is) c.loop-alloc.invariant.so_far c.in_ok-value.value (spot_of c.in_ok-value.next) c.in_ok-value.ensures.gives in
+    let rest = take_rest c.args.parts.now c.len-in-loop-alloc-2.result in
+    let left = ap (λ (ps : List Part). length ps) rest ∙ length-drop c.len-in-loop-alloc-2.result c.args.parts.now in
+    let before = vec_len c.push_reserved.new.self in
+    let now = vec_len c.parts_at_once-spot-in-loop-alloc.new.found in
+    let one : c.len-in-loop-alloc-2.result ≡ before = c.len-in-loop-alloc-2.ensures in
+    let more : before ≡ vec_len c.loop-alloc.found + 1 = c.push_reserved.ensures.len in
+    let some : before ≤ now = c.parts_at_once-spot-in-loop-alloc.ensures.some in
+    let same = ap (drop (now - before)) rest ∙ drop-drop (now - before) c.len-in-loop-alloc-2.result c.args.parts.now ∙ ap (λ i. drop i c.args.parts.now) (omega (arith, one, some)) in
+    record {
+      onward = goes_then c.loop-alloc.invariant.onward (goes_then c.in_ok-value.ensures.stops c.parts_at_once-spot-in-loop-alloc.ensures.stops);
+      few = omega (arith, c.parts_at_once-spot-in-loop-alloc.ensures.few, left, one, more);
+      room = c.parts_at_once-spot-in-loop-alloc.ensures.room ∙ c.push_reserved.ensures.capacity ∙ c.loop-alloc.invariant.room;
+      so_far = ap (λ ps. parts_behind c.parts_at_once-spot-in-loop-alloc.new.found.items (parts_from (begins c.args.table.now) (reads c.args.table.now) c.args.scope.now (spot_of c.parts_at_once-spot-in-loop-alloc.result) ps)) (sym same)
+          ∙ c.parts_at_once-spot-in-loop-alloc.ensures.gives
+          ∙ ap (λ os. parts_behind os (parts_from (begins c.args.table.now) (reads c.args.table.now) c.args.scope.now (spot_of c.in_ok-value.next) (take (length c.args.parts.now - c.len-in-loop-alloc-2.result) (drop c.len-in-loop-alloc-2.result c.args.parts.now)))) c.push_reserved.ensures.items
+          ∙ ap (λ ps. parts_behind (c.loop-alloc.found.items ++ c.in_ok-value.value ∷ []) (parts_from (begins c.args.table.now) (reads c.args.table.now) c.args.scope.now (spot_of c.in_ok-value.next) ps)) (rest ∙ ap (λ i. drop i c.args.parts.now) (omega (arith, one, more)))
+          ∙ goes;
+    }
+
+pub parts_of-returns-in_err-after-clause-gives : goal.parts_of-returns-in_err-after-clause-gives
+parts_of-returns-in_err-after-clause-gives t c =
+    let h = end_fails (begins c.args.table.now) (reads c.args.table.now) c.args.scope.now c.args.parts.now (vec_len c.loop-alloc.found) c.loop-alloc.found.items (spot_of c.loop-alloc.spot) _ (omega arith) c.loop-alloc.invariant.so_far c.in_err-after.field-0.0 c.in_err-after.ensures.gives in
+    search rules
+
+pub parts_of-returns-clause-gives : goal.parts_of-returns-clause-gives
+parts_of-returns-clause-gives t c =
+    end_gives (begins c.args.table.now) (reads c.args.table.now) c.args.scope.now c.args.parts.now (vec_len c.loop-alloc.found) c.loop-alloc.found.items (spot_of c.loop-alloc.spot) _ (omega arith) c.loop-alloc.invariant.so_far (spot_of c.in_ok-after.after) c.in_ok-after.ensures.gives

@@ -1,9 +1,9 @@
-use Rattle.std.proofs.Common.{◌≡◌, ◌+◌, ◌-◌, ◌*◌, [], drop, length}
+use Rattle.std.proofs.Common.{◌≡◌, ◌≤◌, ◌+◌, ◌-◌, ◌*◌, [], drop, length}
+use Rattle.std.specs.Vec.{vec_len, vec_capacity}
 use Rattle.asn1_types.specs.Rows.{begins}
 use Rattle.ber_spelling.specs.Reading.{opened_of, spot_of, GoesOn}
 use Rattle.ber_spelling.specs.Rules.{items_at, all_items_at, list_item_at, list_done, choice_at, reads, slot_at, set_done, nothing_filled}
-use Rattle.ber_codec.proofs.PartsFrom.{parts_behind}
-use Rattle.ber_codec.specs.Parts.{parts_from}
+use Rattle.ber_codec.specs.Parts.{parts_from, parts_behind}
 use Rattle.ber_codec.proofs.read.+reading.Given as goal
 
 abbrev pub decreases-value : goal.decreases-value
@@ -47,20 +47,8 @@ invariant-choice-loop-which l =
     choice_at (begins l.table) (reads l.table) l.which (drop l.which l.alternatives) l.scope (opened_of l.opened) (spot_of l.spot)
     ≡ choice_at (begins l.table) (reads l.table) 0 l.alternatives l.scope (opened_of l.opened) (spot_of l.spot)
 
-abbrev pub decreases-part_behind : goal.decreases-part_behind
-decreases-part_behind l = 8 * l.of.0 + 2
-
 abbrev pub decreases-part_begun : goal.decreases-part_begun
 decreases-part_begun l = 8 * l.of.0 + 1
-
-abbrev pub decreases-untagged : goal.decreases-untagged
-decreases-untagged l = 8 * l.of.0 + 8
-
-abbrev pub invariant-parts_of-loop-part : goal.invariant-parts_of-loop-part
-invariant-parts_of-loop-part l = record {
-  onward : GoesOn l.fn.spot.place (length l.fn.spot.rest.now) l.spot;
-  so_far : parts_behind l.found.items (parts_from (begins l.table) (reads l.table) l.scope (spot_of l.spot) (drop l.part-index l.parts)) ≡ parts_from (begins l.table) (reads l.table) l.scope (spot_of l.fn.spot) l.parts;
-}
 
 abbrev pub decreases-set : goal.decreases-set
 decreases-set l = 8 * l.of.0 + 5
@@ -89,3 +77,14 @@ abbrev pub invariant-slot-loop-which : goal.invariant-slot-loop-which
 invariant-slot-loop-which l =
     slot_at (begins l.table) (reads l.table) l.which (drop l.which l.parts) (record { found = l.found; least = l.least }) l.scope (opened_of l.opened) (spot_of l.spot)
     ≡ slot_at (begins l.table) (reads l.table) 0 l.parts (record { found = l.found; least = l.least }) l.scope (opened_of l.opened) (spot_of l.spot)
+
+abbrev pub invariant-parts_of-loop-alloc : goal.invariant-parts_of-loop-alloc
+invariant-parts_of-loop-alloc l = record {
+  onward : GoesOn l.fn.spot.place (length l.fn.spot.rest.now) l.spot;
+  few : vec_len l.found ≤ length l.parts;
+  room : vec_capacity l.found ≡ length l.parts;
+  so_far : parts_behind l.found.items (parts_from (begins l.table) (reads l.table) l.scope (spot_of l.spot) (drop (vec_len l.found) l.parts)) ≡ parts_from (begins l.table) (reads l.table) l.scope (spot_of l.fn.spot) l.parts;
+}
+
+abbrev pub decreases-parts_of-loop-alloc : goal.decreases-parts_of-loop-alloc
+decreases-parts_of-loop-alloc l = length l.parts - vec_len l.found
