@@ -1,6 +1,6 @@
 //! Reading primitive values other than strings.
 
-ghost use Rattle.std.specs.Prelude.{◌+◌, ◌<◌, ◌^◌, length, IfOk};
+ghost use Rattle.std.specs.Prelude.{◌≢◌, IfErr, ◌+◌, ◌<◌, ◌^◌, length, IfOk};
 ghost use Rattle.ber_spelling.specs.Reading.{Gives, spot_of, opened_of, GoesOn};
 ghost use Rattle.ber_spelling.specs.Rules.{primitive_at, always, boolean_rule, is_strict_boolean, integer_rule, enumerated_rule, null_rule, object_id_rule};
 
@@ -24,6 +24,7 @@ pub fn boolean<'a>(
 ) -> Result<(Val, Spot<'a>), ReadFault>
     requires { spot.place + length spot.rest.now < 2 ^ 63 }
     ensures gives { Gives (λ x. (x.0, spot_of x.1)) result (primitive_at boolean_rule is_strict_boolean tag scope.now (opened_of opened.now) (spot_of spot.entry)) }
+    ensures room { IfErr result (λ e. e ≢ ReadFault.NoMemory) }
     ensures stops { IfOk result (λ x. GoesOn spot.entry.place (length spot.entry.rest.now) x.1) }
 {
     expect(tag, false, opened)?;
@@ -53,6 +54,7 @@ pub fn enumerated<'a>(
 ) -> Result<(Val, Spot<'a>), ReadFault>
     requires { spot.place + length spot.rest.now < 2 ^ 63 }
     ensures gives { Gives (λ x. (x.0, spot_of x.1)) result (primitive_at (enumerated_rule items.now) always tag scope.now (opened_of opened.now) (spot_of spot.entry)) }
+    ensures room { IfErr result (λ e. e ≢ ReadFault.NoMemory) }
     ensures stops { IfOk result (λ x. GoesOn spot.entry.place (length spot.entry.rest.now) x.1) }
 {
     expect(tag, false, opened)?;
@@ -82,6 +84,7 @@ pub fn integer<'a>(
 ) -> Result<(Val, Spot<'a>), ReadFault>
     requires { spot.place + length spot.rest.now < 2 ^ 63 }
     ensures gives { Gives (λ x. (x.0, spot_of x.1)) result (primitive_at (integer_rule low high) always tag scope.now (opened_of opened.now) (spot_of spot.entry)) }
+    ensures room { IfErr result (λ e. e ≢ ReadFault.NoMemory) }
     ensures stops { IfOk result (λ x. GoesOn spot.entry.place (length spot.entry.rest.now) x.1) }
 {
     expect(tag, false, opened)?;
@@ -108,6 +111,7 @@ pub fn null<'a>(
 ) -> Result<(Val, Spot<'a>), ReadFault>
     requires { spot.place + length spot.rest.now < 2 ^ 63 }
     ensures gives { Gives (λ x. (x.0, spot_of x.1)) result (primitive_at null_rule always tag scope.now (opened_of opened.now) (spot_of spot.entry)) }
+    ensures room { IfErr result (λ e. e ≢ ReadFault.NoMemory) }
     ensures stops { IfOk result (λ x. GoesOn spot.entry.place (length spot.entry.rest.now) x.1) }
 {
     expect(tag, false, opened)?;

@@ -1,6 +1,6 @@
 //! The tag that a value must have.
 
-ghost use Rattle.std.specs.Prelude.{◌≡◌};
+ghost use Rattle.std.specs.Prelude.{◌≢◌, IfErr, ◌≡◌};
 ghost use Rattle.ber_spelling.specs.Reading.{Gives, opened_of};
 ghost use Rattle.ber_spelling.specs.Rules.{tag_or, expect_at};
 
@@ -24,7 +24,8 @@ pub fn tag_or(tag: Option<Tag>, class: Class, number: u32) -> Tag
 /// Whether this identifier is of this tag and form; else a fault of kind `Tag` at its place.
 #[inline(always)]
 pub fn expect(tag: Tag, constructed: bool, opened: &Opened) -> Result<(), ReadFault>
-    ensures { Gives (λ x. x) result (expect_at tag constructed (opened_of opened.now)) }
+    ensures gives { Gives (λ x. x) result (expect_at tag constructed (opened_of opened.now)) }
+    ensures room { IfErr result (λ e. e ≢ ReadFault.NoMemory) }
 {
     if same_class(opened.class, tag.class)
         && opened.number == tag.number as u64

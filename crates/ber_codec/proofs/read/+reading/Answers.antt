@@ -38,12 +38,12 @@ choice-value-requires t c =
 
 pub sequence-returns-in_err-found-clause-gives : goal.sequence-returns-in_err-found-clause-gives
 sequence-returns-in_err-found-clause-gives t c =
-    let h = sequence_fails (begins c.args.table.now) (reads c.args.table.now) c.args.parts.now c.args.tag c.args.scope.now c.in_ok-inside.inside (opened_of c.args.opened.now) (spot_of c.args.spot) (spot_of c.in_ok-inside.spot) _ c.in_ok-expect.ensures c.in_ok-inside.ensures.gives c.in_err-found.field-0.0 (rw c.as_slice.ensures at c.in_err-found.ensures.gives) in
+    let h = sequence_fails (begins c.args.table.now) (reads c.args.table.now) c.args.parts.now c.args.tag c.args.scope.now c.in_ok-inside.inside (opened_of c.args.opened.now) (spot_of c.args.spot) (spot_of c.in_ok-inside.spot) _ c.in_ok-expect.ensures.gives c.in_ok-inside.ensures.gives c.in_err-found.field-0.0 (rw c.as_slice.ensures at c.in_err-found.ensures.gives) in
     search rules
 
 pub sequence-returns-clause-gives : goal.sequence-returns-clause-gives
 sequence-returns-clause-gives t c =
-    sequence_gives (begins c.args.table.now) (reads c.args.table.now) c.args.parts.now c.args.tag c.args.scope.now c.in_ok-inside.inside (opened_of c.args.opened.now) (spot_of c.args.spot) (spot_of c.in_ok-inside.spot) _ c.in_ok-expect.ensures c.in_ok-inside.ensures.gives c.in_ok-found.found.items (spot_of c.in_ok-found.after) (rw c.as_slice.ensures at c.in_ok-found.ensures.gives)
+    sequence_gives (begins c.args.table.now) (reads c.args.table.now) c.args.parts.now c.args.tag c.args.scope.now c.in_ok-inside.inside (opened_of c.args.opened.now) (spot_of c.args.spot) (spot_of c.in_ok-inside.spot) _ c.in_ok-expect.ensures.gives c.in_ok-inside.ensures.gives c.in_ok-found.found.items (spot_of c.in_ok-found.after) (rw c.as_slice.ensures at c.in_ok-found.ensures.gives)
 
 pub tagged_choice-choice-requires : goal.tagged_choice-choice-requires
 tagged_choice-choice-requires t c =
