@@ -28,7 +28,7 @@ fn part(alloc: Global, name: &str, inner: u32) -> Result<Part, NoMemory> {
     })
 }
 
-/// The rows that the constants name; row 2 is SET {a INTEGER, b BOOLEAN}.
+/// The rows that the constants name, and SET {a INTEGER, b BOOLEAN} in the third place.
 fn table(alloc: Global) -> Result<TypeTable, RowRefusal> {
     let mut parts = Parts::new(alloc);
     parts.push(part(alloc, "a", INTEGER)?)?;
