@@ -1,12 +1,8 @@
 -- Names that have the same octets.
-use Rattle.std.proofs.Common.{◌≡◌, ℕ, Bool, true, false, ◌&&◌, List, [], ◌∷◌, ◌↔◌, refl, sym, ap, ◌∙◌, arith}
+use Rattle.std.proofs.Common.{◌≡◌, ℕ, Bool, true, false, List, [], ◌∷◌, ◌↔◌, refl, sym, ap, ◌∙◌, arith}
 use Rattle.std.specs.Prelude.{IsTrue, nat_eq}
-use Rattle.std.proofs.lemmas.Bool.{eqb-true}
+use Rattle.std.proofs.lemmas.Bool.{eqb-true, and_parts}
 use Rattle.asn1_types.specs.Table.{same_name}
-
-and_true : (a b : Bool) → (a && b) ≡ true → (a ≡ true) × (b ≡ true)
-and_true true b e = (refl, e)
-and_true false b e = absurd cc
 
 same_itself : (a : List ℕ) → same_name a a ≡ true
 same_itself [] = refl
@@ -20,7 +16,7 @@ same_is [] [] e = refl
 same_is [] (y ∷ b) e = absurd cc
 same_is (x ∷ a) [] e = absurd cc
 same_is (x ∷ a) (y ∷ b) e =
-    let t = and_true (nat_eq x y) (same_name a b) e in
+    let t = and_parts (nat_eq x y) (same_name a b) e in
     let first : x ≡ y = eqb-true x y t.0 in
     let others : a ≡ b = same_is a b t.1 in
     λ i. first i ∷ others i

@@ -1,7 +1,7 @@
 -- The rules of primitive contents against what they are.
-use Rattle.std.proofs.Common.{◌≡◌, ℕ, ℤ, ◌≤ℤ◌, Bool, true, false, not, ◌&&◌, ◌||◌, cond, List, [], ◌∷◌, length, Option, Some, None, refl, sym, ap, ◌∙◌, subst, arith, ◌⊎◌, inl, inr}
+use Rattle.std.proofs.Common.{◌≡◌, ℕ, ℤ, ◌≤ℤ◌, Bool, true, false, not, ◌||◌, cond, List, [], ◌∷◌, length, Option, Some, None, refl, sym, ap, ◌∙◌, subst, arith, ◌⊎◌, inl, inr}
 use Rattle.std.specs.Prelude.{nat_le, nat_eq, int_lt}
-use Rattle.std.proofs.lemmas.Bool.{eqb-true, leb-true, le-leb}
+use Rattle.std.proofs.lemmas.Bool.{eqb-true, leb-true, le-leb, and_parts}
 use Rattle.std.proofs.lemmas.Int.{ints}
 use Rattle.asn1_types.specs.Value.{Value, boolean, integer, null, octets, bits, object_id, text, parts, list, chosen, any}
 use Rattle.asn1_types.specs.declared.row.Item.{Item}
@@ -10,10 +10,6 @@ use Rattle.ber_spelling.specs.Octets.{AreOctets}
 use Rattle.ber_spelling.specs.Primitives.{is_padded, signed_of, is_integer, integer_of}
 use Rattle.ber_spelling.specs.Rules.{boolean_rule, is_strict_boolean, in_range, ranged, integer_rule, listed, enumerated_rule, null_rule}
 use Rattle.ber_spelling.specs.Spelling.{IsInteger, BooleanIs, IntegerIs, EnumeratedIs, NullIs}
-
-and_true : (a b : Bool) → (a && b) ≡ true → (a ≡ true) × (b ≡ true)
-and_true true b e = (refl, e)
-and_true false b e = absurd cc
 
 not_true : (b : Bool) → not b ≡ true → b ≡ false
 not_true true e = absurd cc
@@ -51,8 +47,8 @@ integer_parts c z e = by_test (is_integer c) refl e
   where
     by_test : (b : Bool) → is_integer c ≡ b → cond b (Some (signed_of c)) None ≡ Some z → IsInteger c z
     by_test true t e =
-        let a = and_true _ (not (is_padded c)) t in
-        let b = and_true (nat_le 1 (length c)) (nat_le (length c) 8) a.0 in
+        let a = and_parts _ (not (is_padded c)) t in
+        let b = and_parts (nat_le 1 (length c)) (nat_le (length c) 8) a.0 in
         record { some = leb-true 1 (length c) b.0; few = leb-true (length c) 8 b.1; shortest = not_true (is_padded c) a.1; number = let same : Some (signed_of c) ≡ Some z = e in cc }
     by_test false t e = absurd cc
 
@@ -65,7 +61,7 @@ integer_sound low high c v are e = by_number (integer_of c) refl e
   where
     in_test : (z : ℤ) → integer_of c ≡ Some z → (b : Bool) → in_range low high z ≡ b → cond b (Some (integer z)) None ≡ Some v → IntegerIs low high v c
     in_test z i true t e =
-        let a = and_true (not (int_lt z low)) (not (int_lt high z)) t in
+        let a = and_parts (not (int_lt z low)) (not (int_lt high z)) t in
         let same : integer z ≡ v = let s : Some (integer z) ≡ Some v = e in cc in
         subst (λ (x : Value). IntegerIs low high x c) same (integer_parts c z i, int_le low z (not_true _ a.0), int_le z high (not_true _ a.1))
     in_test z i false t e = absurd cc

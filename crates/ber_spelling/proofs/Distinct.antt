@@ -2,24 +2,12 @@
 use Rattle.std.proofs.Common.{◌≡◌, ℕ, Bool, true, false, not, ◌&&◌, ◌||◌, List, [], ◌∷◌, refl, sym, ◌∙◌, ◌⊎◌, inl, inr}
 use Rattle.std.specs.Prelude.{nat_eq}
 use Rattle.std.specs.List.{list_any}
-use Rattle.std.proofs.lemmas.Bool.{eqb-true}
+use Rattle.std.proofs.lemmas.Bool.{eqb-true, and_parts, or_cases, or_parts}
 use Rattle.asn1_types.specs.declared.row.Class.{Class}
 use Rattle.asn1_types.specs.declared.row.Part.{Part}
 use Rattle.asn1_types.specs.Rows.{Opening, tag, every, is_no_tag, same_class, allows, meets}
 use Rattle.asn1_types.specs.Table.{clash, clashes_in_run, clashes_in_sequence}
 use Rattle.ber_spelling.proofs.Steady.{same_classes, class_itself, eqb_itself}
-
-or_true : (a b : Bool) → (a || b) ≡ true → (a ≡ true) ⊎ (b ≡ true)
-or_true true b e = inl refl
-or_true false b e = inr e
-
-pub or_false : (a b : Bool) → (a || b) ≡ false → (a ≡ false) × (b ≡ false)
-or_false true b e = absurd cc
-or_false false b e = (refl, e)
-
-and_true : (a b : Bool) → (a && b) ≡ true → (a ≡ true) × (b ≡ true)
-and_true true b e = (refl, e)
-and_true false b e = absurd cc
 
 or_right : (a b : Bool) → b ≡ true → (a || b) ≡ true
 or_right true b e = refl
@@ -29,8 +17,8 @@ meet : (c : Class) (k : ℕ) (o u : Opening) → allows c k o ≡ true → allow
 meet c k every u a b = refl
 meet c k (tag d n) every a b = refl
 meet c k (tag d n) (tag f m) a b =
-    let x = and_true (same_class c d) (nat_eq k n) a in
-    let y = and_true (same_class c f) (nat_eq k m) b in
+    let x = and_parts (same_class c d) (nat_eq k n) a in
+    let y = and_parts (same_class c f) (nat_eq k m) b in
     let classes : d ≡ f = sym (same_classes c d x.0) ∙ same_classes c f y.0 in
     let numbers : n ≡ m = sym (eqb-true k n x.1) ∙ eqb-true k m y.1 in
     rw (classes, numbers, class_itself f, eqb_itself m) refl
@@ -38,7 +26,7 @@ meet c k (tag d n) (tag f m) a b =
 meet_some : (c : Class) (k : ℕ) (o : Opening) (us : List Opening) → allows c k o ≡ true → list_any (allows c k) us ≡ true → list_any (meets o) us ≡ true
 meet_some c k o [] a b = absurd cc
 meet_some c k o (u ∷ us) a b =
-    elim (or_true (allows c k u) (list_any (allows c k) us) b) [
+    elim (or_cases (allows c k u) (list_any (allows c k) us) b) [
       | inl t ↦ rw (meet c k o u a t) refl
       | inr t ↦ or_right (meets o u) _ (meet_some c k o us a t)
     ]
@@ -46,7 +34,7 @@ meet_some c k o (u ∷ us) a b =
 meet_lists : (c : Class) (k : ℕ) (os us : List Opening) → list_any (allows c k) os ≡ true → list_any (allows c k) us ≡ true → list_any (λ o. list_any (meets o) us) os ≡ true
 meet_lists c k [] us a b = absurd cc
 meet_lists c k (o ∷ os) us a b =
-    elim (or_true (allows c k o) (list_any (allows c k) os) a) [
+    elim (or_cases (allows c k o) (list_any (allows c k) os) a) [
       | inl t ↦ rw (meet_some c k o us t b) refl
       | inr t ↦ or_right (list_any (meets o) us) _ (meet_lists c k os us t b)
     ]
@@ -81,9 +69,9 @@ module _ (openings : ℕ → List Opening) (c : Class) (k : ℕ) where
 
   pub apart_in_run : (p : Part) (ps : List Part) → clashes_in_run (clash openings) p ps ≡ false → RunAllows ps → begins_by openings p.inner.0 c k ≡ false
   apart_in_run p [] e h = absurd h
-  apart_in_run p (q ∷ qs) e (inl h) = apart p q (or_false (clash openings p q) _ e).0 h
+  apart_in_run p (q ∷ qs) e (inl h) = apart p q (or_parts (clash openings p q) _ e).0 h
   apart_in_run p (q ∷ qs) e (inr h) =
-      let t : (q.optional && clashes_in_run (clash openings) p qs) ≡ false = (or_false (clash openings p q) _ e).1 in
+      let t : (q.optional && clashes_in_run (clash openings) p qs) ≡ false = (or_parts (clash openings p q) _ e).1 in
       apart_in_run p qs (without q.optional _ h.0 t) h.1
     where
       without : (a b : Bool) → a ≡ true → (a && b) ≡ false → b ≡ false
@@ -91,7 +79,7 @@ module _ (openings : ℕ → List Opening) (c : Class) (k : ℕ) where
       without false b x y = absurd cc
 
   pub run_apart : (p : Part) (ps : List Part) → p.optional ≡ true → clashes_in_sequence (clash openings) (p ∷ ps) ≡ false → RunAllows ps → begins_by openings p.inner.0 c k ≡ false
-  run_apart p ps o e h = apart_in_run p ps (with_optional p.optional _ o (or_false _ (clashes_in_sequence (clash openings) ps) e).0) h
+  run_apart p ps o e h = apart_in_run p ps (with_optional p.optional _ o (or_parts _ (clashes_in_sequence (clash openings) ps) e).0) h
     where
       with_optional : (a b : Bool) → a ≡ true → (a && b) ≡ false → b ≡ false
       with_optional true b x y = y

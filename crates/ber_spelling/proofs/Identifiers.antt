@@ -1,7 +1,7 @@
 -- Identifiers: what is read is spelled so, and what is spelled so is read.
-use Rattle.std.proofs.Common.{◌≡◌, ◌≢◌, ℕ, zero, suc, ◌+◌, ◌-◌, ◌*◌, ◌%◌, ◌≤◌, ◌<◌, Bool, true, false, ◌||◌, cond, List, [], ◌∷◌, ◌++◌, length, Option, Some, None, Ok, Err, refl, sym, ap, ◌∙◌, subst, arith, ◌⊎◌, inl, inr}
+use Rattle.std.proofs.Common.{◌≡◌, ◌≢◌, ℕ, zero, suc, ◌+◌, ◌-◌, ◌*◌, ◌%◌, ◌≤◌, ◌<◌, Bool, true, false, cond, List, [], ◌∷◌, ◌++◌, length, Option, Some, None, Ok, Err, refl, sym, ap, ◌∙◌, subst, arith, ◌⊎◌, inl, inr}
 use Rattle.std.specs.Prelude.{nat_lt, nat_eq, slice_index}
-use Rattle.std.proofs.lemmas.Bool.{lt-ltb, le-ltb, ltb-false, ltb-true, eqb-true, eqb-false, ne_eqb}
+use Rattle.std.proofs.lemmas.Bool.{lt-ltb, le-ltb, ltb-false, ltb-true, eqb-true, eqb-false, ne_eqb, or_parts}
 use Rattle.std.proofs.lemmas.Bool.Decides.{nat_tests}
 use Rattle.osi_base.specs.declared.words.Kind.TheVariants.{Tag}
 use Rattle.asn1_types.specs.declared.row.Class.{Class}
@@ -177,10 +177,6 @@ some_levels : (n : ℕ) → nat_eq n 0 ≡ false → 0 < n
 some_levels zero e = absurd cc
 some_levels (suc n) e = omega arith
 
-or_false : (a b : Bool) → (a || b) ≡ false → (a ≡ false) × (b ≡ false)
-or_false true b e = absurd cc
-or_false false b e = (refl, e)
-
 first_same : (text rest whole : List ℕ) → AreDigits text → whole ≡ text ++ rest → slice_index whole 0 ≡ slice_index text 0
 first_same [] rest whole h e = absurd h
 first_same (d ∷ text) rest whole h e = ap (λ (x : List ℕ). slice_index x 0) e
@@ -211,7 +207,7 @@ high_found scope place first rest o s octets level is31 e =
     let x : ℕ × Spot = b.0 in
     let f = digits_found scope place 0 (place + 1) rest x.0 x.1 (octets_tail first rest octets) b.1 in
     let u = unless_ok (is_lax rest x.0) (faults.NotSpelled place Tag) (Ok (opened_at place (first ∷ rest) first x.0, x.1)) (o, s) b.2 in
-    let t = or_false (nat_lt x.0 31) (nat_eq (slice_index rest 0) 128) u.0 in
+    let t = or_parts (nat_lt x.0 31) (nat_eq (slice_index rest 0) 128) u.0 in
     let large : 31 ≤ number_128 0 f.text = let ge : 31 ≤ x.0 = ltb-false x.0 31 t.0 in omega (arith, f.number) in
     let same = first_same f.text x.1.rest rest f.digits f.taken.parts in
     let lead : slice_index f.text 0 ≢ 128 = let ne : slice_index rest 0 ≢ 128 = eqb-false (slice_index rest 0) 128 t.1 in λ h. ne (same ∙ h) in

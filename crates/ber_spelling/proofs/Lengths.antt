@@ -1,7 +1,7 @@
 -- Lengths: what is read is spelled so, and what is spelled so is read.
 use Rattle.std.proofs.Common.{◌≡◌, ◌≢◌, ℕ, suc, ◌+◌, ◌-◌, ◌≤◌, ◌<◌, Bool, true, false, not, ◌&&◌, ◌||◌, cond, List, [], ◌∷◌, ◌++◌, length, take, drop, Ok, Err, refl, sym, ap, ◌∙◌, subst, arith, append_assoc, length-append, ◌⊎◌, inl, inr}
 use Rattle.std.specs.Prelude.{nat_lt, nat_le, nat_eq, slice_index}
-use Rattle.std.proofs.lemmas.Bool.{lt-ltb, le-ltb, ltb-false, ltb-true, eqb-true, eqb-false, ne_eqb, leb-true, le-leb}
+use Rattle.std.proofs.lemmas.Bool.{lt-ltb, le-ltb, ltb-false, ltb-true, eqb-true, eqb-false, ne_eqb, leb-true, le-leb, and_parts}
 use Rattle.std.proofs.lemmas.List.{take_at, drop_at, take-append-drop, length-take}
 use Rattle.osi_base.specs.declared.words.Kind.TheVariants.{Length, Form}
 use Rattle.ber_spelling.specs.declared.fault.ReadFault.TheVariants as faults
@@ -14,10 +14,6 @@ use Rattle.ber_spelling.proofs.Identifiers.{IsIn, in_before, is_in, in_is, Taken
 
 abbrev done : {A : Type 0} → A → Reading A
 done x = Ok x
-
-and_true : (a b : Bool) → (a && b) ≡ true → (a ≡ true) × (b ≡ true)
-and_true true b e = (refl, e)
-and_true false b e = absurd cc
 
 strict_minimal : (s m : Bool) → (s && not m) ≡ false → s ≡ true → m ≡ true
 strict_minimal true true e h = refl
@@ -81,7 +77,7 @@ long_found scope place first rest n s large e =
         some = omega arith;
         few = omega arith;
         number = sym a.number;
-        shortest = λ h. let t = and_true _ _ (a.shortest h) in
+        shortest = λ h. let t = and_parts _ _ (a.shortest h) in
             (let le = leb-true 128 (number_from 0 (take size rest)) t.0 in omega (arith, a.number), ltb-true 0 (slice_index (take size rest) 0) t.1);
       });
       is_in = rw (a.place, a.number) a.is_in;

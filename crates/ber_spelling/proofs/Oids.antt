@@ -2,7 +2,7 @@
 use Rattle.std.proofs.Common.{◌≡◌, ◌≢◌, ℕ, zero, suc, ◌+◌, ◌-◌, ◌*◌, ◌^◌, ◌≤◌, ◌<◌, Bool, true, false, ◌&&◌, ◌||◌, cond, List, [], ◌∷◌, ◌++◌, length, Option, Some, None, refl, sym, ap, ◌∙◌, subst, arith, ◌⊎◌, inl, inr}
 use Rattle.std.specs.Prelude.{nat_lt, nat_le, nat_eq, option_map, slice_index}
 use Rattle.std.specs.List.{list_all, AllByRecursion}
-use Rattle.std.proofs.lemmas.Bool.{lt-ltb, le-ltb, ltb-false, ltb-true, eqb-false, ne_eqb, leb-true}
+use Rattle.std.proofs.lemmas.Bool.{lt-ltb, le-ltb, ltb-false, ltb-true, eqb-false, ne_eqb, leb-true, and_parts, or_cases}
 use Rattle.osi_base.specs.Oid.{is_oid, IsOid}
 use Rattle.asn1_types.specs.Value.{Value, boolean, integer, null, octets, bits, object_id, text, parts, list, chosen, any}
 use Rattle.ber_spelling.specs.Octets.{AreOctets}
@@ -51,10 +51,6 @@ chosen_some false r s y e = inr (refl, e)
 and_false : (b : Bool) → (b && false) ≡ false
 and_false true = refl
 and_false false = refl
-
-and_true : (a b : Bool) → (a && b) ≡ true → (a ≡ true) × (b ≡ true)
-and_true true b e = (refl, e)
-and_true false b e = absurd cc
 
 digit_found : (a d : ℕ) (ds ns : List ℕ) → AreOctets (d ∷ ds) → cond (nat_lt d 128) (push_front (sized (128 * sized a + d)) (subidentifiers_of 0 false ds)) (subidentifiers_of (sized (128 * sized a + (d - 128))) true ds) ≡ Some ns
     → ((b : ℕ) (ns : List ℕ) → subidentifiers_of (sized b) true ds ≡ Some ns → Goes b ds ns) → ((ns : List ℕ) → subidentifiers_of 0 false ds ≡ Some ns → AreSized ns ds) → Goes a (d ∷ ds) ns
@@ -160,7 +156,7 @@ sized_subs (n ∷ ns) contents small h =
 
 arcs_small : (arcs : List ℕ) → list_all is_arc arcs ≡ true → AllByRecursion (λ n. n < 2 ^ 32) arcs
 arcs_small [] e = tt
-arcs_small (n ∷ ns) e = let t = and_true (is_arc n) (list_all is_arc ns) e in (ltb-true n (2 ^ 32) t.0, arcs_small ns t.1)
+arcs_small (n ∷ ns) e = let t = and_parts (is_arc n) (list_all is_arc ns) e in (ltb-true n (2 ^ 32) t.0, arcs_small ns t.1)
 
 small_arcs : (arcs : List ℕ) → AllByRecursion (λ n. n < 2 ^ 32) arcs → list_all is_arc arcs ≡ true
 small_arcs [] h = refl
@@ -187,16 +183,12 @@ arcs_back (n ∷ ns) h = by_first n ns (nat_lt n 40) (nat_lt n 80) refl refl h
         let same : 40 * 2 + (n - 80) ≡ n = omega arith in
         (ap (λ (k : ℕ). k ∷ ns) same, (let lt = h.1.0 in omega arith, small_more ns h.1.1))
 
-or_true : (a b : Bool) → (a || b) ≡ true → (a ≡ true) ⊎ (b ≡ true)
-or_true true b e = inl refl
-or_true false b e = inr e
-
 -- the second arc is below 40 under the first two roots
 pub second_low : (root second : ℕ) → (nat_lt root 2 && nat_lt second 40 || nat_le root 2 && nat_le 2 root) ≡ true → ((root < 2) × (second < 40)) ⊎ (root ≡ 2)
 second_low root second e =
-    elim (or_true (nat_lt root 2 && nat_lt second 40) (nat_le root 2 && nat_le 2 root) e) [
-      | inl t ↦ let u = and_true (nat_lt root 2) (nat_lt second 40) t in inl (ltb-true root 2 u.0, ltb-true second 40 u.1)
-      | inr t ↦ let u = and_true (nat_le root 2) (nat_le 2 root) t in let a = leb-true root 2 u.0 in let b = leb-true 2 root u.1 in inr (omega arith)
+    elim (or_cases (nat_lt root 2 && nat_lt second 40) (nat_le root 2 && nat_le 2 root) e) [
+      | inl t ↦ let u = and_parts (nat_lt root 2) (nat_lt second 40) t in inl (ltb-true root 2 u.0, ltb-true second 40 u.1)
+      | inr t ↦ let u = and_parts (nat_le root 2) (nat_le 2 root) t in let a = leb-true root 2 u.0 in let b = leb-true 2 root u.1 in inr (omega arith)
     ]
 
 first_from : (root second : ℕ) (arcs : List ℕ) → ((root < 2) × (second < 40)) ⊎ (root ≡ 2) → arcs_from ((40 * root + second) ∷ arcs) ≡ root ∷ second ∷ arcs
@@ -224,7 +216,7 @@ well_begun arcs h = h
 subs_back : (arcs : List ℕ) → is_oid arcs ≡ true → arcs_from (subidentifiers arcs) ≡ arcs
 subs_back [] h = refl
 subs_back (root ∷ []) h = absurd cc
-subs_back (root ∷ second ∷ arcs) h = first_from root second arcs (second_low root second (and_true (nat_le (length (root ∷ second ∷ arcs)) 32) _ h).1)
+subs_back (root ∷ second ∷ arcs) h = first_from root second arcs (second_low root second (and_parts (nat_le (length (root ∷ second ∷ arcs)) 32) _ h).1)
 
 root_small : (root second : ℕ) → ((root < 2) × (second < 40)) ⊎ (root ≡ 2) → root ≤ 2
 root_small root second (inl h) = let lt = h.0 in omega arith
@@ -234,7 +226,7 @@ subs_small : (arcs : List ℕ) → is_oid arcs ≡ true → AllByRecursion (λ n
 subs_small [] h s = tt
 subs_small (root ∷ []) h s = (let lt = s.0 in omega arith, tt)
 subs_small (root ∷ second ∷ arcs) h s =
-    let le : root ≤ 2 = root_small root second (second_low root second (and_true (nat_le (length (root ∷ second ∷ arcs)) 32) _ h).1) in
+    let le : root ≤ 2 = root_small root second (second_low root second (and_parts (nat_le (length (root ∷ second ∷ arcs)) 32) _ h).1) in
     (let lt = s.1.0 in omega arith, small_more arcs s.1.1)
 
 -- ---- the rule of contents
@@ -245,7 +237,7 @@ judged (Some ns) arcs e =
     elim (chosen_some (list_all is_arc (arcs_from ns) && is_oid (arcs_from ns)) (Some (arcs_from ns)) None arcs e) [
       | inl t ↦
           let same : arcs_from ns ≡ arcs = let s : Some (arcs_from ns) ≡ Some arcs = t.1 in cc in
-          let u = and_true (list_all is_arc (arcs_from ns)) (is_oid (arcs_from ns)) t.0 in
+          let u = and_parts (list_all is_arc (arcs_from ns)) (is_oid (arcs_from ns)) t.0 in
           (ns, refl, same, ap (list_all is_arc) (sym same) ∙ u.0, ap is_oid (sym same) ∙ u.1)
       | inr t ↦ absurd (let none : None ≡ Some arcs = t.1 in cc)
     ]

@@ -1,5 +1,6 @@
 -- Each row: what is read is spelled so, and what is spelled so is read.
-use Rattle.std.proofs.Common.{◌≡◌, ℕ, zero, suc, ◌+◌, Bool, true, false, not, ◌&&◌, ◌||◌, List, [], ◌∷◌, Option, Some, None, refl, ap, ◌∙◌, subst, arith, inl, inr}
+use Rattle.std.proofs.Common.{◌≡◌, ℕ, zero, suc, ◌+◌, Bool, true, false, not, ◌||◌, List, [], ◌∷◌, Option, Some, None, refl, ap, ◌∙◌, subst, arith, inl, inr}
+use Rattle.std.proofs.lemmas.Bool.{and_parts}
 use Rattle.std.specs.Prelude.{slice_get}
 use Rattle.std.specs.List.{list_any, flat_map}
 use Rattle.std.proofs.lemmas.List.Folds.{list_any-append}
@@ -101,10 +102,6 @@ text_tag Visible = refl
 text_tag Printable = refl
 text_tag Numeric = refl
 
-or_true : (a b : Bool) → (a && b) ≡ true → (a ≡ true) × (b ≡ true)
-or_true true b e = (refl, e)
-or_true false b e = absurd cc
-
 or_left : (a b : Bool) → a ≡ true → (a || b) ≡ true
 or_left true b e = refl
 or_left false b e = absurd cc
@@ -125,7 +122,7 @@ module _ (rows : List TypeRow) (n : ℕ) where
       → (not (is_no_tag class number) ≡ true) × (list_any (allows class number) (flat_map (λ (p : Part). openings rows p.inner.0) ps) ≡ true)
   flat_some [] class number h = absurd h
   flat_some (p ∷ ps) class number (inl h) =
-      let t = or_true (not (is_no_tag class number)) (list_any (allows class number) (openings rows p.inner.0)) h in
+      let t = and_parts (not (is_no_tag class number)) (list_any (allows class number) (openings rows p.inner.0)) h in
       (t.0, rw (list_any-append (allows class number) (openings rows p.inner.0) (flat_map (λ (q : Part). openings rows q.inner.0) ps)) (or_left _ _ t.1))
   flat_some (p ∷ ps) class number (inr h) =
       let t = flat_some ps class number h in

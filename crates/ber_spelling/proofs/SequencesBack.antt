@@ -1,5 +1,6 @@
 -- SEQUENCE and CHOICE: what is spelled so is read.
 use Rattle.std.proofs.Common.{◌≡◌, ℕ, zero, suc, ◌+◌, true, false, List, [], ◌∷◌, ◌++◌, length, Option, Some, None, Ok, refl, sym, ap, ◌∙◌, subst, arith, append_assoc, length-append, inl, inr}
+use Rattle.std.proofs.lemmas.Bool.{or_parts}
 use Rattle.std.specs.Prelude.{slice_get}
 use Rattle.std.specs.List.{list_any}
 use Rattle.asn1_types.specs.declared.row.Class.{Class}
@@ -18,7 +19,7 @@ use Rattle.ber_spelling.proofs.Ends.{closing, Closes, look_closed}
 use Rattle.ber_spelling.proofs.Steady.{ReadBack, Only}
 use Rattle.ber_spelling.proofs.Constructed.{BodyOnly, begun_again}
 use Rattle.ber_spelling.proofs.Sequences.{sequence_body}
-use Rattle.ber_spelling.proofs.Distinct.{begins_by, RunAllows, AnyAllows, run_apart, apart, or_false}
+use Rattle.ber_spelling.proofs.Distinct.{begins_by, RunAllows, AnyAllows, run_apart, apart}
 
 abbrev pub list_of : MaybeValues → List (Option Value)
 list_of no_parts = []
@@ -71,7 +72,7 @@ module _ (openings : ℕ → List Opening) (inner : ℕ → Reader) (rel : ℕ �
   parts_only [] d scope place (present v vs) contents rest p here closes = absurd p
   parts_only (q ∷ qs) d scope place no_parts contents rest p here closes = absurd p
   parts_only (q ∷ qs) d scope place (absent vs) contents rest p here closes =
-      let ih = parts_only qs (or_false _ (clashes_in_sequence (clash openings) qs) d).1 scope place vs contents rest p.1 here closes in
+      let ih = parts_only qs (or_parts _ (clashes_in_sequence (clash openings) qs) d).1 scope place vs contents rest p.1 here closes in
       record {
         ahead = ih.ahead;
         looks = ih.looks;
@@ -84,7 +85,7 @@ module _ (openings : ℕ → List Opening) (inner : ℕ → Reader) (rel : ℕ �
       let len : length contents ≡ length first + length others = ap length p.2 ∙ length-append first others in
       let mid : ℕ = place + length first in
       let there : place + length contents ≡ mid + length others = omega arith in
-      let ih = parts_only qs (or_false _ (clashes_in_sequence (clash openings) qs) d).1 scope mid vs others rest p.4 (subst (IsIn scope) there here) (subst (Closes scope) there closes) in
+      let ih = parts_only qs (or_parts _ (clashes_in_sequence (clash openings) qs) d).1 scope mid vs others rest p.4 (subst (IsIn scope) there here) (subst (Closes scope) there closes) in
       let r = (h q.inner.0).only scope place v first (others ++ (closing scope.marked ++ rest)) p.3 (in_before scope mid (place + length contents) (omega arith) here) in
       let looked = begun_again (λ c k. begins_by openings q.inner.0 c k ≡ true) (inner q.inner.0 None) scope place first (others ++ (closing scope.marked ++ rest)) v r (in_before scope mid (place + length contents) (omega arith) here) in
       let whole : contents ++ (closing scope.marked ++ rest) ≡ first ++ (others ++ (closing scope.marked ++ rest)) = ap (λ (c : List ℕ). c ++ (closing scope.marked ++ rest)) p.2 ∙ append_assoc first others (closing scope.marked ++ rest) in
@@ -120,8 +121,8 @@ module _ (openings : ℕ → List Opening) (inner : ℕ → Reader) (rel : ℕ �
   not_before c k p [] i q d g b = absurd cc
   not_before c k p (r ∷ ps) zero q d g b =
       let same : r ≡ q = cc in
-      apart openings c k p r (or_false (clash openings p r) _ d).0 (subst (λ (x : Part). begins_by openings x.inner.0 c k ≡ true) (sym same) b)
-  not_before c k p (r ∷ ps) (suc i) q d g b = not_before c k p ps i q (or_false (clash openings p r) _ d).1 g b
+      apart openings c k p r (or_parts (clash openings p r) _ d).0 (subst (λ (x : Part). begins_by openings x.inner.0 c k ≡ true) (sym same) b)
+  not_before c k p (r ∷ ps) (suc i) q d g b = not_before c k p ps i q (or_parts (clash openings p r) _ d).1 g b
 
   pub any_allows : (c : Class) (k : ℕ) (ps : List Part) (i : ℕ) (q : Part) → slice_get ps i ≡ Some q → begins_by openings q.inner.0 c k ≡ true → AnyAllows openings ps c k
   any_allows c k [] i q g b = absurd cc
@@ -138,7 +139,7 @@ module _ (openings : ℕ → List Opening) (inner : ℕ → Reader) (rel : ℕ �
       let e' : inner r.inner.0 None scope o s ≡ Ok (v, to) = subst (λ (x : Part). inner x.inner.0 None scope o s ≡ Ok (v, to)) same e in
       rw (b', e') (let here : which ≡ which + 0 = omega arith in ap (λ (n : ℕ). Ok (chosen n v, to)) here)
   chosen_reads (r ∷ ps) d which (suc i) q g scope o s v to b e =
-      let t = or_false (list_any (clash openings r) ps) (agrees_later (clash openings) ps) d in
+      let t = or_parts (list_any (clash openings r) ps) (agrees_later (clash openings) ps) d in
       rw (not_before o.class o.number r ps i q t.0 g b)
       (chosen_reads ps t.1 (suc which) i q g scope o s v to b e ∙ (let next : suc which + i ≡ which + suc i = omega arith in ap (λ (n : ℕ). Ok (chosen n v, to)) next))
 

@@ -2,7 +2,7 @@
 use Rattle.std.proofs.Common.{◌≡◌, ℕ, zero, suc, ◌+◌, ◌≤◌, Bool, true, false, ◌&&◌, List, [], ◌∷◌, ◌++◌, length, Option, Some, None, Ok, Err, refl, sym, ap, ◌∙◌, subst, arith, inl, inr}
 use Rattle.std.specs.Prelude.{slice_get, slice_set, nat_lt}
 use Rattle.std.specs.List.{list_any}
-use Rattle.std.proofs.lemmas.Bool.{ltb-false, le-ltb}
+use Rattle.std.proofs.lemmas.Bool.{ltb-false, le-ltb, or_parts}
 use Rattle.osi_base.specs.declared.words.Kind.TheVariants.{Extra}
 use Rattle.asn1_types.specs.declared.row.Part.{Part}
 use Rattle.asn1_types.specs.Rows.{Opening}
@@ -20,7 +20,7 @@ use Rattle.ber_spelling.proofs.Steady.{ReadAs, Found, Only}
 use Rattle.ber_spelling.proofs.Constructed.{BodyFound, BodyOnly}
 use Rattle.ber_spelling.proofs.Sequences.{Begins}
 use Rattle.ber_spelling.proofs.SequencesBack.{not_before, any_allows}
-use Rattle.ber_spelling.proofs.Distinct.{begins_by, AnyAllows, or_false}
+use Rattle.ber_spelling.proofs.Distinct.{begins_by, AnyAllows}
 use Rattle.ber_spelling.proofs.Items.{all_found, all_only, all_grow, GrowsRun, GrowsBody}
 use Rattle.ber_spelling.proofs.Growing.{grown, grown_opened, Grows-bind, Grows-cond, with_spot}
 use Rattle.ber_spelling.proofs.Orders.{front_read}
@@ -104,7 +104,7 @@ module _ (openings : ℕ → List Opening) (inner : ℕ → Reader) (rel : ℕ �
       let free' : slice_get before.found which ≡ Some None = ap (slice_get before.found) (sym here) ∙ free in
       rw b' (fill_reads (inner r.inner.0) which before scope o s v to free' order e' ∙ ap (λ (n : ℕ). Ok (filled_by n o before v, to)) (sym here))
   slot_reads (r ∷ ps) d which (suc i) q g before scope o s v to b free order e =
-      let t = or_false (list_any (clash openings r) ps) (agrees_later (clash openings) ps) d in
+      let t = or_parts (list_any (clash openings r) ps) (agrees_later (clash openings) ps) d in
       let next : suc which + i ≡ which + suc i = omega arith in
       rw (not_before openings inner rel h o.class o.number r ps i q t.0 g b)
       (slot_reads ps t.1 (suc which) i q g before scope o s v to b (ap (slice_get before.found) next ∙ free) order e ∙ ap (λ (n : ℕ). Ok (filled_by n o before v, to)) next)

@@ -1,7 +1,7 @@
 -- What it means that a reader reads what a relation spells, and the laws of primitive and constructed values.
 use Rattle.std.proofs.Common.{◌≡◌, ◌≢◌, ℕ, zero, suc, ◌+◌, ◌^◌, ◌<◌, Bool, true, false, not, ◌&&◌, cond, List, [], ◌∷◌, ◌++◌, length, Option, Some, None, Ok, Err, refl, sym, ap, ◌∙◌, subst, arith, append_assoc, length-append, inl, inr}
 use Rattle.std.specs.Prelude.{nat_lt, nat_eq, slice_index}
-use Rattle.std.proofs.lemmas.Bool.{lt-ltb, ltb-true, eqb-true, eqb-false}
+use Rattle.std.proofs.lemmas.Bool.{lt-ltb, ltb-true, eqb-true, eqb-false, and_parts}
 use Rattle.osi_base.specs.declared.words.Kind.TheVariants.{Tag, Form}
 use Rattle.asn1_types.specs.declared.row.Class.{Class}
 use Rattle.asn1_types.specs.declared.row.Class.TheVariants.{Universal, Application, Context, Private}
@@ -119,10 +119,6 @@ class_itself Private = refl
 pub eqb_itself : (n : ℕ) → nat_eq n n ≡ true
 eqb_itself n = grind arith
 
-and_true : (a b : Bool) → (a && b) ≡ true → (a ≡ true) × (b ≡ true)
-and_true true b e = (refl, e)
-and_true false b e = absurd cc
-
 form_is : (a b : Bool) → cond a b (not b) ≡ true → b ≡ a
 form_is true b e = e
 form_is false true e = absurd cc
@@ -138,9 +134,9 @@ pub opened_as : (tag : tags.Tag) (constructed : Bool) (o : Opened) (x : Unit {0}
 opened_as tag constructed o x e =
     elim (chosen_ok (is_opened tag constructed o) (Ok tt) (refuse o.start.place Tag) x e) [
       | inl t ↦
-          let a = and_true _ (cond constructed o.constructed (not o.constructed)) t.0 in
-          let b = and_true _ (nat_lt tag.number (2 ^ 32)) a.0 in
-          let c = and_true (same_class o.class tag.class) (nat_eq o.number tag.number) b.0 in
+          let a = and_parts _ (cond constructed o.constructed (not o.constructed)) t.0 in
+          let b = and_parts _ (nat_lt tag.number (2 ^ 32)) a.0 in
+          let c = and_parts (same_class o.class tag.class) (nat_eq o.number tag.number) b.0 in
           record { class = same_classes o.class tag.class c.0; number = eqb-true o.number tag.number c.1; small = ltb-true tag.number (2 ^ 32) b.1; form = form_is constructed o.constructed a.1 }
       | inr t ↦ absurd (let wrong : Err (faults.NotSpelled o.start.place Tag) ≡ done x = t.1 in cc)
     ]

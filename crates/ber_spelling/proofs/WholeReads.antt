@@ -1,7 +1,7 @@
 -- Whole values of any type: what is read is spelled so, what is spelled so is read, and it stays so.
 use Rattle.std.proofs.Common.{◌≡◌, ◌≢◌, ℕ, zero, suc, ◌+◌, ◌-◌, ◌<◌, Bool, true, false, ◌&&◌, cond, List, [], ◌∷◌, ◌++◌, length, Option, Some, Ok, Err, refl, sym, ap, ◌∙◌, subst, arith, append_assoc, length-append, inl, inr}
 use Rattle.std.specs.Prelude.{nat_eq}
-use Rattle.std.proofs.lemmas.Bool.{ne_eqb, eqb-true}
+use Rattle.std.proofs.lemmas.Bool.{ne_eqb, eqb-true, and_parts}
 use Rattle.osi_base.specs.declared.words.Kind.TheVariants.{Tag}
 use Rattle.asn1_types.specs.declared.row.Class.{Class}
 use Rattle.asn1_types.specs.declared.row.Class.TheVariants.{Universal}
@@ -76,10 +76,6 @@ no_length (first ∷ digits) rest more n h e =
     let wrong : nat_eq 128 128 ≡ false = ap (λ (k : ℕ). nat_eq k 128) same ∙ ne in
     absurd cc
 
-and_true : (a b : Bool) → (a && b) ≡ true → (a ≡ true) × (b ≡ true)
-and_true true b e = (refl, e)
-and_true false b e = absurd cc
-
 -- ---- what is read is spelled so
 
 module _ (inner : ℕ) (scope : Scope) (place : ℕ) (rest : List ℕ) (o : Opened) (s to : Spot) (octets : AreOctets rest) (i : IdentifierFound scope place rest o s) (t : is_no_tag o.class o.number ≡ false) where
@@ -140,7 +136,7 @@ whole_found (suc inner) before = record {
       let u = unless_ok (is_no_tag o.class o.number) (faults.NotSpelled o.start.place Tag) _ (v, to) e in
       elim (chosen_ok (is_marked s.rest && o.constructed) _ _ (v, to) u.1) [
         | inl t ↦
-            let both = and_true (is_marked s.rest) o.constructed t.0 in
+            let both = and_parts (is_marked s.rest) o.constructed t.0 in
             marked_found inner scope place rest o s to are i u.0 v (all_found (whole_at inner) some_unit (WholeIs inner) tt (λ a. whole_found inner a)) both.0 both.1 t.1
         | inr t ↦ sized_found inner scope place rest o s to are i u.0 v t.1
       ];

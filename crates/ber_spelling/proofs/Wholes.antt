@@ -1,7 +1,7 @@
 -- One whole value, as `fits` tests it.
 use Rattle.std.proofs.Common.{◌≡◌, ◌≢◌, ℕ, zero, suc, ◌+◌, ◌-◌, ◌*◌, ◌%◌, ◌<◌, ◌≤◌, Bool, true, false, ◌&&◌, ◌||◌, cond, List, [], ◌∷◌, ◌++◌, length, take, drop, Option, Some, None, refl, sym, ap, ◌∙◌, subst, arith, append_assoc, length-take, inl, inr}
 use Rattle.std.specs.Prelude.{option_and_then, nat_lt, nat_le, nat_eq}
-use Rattle.std.proofs.lemmas.Bool.{cases_lt, lt-ltb, le-ltb, ltb-true, ltb-false, leb-true, leb-false, eqb-true, eqb-false, ne_eqb}
+use Rattle.std.proofs.lemmas.Bool.{cases_lt, lt-ltb, le-ltb, ltb-true, ltb-false, leb-true, leb-false, eqb-true, eqb-false, ne_eqb, and_parts, or_parts}
 use Rattle.std.proofs.lemmas.List.{take-append-drop, append-nil}
 use Rattle.asn1_types.specs.declared.row.Class.{Class}
 use Rattle.asn1_types.specs.declared.row.Class.TheVariants.{Universal, Application, Context, Private}
@@ -10,14 +10,6 @@ use Rattle.asn1_types.specs.Whole.{number_256, behind_digits, behind_high, behin
 use Rattle.ber_spelling.specs.Fields.{class_of, is_constructed, number_from}
 use Rattle.ber_spelling.specs.Spelling.{AreDigits, low_bits, number_128, IsBase128, leading, IsIdentifier, IsLength, IsSized, AreAll, IsMarked, IsWhole}
 use Rattle.ber_spelling.proofs.Identifiers.{first_is}
-
-and_true : (a b : Bool) → (a && b) ≡ true → (a ≡ true) × (b ≡ true)
-and_true true b e = (refl, e)
-and_true false b e = absurd cc
-
-or_false : (a b : Bool) → (a || b) ≡ false → (a ≡ false) × (b ≡ false)
-or_false true b e = absurd cc
-or_false false b e = (refl, e)
 
 cond_some : {A : Type 0} (b : Bool) (o : Option A) (x : A) → cond b None o ≡ Some x → (b ≡ false) × (o ≡ Some x)
 cond_some true o x e = absurd cc
@@ -58,8 +50,8 @@ sized (first ∷ more) rest e = by_test (nat_lt first 128) refl e
         let n : ℕ = first - 128 in
         let number : ℕ = number_256 0 (take n more) in
         let a = some_cond (nat_le 1 n && nat_le n 8 && nat_le n (length more)) (behind_octets number (drop n more)) rest e in
-        let b = and_true (nat_le 1 n && nat_le n 8) (nat_le n (length more)) a.0 in
-        let d = and_true (nat_le 1 n) (nat_le n 8) b.0 in
+        let b = and_parts (nat_le 1 n && nat_le n 8) (nat_le n (length more)) a.0 in
+        let d = and_parts (nat_le 1 n) (nat_le n 8) b.0 in
         let k = behind_taken number (drop n more) rest a.1 in
         let ge : 128 ≤ first = ltb-false first 128 t in
         let some : 1 ≤ n = leb-true 1 n d.0 in
@@ -128,7 +120,7 @@ high_of : (octets rest : List ℕ) → behind_high octets ≡ Some rest → High
 high_of [] rest e = absurd cc
 high_of (d ∷ ds) rest e =
     let t = cond_some (nat_lt d 31 || nat_eq d 128) (behind_digits (d ∷ ds)) rest e in
-    let u = or_false (nat_lt d 31) (nat_eq d 128) t.0 in
+    let u = or_parts (nat_lt d 31) (nat_eq d 128) t.0 in
     from_digits d ds rest (eqb-false d 128 u.1) (ltb-false d 31 u.0) (digits_of (d ∷ ds) rest t.1)
   where
     by_list : (d : ℕ) (ds rest digits : List ℕ) → d ≢ 128 → 31 ≤ d → AreDigits digits → (d ∷ ds) ≡ digits ++ rest → High (d ∷ ds) rest
@@ -179,8 +171,8 @@ identified : (octets rest : List ℕ) → behind_identifier octets ≡ Some rest
 identified [] rest e = absurd cc
 identified (first ∷ more) rest e =
     let t = cond_some (nat_eq first 0 || nat_eq first 32 || nat_le 256 first) (cond (nat_eq (first % 32) 31) (behind_high more) (Some more)) rest e in
-    let u = or_false (nat_eq first 0 || nat_eq first 32) (nat_le 256 first) t.0 in
-    let w = or_false (nat_eq first 0) (nat_eq first 32) u.0 in
+    let u = or_parts (nat_eq first 0 || nat_eq first 32) (nat_le 256 first) t.0 in
+    let w = or_parts (nat_eq first 0) (nat_eq first 32) u.0 in
     by_form first more rest (eqb-false first 0 w.0) (eqb-false first 32 w.1) (leb-false 256 first u.1) (nat_eq (first % 32) 31) refl t.1
   where
     by_form : (first : ℕ) (more rest : List ℕ) → first ≢ 0 → first ≢ 32 → first < 256 → (b : Bool) → nat_eq (first % 32) 31 ≡ b → cond b (behind_high more) (Some more) ≡ Some rest → Identified (first ∷ more) rest
@@ -241,7 +233,7 @@ ended_is : (octets : List ℕ) → is_ended octets ≡ true → octets ≡ 0 ∷
 ended_is [] e = absurd cc
 ended_is (first ∷ []) e = absurd cc
 ended_is (first ∷ second ∷ rest) e =
-    let t = and_true (nat_eq first 0) (nat_eq second 0) e in
+    let t = and_parts (nat_eq first 0) (nat_eq second 0) e in
     ap (λ (x : ℕ). x ∷ second ∷ rest) (eqb-true first 0 t.0) ∙ ap (λ (x : ℕ). 0 ∷ x ∷ rest) (eqb-true second 0 t.1)
 
 marked_is : (octets : List ℕ) → is_marked octets ≡ true → octets ≡ 128 ∷ drop 1 octets
@@ -280,7 +272,7 @@ behind_is (suc inner) octets rest e =
         → cond b (behind_values (behind_whole inner) (length (drop 1 more)) (drop 1 more)) (behind_sized more) ≡ Some rest
         → ((os r : List ℕ) → behind_whole inner os ≡ Some r → Behind inner os r) → Behind (suc inner) octets rest
     by_test more i true t e h =
-        let both = and_true (is_marked more) (is_formed octets) t in
+        let both = and_parts (is_marked more) (is_formed octets) t in
         let v = values_are inner h (length (drop 1 more)) (drop 1 more) rest e in
         let formed : i.constructed ≡ true = sym i.formed ∙ both.1 in
         let text : List ℕ = i.head ++ (128 ∷ (v.contents ++ (0 ∷ 0 ∷ []))) in

@@ -2,7 +2,7 @@
 use Rattle.std.proofs.Common.{◌≡◌, ℕ, zero, suc, ◌+◌, ◌-◌, ◌%◌, ◌^◌, ◌<◌, ◌≤◌, ℤ, pos, negsuc, ◌≤ℤ◌, Bool, true, false, not, ◌&&◌, cond, List, [], ◌∷◌, ◌++◌, length, take, Option, Some, None, refl, sym, ap, ◌∙◌, subst, arith, append_assoc, length-append, inl, inr}
 use Rattle.std.specs.Prelude.{slice_get, slice_index, slice_set, nat_lt, nat_le, nat_eq, int_lt}
 use Rattle.std.specs.List.{AllByRecursion, list_all}
-use Rattle.std.proofs.lemmas.Bool.{ltb-true, ltb-false, eqb-true, ne_eqb, lt-leb}
+use Rattle.std.proofs.lemmas.Bool.{ltb-true, ltb-false, eqb-true, ne_eqb, lt-leb, and_parts}
 use Rattle.std.proofs.lemmas.List.{append-nil}
 use Rattle.std.proofs.lemmas.Option.{slice_get_within}
 use Rattle.std.proofs.lemmas.Int.{ints}
@@ -38,10 +38,6 @@ use Rattle.ber_spelling.proofs.WrittenFields.{definite_is, contents_short, Has64
 abbrev Most : ℕ
 Most = 2 ^ 64
 
-and_true : (a b : Bool) → (a && b) ≡ true → (a ≡ true) × (b ≡ true)
-and_true true b e = (refl, e)
-and_true false b e = absurd cc
-
 abbrev OkTag : Option tags.Tag → Type 0
 OkTag None = Unit {0}
 OkTag (Some t) = t.number < 2 ^ 32
@@ -67,8 +63,8 @@ int_le a b e = grind (arith, ints)
 
 integer_written : (low high : ℤ) (v : Value) → integer_fits low high v ≡ true → IntegerIs low high v (integer_contents v)
 integer_written low high (integer z) e =
-    let a = and_true (is_number z && not (int_lt z low)) (not (int_lt high z)) e in
-    let b = and_true (is_number z) (not (int_lt z low)) a.0 in
+    let a = and_parts (is_number z && not (int_lt z low)) (not (int_lt high z)) e in
+    let b = and_parts (is_number z) (not (int_lt z low)) a.0 in
     (integer_is z (has_64 z b.0), int_le low z b.1, int_le z high a.1)
 integer_written low high null e = absurd cc
 integer_written low high (boolean b) e = absurd cc
@@ -97,7 +93,7 @@ boolean_written strict (any os) e = absurd cc
 
 enumerated_written : (items : List Item) (v : Value) → enumerated_fits items v ≡ true → EnumeratedIs items v (integer_contents v)
 enumerated_written items (integer z) e =
-    let a = and_true (is_number z) (is_item items z) e in
+    let a = and_parts (is_number z) (is_item items z) e in
     (integer_is z (has_64 z a.0), a.1)
 enumerated_written items null e = absurd cc
 enumerated_written items (boolean b) e = absurd cc
@@ -113,7 +109,7 @@ enumerated_written items (any os) e = absurd cc
 -- ---- strings
 
 octets_written : (most : ℕ) (v : Value) → octets_fit most v ≡ true → string_rule OfOctets (whole_octets most) (octets_contents v) ≡ Some v
-octets_written most (octets os) e = let a = and_true (list_all is_octet os) (nat_le (length os) most) e in rw a.1 refl
+octets_written most (octets os) e = let a = and_parts (list_all is_octet os) (nat_le (length os) most) e in rw a.1 refl
 octets_written most null e = absurd cc
 octets_written most (integer z) e = absurd cc
 octets_written most (boolean b) e = absurd cc
@@ -126,7 +122,7 @@ octets_written most (chosen n v) e = absurd cc
 octets_written most (any os) e = absurd cc
 
 text_written : (kind : TextKind) (v : Value) → text_fits kind v ≡ true → string_rule OfOctets (whole_text kind) (text_contents v) ≡ Some v
-text_written kind (text os) e = by_test (is_text kind os) (and_true (list_all is_octet os) (is_text kind os) e).1
+text_written kind (text os) e = by_test (is_text kind os) (and_parts (list_all is_octet os) (is_text kind os) e).1
   where
     by_test : (b : Bool) → b ≡ true → cond b (Some (text os)) None ≡ Some (text os)
     by_test b t = rw t refl
@@ -158,16 +154,16 @@ cleared_same unused o os e =
 
 bits_ruled : (os : List ℕ) (unused : ℕ) → are_bits os unused ≡ true → string_rule OfBits whole_bits (unused ∷ os) ≡ Some (bits os unused)
 bits_ruled [] unused e =
-    let a = and_true (nat_lt unused 8) (nat_eq unused 0) e in
+    let a = and_parts (nat_lt unused 8) (nat_eq unused 0) e in
     rw (a.1, few_bits unused a.0) refl
 bits_ruled (o ∷ os) unused e =
-    let a = and_true (nat_lt unused 8) (cond (nat_eq (length (o ∷ os)) 0) (nat_eq unused 0) (nat_eq (slice_index (o ∷ os) (length (o ∷ os) - 1) % 2 ^ unused) 0)) e in
+    let a = and_parts (nat_lt unused 8) (cond (nat_eq (length (o ∷ os)) 0) (nat_eq unused 0) (nat_eq (slice_index (o ∷ os) (length (o ∷ os) - 1) % 2 ^ unused) 0)) e in
     let some : nat_eq (length (o ∷ os)) 0 ≡ false = ne_eqb (length (o ∷ os)) 0 (λ f. omega arith) in
     let zeros : nat_eq (slice_index (o ∷ os) (length (o ∷ os) - 1) % 2 ^ unused) 0 ≡ true = ap (λ (b : Bool). cond b (nat_eq unused 0) (nat_eq (slice_index (o ∷ os) (length (o ∷ os) - 1) % 2 ^ unused) 0)) (sym some) ∙ a.1 in
     rw (a.0, few_bits unused a.0) (ap (λ (ys : List ℕ). Some (bits ys unused)) (cleared_same unused o os zeros))
 
 bits_written : (v : Value) → bits_fit v ≡ true → (string_rule OfBits whole_bits (bits_contents v) ≡ Some v) × (has_zero_bits (bits_contents v) ≡ true)
-bits_written (bits os unused) e = let a = and_true (list_all is_octet os) (are_bits os unused) e in (bits_ruled os unused a.1, a.1)
+bits_written (bits os unused) e = let a = and_parts (list_all is_octet os) (are_bits os unused) e in (bits_ruled os unused a.1, a.1)
 bits_written null e = absurd cc
 bits_written (integer z) e = absurd cc
 bits_written (boolean b) e = absurd cc
@@ -201,11 +197,11 @@ null_written (any os) e = absurd cc
 
 arcs_small : (arcs : List ℕ) → list_all has_32_bits arcs ≡ true → AllByRecursion (λ n. n < 2 ^ 32) arcs
 arcs_small [] e = tt
-arcs_small (n ∷ ns) e = let t = and_true (has_32_bits n) (list_all has_32_bits ns) e in (ltb-true n (2 ^ 32) t.0, arcs_small ns t.1)
+arcs_small (n ∷ ns) e = let t = and_parts (has_32_bits n) (list_all has_32_bits ns) e in (ltb-true n (2 ^ 32) t.0, arcs_small ns t.1)
 
 object_id_written : (v : Value) → object_id_fits v ≡ true → ObjectIdIs v (object_id_contents v)
 object_id_written (object_id arcs) e =
-    let t = and_true (is_oid arcs) (list_all has_32_bits arcs) e in
+    let t = and_parts (is_oid arcs) (list_all has_32_bits arcs) e in
     record { is_oid = t.0; small = arcs_small arcs t.1; are = subidentifiers_are (subidentifiers arcs) }
 object_id_written null e = absurd cc
 object_id_written (integer z) e = absurd cc
@@ -239,10 +235,10 @@ module _ (fit : ℕ → Value → Bool) (write : ℕ → Writer) (rel : ℕ → 
   parts_written levels [] (present v vs) le e short = absurd cc
   parts_written levels (p ∷ ps) no_parts le e short = absurd cc
   parts_written levels (p ∷ ps) (absent vs) le e short =
-      let t = and_true p.optional (parts_fit fit ps vs) e in
+      let t = and_parts p.optional (parts_fit fit ps vs) e in
       (t.0, parts_written levels ps vs (omega arith) t.1 short)
   parts_written levels (p ∷ ps) (present v vs) le e short =
-      let t = and_true (fit p.inner.0 v) (parts_fit fit ps vs) e in
+      let t = and_parts (fit p.inner.0 v) (parts_fit fit ps vs) e in
       let s = append_short (write p.inner.0 None v) (parts_contents write ps vs) short in
       (write p.inner.0 None v, parts_contents write ps vs, refl, (each p.inner.0).is None strict levels v tt (omega arith) t.0 s.0, parts_written levels ps vs (omega arith) t.1 s.1)
 
@@ -264,7 +260,7 @@ module _ (fit : ℕ → Value → Bool) (write : ℕ → Writer) (rel : ℕ → 
       → (steps : List (List ℕ × List Value)) × Steps (λ a b text. ListStep (rel of) a strict levels b text) steps before (before ++ items_in vs) (values_contents (write of) vs)
   values_written of levels before no_values le e short = ([], (sym (append-nil before), refl))
   values_written of levels before (value v vs) le e short =
-      let t = and_true (fit of v) (values_fit (fit of) vs) e in
+      let t = and_parts (fit of v) (values_fit (fit of) vs) e in
       let s = append_short (write of None v) (values_contents (write of) vs) short in
       let more = values_written of levels (before ++ v ∷ []) vs le t.1 s.1 in
       let ends : (before ++ v ∷ []) ++ items_in vs ≡ before ++ v ∷ items_in vs = append_assoc before (v ∷ []) (items_in vs) in (
@@ -312,10 +308,10 @@ module _ (fit : ℕ → Value → Bool) (write : ℕ → Writer) (rel : ℕ → 
   set_spelled levels [] (present v vs) le e short = absurd cc
   set_spelled levels (p ∷ ps) no_parts le e short = absurd cc
   set_spelled levels (p ∷ ps) (absent vs) le e short =
-      let t = and_true p.optional (parts_fit fit ps vs) e in
+      let t = and_parts p.optional (parts_fit fit ps vs) e in
       (t.0, set_spelled levels ps vs (omega arith) t.1 short)
   set_spelled levels (p ∷ ps) (present v vs) le e short =
-      let t = and_true (fit p.inner.0 v) (parts_fit fit ps vs) e in
+      let t = and_parts (fit p.inner.0 v) (parts_fit fit ps vs) e in
       ((each p.inner.0).is None strict levels v tt (omega arith) t.0 (first_short write Most p ps v vs short), set_spelled levels ps vs (omega arith) t.1 (rest_short write Most p ps v vs short))
 
   set_written : (openings : ℕ → List Opening) (levels : ℕ) → ((m : ℕ) (v : Value) (s : List ℕ) → rel m None strict levels v s → Told openings m s) → (ps : List Part) (v : Value) → agrees_later (clash openings) ps ≡ false
@@ -453,13 +449,13 @@ module _ (whole : (os : List ℕ) → is_whole os ≡ true → IsWhole 32 os) wh
           (list_written fit write rel nest each strict of.0 l.0 v l.2 e (contents_short true (tag_or t Universal 16) c Most short))
       row_is (row.Choice ps) apart t strict levels v ok le e short = choice_is ps t strict levels v ok le e short
       row_is (row.Tagged class number true of) apart t strict levels v ok le e short =
-          let f = and_true (has_32_bits number) (fit of.0 v) e in
+          let f = and_parts (has_32_bits number) (fit of.0 v) e in
           let l = lower (nest of.0) levels (omega (arith, some_level t (greatest nest (of.0 ∷ [])) levels le)) in
           let c : List ℕ = write of.0 None v in
           constructed_is strict (tag_or t class number) levels l.0 (λ k contents. rel of.0 None strict k v contents) c l.1 (tag_ok t class number ok (ltb-true number (2 ^ 32) f.0)) short
           ((each of.0).is None strict l.0 v tt l.2 f.1 (contents_short true (tag_or t class number) c Most short))
       row_is (row.Tagged class number false of) apart t strict levels v ok le e short =
-          let f = and_true (has_32_bits number) (fit of.0 v) e in
+          let f = and_parts (has_32_bits number) (fit of.0 v) e in
           (each of.0).is (Some (tag_or t class number)) strict levels v (tag_ok t class number ok (ltb-true number (2 ^ 32) f.0)) (omega (arith, some_level t (greatest nest (of.0 ∷ [])) levels le)) f.1 short
       row_is row.Any apart t strict levels v ok le e short = any_is t strict levels v ok le e short
 

@@ -2,7 +2,7 @@
 use Rattle.std.proofs.Common.{◌≡◌, ◌≢◌, ℕ, zero, suc, ◌+◌, ◌^◌, ◌<◌, ◌≤◌, Bool, true, false, cond, List, [], ◌∷◌, ◌++◌, length, Option, Some, None, refl, sym, ap, ◌∙◌, subst, arith, length-append, ◌⊎◌, inl, inr}
 use Rattle.std.specs.Prelude.{slice_get, slice_set, nat_lt, nat_eq}
 use Rattle.std.specs.List.{list_any}
-use Rattle.std.proofs.lemmas.Bool.{cases_lt, lt-ltb, le-ltb, eqb-true, eqb-false, ne_eqb}
+use Rattle.std.proofs.lemmas.Bool.{cases_lt, lt-ltb, le-ltb, eqb-true, eqb-false, ne_eqb, or_parts}
 use Rattle.std.proofs.lemmas.List.{append-nil}
 use Rattle.asn1_types.specs.declared.row.Class.{Class}
 use Rattle.asn1_types.specs.declared.row.Part.{Part}
@@ -16,7 +16,7 @@ use Rattle.ber_spelling.specs.Spelling.{Spelled, Steps, SetStep, SetIs}
 use Rattle.ber_spelling.specs.Writing.{Writer, parts_contents, of_rank, risen_parts, set_parts}
 use Rattle.ber_spelling.proofs.Steady.{eqb_itself}
 use Rattle.ber_spelling.proofs.SequencesBack.{list_of, parts_list}
-use Rattle.ber_spelling.proofs.Distinct.{begins_by, apart, or_false}
+use Rattle.ber_spelling.proofs.Distinct.{begins_by, apart}
 use Rattle.ber_spelling.proofs.Orders.{front_below, rank_is}
 
 -- a text begins with a tag that a row allows
@@ -68,10 +68,10 @@ module _ (openings : ℕ → List Opening) (write : ℕ → Writer) (rel : ℕ �
         let t = told q.inner.0 w b y in
         let one = rank_is s.class t.class s.number t.number s.small t.small (sym s.rank_is ∙ e ∙ t.rank_is) in
         let both : begins_by openings r.inner.0 s.class s.number ≡ true = subst (λ (z : Part × (Class × ℕ)). begins_by openings z.0.inner.0 z.1.0 z.1.1 ≡ true) (λ i. (sym same i, (sym one.0 i, sym one.1 i))) t.allowed in
-        let free : begins_by openings p.inner.0 s.class s.number ≡ false = apart openings s.class s.number p r (or_false (clash openings p r) _ d).0 both in
+        let free : begins_by openings p.inner.0 s.class s.number ≡ false = apart openings s.class s.number p r (or_parts (clash openings p r) _ d).0 both in
         let wrong : true ≡ false = sym s.allowed ∙ free in
         absurd cc
-    no_two p q (r ∷ ps) (suc i) v w a b d g x y e = no_two p q ps i v w a b (or_false (clash openings p r) _ d).1 g x y e
+    no_two p q (r ∷ ps) (suc i) v w a b d g x y e = no_two p q ps i v w a b (or_parts (clash openings p r) _ d).1 g x y e
 
     here_adds : (k : ℕ) (p : Part) (ps : List Part) (v : Value) (vs : MaybeValues) → front_rank (write p.inner.0 None v) ≡ k → rel p.inner.0 None strict levels v (write p.inner.0 None v) → Stays k ps vs → Adds k (p ∷ ps) (present v vs)
     here_adds k p ps v vs e x s =
@@ -112,14 +112,14 @@ module _ (openings : ℕ → List Opening) (write : ℕ → Writer) (rel : ℕ �
     one_more k [] (present v vs) h d = absurd h
     one_more k (p ∷ ps) no_parts h d = absurd h
     one_more k (p ∷ ps) (absent vs) h d =
-        elim (one_more k ps vs h.1 (or_false (list_any (clash openings p) ps) (agrees_later (clash openings) ps) d).1) [
+        elim (one_more k ps vs h.1 (or_parts (list_any (clash openings p) ps) (agrees_later (clash openings) ps) d).1) [
           | inl s ↦ inl (record { nothing = s.nothing; same = ap (λ (l : List (Option Value)). None ∷ l) s.same })
           | inr a ↦ inr (record { which = suc a.which; part = a.part; v = a.v; there = a.there; free = a.free; spelled = a.spelled; ranked = a.ranked; after = ap (λ (l : List (Option Value)). None ∷ l) a.after })
         ]
     one_more k (p ∷ ps) (present v vs) h d = by_rank (nat_eq (front_rank (write p.inner.0 None v)) k) refl (one_more k ps vs h.1 t.1)
       where
         t : (list_any (clash openings p) ps ≡ false) × (agrees_later (clash openings) ps ≡ false)
-        t = or_false (list_any (clash openings p) ps) (agrees_later (clash openings) ps) d
+        t = or_parts (list_any (clash openings p) ps) (agrees_later (clash openings) ps) d
 
         by_rank : (b : Bool) → nat_eq (front_rank (write p.inner.0 None v)) k ≡ b → Stays k ps vs ⊎ Adds k ps vs → Stays k (p ∷ ps) (present v vs) ⊎ Adds k (p ∷ ps) (present v vs)
         by_rank true e (inl s) = inr (here_adds k p ps v vs (eqb-true (front_rank (write p.inner.0 None v)) k e) h.0 s)

@@ -43,7 +43,7 @@ fn is_end(end: Option<usize>, place: usize) -> bool
 #[inline(always)]
 fn check_within(scope: &Scope, place: usize, until: u64) -> Result<(), ReadFault>
     ensures gives { Gives (λ x. x) result (within scope.now place until) }
-    ensures room { IfErr result (λ e. e ≢ ReadFault.NoMemory) }
+    ensures no_memory { IfErr result (λ e. e ≢ ReadFault.NoMemory) }
     ensures reach { IfOk result (λ _. until ≤ scope.now.limit) }
 {
     if (scope.limit as u64) < until {
@@ -83,7 +83,7 @@ fn is_constructed(first: u8) -> bool
 fn digits<'a>(scope: &Scope, place: usize, digits: &'a [u8]) -> Result<(u64, Spot<'a>), ReadFault>
     requires { place + length digits.now + 1 < 2 ^ 63 }
     ensures gives { Gives (λ x. (x.0, spot_of x.1)) result (digits_at scope.now place 0 (place + 1) digits.now) }
-    ensures room { IfErr result (λ e. e ≢ ReadFault.NoMemory) }
+    ensures no_memory { IfErr result (λ e. e ≢ ReadFault.NoMemory) }
     ensures stops { IfOk result (λ x. GoesOn (place + 1) (length digits.now) x.1) }
     ensures small { IfOk result (λ x. x.0 ≤ 2 ^ 32) }
 {
@@ -118,7 +118,7 @@ fn high<'a>(
     requires whole { start.place + length digits_of.now + 1 < 2 ^ 63 }
     requires first { start.rest.now ≡ first ∷ digits_of.now }
     ensures gives { Gives (λ x. (opened_of x.0, spot_of x.1)) result (high_at scope.now start.entry.place first digits_of.now) }
-    ensures room { IfErr result (λ e. e ≢ ReadFault.NoMemory) }
+    ensures no_memory { IfErr result (λ e. e ≢ ReadFault.NoMemory) }
     ensures stops { IfOk result (λ x. Opens start.entry.place (length start.entry.rest.now) x.0 x.1) }
 {
     let (number, after) = digits(scope, start.place, digits_of)?;
@@ -140,7 +140,7 @@ fn high<'a>(
 pub fn identifier<'a>(scope: &Scope, start: Spot<'a>) -> Result<(Opened<'a>, Spot<'a>), ReadFault>
     requires { start.place + length start.rest.now < 2 ^ 63 }
     ensures gives { Gives (λ x. (opened_of x.0, spot_of x.1)) result (identifier_at scope.now start.entry.place start.entry.rest.now) }
-    ensures room { IfErr result (λ e. e ≢ ReadFault.NoMemory) }
+    ensures no_memory { IfErr result (λ e. e ≢ ReadFault.NoMemory) }
     ensures stops { IfOk result (λ x. Opens start.entry.place (length start.entry.rest.now) x.0 x.1) }
 {
     match start.rest {
@@ -190,7 +190,7 @@ pub(crate) fn number_of(octets: &[u8]) -> u64
 fn check_reach(scope: &Scope, place: usize, from: usize, count: u64) -> Result<(), ReadFault>
     requires { from < 2 ^ 63 }
     ensures gives { Gives (λ x. x) result (within scope.now place (from + count)) }
-    ensures room { IfErr result (λ e. e ≢ ReadFault.NoMemory) }
+    ensures no_memory { IfErr result (λ e. e ≢ ReadFault.NoMemory) }
     ensures reach { IfOk result (λ _. from + count ≤ scope.now.limit) }
 {
     if count > u32::MAX as u64 {
@@ -211,7 +211,7 @@ fn announced<'a>(
 ) -> Result<(u64, Spot<'a>), ReadFault>
     requires { spot.place < 2 ^ 63 }
     ensures gives { Gives (λ x. (x.0, spot_of x.1)) result (announced_at scope.now place count minimal spot.entry.place spot.entry.rest.now) }
-    ensures room { IfErr result (λ e. e ≢ ReadFault.NoMemory) }
+    ensures no_memory { IfErr result (λ e. e ≢ ReadFault.NoMemory) }
     ensures stops { IfOk result (λ x. (x.1.place ≡ spot.entry.place) × (x.1.rest.now ≡ spot.entry.rest.now) × (spot.entry.place + x.0 ≤ scope.now.limit)) }
 {
     check_reach(scope, place, spot.place, count)?;
@@ -232,7 +232,7 @@ fn long<'a>(
 ) -> Result<(u64, Spot<'a>), ReadFault>
     requires { place + 1 + length rest.now < 2 ^ 63 }
     ensures gives { Gives (λ x. (x.0, spot_of x.1)) result (long_at scope.now place size rest.now) }
-    ensures room { IfErr result (λ e. e ≢ ReadFault.NoMemory) }
+    ensures no_memory { IfErr result (λ e. e ≢ ReadFault.NoMemory) }
     ensures stops { IfOk result (λ x. GoesOn (place + 1) (length rest.now) x.1) }
     ensures reach { IfOk result (λ x. x.1.place + x.0 ≤ scope.now.limit) }
 {
@@ -264,7 +264,7 @@ fn long<'a>(
 fn lacking(scope: &Scope, place: usize) -> ReadFault
     requires { place < 2 ^ 63 }
     ensures is { lacking {A = Unit {0}} scope.now place ≡ Err result }
-    ensures room { result ≢ ReadFault.NoMemory }
+    ensures no_memory { result ≢ ReadFault.NoMemory }
 {
     if is_end(scope.end, place) {
         if (scope.limit as u64) < place as u64 + 1 {
@@ -281,7 +281,7 @@ fn lacking(scope: &Scope, place: usize) -> ReadFault
 fn definite<'a>(scope: &Scope, spot: Spot<'a>) -> Result<(u64, Spot<'a>), ReadFault>
     requires { spot.place + length spot.rest.now < 2 ^ 63 }
     ensures gives { Gives (λ x. (x.0, spot_of x.1)) result (definite_at scope.now spot.entry.place spot.entry.rest.now) }
-    ensures room { IfErr result (λ e. e ≢ ReadFault.NoMemory) }
+    ensures no_memory { IfErr result (λ e. e ≢ ReadFault.NoMemory) }
     ensures stops { IfOk result (λ x. GoesOn spot.entry.place (length spot.entry.rest.now) x.1) }
     ensures reach { IfOk result (λ x. x.1.place + x.0 ≤ scope.now.limit) }
 {
@@ -311,7 +311,7 @@ pub(crate) fn contents<'a>(
 ) -> Result<(usize, &'a [u8], Spot<'a>), ReadFault>
     requires { spot.place + length spot.rest.now < 2 ^ 63 }
     ensures gives { Gives (λ x. (x.0, x.1.now, spot_of x.2)) result (contents_at scope.now spot.entry.place spot.entry.rest.now) }
-    ensures room { IfErr result (λ e. e ≢ ReadFault.NoMemory) }
+    ensures no_memory { IfErr result (λ e. e ≢ ReadFault.NoMemory) }
     ensures stops { IfOk result (λ x. GoesOn spot.entry.place (length spot.entry.rest.now) x.2) }
 {
     let (count, spot) = definite(scope, spot)?;
@@ -336,7 +336,7 @@ pub(crate) fn contents<'a>(
 pub fn extent<'a>(scope: &Scope, spot: Spot<'a>) -> Result<(Scope, Spot<'a>), ReadFault>
     requires { spot.place + length spot.rest.now < 2 ^ 63 }
     ensures gives { Gives (λ x. (x.0, spot_of x.1)) result (extent_at scope.now spot.entry.place spot.entry.rest.now) }
-    ensures room { IfErr result (λ e. e ≢ ReadFault.NoMemory) }
+    ensures no_memory { IfErr result (λ e. e ≢ ReadFault.NoMemory) }
     ensures stops { IfOk result (λ x. GoesOn spot.entry.place (length spot.entry.rest.now) x.1) }
 {
     match spot.rest {
@@ -382,7 +382,7 @@ fn inside(scope: &Scope, end: Option<usize>, marked: bool) -> Scope
 fn begin<'a>(scope: &Scope, spot: Spot<'a>) -> Result<Ahead<'a>, ReadFault>
     requires { spot.place + length spot.rest.now < 2 ^ 63 }
     ensures gives { Gives (λ x. ahead_of x) result (begin_at scope.now spot.entry.place spot.entry.rest.now) }
-    ensures room { IfErr result (λ e. e ≢ ReadFault.NoMemory) }
+    ensures no_memory { IfErr result (λ e. e ≢ ReadFault.NoMemory) }
     ensures stops { IfOk result (LiesIn spot.entry.place (length spot.entry.rest.now)) }
 {
     let (opened, after) = identifier(scope, spot)?;
@@ -394,7 +394,7 @@ fn begin<'a>(scope: &Scope, spot: Spot<'a>) -> Result<Ahead<'a>, ReadFault>
 fn mark<'a>(scope: &Scope, spot: Spot<'a>) -> Result<Ahead<'a>, ReadFault>
     requires { spot.place + length spot.rest.now < 2 ^ 63 }
     ensures gives { Gives (λ x. ahead_of x) result (mark_at scope.now spot.entry.place spot.entry.rest.now) }
-    ensures room { IfErr result (λ e. e ≢ ReadFault.NoMemory) }
+    ensures no_memory { IfErr result (λ e. e ≢ ReadFault.NoMemory) }
     ensures stops { IfOk result (LiesIn spot.entry.place (length spot.entry.rest.now)) }
 {
     match spot.rest {
@@ -429,7 +429,7 @@ fn mark<'a>(scope: &Scope, spot: Spot<'a>) -> Result<Ahead<'a>, ReadFault>
 pub fn look<'a>(scope: &Scope, spot: Spot<'a>) -> Result<Ahead<'a>, ReadFault>
     requires { spot.place + length spot.rest.now < 2 ^ 63 }
     ensures gives { Gives (λ x. ahead_of x) result (look_at scope.now spot.entry.place spot.entry.rest.now) }
-    ensures room { IfErr result (λ e. e ≢ ReadFault.NoMemory) }
+    ensures no_memory { IfErr result (λ e. e ≢ ReadFault.NoMemory) }
     ensures stops { IfOk result (LiesIn spot.entry.place (length spot.entry.rest.now)) }
 {
     if scope.marked {

@@ -25,7 +25,7 @@ pub fn tag_or(tag: Option<Tag>, class: Class, number: u32) -> Tag
 #[inline(always)]
 pub fn expect(tag: Tag, constructed: bool, opened: &Opened) -> Result<(), ReadFault>
     ensures gives { Gives (λ x. x) result (expect_at tag constructed (opened_of opened.now)) }
-    ensures room { IfErr result (λ e. e ≢ ReadFault.NoMemory) }
+    ensures no_memory { IfErr result (λ e. e ≢ ReadFault.NoMemory) }
 {
     if same_class(opened.class, tag.class)
         && opened.number == tag.number as u64

@@ -25,7 +25,7 @@ fn is_marked(octets: &[u8]) -> bool
 fn sized<'a>(scope: &Scope, spot: Spot<'a>) -> Result<Spot<'a>, ReadFault>
     requires { spot.place + length spot.rest.now < 2 ^ 63 }
     ensures gives { Gives behind_of result (sized_at scope.now (spot_of spot.entry)) }
-    ensures room { IfErr result (λ e. e ≢ ReadFault.NoMemory) }
+    ensures no_memory { IfErr result (λ e. e ≢ ReadFault.NoMemory) }
     ensures stops { IfOk result (λ to. GoesOn spot.entry.place (length spot.entry.rest.now) to) }
 {
     let (_, _, after) = contents(scope, spot)?;
@@ -37,7 +37,7 @@ fn sized<'a>(scope: &Scope, spot: Spot<'a>) -> Result<Spot<'a>, ReadFault>
 fn whole_values<'a>(levels: u32, scope: &Scope, spot: Spot<'a>) -> Result<Spot<'a>, ReadFault>
     requires { spot.place + length spot.rest.now < 2 ^ 63 }
     ensures gives { Gives behind_of result (all_items_at (whole_at levels) (λ u. Some u) tt scope.now (spot_of spot.entry)) }
-    ensures room { IfErr result (λ e. e ≢ ReadFault.NoMemory) }
+    ensures no_memory { IfErr result (λ e. e ≢ ReadFault.NoMemory) }
     ensures stops { IfOk result (λ to. GoesOn spot.entry.place (length spot.entry.rest.now) to) }
 {
     let mut spot = spot;
@@ -55,7 +55,7 @@ fn whole_values<'a>(levels: u32, scope: &Scope, spot: Spot<'a>) -> Result<Spot<'
 fn marked<'a>(levels: u32, scope: &Scope, spot: Spot<'a>) -> Result<Spot<'a>, ReadFault>
     requires { spot.place + length spot.rest.now < 2 ^ 63 }
     ensures gives { Gives behind_of result (marked_at (all_items_at (whole_at levels) (λ u. Some u) tt) scope.now (spot_of spot.entry)) }
-    ensures room { IfErr result (λ e. e ≢ ReadFault.NoMemory) }
+    ensures no_memory { IfErr result (λ e. e ≢ ReadFault.NoMemory) }
     ensures stops { IfOk result (λ to. GoesOn spot.entry.place (length spot.entry.rest.now) to) }
 {
     let (inside, spot) = extent(scope, spot)?;
@@ -73,7 +73,7 @@ pub fn whole_value<'a>(
 ) -> Result<Spot<'a>, ReadFault>
     requires { spot.place + length spot.rest.now < 2 ^ 63 }
     ensures gives { Gives behind_of result (whole_at levels tt scope.now (opened_of opened.now) (spot_of spot.entry)) }
-    ensures room { IfErr result (λ e. e ≢ ReadFault.NoMemory) }
+    ensures no_memory { IfErr result (λ e. e ≢ ReadFault.NoMemory) }
     ensures stops { IfOk result (λ to. GoesOn spot.entry.place (length spot.entry.rest.now) to) }
 {
     if levels == 0 || is_no_tag(opened.class, opened.number) {

@@ -1,8 +1,8 @@
 -- A message in flight may be taken.
-use Rattle.std.proofs.Common.{◌≡◌, ℕ, suc, ◌+◌, ◌<◌, ◌≤◌, ℤ, pos, Bool, true, false, cond, not, ◌&&◌, ◌||◌, List, [], ◌∷◌, ◌++◌, length, Option, Some, None, refl, sym, ap, subst, ◌∙◌, arith, append_assoc, nat_lt}
+use Rattle.std.proofs.Common.{◌≡◌, ℕ, ◌<◌, ◌≤◌, ℤ, Bool, true, false, not, List, [], ◌∷◌, ◌++◌, length, Option, Some, None, refl, sym, ap, subst, ◌∙◌, arith}
 use Rattle.std.specs.Prelude.{is_some}
 use Rattle.std.specs.Option.{option_map}
-use Rattle.std.proofs.lemmas.List.{append-nil, length-append}
+use Rattle.std.proofs.lemmas.List.{length-append}
 use Rattle.std.proofs.lemmas.Bool.{lt-ltb}
 use Rattle.asn1_types.specs.declared.value.Val.{Val}
 use Rattle.stub_tables.specs.declared.tables.Tables.{Tables}
@@ -15,12 +15,12 @@ use Rattle.stub_tables.specs.Codes.{is_silent}
 use Rattle.stub_tables.specs.Lookup.{operation_at, operation_with, error_with}
 use Rattle.stub_tables.specs.Apdus.{IsWritable, placed, carries, operation_coded}
 use Rattle.dialogue.specs.declared.opened.Opened.{Opened}
-use Rattle.dialogue.specs.Message.{Message, Content, apdu}
-use Rattle.dialogue.specs.State.{opened_with, opens_of}
+use Rattle.dialogue.specs.Message.{apdu}
+use Rattle.dialogue.specs.State.{opened_with}
 use Rattle.dialogue.specs.Calls.{operation_of}
 use Rattle.dialogue.specs.Taking.{may_take, may_open, may_result, may_error, may_return}
 use Rattle.dialogue.proofs.Keys.{Keys, keys_of, find, find-front, find-keys_of, length-opens_of, Distinct, Distinct-middle}
-use Rattle.dialogue.proofs.Flights.{Flight, key_by, key_placed, keys_in_content, keys_in, closing_all, CloseMay, closing_all-shorter, closing_all-none}
+use Rattle.dialogue.proofs.Flights.{Flight, key_by, key_placed, keys_in_content, closing_all, CloseMay, closing_all-shorter, closing_all-none}
 use Rattle.dialogue.proofs.Pipes.{IsGiven, closing_all-distinct}
 
 module _ (t : Tables) where

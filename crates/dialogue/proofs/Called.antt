@@ -1,9 +1,8 @@
 -- What an accepted call tells of the state.
-use Rattle.std.proofs.Common.{◌≡◌, ℕ, suc, ◌+◌, ◌<◌, ◌≤◌, ℤ, pos, Bool, true, false, cond, not, ◌&&◌, List, [], ◌∷◌, ◌++◌, length, Option, Some, None, Result, Ok, Err, refl, sym, ap, subst, ◌∙◌, arith, nat_lt, nat_le}
+use Rattle.std.proofs.Common.{◌≡◌, ℕ, ◌+◌, ℤ, pos, Bool, true, false, cond, not, ◌&&◌, length, Option, Some, None, Ok, Err, refl, sym, ap, subst, ◌∙◌, arith, nat_le}
 use Rattle.std.specs.Prelude.{is_some, nat_eq}
 use Rattle.std.proofs.lemmas.Bool.{eqb-true, leb-false}
 use Rattle.asn1_types.specs.declared.value.Val.{Val}
-use Rattle.osi_base.specs.declared.words.SetItem.{SetItem}
 use Rattle.stub_tables.specs.declared.tables.Tables.{Tables}
 use Rattle.stub_tables.specs.declared.operation.Operation.{Operation}
 use Rattle.stub_tables.specs.declared.operation.ErrorRow.{ErrorRow}
@@ -16,7 +15,7 @@ use Rattle.dialogue.specs.declared.call.CallRefusal.TheVariants as refusals
 use Rattle.dialogue.specs.declared.config.Config.{Config}
 use Rattle.dialogue.specs.declared.opened.Opened.{Opened}
 use Rattle.dialogue.specs.Message.{pair_of, bare_set}
-use Rattle.dialogue.specs.State.{State, opened_with, opens_of}
+use Rattle.dialogue.specs.State.{State, opens_of}
 use Rattle.stub_tables.specs.Apdus.{invoke_apdu, result_apdu, error_apdu}
 use Rattle.dialogue.specs.Calls.{Reply, is_dead, is_initiators, is_phase_for, is_too_long, may_send_on, next_id, link_refusal, operation_of, can_invoke_unlinked, can_invoke, can_answer, can_refuse, can_bare, can_call}
 

@@ -1,6 +1,6 @@
 -- A call at an end that is up keeps what the connection keeps.
-use Rattle.std.proofs.Common.{◌≡◌, ℕ, suc, ◌+◌, ◌<◌, ◌≤◌, ℤ, pos, Bool, true, false, cond, not, ◌&&◌, List, [], ◌∷◌, ◌++◌, length, map, Option, Some, None, Result, Ok, Err, refl, sym, ap, subst, ◌∙◌, arith, rules, append_assoc, nat_lt, nat_le}
-use Rattle.std.specs.Prelude.{is_some, nat_eq}
+use Rattle.std.proofs.Common.{◌≡◌, ℕ, ◌+◌, ◌<◌, ◌≤◌, ℤ, pos, Bool, true, false, not, ◌&&◌, List, [], ◌∷◌, ◌++◌, length, map, Option, Some, None, Ok, Err, refl, sym, ap, subst, ◌∙◌, arith, rules, append_assoc, nat_le}
+use Rattle.std.specs.Prelude.{is_some}
 use Rattle.std.specs.List.{AllByRecursion}
 use Rattle.std.specs.Option.{option_map}
 use Rattle.std.specs.Ordering.{int_eq}
@@ -8,7 +8,6 @@ use Rattle.std.proofs.lemmas.Int.{ints}
 use Rattle.std.proofs.lemmas.Bool.{leb-false, eq-eqb}
 use Rattle.std.proofs.lemmas.List.{append-nil, length-append}
 use Rattle.asn1_types.specs.declared.value.Val.{Val}
-use Rattle.osi_base.specs.declared.syntax.Pair.{Pair}
 use Rattle.osi_base.specs.declared.words.SetItem.{SetItem}
 use Rattle.stub_tables.specs.declared.tables.Tables.{Tables}
 use Rattle.stub_tables.specs.declared.operation.Code.{Code}
@@ -16,23 +15,21 @@ use Rattle.stub_tables.specs.declared.operation.Operation.{Operation}
 use Rattle.stub_tables.specs.declared.operation.ErrorRow.{ErrorRow}
 use Rattle.stub_tables.specs.declared.apdu.Apdu.{Apdu}
 use Rattle.stub_tables.specs.declared.apdu.Apdu.TheVariants as apdus
-use Rattle.stub_tables.specs.declared.apdu.Returned.{Returned}
 use Rattle.stub_tables.specs.Codes.{is_silent}
 use Rattle.stub_tables.specs.Lookup.{operation_at, operation_with, error_at, error_with}
 use Rattle.stub_tables.specs.Uses.{is_carried}
-use Rattle.stub_tables.specs.Apdus.{IsIdentifier, IsWritable, HasIdentifier, has_values, placed, carries, operation_coded, error_coded, carries_result, invoke_apdu, result_apdu, error_apdu, returned_with}
+use Rattle.stub_tables.specs.Apdus.{IsIdentifier, IsWritable, placed, carries, operation_coded, error_coded, carries_result, invoke_apdu, result_apdu, error_apdu, returned_with}
 use Rattle.dialogue.specs.declared.call.Call.{Call}
 use Rattle.dialogue.specs.declared.call.Call.TheVariants as the_calls
 use Rattle.dialogue.specs.declared.config.Config.{Config}
 use Rattle.dialogue.specs.declared.opened.Opened.{Opened}
-use Rattle.dialogue.specs.Message.{Message, Content, apdu, pair_of, bare_set}
+use Rattle.dialogue.specs.Message.{Message, apdu, pair_of, bare_set}
 use Rattle.dialogue.specs.State.{State, opened_with, without, opens_of}
-use Rattle.dialogue.specs.Calls.{Reply, can_call, after_call, due_of, due_invoke, message_on, opened_by, due_result, due_result_on, due_error}
+use Rattle.dialogue.specs.Calls.{Reply, can_call, due_of, due_invoke, message_on, opened_by, due_result, due_result_on, due_error}
 use Rattle.dialogue.specs.Taking.{written, may_return, may_error, value_of}
-use Rattle.dialogue.specs.History.{Step, called, sent, after, call_steps}
+use Rattle.dialogue.specs.History.{called, sent, call_steps}
 use Rattle.dialogue.specs.Laws.{Passed, Invocation, Outcome, id_of, result, error, AreNumbered, invocation_in, invocation_placed, outcome_in, error_placed}
 use Rattle.dialogue.proofs.Reading.{ReadingLaws}
-use Rattle.dialogue.proofs.Lists.{push_all}
 use Rattle.dialogue.proofs.Keys.{Keys, keys_of, keys_of-append, keys_of-without, keys_of-without_other, find, drop_key, find-keys_of, length-opens_of, find-append, find-none, IsNumber, IsNumber-more, fresh_id, other_id, Below-found, Below-fresh}
 use Rattle.dialogue.proofs.Flights.{Flight, AreZero, AreZero-append, AreZero-without, AreZero-opened, keys_by, no_keys_by, key_by, key_placed, keys_in_content, keys_in, closing, closing_all, CloseMay, AreZero-found}
 use Rattle.dialogue.proofs.Pipes.{Pipe, Sendable, IsGiven, invokes, invokes_silently, answers_x, invokes_y, answers_y, closing_all-below}

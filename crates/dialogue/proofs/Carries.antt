@@ -4,10 +4,7 @@ use Rattle.std.specs.Prelude.{MatchBool}
 use Rattle.std.specs.List.{flat_map}
 use Rattle.std.proofs.lemmas.List.{append-nil}
 use Rattle.osi_base.specs.declared.words.Side.{Side}
-use Rattle.osi_base.specs.declared.words.Side.TheVariants.{A, B}
 use Rattle.stub_tables.specs.declared.tables.Tables.{Tables}
-use Rattle.stub_tables.specs.Readable.{IsReadable}
-use Rattle.dialogue.specs.declared.config.Phase.{Phase}
 use Rattle.dialogue.specs.declared.setup.Setup.{Setup}
 use Rattle.dialogue.specs.declared.event.Event.{Event}
 use Rattle.dialogue.specs.declared.event.Event.TheVariants as events
@@ -18,17 +15,17 @@ use Rattle.dialogue.specs.declared.indication.Indication.{Indication}
 use Rattle.dialogue.specs.Message.{Message}
 use Rattle.dialogue.specs.State.{State, passes_over}
 use Rattle.dialogue.specs.Taking.{shown_of}
-use Rattle.dialogue.specs.History.{Step, fed, took, gave, after, after_all}
+use Rattle.dialogue.specs.History.{Step, fed, took, gave, after}
 use Rattle.dialogue.specs.Feeding.{Feeds, Reads, passes, waits, takes, refuses, fails, read_message}
 use Rattle.dialogue.specs.World.{World, other, stepping, state_at, first_octets, Runs, ends, calls, carries, breaks}
-use Rattle.dialogue.specs.Laws.{Passed, sendings, takings, octets_given, whole_within, KeepsLaws, ShowsItsMessages, EachCarryShows}
+use Rattle.dialogue.specs.Laws.{Passed, sendings, takings, octets_given, whole_within, ShowsItsMessages, EachCarryShows}
 use Rattle.dialogue.proofs.Reading.{ReadingLaws}
 use Rattle.dialogue.proofs.Readings.{reading_laws}
 use Rattle.dialogue.proofs.OneReading.{over_feeds}
-use Rattle.dialogue.proofs.Tallies.{Tally, tally, adds, adds_all, tally-stepping, tally-stepping_other, state-adds_all}
+use Rattle.dialogue.proofs.Tallies.{Tally, tally, adds, adds_all, tally-stepping, tally-stepping_other}
 use Rattle.dialogue.proofs.Taken.{AreSteps}
 use Rattle.dialogue.proofs.Counting.{counted_run, counted_start}
-use Rattle.dialogue.proofs.Worlds.{IsGood, good_carry, good_run, good_start, carry_steps, laws_of}
+use Rattle.dialogue.proofs.Worlds.{good_run, good_start, carry_steps, laws_of}
 
 module _ (t : Tables) (laws : ReadingLaws t) where
   abbrev shows : List Passed → List Indication

@@ -1,9 +1,9 @@
 -- What an end gave out and what waits there is what it sent; so what the other took is what has come whole.
-use Rattle.std.proofs.Common.{◌≡◌, ℕ, zero, suc, ◌+◌, ◌-◌, ◌≤◌, ◌<◌, Bool, true, false, cond, List, [], ◌∷◌, ◌++◌, length, map, take, drop, Option, Some, None, Ok, Err, refl, sym, ap, subst, ◌∙◌, arith, append_assoc, length-append, length-take}
-use Rattle.std.specs.Prelude.{nat_lt, nat_le}
+use Rattle.std.proofs.Common.{◌≡◌, ℕ, ◌+◌, ◌-◌, ◌≤◌, ◌<◌, Bool, true, false, List, [], ◌∷◌, ◌++◌, length, map, take, drop, Option, Some, None, Ok, Err, refl, sym, ap, subst, ◌∙◌, arith, length-append, length-take}
+use Rattle.std.specs.Prelude.{nat_lt}
 use Rattle.std.specs.List.{AllByRecursion}
 use Rattle.std.proofs.lemmas.Bool.{ltb-true, ltb-false, lt-leb, le-leb}
-use Rattle.std.proofs.lemmas.List.{append-nil, length-drop, take-append-drop, take_at, take-append-le}
+use Rattle.std.proofs.lemmas.List.{length-drop, take-append-drop, take_at, take-append-le}
 use Rattle.osi_base.specs.declared.words.Side.{Side}
 use Rattle.osi_base.specs.declared.words.Side.TheVariants.{A, B}
 use Rattle.stub_tables.specs.declared.tables.Tables.{Tables}
@@ -19,18 +19,18 @@ use Rattle.dialogue.specs.declared.event.Event.{Event}
 use Rattle.dialogue.specs.declared.event.Entry.{Entry}
 use Rattle.dialogue.specs.declared.indication.Indication.{Indication}
 use Rattle.dialogue.specs.Message.{Message, pair_of}
-use Rattle.dialogue.specs.State.{State, passes_over}
+use Rattle.dialogue.specs.State.{State}
 use Rattle.dialogue.specs.Calls.{Reply, can_call, after_call, due_of}
 use Rattle.dialogue.specs.Taking.{written}
 use Rattle.dialogue.specs.History.{Step, called, sent, fed, took, fault, feed_end, gave, broke, broken_phase, after, call_steps}
 use Rattle.dialogue.specs.Feeding.{Feeds, Reads, passes, waits, takes, refuses, fails, read_message}
-use Rattle.dialogue.specs.World.{Moment, World, other, stepping, state_at, config_at, first_octets, Runs, ends, calls, carries, breaks}
-use Rattle.dialogue.specs.Laws.{Passed, shared_at, adds_sending, sendings, takings, adds_octets, octets_given, whole_within, TakenWhenWhole}
+use Rattle.dialogue.specs.World.{World, other, stepping, state_at, config_at, first_octets, Runs, ends, calls, carries, breaks}
+use Rattle.dialogue.specs.Laws.{Passed, shared_at, adds_sending, sendings, adds_octets, octets_given, whole_within}
 use Rattle.dialogue.proofs.Reading.{ReadingLaws}
 use Rattle.dialogue.proofs.Flights.{Flight}
 use Rattle.dialogue.proofs.Pipes.{Sendable, octets_of}
-use Rattle.dialogue.proofs.Tallies.{Tally, at, tally}
-use Rattle.dialogue.proofs.Live.{passed, passed_all, Half, Live}
+use Rattle.dialogue.proofs.Tallies.{Tally, at}
+use Rattle.dialogue.proofs.Live.{passed_all, Live}
 use Rattle.dialogue.proofs.Taken.{sendable_whole}
 
 -- ---- what was given out is counted

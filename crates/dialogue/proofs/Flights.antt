@@ -1,25 +1,18 @@
 -- Messages in flight: what their taking opens and closes, and why it may come.
-use Rattle.std.proofs.Common.{◌≡◌, ℕ, suc, ◌+◌, ◌<◌, ◌≤◌, ℤ, pos, Bool, true, false, cond, not, ◌&&◌, ◌||◌, List, [], ◌∷◌, ◌++◌, length, Option, Some, None, refl, sym, ap, subst, ◌∙◌, arith, append_assoc, nat_lt}
-use Rattle.std.specs.Prelude.{is_some, nat_eq}
+use Rattle.std.proofs.Common.{◌≡◌, ℕ, ◌≤◌, ℤ, Bool, true, false, cond, not, List, [], ◌∷◌, ◌++◌, length, Option, Some, None, refl, sym, ap, subst, ◌∙◌, arith, append_assoc}
 use Rattle.std.specs.List.{AllByRecursion}
-use Rattle.std.proofs.lemmas.List.{append-nil, length-append}
-use Rattle.asn1_types.specs.declared.value.Val.{Val}
-use Rattle.osi_base.specs.declared.syntax.Pair.{Pair}
+use Rattle.std.proofs.lemmas.List.{append-nil}
 use Rattle.stub_tables.specs.declared.tables.Tables.{Tables}
 use Rattle.stub_tables.specs.declared.operation.Operation.{Operation}
-use Rattle.stub_tables.specs.declared.operation.Code.{Code}
-use Rattle.stub_tables.specs.declared.apdu.Apdu.{Apdu}
 use Rattle.stub_tables.specs.declared.apdu.Apdu.TheVariants as apdus
-use Rattle.stub_tables.specs.declared.apdu.Returned.{Returned}
 use Rattle.stub_tables.specs.Codes.{is_silent}
 use Rattle.stub_tables.specs.Lookup.{operation_at, operation_with, error_with}
-use Rattle.stub_tables.specs.Apdus.{IsWritable}
 use Rattle.dialogue.specs.declared.opened.Opened.{Opened}
-use Rattle.dialogue.specs.Message.{Message, Content, apdu, unread, pair_of, bare_set}
-use Rattle.dialogue.specs.State.{is_key, opened_with, without, opens_of}
+use Rattle.dialogue.specs.Message.{Message, Content, apdu, unread}
+use Rattle.dialogue.specs.State.{is_key, opened_with, without}
 use Rattle.dialogue.specs.Calls.{opened_by}
-use Rattle.dialogue.specs.Taking.{may_take, may_return, may_error, may_open, opens_after, opens_after_invoke}
-use Rattle.dialogue.proofs.Keys.{Keys, keys_of, find, drop_key, keys_of-append, keys_of-without, keys_of-without_other, find-keys_of, length-opens_of, find-append, drop_key-append, drop_key-shorter, find-drop_none}
+use Rattle.dialogue.specs.Taking.{may_return, may_error, opens_after, opens_after_invoke}
+use Rattle.dialogue.proofs.Keys.{Keys, keys_of, find, drop_key, keys_of-append, keys_of-without, keys_of-without_other, find-append, drop_key-append, drop_key-shorter, find-drop_none}
 
 abbrev pub Flight : Type 0
 Flight = List Message

@@ -1,18 +1,17 @@
 -- Two ends that are up: what the connection keeps.
-use Rattle.std.proofs.Common.{◌≡◌, ◌≢◌, ℕ, suc, ◌+◌, ◌<◌, ◌≤◌, ℤ, pos, Bool, true, false, cond, List, [], ◌∷◌, ◌++◌, length, take, drop, Option, Some, None, refl, sym, ap, subst, ◌∙◌, arith, append_assoc}
+use Rattle.std.proofs.Common.{◌≡◌, ◌≢◌, ℕ, ℤ, Bool, true, false, cond, List, [], ◌∷◌, ◌++◌, length, take, drop, Option, Some, None, refl, sym, ap, subst, ◌∙◌, append_assoc}
 use Rattle.std.specs.List.{AllByRecursion}
-use Rattle.std.proofs.lemmas.List.{append-nil, length-append, take-append-drop, drop_at}
+use Rattle.std.proofs.lemmas.List.{append-nil, take-append-drop, drop_at}
 use Rattle.osi_base.specs.declared.syntax.Pair.{Pair}
 use Rattle.stub_tables.specs.declared.tables.Tables.{Tables}
-use Rattle.dialogue.specs.declared.config.Phase.TheVariants.{Up, Over}
-use Rattle.dialogue.specs.declared.opened.Opened.{Opened}
+use Rattle.dialogue.specs.declared.config.Phase.TheVariants.{Up}
 use Rattle.asn1_types.specs.declared.value.Val.{Val}
 use Rattle.stub_tables.specs.declared.apdu.Apdu.TheVariants as apdus
 use Rattle.stub_tables.specs.Lookup.{error_with}
 use Rattle.dialogue.specs.Message.{Message, Content, apdu, unread, pair_of, bare_set}
-use Rattle.dialogue.specs.State.{State, passes_over, bare_start}
+use Rattle.dialogue.specs.State.{passes_over, bare_start}
 use Rattle.dialogue.specs.Taking.{written, opens_after, value_of}
-use Rattle.dialogue.specs.History.{Step, called, sent, fed, took, feed_end, gave, broke, after}
+use Rattle.dialogue.specs.History.{fed, took, gave}
 use Rattle.dialogue.specs.World.{first_octets}
 use Rattle.dialogue.specs.Laws.{Passed, Invocation, Outcome, id_of, result, error, AreNumbered, Differ, invocation_in, outcome_in, error_placed}
 use Rattle.dialogue.proofs.Lists.{push_all}

@@ -11,7 +11,6 @@ use Rattle.ber_spelling.proofs.WholeValues.{fault_stays}
 use Rattle.stub_tables.specs.declared.tables.Tables.{Tables}
 use Rattle.stub_tables.specs.Heads.{head_rows, any_row}
 use Rattle.stub_tables.specs.Apdus.{IsWhole, IsShort, IsFaulty, place_of}
-use Rattle.stub_tables.specs.Readable.{IsReadable}
 use Rattle.dialogue.specs.declared.indication.Indication.{Indication}
 use Rattle.dialogue.specs.Message.{Content, apdu, unread}
 use Rattle.dialogue.specs.State.{State, passes_over}

@@ -1,21 +1,18 @@
 -- One direction of a connection: what is in flight from x to y, and what both ends hold of the
 -- invocations of x.
-use Rattle.std.proofs.Common.{◌≡◌, ℕ, suc, ◌+◌, ◌<◌, ◌≤◌, ℤ, pos, Bool, true, false, cond, not, ◌&&◌, ◌||◌, List, [], ◌∷◌, ◌++◌, length, drop, Option, Some, None, refl, sym, ap, subst, ◌∙◌, arith, append_assoc, nat_lt}
-use Rattle.std.specs.Prelude.{is_some, nat_eq}
+use Rattle.std.proofs.Common.{◌≡◌, ℕ, ◌+◌, ◌<◌, ◌≤◌, ℤ, pos, false, List, [], ◌∷◌, ◌++◌, length, Some, None, refl, sym, ap, subst, ◌∙◌, arith, append_assoc}
 use Rattle.std.specs.List.{AllByRecursion}
 use Rattle.std.specs.Ordering.{int_eq}
 use Rattle.std.proofs.lemmas.List.{append-nil, length-append, append_cancel_left}
-use Rattle.osi_base.specs.declared.syntax.Pair.{Pair}
 use Rattle.stub_tables.specs.declared.tables.Tables.{Tables}
 use Rattle.stub_tables.specs.declared.apdu.Apdu.{Apdu}
 use Rattle.stub_tables.specs.declared.apdu.Apdu.TheVariants as apdus
-use Rattle.stub_tables.specs.Codes.{is_silent}
-use Rattle.stub_tables.specs.Lookup.{operation_at, operation_with, error_with}
+use Rattle.stub_tables.specs.Lookup.{operation_with}
 use Rattle.stub_tables.specs.Apdus.{IsWritable}
 use Rattle.dialogue.specs.Message.{Message, Content, apdu, unread, pair_of, bare_set}
 use Rattle.dialogue.specs.Taking.{written}
 use Rattle.dialogue.proofs.Lists.{push_all}
-use Rattle.dialogue.proofs.Keys.{Keys, find, drop_key, find-append, drop_key-append, find-none, find-drop_none, Distinct, Distinct-drop, Distinct-push, Below, Below-more, Below-push, Below-drop, Below-fresh, IsNumber, IsNumber-more, fresh_id, other_id}
+use Rattle.dialogue.proofs.Keys.{Keys, find, drop_key, find-append, drop_key-append, find-none, Distinct, Distinct-drop, Distinct-push, Below, Below-more, Below-push, Below-drop, Below-fresh, IsNumber, IsNumber-more, fresh_id, other_id}
 use Rattle.dialogue.proofs.Flights.{Flight, key_placed, keys_in_content, keys_in, keys_in-push, closing, closing_all, CloseMay, CloseAll, closing_all-push, CloseAll-push, CloseAll-more, closing_all-more, closing-shorter, closing-none}
 
 module _ (t : Tables) where

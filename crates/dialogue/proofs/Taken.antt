@@ -1,27 +1,25 @@
 -- Reading what came from an end that is up takes the messages in flight, and no others.
-use Rattle.std.proofs.Common.{◌≡◌, ℕ, zero, suc, ◌+◌, ◌≤◌, ◌<◌, Bool, true, false, List, [], ◌∷◌, ◌++◌, length, take, drop, Option, Some, None, refl, sym, ap, subst, ◌∙◌, arith, append_assoc}
-use Rattle.std.specs.List.{AllByRecursion}
-use Rattle.std.proofs.lemmas.List.{append-nil, length-append, length-take, take-append-drop}
+use Rattle.std.proofs.Common.{◌≡◌, ℕ, zero, suc, true, false, List, [], ◌∷◌, ◌++◌, length, take, drop, Option, refl, sym, ap, subst, ◌∙◌, arith, append_assoc}
+use Rattle.std.proofs.lemmas.List.{length-take, take-append-drop}
 use Rattle.osi_base.specs.declared.syntax.Pair.{Pair}
 use Rattle.osi_base.specs.declared.syntax.Syntax.TheVariants.{Ber}
 use Rattle.osi_base.specs.declared.words.SetItem.{SetItem}
 use Rattle.stub_tables.specs.declared.tables.Tables.{Tables}
-use Rattle.stub_tables.specs.declared.apdu.Apdu.{Apdu}
 use Rattle.stub_tables.specs.Apdus.{Spells, written_apdu, IsWhole, IsShort, IsFaulty}
 use Rattle.dialogue.specs.declared.config.Phase.TheVariants.{Up}
 use Rattle.dialogue.specs.declared.indication.Indication.{Indication}
 use Rattle.dialogue.specs.Message.{Message, Content, apdu, unread, pair_of, bare_set}
 use Rattle.dialogue.specs.State.{State, passes_over}
 use Rattle.dialogue.specs.Taking.{transfer_of, written, Wire, bare_pair, StandsFirst, may_take}
-use Rattle.dialogue.specs.History.{Step, called, sent, fed, took, fault, feed_end, gave, broke, after}
+use Rattle.dialogue.specs.History.{Step, fed, took, fault, after}
 use Rattle.dialogue.specs.Feeding.{read_message, Feeds, Reads, passes, waits, takes, refuses, fails}
 use Rattle.dialogue.proofs.Reading.{ReadingLaws}
 use Rattle.dialogue.proofs.Keys.{keys_of}
 use Rattle.dialogue.proofs.Flights.{Flight, keys_in, keys_in_content, closing_all, CloseMay}
-use Rattle.dialogue.proofs.Pipes.{Pipe, Sendable, IsGiven, octets_of}
+use Rattle.dialogue.proofs.Pipes.{Sendable, IsGiven, octets_of}
 use Rattle.dialogue.proofs.Accepts.{accepts}
 use Rattle.dialogue.proofs.Tallies.{Tally, adds, adds_all}
-use Rattle.dialogue.proofs.Live.{Half, Live, Live-takes}
+use Rattle.dialogue.proofs.Live.{Live, Live-takes}
 
 module _ (t : Tables) (laws : ReadingLaws t) where
   -- a step that may come: what is taken may be taken, and there is no fault

@@ -1,12 +1,12 @@
 -- What one end's moments come to, and that the moments of the other end leave it.
-use Rattle.std.proofs.Common.{◌≡◌, ℕ, List, [], ◌∷◌, ◌++◌, Bool, true, false, Option, refl, sym, ap, ◌∙◌}
+use Rattle.std.proofs.Common.{◌≡◌, List, [], ◌∷◌, refl, ap, ◌∙◌}
 use Rattle.osi_base.specs.declared.words.Side.{Side}
 use Rattle.osi_base.specs.declared.words.Side.TheVariants.{A, B}
 use Rattle.stub_tables.specs.declared.tables.Tables.{Tables}
-use Rattle.dialogue.specs.State.{State, bare_start}
+use Rattle.dialogue.specs.State.{State}
 use Rattle.dialogue.specs.History.{Step, History, after, after_all, state_of, going_on}
 use Rattle.dialogue.specs.History as steps
-use Rattle.dialogue.specs.World.{Moment, World, other, stepping, history_of, state_at}
+use Rattle.dialogue.specs.World.{Moment, World, other, stepping, state_at}
 use Rattle.dialogue.specs.Laws.{Passed, Invocation, Outcome, adds_sending, adds_taking, adds_invocation, adds_told, adds_answer, adds_outcome, sendings, takings, invocations, told_invocations, answers, outcomes}
 
 pub record Tally : Type 0 where

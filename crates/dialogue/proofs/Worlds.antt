@@ -1,5 +1,5 @@
 -- Every run keeps the laws.
-use Rattle.std.proofs.Common.{◌≡◌, ℕ, zero, suc, ◌+◌, ◌≤◌, ◌<◌, Bool, true, false, cond, not, ◌&&◌, List, [], ◌∷◌, ◌++◌, length, map, take, drop, Option, Some, None, Ok, Err, refl, sym, ap, subst, ◌∙◌, ◌⊎◌, inl, inr, arith}
+use Rattle.std.proofs.Common.{◌≡◌, ℕ, zero, suc, Bool, true, false, cond, not, ◌&&◌, List, [], ◌∷◌, length, map, drop, Option, Some, None, Ok, Err, refl, sym, ap, subst, ◌∙◌, ◌⊎◌, inl, inr}
 use Rattle.osi_base.specs.declared.words.Side.{Side}
 use Rattle.osi_base.specs.declared.words.Side.TheVariants.{A, B}
 use Rattle.stub_tables.specs.declared.tables.Tables.{Tables}
@@ -20,14 +20,14 @@ use Rattle.dialogue.specs.State.{State, passes_over}
 use Rattle.dialogue.specs.Calls.{Reply, is_dead, is_initiators, is_phase_for, can_bare, can_call, after_call, due_of}
 use Rattle.dialogue.specs.History.{Step, called, sent, fed, took, fault, feed_end, gave, broke, broken_phase, after, after_all, call_steps}
 use Rattle.dialogue.specs.Feeding.{Feeds, Reads, passes, waits, takes, refuses, fails}
-use Rattle.dialogue.specs.World.{Moment, World, other, is_side, stepping, state_at, config_at, first_octets, Runs, ends, calls, carries, breaks}
-use Rattle.dialogue.specs.Laws.{BeginsWith, TakenAsSent, AreNumbered, Differ, MightTake, TakesAllowed, OneOutcome, NothingWholeWaits, is_fault, NoFault, KeepsLaws, Passed, Invocation, Outcome, sendings, takings, octets_given, whole_within}
+use Rattle.dialogue.specs.World.{World, other, stepping, state_at, config_at, first_octets, Runs, ends, calls, carries, breaks}
+use Rattle.dialogue.specs.Laws.{BeginsWith, AreNumbered, Differ, MightTake, TakesAllowed, is_fault, NoFault, KeepsLaws, sendings, takings, octets_given, whole_within}
 use Rattle.dialogue.proofs.Reading.{ReadingLaws}
 use Rattle.dialogue.proofs.Flights.{Flight}
-use Rattle.dialogue.proofs.Tallies.{Tally, at, tally, adds, adds_all, tally-me, tally-other, tally-stepping, tally-stepping_other, state-adds_all}
-use Rattle.dialogue.proofs.Live.{passed_all, invocations_of, outcomes_of, Half, Live, Live-swap, Live-start, Live-moves, new_tally}
+use Rattle.dialogue.proofs.Tallies.{Tally, at, tally, adds, adds_all, tally-me, tally-stepping, tally-stepping_other, state-adds_all}
+use Rattle.dialogue.proofs.Live.{passed_all, invocations_of, outcomes_of, Half, Live-swap, Live-start, Live-moves, new_tally}
 use Rattle.dialogue.proofs.Calling.{Connected, calling}
-use Rattle.dialogue.proofs.Taken.{IsStep, AreSteps, IsRead, feeding}
+use Rattle.dialogue.proofs.Taken.{IsStep, AreSteps, feeding}
 use Rattle.dialogue.proofs.Counting.{AreCounted, counted_run, counted_start, taken_whole}
 
 abbrev err : CallRefusal → Reply

@@ -1,16 +1,12 @@
 -- What may be called, and why not: the first row that fails decides. What an accepted call changes
 -- and what it makes due (X.880 8, 9; the rows and their order are this project's own).
-use Rattle.std.specs.Prelude.{ℕ, suc, min, ◌+◌, ℤ, pos, List, [], ◌∷◌, ◌++◌, length, Bool, true, false, not, ◌&&◌, nat_lt, nat_le, nat_eq, Option, Some, None, is_some, Result, Ok, Err, if◌then◌else◌}
-use Rattle.std.specs.List.{list_any}
+use Rattle.std.specs.Prelude.{ℕ, min, ◌+◌, ℤ, pos, List, [], ◌∷◌, ◌++◌, length, Bool, true, false, not, ◌&&◌, nat_lt, nat_le, Option, Some, None, is_some, Result, Ok, Err, if◌then◌else◌}
 use Rattle.asn1_types.specs.declared.value.Val.{Val}
 use Rattle.osi_base.specs.declared.syntax.Syntax.TheVariants.{Ber}
 use Rattle.stub_tables.specs.declared.tables.Tables.{Tables}
 use Rattle.stub_tables.specs.declared.operation.Operation.{Operation}
 use Rattle.stub_tables.specs.declared.operation.ErrorRow.{ErrorRow}
-use Rattle.stub_tables.specs.declared.operation.Code.{Code}
 use Rattle.stub_tables.specs.declared.apdu.Apdu.{Apdu}
-use Rattle.stub_tables.specs.declared.apdu.Apdu.TheVariants as apdus
-use Rattle.stub_tables.specs.declared.apdu.Returned.{Returned}
 use Rattle.stub_tables.specs.Codes.{is_silent, is_error_of}
 use Rattle.stub_tables.specs.Lookup.{operation_at, error_at}
 use Rattle.stub_tables.specs.Uses.{is_carried}
@@ -23,7 +19,7 @@ use Rattle.dialogue.specs.declared.config.Config.{Config}
 use Rattle.dialogue.specs.declared.config.Phase.{Phase}
 use Rattle.dialogue.specs.declared.config.Phase.TheVariants.{Idle, Opening, Up, Releasing, Broken, Recovering, Dead}
 use Rattle.dialogue.specs.declared.opened.Opened.{Opened}
-use Rattle.dialogue.specs.Message.{Message, Content, apdu, pair_of}
+use Rattle.dialogue.specs.Message.{Message, apdu, pair_of}
 use Rattle.dialogue.specs.State.{State, opened_with, without, opens_of}
 
 abbrev pub Reply : Type 0

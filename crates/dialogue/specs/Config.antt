@@ -1,5 +1,5 @@
 -- Which configurations an end refuses, and why: the first row that holds decides.
-use Rattle.std.specs.Prelude.{◌≡◌, ℕ, List, [], length, Bool, true, false, ◌||◌, not, nat_lt, nat_eq, Option, Some, None, Result, Ok, Err, if◌then◌else◌}
+use Rattle.std.specs.Prelude.{◌≡◌, ℕ, List, [], length, Bool, ◌||◌, not, nat_lt, nat_eq, Option, Some, None, Result, Ok, Err, if◌then◌else◌}
 use Rattle.dialogue.specs.declared.config.Config.{Config}
 use Rattle.dialogue.specs.declared.config.Mode.TheVariants.{Bare}
 use Rattle.dialogue.specs.declared.config.ConfigRefusal.{ConfigRefusal}

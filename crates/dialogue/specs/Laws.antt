@@ -1,12 +1,11 @@
 -- The laws of every run of two ends.
-use Rattle.std.specs.Prelude.{◌≡◌, ◌≢◌, ℕ, suc, ◌+◌, ◌-◌, nat_le, ℤ, pos, List, [], ◌∷◌, ◌++◌, map, length, Bool, true, false, Option, Some, None, Ok, Err, if◌then◌else◌, MatchBool}
+use Rattle.std.specs.Prelude.{◌≡◌, ◌≢◌, ℕ, ◌+◌, ◌-◌, nat_le, ℤ, pos, List, [], ◌∷◌, ◌++◌, length, Bool, true, false, Option, Some, None, Ok, if◌then◌else◌, MatchBool}
 use Rattle.std.specs.List.{AllByRecursion, flat_map}
 use Rattle.asn1_types.specs.declared.value.Val.{Val}
 use Rattle.osi_base.specs.declared.syntax.Pair.{Pair}
 use Rattle.osi_base.specs.declared.words.SetItem.{SetItem}
 use Rattle.osi_base.specs.declared.words.Side.{Side}
 use Rattle.stub_tables.specs.declared.tables.Tables.{Tables}
-use Rattle.stub_tables.specs.declared.apdu.Apdu.{Apdu}
 use Rattle.stub_tables.specs.declared.apdu.Apdu.TheVariants as apdus
 use Rattle.stub_tables.specs.Lookup.{operation_with, error_with}
 use Rattle.stub_tables.specs.Apdus.{IsShort}
@@ -25,7 +24,7 @@ use Rattle.dialogue.specs.State.{passes_over}
 use Rattle.dialogue.specs.Calls.{Reply}
 use Rattle.dialogue.specs.Taking.{written, may_take, value_of, shown_of}
 use Rattle.dialogue.specs.History.{Step, called, sent, took, fault, gave}
-use Rattle.dialogue.specs.World.{Moment, World, is_side, other, state_at, Runs}
+use Rattle.dialogue.specs.World.{World, is_side, other, state_at, Runs}
 
 -- ---- the shared set
 

@@ -1,7 +1,6 @@
 -- What stands first in the octets that came, what may be taken, what a taking changes and what it
 -- shows (X.880 8, 9; X.882 9).
-use Rattle.std.specs.Prelude.{◌≡◌, ℕ, ◌≤◌, ℤ, pos, List, [], ◌∷◌, ◌++◌, map, length, take, Bool, true, false, not, ◌&&◌, ◌||◌, nat_lt, nat_eq, Option, Some, None, is_some, if◌then◌else◌}
-use Rattle.std.specs.Option.{option_map}
+use Rattle.std.specs.Prelude.{◌≡◌, ℕ, ◌≤◌, ℤ, List, [], ◌∷◌, ◌++◌, map, length, take, Bool, true, false, not, ◌&&◌, ◌||◌, nat_lt, nat_eq, Option, Some, None, is_some}
 use Rattle.asn1_types.specs.declared.value.Val.{Val}
 use Rattle.osi_base.specs.declared.syntax.Syntax.{Syntax}
 use Rattle.osi_base.specs.declared.syntax.Syntax.TheVariants.{Ber}
@@ -9,14 +8,13 @@ use Rattle.osi_base.specs.declared.syntax.Pair.{Pair}
 use Rattle.osi_base.specs.declared.words.Layer.TheVariants.{Rose}
 use Rattle.stub_tables.specs.declared.tables.Tables.{Tables}
 use Rattle.stub_tables.specs.declared.operation.Operation.{Operation}
-use Rattle.stub_tables.specs.declared.operation.Code.{Code}
 use Rattle.stub_tables.specs.declared.apdu.Apdu.{Apdu}
 use Rattle.stub_tables.specs.declared.apdu.Apdu.TheVariants as apdus
 use Rattle.stub_tables.specs.declared.apdu.Returned.{Returned}
 use Rattle.stub_tables.specs.Codes.{is_silent, is_error_of}
 use Rattle.stub_tables.specs.Lookup.{operation_at, operation_with, error_with}
 use Rattle.stub_tables.specs.Uses.{is_carried}
-use Rattle.stub_tables.specs.Apdus.{Spells, written_apdu, IsWhole, IsShort, IsFaulty, operation_coded}
+use Rattle.stub_tables.specs.Apdus.{Spells, written_apdu, IsWhole, operation_coded}
 use Rattle.dialogue.specs.declared.opened.Opened.{Opened}
 use Rattle.dialogue.specs.declared.indication.Indication.{Indication}
 use Rattle.dialogue.specs.declared.indication.Indication.TheVariants as indications

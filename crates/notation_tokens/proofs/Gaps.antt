@@ -1,12 +1,11 @@
 -- What lies between tokens.
 use Rattle.std.proofs.Common.{codes, ◌≡◌, ℕ, suc, ◌+◌, ◌-◌, ◌≤◌, Bool, true, false, List, [], ◌∷◌, ◌++◌, take, drop, refl, sym, ap, subst, ◌∙◌, arith}
 use Rattle.std.specs.Prelude.{◌==◌, ◌&&◌, nat_eq, if◌then◌else◌, slice_range}
-use Rattle.std.proofs.lemmas.Bool.{eqb-true}
+use Rattle.std.proofs.lemmas.Bool.{eqb-true, and_parts}
 use Rattle.std.proofs.lemmas.List.{append-nil, drop-drop, take-append-drop, take-take, drop-take}
 use Rattle.notation_tokens.specs.Forms.{is_blank}
 use Rattle.notation_tokens.specs.Lexing.{starts, comment_length}
 use Rattle.notation_tokens.specs.Tokens.{Gap, outside, opening, inside, closing, elsewhere, behind_one, behind_all, may_end}
-use Rattle.notation_tokens.proofs.Numbers.{both}
 
 -- where cutting may stand in front of the rest: a comment goes on no further than to its line's end
 abbrev pub Fit : Gap → List ℕ → Type 0
@@ -71,8 +70,8 @@ two_hyphens c [] e = absurd (no (nat_eq 45 c) e)
     no true h = absurd cc
     no false h = absurd cc
 two_hyphens c (d ∷ ds) e =
-    let p = both (nat_eq 45 c) _ e in
-    let q = both (nat_eq 45 d) _ p.1 in
+    let p = and_parts (nat_eq 45 c) _ e in
+    let q = and_parts (nat_eq 45 d) _ p.1 in
     record { first = sym (eqb-true 45 c p.0); behind = ds; second = ap (λ (k : ℕ). k ∷ ds) (sym (eqb-true 45 d q.0)) }
 
 abbrev Stops : Gap → List ℕ → ℕ → Type 0

@@ -5,7 +5,7 @@ use Rattle.std.specs.List.{AllByRecursion, list_all, list_any}
 use Rattle.std.specs.Char.{is_ascii_alphabetic, is_ascii_alphanumeric, is_ascii_digit}
 use Rattle.std.specs.Str.{bytes_eq}
 use Rattle.std.proofs.lemmas.Slice.Eq.{bytes_eq-Decides}
-use Rattle.std.proofs.lemmas.Bool.{ltb-true, eqb-true}
+use Rattle.std.proofs.lemmas.Bool.{ltb-true, eqb-true, or_cases, and_parts}
 use Rattle.std.proofs.lemmas.Bool.Decides.{nat_tests}
 use Rattle.std.proofs.lemmas.List.{length-drop, length-take-le, drop-drop, take-append-drop, take-take, drop-take}
 use Rattle.notation_tokens.specs.declared.token.Place.{Place}
@@ -19,9 +19,9 @@ use Rattle.notation_tokens.specs.Texts.{Answers, tokens_of, unless_stopped, too_
 use Rattle.notation_tokens.specs.declared.faults.NotationFault.{NotationFault}
 use Rattle.notation_tokens.specs.declared.faults.NotationKind.{NotationKind}
 use Rattle.notation_tokens.specs.Tokens.{AreTokens, Gap, outside, behind_all}
-use Rattle.notation_tokens.proofs.Numbers.{both, joined}
+use Rattle.notation_tokens.proofs.Numbers.{joined}
 use Rattle.notation_tokens.proofs.Gaps.{Fit, Passes, blank_passes, begins_outside, comment_passes, Passed_since, nothing_passed, more_passed, all_passed}
-use Rattle.notation_tokens.proofs.Spans.{word_form, word_within, number_form, number_within, sign_form, chosen_piece, or_true}
+use Rattle.notation_tokens.proofs.Spans.{word_form, word_within, number_form, number_within, sign_form, chosen_piece}
 
 -- ---- words
 
@@ -48,16 +48,16 @@ starts_well_on (suc n) (c ∷ cs) e = go (c == 45) e
   where
     go : (b : Bool) → (if b then false && goes_on_well false (take n cs) else is_ascii_alphanumeric c && goes_on_well true (take n cs)) ≡ true → is_ascii_alphanumeric c ≡ true
     go true h = absurd cc
-    go false h = (both (is_ascii_alphanumeric c) (goes_on_well true (take n cs)) h).0
+    go false h = (and_parts (is_ascii_alphanumeric c) (goes_on_well true (take n cs)) h).0
 
 goes_on_step : (bare : Bool) (c : ℕ) (n : ℕ) (cs : List ℕ) → ((b : Bool) → goes_on_well b (take n cs) ≡ true → n ≤ goes_on_length cs)
     → (h : Bool) → (c == 45) ≡ h → (if h then bare && goes_on_well false (take n cs) else is_ascii_alphanumeric c && goes_on_well true (take n cs)) ≡ true
     → suc n ≤ (if is_ascii_alphanumeric c || c == 45 && starts_alphanumeric cs then suc (goes_on_length cs) else 0)
 goes_on_step bare c n cs ih true is e =
-    let p = both bare (goes_on_well false (take n cs)) e in
+    let p = and_parts bare (goes_on_well false (take n cs)) e in
     suc_or _ n (goes_on_length cs) (or_in_right (is_ascii_alphanumeric c) _ (joined (c == 45) (starts_alphanumeric cs) is (starts_well_on n cs p.1))) (ih false p.1)
 goes_on_step bare c n cs ih false is e =
-    let p = both (is_ascii_alphanumeric c) (goes_on_well true (take n cs)) e in
+    let p = and_parts (is_ascii_alphanumeric c) (goes_on_well true (take n cs)) e in
     suc_or _ n (goes_on_length cs) (or_in_left (is_ascii_alphanumeric c) _ p.0) (ih true p.1)
 
 goes_on_longest : (cs : List ℕ) (n : ℕ) (bare : Bool) → n ≤ length cs → goes_on_well bare (take n cs) ≡ true → n ≤ goes_on_length cs
@@ -69,7 +69,7 @@ pub word_longest : (rest : List ℕ) (n : ℕ) → n ≤ length rest → is_word
 word_longest rest zero le e = omega arith
 word_longest [] (suc n) le e = absurd (omega arith)
 word_longest (c ∷ cs) (suc n) le e =
-    let p = both (is_ascii_alphabetic c) (goes_on_well true (take n cs)) e in
+    let p = and_parts (is_ascii_alphabetic c) (goes_on_well true (take n cs)) e in
     suc_or (is_ascii_alphabetic c) n (goes_on_length cs) p.0 (goes_on_longest cs n true (omega arith) p.1)
 
 -- ---- numbers
@@ -78,7 +78,7 @@ digits_longest : (cs : List ℕ) (n : ℕ) → n ≤ length cs → list_all is_a
 digits_longest cs zero le e = omega arith
 digits_longest [] (suc n) le e = absurd (omega arith)
 digits_longest (c ∷ cs) (suc n) le e =
-    let p = both (is_ascii_digit c) (list_all is_ascii_digit (take n cs)) e in
+    let p = and_parts (is_ascii_digit c) (list_all is_ascii_digit (take n cs)) e in
     suc_or (is_ascii_digit c) n (digits_length cs) p.0 (digits_longest cs n (omega arith) p.1)
 
 all_digits : (text : List ℕ) → are_digits text ≡ true → list_all is_ascii_digit text ≡ true
@@ -115,7 +115,7 @@ clash false e f = absurd cc
 single_low : (c : ℕ) → list_any (λ s. nat_eq s c) single_signs ≡ true → (rest : List ℕ) → starts (c ∷ []) rest ≡ true → 1 ≤ single_sign_length rest
 single_low c is [] e = absurd cc
 single_low c is (d ∷ cs) e =
-    let same_octet : c ≡ d = eqb-true c d (both (nat_eq c d) true e).0 in
+    let same_octet : c ≡ d = eqb-true c d (and_parts (nat_eq c d) true e).0 in
     low 1 (list_any (λ s. nat_eq s d) single_signs) 1 0 (λ h. omega arith) (λ h. absurd (clash (list_any (λ s. nat_eq s d) single_signs) (subst (λ (z : ℕ). list_any (λ s. nat_eq s z) single_signs ≡ true) same_octet is) h))
 
 module _ (rest : List ℕ) where
@@ -144,7 +144,7 @@ module _ (rest : List ℕ) where
   sign_of : (n : ℕ) → n ≤ length rest → (ss : List (List ℕ)) → AllByRecursion P ss → list_any (bytes_eq (take n rest)) ss ≡ true → n ≤ sign_length rest
   sign_of n le [] all e = absurd cc
   sign_of n le (s ∷ ss) all e =
-      elim (or_true (bytes_eq (take n rest) s) (list_any (bytes_eq (take n rest)) ss) e) [
+      elim (or_cases (bytes_eq (take n rest) s) (list_any (bytes_eq (take n rest)) ss) e) [
         | inl h ↦ sign_is n le s ((bytes_eq-Decides (take n rest) s).0 h) all.0
         | inr h ↦ sign_of n le ss all.1 h
       ]

@@ -1,5 +1,6 @@
 -- Words and names.
 use Rattle.std.proofs.Common.{◌≡◌, ℕ, zero, suc, ◌<◌, ◌≤◌, Bool, true, false, List, [], ◌∷◌, length, Result, Ok, Err, refl, arith}
+use Rattle.std.proofs.lemmas.Bool.{and_parts}
 use Rattle.std.specs.Prelude.{IsTrue, IsOk, MatchResult, slice_range, slice_index_or, ◌==◌, ◌&&◌, if◌then◌else◌}
 use Rattle.std.specs.List.{AllByRecursion}
 use Rattle.std.specs.Char.{is_ascii_alphabetic, is_ascii_alphanumeric}
@@ -11,7 +12,6 @@ use Rattle.notation_tokens.specs.declared.token.TokenKind.TheVariants.{Word, Num
 use Rattle.notation_tokens.specs.Forms.{is_word, goes_on_well, has_form}
 use Rattle.notation_tokens.specs.Lexeme.{IsSpan}
 use Rattle.notation_tokens.specs.Words.{is_value_name, is_type_name}
-use Rattle.notation_tokens.proofs.Numbers.{both}
 
 -- ---- words are ASCII
 
@@ -30,9 +30,9 @@ hyphen_low c e = grind (arith, nat_tests)
 
 goes_on_low_step : (bare : Bool) (c : ℕ) (cs : List ℕ) → (goes_on_well false cs ≡ true → IsAscii cs) → (goes_on_well true cs ≡ true → IsAscii cs)
     → (b : Bool) → (c == 45) ≡ b → (if b then bare && goes_on_well false cs else is_ascii_alphanumeric c && goes_on_well true cs) ≡ true → IsAscii (c ∷ cs)
-goes_on_low_step bare c cs f t true is h = low_cons c cs (hyphen_low c is) (f (both bare (goes_on_well false cs) h).1)
+goes_on_low_step bare c cs f t true is h = low_cons c cs (hyphen_low c is) (f (and_parts bare (goes_on_well false cs) h).1)
 goes_on_low_step bare c cs f t false is h =
-    let p = both (is_ascii_alphanumeric c) (goes_on_well true cs) h in
+    let p = and_parts (is_ascii_alphanumeric c) (goes_on_well true cs) h in
     low_cons c cs (alphanumeric_low c p.0) (t p.1)
 
 goes_on_low : (bare : Bool) (text : List ℕ) → goes_on_well bare text ≡ true → IsAscii text
@@ -42,7 +42,7 @@ goes_on_low bare (c ∷ cs) e = goes_on_low_step bare c cs (goes_on_low false cs
 pub word_low : (text : List ℕ) → is_word text ≡ true → IsAscii text
 word_low [] e = absurd cc
 word_low (c ∷ cs) e =
-    let p = both (is_ascii_alphabetic c) (goes_on_well true cs) e in
+    let p = and_parts (is_ascii_alphabetic c) (goes_on_well true cs) e in
     low_cons c cs (alphabetic_low c p.0) (goes_on_low true cs p.1)
 
 pub ok_at_text : {X Y : Type 0} (P : X → Type 0) (Q : Y → Type 0) (U : Type 0) (r : Result X Y) → MatchResult r P (λ e. (U → ⊥) × Q e) → U → IsOk r

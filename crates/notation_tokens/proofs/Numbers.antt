@@ -6,14 +6,9 @@ use Rattle.std.specs.Char.{is_ascii_digit, digit_value}
 use Rattle.std.specs.Str.{IsAscii}
 use Rattle.std.specs.Str.Parse.{AllDigits, digits_value, ParsesUnsigned}
 use Rattle.std.proofs.lemmas.Bool.Decides.{nat_tests}
-use Rattle.std.proofs.lemmas.Bool.{leb-true}
+use Rattle.std.proofs.lemmas.Bool.{leb-true, and_parts}
 use Rattle.std.proofs.lemmas.Str.Parse.{parse_gives, numerals_by_value, tells_digits}
 use Rattle.notation_tokens.specs.Words.{is_decimal, number}
-
-pub both : (a b : Bool) → a && b ≡ true → (a ≡ true) × (b ≡ true)
-both true true e = (refl, refl)
-both true false e = absurd cc
-both false b e = absurd cc
 
 pub joined : (a b : Bool) → a ≡ true → b ≡ true → a && b ≡ true
 joined a b p q = rw (p, q) refl
@@ -26,19 +21,19 @@ digit_low d e = grind (arith, nat_tests)
 
 digits_are : (ds : List ℕ) → list_all is_ascii_digit ds ≡ true → AllDigits 10 ds
 digits_are [] e = tt
-digits_are (d ∷ ds) e = let h = both (is_ascii_digit d) (list_all is_ascii_digit ds) e in (digit_is d h.0, digits_are ds h.1)
+digits_are (d ∷ ds) e = let h = and_parts (is_ascii_digit d) (list_all is_ascii_digit ds) e in (digit_is d h.0, digits_are ds h.1)
 
 digits_low : (ds : List ℕ) → list_all is_ascii_digit ds ≡ true → IsAscii ds
 digits_low [] e i = omega arith
-digits_low (d ∷ ds) e zero = digit_low d (both (is_ascii_digit d) (list_all is_ascii_digit ds) e).0
-digits_low (d ∷ ds) e (suc i) = digits_low ds (both (is_ascii_digit d) (list_all is_ascii_digit ds) e).1 i
+digits_low (d ∷ ds) e zero = digit_low d (and_parts (is_ascii_digit d) (list_all is_ascii_digit ds) e).0
+digits_low (d ∷ ds) e (suc i) = digits_low ds (and_parts (is_ascii_digit d) (list_all is_ascii_digit ds) e).1 i
 
 decimal_digits : (text : List ℕ) → is_decimal text ≡ true → list_all is_ascii_digit text ≡ true
 decimal_digits [] e = absurd cc
 decimal_digits (d ∷ []) e = joined (is_ascii_digit d) true e refl
 decimal_digits (d ∷ c ∷ ds) e =
-    let h = both (is_ascii_digit d && not (d == 48)) (list_all is_ascii_digit (c ∷ ds)) e in
-    joined (is_ascii_digit d) (list_all is_ascii_digit (c ∷ ds)) (both (is_ascii_digit d) (not (d == 48)) h.0).0 h.1
+    let h = and_parts (is_ascii_digit d && not (d == 48)) (list_all is_ascii_digit (c ∷ ds)) e in
+    joined (is_ascii_digit d) (list_all is_ascii_digit (c ∷ ds)) (and_parts (is_ascii_digit d) (not (d == 48)) h.0).0 h.1
 
 decimal_some : (text : List ℕ) → is_decimal text ≡ true → 0 < length text
 decimal_some [] e = absurd cc

@@ -6,7 +6,7 @@ use Rattle.std.specs.Char.{is_ascii_alphabetic, is_ascii_alphanumeric, is_ascii_
 use Rattle.std.specs.Str.{bytes_eq}
 use Rattle.std.specs.Bool.{Decides}
 use Rattle.std.proofs.lemmas.Slice.Eq.{bytes_eq-Decides}
-use Rattle.std.proofs.lemmas.Bool.{eqb-true, ltb-true}
+use Rattle.std.proofs.lemmas.Bool.{eqb-true, ltb-true, or_cases, and_parts}
 use Rattle.std.proofs.lemmas.Bool.Decides.{nat_tests}
 use Rattle.std.proofs.lemmas.List.{length-drop, length-take, drop-drop}
 use Rattle.notation_tokens.specs.declared.token.Place.{Place}
@@ -17,7 +17,6 @@ use Rattle.notation_tokens.specs.declared.token.Token.{Token}
 use Rattle.notation_tokens.specs.Forms.{is_blank, goes_on_well, is_word, are_digits, is_number, is_sign, has_form}
 use Rattle.notation_tokens.specs.Lexeme.{IsSpan}
 use Rattle.notation_tokens.specs.Lexing.{behind_octets, starts_alphanumeric, goes_on_length, word_length, digits_length, number_length, behind_hyphen, sign_length, single_sign_length, single_signs, starts, piece_of, cut, cut_after, lexed_of}
-use Rattle.notation_tokens.proofs.Numbers.{both}
 
 -- ---- words
 
@@ -34,7 +33,7 @@ goes_well_step : (bare : Bool) (c : ℕ) (cs : List ℕ)
     → goes_on_well bare (take (if a || h then suc (goes_on_length cs) else 0) (c ∷ cs)) ≡ true
 goes_well_step bare c cs ih true h is other start = rw (not_hyphen c is, is, ih true (inl refl)) refl
 goes_well_step bare c cs ih false true is other start =
-    let p = both (c == 45) (starts_alphanumeric cs) other in
+    let p = and_parts (c == 45) (starts_alphanumeric cs) other in
     rw (p.0, bare_true bare start, ih false (inr p.1)) refl
 goes_well_step bare c cs ih false false is other start = bare_true bare start
 
@@ -108,10 +107,6 @@ number_within (c ∷ cs) = number_within_step c cs (c == 45) (digits_length cs) 
 
 -- ---- signs
 
-pub or_true : (a b : Bool) → a || b ≡ true → (a ≡ true) ⊎ (b ≡ true)
-or_true true b e = inl refl
-or_true false b e = inr e
-
 decided : {P : Type 0} (r : Bool) → Decides r P → r ≡ true → P
 decided r h e = h.0 e
 
@@ -121,7 +116,7 @@ starts_is text rest e = sym (decided (bytes_eq text (take (length text) rest)) (
 single_step : (c : ℕ) (ss : List ℕ) → AllByRecursion (λ s. is_sign (s ∷ []) ≡ true) ss → list_any (λ s. nat_eq s c) ss ≡ true → is_sign (c ∷ []) ≡ true
 single_step c [] all e = absurd cc
 single_step c (s ∷ ss) all e =
-    elim (or_true (nat_eq s c) (list_any (λ z. nat_eq z c) ss) e) [
+    elim (or_cases (nat_eq s c) (list_any (λ z. nat_eq z c) ss) e) [
       | inl h ↦ subst (λ (z : ℕ). is_sign (z ∷ []) ≡ true) (eqb-true s c h) all.0
       | inr h ↦ single_step c ss all.1 h
     ]

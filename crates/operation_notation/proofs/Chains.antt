@@ -3,13 +3,13 @@ use Rattle.std.proofs.Common.{◌≡◌, ℕ, Bool, true, false, List, [], ◌�
 use Rattle.std.specs.Prelude.{◌⊎◌, ◌||◌, not, if◌then◌else◌}
 use Rattle.std.specs.List.{list_any, list_all}
 use Rattle.std.specs.Str.{bytes_eq}
-use Rattle.std.proofs.lemmas.Bool.{not-true, not-false, both_ways}
+use Rattle.std.proofs.lemmas.Bool.{not-true, not-false, both_ways, or_cases}
 use Rattle.notation_tokens.specs.Lexeme.{Lexeme, same, begins}
 use Rattle.operation_notation.specs.Reading.{◌>>=◌, give, here, place_of, Read, word_at, all_at, behind, listed_at}
 use Rattle.operation_notation.specs.Grammar.{Then, Nothing, Either, Maybe, Many, The, Behind, Listed, Placed, StartsAt}
 use Rattle.notation_tokens.specs.declared.token.Place.{Place}
 use Rattle.operation_notation.proofs.Means.{Law, never, law_then, law_next, law_word, law_nothing, law_choice, law_maybe, Loops, law_all}
-use Rattle.operation_notation.proofs.Starts.{Headed, Starts, headed_append, headed_takes, starts_then, starts_either, among, Excludes, excludes_among, excludes_type_name, excludes_or, apart, type_named, no_type_name, among_all, all_from, or_true, begins_any, headed_any, headed_not, headed_is, fewer, fewer_one, starts_the}
+use Rattle.operation_notation.proofs.Starts.{Headed, Starts, headed_append, headed_takes, starts_then, starts_either, among, Excludes, excludes_among, excludes_type_name, excludes_or, apart, type_named, no_type_name, among_all, all_from, begins_any, headed_any, headed_not, headed_is, fewer, fewer_one, starts_the}
 
 -- ---- with less to write
 
@@ -201,7 +201,7 @@ word_or_named w ws t e = or_left _ (type_named t) (or_left _ (among ws t) e)
 
 pub more_or_named : (w : List ℕ) (ws : List (List ℕ)) (t : Lexeme) → or_named ws t ≡ true → or_named (w ∷ ws) t ≡ true
 more_or_named w ws t e =
-    elim (or_true (among ws t) (type_named t) e) [
+    elim (or_cases (among ws t) (type_named t) e) [
       | inl h ↦ or_left _ (type_named t) (or_right (same t.text w) (among ws t) h)
       | inr h ↦ or_right (among (w ∷ ws) t) (type_named t) h
     ]

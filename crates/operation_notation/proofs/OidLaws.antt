@@ -4,7 +4,7 @@ use Rattle.std.specs.Prelude.{◌||◌, ◌&&◌, ◌==◌, not, is_some, nat_lt
 use Rattle.std.specs.List.{list_all}
 use Rattle.std.specs.Char.{is_ascii_digit, is_ascii_lowercase}
 use Rattle.std.specs.Str.Parse.{digits_value}
-use Rattle.std.proofs.lemmas.Bool.{not-true, leb-true, le-leb, false≢true}
+use Rattle.std.proofs.lemmas.Bool.{not-true, leb-true, le-leb, false≢true, and_parts}
 use Rattle.std.proofs.lemmas.Bool.Decides.{nat_tests}
 use Rattle.osi_base.specs.Oid.{IsOid}
 use Rattle.notation_tokens.specs.Lexeme.{Lexeme, same, goes_on}
@@ -14,7 +14,7 @@ use Rattle.operation_notation.specs.ReadingTypes.{starts_name, arc_name_at, brac
 use Rattle.operation_notation.specs.Grammar.{One, Then, Nothing, Either, Many, The}
 use Rattle.operation_notation.specs.GrammarTypes.{root_of, Arc, Root, OidSpelled}
 use Rattle.notation_tokens.specs.declared.token.Place.{Place}
-use Rattle.notation_tokens.proofs.Numbers.{both, joined}
+use Rattle.notation_tokens.proofs.Numbers.{joined}
 use Rattle.operation_notation.proofs.Means.{Front, Law, never, law_then, law_one, law_word, law_nothing, law_choice, Loops, many_found, many_only, many_count}
 use Rattle.operation_notation.proofs.Starts.{Headed, Starts, headed_takes, starts_then, starts_one, Excludes, excludes_value_name, excludes_among, excludes_or, no_value_name, or_false, value_named, begins_any, starts_the, among, fewer_one}
 use Rattle.operation_notation.proofs.Chains.{next, behind_starts, pick_may, excludes_text, or_left, or_right}
@@ -47,7 +47,7 @@ digit_not_lower d e = grind (arith, nat_tests)
 decimal_not_lower : (text : List ℕ) → is_decimal text ≡ true → begins_lower text ≡ false
 decimal_not_lower [] e = refl
 decimal_not_lower (d ∷ []) e = digit_not_lower d e
-decimal_not_lower (d ∷ c ∷ ds) e = digit_not_lower d (both (is_ascii_digit d) (not (d == 48)) (both (is_ascii_digit d && not (d == 48)) (list_all is_ascii_digit (c ∷ ds)) e).0).0
+decimal_not_lower (d ∷ c ∷ ds) e = digit_not_lower d (and_parts (is_ascii_digit d) (not (d == 48)) (and_parts (is_ascii_digit d && not (d == 48)) (list_all is_ascii_digit (c ∷ ds)) e).0).0
 
 and_false : (b c : Bool) → c ≡ false → b && c ≡ false
 and_false true c e = e
@@ -311,7 +311,7 @@ root_name_up text a e = go (same text (codes "itu-t") || same text (codes "ccitt
     go false false false h = absurd cc
 
 no_single : (root : ℕ) → IsOid (root ∷ []) → ⊥
-no_single root o = absurd (false≢true (both (nat_le 1 32) false o).1)
+no_single root o = absurd (false≢true (and_parts (nat_le 1 32) false o).1)
 
 well_root : (root second : ℕ) → nat_lt root 2 && nat_lt second 40 || nat_le root 2 && nat_le 2 root ≡ true → root ≤ 2
 well_root root second e = grind (arith, nat_tests)
@@ -389,7 +389,7 @@ arcs_to ts arcs d =
 
 oid_parts : (root second : ℕ) (others : List ℕ) → IsOid (root ∷ second ∷ others) → second ≤ most_32 → (root ≤ 2) × (second ≤ most_second root) × (length others ≤ 30)
 oid_parts root second others o s =
-    let h = both (nat_le (length (root ∷ second ∷ others)) 32) _ o in
+    let h = and_parts (nat_le (length (root ∷ second ∷ others)) 32) _ o in
     (well_root root second h.1, well_is root second (nat_lt root 2) refl s h.1, omega (arith, leb-true (length (root ∷ second ∷ others)) 32 h.0))
 
 arcs_from_list : (root : ℕ) (rf : List Lexeme) (l : List ℕ) (mf back : List Lexeme) → Root rf root → Many Arc mf l → IsOid (root ∷ l) → (arcs : List ℕ) → Then (The (codes "}")) (λ _. Nothing (root ∷ l)) back arcs

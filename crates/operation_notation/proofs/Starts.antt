@@ -3,14 +3,14 @@ use Rattle.std.proofs.Common.{◌≡◌, ℕ, ◌<◌, Bool, true, false, List, 
 use Rattle.std.specs.Prelude.{◌⊎◌, ◌&&◌, ◌||◌, not, if◌then◌else◌}
 use Rattle.std.specs.List.{list_any, list_all, AllByRecursion}
 use Rattle.std.specs.Str.{bytes_eq}
-use Rattle.std.proofs.lemmas.Bool.{not-true, both_ways}
+use Rattle.std.proofs.lemmas.Bool.{not-true, both_ways, or_cases, and_parts}
 use Rattle.std.proofs.lemmas.Slice.Eq.{bytes_eq-Decides}
 use Rattle.notation_tokens.specs.declared.token.TokenKind.{TokenKind}
 use Rattle.notation_tokens.specs.Lexeme.{Lexeme, same, begins}
 use Rattle.notation_tokens.specs.Words.{word_of, place, quoted, is_quoted, is_unsupported, is_type_name, is_value_name, begins_lower, begins_upper, is_kind_word}
 use Rattle.operation_notation.specs.Grammar.{One, Then, Either, The, Placed}
 use Rattle.notation_tokens.specs.declared.token.Place.{Place}
-use Rattle.notation_tokens.proofs.Numbers.{both, joined}
+use Rattle.notation_tokens.proofs.Numbers.{joined}
 
 -- a text whose first token passes a test
 pub record Headed (p : Lexeme → Bool) (ts : List Lexeme) : Type 0 where
@@ -50,22 +50,18 @@ pub same_is : (a b : List ℕ) → same a b ≡ true → a ≡ b
 unfolding same
 same_is a b e = (bytes_eq-Decides a b).0 e
 
-pub or_true : (a b : Bool) → a || b ≡ true → (a ≡ true) ⊎ (b ≡ true)
-or_true true b e = inl refl
-or_true false b e = inr e
-
 -- what holds of each word holds of a token that is one of them
 pub among_all : (P : List ℕ → Type 0) (ws : List (List ℕ)) (t : Lexeme) → AllByRecursion P ws → among ws t ≡ true → P t.text
 among_all P [] t all e = absurd cc
 among_all P (w ∷ ws) t all e =
-    elim (or_true (same t.text w) (among ws t) e) [
+    elim (or_cases (same t.text w) (among ws t) e) [
       | inl h ↦ subst P (sym (same_is t.text w h)) all.0
       | inr h ↦ among_all P ws t all.1 h
     ]
 
 pub all_from : {X : Type 0} (p : X → Bool) (xs : List X) → list_all p xs ≡ true → AllByRecursion (λ x. p x ≡ true) xs
 all_from p [] e = tt
-all_from p (x ∷ xs) e = let h = both (p x) (list_all p xs) e in (h.0, all_from p xs h.1)
+all_from p (x ∷ xs) e = let h = and_parts (p x) (list_all p xs) e in (h.0, all_from p xs h.1)
 
 -- a token that is one of these words
 pub among_word : (ws : List (List ℕ)) (w : List ℕ) (t : Lexeme) → list_any (bytes_eq w) ws ≡ true → same t.text w ≡ true → among ws t ≡ true
@@ -101,17 +97,17 @@ no_value_name w = not (begins_lower w)
 pub type_name_parts : (kind : TokenKind) (text : List ℕ) → is_type_name kind text ≡ true → (begins_upper text ≡ true) × (is_quoted text ≡ false)
 unfolding is_type_name
 type_name_parts kind text e =
-    let h = both (is_kind_word kind && begins_upper text) (not (is_quoted text) && not (is_unsupported text)) e in
-    ((both (is_kind_word kind) (begins_upper text) h.0).1, not-true (is_quoted text) (both (not (is_quoted text)) (not (is_unsupported text)) h.1).0)
+    let h = and_parts (is_kind_word kind && begins_upper text) (not (is_quoted text) && not (is_unsupported text)) e in
+    ((and_parts (is_kind_word kind) (begins_upper text) h.0).1, not-true (is_quoted text) (and_parts (not (is_quoted text)) (not (is_unsupported text)) h.1).0)
 
 value_name_parts : (kind : TokenKind) (text : List ℕ) → is_value_name kind text ≡ true → begins_lower text ≡ true
 unfolding is_value_name
-value_name_parts kind text e = (both (is_kind_word kind) (begins_lower text) e).1
+value_name_parts kind text e = (and_parts (is_kind_word kind) (begins_lower text) e).1
 
 no_type_name_is : (text : List ℕ) → begins_upper text ≡ true → is_quoted text ≡ false → no_type_name text ≡ true → ⊥
 unfolding is_quoted same
 no_type_name_is text upper plain e =
-    elim (or_true (list_any (bytes_eq text) quoted) (not (begins_upper text)) e) [
+    elim (or_cases (list_any (bytes_eq text) quoted) (not (begins_upper text)) e) [
       | inl h ↦ absurd cc
       | inr h ↦ both_ways (begins_upper text) (not-true (begins_upper text) h) upper
     ]
@@ -134,7 +130,7 @@ excludes_value_name ws e t h = go (among ws t) refl
 
 pub excludes_or : (p q : Lexeme → Bool) (ws : List (List ℕ)) → Excludes p ws → Excludes q ws → Excludes (λ t. p t || q t) ws
 excludes_or p q ws f g t e =
-    elim (or_true (p t) (q t) e) [
+    elim (or_cases (p t) (q t) e) [
       | inl h ↦ f t h
       | inr h ↦ g t h
     ]

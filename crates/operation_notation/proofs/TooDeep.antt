@@ -1,5 +1,6 @@
 -- Types one level too deep: each token with which a type begins goes on in the wide grammar, and no other does.
 use Rattle.std.proofs.Common.{codes, ◌≡◌, ℕ, zero, suc, Bool, true, false, List, [], ◌∷◌, ◌++◌, Some, None, Ok, refl, sym, ap, subst, ◌∙◌, append-nil, inl, inr}
+use Rattle.std.proofs.lemmas.Bool.{or_cases}
 use Rattle.std.specs.Prelude.{if◌then◌else◌}
 use Rattle.std.specs.List.{AllByRecursion}
 use Rattle.notation_tokens.specs.Lexeme.{Lexeme, same}
@@ -15,7 +16,7 @@ use Rattle.operation_notation.specs.Tree.{TypeTree, type_tree, null, named}
 use Rattle.notation_tokens.specs.declared.token.TokenKind.{TokenKind}
 use Rattle.notation_tokens.specs.declared.token.TokenKind.TheVariants.{Word, Number, Sign}
 use Rattle.notation_tokens.specs.declared.faults.NotationKind.TheVariants.{Unsupported, UnexpectedToken}
-use Rattle.operation_notation.proofs.Starts.{among, among_all, type_named, or_true, excludes_type_name}
+use Rattle.operation_notation.proofs.Starts.{among, among_all, type_named, excludes_type_name}
 use Rattle.operation_notation.proofs.Chains.{or_right}
 use Rattle.operation_notation.proofs.TypeLaws.{law_type, starts_type_behind}
 use Rattle.operation_notation.proofs.Begun.{AreFillers, Filled, Goes, KindOf, Begun, begun_refuse, word_passes}
@@ -146,7 +147,7 @@ sample_name t e = record {
 
 sample : (t : Lexeme) (u : List Lexeme) → starts_type (t ∷ u) ≡ true → Sample t
 sample t u e =
-    elim (or_true (among type_words t) (type_named t) e) [
+    elim (or_cases (among type_words t) (type_named t) e) [
       | inl h ↦ among_all Sampled type_words t samples h t.kind t.line t.column
       | inr h ↦ sample_name t h
     ]

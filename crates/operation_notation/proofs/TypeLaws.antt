@@ -3,7 +3,7 @@ use Rattle.std.proofs.Common.{codes, ◌≡◌, ℕ, zero, suc, Bool, true, fals
 use Rattle.std.specs.Prelude.{◌||◌, ◌&&◌, is_some, if◌then◌else◌}
 use Rattle.std.specs.List.{list_any}
 use Rattle.std.specs.Str.{bytes_eq}
-use Rattle.std.proofs.lemmas.Bool.{not-false}
+use Rattle.std.proofs.lemmas.Bool.{not-false, or_parts}
 use Rattle.notation_tokens.specs.Lexeme.{Lexeme, same, begins}
 use Rattle.notation_tokens.specs.Words.{number, number_of, most_32, most_64, end_of, int_of, type_name_of, value_name_of, text_kind_of, text_kind_word, located}
 use Rattle.operation_notation.specs.Reading.{◌>>=◌, give, Read, refuse, refuse_as, token_at, word_at, number_at, number_64_at, int_at, end_at, type_name_at, value_name_at, maybe_at, listed_at, is_set_of}
@@ -211,19 +211,15 @@ law_octets = next (law_word (codes "OCTET")) (λ _. next (law_word (codes "STRIN
 abbrev kinds : List (List ℕ)
 kinds = codes "UTF8String" ∷ codes "IA5String" ∷ codes "VisibleString" ∷ codes "PrintableString" ∷ codes "NumericString" ∷ []
 
-pub neither : (a b : Bool) → a || b ≡ false → (a ≡ false) × (b ≡ false)
-neither true b e = absurd cc
-neither false b e = (refl, e)
-
 pub kinds_none : (t : Lexeme) → among kinds t ≡ false → text_kind_word t.text ≡ None
 unfolding text_kind_word
 kinds_none t e =
     let s : List ℕ → Bool = same t.text in
-    let p1 = neither (s (codes "UTF8String")) _ e in
-    let p2 = neither (s (codes "IA5String")) _ p1.1 in
-    let p3 = neither (s (codes "VisibleString")) _ p2.1 in
-    let p4 = neither (s (codes "PrintableString")) _ p3.1 in
-    let p5 = neither (s (codes "NumericString")) _ p4.1 in
+    let p1 = or_parts (s (codes "UTF8String")) _ e in
+    let p2 = or_parts (s (codes "IA5String")) _ p1.1 in
+    let p3 = or_parts (s (codes "VisibleString")) _ p2.1 in
+    let p4 = or_parts (s (codes "PrintableString")) _ p3.1 in
+    let p5 = or_parts (s (codes "NumericString")) _ p4.1 in
     rw (p1.0, p2.0, p3.0, p4.0, p5.0) refl
 
 kind_among : (t : Lexeme) (k : ℕ) → text_kind_of t ≡ Some k → among kinds t ≡ true

@@ -2,7 +2,7 @@
 use Rattle.std.proofs.Common.{codes, ◌≡◌, ℕ, zero, suc, ◌<◌, ◌≤◌, Bool, true, false, List, [], ◌∷◌, ◌++◌, length, Option, Some, None, Result, Ok, Err, refl, subst, arith, inl, inr}
 use Rattle.std.specs.Prelude.{IfOk, ◌&&◌, not, if◌then◌else◌, IsTrue, IfSome}
 use Rattle.std.specs.List.{AllByRecursion}
-use Rattle.std.proofs.lemmas.Bool.{not-true}
+use Rattle.std.proofs.lemmas.Bool.{not-true, and_parts}
 use Rattle.notation_tokens.specs.Forms.{has_form}
 use Rattle.notation_tokens.specs.Lexeme.{Lexeme, same, IsSpan, lexemes}
 use Rattle.notation_tokens.specs.Words.{is_type_name, is_value_name, is_kind_word, is_quoted, is_unsupported, begins_upper, begins_lower, type_name_of, value_name_of, text_kind_of, text_kind_word, located, number_of, most_32}
@@ -22,7 +22,6 @@ use Rattle.operation_notation.specs.declared.module.ModuleText.{ModuleText}
 use Rattle.operation_notation.specs.declared.bodies.Signature.{Signature}
 use Rattle.operation_notation.specs.Modules.{Reads}
 use Rattle.notation_tokens.specs.Lexing.{lexed_of}
-use Rattle.notation_tokens.proofs.Numbers.{both}
 use Rattle.operation_notation.proofs.OidLaws.{number_is}
 use Rattle.notation_tokens.proofs.Spans.{lexed_spans}
 use Rattle.operation_notation.proofs.Rises.{module_rises}
@@ -98,14 +97,14 @@ well_placed w ts a f d = w d.at ts a f d.spelled
 
 value_lower : (kind : TokenKind) (text : List ℕ) → is_value_name kind text ≡ true → begins_lower text ≡ true
 unfolding is_value_name
-value_lower kind text e = (both (is_kind_word kind) (begins_lower text) e).1
+value_lower kind text e = (and_parts (is_kind_word kind) (begins_lower text) e).1
 
 type_parts : (kind : TokenKind) (text : List ℕ) → is_type_name kind text ≡ true → (begins_upper text ≡ true) × (is_quoted text ≡ false) × (is_unsupported text ≡ false)
 unfolding is_type_name
 type_parts kind text e =
-    let h = both (is_kind_word kind && begins_upper text) (not (is_quoted text) && not (is_unsupported text)) e in
-    let k = both (not (is_quoted text)) (not (is_unsupported text)) h.1 in
-    ((both (is_kind_word kind) (begins_upper text) h.0).1, not-true (is_quoted text) k.0, not-true (is_unsupported text) k.1)
+    let h = and_parts (is_kind_word kind && begins_upper text) (not (is_quoted text) && not (is_unsupported text)) e in
+    let k = and_parts (not (is_quoted text)) (not (is_unsupported text)) h.1 in
+    ((and_parts (is_kind_word kind) (begins_upper text) h.0).1, not-true (is_quoted text) k.0, not-true (is_unsupported text) k.1)
 
 value_step : (t : Lexeme) (a : Located) (b : Bool) → Good t → is_value_name t.kind t.text ≡ b → (if b then Some (located t) else None) ≡ Some a → IsValueName a
 value_step t a true g is e =

@@ -1,5 +1,6 @@
 -- The notation and a grammar that goes further are read alike, up to where reading the notation stops for what the other goes on with.
 use Rattle.std.proofs.Common.{codes, ◌≡◌, ℕ, zero, suc, Bool, true, false, List, [], ◌∷◌, ◌++◌, length, Some, None, Ok, Err, refl, sym, ap, ◌∙◌, inl, inr}
+use Rattle.std.proofs.lemmas.Bool.{or_parts}
 use Rattle.std.specs.Prelude.{◌⊎◌, ◌||◌, is_some, if◌then◌else◌}
 use Rattle.std.specs.List.{list_any}
 use Rattle.notation_tokens.specs.Lexeme.{Lexeme, same, begins, goes_on}
@@ -19,7 +20,6 @@ use Rattle.operation_notation.specs.declared.module.ModuleText.{ModuleText}
 use Rattle.operation_notation.proofs.Means.{done}
 use Rattle.operation_notation.proofs.Starts.{type_named, value_named}
 use Rattle.operation_notation.proofs.Local.{fault, failed, fault_is}
-use Rattle.operation_notation.proofs.TypeLaws.{neither}
 
 -- reading stopped at a fault of this sort
 pub record Stopped {A : Type 0} (E : Failure → Type 0) (x : Read A) : Type 0 where
@@ -213,23 +213,23 @@ unfolding type_text_at plain_at leaf_at text_or_name_at text_kind_word type_name
 no_type f [] e = refl
 no_type f (t ∷ ts) e =
     let s : List ℕ → Bool = same t.text in
-    let named = neither (list_any s type_words) (is_type_name t.kind t.text) e in
-    let p0 = neither (s (codes "[")) _ named.0 in
-    let p1 = neither (s (codes "SEQUENCE")) _ p0.1 in
-    let p2 = neither (s (codes "SET")) _ p1.1 in
-    let p3 = neither (s (codes "CHOICE")) _ p2.1 in
-    let p4 = neither (s (codes "BOOLEAN")) _ p3.1 in
-    let p5 = neither (s (codes "NULL")) _ p4.1 in
-    let p6 = neither (s (codes "INTEGER")) _ p5.1 in
-    let p7 = neither (s (codes "ENUMERATED")) _ p6.1 in
-    let p8 = neither (s (codes "OCTET")) _ p7.1 in
-    let p9 = neither (s (codes "BIT")) _ p8.1 in
-    let q0 = neither (s (codes "OBJECT")) _ p9.1 in
-    let q1 = neither (s (codes "UTF8String")) _ q0.1 in
-    let q2 = neither (s (codes "IA5String")) _ q1.1 in
-    let q3 = neither (s (codes "VisibleString")) _ q2.1 in
-    let q4 = neither (s (codes "PrintableString")) _ q3.1 in
-    let q5 = neither (s (codes "NumericString")) _ q4.1 in
+    let named = or_parts (list_any s type_words) (is_type_name t.kind t.text) e in
+    let p0 = or_parts (s (codes "[")) _ named.0 in
+    let p1 = or_parts (s (codes "SEQUENCE")) _ p0.1 in
+    let p2 = or_parts (s (codes "SET")) _ p1.1 in
+    let p3 = or_parts (s (codes "CHOICE")) _ p2.1 in
+    let p4 = or_parts (s (codes "BOOLEAN")) _ p3.1 in
+    let p5 = or_parts (s (codes "NULL")) _ p4.1 in
+    let p6 = or_parts (s (codes "INTEGER")) _ p5.1 in
+    let p7 = or_parts (s (codes "ENUMERATED")) _ p6.1 in
+    let p8 = or_parts (s (codes "OCTET")) _ p7.1 in
+    let p9 = or_parts (s (codes "BIT")) _ p8.1 in
+    let q0 = or_parts (s (codes "OBJECT")) _ p9.1 in
+    let q1 = or_parts (s (codes "UTF8String")) _ q0.1 in
+    let q2 = or_parts (s (codes "IA5String")) _ q1.1 in
+    let q3 = or_parts (s (codes "VisibleString")) _ q2.1 in
+    let q4 = or_parts (s (codes "PrintableString")) _ q3.1 in
+    let q5 = or_parts (s (codes "NumericString")) _ q4.1 in
     rw (p0.0, p1.0, p2.0, p3.0, p4.0, p5.0, p6.0, p7.0, p8.0, p9.0, q0.0, q1.0, q2.0, q3.0, q4.0, q5.0, named.1) refl
 
 wide_deep : Agree AtUnsupported (type_at narrow 0) (type_at wide 2)

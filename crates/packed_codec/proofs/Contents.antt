@@ -1,5 +1,6 @@
 -- Rows behind a size: contents and values are one another's.
 use Rattle.std.proofs.Common.{◌≡◌, ℕ, ℤ, Bool, true, false, not, ◌&&◌, List, length, Option, Some, None, refl, sym, ap, ◌∙◌, subst}
+use Rattle.std.proofs.lemmas.Bool.{and_parts}
 use Rattle.std.specs.Prelude.{nat_le, int_lt, option_map}
 use Rattle.std.specs.List.{list_all}
 use Rattle.osi_base.specs.Oid.{is_oid}
@@ -12,7 +13,7 @@ use Rattle.packed_codec.specs.Numbers.{is_size, integer_of, integer_octets}
 use Rattle.packed_codec.specs.ObjectIds.{arcs_of, arcs_octets}
 use Rattle.packed_codec.specs.Rules.{checked, in_range, number_rule, any_size, at_most, octets_rule, text_rule, object_id_rule}
 use Rattle.packed_codec.specs.Writing.{Writer, counted, with_size, number_written, octets_written, text_written, object_id_written, items}
-use Rattle.packed_codec.proofs.Spelled.{Sized, and_true, some_if, octets_all}
+use Rattle.packed_codec.proofs.Spelled.{Sized, some_if, octets_all}
 use Rattle.packed_codec.proofs.Integers.{integer_sound, integer_complete}
 use Rattle.packed_codec.proofs.Oids.{arcs_sound, arcs_complete}
 
@@ -35,7 +36,7 @@ number_sound test c v are e = by_number (integer_of c) refl e
 
 number_complete : (test : ℤ → Bool) (v : Value) → number_fits test v ≡ true → (c : List ℕ) × (number_written v ≡ with_size c) × (is_size (length c) ≡ true) × (number_rule test c ≡ Some v) × (items v ≡ 0)
 number_complete test (integer z) e =
-    let t = and_true (is_number z) (test z) e in
+    let t = and_parts (is_number z) (test z) e in
     let r = integer_complete z t.0 in
     (integer_octets z, refl, r.size, rw (r.reads, t.1) refl, refl)
 number_complete test null e = absurd cc
@@ -101,7 +102,7 @@ enumerated_sized named = retest _ _ number_written with_size is_size _ (item_tes
 -- ---- strings
 
 octets_complete : (most : ℕ) (v : Value) → octets_fit most v ≡ true → (c : List ℕ) × (octets_written v ≡ counted c) × (at_most most (length c) ≡ true) × (octets_rule c ≡ Some v) × (items v ≡ 0)
-octets_complete most (octets os) e = (os, refl, (and_true (list_all is_octet os) (nat_le (length os) most) e).1, refl, refl)
+octets_complete most (octets os) e = (os, refl, (and_parts (list_all is_octet os) (nat_le (length os) most) e).1, refl, refl)
 octets_complete most null e = absurd cc
 octets_complete most (boolean b) e = absurd cc
 octets_complete most (integer z) e = absurd cc
@@ -122,7 +123,7 @@ octets_sized most = record {
 }
 
 text_complete : (kind : TextKind) (v : Value) → text_fits kind v ≡ true → (c : List ℕ) × (text_written v ≡ counted c) × (any_size (length c) ≡ true) × (text_rule kind c ≡ Some v) × (items v ≡ 0)
-text_complete kind (text os) e = let t = and_true (list_all is_octet os) (is_text kind os) e in (os, refl, refl, rw t.1 refl, refl)
+text_complete kind (text os) e = let t = and_parts (list_all is_octet os) (is_text kind os) e in (os, refl, refl, rw t.1 refl, refl)
 text_complete kind null e = absurd cc
 text_complete kind (boolean b) e = absurd cc
 text_complete kind (integer z) e = absurd cc
@@ -155,7 +156,7 @@ object_id_sound c v are e = by_arcs (arcs_of c) refl e
 
 object_id_complete : (v : Value) → object_id_fits v ≡ true → (c : List ℕ) × (object_id_written v ≡ counted c) × (any_size (length c) ≡ true) × (object_id_rule c ≡ Some v) × (items v ≡ 0)
 object_id_complete (object_id arcs) e =
-    let t = and_true (is_oid arcs) (list_all has_32_bits arcs) e in
+    let t = and_parts (is_oid arcs) (list_all has_32_bits arcs) e in
     (arcs_octets arcs, refl, refl, rw (arcs_complete arcs t.0 t.1) refl, refl)
 object_id_complete null e = absurd cc
 object_id_complete (boolean b) e = absurd cc

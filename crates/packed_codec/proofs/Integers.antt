@@ -3,7 +3,7 @@ use Rattle.std.proofs.Common.{◌≡◌, ℕ, zero, suc, ◌+◌, ◌-◌, ◌*�
 use Rattle.std.specs.Prelude.{nat_lt, nat_le, nat_eq, slice_index}
 use Rattle.std.specs.Int.{w64, cast_unsigned, bytes_high_first, byte_at}
 use Rattle.std.proofs.Math.Nat.{pow-suc, pow-le-pow_right, mul-le-mul_right, mod-lt, mod-eq_of_lt}
-use Rattle.std.proofs.lemmas.Bool.{cases_lt, le-ltb, lt-ltb, ltb-true, ltb-false, le-leb, leb-true, leb-false, eqb-true}
+use Rattle.std.proofs.lemmas.Bool.{cases_lt, le-ltb, lt-ltb, ltb-true, ltb-false, le-leb, leb-true, leb-false, eqb-true, and_parts, or_parts, or_cases}
 use Rattle.byteorder.specs.Endian.{big_from}
 use Rattle.byteorder.specs.Numbers.{big_from-cons, big_from-bytes}
 use Rattle.asn1_types.specs.Whole.{number_256}
@@ -11,7 +11,7 @@ use Rattle.asn1_types.specs.Fits.{is_number}
 use Rattle.packed_codec.specs.Octets.{AreOctets}
 use Rattle.packed_codec.specs.Numbers.{is_padded, signed_of, is_size, integer_of, unpadded, integer_octets}
 use Rattle.packed_codec.proofs.Signed.{regroup, out, number_low, number_high, number_small, number_large, octets_tail}
-use Rattle.packed_codec.proofs.Spelled.{and_true, some_if}
+use Rattle.packed_codec.proofs.Spelled.{some_if}
 
 -- ---- numbers and their octets
 
@@ -54,10 +54,6 @@ record Shortest (os : List ℕ) : Type 0 where
   some : 1 ≤ length os
   shortest : is_padded os ≡ false
 
-or_false : (a b : Bool) → (a || b) ≡ false → (a ≡ false) × (b ≡ false)
-or_false true b e = absurd cc
-or_false false b e = (refl, e)
-
 and_false : (a b : Bool) → (a && b) ≡ false → a ≡ true → b ≡ false
 and_false true b e t = e
 and_false false b e t = absurd cc
@@ -92,7 +88,7 @@ low_long : (os : List ℕ) → 2 ≤ length os → is_padded os ≡ false → Lo
 low_long [] some e = absurd (omega arith)
 low_long (x ∷ []) some e = absurd (omega arith)
 low_long (x ∷ y ∷ os) some e =
-    let t = or_false (nat_eq x 0 && nat_lt y 128) (nat_eq x 255 && nat_le 128 y) e in
+    let t = or_parts (nat_eq x 0 && nat_lt y 128) (nat_eq x 255 && nat_le 128 y) e in
     let n : (256 * (256 * 0 + x) + y) * 256 ^ length os ≤ number_256 (256 * (256 * 0 + x) + y) os = number_low (256 * (256 * 0 + x) + y) os in
     let le : 128 * 256 ^ length os ≤ (256 * (256 * 0 + x) + y) * 256 ^ length os = mul_le 128 (256 * (256 * 0 + x) + y) (256 ^ length os) (low_first x y t.0) in
     record { p = length os; len = refl; large = omega arith }
@@ -130,7 +126,7 @@ high_long : (os : List ℕ) → AreOctets os → 2 ≤ length os → is_padded o
 high_long [] h some e = absurd (omega arith)
 high_long (x ∷ []) h some e = absurd (omega arith)
 high_long (x ∷ y ∷ os) h some e =
-    let t = or_false (nat_eq x 0 && nat_lt y 128) (nat_eq x 255 && nat_le 128 y) e in
+    let t = or_parts (nat_eq x 0 && nat_lt y 128) (nat_eq x 255 && nat_le 128 y) e in
     let k : ℕ = 256 * (256 * 0 + x) + y in
     let n : number_256 k os < (k + 1) * 256 ^ length os = number_high k os (octets_tail y os (octets_tail x (y ∷ os) h)) in
     let le : (k + 1) * 256 ^ length os ≤ 65408 * 256 ^ length os = mul_le (k + 1) 65408 (256 ^ length os) (high_first x y (h.each 0) (h.each 1) t.1) in
@@ -221,18 +217,14 @@ pad_high y os h le =
 
 pad_step : (x y : ℕ) (os : List ℕ) → AreOctets (y ∷ os) → is_padded (x ∷ y ∷ os) ≡ true → signed_of (y ∷ os) ≡ signed_of (x ∷ y ∷ os)
 pad_step x y os h e =
-    elim (or_true (nat_eq x 0 && nat_lt y 128) (nat_eq x 255 && nat_le 128 y) e) [
+    elim (or_cases (nat_eq x 0 && nat_lt y 128) (nat_eq x 255 && nat_le 128 y) e) [
       | inl t ↦
-          let u = and_true (nat_eq x 0) (nat_lt y 128) t in
+          let u = and_parts (nat_eq x 0) (nat_lt y 128) t in
           pad_low y os (ltb-true y 128 u.1) ∙ ap (λ (k : ℕ). signed_of (k ∷ y ∷ os)) (sym (eqb-true x 0 u.0))
       | inr t ↦
-          let u = and_true (nat_eq x 255) (nat_le 128 y) t in
+          let u = and_parts (nat_eq x 255) (nat_le 128 y) t in
           pad_high y os h (leb-true 128 y u.1) ∙ ap (λ (k : ℕ). signed_of (k ∷ y ∷ os)) (sym (eqb-true x 255 u.0))
     ]
-  where
-    or_true : (a b : Bool) → (a || b) ≡ true → (a ≡ true) ⊎ (b ≡ true)
-    or_true true b e = inl refl
-    or_true false b e = inr e
 
 without : (os : List ℕ) → AreOctets os → 1 ≤ length os → Unpadded os
 without [] h some = absurd (omega arith)
@@ -333,8 +325,8 @@ pub integer_sound : (c : List ℕ) (z : ℤ) → AreOctets c → integer_of c �
 unfolding integer_of integer_octets eight
 integer_sound c z h e =
     let t = some_if (is_size (length c) && not (is_padded c)) (signed_of c) z e in
-    let u = and_true (is_size (length c)) (not (is_padded c)) t.0 in
-    let v = and_true (nat_le 1 (length c)) (nat_le (length c) 8) u.0 in
+    let u = and_parts (is_size (length c)) (not (is_padded c)) t.0 in
+    let v = and_parts (nat_le 1 (length c)) (nat_le (length c) 8) u.0 in
     let some : 1 ≤ length c = leb-true 1 (length c) v.0 in
     let few : length c ≤ 8 = leb-true (length c) 8 v.1 in
     let number : is_number z ≡ true = ap is_number (sym t.1) ∙ signed_number c h some few in

@@ -2,13 +2,13 @@
 use Rattle.std.proofs.Common.{◌≡◌, ◌≢◌, ℕ, zero, suc, ◌+◌, ◌-◌, ◌*◌, ◌^◌, ◌≤◌, ◌<◌, Bool, true, false, ◌&&◌, ◌||◌, cond, List, [], ◌∷◌, ◌++◌, length, Option, Some, None, refl, sym, ap, ◌∙◌, subst, arith, ◌⊎◌, inl, inr}
 use Rattle.std.specs.Prelude.{nat_lt, nat_le, nat_eq, slice_index}
 use Rattle.std.specs.List.{list_all, flat_map, AllByRecursion}
-use Rattle.std.proofs.lemmas.Bool.{lt-ltb, le-ltb, ltb-false, ltb-true, eqb-false, ne_eqb, leb-true}
+use Rattle.std.proofs.lemmas.Bool.{lt-ltb, le-ltb, ltb-false, ltb-true, eqb-false, ne_eqb, leb-true, and_parts, or_cases}
 use Rattle.osi_base.specs.Oid.{is_oid}
 use Rattle.asn1_types.specs.Fits.{has_32_bits}
 use Rattle.packed_codec.specs.Octets.{AreOctets}
 use Rattle.packed_codec.specs.ObjectIds.{sized, push_front, subidentifiers_of, first_arc, arcs_from, judged_arcs, arcs_of, base_128, subidentifiers, arcs_octets}
 use Rattle.packed_codec.proofs.Taking.{octets_tail}
-use Rattle.packed_codec.proofs.Spelled.{and_true, some_if}
+use Rattle.packed_codec.proofs.Spelled.{some_if}
 use Rattle.packed_codec.proofs.Base128.{AreDigits, number_128, IsBase128, low_small, low_large, base_unique, base_128_is}
 
 abbrev AreSubidentifiers : List ℕ → List ℕ → Type 0
@@ -155,7 +155,7 @@ sized_subs (n ∷ ns) contents small h =
 
 arcs_small : (arcs : List ℕ) → list_all has_32_bits arcs ≡ true → AllByRecursion (λ n. n < 2 ^ 32) arcs
 arcs_small [] e = tt
-arcs_small (n ∷ ns) e = let t = and_true (has_32_bits n) (list_all has_32_bits ns) e in (ltb-true n (2 ^ 32) t.0, arcs_small ns t.1)
+arcs_small (n ∷ ns) e = let t = and_parts (has_32_bits n) (list_all has_32_bits ns) e in (ltb-true n (2 ^ 32) t.0, arcs_small ns t.1)
 
 -- subidentifiers have at most 35 bits
 abbrev AllLow : List ℕ → Type 0
@@ -188,16 +188,12 @@ arcs_back (n ∷ ns) h =
     let same : 40 * first_arc n + (n - 40 * first_arc n) ≡ n = omega arith in
     (ap (λ (k : ℕ). k ∷ ns) same, (omega arith, low_more ns h.1.1))
 
-or_true : (a b : Bool) → (a || b) ≡ true → (a ≡ true) ⊎ (b ≡ true)
-or_true true b e = inl refl
-or_true false b e = inr e
-
 -- the second arc is below 40 under the first two roots
 second_low : (root second : ℕ) → (nat_lt root 2 && nat_lt second 40 || nat_le root 2 && nat_le 2 root) ≡ true → ((root < 2) × (second < 40)) ⊎ (root ≡ 2)
 second_low root second e =
-    elim (or_true (nat_lt root 2 && nat_lt second 40) (nat_le root 2 && nat_le 2 root) e) [
-      | inl t ↦ let u = and_true (nat_lt root 2) (nat_lt second 40) t in inl (ltb-true root 2 u.0, ltb-true second 40 u.1)
-      | inr t ↦ let u = and_true (nat_le root 2) (nat_le 2 root) t in let a = leb-true root 2 u.0 in let b = leb-true 2 root u.1 in inr (omega arith)
+    elim (or_cases (nat_lt root 2 && nat_lt second 40) (nat_le root 2 && nat_le 2 root) e) [
+      | inl t ↦ let u = and_parts (nat_lt root 2) (nat_lt second 40) t in inl (ltb-true root 2 u.0, ltb-true second 40 u.1)
+      | inr t ↦ let u = and_parts (nat_le root 2) (nat_le 2 root) t in let a = leb-true root 2 u.0 in let b = leb-true 2 root u.1 in inr (omega arith)
     ]
 
 first_is_root : (root second : ℕ) → ((root < 2) × (second < 40)) ⊎ (root ≡ 2) → first_arc (40 * root + second) ≡ root
@@ -217,7 +213,7 @@ first_is_root root second (inr h) =
     subst (λ (r : ℕ). first_arc (40 * r + second) ≡ r) (sym h) (rw (le-ltb (40 * 2 + second) 40 ge, le-ltb (40 * 2 + second) 80 more) refl)
 
 roots : (root second : ℕ) (arcs : List ℕ) → is_oid (root ∷ second ∷ arcs) ≡ true → ((root < 2) × (second < 40)) ⊎ (root ≡ 2)
-roots root second arcs h = second_low root second (and_true (nat_le (length (root ∷ second ∷ arcs)) 32) _ h).1
+roots root second arcs h = second_low root second (and_parts (nat_le (length (root ∷ second ∷ arcs)) 32) _ h).1
 
 subs_back : (arcs : List ℕ) → is_oid arcs ≡ true → arcs_from (subidentifiers arcs) ≡ arcs
 subs_back [] h = refl
@@ -266,7 +262,7 @@ arcs_sound c arcs are e = by_subs (subidentifiers_of 0 false c) refl e
     by_subs None s e = absurd cc
     by_subs (Some ns) s e =
         let t = some_if (list_all has_32_bits (arcs_from ns) && is_oid (arcs_from ns)) (arcs_from ns) arcs e in
-        let u = and_true (list_all has_32_bits (arcs_from ns)) (is_oid (arcs_from ns)) t.0 in
+        let u = and_parts (list_all has_32_bits (arcs_from ns)) (is_oid (arcs_from ns)) t.0 in
         let back = arcs_back ns (arcs_small (arcs_from ns) u.0) in
         let subs : subidentifiers arcs ≡ ns = ap subidentifiers (sym t.1) ∙ back.0 in
         let spelled = sized_subs ns c (low_all ns back.1) (free_found c ns are s) in

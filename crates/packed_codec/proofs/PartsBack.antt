@@ -1,7 +1,7 @@
 -- Values that hold values: what is spelled so is read.
 use Rattle.std.proofs.Common.{◌≡◌, ℕ, ◌+◌, ◌-◌, ◌^◌, ◌≤◌, ◌<◌, Bool, true, false, List, [], ◌∷◌, ◌++◌, length, Option, Some, None, Ok, refl, sym, ap, ◌∙◌, arith, length-append, append_assoc}
 use Rattle.std.specs.Prelude.{slice_get}
-use Rattle.std.proofs.lemmas.Bool.{le-ltb}
+use Rattle.std.proofs.lemmas.Bool.{le-ltb, and_parts}
 use Rattle.byteorder.specs.Endian.{big_bytes}
 use Rattle.asn1_types.specs.declared.row.Part.{Part}
 use Rattle.asn1_types.specs.Fits.{part_fits, parts_fit, sequence_fits, values_fit, list_fits, alternative_fits, choice_fits}
@@ -10,7 +10,7 @@ use Rattle.packed_codec.specs.Reading.{Spot, Reading, ◌>>=◌}
 use Rattle.packed_codec.specs.Rules.{Reader, present_at, part_at, parts_at, sequence_at, items_at, list_at, choice_at, most_items}
 use Rattle.packed_codec.specs.Writing.{Writer, part_written, parts_written, sequence_written, how_many, values_written, list_written, alternative_written, choice_written, items, items_of_parts, items_of_values}
 use Rattle.packed_codec.proofs.Taking.{octet_again, count_again}
-use Rattle.packed_codec.proofs.Spelled.{at_spot, Only, and_true}
+use Rattle.packed_codec.proofs.Spelled.{at_spot, Only}
 use Rattle.packed_codec.proofs.Parts.{items_of_part, list_of, parts_list, items_list, values_list}
 
 -- a text with what follows it, cut in two
@@ -68,7 +68,7 @@ module _ (test : ℕ → Value → Bool) (write : ℕ → Writer) (inner : ℕ �
   parts_back [] place left (present v vs) rest f le few most = absurd cc
   parts_back (p ∷ ps) place left no_parts rest f le few most = absurd cc
   parts_back (p ∷ ps) place left (absent vs) rest f le few most =
-      let t = and_true p.optional (parts_fit test ps vs) f in
+      let t = and_parts p.optional (parts_fit test ps vs) f in
       let a : List ℕ = part_written write p None in
       let b : List ℕ = parts_written write ps vs in
       let len = length-append a b in
@@ -78,7 +78,7 @@ module _ (test : ℕ → Value → Bool) (write : ℕ → Writer) (inner : ℕ �
       step_back (part_at (inner p.inner.0) p limit) (λ x. parts_at inner limit x.1 ps >>= λ more. Ok (x.0 ∷ more.0, more.1)) place left 0 (items_of_parts vs) a b rest None (list_of vs) (omega arith) first (rw others refl)
       ∙ ap (λ (k : ℕ). Ok (None ∷ list_of vs, at_spot (place + length (a ++ b)) rest k)) none
   parts_back (p ∷ ps) place left (present v vs) rest f le few most =
-      let t = and_true (test p.inner.0 v) (parts_fit test ps vs) f in
+      let t = and_parts (test p.inner.0 v) (parts_fit test ps vs) f in
       let a : List ℕ = part_written write p (Some v) in
       let b : List ℕ = parts_written write ps vs in
       let len = length-append a b in
@@ -110,7 +110,7 @@ module _ (test : ℕ → Value → Bool) (write : ℕ → Writer) (inner : ℕ �
       let kept : left ≡ left - 0 = omega arith in
       λ i. Ok ([], at_spot (to i) rest (kept i))
   items_back n place left (value v vs) rest f le few most =
-      let t = and_true (test n v) (values_fit (test n) vs) f in
+      let t = and_parts (test n v) (values_fit (test n) vs) f in
       let a : List ℕ = write n v in
       let b : List ℕ = values_written (write n) vs in
       let len = length-append a b in

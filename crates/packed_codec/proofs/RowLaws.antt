@@ -1,5 +1,6 @@
 -- Each row: what is read is spelled so, and what is spelled so is read; and so down the table.
 use Rattle.std.proofs.Common.{◌≡◌, ◌≢◌, ℕ, zero, suc, Bool, ◌&&◌, List, length, Option, Some, None, refl, ap, ◌∙◌}
+use Rattle.std.proofs.lemmas.Bool.{and_parts}
 use Rattle.std.specs.Prelude.{slice_get}
 use Rattle.asn1_types.specs.declared.row.TypeRow.{TypeRow}
 use Rattle.asn1_types.specs.declared.row.TypeRow.TheVariants as row
@@ -11,7 +12,7 @@ use Rattle.packed_codec.specs.Rules.{Reader, dead, tagged_at, read_by}
 use Rattle.packed_codec.specs.Writing.{Writer, number_written, octets_written, text_written, object_id_written, nothing_written, write_by}
 use Rattle.packed_codec.specs.Laws.{packs_by, packs, HasNoAny, FittingPacks}
 use Rattle.packed_codec.proofs.Taking.{if_ok}
-use Rattle.packed_codec.proofs.Spelled.{Found, Only, and_true, boolean_found, boolean_only, null_found, null_only, string_found, string_only, number_found, number_only, bits_found, bits_only}
+use Rattle.packed_codec.proofs.Spelled.{Found, Only, boolean_found, boolean_only, null_found, null_only, string_found, string_only, number_found, number_only, bits_found, bits_only}
 use Rattle.packed_codec.proofs.Contents.{integer_sized, enumerated_sized, octets_sized, text_sized, object_id_sized}
 use Rattle.packed_codec.proofs.Parts.{sequence_found, list_found, choice_found}
 use Rattle.packed_codec.proofs.PartsBack.{sequence_back, list_back, choice_back}
@@ -47,7 +48,7 @@ module _ (test : ℕ → Value → Bool) (write : ℕ → Writer) (inner : ℕ �
   tagged_only : (number n : ℕ) → Only (test n) (write n) (inner n) → Only (λ v. has_32_bits number && test n v) (write n) (tagged_at number (inner n))
   tagged_only number n k = record {
     only = λ limit place left v rest f lt le few most.
-        let t = and_true (has_32_bits number) (test n v) f in
+        let t = and_parts (has_32_bits number) (test n v) f in
         rw t.0 (k.only limit place left v rest t.1 lt le few most);
   }
 

@@ -2,7 +2,7 @@
 use Rattle.std.proofs.Common.{◌≡◌, ℕ, zero, suc, ◌+◌, ◌-◌, ◌^◌, ◌≤◌, ◌<◌, Bool, true, false, ◌&&◌, cond, List, [], ◌∷◌, ◌++◌, length, Option, Some, None, Ok, refl, sym, ap, ◌∙◌, subst, arith, length-append, append_assoc}
 use Rattle.std.specs.Prelude.{nat_lt, nat_eq}
 use Rattle.std.specs.List.{list_all}
-use Rattle.std.proofs.lemmas.Bool.{ne_eqb, eqb-true}
+use Rattle.std.proofs.lemmas.Bool.{ne_eqb, eqb-true, and_parts}
 use Rattle.byteorder.specs.Endian.{big_bytes}
 use Rattle.asn1_types.specs.Fits.{is_octet, are_bits, boolean_fits, null_fits, bits_fit}
 use Rattle.asn1_types.proofs.FitLaws.{all_octets}
@@ -232,10 +232,6 @@ abbrev bits_body : Writer
 bits_body (bits os n) = counted os
 bits_body v = []
 
-pub and_true : (a b : Bool) → (a && b) ≡ true → (a ≡ true) × (b ≡ true)
-and_true true b e = (refl, e)
-and_true false b e = absurd cc
-
 pub some_if : {A : Type 0} (b : Bool) (x y : A) → ◌≡◌ {A = Option A} (cond b (Some x) None) (Some y) → (b ≡ true) × (x ≡ y)
 some_if true x y e = (refl, cc)
 some_if false x y e = absurd cc
@@ -244,7 +240,7 @@ pub octets_all : (os : List ℕ) → AreOctets os → list_all is_octet os ≡ t
 octets_all os h = sym (all_octets os h.each)
 
 some_bits : (os : List ℕ) (u : ℕ) → are_bits os u ≡ true → bits_size u (length os) ≡ true
-some_bits [] u e = (and_true (nat_lt u 8) (nat_eq u 0) e).1
+some_bits [] u e = (and_parts (nat_lt u 8) (nat_eq u 0) e).1
 some_bits (o ∷ os) u e = let some : nat_eq (length (o ∷ os)) 0 ≡ false = ne_eqb (length (o ∷ os)) 0 (λ e. omega arith) in rw some refl
 
 bits_sized : (u : ℕ) → Sized (unused_is u) bits_body counted (bits_size u) (bits_rule u)
@@ -259,9 +255,9 @@ bits_sized u = record { sound = bits_sound; complete = bits_complete }
 
     bits_complete : (v : Value) → unused_is u v ≡ true → (c : List ℕ) × (bits_body v ≡ counted c) × (bits_size u (length c) ≡ true) × (bits_rule u c ≡ Some v) × (items v ≡ 0)
     bits_complete (bits os n) e =
-        let t = and_true (bits_fit (bits os n)) (nat_eq n u) e in
+        let t = and_parts (bits_fit (bits os n)) (nat_eq n u) e in
         let same : n ≡ u = eqb-true n u t.1 in
-        let ok : are_bits os u ≡ true = ap (are_bits os) (sym same) ∙ (and_true (list_all is_octet os) (are_bits os n) t.0).1 in
+        let ok : are_bits os u ≡ true = ap (are_bits os) (sym same) ∙ (and_parts (list_all is_octet os) (are_bits os n) t.0).1 in
         (os, refl, some_bits os u ok, rw ok (ap (λ (k : ℕ). Some (bits os k)) (sym same)), refl)
     bits_complete null e = absurd cc
     bits_complete (boolean b) e = absurd cc
@@ -276,7 +272,7 @@ bits_sized u = record { sound = bits_sound; complete = bits_complete }
 
 bits_join : (u limit : ℕ) (s mid : Spot) (v : Value) (to : Spot) → Took limit s (u ∷ []) mid → ReadAs (unused_is u) bits_body limit mid v to → ReadAs bits_fit bits_written limit s v to
 bits_join u limit s mid (bits os n) to t r =
-    let f = and_true (bits_fit (bits os n)) (nat_eq n u) r.fit in
+    let f = and_parts (bits_fit (bits os n)) (nat_eq n u) r.fit in
     let same : u ≡ n = sym (eqb-true n u f.1) in
     record {
       parts = t.parts ∙ λ i. same i ∷ r.parts i;
@@ -312,7 +308,7 @@ bits_back : (limit place left : ℕ) (v : Value) (rest : List ℕ) → bits_fit 
     → bits_at limit (at_spot place (bits_written v ++ rest) left) ≡ Ok (v, at_spot (place + length (bits_written v)) rest (left - items v))
 unfolding bits_at
 bits_back limit place left (bits os n) rest f lt le most =
-    let small : nat_lt n 8 ≡ true = (and_true (nat_lt n 8) _ (and_true (list_all is_octet os) (are_bits os n) f).1).0 in
+    let small : nat_lt n 8 ≡ true = (and_parts (nat_lt n 8) _ (and_parts (list_all is_octet os) (are_bits os n) f).1).0 in
     let itself : nat_eq n n ≡ true = eqb-same n in
     let g : unused_is n (bits os n) ≡ true = rw (f, itself) refl in
     let to : place + 1 + length (counted os) ≡ place + length (bits_written (bits os n)) = omega arith in

@@ -1,7 +1,7 @@
 -- The fault of a transport unit: it is given where it is the first one, and no other.
 use Rattle.std.proofs.Common.{◌≡◌, ℕ, ◌+◌, ◌<◌, ◌≤◌, ◌==◌, Bool, true, false, List, [], ◌∷◌, length, Option, Some, None, Result, Ok, Err, refl, sym, ap, subst, ◌∙◌, inl, inr, arith}
 use Rattle.std.specs.Prelude.{◌⊎◌, ◌&&◌, ◌||◌, not, IfErr}
-use Rattle.std.proofs.lemmas.Bool.{cases_Bool}
+use Rattle.std.proofs.lemmas.Bool.{cases_Bool, and_parts, or_parts}
 use Rattle.std.proofs.lemmas.List.{length-append}
 use Rattle.osi_base.specs.declared.words.Kind.TheVariants as why
 use Rattle.osi_base.specs.declared.session_word.SessionWord.{SessionWord}
@@ -16,7 +16,7 @@ use Rattle.spdu_codec.specs.Reading.{Gives, Fault, at, ◌>>=◌, front, unit_at
 use Rattle.spdu_codec.specs.Wire.{IsOctets, AreUnits}
 use Rattle.spdu_codec.specs.Faults.{UnitFault, EndFault, LastFault, SecondFault, FirstFault, IsFirstFault}
 use Rattle.spdu_codec.proofs.Results.{chosen}
-use Rattle.spdu_codec.proofs.WireLaws.{octets-behind, unit_found, unit_again, worded_found, both, other, all_found, all_again}
+use Rattle.spdu_codec.proofs.WireLaws.{octets-behind, unit_found, unit_again, worded_found, other, all_found, all_again}
 use Rattle.spdu_codec.proofs.FaultLaws.{bad, err_is, failed, outcome, unit_fault, unit_wrong}
 
 -- ---- the unit that stands last
@@ -24,10 +24,6 @@ use Rattle.spdu_codec.proofs.FaultLaws.{bad, err_is, failed, outcome, unit_fault
 worded_fault : (place : ℕ) (o : Option SessionWord) (f : Fault) → worded place o ≡ Err f → (o ≡ None) × (f ≡ at place why.Missing)
 worded_fault place None f e = (refl, sym (err_is SessionWord (at place why.Missing) f e))
 worded_fault place (Some word) f e = absurd cc
-
-neither : (a b : Bool) → (a || b) ≡ false → (a ≡ false) × (b ≡ false)
-neither true b e = absurd cc
-neither false b e = (refl, e)
 
 some_are : (xs : List ℕ) → (length xs == 0) ≡ false → 0 < length xs
 some_are [] e = absurd cc
@@ -45,7 +41,7 @@ last_fault end kind p behind f e =
           elim (chosen (has_information kind || length behind == 0) (Ok h.0) (Err (at (front end behind) why.Extra)) (Err f) h.2) [
             | inl g ↦ absurd (let i = g.1 in cc)
             | inr g ↦ (
-                let n = neither (has_information kind) (length behind == 0) g.0 in
+                let n = or_parts (has_information kind) (length behind == 0) g.0 in
                 inr (h.0, worded_found (front end behind) (word_of kind true p behind) h.0 h.1, n.0, some_are behind n.1, sym (err_is SessionWord (at (front end behind) why.Extra) f g.1)))
           ])
     ]
@@ -105,7 +101,7 @@ not_lead true behind (inl e) = absurd cc
 not_lead true behind (inr e) = ap (λ (l : List ℕ). not (length l == 0)) e
 
 first_true : (b : Bool) (behind : List ℕ) → (b && not (length behind == 0)) ≡ true → (b ≡ true) × (0 < length behind)
-first_true b behind e = (let g = both b (not (length behind == 0)) e in (g.0, some_are behind (let i = g.1 in elim (cases_Bool (length behind == 0)) [ inl h ↦ absurd (let j : not true ≡ true = ap not (sym h) ∙ i in cc) | inr h ↦ h ])))
+first_true b behind e = (let g = and_parts b (not (length behind == 0)) e in (g.0, some_are behind (let i = g.1 in elim (cases_Bool (length behind == 0)) [ inl h ↦ absurd (let j : not true ≡ true = ap not (sym h) ∙ i in cc) | inr h ↦ h ])))
 
 abbrev failing : Fault → Result (List SessionWord) Fault
 failing f = Err f

@@ -1,7 +1,7 @@
 -- What is read is spelled so, and what is spelled so is read.
 use Rattle.std.proofs.Common.{◌≡◌, ℕ, zero, suc, ◌+◌, ◌*◌, ◌/◌, ◌%◌, ◌<◌, ◌≤◌, ◌==◌, Bool, true, false, ltb, List, [], ◌∷◌, ◌++◌, length, take, drop, Option, Some, None, Result, Ok, Err, refl, sym, ap, subst, ◌∙◌, append_assoc, inl, inr, arith}
 use Rattle.std.specs.Prelude.{◌⊎◌, ◌&&◌, ◌||◌, not}
-use Rattle.std.proofs.lemmas.Bool.{ltb-false, le-ltb, cases_Bool}
+use Rattle.std.proofs.lemmas.Bool.{ltb-false, le-ltb, cases_Bool, and_parts, or_cases}
 use Rattle.std.proofs.lemmas.List.{take-append-drop, length-append, length-take, take_at, drop_at, get_or-append-add}
 use Rattle.osi_base.specs.declared.words.Kind.TheVariants as why
 use Rattle.osi_base.specs.declared.session_word.SessionWord.{SessionWord}
@@ -260,15 +260,6 @@ pub length_none : (xs : List ℕ) → (length xs == 0) ≡ true → xs ≡ []
 length_none [] e = refl
 length_none (x ∷ xs) e = absurd (let f = eq_is (length (x ∷ xs)) 0 e in omega arith)
 
-either : (a b : Bool) → (a || b) ≡ true → (a ≡ true) ⊎ (b ≡ true)
-either true b e = inl refl
-either false b e = inr e
-
-pub both : (a b : Bool) → (a && b) ≡ true → (a ≡ true) × (b ≡ true)
-both true true e = (refl, refl)
-both true false e = absurd cc
-both false b e = absurd cc
-
 last_found : (table : List (ℕ × SpduKind)) (end : ℕ) (kind : SpduKind) (p : Parameters) (unit behind : List ℕ) (word : SessionWord) → IsUnit table kind p unit → last_word end kind p behind ≡ Ok word
     → IsLast table word (unit ++ behind)
 last_found table end kind p unit behind word u e =
@@ -282,7 +273,7 @@ last_found table end kind p unit behind word u e =
       behind = behind;
       is = u;
       parts = refl;
-      information = elim (either (has_information kind) (length behind == 0) b.0) [ inl f ↦ inl f | inr f ↦ inr (length_none behind f) ];
+      information = elim (or_cases (has_information kind) (length behind == 0) b.0) [ inl f ↦ inl f | inr f ↦ inr (length_none behind f) ];
       means = worded_found (front end behind) (word_of kind true p behind) a.0 a.1 ∙ ap is_word same;
     }
 
@@ -317,7 +308,7 @@ all_found xs ws fits e =
       | inl p ↦ (
           let c = bound (worded (front (length xs) u.2) (word_of u.0 false u.1 [])) _ ws p.1 in
           let d = bound (second_at (length xs) u.2) _ ws c.2 in
-          let l = both (leads u.0) (not (length u.2 == 0)) p.0 in
+          let l = and_parts (leads u.0) (not (length u.2 == 0)) p.0 in
           let first : IsFront c.0 f.0 = record { kind = u.0; found = u.1; is = f.1; leading = l.0; means = worded_found (front (length xs) u.2) (word_of u.0 false u.1 []) c.0 c.1 } in
           subst (λ (w : List SessionWord). AreUnits w xs) (words_are (c.0 ∷ d.0 ∷ []) ws d.2) (f.0, u.2, first, second_found (length xs) u.2 d.0 behind d.1, f.2))
       | inr p ↦ (

@@ -4,7 +4,7 @@ use Rattle.std.specs.Prelude.{nat_eq}
 use Rattle.std.specs.Cmp.Lexicographic.{pointwise}
 use Rattle.std.proofs.Math.Seq.{drop-cons}
 use Rattle.std.proofs.Math.ListN.{drop_of_length-le}
-use Rattle.std.proofs.lemmas.Bool.{eq-eqb, eqb-true}
+use Rattle.std.proofs.lemmas.Bool.{eq-eqb, eqb-true, and_parts}
 use Rattle.osi_base.specs.declared.words.SetItem.{SetItem}
 use Rattle.dialogue.specs.Message.{pair_of}
 use Rattle.stack.specs.Asked.{first_with}
@@ -42,16 +42,12 @@ same_list : (xs : List ℕ) → pointwise nat_eq xs xs ≡ true
 same_list [] = refl
 same_list (x ∷ xs) = rw (eq-eqb x x refl) (same_list xs)
 
-and_true : (a b : Bool) → a && b ≡ true → (a ≡ true) × (b ≡ true)
-and_true true b h = (refl, h)
-and_true false b h = absurd cc
-
 one_list : (xs ys : List ℕ) → pointwise nat_eq xs ys ≡ true → xs ≡ ys
 one_list [] [] h = refl
 one_list [] (y ∷ ys) h = absurd cc
 one_list (x ∷ xs) [] h = absurd cc
 one_list (x ∷ xs) (y ∷ ys) h =
-    let both = and_true (nat_eq x y) (pointwise nat_eq xs ys) h in
+    let both = and_parts (nat_eq x y) (pointwise nat_eq xs ys) h in
     let head : x ≡ y = eqb-true x y both.0 in
     let tail : xs ≡ ys = one_list xs ys both.1 in cc
 

@@ -1,10 +1,9 @@
 -- Each operation is the one with its code, and so is each error.
-use Rattle.std.proofs.Common.{◌≡◌, ℕ, zero, suc, ◌+◌, ℤ, Bool, true, false, cond, not, ◌&&◌, ◌||◌, List, [], ◌∷◌, Option, Some, None, refl, sym, ap, subst, ◌∙◌, arith}
+use Rattle.std.proofs.Common.{◌≡◌, ℕ, zero, suc, ◌+◌, Bool, true, false, not, List, [], ◌∷◌, Some, refl, ap, subst, ◌∙◌, arith}
 use Rattle.std.specs.Prelude.{slice_get, nat_eq, IsTrue}
-use Rattle.std.specs.Ordering.{int_eq}
 use Rattle.std.specs.Cmp.Lexicographic.{pointwise}
 use Rattle.std.specs.List.{list_any, position_from}
-use Rattle.std.proofs.lemmas.Bool.{eq-eqb}
+use Rattle.std.proofs.lemmas.Bool.{eq-eqb, and_parts, or_parts}
 use Rattle.std.proofs.lemmas.Bool.Decides.{Decides-int_eq}
 use Rattle.stub_tables.specs.declared.operation.Code.{Code}
 use Rattle.stub_tables.specs.declared.operation.Code.TheVariants.{Local, Global}
@@ -20,14 +19,6 @@ pub same_code-refl : (c : Code) → same_code c c ≡ true
 same_code-refl (Local n) = (Decides-int_eq n n).1 refl
 same_code-refl (Global arcs) = same_list arcs
 
-or_false : (a b : Bool) → a || b ≡ false → (a ≡ false) × (b ≡ false)
-or_false true b h = absurd cc
-or_false false b h = (refl, h)
-
-and_true : (a b : Bool) → a && b ≡ true → (a ≡ true) × (b ≡ true)
-and_true true b h = (refl, h)
-and_true false b h = absurd cc
-
 not_true : (a : Bool) → not a ≡ true → a ≡ false
 not_true true h = absurd cc
 not_true false h = refl
@@ -40,8 +31,8 @@ module _ {X : Type 0} (code_of : X → Code) where
   other : (x y : X) (xs : List X) (k : ℕ) → list_any (λ z. same_code (code_of x) (code_of z)) xs ≡ false → slice_get xs k ≡ Some y → same_code (code_of x) (code_of y) ≡ false
   other x y [] k h e = absurd cc
   other x y (z ∷ zs) zero h e =
-      subst (λ (w : X). same_code (code_of x) (code_of w) ≡ false) (some_is z y e) (or_false (same_code (code_of x) (code_of z)) (list_any (λ w. same_code (code_of x) (code_of w)) zs) h).0
-  other x y (z ∷ zs) (suc k) h e = other x y zs k (or_false (same_code (code_of x) (code_of z)) (list_any (λ w. same_code (code_of x) (code_of w)) zs) h).1 e
+      subst (λ (w : X). same_code (code_of x) (code_of w) ≡ false) (some_is z y e) (or_parts (same_code (code_of x) (code_of z)) (list_any (λ w. same_code (code_of x) (code_of w)) zs) h).0
+  other x y (z ∷ zs) (suc k) h e = other x y zs k (or_parts (same_code (code_of x) (code_of z)) (list_any (λ w. same_code (code_of x) (code_of w)) zs) h).1 e
 
   pub found_at : (xs : List X) (n k : ℕ) (x : X) → have_own_codes code_of xs ≡ true → slice_get xs k ≡ Some x → position_from (λ y. same_code (code_of y) (code_of x)) n xs ≡ Some (n + k)
   found_at [] n k x h e = absurd cc
@@ -49,7 +40,7 @@ module _ {X : Type 0} (code_of : X → Code) where
       let s : same_code (code_of y) (code_of x) ≡ true = subst (λ (w : X). same_code (code_of y) (code_of w) ≡ true) (some_is y x e) (same_code-refl (code_of y)) in
       rw s (ap Some (omega arith))
   found_at (y ∷ ys) n (suc k) x h e =
-      let a = and_true (not (list_any (λ z. same_code (code_of y) (code_of z)) ys)) (have_own_codes code_of ys) h in
+      let a = and_parts (not (list_any (λ z. same_code (code_of y) (code_of z)) ys)) (have_own_codes code_of ys) h in
       let s = other y x ys k (not_true (list_any (λ z. same_code (code_of y) (code_of z)) ys) a.0) e in
       rw s (found_at ys (n + 1) k x a.1 e ∙ ap Some (omega arith))
 

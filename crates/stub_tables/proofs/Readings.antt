@@ -1,32 +1,28 @@
 -- Whole values and the spellings of APDUs, read from the left.
-use Rattle.std.proofs.Common.{◌≡◌, ◌≢◌, ℕ, zero, suc, ◌+◌, ℤ, Bool, true, false, List, [], ◌∷◌, ◌++◌, length, take, Option, Some, None, Result, Ok, Err, refl, sym, ap, subst, ◌∙◌, slice_get, append_assoc, option_map}
+use Rattle.std.proofs.Common.{◌≡◌, ◌≢◌, ℕ, zero, suc, ℤ, false, List, [], ◌∷◌, ◌++◌, length, take, Option, Some, None, Result, Ok, Err, refl, sym, ap, subst, ◌∙◌, slice_get, append_assoc, option_map}
 use Rattle.std.proofs.lemmas.List.{append-nil}
 use Rattle.osi_base.specs.declared.syntax.Syntax.{Syntax}
 use Rattle.osi_base.specs.declared.syntax.Syntax.TheVariants as syntax
 use Rattle.asn1_types.specs.declared.value.Val.{Val}
-use Rattle.asn1_types.specs.declared.table.TypeTable.{TypeTable}
 use Rattle.asn1_types.specs.declared.row.TypeId.{TypeId}
 use Rattle.asn1_types.specs.declared.row.TypeRow.{TypeRow}
 use Rattle.asn1_types.specs.Rows.{nesting, openings}
 use Rattle.asn1_types.specs.Table.{IsSound, refusal}
-use Rattle.asn1_types.specs.Value.{Value, MaybeValues, any, present}
+use Rattle.asn1_types.specs.Value.{Value, any, present}
 use Rattle.ber_spelling.specs.declared.fault.ReadFault.{ReadFault}
-use Rattle.ber_spelling.specs.declared.fault.ReadFault.TheVariants.{NotSpelled, Short, TooDeep, TooLong, NoMemory}
+use Rattle.ber_spelling.specs.declared.fault.ReadFault.TheVariants.{Short}
 use Rattle.ber_spelling.specs.Rules.{read_at, value_at}
 use Rattle.ber_spelling.specs.Fields.{identifier_at}
-use Rattle.ber_spelling.specs.Spelling.{Ber, Spells as SpellsValue}
 use Rattle.ber_spelling.proofs.WholeValues.{spelled_is_read, none_begins, fault_stays}
 use Rattle.stub_tables.specs.declared.tables.Tables.{Tables}
 use Rattle.stub_tables.specs.declared.operation.Code.{Code}
 use Rattle.stub_tables.specs.declared.operation.Code.TheVariants.{Local, Global}
 use Rattle.stub_tables.specs.declared.operation.Use.{Use}
-use Rattle.stub_tables.specs.declared.operation.Operation.{Operation}
-use Rattle.stub_tables.specs.declared.operation.ErrorRow.{ErrorRow}
 use Rattle.stub_tables.specs.declared.apdu.Apdu.{Apdu}
 use Rattle.stub_tables.specs.declared.apdu.Apdu.TheVariants as apdus
 use Rattle.stub_tables.specs.declared.apdu.Returned.{Returned}
 use Rattle.stub_tables.specs.Heads.{head_rows, any_row, apdu_row, code_value, linked_part, any_part, invoke_value, returned_part, result_value, error_value}
-use Rattle.stub_tables.specs.Apdus.{IsWhole, IsShort, IsFaulty, place_of, TypedAs, CarriedAs, argument_of, result_of, parameter_of, operation_coded, error_coded, SaysInvoke, SaysResult, SaysError, ReturnedAs, Says, SpellsHead, Spells}
+use Rattle.stub_tables.specs.Apdus.{IsWhole, IsShort, IsFaulty, place_of, TypedAs, CarriedAs, argument_of, result_of, parameter_of, operation_coded, error_coded, SaysInvoke, SaysResult, SaysError, ReturnedAs, Says, Spells}
 
 -- ---- the rows of the heads
 

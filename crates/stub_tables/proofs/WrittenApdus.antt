@@ -3,7 +3,7 @@ use Rattle.std.proofs.Common.{◌≡◌, ℕ, suc, ◌+◌, ◌^◌, ◌<◌, �
 use Rattle.std.specs.Prelude.{nat_lt, nat_eq, codes}
 use Rattle.std.specs.Cmp.Lexicographic.{pointwise}
 use Rattle.std.specs.List.{list_all, position_from}
-use Rattle.std.proofs.lemmas.Bool.{lt-ltb, le-ltb, ltb-true, ltb-false, eqb-true}
+use Rattle.std.proofs.lemmas.Bool.{lt-ltb, le-ltb, ltb-true, ltb-false, eqb-true, and_parts}
 use Rattle.std.proofs.lemmas.Bool.Decides.{Decides-int_eq}
 use Rattle.std.proofs.lemmas.Int.{ints}
 use Rattle.osi_base.specs.declared.syntax.Syntax.TheVariants as syntax
@@ -43,10 +43,6 @@ both : (a b : Bool) → a ≡ true → b ≡ true → (a && b) ≡ true
 both true b e f = f
 both false b e f = absurd cc
 
-and_true : (a b : Bool) → (a && b) ≡ true → (a ≡ true) × (b ≡ true)
-and_true true b e = (refl, e)
-and_true false b e = absurd cc
-
 -- ---- numbers and codes fit their rows
 
 not_above : (n m : ℕ) → m ≤ n → not (nat_lt n m) ≡ true
@@ -74,7 +70,7 @@ same_arcs [] [] e = refl
 same_arcs [] (y ∷ ys) e = absurd cc
 same_arcs (x ∷ xs) [] e = absurd cc
 same_arcs (x ∷ xs) (y ∷ ys) e =
-    let t = and_true (nat_eq x y) (pointwise nat_eq xs ys) e in
+    let t = and_parts (nat_eq x y) (pointwise nat_eq xs ys) e in
     let head : x ≡ y = eqb-true x y t.0 in
     let tail : xs ≡ ys = same_arcs xs ys t.1 in
     cc
@@ -88,10 +84,10 @@ same_is (Global a) (Local b) e = absurd cc
 module _ {X : Type 0} (code_of : X → Code) where
   found_fits : (xs : List X) (n : ℕ) (code : Code) (place : ℕ) → list_all (λ x. code_fits (code_of x)) xs ≡ true → position_from (λ x. same_code (code_of x) code) n xs ≡ Some place → code_fits code ≡ true
   found_fits [] n code place all e = absurd cc
-  found_fits (x ∷ xs) n code place all e = by_test (same_code (code_of x) code) refl e (λ f. found_fits xs (n + 1) code place (and_true (code_fits (code_of x)) (list_all (λ x. code_fits (code_of x)) xs) all).1 f)
+  found_fits (x ∷ xs) n code place all e = by_test (same_code (code_of x) code) refl e (λ f. found_fits xs (n + 1) code place (and_parts (code_fits (code_of x)) (list_all (λ x. code_fits (code_of x)) xs) all).1 f)
     where
       by_test : (b : Bool) → same_code (code_of x) code ≡ b → cond b (Some n) (position_from (λ x. same_code (code_of x) code) (n + 1) xs) ≡ Some place → (position_from (λ x. same_code (code_of x) code) (n + 1) xs ≡ Some place → code_fits code ≡ true) → code_fits code ≡ true
-      by_test true t e more = ap code_fits (sym (same_is (code_of x) code t)) ∙ (and_true (code_fits (code_of x)) (list_all (λ x. code_fits (code_of x)) xs) all).0
+      by_test true t e more = ap code_fits (sym (same_is (code_of x) code t)) ∙ (and_parts (code_fits (code_of x)) (list_all (λ x. code_fits (code_of x)) xs) all).0
       by_test false t e more = more e
 
   placed_fits : (xs : List X) (code : Code) (at : ℕ → Option X) (use_of : X → Use) (types : Tables) (value : Option Val) (o : Option ℕ) → list_all (λ x. code_fits (code_of x)) xs ≡ true

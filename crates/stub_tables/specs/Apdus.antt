@@ -1,5 +1,5 @@
 -- The spellings of APDUs of remote operations (X.882 9; X.690).
-use Rattle.std.specs.Prelude.{◌≡◌, ℕ, ◌≤ℤ◌, ℤ, pos, negsuc, List, [], length, Bool, true, false, nat_lt, Option, Some, None, Result as Outcome, Ok, Err}
+use Rattle.std.specs.Prelude.{◌≡◌, ℕ, ◌≤ℤ◌, ℤ, pos, negsuc, List, [], length, Bool, true, false, nat_lt, Option, Some, None, Err}
 use Rattle.std.specs.Option.{option_map}
 use Rattle.osi_base.specs.declared.syntax.Syntax.{Syntax}
 use Rattle.osi_base.specs.declared.syntax.Syntax.TheVariants as syntax

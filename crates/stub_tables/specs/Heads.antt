@@ -1,6 +1,6 @@
 -- The heads of APDUs of remote operations as rows of types (X.880 9, X.882 9). What an operation or
 -- an error carries stands in them as one whole value of any type.
-use Rattle.std.specs.Prelude.{ℕ, ℤ, pos, negsuc, Bool, true, false, List, [], ◌∷◌, Option, Some, None, codes}
+use Rattle.std.specs.Prelude.{ℕ, ℤ, pos, negsuc, true, false, List, [], ◌∷◌, Option, Some, None, codes}
 use Rattle.asn1_types.specs.declared.row.Part.{Part}
 use Rattle.asn1_types.specs.declared.row.Class.TheVariants.{Context}
 use Rattle.asn1_types.specs.declared.row.TypeRow.{TypeRow}

@@ -2,7 +2,7 @@
 use Rattle.std.proofs.Common.{◌≡◌, ℕ, suc, ◌+◌, ◌-◌, ◌*◌, ◌/◌, ◌%◌, ◌<◌, ◌≤◌, ◌==◌, Bool, true, false, cond, ltb, List, [], ◌∷◌, ◌++◌, length, get_or, take, drop, Option, Some, None, Result, Ok, Err, refl, sym, ap, subst, ◌∙◌, inl, inr, arith}
 use Rattle.std.specs.Prelude.{◌&&◌, ◌||◌, nat_le}
 use Rattle.std.specs.List.{flat_map}
-use Rattle.std.proofs.lemmas.Bool.{lt-leb, ltb-false, le-ltb, leb-true, leb-false, le-leb}
+use Rattle.std.proofs.lemmas.Bool.{lt-leb, ltb-false, le-ltb, leb-true, leb-false, le-leb, and_parts, or_parts}
 use Rattle.std.proofs.lemmas.List.{take-append-drop, length-append, length-take}
 use Rattle.osi_base.specs.declared.words.Kind.TheVariants as kinds
 use Rattle.tpkt.specs.declared.packet.Ends.{Ends}
@@ -34,16 +34,6 @@ pub record Opens (begun : ℕ) (xs : List ℕ) (h : Header) : Type 0 where
   pub short : li ≤ 254
   pub within : li ≤ 256 * high + low - 5
   pub reads : code_at begun (256 * high + low - 5) li (code ∷ rest) ≡ Ok h
-
-and_parts : (a b : Bool) → (a && b) ≡ true → (a ≡ true) × (b ≡ true)
-and_parts true true e = (refl, refl)
-and_parts true false e = absurd cc
-and_parts false b e = absurd cc
-
-pub or_parts : (a b : Bool) → (a || b) ≡ false → (a ≡ false) × (b ≡ false)
-or_parts true b e = absurd cc
-or_parts false true e = absurd cc
-or_parts false false e = (refl, refl)
 
 code_there : (begun room li : ℕ) (xs : List ℕ) (h : Header) → code_at begun room li xs ≡ Ok h → (code : ℕ) × (rest : List ℕ) × (xs ≡ code ∷ rest)
 unfolding code_at

@@ -1,7 +1,7 @@
 -- A header that isn't whole has fewer octets than the longest header.
 use Rattle.std.proofs.Common.{◌≡◌, ℕ, zero, suc, ◌+◌, ◌-◌, ◌*◌, ◌<◌, ◌≤◌, ◌==◌, Bool, true, false, cond, ltb, List, [], ◌∷◌, length, take, drop, Some, Result, Ok, Err, refl, ap, inl, inr, arith}
 use Rattle.std.specs.Prelude.{◌⊎◌, ◌&&◌, ◌||◌, is_none, nat_le}
-use Rattle.std.proofs.lemmas.Bool.{ltb-false, ltb-true, leb-false}
+use Rattle.std.proofs.lemmas.Bool.{ltb-false, ltb-true, leb-false, or_parts}
 use Rattle.std.proofs.lemmas.List.{length-append}
 use Rattle.osi_base.specs.declared.words.Kind.{Kind}
 use Rattle.osi_base.specs.declared.words.Kind.TheVariants as kinds
@@ -17,7 +17,6 @@ use Rattle.tpkt.specs.Wire.{tsdu_limit, parameter}
 use Rattle.tpkt.specs.Header.{◌>>=◌, nothing_seen, with_size, with_parameter, value_at, parameter_at, parameters_at, ends_at, passed_at, mark_at, data_at, fills, code_at, indicator_at, length_at, header_at}
 use Rattle.tpkt.proofs.Results.{chosen}
 use Rattle.tpkt.proofs.ParameterLaws.{one_found}
-use Rattle.tpkt.proofs.HeaderLaws.{or_parts}
 
 past : {A : Type 0} (b : Bool) (o : ℕ) (k : Kind) (r : Result A Stop) → cond b (Err (At o k)) r ≡ Err Short → (b ≡ false) × (r ≡ Err Short)
 past true o k r e = absurd cc
