@@ -1,7 +1,5 @@
-pub mod AtOnce
-pub mod Calls
-pub mod Parts
 pub use Rattle.ber_spelling.specs.Reading
 pub use Rattle.ber_spelling.specs.Rules
 pub use Rattle.ber_spelling.specs.Spelling
 pub use Rattle.ber_spelling.specs.Writing
+pub use Rattle.ber_reading.specs.Calls

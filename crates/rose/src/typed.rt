@@ -4,13 +4,13 @@ ghost use Rattle.std.specs.Prelude.{◌≡◌, ◌<◌, ◌≤◌, length, take,
 ghost use Rattle.std.specs.Option.{option_copied};
 ghost use Rattle.asn1_types.specs.Value as tree;
 ghost use Rattle.ber_spelling.specs.declared.fault.ReadFault.TheVariants as faults;
-ghost use Rattle.ber_codec.specs.declared.public.Read.{Read as TheRead};
+ghost use Rattle.ber_reading.specs.declared.public.Read.{Read as TheRead};
 ghost use Rattle.ber_spelling.specs.Spelling.{Ber};
-ghost use Rattle.ber_codec.specs.Calls.{IsRead};
+ghost use Rattle.ber_reading.specs.Calls.{IsRead};
 ghost use Rattle.rose.specs.Pieces.{IsReadWhole, IsCarried, IsCarriedValue};
 
 use asn1_types::{TypeId, TypeTable, Val};
-use ber_codec::{ReadFault, ber_read};
+use ber_reading::{ReadFault, ber_read};
 use osi_base::{NoMemory, Octets};
 use std::alloc::Global;
 use stub_tables::Use;

@@ -12,7 +12,7 @@ use crate::heads::{ANY, APDU, Heads};
 use crate::reading::said;
 use crate::typed::read_whole;
 use asn1_types::TypeTable;
-use ber_codec::{ReadFault, ber_read};
+use ber_reading::{ReadFault, ber_read};
 use osi_base::NoMemory;
 use std::alloc::Global;
 use stub_tables::Tables;

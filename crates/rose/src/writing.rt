@@ -13,7 +13,7 @@ ghost use Rattle.stub_tables.specs.Uses.{is_carried};
 
 use crate::heads::{APDU, Heads};
 use asn1_types::{MaybeVals, Node, TypeTable, Val};
-use ber_codec::ber_octets;
+use ber_writing::ber_octets;
 use osi_base::{Copied, NoMemory, Octets};
 use std::alloc::Global;
 use stub_tables::{Code, ErrorRow, Operation, Tables, Use};

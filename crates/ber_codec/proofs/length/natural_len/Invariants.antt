@@ -1,9 +1,0 @@
-use Rattle.std.proofs.Common.{◌≡◌, ◌+◌, [], length}
-use Rattle.ber_spelling.specs.Writing.{natural_octets}
-use Rattle.ber_codec.proofs.length.natural_len.Given as goal
-
-abbrev pub decreases-loop-high : goal.decreases-loop-high
-decreases-loop-high l = l.high
-
-abbrev pub invariant-loop-high : goal.invariant-loop-high
-invariant-loop-high l = l.count + length (natural_octets l.high l.high []) ≡ length (natural_octets l.number l.number []) + 1

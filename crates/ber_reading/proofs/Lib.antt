@@ -1,0 +1,5 @@
+pub mod Rows
+pub mod Slots
+pub mod Calls
+pub mod PartsFrom
+pub mod AtOnce

@@ -1,0 +1,235 @@
+//! Reading whole values.
+
+ghost use Rattle.std.specs.Prelude.{◌≡◌, ℕ, ◌+◌, ◌≤◌, ◌<◌, ◌^◌, false, true, None, length, take, IfOk, IfSome};
+ghost use Rattle.std.specs.List.{AllByRecursion};
+ghost use Rattle.asn1_types.specs.Rows.{begins, rows_of_parts};
+ghost use Rattle.asn1_types.specs.Value as tree;
+ghost use Rattle.ber_spelling.specs.Reading.{Gives, GoesOn, opened_of, spot_of};
+ghost use Rattle.ber_spelling.specs.Rules.{outermost, reads, sequence_at, read_at};
+ghost use Rattle.ber_spelling.specs.Spelling.{Spells};
+ghost use Rattle.ber_reading.specs.Calls.{IsRead, GivesRead};
+
+use crate::at_once::first_identifier;
+use crate::read::{sequence, value};
+use asn1_types::{Class, Parts, TypeId, TypeRow, TypeTable, Val};
+use ber_spelling::{Opened, ReadFault, Scope, Spot, Tag, identifier};
+use std::alloc::Global;
+
+/// How many octets a value may have.
+pub const LIMIT: u32 = 262_144;
+
+/// A value that was read, and how many octets spelled it.
+#[derive(Debug, Drop)]
+pub struct Read {
+    pub value: Val,
+    pub used: usize,
+}
+
+/// The value of this type that the octets begin with, in BER (X.690 8), of at most 262,144 octets.
+/// Octets that follow are left alone.
+pub fn ber_read(
+    alloc: Global,
+    table: &TypeTable,
+    of: TypeId,
+    bytes: &[u8],
+) -> Result<Read, ReadFault>
+    requires { of.0 < length table.now }
+    // What is read is spelled by the octets used.
+    ensures found { IfOk result (λ r. (r.used ≤ length bytes.now) × Spells table.now of.0 false 262144 r.value (take r.used bytes.now)) }
+    // What the octets spell is read, unless memory is refused.
+    ensures only { (v : tree.Value) (n : ℕ) → n ≤ length bytes.now → Spells table.now of.0 false 262144 v (take n bytes.now) → IsRead result v n }
+    // The fault is the first from the left.
+    ensures exact { Gives (λ r. (r.value, r.used)) result (read_at table.now of.0 false 262144 bytes.now) }
+{
+    read_whole(alloc, table, of, bytes, LIMIT, false)
+}
+
+/// As `ber_read`, with at most `most` octets.
+pub fn ber_read_within(
+    alloc: Global,
+    table: &TypeTable,
+    of: TypeId,
+    bytes: &[u8],
+    most: u32,
+) -> Result<Read, ReadFault>
+    requires { of.0 < length table.now }
+    ensures found { IfOk result (λ r. (r.used ≤ length bytes.now) × Spells table.now of.0 false most r.value (take r.used bytes.now)) }
+    ensures only { (v : tree.Value) (n : ℕ) → n ≤ length bytes.now → Spells table.now of.0 false most v (take n bytes.now) → IsRead result v n }
+    ensures exact { Gives (λ r. (r.value, r.used)) result (read_at table.now of.0 false most bytes.now) }
+{
+    read_whole(alloc, table, of, bytes, most, false)
+}
+
+/// The value of this type that the octets begin with, in DER alone (X.690 10), of at most 262,144
+/// octets. Octets that follow are left alone.
+pub fn der_read(
+    alloc: Global,
+    table: &TypeTable,
+    of: TypeId,
+    bytes: &[u8],
+) -> Result<Read, ReadFault>
+    requires { of.0 < length table.now }
+    ensures found { IfOk result (λ r. (r.used ≤ length bytes.now) × Spells table.now of.0 true 262144 r.value (take r.used bytes.now)) }
+    ensures only { (v : tree.Value) (n : ℕ) → n ≤ length bytes.now → Spells table.now of.0 true 262144 v (take n bytes.now) → IsRead result v n }
+    ensures exact { Gives (λ r. (r.value, r.used)) result (read_at table.now of.0 true 262144 bytes.now) }
+{
+    read_whole(alloc, table, of, bytes, LIMIT, true)
+}
+
+#[tactic(auto, unfolding(ber_spelling::specs::Rules::read_at, ber_spelling::specs::Rules::value_at))]
+#[inline(always)]
+fn read_all(
+    alloc: Global,
+    table: &TypeTable,
+    of: TypeId,
+    bytes: &[u8],
+    limit: u32,
+    strict: bool,
+) -> Result<Read, ReadFault>
+    requires { of.0 < length table.now }
+    ensures exact { Gives (λ r. (r.value, r.used)) result (read_at table.now of.0 strict limit bytes.now) }
+{
+    let scope = outermost(limit, strict);
+    match first_identifier(limit, bytes) {
+        Some((opened, spot)) => read_behind(alloc, table, of, &scope, &opened, spot),
+        None => read_from(alloc, table, of, bytes, limit, strict),
+    }
+}
+
+/// The scope of a whole value.
+#[inline(always)]
+fn outermost(limit: u32, strict: bool) -> Scope
+    ensures { result ≡ outermost limit strict }
+{
+    Scope {
+        levels: 32,
+        limit,
+        end: None,
+        marked: false,
+        strict,
+    }
+}
+
+/// As `read_all`, whatever the octets begin with.
+#[tactic(auto, unfolding(ber_spelling::specs::Rules::read_at, ber_spelling::specs::Rules::value_at))]
+#[inline(never)]
+fn read_from(
+    alloc: Global,
+    table: &TypeTable,
+    of: TypeId,
+    bytes: &[u8],
+    limit: u32,
+    strict: bool,
+) -> Result<Read, ReadFault>
+    requires { of.0 < length table.now }
+    ensures exact { Gives (λ r. (r.value, r.used)) result (read_at table.now of.0 strict limit bytes.now) }
+{
+    let scope = outermost(limit, strict);
+    let start = Spot {
+        place: 0,
+        rest: bytes,
+    };
+    let (opened, spot) = identifier(&scope, start)?;
+    read_behind(alloc, table, of, &scope, &opened, spot)
+}
+
+/// The SEQUENCE that a row is, or is under one implicit tag: its row, its parts and its tag.
+#[inline(always)]
+fn sequence_of(table: &TypeTable, of: TypeId) -> Option<(TypeId, &Parts, Tag)>
+    requires { of.0 < length table.now }
+    ensures row { IfSome result (λ x. x.0.0 ≤ length table.now) }
+    ensures below { IfSome result (λ x. AllByRecursion (λ m. m < x.0.0) (rows_of_parts x.1.now)) }
+    ensures is { IfSome result (λ x. reads table.now of.0 None ≡ sequence_at (begins table.now) (reads table.now) x.1.now x.2) }
+{
+    match table.row(of) {
+        TypeRow::Tagged {
+            class,
+            number,
+            explicit,
+            inner,
+        } => {
+            let tag = Tag {
+                class: *class,
+                number: *number,
+            };
+            match table.row(*inner) {
+                TypeRow::Sequence(parts) if !*explicit => Some((*inner, parts, tag)),
+                _ => None,
+            }
+        }
+        TypeRow::Sequence(parts) => {
+            let tag = Tag {
+                class: Class::Universal,
+                number: 16,
+            };
+            Some((of, parts, tag))
+        }
+        _ => None,
+    }
+}
+
+/// What stands behind an identifier, as a value of a row that is a SEQUENCE.
+#[inline(always)]
+fn read_sequence<'a>(
+    alloc: Global,
+    table: &TypeTable,
+    of: TypeId,
+    row: TypeId,
+    parts: &Parts,
+    tag: Tag,
+    scope: &Scope,
+    opened: &Opened<'a>,
+    spot: Spot<'a>,
+) -> Result<(Val, Spot<'a>), ReadFault>
+    requires row { row.0 ≤ length table.now }
+    requires below { AllByRecursion (λ m. m < row.0) (rows_of_parts parts.now) }
+    requires is { reads table.now of.0 None ≡ sequence_at (begins table.now) (reads table.now) parts.now tag }
+    requires whole { spot.place + length spot.rest.now < 2 ^ 63 }
+    ensures gives { Gives (λ x. (x.0, spot_of x.1)) result (reads table.now of.0 None scope.now (opened_of opened.now) (spot_of spot.entry)) }
+    ensures stops { IfOk result (λ x. GoesOn spot.entry.place (length spot.entry.rest.now) x.1) }
+{
+    sequence(alloc, table, row, parts, tag, scope, opened, spot)
+}
+
+/// The value behind its identifier. Most values are a SEQUENCE.
+#[inline(always)]
+fn read_behind<'a>(
+    alloc: Global,
+    table: &TypeTable,
+    of: TypeId,
+    scope: &Scope,
+    opened: &Opened<'a>,
+    spot: Spot<'a>,
+) -> Result<Read, ReadFault>
+    requires row { of.0 < length table.now }
+    requires whole { spot.place + length spot.rest.now < 2 ^ 63 }
+    requires start { GoesOn opened.now.start.place (length opened.now.start.rest.now) spot }
+    ensures { GivesRead result (reads table.now of.0 None scope.now (opened_of opened.now) (spot_of spot.entry)) }
+{
+    if let Some((row, parts, tag)) = sequence_of(table, of) {
+        let (value, after) = read_sequence(alloc, table, of, row, parts, tag, scope, opened, spot)?;
+        let used = after.place;
+        return Ok(Read { value, used });
+    }
+    let (value, after) = value(alloc, table, of, None, scope, opened, spot)?;
+    let used = after.place;
+    Ok(Read { value, used })
+}
+
+#[inline(always)]
+fn read_whole(
+    alloc: Global,
+    table: &TypeTable,
+    of: TypeId,
+    bytes: &[u8],
+    limit: u32,
+    strict: bool,
+) -> Result<Read, ReadFault>
+    requires { of.0 < length table.now }
+    ensures found { IfOk result (λ r. (r.used ≤ length bytes.now) × Spells table.now of.0 strict limit r.value (take r.used bytes.now)) }
+    ensures only { (v : tree.Value) (n : ℕ) → n ≤ length bytes.now → Spells table.now of.0 strict limit v (take n bytes.now) → IsRead result v n }
+    ensures exact { Gives (λ r. (r.value, r.used)) result (read_at table.now of.0 strict limit bytes.now) }
+{
+    let _rows = table.len();
+    read_all(alloc, table, of, bytes, limit, strict)
+}

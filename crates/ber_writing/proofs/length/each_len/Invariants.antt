@@ -1,0 +1,13 @@
+use Rattle.std.proofs.Common.{◌≡◌, ◌≤◌, drop, length}
+use Rattle.std.specs.List.{flat_map}
+use Rattle.ber_spelling.specs.Writing.{base_128, saturated}
+use Rattle.ber_writing.proofs.length.each_len.Given as goal
+
+abbrev pub decreases-loop-index : goal.decreases-loop-index
+decreases-loop-index l = l.index
+
+abbrev pub invariant-loop-index : goal.invariant-loop-index
+invariant-loop-index l = record {
+  within : l.index ≤ length l.numbers;
+  so_far : l.count ≡ saturated (length (flat_map base_128 (drop l.index l.numbers)));
+}

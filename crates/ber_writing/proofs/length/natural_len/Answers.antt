@@ -1,0 +1,12 @@
+use Rattle.std.proofs.Common.{arith}
+use Rattle.ber_writing.proofs.Counts.{nat_more, nat_one, natural_few}
+use Rattle.ber_writing.proofs.length.natural_len.Goals as goal
+
+pub overflow_add-count : goal.overflow_add-count
+overflow_add-count c = omega (arith, nat_more c.loop-high.high c.loop-high-test.true, natural_few c.args.number)
+
+pub loop-high-preserved : goal.loop-high-preserved
+loop-high-preserved c = omega (arith, nat_more c.loop-high.high c.loop-high-test.true)
+
+pub returns : goal.returns
+returns c = omega (arith, nat_one c.loop-high.high c.loop-high-test.false)
