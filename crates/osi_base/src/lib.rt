@@ -17,8 +17,6 @@ mod session_word;
 mod sink;
 mod sure_line;
 mod syntax;
-#[cfg(test)]
-mod tests;
 mod words;
 
 pub use copied::Copied;

@@ -24,6 +24,3 @@ pub use laws::{
 pub use measure::packed_len;
 pub use public::{LIMIT, Read, packed_read, packed_read_within};
 pub use write::packed_write;
-
-#[cfg(test)]
-mod tests;

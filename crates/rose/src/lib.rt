@@ -5,8 +5,6 @@ mod first;
 mod heads;
 mod pieces;
 mod reading;
-#[cfg(test)]
-mod tests;
 mod typed;
 mod whole;
 mod writing;

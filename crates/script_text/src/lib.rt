@@ -8,8 +8,6 @@ mod indication;
 mod lines;
 mod number;
 mod schedule;
-#[cfg(test)]
-mod tests;
 mod text;
 mod transcript;
 mod value;

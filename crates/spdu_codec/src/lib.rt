@@ -15,6 +15,3 @@ mod writing;
 pub use fault::SFault;
 pub use reading::read_spdus;
 pub use writing::write_spdus;
-
-#[cfg(test)]
-mod tests;

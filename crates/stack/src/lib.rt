@@ -11,8 +11,6 @@ mod laws;
 mod opens;
 mod queue;
 mod taking;
-#[cfg(test)]
-mod tests;
 
 pub use end::End;
 pub use laws::no_history_is_dead;

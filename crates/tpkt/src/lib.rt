@@ -15,6 +15,3 @@ mod writer;
 pub use packet::{Ends, Packet, Packets, TFault, TFed};
 pub use reader::TReader;
 pub use writer::{write_confirm, write_connect, write_disconnect, write_problem, write_tsdu};
-
-#[cfg(test)]
-mod tests;

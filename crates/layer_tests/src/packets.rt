@@ -1,10 +1,13 @@
 //! Octets from outside: an invocation, an opening, a faulty header, the largest packet.
 
-use super::*;
 use osi_base::{Kind, Octets};
 use std::alloc::Global;
 use std::process::Abort;
 use std::test::*;
+use tpkt::{
+    Ends, Packet, TFault, TFed, TReader, write_confirm, write_connect, write_disconnect,
+    write_problem, write_tsdu,
+};
 
 /// An invocation in one DT.
 const INVOCATION: [u8; 31] = [

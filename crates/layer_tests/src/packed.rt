@@ -1,10 +1,10 @@
 //! Spellings from outside: each is read whole and written back, or its first fault is told.
 
-use super::*;
 use asn1_types::{
     Class, Item, Named, Part, Parts, RowRefusal, TextKind, TypeId, TypeRow, TypeTable,
 };
 use osi_base::{Kind, Name};
+use packed_codec::{PackedFault, Read, packed_len, packed_read, packed_read_within, packed_write};
 use std::alloc::Global;
 use std::process::Abort;
 use std::test::*;

@@ -3,8 +3,8 @@
 ghost use Rattle.std.specs.Prelude.{◌≡◌, ◌≤◌, ◌∷◌, [], true, IfOk};
 ghost use Rattle.spdu_codec.specs.Written.{AreFields, AreWritable, octets_in, stands_alone, stands_second};
 
-use super::*;
 use osi_base::{Kind, Octets, SessionConnect, SessionWord, Spdus};
+use spdu_codec::{SFault, read_spdus, write_spdus};
 use std::alloc::Global;
 use std::process::Abort;
 use std::test::*;

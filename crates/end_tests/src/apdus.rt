@@ -1,8 +1,8 @@
 //! The worked APDUs, written and read.
 
-use super::*;
 use asn1_types::{Node, TypeId, TypeRow, TypeTable, Val};
 use osi_base::{ListOf, Name, NoMemory, Octets, Oid};
+use rose::{Content, First, Heads};
 use std::alloc::Global;
 use std::test::*;
 use stub_tables::{Apdu, Code, ErrorRow, Operation, Tables, Use};

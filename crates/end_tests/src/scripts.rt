@@ -1,14 +1,12 @@
 //! What no clause says: that calls with ample memory are done, which line a faulty schedule is
 //! refused at, and how worked events and values print. Whole runs are the program's tests.
 
-use super::*;
-use crate::text::Text;
-use crate::value::put_value;
 use asn1_types::{Node, TypeTable, Val};
 use dialogue::{
     Call, CallRefusal, Carried, Entries, Entry, Indication, Indications, Mode, Phase, Transcript,
 };
 use osi_base::{Indices, ListOf, Name, NoMemory, Octets, Oid, Side};
+use script_text::{ScriptFault, ScriptKind, read_schedule, transcript_text};
 use std::alloc::Global;
 use std::test::Fail;
 use stub_tables::{Code, Operation, Operations, Tables, Use};
@@ -195,11 +193,28 @@ end B over
     Ok(())
 }
 
-/// Whether a value of this form prints so.
-fn prints(alloc: Global, node: Node, expected: &str) -> Result<bool, NoMemory> {
-    let mut text = Text::new(alloc);
-    put_value(&mut text, &Val { node })?;
-    Ok(text.into_octets().as_slice() == expected.as_bytes())
+/// Whether a value of this form prints so, as the result of an answer to no invocation.
+fn prints(alloc: Global, node: Node, expected: &str) -> Result<bool, Fail> {
+    let mut entries = Entries::new(alloc);
+    entries.push(Entry::Call {
+        side: Side::B,
+        call: Call::Answer {
+            id: 2,
+            result: Some(Val { node }),
+        },
+        answer: Err(CallRefusal::NoInvocation(2)),
+    })?;
+    let transcript = Transcript {
+        mode: Mode::Bare,
+        entries,
+        a: Phase::Up,
+        b: Phase::Up,
+    };
+    let printed = transcript_text(alloc, &tables(alloc)?, &transcript)?;
+    let expected = format!(in alloc;
+        "mode bare\n1 B answer 2 {expected}\n  refused NoInvocation 2\nend A up\nend B up\n"
+    )?;
+    Ok(printed.as_slice() == expected.as_bytes())
 }
 
 #[test]

@@ -1,6 +1,9 @@
 //! What no clause says: that calls with ample memory are done, and what the real outside gives.
 
-use super::*;
+use osi_base::{
+    DiskFiles, FailingCalls, FileFault, Files, Line, ListOf, MemFile, MemFiles, MemSink, Name,
+    NoMemory, Octets, Sink, SinkFault, StdSink, SureFiles, SureLine, SureSink, write_all,
+};
 use std::alloc::Global;
 use std::io::{Error, ErrorKind};
 use std::{fs, io};

@@ -2,7 +2,7 @@ use Rattle.std.proofs.Common.{◌≡◌, List, [], ◌∷◌, ◌++◌, sym, ap,
 use Rattle.osi_base.specs.declared.session_word.SessionWord.{SessionWord}
 use Rattle.spdu_codec.specs.Written.{AreWritable}
 use Rattle.spdu_codec.proofs.SizeLaws.{word_size}
-use Rattle.spdu_codec.proofs.tests.alone.Goals as goal
+use Rattle.layer_tests.proofs.session_units.alone.Goals as goal
 
 pub check-requires : goal.check-requires
 check-requires c d =

@@ -1,9 +1,9 @@
 //! The worked APDUs, as two ends write and take them.
 
-use super::*;
 use asn1_types::{Node, TypeId, TypeRow, TypeTable, Val};
 use dialogue::{Call, CallRefusal, Config, Indication, Indications, Mode, Phase};
 use osi_base::{Layer, ListOf, Name, NoMemory, Octets, Oid};
+use stack::End;
 use std::alloc::Global;
 use std::test::*;
 use stub_tables::{Code, ErrorRow, Operation, Tables, Use};

@@ -3,7 +3,7 @@ use Rattle.osi_base.specs.declared.session_word.SessionWord.{SessionWord}
 use Rattle.osi_base.specs.declared.session_word.SessionWord.TheVariants.{GiveTokens}
 use Rattle.spdu_codec.specs.Written.{AreWritable}
 use Rattle.spdu_codec.proofs.SizeLaws.{word_size}
-use Rattle.spdu_codec.proofs.tests.second.Goals as goal
+use Rattle.layer_tests.proofs.session_units.second.Goals as goal
 
 pub check-requires : goal.check-requires
 check-requires c d =

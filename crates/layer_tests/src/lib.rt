@@ -1,0 +1,17 @@
+//! Tests of the layers below an end, over their public calls: worked rows, limits, and each public
+//! call once with ample memory. They stand in a crate of their own, so that each layer is proved
+//! once.
+#![tactic(auto)]
+
+#[cfg(test)]
+mod ber;
+#[cfg(test)]
+mod ber_written;
+#[cfg(test)]
+mod outside;
+#[cfg(test)]
+mod packed;
+#[cfg(test)]
+mod packets;
+#[cfg(test)]
+mod session_units;
