@@ -33,3 +33,10 @@ pub mod Ranks
 pub mod Heads
 pub mod Sets
 pub mod WrittenSets
+pub mod Inside
+pub mod InsideRules
+pub mod FirstFaults
+pub mod UnusedBits
+pub mod Strict
+pub mod StrictRules
+pub mod DerForms

@@ -1,16 +1,19 @@
 -- The laws of reading and of spellings.
-use Rattle.std.specs.Prelude.{◌≡◌, ◌≢◌, ℕ, ◌<◌, ◌≤◌, ◌^◌, Bool, true, false, List, ◌++◌, length, take, Ok, Err, ◌⊎◌}
+use Rattle.std.specs.Prelude.{◌≡◌, ◌≢◌, ℕ, ◌<◌, ◌≤◌, ◌^◌, Bool, true, false, Some, List, ◌∷◌, ◌++◌, length, take, Ok, Err, ◌⊎◌, slice_get}
+use Rattle.osi_base.specs.declared.words.Kind.TheVariants.{Form}
 use Rattle.asn1_types.specs.declared.row.TypeRow.{TypeRow}
+use Rattle.asn1_types.specs.declared.row.TypeRow.TheVariants.{BitString}
 use Rattle.asn1_types.specs.Table.{IsSound}
-use Rattle.asn1_types.specs.Value.{Value}
-use Rattle.asn1_types.specs.Fits.{fits}
+use Rattle.asn1_types.specs.Value.{Value, bits}
+use Rattle.asn1_types.specs.Fits.{are_bits, fits}
 use Rattle.asn1_types.specs.Whole.{is_whole}
 use Rattle.ber_spelling.specs.declared.fault.ReadFault.{ReadFault}
-use Rattle.ber_spelling.specs.declared.fault.ReadFault.TheVariants.{Short}
+use Rattle.ber_spelling.specs.declared.fault.ReadFault.TheVariants.{NotSpelled, Short, TooDeep, TooLong, NoMemory}
+use Rattle.ber_spelling.specs.declared.spot.StringKind.TheVariants.{OfBits}
 use Rattle.ber_spelling.specs.Octets.{AreOctets}
-use Rattle.ber_spelling.specs.Rules.{read_at}
+use Rattle.ber_spelling.specs.Rules.{read_at, segment_tag, cleared}
 use Rattle.ber_spelling.specs.Spelling.{Spells}
-use Rattle.ber_spelling.specs.Writing.{written}
+use Rattle.ber_spelling.specs.Writing.{definite, written}
 
 -- what is read is spelled by its octets
 abbrev pub ReadIsSpelled : Type 0
@@ -37,6 +40,21 @@ abbrev pub FaultStays : Type 0
 FaultStays = (rows : List TypeRow) (n : ℕ) (strict : Bool) (limit : ℕ) (bytes more : List ℕ) (fault : ReadFault)
     → fault ≢ Short → read_at rows n strict limit bytes ≡ Err fault → read_at rows n strict limit (bytes ++ more) ≡ Err fault
 
+-- a fault stands at this place
+abbrev pub IsAt : ReadFault → ℕ → Type 0
+IsAt (NotSpelled at kind) place = at ≡ place
+IsAt Short place = ⊥
+IsAt (TooDeep at) place = at ≡ place
+IsAt (TooLong at) place = at ≡ place
+IsAt NoMemory place = ⊥
+
+-- Each fault but `Short` has a place inside the octets, and nothing to the left of it is at fault: octets that end
+-- before it are only too short.
+abbrev pub FaultIsFirst : Type 0
+FaultIsFirst = (rows : List TypeRow) (n : ℕ) (strict : Bool) (limit : ℕ) (bytes : List ℕ) (fault : ReadFault) → fault ≢ Short
+    → read_at rows n strict limit bytes ≡ Err fault
+    → (place : ℕ) × IsAt fault place × (place ≤ length bytes) × ((k : ℕ) → k < place → read_at rows n strict limit (take k bytes) ≡ Err Short)
+
 -- a proper beginning of a spelling is too short
 abbrev pub BeginningIsShort : Type 0
 BeginningIsShort = (rows : List TypeRow) (n : ℕ) (strict : Bool) (limit : ℕ) (v : Value) (front back : List ℕ) → IsSound rows → AreOctets (front ++ back)
@@ -55,6 +73,18 @@ WrittenIsRead = (rows : List TypeRow) (n : ℕ) (v : Value) → IsSound rows →
 -- what is spelled in DER is spelled so in BER
 abbrev pub DerIsBer : Type 0
 DerIsBer = (rows : List TypeRow) (n : ℕ) (limit : ℕ) (v : Value) (spelled : List ℕ) → Spells rows n true limit v spelled → Spells rows n false limit v spelled
+
+-- Read in DER, octets give what they give in BER, or a form is at fault.
+abbrev pub DerIsBerInForm : Type 0
+DerIsBerInForm = (rows : List TypeRow) (n limit : ℕ) (bytes : List ℕ)
+    → (read_at rows n true limit bytes ≡ read_at rows n false limit bytes) ⊎ ((place : ℕ) × (read_at rows n true limit bytes ≡ Err (NotSpelled place Form)))
+
+-- In BER the unused bits of a BIT STRING may have any values (X.690 8.6.2.3), and the octets spell the value in which
+-- they are zeros.
+abbrev pub UnusedBitsAreZeros : Type 0
+UnusedBitsAreZeros = (rows : List TypeRow) (n limit unused : ℕ) (os : List ℕ) → slice_get rows n ≡ Some BitString → 0 < length os → unused < 8
+    → limit < 2 ^ 64 → length (definite false (segment_tag OfBits) (unused ∷ os)) ≤ limit
+    → Spells rows n false limit (bits (cleared unused os) unused) (definite false (segment_tag OfBits) (unused ∷ os)) × (are_bits (cleared unused os) unused ≡ true)
 
 -- a first part of the octets is a spelling
 abbrev pub BeginsSpelled : List TypeRow → ℕ → Bool → ℕ → List ℕ → Type 0

@@ -1,6 +1,6 @@
 //! The laws of reading, each the contract of a function that does nothing.
 
-ghost use Rattle.ber_spelling.specs.Laws.{ReadIsSpelled, SpelledIsRead, NoneBegins, ReadStays, FaultStays, BeginningIsShort, WrittenIsSpelled, WrittenIsRead, DerIsBer, OneOfThree, DerIsWhole};
+ghost use Rattle.ber_spelling.specs.Laws.{ReadIsSpelled, SpelledIsRead, NoneBegins, ReadStays, FaultStays, FaultIsFirst, BeginningIsShort, WrittenIsSpelled, WrittenIsRead, DerIsBer, DerIsBerInForm, OneOfThree, DerIsWhole, UnusedBitsAreZeros};
 
 /// What is read is spelled by the octets used.
 pub fn read_is_spelled()
@@ -27,6 +27,11 @@ pub fn fault_stays()
     ensures { FaultStays }
 {}
 
+/// A fault but `Short` has a place inside the octets, and octets that end before it are `Short`.
+pub fn fault_is_first()
+    ensures { FaultIsFirst }
+{}
+
 /// A proper beginning of a spelling is `Short`.
 pub fn beginning_is_short()
     ensures { BeginningIsShort }
@@ -46,6 +51,17 @@ pub fn written_is_read()
 /// What is spelled in DER is spelled so in BER.
 pub fn der_is_ber()
     ensures { DerIsBer }
+{}
+
+/// Read in DER, octets give what they give in BER, or have a fault of kind Form. So, with
+/// `read_is_spelled` and `spelled_is_read`, DER is the part of BER without such a fault.
+pub fn der_is_ber_in_form()
+    ensures { DerIsBerInForm }
+{}
+
+/// In BER unused bits of any values spell the BIT STRING in which they are zeros (X.690 8.6.2.3).
+pub fn unused_bits_are_zeros()
+    ensures { UnusedBitsAreZeros }
 {}
 
 /// Of all octets one holds and no other: a first part is a spelling, there is a first fault, or they
