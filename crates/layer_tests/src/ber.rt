@@ -220,6 +220,18 @@ fn worked_rows(rt: HostRuntime) {
     }
 }
 
+/// A SEQUENCE whose second part has the first one's name is no row.
+#[test]
+fn two_parts_of_one_name(rt: HostRuntime) -> Result<(), Fail> {
+    let mut table = table(rt.alloc())?;
+    let mut parts = Parts::new(rt.alloc());
+    parts.push(part(rt.alloc(), "a", INTEGER)?)?;
+    parts.push(part(rt.alloc(), "a", BOOLEAN)?)?;
+    let added = table.add(TypeRow::Sequence(parts));
+    assert!(rt; matches!(added, Err(RowRefusal::DoubleName)));
+    Ok(())
+}
+
 /// The octets of many levels, and of the longest value.
 #[test]
 fn limits(rt: HostRuntime) -> Result<(), Fail> {
