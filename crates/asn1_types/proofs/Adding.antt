@@ -1,12 +1,12 @@
 -- A table with one row more.
-use Rattle.std.proofs.Common.{◌≡◌, ℕ, zero, suc, ◌<◌, List, [], ◌∷◌, ◌++◌, length, Some, None, refl, sym, ap, ◌∙◌, arith, length-append, ◌⊎◌, inl, inr}
+use Rattle.std.proofs.Common.{◌≡◌, ℕ, zero, suc, ◌<◌, List, [], ◌∷◌, ◌++◌, length, Some, None, refl, sym, ap, ◌∙◌, subst, arith, length-append, ◌⊎◌, inl, inr}
 use Rattle.std.proofs.lemmas.Bool.{cases_lt}
 use Rattle.std.specs.Prelude.{slice_get, slice_index}
 use Rattle.std.specs.List.{AllByRecursion}
 use Rattle.std.proofs.lemmas.List.{take-append-le, take_at}
 use Rattle.asn1_types.specs.declared.row.TypeRow.{TypeRow}
 use Rattle.asn1_types.specs.Rows.{names_of, nesting, nesting_by}
-use Rattle.asn1_types.specs.Table.{first_from, refusal, IsSound}
+use Rattle.asn1_types.specs.Table.{first_from, refusal, HasShortTag, IsSound}
 use Rattle.asn1_types.specs.Inside.{IsKept}
 use Rattle.asn1_types.proofs.Along.{SameTo, agree}
 use Rattle.asn1_types.proofs.Sound.{names_below, nesting_cong, nesting_at, is_down, taken}
@@ -40,13 +40,14 @@ push_cases (x ∷ rows) row r (suc n) e =
       | inr t ↦ inr (ap (λ (k : ℕ). suc k) t.0, t.1)
     ]
 
-pub sound_push : (rows : List TypeRow) (row : TypeRow) → IsSound rows → refusal rows row ≡ None → IsSound (rows ++ row ∷ [])
-sound_push rows row s e = record {
+pub sound_push : (rows : List TypeRow) (row : TypeRow) → IsSound rows → refusal rows row ≡ None → HasShortTag row → IsSound (rows ++ row ∷ [])
+sound_push rows row s e short = record {
   each = λ n r g.
       elim (push_cases rows row r n g) [
         | inl t ↦ let lt = t.0 in ap (λ (x : List TypeRow). refusal x r) (take-append-le n rows (row ∷ []) (omega arith)) ∙ s.each n r t.1
         | inr t ↦ ap (λ (x : List TypeRow). refusal x r) (take_at rows (row ∷ []) n (sym t.0)) ∙ ap (refusal rows) (sym t.1) ∙ e
       ];
+  short = λ n r g. elim (push_cases rows row r n g) [ inl t ↦ s.short n r t.1 | inr t ↦ subst HasShortTag t.1 short ];
 }
 
 same_push : (rows : List TypeRow) (row : TypeRow) (n : ℕ) → n < length rows → SameTo (rows ++ row ∷ []) rows n
@@ -77,9 +78,9 @@ index_last : (ns : List ℕ) (x n : ℕ) → n ≡ length ns → slice_index (ns
 index_last [] x n e = ap (slice_index (x ∷ [])) e
 index_last (y ∷ ns) x n e = ap (slice_index (y ∷ (ns ++ x ∷ []))) e ∙ index_last ns x (length ns) refl
 
-pub kept_push : (rows : List TypeRow) (nestings : List ℕ) (row : TypeRow) (x : ℕ) → IsKept rows nestings → refusal rows row ≡ None → x ≡ nesting_by (nesting rows) row → IsKept (rows ++ row ∷ []) (nestings ++ x ∷ [])
-kept_push rows nestings row x k e same =
-    let s = sound_push rows row k.sound e in
+pub kept_push : (rows : List TypeRow) (nestings : List ℕ) (row : TypeRow) (x : ℕ) → IsKept rows nestings → refusal rows row ≡ None → HasShortTag row → x ≡ nesting_by (nesting rows) row → IsKept (rows ++ row ∷ []) (nestings ++ x ∷ [])
+kept_push rows nestings row x k e short same =
+    let s = sound_push rows row k.sound e short in
     let names = kept_names (length rows) (names_of row) (taken rows row e).names in
     record {
       sound = s;

@@ -43,7 +43,7 @@ fits_cong (Sequence ps) f g h = ap sequence_fits (λ i vs. parts_same f g ps h v
 fits_cong (Set ps) f g h = ap sequence_fits (λ i vs. parts_same f g ps h vs i)
 fits_cong (SequenceOf inner) f g h = ap list_fits h.0
 fits_cong (Choice ps) f g h = ap choice_fits (λ i which. alternative_same f g ps h which i)
-fits_cong (Tagged class number explicit inner) f g h = λ i v. has_32_bits number && h.0 i v
+fits_cong (Tagged class number explicit inner) f g h = h.0
 fits_cong Any f g h = refl
 
 -- which values fit a row, by the row

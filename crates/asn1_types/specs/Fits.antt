@@ -39,7 +39,7 @@ abbrev pub null_fits : Value → Bool
 null_fits null = true
 null_fits v = false
 
--- arcs and tag numbers have 32 bits
+-- arcs have 32 bits
 abbrev pub has_32_bits : ℕ → Bool
 has_32_bits n = nat_lt n (2 ^ 32)
 
@@ -143,7 +143,7 @@ fits_by inner (row.Sequence ps) v = sequence_fits (parts_fit inner ps) v
 fits_by inner (row.Set ps) v = sequence_fits (parts_fit inner ps) v
 fits_by inner (row.SequenceOf of) v = list_fits (inner of.0) v
 fits_by inner (row.Choice ps) v = choice_fits (λ which. alternative_fits inner (slice_get ps which)) v
-fits_by inner (row.Tagged class number explicit of) v = has_32_bits number && inner of.0 v
+fits_by inner (row.Tagged class number explicit of) v = inner of.0 v
 fits_by inner row.Any v = any_fits v
 
 abbrev pub nothing_fits : Value → Bool

@@ -1,5 +1,5 @@
 -- Sound tables: which rows may be added to a table, and what is wrong with those that may not.
-use Rattle.std.specs.Prelude.{◌≡◌, ℕ, ℤ, pos, negsuc, Bool, true, false, ◌||◌, ◌&&◌, List, [], ◌∷◌, length, take, Option, Some, None, slice_get, nat_eq, nat_lt, int_lt, if◌then◌else◌}
+use Rattle.std.specs.Prelude.{◌≡◌, ℕ, ◌^◌, ◌<◌, ℤ, pos, negsuc, Bool, true, false, ◌||◌, ◌&&◌, List, [], ◌∷◌, length, take, Option, Some, None, slice_get, nat_eq, nat_lt, int_lt, if◌then◌else◌}
 use Rattle.std.specs.List.{list_any}
 use Rattle.asn1_types.specs.declared.row.Part.{Part}
 use Rattle.asn1_types.specs.declared.row.Item.{Item}
@@ -87,9 +87,15 @@ refusal_after None rows row =
 unfoldable pub refusal : List TypeRow → TypeRow → Option RowRefusal
 refusal rows row = refusal_after (first_from (length rows) (names_of row)) rows row
 
+-- the number of a tag has 32 bits, as in its Rust type
+abbrev pub HasShortTag : TypeRow → Type 0
+HasShortTag (Tagged class number explicit inner) = number < 2 ^ 32
+HasShortTag row = Unit {0}
+
 -- Each row could be added behind those before it.
 pub record IsSound (rows : List TypeRow) : Type 0 where
   pub each : (n : ℕ) (row : TypeRow) → slice_get rows n ≡ Some row → refusal (take n rows) row ≡ None
+  pub short : (n : ℕ) (row : TypeRow) → slice_get rows n ≡ Some row → HasShortTag row
 
 -- a refusal is the first that holds; want of memory may come always
 abbrev pub IsRefused : Option RowRefusal → RowRefusal → Type 0

@@ -58,13 +58,6 @@ fn arcs_fit(arcs: &[u32]) -> bool
     true
 }
 
-/// Tag numbers have 32 bits.
-fn number_fits(number: u32) -> bool
-    ensures { result ≡ has_32_bits number }
-{
-    true
-}
-
 fn object_id_fits(value: &Val) -> bool
     ensures { result ≡ object_id_fits value.now }
 {
@@ -143,7 +136,7 @@ fn fits_row(table: &TypeTable, of: TypeId, row: &TypeRow, value: &Val) -> bool
         TypeRow::Set(parts) => sequence_fits(table, of, parts.as_slice(), value),
         TypeRow::SequenceOf(inner) => list_fits(table, of, *inner, value),
         TypeRow::Choice(alternatives) => choice_fits(table, of, alternatives, value),
-        TypeRow::Tagged { number, inner, .. } => number_fits(*number) && fits(table, *inner, value),
+        TypeRow::Tagged { inner, .. } => fits(table, *inner, value),
         TypeRow::Any => any_fits(value),
     }
 }

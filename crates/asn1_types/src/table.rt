@@ -3,7 +3,7 @@
 ghost use Rattle.std.specs.Prelude.{◌≡◌, ◌<◌, ◌↔◌, ◌++◌, ◌∷◌, [], length, Some, None, slice_get, IsTrue, IfOk, IfErr, OnErr, MatchResult};
 ghost use Rattle.std.specs.List.{AllByRecursion};
 ghost use Rattle.asn1_types.specs.Rows.{names_of, nesting_by, nesting};
-ghost use Rattle.asn1_types.specs.Table.{IsSound, first_from, refusal_after, refusal, IsRefused};
+ghost use Rattle.asn1_types.specs.Table.{HasShortTag, IsSound, first_from, refusal_after, refusal, IsRefused};
 
 use crate::check::{is_bad_range, is_double_name};
 use crate::clash::has_clash;
@@ -92,6 +92,7 @@ impl TypeTable {
         let Ok(number) = u32::try_from(self.rows.len()) else {
             return Err(RowRefusal::NoMemory);
         };
+        read_tag_number(&row);
         let nesting = self.nesting(&row) as u32;
         self.nestings.push(nesting)?;
         match self.rows.push(row) {
@@ -140,5 +141,14 @@ impl TypeTable {
         ensures { result ≡ nesting_by (nesting self.now) row.now }
     {
         nesting_of(&self.nestings, row)
+    }
+}
+
+/// Does nothing but read the number of a row's tag, which so is known to have 32 bits.
+fn read_tag_number(row: &TypeRow)
+    ensures { HasShortTag row.now }
+{
+    if let TypeRow::Tagged { number, .. } = row {
+        let _number = *number;
     }
 }

@@ -1,5 +1,5 @@
 -- Constructed values: what is read is spelled so, and what is spelled so is read.
-use Rattle.std.proofs.Common.{◌≡◌, ℕ, suc, ◌+◌, ◌-◌, ◌^◌, ◌≤◌, ◌<◌, true, false, List, [], ◌∷◌, ◌++◌, length, Some, Ok, Err, refl, sym, ap, ◌∙◌, subst, arith, append_assoc, length-append, inl, inr}
+use Rattle.std.proofs.Common.{◌≡◌, ℕ, suc, ◌+◌, ◌-◌, ◌^◌, ◌≤◌, ◌<◌, true, false, List, [], ◌∷◌, ◌++◌, length, Some, Ok, Err, refl, sym, ap, ◌∙◌, subst, arith, length-append, inl, inr}
 use Rattle.std.proofs.lemmas.Bool.{le-ltb, ltb-false}
 use Rattle.std.proofs.lemmas.List.{append-nil}
 use Rattle.asn1_types.specs.declared.row.Class.{Class}
@@ -15,7 +15,7 @@ use Rattle.ber_spelling.specs.Spelling.{IsIdentifier, IsDefinite, IsIndefinite, 
 use Rattle.ber_spelling.proofs.Identifiers.{IsIn, in_before, Taken, bind_ok, ok_is, identifier_found}
 use Rattle.ber_spelling.proofs.Lengths.{Until, Marked, extent_found, extent_until, extent_marked}
 use Rattle.ber_spelling.proofs.Ends.{closing, Closes, EndFound, BeginFound, AheadFound, look_found, look_closed, look_begun}
-use Rattle.ber_spelling.proofs.Steady.{RunOf, Run, RelationOf, Relation, ReadAs, Found, ReadBack, Only, OfTag, opened_as, expected, tag_is, tag_again, taken_octets, taken_then, head_some}
+use Rattle.ber_spelling.proofs.Steady.{RunOf, Run, RelationOf, Relation, ReadAs, Found, ReadBack, Only, OfTag, opened_as, expected, tag_is, tag_again, taken_octets, taken_then, head_some, regroup, regroup_marked}
 
 -- reads contents up to and with what closes them
 abbrev pub BodyOf : Type 0 → Type 0
@@ -114,12 +114,6 @@ constructed_found body tag Q h = record {
         | inr u ↦ marked_found body tag Q h scope place rest v to x s m i.head octets i.taken i.level is.small identifier u u.is_in b2.2
       ];
 }
-
-regroup : (head size contents rest : List ℕ) → (head ++ (size ++ contents)) ++ rest ≡ head ++ (size ++ (contents ++ rest))
-regroup head size contents rest = simp append_assoc
-
-regroup_marked : (head contents rest : List ℕ) → (head ++ (128 ∷ (contents ++ (0 ∷ 0 ∷ [])))) ++ rest ≡ head ++ (128 ∷ (contents ++ ((0 ∷ 0 ∷ []) ++ rest)))
-regroup_marked head contents rest = simp append_assoc
 
 module _ {A : Type 0} (body : BodyOf A) (tag : tags.Tag) (Q : RelationOf A) (h : BodyOnly body Q) (tagged : is_no_tag tag.class tag.number ≡ false) (scope : Scope) (place : ℕ) (v : A) (text rest : List ℕ)
     (inner : ℕ) (level : scope.levels ≡ suc inner) (small : tag.number < 2 ^ 32) (here : IsIn scope (place + length text)) where

@@ -18,7 +18,7 @@ not_true false e = refl
 int_le : (a b : ℤ) → int_lt b a ≡ false → a ≤ℤ b
 int_le a b e = grind (arith, ints)
 
-int_not_lt : (a b : ℤ) → a ≤ℤ b → int_lt b a ≡ false
+pub int_not_lt : (a b : ℤ) → a ≤ℤ b → int_lt b a ≡ false
 int_not_lt a b h = grind (arith, ints)
 
 pub null_sound : (c : List ℕ) (v : Value) → AreOctets c → null_rule c ≡ Some v → NullIs v c

@@ -6,6 +6,7 @@ use Rattle.std.proofs.lemmas.Bool.{le-ltb, lt-ltb, ltb-true, ltb-false, ne_eqb}
 use Rattle.ber_spelling.specs.Fields.{number_from}
 use Rattle.ber_spelling.specs.Spelling.{AreDigits, low_bits, number_128, IsBase128}
 use Rattle.ber_spelling.specs.Writing.{high_digits, base_128, digits_256, base_256, natural_octets}
+use Rattle.ber_spelling.proofs.Identifiers.{digits_more}
 
 split_128 : (n : ℕ) → (128 * (n / 128) + n % 128 ≡ n) × (n % 128 < 128)
 split_128 n = (div-add-mod n 128, omega arith)
@@ -50,10 +51,6 @@ high_append (suc t) n b c = by_test (nat_eq n 0) (high_append t (n / 128) ((128 
     by_test : (x : Bool) → high_digits t (n / 128) ((128 + n % 128) ∷ (b ++ c)) ≡ high_digits t (n / 128) ((128 + n % 128) ∷ b) ++ c → cond x (b ++ c) (high_digits t (n / 128) ((128 + n % 128) ∷ (b ++ c))) ≡ cond x b (high_digits t (n / 128) ((128 + n % 128) ∷ b)) ++ c
     by_test true h = refl
     by_test false h = h
-
-digits_more : (d : ℕ) (b : List ℕ) → 128 ≤ d → d < 256 → AreDigits b → AreDigits (d ∷ b)
-digits_more d [] le lt h = absurd h
-digits_more d (e ∷ b) le lt h = (le, lt, h)
 
 high_are : (t n : ℕ) (b : List ℕ) → AreDigits b → AreDigits (high_digits t n b)
 high_are zero n b h = h

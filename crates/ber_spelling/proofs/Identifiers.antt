@@ -114,7 +114,7 @@ low_small d lt = rw (lt-ltb d 128 lt) refl
 low_large : (d : ℕ) → 128 ≤ d → low_bits d ≡ d - 128
 low_large d le = rw (le-ltb d 128 le) refl
 
-digits_more : (d : ℕ) (text : List ℕ) → 128 ≤ d → d < 256 → AreDigits text → AreDigits (d ∷ text)
+pub digits_more : (d : ℕ) (text : List ℕ) → 128 ≤ d → d < 256 → AreDigits text → AreDigits (d ∷ text)
 digits_more d [] le lt h = absurd h
 digits_more d (e ∷ text) le lt h = (le, lt, h)
 

@@ -241,9 +241,6 @@ module _ (begins : ℕ → Class → ℕ → Bool) (inner : ℕ → Reader) (h :
 
 -- ---- one whole value of any type
 
-some_unit : Unit {0} → Option (Unit {0})
-some_unit u = Some u
-
 sized_inside : (scope : Scope) (s : Spot) (end : ℕ) → Ends end s → Inside (second end) end (sized_at scope s)
 sized_inside scope s end e = Inside-bind (Contained end) (second end) end (contents_at scope s.place s.rest) _ (contents_inside scope s.place s.rest end e) (λ c k. k.1)
 

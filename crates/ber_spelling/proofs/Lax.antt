@@ -16,7 +16,7 @@ use Rattle.ber_spelling.specs.Order.{Filled}
 use Rattle.ber_spelling.specs.Spelling.{IsLength, IsDefinite, IsPrimitive, IsConstructed, BooleanIs, IntegerIs, EnumeratedIs, NullIs, ObjectIdIs, AnyIs, Spelled, Steps, StringIs, PartsAre, SequenceIs, ListStep, ListIs, SetStep, SetIs, ChoiceIs, OrExplicit, RowIs, RowOr, SpelledBy}
 use Rattle.ber_spelling.specs.Laws.{DerIsBer}
 
-lax_length : (size : List ℕ) (n : ℕ) → IsLength true size n → IsLength false size n
+pub lax_length : (size : List ℕ) (n : ℕ) → IsLength true size n → IsLength false size n
 lax_length [] n h = absurd h
 lax_length (first ∷ digits) n (inl h) = inl h
 lax_length (first ∷ digits) n (inr h) = inr (record { size = h.size; some = h.some; few = h.few; number = h.number; shortest = λ e. absurd (let wrong : false ≡ true = e in cc) })

@@ -36,7 +36,11 @@ pub mod WrittenSets
 pub mod Inside
 pub mod InsideRules
 pub mod FirstFaults
+pub mod Around
+pub mod LastOctets
 pub mod UnusedBits
+pub mod FittingContents
+pub mod Fitting
 pub mod Strict
 pub mod StrictRules
 pub mod DerForms

@@ -48,7 +48,7 @@ number_high n (o ∷ os) h =
 
 -- ---- two's complement
 
-few_256 : (len : ℕ) → len ≤ 8 → 256 ^ len ≤ 2 ^ 64
+pub few_256 : (len : ℕ) → len ≤ 8 → 256 ^ len ≤ 2 ^ 64
 few_256 len le =
     let some : zero < 256 = omega arith in
     pow-le-pow_right some le

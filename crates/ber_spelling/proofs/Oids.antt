@@ -10,6 +10,7 @@ use Rattle.ber_spelling.specs.Primitives.{sized, push_front, subidentifiers_of, 
 use Rattle.ber_spelling.specs.Rules.{object_id_rule}
 use Rattle.ber_spelling.specs.Spelling.{AreDigits, low_bits, number_128, IsBase128, subidentifiers, AreSubidentifiers, IsObjectId, ObjectIdIs}
 use Rattle.ber_spelling.proofs.Numbers.{octets_tail}
+use Rattle.ber_spelling.proofs.Identifiers.{digits_more}
 
 sized_digit : (a d : ℕ) → sized (128 * sized a + d) ≡ sized (128 * a + d)
 sized_digit a d = omega arith
@@ -39,10 +40,6 @@ low_small d lt = rw (lt-ltb d 128 lt) refl
 
 low_large : (d : ℕ) → 128 ≤ d → low_bits d ≡ d - 128
 low_large d le = rw (le-ltb d 128 le) refl
-
-digits_more : (d : ℕ) (piece : List ℕ) → 128 ≤ d → d < 256 → AreDigits piece → AreDigits (d ∷ piece)
-digits_more d [] le lt h = absurd h
-digits_more d (e ∷ piece) le lt h = (le, lt, h)
 
 chosen_some : {A : Type 0} (b : Bool) (r s : Option A) (y : A) → cond b r s ≡ Some y → ((b ≡ true) × (r ≡ Some y)) ⊎ ((b ≡ false) × (s ≡ Some y))
 chosen_some true r s y e = inl (refl, e)
@@ -154,11 +151,11 @@ sized_subs (n ∷ ns) contents small h =
 
 -- ---- arcs
 
-arcs_small : (arcs : List ℕ) → list_all is_arc arcs ≡ true → AllByRecursion (λ n. n < 2 ^ 32) arcs
+pub arcs_small : (arcs : List ℕ) → list_all is_arc arcs ≡ true → AllByRecursion (λ n. n < 2 ^ 32) arcs
 arcs_small [] e = tt
 arcs_small (n ∷ ns) e = let t = and_parts (is_arc n) (list_all is_arc ns) e in (ltb-true n (2 ^ 32) t.0, arcs_small ns t.1)
 
-small_arcs : (arcs : List ℕ) → AllByRecursion (λ n. n < 2 ^ 32) arcs → list_all is_arc arcs ≡ true
+pub small_arcs : (arcs : List ℕ) → AllByRecursion (λ n. n < 2 ^ 32) arcs → list_all is_arc arcs ≡ true
 small_arcs [] h = refl
 small_arcs (n ∷ ns) h = rw (lt-ltb n (2 ^ 32) h.0, small_arcs ns h.1) refl
 
@@ -210,7 +207,7 @@ first_from root second arcs (inr h) =
     let same : 40 * 2 + second - 80 ≡ second = omega arith in
     subst (λ (r : ℕ). arcs_from ((40 * r + second) ∷ arcs) ≡ r ∷ second ∷ arcs) (sym h) (rw (le-ltb (40 * 2 + second) 40 ge, le-ltb (40 * 2 + second) 80 more, same) refl)
 
-well_begun : (arcs : List ℕ) → IsOid arcs → is_oid arcs ≡ true
+pub well_begun : (arcs : List ℕ) → IsOid arcs → is_oid arcs ≡ true
 well_begun arcs h = h
 
 subs_back : (arcs : List ℕ) → is_oid arcs ≡ true → arcs_from (subidentifiers arcs) ≡ arcs

@@ -85,7 +85,7 @@ abbrev pub OkTag : Option tags.Tag → Type 0
 OkTag None = Unit {0}
 OkTag (Some t) = is_no_tag t.class t.number ≡ false
 
-tag_ok : (t : Option tags.Tag) (class : Class) (number : ℕ) → OkTag t → is_no_tag class number ≡ false → is_no_tag (tag_or t class number).class (tag_or t class number).number ≡ false
+pub tag_ok : (t : Option tags.Tag) (class : Class) (number : ℕ) → OkTag t → is_no_tag class number ≡ false → is_no_tag (tag_or t class number).class (tag_or t class number).number ≡ false
 tag_ok None class number h e = e
 tag_ok (Some t) class number h e = h
 

@@ -19,7 +19,7 @@ use Rattle.ber_spelling.proofs.Growing.{grown, grown_opened, Grows-bind, Grows-s
 use Rattle.ber_spelling.proofs.Turns.{bind_is}
 use Rattle.ber_spelling.proofs.Items.{GrowsRun, all_found, all_only, all_grow, constructed_grows}
 
-abbrev some_gathered : Gathered → Option Gathered
+abbrev pub some_gathered : Gathered → Option Gathered
 some_gathered g = Some g
 
 cond_then : {A : Type 0} (b : Bool) (r s x : A) → b ≡ true → r ≡ x → cond b r s ≡ x

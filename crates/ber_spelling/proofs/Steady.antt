@@ -242,8 +242,11 @@ prim_found {A} rule canonical tag P sound = record {
 abbrev pub OfTag : tags.Tag → Class → ℕ → Type 0
 OfTag tag class number = (class ≡ tag.class) × (number ≡ tag.number)
 
-regroup : (head size contents rest : List ℕ) → (head ++ (size ++ contents)) ++ rest ≡ head ++ (size ++ (contents ++ rest))
+pub regroup : (head size contents rest : List ℕ) → (head ++ (size ++ contents)) ++ rest ≡ head ++ (size ++ (contents ++ rest))
 regroup head size contents rest = simp append_assoc
+
+pub regroup_marked : (head contents rest : List ℕ) → (head ++ (128 ∷ (contents ++ (0 ∷ 0 ∷ [])))) ++ rest ≡ head ++ (128 ∷ (contents ++ (0 ∷ 0 ∷ rest)))
+regroup_marked head contents rest = simp append_assoc
 
 pub capped_is : (n : ℕ) → n < 2 ^ 32 → capped n ≡ n
 capped_is n lt = omega arith

@@ -1,5 +1,5 @@
 -- Whole values of any type: what is read is spelled so, what is spelled so is read, and it stays so.
-use Rattle.std.proofs.Common.{◌≡◌, ◌≢◌, ℕ, zero, suc, ◌+◌, ◌-◌, ◌<◌, Bool, true, false, ◌&&◌, cond, List, [], ◌∷◌, ◌++◌, length, Option, Some, Ok, Err, refl, sym, ap, ◌∙◌, subst, arith, append_assoc, length-append, inl, inr}
+use Rattle.std.proofs.Common.{◌≡◌, ◌≢◌, ℕ, zero, suc, ◌+◌, ◌-◌, ◌<◌, Bool, true, false, ◌&&◌, cond, List, [], ◌∷◌, ◌++◌, length, Option, Some, Ok, Err, refl, sym, ap, ◌∙◌, subst, arith, length-append, inl, inr}
 use Rattle.std.specs.Prelude.{nat_eq}
 use Rattle.std.proofs.lemmas.Bool.{ne_eqb, eqb-true, and_parts}
 use Rattle.osi_base.specs.declared.words.Kind.TheVariants.{Tag}
@@ -16,7 +16,7 @@ use Rattle.ber_spelling.specs.Rules.{all_items_at, anew, sized_at, marked_at, wh
 use Rattle.ber_spelling.specs.Spelling.{IsLength, IsIdentifier, Steps, ItemsAre, IsSized, AreAll, IsMarked, IsWhole}
 use Rattle.ber_spelling.proofs.Identifiers.{IsIn, in_before, bind_ok, chosen_ok, unless_ok, ok_is, IdentifierFound, identifier_found, identifier_again}
 use Rattle.ber_spelling.proofs.Lengths.{Marked, contents_found, contents_again, extent_found, extent_marked, length_first}
-use Rattle.ber_spelling.proofs.Steady.{ReadAs, Found, ReadBack, Only, taken_octets, taken_then, head_some}
+use Rattle.ber_spelling.proofs.Steady.{ReadAs, Found, ReadBack, Only, taken_octets, taken_then, head_some, regroup, regroup_marked}
 use Rattle.ber_spelling.proofs.Constructed.{BodyFound, BodyOnly}
 use Rattle.ber_spelling.proofs.Growing.{grown, Grows, Grows-bind, Grows-cond, with_spot, with_contents, extent_grows, contents_grow}
 use Rattle.ber_spelling.proofs.Items.{GrowsRun, GrowsBody, all_found, all_only, all_grow}
@@ -144,13 +144,7 @@ whole_found (suc inner) before = record {
 
 -- ---- what is spelled so is read
 
-regroup : (head size contents rest : List ℕ) → (head ++ (size ++ contents)) ++ rest ≡ head ++ (size ++ (contents ++ rest))
-regroup head size contents rest = simp append_assoc
-
-regroup_marked : (head contents rest : List ℕ) → (head ++ (128 ∷ (contents ++ (0 ∷ 0 ∷ [])))) ++ rest ≡ head ++ (128 ∷ (contents ++ ((0 ∷ 0 ∷ []) ++ rest)))
-regroup_marked head contents rest = simp append_assoc
-
-unmarked : (size behind : List ℕ) (n : ℕ) → IsLength false size n → is_marked (size ++ behind) ≡ false
+pub unmarked : (size behind : List ℕ) (n : ℕ) → IsLength false size n → is_marked (size ++ behind) ≡ false
 unmarked [] behind n h = absurd h
 unmarked (first ∷ digits) behind n h = length_first false first digits n h
 

@@ -11,7 +11,7 @@ use Rattle.asn1_types.specs.declared.row.TypeRow.TheVariants as row
 use Rattle.asn1_types.specs.Rows.{is_no_tag, text_number}
 use Rattle.asn1_types.specs.Table.{IsSound, is_bad_range}
 use Rattle.asn1_types.specs.Value.{Value, boolean, integer, null, octets, bits, object_id, text, parts, list, chosen, any}
-use Rattle.asn1_types.specs.Whole.{number_256, behind_digits, behind_high, behind_identifier, behind_octets, behind_counted, behind_sized, is_constructed as is_formed, is_marked, is_ended, behind_values, behind_whole, is_nothing, is_whole}
+use Rattle.asn1_types.specs.Whole.{number_256, behind_digits, behind_high, behind_identifier, behind_octets, behind_counted, behind_sized, is_constructed as is_formed, is_ended, behind_values, behind_whole, is_nothing, is_whole}
 use Rattle.asn1_types.specs.Fits.{fits}
 use Rattle.asn1_types.proofs.Sound.{sound_row}
 use Rattle.ber_spelling.specs.declared.spot.Tag as tags
@@ -23,11 +23,12 @@ use Rattle.ber_spelling.specs.declared.spot.Gathered.{Gathered}
 use Rattle.ber_spelling.specs.Spelling.{AreDigits, low_bits, IsBase128, leading, IsIdentifier, IsLength, IsDefinite, IsIndefinite, IsPrimitive, IsConstructed, AreAll, IsWhole, Spelled, SequenceIs, SetIs, ChoiceIs, BooleanIs, IntegerIs, EnumeratedIs, StringIs, ListIs, NullIs, ObjectIdIs, AnyIs, RowIs, RowOr, SpelledBy, Spells, OrExplicit}
 use Rattle.ber_spelling.specs.Writing.{written}
 use Rattle.ber_spelling.proofs.Identifiers.{low_at, form_at}
-use Rattle.ber_spelling.proofs.Lengths.{length_first}
-use Rattle.ber_spelling.proofs.Steady.{Head, head_some}
-use Rattle.ber_spelling.proofs.RowLaws.{text_tag}
+use Rattle.ber_spelling.proofs.Steady.{Head, head_some, regroup, regroup_marked}
+use Rattle.ber_spelling.proofs.RowLaws.{text_tag, OkTag, tag_ok}
 use Rattle.ber_spelling.proofs.Written.{written_spelled}
-use Rattle.ber_spelling.proofs.Wholes.{whole_is}
+use Rattle.ber_spelling.proofs.Wholes.{whole_is, same_number}
+use Rattle.ber_spelling.proofs.WholeReads.{unmarked}
+use Rattle.ber_spelling.proofs.Lax.{lax_length}
 
 -- ---- identifiers
 
@@ -92,10 +93,6 @@ identifier_passed class constructed number (first ∷ digits) rest t (inr h) =
 
 -- ---- lengths
 
-same_number : (n : ℕ) (os : List ℕ) → number_256 n os ≡ number_from n os
-same_number n [] = refl
-same_number n (o ∷ os) = same_number (256 * n + o) os
-
 both : (a b : Bool) → a ≡ true → b ≡ true → (a && b) ≡ true
 both true b e f = f
 both false b e f = absurd cc
@@ -124,20 +121,10 @@ sized (first ∷ digits) contents rest (inr l) =
 
 -- ---- whole values
 
-regroup : (head size contents rest : List ℕ) → (head ++ (size ++ contents)) ++ rest ≡ head ++ (size ++ (contents ++ rest))
-regroup head size contents rest = simp append_assoc
-
-regroup_marked : (head contents rest : List ℕ) → (head ++ (128 ∷ (contents ++ (0 ∷ 0 ∷ [])))) ++ rest ≡ head ++ (128 ∷ (contents ++ (0 ∷ 0 ∷ rest)))
-regroup_marked head contents rest = simp append_assoc
-
 formed : (class : Class) (constructed : Bool) (number : ℕ) (head rest : List ℕ) → IsIdentifier class constructed number head → is_formed (head ++ rest) ≡ constructed
 formed class constructed number [] rest h = absurd h
 formed class constructed number (first ∷ digits) rest (inl h) = ap is_constructed h.1 ∙ form_at class constructed number (omega (arith, h.0))
 formed class constructed number (first ∷ digits) rest (inr h) = ap is_constructed h.1 ∙ form_at class constructed 31 (omega arith)
-
-unmarked : (size behind : List ℕ) (n : ℕ) → IsLength false size n → is_marked (size ++ behind) ≡ false
-unmarked [] behind n h = absurd h
-unmarked (first ∷ digits) behind n h = length_first false first digits n h
 
 headed : (a b : List ℕ) → Head a → Head (a ++ b)
 headed a b h = record { first = h.first; others = h.others ++ b; are = ap (λ (x : List ℕ). x ++ b) h.are; some = h.some }
@@ -191,19 +178,6 @@ is_whole_of os w = ap is_nothing (ap (behind_whole 32) (sym (append-nil os)) ∙
 
 -- ---- DER spellings
 
-abbrev OkTag : Option tags.Tag → Type 0
-OkTag None = Unit {0}
-OkTag (Some t) = is_no_tag t.class t.number ≡ false
-
-tag_ok : (t : Option tags.Tag) (class : Class) (number : ℕ) → OkTag t → is_no_tag class number ≡ false → is_no_tag (tag_or t class number).class (tag_or t class number).number ≡ false
-tag_ok None class number ok e = e
-tag_ok (Some t) class number ok e = ok
-
-any_length : (size : List ℕ) (n : ℕ) → IsLength true size n → IsLength false size n
-any_length [] n h = absurd h
-any_length (first ∷ digits) n (inl h) = inl h
-any_length (first ∷ digits) n (inr l) = inr (record { size = l.size; some = l.some; few = l.few; number = l.number; shortest = λ f. absurd cc })
-
 definite_whole : (constructed : Bool) (tag : tags.Tag) (P : List ℕ → Type 0) (s : List ℕ) → is_no_tag tag.class tag.number ≡ false → IsDefinite true constructed tag P s → IsWhole 32 s
 definite_whole constructed tag P s t d = inl (record {
   class = tag.class;
@@ -214,7 +188,7 @@ definite_whole constructed tag P s t d = inl (record {
   size = d.size;
   contents = d.contents;
   is_identifier = d.is_identifier;
-  is_length = any_length d.size (length d.contents) d.is_length;
+  is_length = lax_length d.size (length d.contents) d.is_length;
   are = d.are;
 })
 

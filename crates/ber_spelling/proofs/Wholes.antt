@@ -10,12 +10,13 @@ use Rattle.asn1_types.specs.Whole.{number_256, behind_digits, behind_high, behin
 use Rattle.ber_spelling.specs.Fields.{class_of, is_constructed, number_from}
 use Rattle.ber_spelling.specs.Spelling.{AreDigits, low_bits, number_128, IsBase128, leading, IsIdentifier, IsLength, IsSized, AreAll, IsMarked, IsWhole}
 use Rattle.ber_spelling.proofs.Identifiers.{first_is}
+use Rattle.ber_spelling.proofs.Steady.{regroup, regroup_marked}
 
-cond_some : {A : Type 0} (b : Bool) (o : Option A) (x : A) → cond b None o ≡ Some x → (b ≡ false) × (o ≡ Some x)
+pub cond_some : {A : Type 0} (b : Bool) (o : Option A) (x : A) → cond b None o ≡ Some x → (b ≡ false) × (o ≡ Some x)
 cond_some true o x e = absurd cc
 cond_some false o x e = (refl, e)
 
-same_number : (n : ℕ) (os : List ℕ) → number_256 n os ≡ number_from n os
+pub same_number : (n : ℕ) (os : List ℕ) → number_256 n os ≡ number_from n os
 same_number n [] = refl
 same_number n (o ∷ os) = same_number (256 * n + o) os
 
@@ -207,12 +208,6 @@ identified (first ∷ more) rest e =
         below k lt ne = elim (cases_lt k 31) [ inl low ↦ low | inr high ↦ absurd (ne (omega arith)) ]
 
 -- ---- whole values
-
-regroup : (head size contents rest : List ℕ) → (head ++ (size ++ contents)) ++ rest ≡ head ++ (size ++ (contents ++ rest))
-regroup head size contents rest = simp append_assoc
-
-regroup_marked : (head contents rest : List ℕ) → (head ++ (128 ∷ (contents ++ (0 ∷ 0 ∷ [])))) ++ rest ≡ head ++ (128 ∷ (contents ++ (0 ∷ 0 ∷ rest)))
-regroup_marked head contents rest = simp append_assoc
 
 then_some : (f : List ℕ → Option (List ℕ)) (o : Option (List ℕ)) (x : List ℕ) → option_and_then f o ≡ Some x → (y : List ℕ) × (o ≡ Some y) × (f y ≡ Some x)
 then_some f None x e = absurd cc

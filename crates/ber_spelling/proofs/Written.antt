@@ -16,7 +16,7 @@ use Rattle.asn1_types.specs.declared.row.TextKind.TheVariants.{Utf8, Ia5, Visibl
 use Rattle.asn1_types.specs.declared.row.TypeRow.{TypeRow}
 use Rattle.asn1_types.specs.declared.row.TypeRow.TheVariants as row
 use Rattle.asn1_types.specs.Rows.{of_row, along, names_of, rows_of_parts, greatest, nesting, nesting_by, text_number, Opening, openings}
-use Rattle.asn1_types.specs.Table.{IsSound, clash, agrees_later, has_clash}
+use Rattle.asn1_types.specs.Table.{HasShortTag, IsSound, clash, agrees_later, has_clash}
 use Rattle.asn1_types.specs.Value.{Value, boolean, integer, null, octets, bits, object_id, text, parts, list, chosen, any, MaybeValues, no_parts, absent, present, Values, no_values, value}
 use Rattle.asn1_types.specs.ValueView.{values_of}
 use Rattle.asn1_types.specs.Whole.{is_whole}
@@ -34,6 +34,7 @@ use Rattle.ber_spelling.proofs.Orders.{front_read, opened_small}
 use Rattle.ber_spelling.proofs.RowLaws.{along_only}
 use Rattle.ber_spelling.proofs.WrittenSets.{Told, AllSpelled, AllShort, first_short, rest_short, set_short, set_is}
 use Rattle.ber_spelling.proofs.WrittenFields.{definite_is, contents_short, Has64, integer_is, subidentifiers_are}
+use Rattle.ber_spelling.proofs.Oids.{arcs_small}
 
 abbrev Most : ℕ
 Most = 2 ^ 64
@@ -194,10 +195,6 @@ null_written (parts ps) e = absurd cc
 null_written (list vs) e = absurd cc
 null_written (chosen n v) e = absurd cc
 null_written (any os) e = absurd cc
-
-arcs_small : (arcs : List ℕ) → list_all has_32_bits arcs ≡ true → AllByRecursion (λ n. n < 2 ^ 32) arcs
-arcs_small [] e = tt
-arcs_small (n ∷ ns) e = let t = and_parts (has_32_bits n) (list_all has_32_bits ns) e in (ltb-true n (2 ^ 32) t.0, arcs_small ns t.1)
 
 object_id_written : (v : Value) → object_id_fits v ≡ true → ObjectIdIs v (object_id_contents v)
 object_id_written (object_id arcs) e =
@@ -411,53 +408,51 @@ module _ (whole : (os : List ℕ) → is_whole os ≡ true → IsWhole 32 os) wh
       some_level None k levels le = le
       some_level (Some t) k levels le = omega arith
 
-      row_is : (r : TypeRow) → has_clash openings r ≡ false → (t : Option tags.Tag) (strict : Bool) (levels : ℕ) (v : Value) → OkTag t → need t (nesting_by nest r) ≤ levels → fits_by fit r v ≡ true → length (write_by write r t v) < Most → RowIs rel r t strict levels v (write_by write r t v)
-      row_is row.Boolean apart t strict levels v ok le e short =
+      row_is : (r : TypeRow) → has_clash openings r ≡ false → HasShortTag r → (t : Option tags.Tag) (strict : Bool) (levels : ℕ) (v : Value) → OkTag t → need t (nesting_by nest r) ≤ levels → fits_by fit r v ≡ true → length (write_by write r t v) < Most → RowIs rel r t strict levels v (write_by write r t v)
+      row_is row.Boolean apart small t strict levels v ok le e short =
           primitive_is strict (tag_or t Universal 1) levels (BooleanIs strict v) (boolean_contents v) (tag_ok t Universal 1 ok (omega arith)) (omega (arith, some_level t 0 levels le)) short (boolean_written strict v e)
-      row_is (row.Integer low high) apart t strict levels v ok le e short =
+      row_is (row.Integer low high) apart small t strict levels v ok le e short =
           primitive_is strict (tag_or t Universal 2) levels (IntegerIs low high v) (integer_contents v) (tag_ok t Universal 2 ok (omega arith)) (omega (arith, some_level t 0 levels le)) short (integer_written low high v e)
-      row_is (row.Enumerated items) apart t strict levels v ok le e short =
+      row_is (row.Enumerated items) apart small t strict levels v ok le e short =
           primitive_is strict (tag_or t Universal 10) levels (EnumeratedIs items v) (integer_contents v) (tag_ok t Universal 10 ok (omega arith)) (omega (arith, some_level t 0 levels le)) short (enumerated_written items v e)
-      row_is row.Null apart t strict levels v ok le e short =
+      row_is row.Null apart small t strict levels v ok le e short =
           primitive_is strict (tag_or t Universal 5) levels (NullIs v) [] (tag_ok t Universal 5 ok (omega arith)) (omega (arith, some_level t 0 levels le)) short (null_written v e)
-      row_is (row.OctetString most) apart t strict levels v ok le e short =
+      row_is (row.OctetString most) apart small t strict levels v ok le e short =
           inl (primitive_is strict (tag_or t Universal 4) levels (λ c. (string_rule OfOctets (whole_octets most) c ≡ Some v) × (strict ≡ true → always c ≡ true)) (octets_contents v) (tag_ok t Universal 4 ok (omega arith)) (omega (arith, some_level t 0 levels le)) short
           (octets_written most v e, λ s. refl))
-      row_is row.BitString apart t strict levels v ok le e short =
+      row_is row.BitString apart small t strict levels v ok le e short =
           let b = bits_written v e in
           inl (primitive_is strict (tag_or t Universal 3) levels (λ c. (string_rule OfBits whole_bits c ≡ Some v) × (strict ≡ true → has_zero_bits c ≡ true)) (bits_contents v) (tag_ok t Universal 3 ok (omega arith)) (omega (arith, some_level t 0 levels le)) short
           (b.0, λ s. b.1))
-      row_is row.ObjectId apart t strict levels v ok le e short =
+      row_is row.ObjectId apart small t strict levels v ok le e short =
           primitive_is strict (tag_or t Universal 6) levels (ObjectIdIs v) (object_id_contents v) (tag_ok t Universal 6 ok (omega arith)) (omega (arith, some_level t 0 levels le)) short (object_id_written v e)
-      row_is (row.Text kind) apart t strict levels v ok le e short =
+      row_is (row.Text kind) apart small t strict levels v ok le e short =
           inl (primitive_is strict (tag_or t Universal (text_number kind)) levels (λ c. (string_rule OfOctets (whole_text kind) c ≡ Some v) × (strict ≡ true → always c ≡ true)) (text_contents v) (tag_ok t Universal (text_number kind) ok (text_small kind)) (omega (arith, some_level t 0 levels le)) short
           (text_written kind v e, λ s. refl))
-      row_is (row.Sequence ps) apart t strict levels v ok le e short =
+      row_is (row.Sequence ps) apart small t strict levels v ok le e short =
           let l = lower (greatest nest (rows_of_parts ps)) levels (some_level t (greatest nest (rows_of_parts ps)) levels le) in
           let c : List ℕ = sequence_contents (parts_contents write ps) v in
           constructed_is strict (tag_or t Universal 16) levels l.0 (SequenceIs rel strict ps v) c l.1 (tag_ok t Universal 16 ok (omega arith)) short
           (sequence_written fit write rel nest each strict l.0 ps v l.2 e (contents_short true (tag_or t Universal 16) c Most short))
-      row_is (row.Set ps) apart t strict levels v ok le e short =
+      row_is (row.Set ps) apart small t strict levels v ok le e short =
           let l = lower (greatest nest (rows_of_parts ps)) levels (some_level t (greatest nest (rows_of_parts ps)) levels le) in
           let c : List ℕ = sequence_contents (set_parts write ps) v in
           constructed_is strict (tag_or t Universal 17) levels l.0 (SetIs rel ps strict v) c l.1 (tag_ok t Universal 17 ok (omega arith)) short
           (set_written fit write rel nest each strict openings l.0 (λ m w text. told m strict l.0 w text) ps v apart l.2 e (contents_short true (tag_or t Universal 17) c Most short))
-      row_is (row.SequenceOf of) apart t strict levels v ok le e short =
+      row_is (row.SequenceOf of) apart small t strict levels v ok le e short =
           let l = lower (nest of.0) levels (omega (arith, some_level t (greatest nest (of.0 ∷ [])) levels le)) in
           let c : List ℕ = list_contents (write of.0) v in
           constructed_is strict (tag_or t Universal 16) levels l.0 (ListIs (rel of.0) strict v) c l.1 (tag_ok t Universal 16 ok (omega arith)) short
           (list_written fit write rel nest each strict of.0 l.0 v l.2 e (contents_short true (tag_or t Universal 16) c Most short))
-      row_is (row.Choice ps) apart t strict levels v ok le e short = choice_is ps t strict levels v ok le e short
-      row_is (row.Tagged class number true of) apart t strict levels v ok le e short =
-          let f = and_parts (has_32_bits number) (fit of.0 v) e in
+      row_is (row.Choice ps) apart small t strict levels v ok le e short = choice_is ps t strict levels v ok le e short
+      row_is (row.Tagged class number true of) apart small t strict levels v ok le e short =
           let l = lower (nest of.0) levels (omega (arith, some_level t (greatest nest (of.0 ∷ [])) levels le)) in
           let c : List ℕ = write of.0 None v in
-          constructed_is strict (tag_or t class number) levels l.0 (λ k contents. rel of.0 None strict k v contents) c l.1 (tag_ok t class number ok (ltb-true number (2 ^ 32) f.0)) short
-          ((each of.0).is None strict l.0 v tt l.2 f.1 (contents_short true (tag_or t class number) c Most short))
-      row_is (row.Tagged class number false of) apart t strict levels v ok le e short =
-          let f = and_parts (has_32_bits number) (fit of.0 v) e in
-          (each of.0).is (Some (tag_or t class number)) strict levels v (tag_ok t class number ok (ltb-true number (2 ^ 32) f.0)) (omega (arith, some_level t (greatest nest (of.0 ∷ [])) levels le)) f.1 short
-      row_is row.Any apart t strict levels v ok le e short = any_is t strict levels v ok le e short
+          constructed_is strict (tag_or t class number) levels l.0 (λ k contents. rel of.0 None strict k v contents) c l.1 (tag_ok t class number ok small) short
+          ((each of.0).is None strict l.0 v tt l.2 e (contents_short true (tag_or t class number) c Most short))
+      row_is (row.Tagged class number false of) apart small t strict levels v ok le e short =
+          (each of.0).is (Some (tag_or t class number)) strict levels v (tag_ok t class number ok small) (omega (arith, some_level t (greatest nest (of.0 ∷ [])) levels le)) e short
+      row_is row.Any apart small t strict levels v ok le e short = any_is t strict levels v ok le e short
 
   module _ (rows : List TypeRow) (sound : IsSound rows) where
     of_written : (turns n : ℕ) → ((m : ℕ) → RowWritten (along nothing_fits fits_by rows turns m) (along nothing_written write_by rows turns m) (SpelledBy rows turns m) (nesting rows m)) → (o : Option TypeRow) → slice_get rows n ≡ o
@@ -466,7 +461,7 @@ module _ (whole : (os : List ℕ) → is_whole os ≡ true → IsWhole 32 os) wh
         → RowOr (RowIs (SpelledBy rows turns)) o t strict levels v (of_row nothing_written (write_by (along nothing_written write_by rows turns)) o t v)
     of_written turns n h None g t strict levels v ok le e short = absurd cc
     of_written turns n h (Some r) g t strict levels v ok le e short =
-        row_is (openings rows) (along nothing_fits fits_by rows turns) (along nothing_written write_by rows turns) (SpelledBy rows turns) (nesting rows) h (λ m. told_of rows sound turns m) r (sound_row rows sound n r g).apart t strict levels v ok (subst (λ (k : ℕ). need t k ≤ levels) (nesting_at rows sound n r g) le) e short
+        row_is (openings rows) (along nothing_fits fits_by rows turns) (along nothing_written write_by rows turns) (SpelledBy rows turns) (nesting rows) h (λ m. told_of rows sound turns m) r (sound_row rows sound n r g).apart (sound.short n r g) t strict levels v ok (subst (λ (k : ℕ). need t k ≤ levels) (nesting_at rows sound n r g) le) e short
 
     all_written : (turns n : ℕ) → RowWritten (along nothing_fits fits_by rows turns n) (along nothing_written write_by rows turns n) (SpelledBy rows turns n) (nesting rows n)
     all_written zero n = record { is = λ t strict levels v ok le e short. absurd cc }

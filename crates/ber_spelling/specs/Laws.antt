@@ -1,5 +1,5 @@
 -- The laws of reading and of spellings.
-use Rattle.std.specs.Prelude.{◌≡◌, ◌≢◌, ℕ, ◌<◌, ◌≤◌, ◌^◌, Bool, true, false, Some, List, ◌∷◌, ◌++◌, length, take, Ok, Err, ◌⊎◌, slice_get}
+use Rattle.std.specs.Prelude.{◌≡◌, ◌≢◌, ℕ, ◌<◌, ◌≤◌, ◌^◌, Bool, true, false, Some, List, ◌∷◌, ◌++◌, ◌-◌, ◌%◌, length, take, Ok, Err, ◌⊎◌, slice_get, slice_index}
 use Rattle.osi_base.specs.declared.words.Kind.TheVariants.{Form}
 use Rattle.asn1_types.specs.declared.row.TypeRow.{TypeRow}
 use Rattle.asn1_types.specs.declared.row.TypeRow.TheVariants.{BitString}
@@ -12,8 +12,8 @@ use Rattle.ber_spelling.specs.declared.fault.ReadFault.TheVariants.{NotSpelled, 
 use Rattle.ber_spelling.specs.declared.spot.StringKind.TheVariants.{OfBits}
 use Rattle.ber_spelling.specs.Octets.{AreOctets}
 use Rattle.ber_spelling.specs.Rules.{read_at, segment_tag, cleared}
-use Rattle.ber_spelling.specs.Spelling.{Spells}
-use Rattle.ber_spelling.specs.Writing.{definite, written}
+use Rattle.ber_spelling.specs.Spelling.{IsDefinite, Spells}
+use Rattle.ber_spelling.specs.Writing.{written}
 
 -- what is read is spelled by its octets
 abbrev pub ReadIsSpelled : Type 0
@@ -79,12 +79,30 @@ abbrev pub DerIsBerInForm : Type 0
 DerIsBerInForm = (rows : List TypeRow) (n limit : ℕ) (bytes : List ℕ)
     → (read_at rows n true limit bytes ≡ read_at rows n false limit bytes) ⊎ ((place : ℕ) × (read_at rows n true limit bytes ≡ Err (NotSpelled place Form)))
 
+-- What octets spell fits the row, with it each part of it and each unused bit.
+abbrev pub SpelledFits : Type 0
+SpelledFits = (rows : List TypeRow) (n : ℕ) (strict : Bool) (limit : ℕ) (v : Value) (spelled : List ℕ) → AreOctets spelled → Spells rows n strict limit v spelled → fits rows n v ≡ true
+
+-- One octet holds the unused bits of a BIT STRING, the low ones, and whatever they are the octets stay P.
+pub record HoldsUnused (used unused : ℕ) (P : List ℕ → Type 0) (spelled : List ℕ) : Type 0 where
+  pub front : List ℕ
+  pub octet : ℕ
+  pub back : List ℕ
+  pub are : spelled ≡ front ++ (octet ∷ back)
+  pub has : octet - octet % 2 ^ unused ≡ used
+  pub any : (other : ℕ) → other - other % 2 ^ unused ≡ used → P (front ++ (other ∷ back))
+
 -- In BER the unused bits of a BIT STRING may have any values (X.690 8.6.2.3), and the octets spell the value in which
--- they are zeros.
+-- they are zeros: in whatever form it stands, with lengths of either form, in segments, under tags.
 abbrev pub UnusedBitsAreZeros : Type 0
-UnusedBitsAreZeros = (rows : List TypeRow) (n limit unused : ℕ) (os : List ℕ) → slice_get rows n ≡ Some BitString → 0 < length os → unused < 8
-    → limit < 2 ^ 64 → length (definite false (segment_tag OfBits) (unused ∷ os)) ≤ limit
-    → Spells rows n false limit (bits (cleared unused os) unused) (definite false (segment_tag OfBits) (unused ∷ os)) × (are_bits (cleared unused os) unused ≡ true)
+UnusedBitsAreZeros = (rows : List TypeRow) (n limit unused : ℕ) (os spelled : List ℕ) → Spells rows n false limit (bits os unused) spelled
+    → (are_bits os unused ≡ true) × (0 < unused → HoldsUnused (slice_index os (length os - 1)) unused (Spells rows n false limit (bits os unused)) spelled)
+
+-- So a BIT STRING in one segment: contents that tell the unused bits, and octets in which these have any values.
+abbrev pub UnusedBitsAreCleared : Type 0
+UnusedBitsAreCleared = (rows : List TypeRow) (n limit unused : ℕ) (os spelled : List ℕ) → slice_get rows n ≡ Some BitString → 0 < length os → unused < 8
+    → IsDefinite false false (segment_tag OfBits) (λ contents. contents ≡ unused ∷ os) spelled → length spelled ≤ limit
+    → Spells rows n false limit (bits (cleared unused os) unused) spelled
 
 -- a first part of the octets is a spelling
 abbrev pub BeginsSpelled : List TypeRow → ℕ → Bool → ℕ → List ℕ → Type 0

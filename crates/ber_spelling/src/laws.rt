@@ -1,6 +1,6 @@
 //! The laws of reading, each the contract of a function that does nothing.
 
-ghost use Rattle.ber_spelling.specs.Laws.{ReadIsSpelled, SpelledIsRead, NoneBegins, ReadStays, FaultStays, FaultIsFirst, BeginningIsShort, WrittenIsSpelled, WrittenIsRead, DerIsBer, DerIsBerInForm, OneOfThree, DerIsWhole, UnusedBitsAreZeros};
+ghost use Rattle.ber_spelling.specs.Laws.{ReadIsSpelled, SpelledIsRead, NoneBegins, ReadStays, FaultStays, FaultIsFirst, BeginningIsShort, WrittenIsSpelled, WrittenIsRead, DerIsBer, DerIsBerInForm, OneOfThree, DerIsWhole, SpelledFits, UnusedBitsAreZeros, UnusedBitsAreCleared};
 
 /// What is read is spelled by the octets used.
 pub fn read_is_spelled()
@@ -59,9 +59,21 @@ pub fn der_is_ber_in_form()
     ensures { DerIsBerInForm }
 {}
 
-/// In BER unused bits of any values spell the BIT STRING in which they are zeros (X.690 8.6.2.3).
+/// What is spelled fits its type. So, with `read_is_spelled`, does what is read.
+pub fn spelled_fits()
+    ensures { SpelledFits }
+{}
+
+/// In BER unused bits of any values spell the BIT STRING in which they are zeros (X.690 8.6.2.3),
+/// in whatever form it stands: with lengths of either form, in segments, under tags.
 pub fn unused_bits_are_zeros()
     ensures { UnusedBitsAreZeros }
+{}
+
+/// So in one segment: contents that tell the unused bits, and octets in which these have any
+/// values, spell the BIT STRING of the octets with these bits cleared.
+pub fn unused_bits_are_cleared()
+    ensures { UnusedBitsAreCleared }
 {}
 
 /// Of all octets one holds and no other: a first part is a spelling, there is a first fault, or they

@@ -7,7 +7,6 @@ use Rattle.asn1_types.specs.declared.row.Part.{Part}
 use Rattle.asn1_types.specs.declared.row.TypeRow.{TypeRow}
 use Rattle.asn1_types.specs.declared.row.TypeRow.TheVariants as row
 use Rattle.asn1_types.specs.Rows.{of_row, along}
-use Rattle.asn1_types.specs.Fits.{has_32_bits}
 use Rattle.asn1_types.specs.Value.{Value}
 use Rattle.packed_codec.specs.declared.fault.PackedFault.TheVariants as faults
 use Rattle.packed_codec.specs.Reading.{Spot, Reading, ◌>>=◌, within}
@@ -210,7 +209,7 @@ module _ (inner : ℕ → Reader) (h : (n : ℕ) → GrowsRun (inner n)) where
   row_grows (row.Set ps) = sequence_grows ps
   row_grows (row.SequenceOf of) = list_grows (inner of.0) (h of.0)
   row_grows (row.Choice ps) = choice_grows ps
-  row_grows (row.Tagged class number explicit of) = record { grows = λ limit s more. Grows-cond (with_spot more) (has_32_bits number) _ _ _ _ ((h of.0).grows limit s more) refl }
+  row_grows (row.Tagged class number explicit of) = h of.0
   row_grows row.Any = record { grows = λ limit s more. refl }
 
 -- ---- down the table

@@ -8,7 +8,6 @@ use Rattle.asn1_types.specs.declared.row.Part.{Part}
 use Rattle.asn1_types.specs.declared.row.TypeRow.{TypeRow}
 use Rattle.asn1_types.specs.declared.row.TypeRow.TheVariants as row
 use Rattle.asn1_types.specs.Rows.{of_row, along}
-use Rattle.asn1_types.specs.Fits.{has_32_bits}
 use Rattle.asn1_types.specs.Value.{Value}
 use Rattle.packed_codec.specs.declared.fault.PackedFault.TheVariants as faults
 use Rattle.packed_codec.specs.Reading.{Spot, Reading, ◌>>=◌, within}
@@ -202,8 +201,7 @@ module _ (inner : ℕ → Reader) (h : (n : ℕ) → StaysInside (inner n)) wher
   row_inside (row.Set ps) = sequence_inside ps
   row_inside (row.SequenceOf of) = list_inside (inner of.0) (h of.0)
   row_inside (row.Choice ps) = choice_inside ps
-  row_inside (row.Tagged class number explicit of) =
-      record { each = λ limit s end e. either_inside second end (has_32_bits number) _ _ ((h of.0).each limit s end e) (starts_inside s end e) }
+  row_inside (row.Tagged class number explicit of) = h of.0
   row_inside row.Any = dead_inside
 
 -- ---- down the table

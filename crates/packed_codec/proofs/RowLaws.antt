@@ -1,17 +1,14 @@
 -- Each row: what is read is spelled so, and what is spelled so is read; and so down the table.
-use Rattle.std.proofs.Common.{◌≡◌, ◌≢◌, ℕ, zero, suc, Bool, ◌&&◌, List, length, Option, Some, None, refl, ap, ◌∙◌}
-use Rattle.std.proofs.lemmas.Bool.{and_parts}
+use Rattle.std.proofs.Common.{◌≡◌, ◌≢◌, ℕ, zero, suc, Bool, List, length, Option, Some, None, refl, ap, ◌∙◌}
 use Rattle.std.specs.Prelude.{slice_get}
 use Rattle.asn1_types.specs.declared.row.TypeRow.{TypeRow}
 use Rattle.asn1_types.specs.declared.row.TypeRow.TheVariants as row
 use Rattle.asn1_types.specs.Rows.{of_row, along}
-use Rattle.asn1_types.specs.Fits.{has_32_bits, integer_fits, enumerated_fits, octets_fit, text_fits, object_id_fits, fits_by, nothing_fits, fits}
+use Rattle.asn1_types.specs.Fits.{integer_fits, enumerated_fits, octets_fit, text_fits, object_id_fits, fits_by, nothing_fits, fits}
 use Rattle.asn1_types.specs.Value.{Value}
-use Rattle.packed_codec.specs.declared.fault.PackedFault.TheVariants as faults
-use Rattle.packed_codec.specs.Rules.{Reader, dead, tagged_at, read_by}
+use Rattle.packed_codec.specs.Rules.{Reader, dead, read_by}
 use Rattle.packed_codec.specs.Writing.{Writer, number_written, octets_written, text_written, object_id_written, nothing_written, write_by}
 use Rattle.packed_codec.specs.Laws.{packs_by, packs, HasNoAny, FittingPacks}
-use Rattle.packed_codec.proofs.Taking.{if_ok}
 use Rattle.packed_codec.proofs.Spelled.{Found, Only, boolean_found, boolean_only, null_found, null_only, string_found, string_only, number_found, number_only, bits_found, bits_only}
 use Rattle.packed_codec.proofs.Contents.{integer_sized, enumerated_sized, octets_sized, text_sized, object_id_sized}
 use Rattle.packed_codec.proofs.Parts.{sequence_found, list_found, choice_found}
@@ -21,14 +18,6 @@ dead_found : (test : Value → Bool) (write : Writer) → Found test write dead
 dead_found test write = record { found = λ limit s v to are here e. absurd cc }
 
 module _ (test : ℕ → Value → Bool) (write : ℕ → Writer) (inner : ℕ → Reader) where
-  tagged_found : (number n : ℕ) → Found (test n) (write n) (inner n) → Found (λ v. has_32_bits number && test n v) (write n) (tagged_at number (inner n))
-  tagged_found number n h = record {
-    found = λ limit s v to are here e.
-        let t = if_ok (has_32_bits number) (faults.NotSpelled s.place _) (inner n limit s) (v, to) e in
-        let r = h.found limit s v to are here t.1 in
-        record { parts = r.parts; onward = r.onward; inside = r.inside; spent = r.spent; fit = rw (t.0, r.fit) refl };
-  }
-
   row_found : ((n : ℕ) → Found (test n) (write n) (inner n)) → (r : TypeRow) → Found (packs_by test r) (write_by write r) (read_by inner r)
   row_found h row.Boolean = boolean_found
   row_found h (row.Integer low high) = number_found (integer_fits low high) number_written _ (integer_sized low high)
@@ -42,15 +31,8 @@ module _ (test : ℕ → Value → Bool) (write : ℕ → Writer) (inner : ℕ �
   row_found h (row.Set ps) = sequence_found test write inner h ps
   row_found h (row.SequenceOf of) = list_found test write inner h of.0
   row_found h (row.Choice ps) = choice_found test write inner h ps
-  row_found h (row.Tagged class number explicit of) = tagged_found number of.0 (h of.0)
+  row_found h (row.Tagged class number explicit of) = h of.0
   row_found h row.Any = dead_found _ _
-
-  tagged_only : (number n : ℕ) → Only (test n) (write n) (inner n) → Only (λ v. has_32_bits number && test n v) (write n) (tagged_at number (inner n))
-  tagged_only number n k = record {
-    only = λ limit place left v rest f lt le few most.
-        let t = and_parts (has_32_bits number) (test n v) f in
-        rw t.0 (k.only limit place left v rest t.1 lt le few most);
-  }
 
   row_only : ((n : ℕ) → Only (test n) (write n) (inner n)) → (r : TypeRow) → Only (packs_by test r) (write_by write r) (read_by inner r)
   row_only k row.Boolean = boolean_only
@@ -65,7 +47,7 @@ module _ (test : ℕ → Value → Bool) (write : ℕ → Writer) (inner : ℕ �
   row_only k (row.Set ps) = record { only = λ limit place left v rest f lt le few most. sequence_back test write inner k limit lt ps place left v rest f le few most }
   row_only k (row.SequenceOf of) = record { only = λ limit place left v rest f lt le few most. list_back test write inner k limit lt of.0 place left v rest f le few most }
   row_only k (row.Choice ps) = record { only = λ limit place left v rest f lt le few most. choice_back test write inner k limit lt ps place left v rest f le few most }
-  row_only k (row.Tagged class number explicit of) = tagged_only number of.0 (k of.0)
+  row_only k (row.Tagged class number explicit of) = k of.0
   row_only k row.Any = record { only = λ limit place left v rest f lt le few most. absurd cc }
 
 -- ---- down the table

@@ -13,7 +13,7 @@ use Rattle.asn1_types.specs.Value.{Value, parts}
 use Rattle.asn1_types.specs.ValueView.{parts_of}
 use Rattle.packed_codec.specs.Reading.{Spot, Reading, ◌>>=◌}
 use Rattle.packed_codec.specs.Fields.{octet_at}
-use Rattle.packed_codec.specs.Rules.{Reader, part_at, parts_at, sequence_at, list_at, alternative_at, choice_at, tagged_at, dead, read_by, reads}
+use Rattle.packed_codec.specs.Rules.{Reader, part_at, parts_at, sequence_at, list_at, alternative_at, choice_at, dead, read_by, reads}
 
 module _ (f g : ℕ → Reader) where
   parts_cong : (ps : List Part) → AllByRecursion (λ m. f m ≡ g m) (rows_of_parts ps) → ◌≡◌ {A = ℕ → Spot → Reading (List (Option Value) × Spot)} (λ limit s. parts_at f limit s ps) (λ limit s. parts_at g limit s ps)
@@ -48,7 +48,7 @@ module _ (f g : ℕ → Reader) where
   read_cong (Set ps) h = sequence_cong ps h
   read_cong (SequenceOf of) h = ap list_at h.0
   read_cong (Choice ps) h = choice_cong ps h
-  read_cong (Tagged class number explicit of) h = ap (tagged_at number) h.0
+  read_cong (Tagged class number explicit of) h = h.0
   read_cong Any h = refl
 
 -- what a row is read as, by its rule

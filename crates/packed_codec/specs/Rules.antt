@@ -5,7 +5,7 @@ use Rattle.asn1_types.specs.declared.row.TextKind.{TextKind}
 use Rattle.asn1_types.specs.declared.row.TypeRow.{TypeRow}
 use Rattle.asn1_types.specs.declared.row.TypeRow.TheVariants as row
 use Rattle.asn1_types.specs.Rows.{along}
-use Rattle.asn1_types.specs.Fits.{has_32_bits, is_item, are_bits, is_text}
+use Rattle.asn1_types.specs.Fits.{is_item, are_bits, is_text}
 use Rattle.asn1_types.specs.Value.{Value, boolean, integer, null, octets, bits, object_id, text, parts, list, chosen}
 use Rattle.asn1_types.specs.ValueView.{parts_of, values_of}
 use Rattle.packed_codec.specs.Reading.{Spot, Reading, ◌>>=◌, refuse}
@@ -165,10 +165,6 @@ choice_at inner ps limit s = do
 abbrev pub dead : Reader
 dead limit s = refuse s.place
 
--- tag numbers have 32 bits
-abbrev pub tagged_at : ℕ → Reader → Reader
-tagged_at number inner limit s = if has_32_bits number then inner limit s else refuse s.place
-
 abbrev pub read_by : (ℕ → Reader) → TypeRow → Reader
 read_by inner row.Boolean = boolean_at
 read_by inner (row.Integer low high) = number_at (number_rule (in_range low high))
@@ -182,7 +178,7 @@ read_by inner (row.Sequence ps) = sequence_at inner ps
 read_by inner (row.Set ps) = sequence_at inner ps
 read_by inner (row.SequenceOf of) = list_at (inner of.0)
 read_by inner (row.Choice ps) = choice_at inner ps
-read_by inner (row.Tagged class number explicit of) = tagged_at number (inner of.0)
+read_by inner (row.Tagged class number explicit of) = inner of.0
 read_by inner row.Any = dead
 
 unfoldable pub reads : List TypeRow → ℕ → Reader

@@ -5,7 +5,7 @@ ghost use Rattle.std.specs.List.{AllByRecursion};
 ghost use Rattle.asn1_types.specs.Rows.{rows_of_parts};
 ghost use Rattle.asn1_types.specs.Table.{IsSound};
 ghost use Rattle.packed_codec.specs.Reading.{Gives, spot_of, GoesOn};
-ghost use Rattle.packed_codec.specs.Rules.{part_at, present_at, parts_at, sequence_at, items_at, list_at, choice_at, tagged_at, read_by, reads};
+ghost use Rattle.packed_codec.specs.Rules.{part_at, present_at, parts_at, sequence_at, items_at, list_at, choice_at, read_by, reads};
 
 use crate::fault::PackedFault;
 use crate::fields::{count, octet, refusal};
@@ -61,9 +61,7 @@ fn value_as<'a>(
         TypeRow::Set(parts) => sequence(alloc, table, of, parts, limit, spot),
         TypeRow::SequenceOf(inner) => list(alloc, table, of, *inner, limit, spot),
         TypeRow::Choice(alternatives) => choice(alloc, table, of, alternatives, limit, spot),
-        TypeRow::Tagged { number, inner, .. } => {
-            tagged(alloc, table, of, *number, *inner, limit, spot)
-        }
+        TypeRow::Tagged { inner, .. } => tagged(alloc, table, of, *inner, limit, spot),
         TypeRow::Any => Err(refusal(spot.place)),
     }
 }
@@ -74,7 +72,6 @@ fn tagged<'a>(
     alloc: Global,
     table: &TypeTable,
     of: TypeId,
-    number: u32,
     inner: TypeId,
     limit: u32,
     spot: Spot<'a>,
@@ -82,7 +79,7 @@ fn tagged<'a>(
     requires below { inner.0 < of.0 }
     requires row { of.0 ≤ length table.now }
     requires whole { spot.place + length spot.rest.now < 2 ^ 63 }
-    ensures gives { Gives (λ x. (x.0, spot_of x.1)) result (tagged_at number (reads table.now inner.0) limit (spot_of spot.entry)) }
+    ensures gives { Gives (λ x. (x.0, spot_of x.1)) result (reads table.now inner.0 limit (spot_of spot.entry)) }
     ensures stops { IfOk result (λ x. GoesOn spot.entry.place (length spot.entry.rest.now) x.1) }
 {
     value(alloc, table, inner, limit, spot)

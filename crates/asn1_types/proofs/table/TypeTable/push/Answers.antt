@@ -17,4 +17,4 @@ invariant_of-self-in-Ok-push c =
     let rows = c.self.inside.rows.items in
     let free : refusal rows c.args.row ≡ None = ap (λ (rs : List TypeRow). refusal rs c.args.row) c.self.view_is ∙ c.requires in
     let nested : c.nesting-nesting.result ≡ nesting_by (nesting rows) c.args.row = c.nesting-nesting.ensures ∙ ap (λ (rs : List TypeRow). nesting_by (nesting rs) c.args.row) (sym c.self.view_is) in
-    rw (c.in-Ok-push.ensures.items, c.in_ok-push.ensures.items) (kept_push rows c.self.inside.nestings.items c.args.row c.nesting-nesting.result c.self.invariant free nested)
+    rw (c.in-Ok-push.ensures.items, c.in_ok-push.ensures.items) (kept_push rows c.self.inside.nestings.items c.args.row c.nesting-nesting.result c.self.invariant free c.read_tag_number.ensures nested)
