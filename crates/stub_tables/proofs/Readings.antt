@@ -1,5 +1,6 @@
 -- Whole values and the spellings of APDUs, read from the left.
-use Rattle.std.proofs.Common.{◌≡◌, ◌≢◌, ℕ, zero, suc, ℤ, false, List, [], ◌∷◌, ◌++◌, length, take, Option, Some, None, Result, Ok, Err, refl, sym, ap, subst, ◌∙◌, slice_get, append_assoc, option_map}
+use Rattle.std.proofs.Common.{◌≡◌, ◌≢◌, ℕ, zero, suc, ℤ, false, List, [], ◌∷◌, ◌++◌, length, take, Option, Some, None, Result, Ok, Err, refl, sym, ap, subst, ◌∙◌, arith, slice_get, append_assoc, option_map}
+use Rattle.std.specs.List.{AllByRecursion}
 use Rattle.std.proofs.lemmas.List.{append-nil}
 use Rattle.osi_base.specs.declared.syntax.Syntax.{Syntax}
 use Rattle.osi_base.specs.declared.syntax.Syntax.TheVariants as syntax
@@ -7,7 +8,7 @@ use Rattle.asn1_types.specs.declared.value.Val.{Val}
 use Rattle.asn1_types.specs.declared.row.TypeId.{TypeId}
 use Rattle.asn1_types.specs.declared.row.TypeRow.{TypeRow}
 use Rattle.asn1_types.specs.Rows.{nesting, openings}
-use Rattle.asn1_types.specs.Table.{IsSound, refusal}
+use Rattle.asn1_types.specs.Table.{HasShortTag, IsSound, refusal}
 use Rattle.asn1_types.specs.Value.{Value, any, present}
 use Rattle.ber_spelling.specs.declared.fault.ReadFault.{ReadFault}
 use Rattle.ber_spelling.specs.declared.fault.ReadFault.TheVariants.{Short}
@@ -45,8 +46,16 @@ heads_added : AreAdded [] head_rows
 unfolding refusal nesting openings
 heads_added = (refl, (refl, (refl, (refl, (refl, (refl, (refl, (refl, (refl, (refl, (refl, (refl, (refl, (refl, tt))))))))))))))
 
+short_at : (rows : List TypeRow) → AllByRecursion HasShortTag rows → (n : ℕ) (row : TypeRow) → slice_get rows n ≡ Some row → HasShortTag row
+short_at [] h n row e = absurd cc
+short_at (r ∷ rows) h zero row e = subst HasShortTag (some_is r row e) h.0
+short_at (r ∷ rows) h (suc n) row e = short_at rows h.1 n row e
+
+heads_short : AllByRecursion HasShortTag head_rows
+heads_short = (tt, (tt, (tt, (tt, (omega arith, (tt, (tt, (omega arith, (tt, (tt, (omega arith, (tt, (omega arith, (tt, tt))))))))))))))
+
 pub heads_sound : IsSound head_rows
-heads_sound = record { each = added [] head_rows heads_added }
+heads_sound = record { each = added [] head_rows heads_added; short = short_at head_rows heads_short }
 
 -- ---- whole values
 
