@@ -6,6 +6,7 @@ use osi_base::{
 };
 use std::alloc::Global;
 use std::io::{Error, ErrorKind};
+use std::test::Fail;
 use std::{fs, io};
 
 /// A standard output that takes one octet a call, and then none, and then fails.
@@ -38,92 +39,124 @@ impl Print for Stubborn {
     }
 }
 
-fn octets(alloc: Global, text: &str) -> Result<Octets, NoMemory> {
-    Octets::from_slice(alloc, text.as_bytes())
+fn mem_file(alloc: Global, title: &str, contents: &str) -> Result<MemFile, NoMemory> {
+    Ok(MemFile {
+        name: Name::from_str(alloc, title)?,
+        contents: Octets::from_slice(alloc, contents.as_bytes())?,
+    })
 }
 
 fn mem_files(alloc: Global) -> Result<ListOf<MemFile>, NoMemory> {
     let mut files = ListOf::new(alloc);
-    for (title, contents) in [("one", "first"), ("two", "second"), ("one", "later")] {
-        files.push(MemFile {
-            name: Name::from_str(alloc, title)?,
-            contents: octets(alloc, contents)?,
-        })?;
-    }
+    files.push(mem_file(alloc, "one", "first")?)?;
+    files.push(mem_file(alloc, "two", "second")?)?;
+    files.push(mem_file(alloc, "one", "later")?)?;
     Ok(files)
 }
 
+/// What a file of this title is read as.
+fn read(alloc: Global, files: &mut impl Files, title: &str) -> Result<Octets, FileFault> {
+    let title = Name::from_str(alloc, title)?;
+    files.read(alloc, &title)
+}
+
+/// Whether a file of this title is read, with these contents.
+fn gives(alloc: Global, files: &mut impl Files, title: &str, contents: &[u8]) -> bool {
+    match read(alloc, files, title) {
+        Ok(octets) => octets.as_slice() == contents,
+        Err(_) => false,
+    }
+}
+
+/// Why a file of this title is not read.
+fn fault(alloc: Global, files: &mut impl Files, title: &str) -> Option<FileFault> {
+    read(alloc, files, title).err()
+}
+
+/// What is read of a file on the disk that is there for this time alone.
+fn read_of_disk(
+    rt: HostRuntime,
+    files: &mut DiskFiles<HostRuntime>,
+    path: &str,
+    contents: &str,
+) -> Result<Octets, Fail> {
+    fs::write(&rt, path, contents)?;
+    let octets = read(rt.alloc(), files, path);
+    fs::remove_file(&rt, path)?;
+    Ok(octets?)
+}
+
 #[test]
-fn disk_files_hand_up_a_file_and_count_one_that_is_not_there(rt: HostRuntime) {
+fn disk_files_hand_up_a_file_and_count_one_that_is_not_there(rt: HostRuntime) -> Result<(), Fail> {
     let id = std::process::id(rt.process());
-    let path = format!(in rt.alloc(); "/tmp/osi_base_{id}").expect(&rt, "a path");
-    let title = Name::from_str(rt.alloc(), path.as_str()).expect(&rt, "a name");
-    fs::write(&rt, path.as_str(), "first\nsecond\n").expect(&rt, "a file");
+    let path = format!(in rt.alloc(); "/tmp/osi_base_{id}")?;
     let mut files = DiskFiles { rt, faults: 0 };
-    let contents = files.read(rt.alloc(), &title);
-    fs::remove_file(&rt, path.as_str()).expect(&rt, "a removal");
-    assert_eq!(rt;
-        contents.expect(&rt, "contents").as_slice(),
-        b"first\nsecond\n".as_slice()
-    );
-    assert_eq!(rt; files.faults, 0);
-    assert!(rt; matches!(files.read(rt.alloc(), &title), Err(FileFault::Failed)));
-    assert_eq!(rt; files.faults, 1);
+    let octets = read_of_disk(rt, &mut files, path.as_str(), "first\nsecond\n")?;
+    assert!(rt; octets.as_slice() == b"first\nsecond\n".as_slice());
+    assert!(rt; files.faults == 0);
+    assert!(rt; fault(rt.alloc(), &mut files, path.as_str()) == Some(FileFault::Failed));
+    assert!(rt; files.faults == 1);
+    Ok(())
 }
 
 #[test]
-fn files_in_memory_are_found_by_name_and_fail_where_they_are_to(rt: HostRuntime) {
+fn files_in_memory_are_found_by_name_and_fail_where_they_are_to(
+    rt: HostRuntime,
+) -> Result<(), Fail> {
     let alloc = rt.alloc();
-    let numbers = vec![in alloc; 1].expect(&rt, "numbers");
     let mut files = MemFiles {
-        files: mem_files(alloc).expect(&rt, "files"),
-        failing: FailingCalls::new(numbers),
+        files: mem_files(alloc)?,
+        failing: FailingCalls::new(vec![in alloc; 1]?),
     };
-    let mut sure = SureFiles {
-        files: mem_files(alloc).expect(&rt, "files"),
-    };
-    let one = Name::from_str(alloc, "one").expect(&rt, "a name");
-    let absent = Name::from_str(alloc, "on").expect(&rt, "a name");
-    assert_eq!(rt;
-        files.read(alloc, &one).expect(&rt, "one").as_slice(),
-        b"first".as_slice()
-    );
-    assert!(rt; matches!(files.read(alloc, &one), Err(FileFault::Failed)));
-    assert!(rt; matches!(files.read(alloc, &absent), Err(FileFault::Missing)));
-    assert_eq!(rt; files.failing.faults, 1);
-    assert_eq!(rt;
-        sure.read(alloc, &one).expect(&rt, "one").as_slice(),
-        b"first".as_slice()
-    );
-    assert!(rt; matches!(sure.read(alloc, &absent), Err(FileFault::Missing)));
+    assert!(rt; gives(alloc, &mut files, "one", b"first"));
+    assert!(rt; fault(alloc, &mut files, "one") == Some(FileFault::Failed));
+    assert!(rt; fault(alloc, &mut files, "on") == Some(FileFault::Missing));
+    assert!(rt; files.failing.faults == 1);
+    Ok(())
 }
 
 #[test]
-fn sinks_in_memory_keep_what_was_written_before_a_failure(rt: HostRuntime) {
+fn files_that_never_fail_are_found_by_name(rt: HostRuntime) -> Result<(), Fail> {
     let alloc = rt.alloc();
-    let numbers = vec![in alloc; 2].expect(&rt, "numbers");
-    let mut out = MemSink::new(alloc, 2, FailingCalls::new(numbers));
-    assert_eq!(rt; write_all(&mut out, b"abcdefg"), Err(SinkFault::Failed));
-    assert_eq!(rt; out.written.as_slice(), b"abcd".as_slice());
-    assert_eq!(rt; write_all(&mut out, b"efg"), Ok(()));
-    assert_eq!(rt; out.written.as_slice(), b"abcdefg".as_slice());
-    assert_eq!(rt; out.failing.faults, 1);
-    let mut sure = SureSink::new(alloc);
-    assert_eq!(rt; write_all(&mut sure, b"abc"), Ok(()));
-    assert_eq!(rt; sure.written.as_slice(), b"abc".as_slice());
+    let mut files = SureFiles {
+        files: mem_files(alloc)?,
+    };
+    assert!(rt; gives(alloc, &mut files, "one", b"first"));
+    assert!(rt; fault(alloc, &mut files, "on") == Some(FileFault::Missing));
+    Ok(())
 }
 
 #[test]
-fn a_line_that_never_fails_takes_all_and_gives_the_end(rt: HostRuntime) {
+fn a_sink_in_memory_keeps_what_was_written_before_a_failure(rt: HostRuntime) -> Result<(), Fail> {
     let alloc = rt.alloc();
-    let host = Name::from_str(alloc, "localhost").expect(&rt, "a name");
+    let mut out = MemSink::new(alloc, 2, FailingCalls::new(vec![in alloc; 2]?));
+    assert!(rt; write_all(&mut out, b"abcdefg") == Err(SinkFault::Failed));
+    assert!(rt; out.written.as_slice() == b"abcd".as_slice());
+    assert!(rt; write_all(&mut out, b"efg") == Ok(()));
+    assert!(rt; out.written.as_slice() == b"abcdefg".as_slice());
+    assert!(rt; out.failing.faults == 1);
+    Ok(())
+}
+
+#[test]
+fn a_sink_that_never_fails_keeps_all(rt: HostRuntime) {
+    let mut out = SureSink::new(rt.alloc());
+    assert!(rt; write_all(&mut out, b"abc") == Ok(()));
+    assert!(rt; out.written.as_slice() == b"abc".as_slice());
+}
+
+#[test]
+fn a_line_that_never_fails_takes_all_and_gives_the_end(rt: HostRuntime) -> Result<(), Fail> {
+    let alloc = rt.alloc();
+    let host = Name::from_str(alloc, "localhost")?;
     let mut line = SureLine::new(alloc);
     let mut room = [0; 8];
-    assert_eq!(rt; line.open(alloc, &host, 102), Ok(()));
-    assert_eq!(rt; line.write(b"abc"), Ok(3));
-    assert_eq!(rt; line.read(&mut room), Ok(0));
-    assert_eq!(rt; line.shut(), Ok(()));
-    assert_eq!(rt; line.accept(alloc, 102), Ok(()));
+    assert!(rt; line.open(alloc, &host, 102) == Ok(()));
+    assert!(rt; line.write(b"abc") == Ok(3));
+    assert!(rt; line.read(&mut room) == Ok(0));
+    assert!(rt; line.shut() == Ok(()));
+    assert!(rt; line.accept(alloc, 102) == Ok(()));
+    Ok(())
 }
 
 #[test]
@@ -133,9 +166,9 @@ fn a_standard_output_that_takes_nothing_or_fails_is_a_fault(rt: HostRuntime) {
         rt: Stubborn { left },
         faults: 0,
     };
-    assert_eq!(rt; out.write(b"ab"), Ok(1));
-    assert_eq!(rt; out.faults, 0);
-    assert_eq!(rt; out.write(b"ab"), Err(SinkFault::Failed));
-    assert_eq!(rt; out.write(b"ab"), Err(SinkFault::Failed));
-    assert_eq!(rt; out.faults, 2);
+    assert!(rt; out.write(b"ab") == Ok(1));
+    assert!(rt; out.faults == 0);
+    assert!(rt; out.write(b"ab") == Err(SinkFault::Failed));
+    assert!(rt; out.write(b"ab") == Err(SinkFault::Failed));
+    assert!(rt; out.faults == 2);
 }

@@ -1,6 +1,6 @@
 //! Octets of each unit, from outside.
 
-ghost use Rattle.std.specs.Prelude.{◌≡◌, ◌≤◌, ◌∷◌, [], true, IfOk};
+ghost use Rattle.std.specs.Prelude.{◌≡◌, ◌≤◌, true, length};
 ghost use Rattle.spdu_codec.specs.Written.{AreFields, AreWritable, octets_in, stands_alone, stands_second};
 
 use osi_base::{Kind, Octets, SessionConnect, SessionWord, Spdus};
@@ -10,7 +10,7 @@ use std::process::Abort;
 use std::test::*;
 
 /// The presentation data of a connect, of an accept and of a restart.
-const CONNECT_DATA: [u8; 76] = [
+const CONNECT_DATA: &'static [u8] = &[
     0x31, 0x4A, 0xA0, 0x03, 0x80, 0x01, 0x01, 0xA2, 0x43, 0x81, 0x02, 0x00, 0x01, 0x82, 0x02, 0x00,
     0x01, 0xA4, 0x22, 0x30, 0x0F, 0x02, 0x01, 0x01, 0x06, 0x04, 0x52, 0x01, 0x00, 0x01, 0x30, 0x04,
     0x06, 0x02, 0x51, 0x01, 0x30, 0x0F, 0x02, 0x01, 0x05, 0x06, 0x04, 0x88, 0x37, 0x07, 0x01, 0x30,
@@ -18,7 +18,7 @@ const CONNECT_DATA: [u8; 76] = [
     0xA0, 0x0A, 0x60, 0x08, 0xA1, 0x06, 0x06, 0x04, 0x88, 0x37, 0x05, 0x03,
 ];
 
-const ACCEPT_DATA: [u8; 68] = [
+const ACCEPT_DATA: &'static [u8] = &[
     0x31, 0x42, 0xA0, 0x03, 0x80, 0x01, 0x01, 0xA2, 0x3B, 0x83, 0x02, 0x00, 0x01, 0xA5, 0x12, 0x30,
     0x07, 0x80, 0x01, 0x00, 0x81, 0x02, 0x51, 0x01, 0x30, 0x07, 0x80, 0x01, 0x00, 0x81, 0x02, 0x51,
     0x01, 0x88, 0x02, 0x06, 0xC0, 0x61, 0x1D, 0x30, 0x1B, 0x02, 0x01, 0x01, 0xA0, 0x16, 0x61, 0x14,
@@ -26,13 +26,13 @@ const ACCEPT_DATA: [u8; 68] = [
     0x03, 0x02, 0x01, 0x00,
 ];
 
-const RESTART_DATA: [u8; 22] = [
+const RESTART_DATA: &'static [u8] = &[
     0x30, 0x14, 0xA0, 0x12, 0x30, 0x07, 0x02, 0x01, 0x01, 0x06, 0x02, 0x51, 0x01, 0x30, 0x07, 0x02,
     0x01, 0x05, 0x06, 0x02, 0x51, 0x01,
 ];
 
 /// The octets of a connect, of an accept, of a restart and of its answer.
-const CONNECT: [u8; 103] = [
+const CONNECT: &'static [u8] = &[
     0x0D, 0x65, 0x05, 0x09, 0x13, 0x01, 0x00, 0x16, 0x01, 0x02, 0x17, 0x01, 0x31, 0x14, 0x02, 0x04,
     0x2A, 0x33, 0x02, 0x00, 0x01, 0x34, 0x02, 0x00, 0x01, 0xC1, 0x4C, 0x31, 0x4A, 0xA0, 0x03, 0x80,
     0x01, 0x01, 0xA2, 0x43, 0x81, 0x02, 0x00, 0x01, 0x82, 0x02, 0x00, 0x01, 0xA4, 0x22, 0x30, 0x0F,
@@ -42,7 +42,7 @@ const CONNECT: [u8; 103] = [
     0x06, 0x06, 0x04, 0x88, 0x37, 0x05, 0x03,
 ];
 
-const ACCEPT: [u8; 87] = [
+const ACCEPT: &'static [u8] = &[
     0x0E, 0x55, 0x05, 0x09, 0x13, 0x01, 0x00, 0x16, 0x01, 0x02, 0x17, 0x01, 0x31, 0x14, 0x02, 0x04,
     0x2A, 0xC1, 0x44, 0x31, 0x42, 0xA0, 0x03, 0x80, 0x01, 0x01, 0xA2, 0x3B, 0x83, 0x02, 0x00, 0x01,
     0xA5, 0x12, 0x30, 0x07, 0x80, 0x01, 0x00, 0x81, 0x02, 0x51, 0x01, 0x30, 0x07, 0x80, 0x01, 0x00,
@@ -51,22 +51,156 @@ const ACCEPT: [u8; 87] = [
     0xA3, 0x05, 0xA1, 0x03, 0x02, 0x01, 0x00,
 ];
 
-const RESTART: [u8; 34] = [
+const RESTART: &'static [u8] = &[
     0x01, 0x00, 0x35, 0x1E, 0x1B, 0x01, 0x00, 0x2A, 0x01, 0x32, 0xC1, 0x16, 0x30, 0x14, 0xA0, 0x12,
     0x30, 0x07, 0x02, 0x01, 0x01, 0x06, 0x02, 0x51, 0x01, 0x30, 0x07, 0x02, 0x01, 0x05, 0x06, 0x02,
     0x51, 0x01,
 ];
 
-const RESTARTED: [u8; 31] = [
+const RESTARTED: &'static [u8] = &[
     0x01, 0x00, 0x22, 0x1B, 0x2A, 0x01, 0x32, 0xC1, 0x16, 0x30, 0x14, 0xA0, 0x12, 0x30, 0x07, 0x02,
     0x01, 0x01, 0x06, 0x02, 0x51, 0x01, 0x30, 0x07, 0x02, 0x01, 0x05, 0x06, 0x02, 0x51, 0x01,
 ];
 
-/// A copy of octets.
-fn octets(alloc: Global, bytes: &[u8]) -> Result<Octets, Fail>
-    ensures { IfOk result (λ octets. octets ≡ bytes.now) }
+const CONNECT_WITH_REFERENCES: &'static [u8] = &[
+    0x0D, 0x28, 0x01, 0x15, 0x0A, 0x04, 0x72, 0x65, 0x66, 0x31, 0x0B, 0x0D, 0x32, 0x36, 0x30, 0x31,
+    0x30, 0x31, 0x30, 0x30, 0x30, 0x30, 0x30, 0x30, 0x5A, 0x05, 0x09, 0x13, 0x01, 0x00, 0x16, 0x01,
+    0x02, 0x1A, 0x01, 0x00, 0x14, 0x02, 0x04, 0x49, 0xC1, 0x00,
+];
+
+const SHORT_ACCEPT: &'static [u8] = &[0x0E, 0x08, 0x14, 0x02, 0x00, 0x02, 0xC1, 0x02, 0x31, 0x00];
+
+const REFUSE: &'static [u8] = &[0x0C, 0x08, 0x11, 0x01, 0x01, 0x32, 0x03, 0x02, 0x30, 0x00];
+
+const FINISH_DATA: &'static [u8] = &[
+    0x61, 0x0C, 0x30, 0x0A, 0x02, 0x01, 0x01, 0xA0, 0x05, 0x62, 0x03, 0x80, 0x01, 0x00,
+];
+
+const FINISH: &'static [u8] = &[
+    0x09, 0x13, 0x11, 0x01, 0x01, 0xC1, 0x0E, 0x61, 0x0C, 0x30, 0x0A, 0x02, 0x01, 0x01, 0xA0, 0x05,
+    0x62, 0x03, 0x80, 0x01, 0x00,
+];
+
+const DISCONNECT_DATA: &'static [u8] = &[
+    0x61, 0x0C, 0x30, 0x0A, 0x02, 0x01, 0x01, 0xA0, 0x05, 0x63, 0x03, 0x80, 0x01, 0x00,
+];
+
+const DISCONNECT: &'static [u8] = &[
+    0x0A, 0x10, 0xC1, 0x0E, 0x61, 0x0C, 0x30, 0x0A, 0x02, 0x01, 0x01, 0xA0, 0x05, 0x63, 0x03, 0x80,
+    0x01, 0x00,
+];
+
+const ABORT_DATA: &'static [u8] = &[
+    0xA0, 0x0E, 0x61, 0x0C, 0x30, 0x0A, 0x02, 0x01, 0x01, 0xA0, 0x05, 0x64, 0x03, 0x80, 0x01, 0x00,
+];
+
+/// An abort of the association, and one of the presentation.
+const ABORT: &'static [u8] = &[
+    0x19, 0x15, 0x11, 0x01, 0x03, 0xC1, 0x10, 0xA0, 0x0E, 0x61, 0x0C, 0x30, 0x0A, 0x02, 0x01, 0x01,
+    0xA0, 0x05, 0x64, 0x03, 0x80, 0x01, 0x00,
+];
+
+const PROVIDER_ABORT: &'static [u8] = &[
+    0x19, 0x0A, 0x11, 0x01, 0x03, 0xC1, 0x05, 0x30, 0x03, 0x80, 0x01, 0x06,
+];
+
+const TYPED_DATA: &'static [u8] = &[0x21, 0x00, 0xA0, 0x05, 0xA1, 0x03, 0x02, 0x01, 0x05];
+
+/// An invocation in its presentation data, and in a unit.
+const INVOCATION: &'static [u8] = &[
+    0x61, 0x12, 0x30, 0x10, 0x02, 0x01, 0x05, 0xA0, 0x0B, 0xA1, 0x09, 0x02, 0x01, 0x01, 0x02, 0x01,
+    0x01, 0x02, 0x01, 0x05,
+];
+
+const DATA: &'static [u8] = &[
+    0x01, 0x00, 0x01, 0x00, 0x61, 0x12, 0x30, 0x10, 0x02, 0x01, 0x05, 0xA0, 0x0B, 0xA1, 0x09, 0x02,
+    0x01, 0x01, 0x02, 0x01, 0x01, 0x02, 0x01, 0x05,
+];
+
+/// Resumptions of the activity 1 at the marks 1 and 0.
+const RESUME: &'static [u8] = &[
+    0x01, 0x00, 0x1D, 0x0B, 0x21, 0x06, 0x29, 0x01, 0x31, 0x2A, 0x01, 0x31, 0x29, 0x01, 0x31,
+];
+
+const RESUME_AT_FIRST: &'static [u8] = &[
+    0x01, 0x00, 0x1D, 0x0B, 0x21, 0x06, 0x29, 0x01, 0x31, 0x2A, 0x01, 0x30, 0x29, 0x01, 0x31,
+];
+
+/// The mark 5 with the long form of a length, an unknown parameter twice, and the sync type item.
+const LONG_MARK: &'static [u8] = &[
+    0x01, 0xFF, 0x00, 0x00, 0x31, 0xFF, 0x00, 0x0C, 0x0F, 0x01, 0x01, 0x63, 0x00, 0x63, 0x00, 0x2A,
+    0xFF, 0x00, 0x01, 0x35,
+];
+
+/// Octets, and the place and the kind of the first fault of each.
+const FAULTY: [(&'static [u8], usize, Kind); 17] = [
+    (&[0x31, 0x03, 0x2A, 0x01, 0x31], 0, Kind::Tag),
+    (&[], 0, Kind::Missing),
+    (&[0x63], 0, Kind::Tag),
+    (&[0x01], 1, Kind::Length),
+    (&[0x01, 0x00], 2, Kind::Missing),
+    (&[0x01, 0x01], 1, Kind::Length),
+    (&[0x15, 0x00, 0x15, 0x00], 2, Kind::Extra),
+    (
+        &[0x01, 0x00, 0x31, 0x04, 0x2A, 0x02, 0x30, 0x31],
+        6,
+        Kind::Content,
+    ),
+    (
+        &[0x01, 0x00, 0x31, 0x06, 0x2A, 0x01, 0x31, 0x2A, 0x01, 0x31],
+        7,
+        Kind::Extra,
+    ),
+    (&[0x01, 0x00, 0x31, 0x03, 0x2A, 0x02, 0x31], 5, Kind::Length),
+    (
+        &[0x01, 0x00, 0x31, 0x03, 0x2A, 0x01, 0x31, 0x00],
+        7,
+        Kind::Extra,
+    ),
+    // An answer to a mark without its number.
+    (&[0x01, 0x00, 0x32, 0x00], 4, Kind::Missing),
+    // Activity numbers that differ.
+    (
+        &[
+            0x01, 0x00, 0x1D, 0x0B, 0x21, 0x06, 0x29, 0x01, 0x31, 0x2A, 0x01, 0x31, 0x29, 0x01,
+            0x32,
+        ],
+        14,
+        Kind::Content,
+    ),
+    // An activity's resumption without the mark.
+    (
+        &[
+            0x01, 0x00, 0x1D, 0x08, 0x21, 0x03, 0x29, 0x01, 0x31, 0x29, 0x01, 0x31,
+        ],
+        12,
+        Kind::Missing,
+    ),
+    // A restart of another type.
+    (
+        &[0x01, 0x00, 0x35, 0x06, 0x1B, 0x01, 0x01, 0x2A, 0x01, 0x31],
+        6,
+        Kind::Content,
+    ),
+    // User data in both parameters.
+    (&[0x0D, 0x04, 0xC1, 0x00, 0xC2, 0x00], 4, Kind::Extra),
+    // A mark in the long form, without its number.
+    (
+        &[
+            0x01, 0xFF, 0x00, 0x00, 0x31, 0xFF, 0x00, 0x0B, 0x0F, 0x01, 0x01, 0x63, 0x00, 0x63,
+            0x00, 0x2A, 0xFF, 0x00, 0x00,
+        ],
+        19,
+        Kind::Content,
+    ),
+];
+
+/// A copy of octets, which are 200 at most.
+fn octets(rt: &impl Abort, alloc: Global, bytes: &[u8]) -> Octets
+    ensures { length result ≤ 200 }
 {
-    Ok(Octets::from_slice(alloc, bytes)?)
+    assert!(rt; bytes.len() <= 200);
+    Octets::from_slice(alloc, bytes).expect(rt, "memory")
 }
 
 /// These words are written as these octets, and the octets are read as these words.
@@ -106,10 +240,9 @@ fn second(rt: &impl Abort, alloc: Global, word: SessionWord, octets: &[u8]) -> R
 }
 
 /// The connect of an opening in direct mode.
-fn connect(alloc: Global) -> Result<SessionWord, Fail>
-    ensures { IfOk result (λ word. (stands_alone word ≡ true) × AreFields word × (octets_in word ≤ 1000)) }
-{
-    Ok(SessionWord::Connect(SessionConnect {
+#[test]
+fn a_connect(rt: HostRuntime) -> Result<(), Fail> {
+    let connect = SessionConnect {
         calling_reference: None,
         common_reference: None,
         options: Some(0),
@@ -117,19 +250,19 @@ fn connect(alloc: Global) -> Result<SessionWord, Fail>
         initial: Some(1),
         token_setting: None,
         requirements: Some(0x042A),
-        calling: Some(octets(alloc, &[0, 1])?),
-        called: Some(octets(alloc, &[0, 1])?),
-        user: octets(alloc, &CONNECT_DATA)?,
-    }))
+        calling: Some(octets(&rt, rt.alloc(), &[0, 1])),
+        called: Some(octets(&rt, rt.alloc(), &[0, 1])),
+        user: octets(&rt, rt.alloc(), CONNECT_DATA),
+    };
+    alone(&rt, rt.alloc(), SessionWord::Connect(connect), CONNECT)
 }
 
-/// A connect of reliable mode with a token setting, and its octets.
-fn connect_with_references(alloc: Global) -> Result<SessionWord, Fail>
-    ensures { IfOk result (λ word. (stands_alone word ≡ true) × AreFields word × (octets_in word ≤ 1000)) }
-{
-    Ok(SessionWord::Connect(SessionConnect {
-        calling_reference: Some(octets(alloc, b"ref1")?),
-        common_reference: Some(octets(alloc, b"260101000000Z")?),
+/// A connect of reliable mode with a token setting.
+#[test]
+fn a_connect_with_references(rt: HostRuntime) -> Result<(), Fail> {
+    let connect = SessionConnect {
+        calling_reference: Some(octets(&rt, rt.alloc(), b"ref1")),
+        common_reference: Some(octets(&rt, rt.alloc(), b"260101000000Z")),
         options: Some(0),
         version: Some(2),
         initial: None,
@@ -137,258 +270,227 @@ fn connect_with_references(alloc: Global) -> Result<SessionWord, Fail>
         requirements: Some(0x0449),
         calling: None,
         called: None,
-        user: octets(alloc, &[])?,
-    }))
+        user: octets(&rt, rt.alloc(), &[]),
+    };
+    alone(
+        &rt,
+        rt.alloc(),
+        SessionWord::Connect(connect),
+        CONNECT_WITH_REFERENCES,
+    )
 }
 
-const CONNECT_WITH_REFERENCES: [u8; 42] = [
-    0x0D, 0x28, 0x01, 0x15, 0x0A, 0x04, 0x72, 0x65, 0x66, 0x31, 0x0B, 0x0D, 0x32, 0x36, 0x30, 0x31,
-    0x30, 0x31, 0x30, 0x30, 0x30, 0x30, 0x30, 0x30, 0x5A, 0x05, 0x09, 0x13, 0x01, 0x00, 0x16, 0x01,
-    0x02, 0x1A, 0x01, 0x00, 0x14, 0x02, 0x04, 0x49, 0xC1, 0x00,
-];
-
-fn units_of_connections(rt: &impl Abort, alloc: Global) -> Result<(), Fail> {
-    alone(rt, alloc, connect(alloc)?, &CONNECT)?;
-    alone(
-        rt,
-        alloc,
-        connect_with_references(alloc)?,
-        &CONNECT_WITH_REFERENCES,
-    )?;
+#[test]
+fn an_accept(rt: HostRuntime) -> Result<(), Fail> {
     let word = SessionWord::Accept {
         options: Some(0),
         version: Some(2),
         initial: Some(1),
         requirements: Some(0x042A),
-        user: octets(alloc, &ACCEPT_DATA)?,
+        user: octets(&rt, rt.alloc(), ACCEPT_DATA),
     };
-    alone(rt, alloc, word, &ACCEPT)?;
+    alone(&rt, rt.alloc(), word, ACCEPT)
+}
+
+#[test]
+fn a_short_accept(rt: HostRuntime) -> Result<(), Fail> {
     let word = SessionWord::Accept {
         options: None,
         version: None,
         initial: None,
         requirements: Some(0x0002),
-        user: octets(alloc, &[0x31, 0x00])?,
+        user: octets(&rt, rt.alloc(), &[0x31, 0x00]),
     };
-    alone(
-        rt,
-        alloc,
-        word,
-        &[0x0E, 0x08, 0x14, 0x02, 0x00, 0x02, 0xC1, 0x02, 0x31, 0x00],
-    )?;
+    alone(&rt, rt.alloc(), word, SHORT_ACCEPT)
+}
+
+#[test]
+fn a_refusal(rt: HostRuntime) -> Result<(), Fail> {
+    let user = octets(&rt, rt.alloc(), &[0x30, 0x00]);
+    assert!(rt; user.len() > 0);
     let word = SessionWord::Refuse {
         transport: Some(1),
         reason: Some(2),
-        user: Some(octets(alloc, &[0x30, 0x00])?),
+        user: Some(user),
     };
-    alone(
-        rt,
-        alloc,
-        word,
-        &[0x0C, 0x08, 0x11, 0x01, 0x01, 0x32, 0x03, 0x02, 0x30, 0x00],
-    )
+    alone(&rt, rt.alloc(), word, REFUSE)
 }
 
-fn units_of_ends(rt: &impl Abort, alloc: Global) -> Result<(), Fail> {
+#[test]
+fn a_finish(rt: HostRuntime) -> Result<(), Fail> {
     let word = SessionWord::Finish {
         transport: Some(1),
-        user: octets(
-            alloc,
-            &[
-                0x61, 0x0C, 0x30, 0x0A, 0x02, 0x01, 0x01, 0xA0, 0x05, 0x62, 0x03, 0x80, 0x01, 0x00,
-            ],
-        )?,
+        user: octets(&rt, rt.alloc(), FINISH_DATA),
     };
-    alone(
-        rt,
-        alloc,
-        word,
-        &[
-            0x09, 0x13, 0x11, 0x01, 0x01, 0xC1, 0x0E, 0x61, 0x0C, 0x30, 0x0A, 0x02, 0x01, 0x01,
-            0xA0, 0x05, 0x62, 0x03, 0x80, 0x01, 0x00,
-        ],
-    )?;
-    let word = SessionWord::Disconnect {
-        user: octets(
-            alloc,
-            &[
-                0x61, 0x0C, 0x30, 0x0A, 0x02, 0x01, 0x01, 0xA0, 0x05, 0x63, 0x03, 0x80, 0x01, 0x00,
-            ],
-        )?,
-    };
-    alone(
-        rt,
-        alloc,
-        word,
-        &[
-            0x0A, 0x10, 0xC1, 0x0E, 0x61, 0x0C, 0x30, 0x0A, 0x02, 0x01, 0x01, 0xA0, 0x05, 0x63,
-            0x03, 0x80, 0x01, 0x00,
-        ],
-    )?;
-    let word = SessionWord::Abort {
-        transport: Some(3),
-        user: Some(octets(
-            alloc,
-            &[
-                0xA0, 0x0E, 0x61, 0x0C, 0x30, 0x0A, 0x02, 0x01, 0x01, 0xA0, 0x05, 0x64, 0x03, 0x80,
-                0x01, 0x00,
-            ],
-        )?),
-    };
-    alone(
-        rt,
-        alloc,
-        word,
-        &[
-            0x19, 0x15, 0x11, 0x01, 0x03, 0xC1, 0x10, 0xA0, 0x0E, 0x61, 0x0C, 0x30, 0x0A, 0x02,
-            0x01, 0x01, 0xA0, 0x05, 0x64, 0x03, 0x80, 0x01, 0x00,
-        ],
-    )?;
-    let word = SessionWord::Abort {
-        transport: Some(3),
-        user: Some(octets(alloc, &[0x30, 0x03, 0x80, 0x01, 0x06])?),
-    };
-    alone(
-        rt,
-        alloc,
-        word,
-        &[
-            0x19, 0x0A, 0x11, 0x01, 0x03, 0xC1, 0x05, 0x30, 0x03, 0x80, 0x01, 0x06,
-        ],
-    )?;
-    let word = SessionWord::Abort {
-        transport: Some(5),
-        user: None,
-    };
-    alone(rt, alloc, word, &[0x19, 0x03, 0x11, 0x01, 0x05])?;
-    alone(rt, alloc, SessionWord::AbortAccept, &[0x1A, 0x00])
+    alone(&rt, rt.alloc(), word, FINISH)
 }
 
-fn units_of_tokens_and_data(rt: &impl Abort, alloc: Global) -> Result<(), Fail> {
-    let word = SessionWord::GiveTokens { tokens: Some(4) };
-    alone(rt, alloc, word, &[0x01, 0x03, 0x10, 0x01, 0x04])?;
-    let word = SessionWord::PleaseTokens {
-        tokens: Some(4),
-        user: None,
-    };
-    alone(rt, alloc, word, &[0x02, 0x03, 0x10, 0x01, 0x04])?;
-    let word = SessionWord::PleaseTokens {
-        tokens: Some(0x15),
-        user: Some(octets(alloc, &[7])?),
-    };
+#[test]
+fn a_disconnect(rt: HostRuntime) -> Result<(), Fail> {
+    let user = octets(&rt, rt.alloc(), DISCONNECT_DATA);
     alone(
-        rt,
-        alloc,
-        word,
-        &[0x02, 0x06, 0x10, 0x01, 0x15, 0xC1, 0x01, 0x07],
-    )?;
-    alone(rt, alloc, SessionWord::GiveTokensConfirm, &[0x15, 0x00])?;
-    alone(rt, alloc, SessionWord::GiveTokensAck, &[0x16, 0x00])?;
-    let word = SessionWord::TypedData {
-        user: octets(alloc, &[0xA0, 0x05, 0xA1, 0x03, 0x02, 0x01, 0x05])?,
-    };
-    alone(
-        rt,
-        alloc,
-        word,
-        &[0x21, 0x00, 0xA0, 0x05, 0xA1, 0x03, 0x02, 0x01, 0x05],
-    )?;
-    let word = SessionWord::Data {
-        user: octets(
-            alloc,
-            &[
-                0x61, 0x12, 0x30, 0x10, 0x02, 0x01, 0x05, 0xA0, 0x0B, 0xA1, 0x09, 0x02, 0x01, 0x01,
-                0x02, 0x01, 0x01, 0x02, 0x01, 0x05,
-            ],
-        )?,
-    };
-    second(
-        rt,
-        alloc,
-        word,
-        &[
-            0x01, 0x00, 0x01, 0x00, 0x61, 0x12, 0x30, 0x10, 0x02, 0x01, 0x05, 0xA0, 0x0B, 0xA1,
-            0x09, 0x02, 0x01, 0x01, 0x02, 0x01, 0x01, 0x02, 0x01, 0x05,
-        ],
-    )
-}
-
-fn units_of_marks(rt: &impl Abort, alloc: Global) -> Result<(), Fail> {
-    let word = SessionWord::Mark { number: 1 };
-    second(rt, alloc, word, &[0x01, 0x00, 0x31, 0x03, 0x2A, 0x01, 0x31])?;
-    let word = SessionWord::MarkAck { number: 1 };
-    second(rt, alloc, word, &[0x01, 0x00, 0x32, 0x03, 0x2A, 0x01, 0x31])?;
-    let word = SessionWord::Resynchronize {
-        number: 2,
-        user: Some(octets(alloc, &RESTART_DATA)?),
-    };
-    second(rt, alloc, word, &RESTART)?;
-    let word = SessionWord::ResynchronizeAck {
-        number: 2,
-        user: Some(octets(alloc, &RESTART_DATA)?),
-    };
-    second(rt, alloc, word, &RESTARTED)
-}
-
-fn units_of_activities(rt: &impl Abort, alloc: Global) -> Result<(), Fail> {
-    let word = SessionWord::ActivityStart { activity: 1 };
-    second(rt, alloc, word, &[0x01, 0x00, 0x2D, 0x03, 0x29, 0x01, 0x31])?;
-    let word = SessionWord::ActivityResume {
-        activity: 1,
-        mark: 1,
-    };
-    second(
-        rt,
-        alloc,
-        word,
-        &[
-            0x01, 0x00, 0x1D, 0x0B, 0x21, 0x06, 0x29, 0x01, 0x31, 0x2A, 0x01, 0x31, 0x29, 0x01,
-            0x31,
-        ],
-    )?;
-    let word = SessionWord::ActivityResume {
-        activity: 1,
-        mark: 0,
-    };
-    second(
-        rt,
-        alloc,
-        word,
-        &[
-            0x01, 0x00, 0x1D, 0x0B, 0x21, 0x06, 0x29, 0x01, 0x31, 0x2A, 0x01, 0x30, 0x29, 0x01,
-            0x31,
-        ],
-    )?;
-    let word = SessionWord::ActivityEnd { number: 3 };
-    second(rt, alloc, word, &[0x01, 0x00, 0x29, 0x03, 0x2A, 0x01, 0x33])?;
-    let word = SessionWord::ActivityEndAck { number: 3 };
-    second(rt, alloc, word, &[0x01, 0x00, 0x2A, 0x03, 0x2A, 0x01, 0x33])?;
-    let word = SessionWord::ActivityInterrupt { reason: Some(0) };
-    second(rt, alloc, word, &[0x01, 0x00, 0x19, 0x03, 0x32, 0x01, 0x00])?;
-    second(
-        rt,
-        alloc,
-        SessionWord::ActivityInterruptAck,
-        &[0x01, 0x00, 0x1A, 0x00],
-    )?;
-    let word = SessionWord::ActivityDiscard { reason: Some(0) };
-    second(rt, alloc, word, &[0x01, 0x00, 0x39, 0x03, 0x32, 0x01, 0x00])?;
-    second(
-        rt,
-        alloc,
-        SessionWord::ActivityDiscardAck,
-        &[0x01, 0x00, 0x3A, 0x00],
+        &rt,
+        rt.alloc(),
+        SessionWord::Disconnect { user },
+        DISCONNECT,
     )
 }
 
 #[test]
-fn each_unit(rt: HostRuntime) -> Result<(), Fail> {
-    let alloc = rt.alloc();
-    units_of_connections(&rt, alloc)?;
-    units_of_ends(&rt, alloc)?;
-    units_of_tokens_and_data(&rt, alloc)?;
-    units_of_marks(&rt, alloc)?;
-    units_of_activities(&rt, alloc)
+fn aborts_with_data(rt: HostRuntime) -> Result<(), Fail> {
+    let word = SessionWord::Abort {
+        transport: Some(3),
+        user: Some(octets(&rt, rt.alloc(), ABORT_DATA)),
+    };
+    alone(&rt, rt.alloc(), word, ABORT)?;
+    let word = SessionWord::Abort {
+        transport: Some(3),
+        user: Some(octets(&rt, rt.alloc(), &[0x30, 0x03, 0x80, 0x01, 0x06])),
+    };
+    alone(&rt, rt.alloc(), word, PROVIDER_ABORT)
+}
+
+#[test]
+fn aborts_without_data(rt: HostRuntime) -> Result<(), Fail> {
+    let word = SessionWord::Abort {
+        transport: Some(5),
+        user: None,
+    };
+    alone(&rt, rt.alloc(), word, &[0x19, 0x03, 0x11, 0x01, 0x05])?;
+    alone(&rt, rt.alloc(), SessionWord::AbortAccept, &[0x1A, 0x00])
+}
+
+#[test]
+fn tokens(rt: HostRuntime) -> Result<(), Fail> {
+    let word = SessionWord::GiveTokens { tokens: Some(4) };
+    alone(&rt, rt.alloc(), word, &[0x01, 0x03, 0x10, 0x01, 0x04])?;
+    let word = SessionWord::PleaseTokens {
+        tokens: Some(4),
+        user: None,
+    };
+    alone(&rt, rt.alloc(), word, &[0x02, 0x03, 0x10, 0x01, 0x04])?;
+    alone(
+        &rt,
+        rt.alloc(),
+        SessionWord::GiveTokensConfirm,
+        &[0x15, 0x00],
+    )?;
+    alone(&rt, rt.alloc(), SessionWord::GiveTokensAck, &[0x16, 0x00])
+}
+
+#[test]
+fn a_request_for_tokens_with_data(rt: HostRuntime) -> Result<(), Fail> {
+    let word = SessionWord::PleaseTokens {
+        tokens: Some(0x15),
+        user: Some(octets(&rt, rt.alloc(), &[7])),
+    };
+    alone(
+        &rt,
+        rt.alloc(),
+        word,
+        &[0x02, 0x06, 0x10, 0x01, 0x15, 0xC1, 0x01, 0x07],
+    )
+}
+
+#[test]
+fn data(rt: HostRuntime) -> Result<(), Fail> {
+    let user = octets(&rt, rt.alloc(), &[0xA0, 0x05, 0xA1, 0x03, 0x02, 0x01, 0x05]);
+    alone(&rt, rt.alloc(), SessionWord::TypedData { user }, TYPED_DATA)?;
+    let user = octets(&rt, rt.alloc(), INVOCATION);
+    second(&rt, rt.alloc(), SessionWord::Data { user }, DATA)
+}
+
+#[test]
+fn marks(rt: HostRuntime) -> Result<(), Fail> {
+    let word = SessionWord::Mark { number: 1 };
+    second(
+        &rt,
+        rt.alloc(),
+        word,
+        &[0x01, 0x00, 0x31, 0x03, 0x2A, 0x01, 0x31],
+    )?;
+    let word = SessionWord::MarkAck { number: 1 };
+    second(
+        &rt,
+        rt.alloc(),
+        word,
+        &[0x01, 0x00, 0x32, 0x03, 0x2A, 0x01, 0x31],
+    )
+}
+
+#[test]
+fn restarts(rt: HostRuntime) -> Result<(), Fail> {
+    let word = SessionWord::Resynchronize {
+        number: 2,
+        user: Some(octets(&rt, rt.alloc(), RESTART_DATA)),
+    };
+    second(&rt, rt.alloc(), word, RESTART)?;
+    let word = SessionWord::ResynchronizeAck {
+        number: 2,
+        user: Some(octets(&rt, rt.alloc(), RESTART_DATA)),
+    };
+    second(&rt, rt.alloc(), word, RESTARTED)
+}
+
+#[test]
+fn beginnings_of_activities(rt: HostRuntime) -> Result<(), Fail> {
+    let word = SessionWord::ActivityStart { activity: 1 };
+    second(
+        &rt,
+        rt.alloc(),
+        word,
+        &[0x01, 0x00, 0x2D, 0x03, 0x29, 0x01, 0x31],
+    )?;
+    let word = SessionWord::ActivityResume {
+        activity: 1,
+        mark: 1,
+    };
+    second(&rt, rt.alloc(), word, RESUME)?;
+    let word = SessionWord::ActivityResume {
+        activity: 1,
+        mark: 0,
+    };
+    second(&rt, rt.alloc(), word, RESUME_AT_FIRST)
+}
+
+#[test]
+fn ends_of_activities(rt: HostRuntime) -> Result<(), Fail> {
+    let word = SessionWord::ActivityEnd { number: 3 };
+    second(
+        &rt,
+        rt.alloc(),
+        word,
+        &[0x01, 0x00, 0x29, 0x03, 0x2A, 0x01, 0x33],
+    )?;
+    let word = SessionWord::ActivityEndAck { number: 3 };
+    second(
+        &rt,
+        rt.alloc(),
+        word,
+        &[0x01, 0x00, 0x2A, 0x03, 0x2A, 0x01, 0x33],
+    )
+}
+
+#[test]
+fn breaks_of_activities(rt: HostRuntime) -> Result<(), Fail> {
+    let word = SessionWord::ActivityInterrupt { reason: Some(0) };
+    second(
+        &rt,
+        rt.alloc(),
+        word,
+        &[0x01, 0x00, 0x19, 0x03, 0x32, 0x01, 0x00],
+    )?;
+    let word = SessionWord::ActivityInterruptAck;
+    second(&rt, rt.alloc(), word, &[0x01, 0x00, 0x1A, 0x00])?;
+    let word = SessionWord::ActivityDiscard { reason: Some(0) };
+    second(
+        &rt,
+        rt.alloc(),
+        word,
+        &[0x01, 0x00, 0x39, 0x03, 0x32, 0x01, 0x00],
+    )?;
+    let word = SessionWord::ActivityDiscardAck;
+    second(&rt, rt.alloc(), word, &[0x01, 0x00, 0x3A, 0x00])
 }
 
 /// The fault of octets.
@@ -396,89 +498,27 @@ fn fault_of(alloc: Global, octets: &[u8]) -> Option<SFault> {
     read_spdus(alloc, octets).err()
 }
 
-fn at(place: usize, kind: Kind) -> Option<SFault> {
-    Some(SFault::At { place, kind })
+/// A mark with the long form of a length, an unknown parameter twice, and the sync type item.
+#[test]
+fn a_mark_in_the_long_form(rt: HostRuntime) -> Result<(), Fail> {
+    let spdus = read_spdus(rt.alloc(), LONG_MARK)?;
+    assert!(rt; matches!(spdus.get(1), Some(SessionWord::Mark { number: 5 })));
+    Ok(())
 }
 
+/// Extended user data of fewer octets.
 #[test]
-fn forms_that_are_read(rt: HostRuntime) -> Result<(), Fail> {
-    let alloc = rt.alloc();
-    // The long form of a length, an unknown parameter twice, and the sync type item.
-    let spdus = read_spdus(
-        alloc,
-        &[
-            0x01, 0xFF, 0x00, 0x00, 0x31, 0xFF, 0x00, 0x0B, 0x0F, 0x01, 0x01, 0x63, 0x00, 0x63,
-            0x00, 0x2A, 0xFF, 0x00, 0x00,
-        ],
-    )
-    .err();
-    assert!(rt; spdus == at(19, Kind::Content));
-    let spdus = read_spdus(
-        alloc,
-        &[
-            0x01, 0xFF, 0x00, 0x00, 0x31, 0xFF, 0x00, 0x0C, 0x0F, 0x01, 0x01, 0x63, 0x00, 0x63,
-            0x00, 0x2A, 0xFF, 0x00, 0x01, 0x35,
-        ],
-    )?;
-    assert!(rt; matches!(spdus.get(1), Some(SessionWord::Mark { number: 5 })));
-    // Extended user data of fewer octets.
-    assert!(rt; read_spdus(alloc, &[0x0D, 0x03, 0xC2, 0x01, 0x09]).is_ok());
-    Ok(())
+fn short_data_in_the_long_parameter(rt: HostRuntime) {
+    assert!(rt; read_spdus(rt.alloc(), &[0x0D, 0x03, 0xC2, 0x01, 0x09]).is_ok());
 }
 
 #[test]
 fn faults(rt: HostRuntime) {
-    let alloc = rt.alloc();
-    assert!(rt; fault_of(alloc, &[0x31, 0x03, 0x2A, 0x01, 0x31]) == at(0, Kind::Tag));
-    assert!(rt; fault_of(alloc, &[]) == at(0, Kind::Missing));
-    assert!(rt; fault_of(alloc, &[0x63]) == at(0, Kind::Tag));
-    assert!(rt; fault_of(alloc, &[0x01]) == at(1, Kind::Length));
-    assert!(rt; fault_of(alloc, &[0x01, 0x00]) == at(2, Kind::Missing));
-    assert!(rt; fault_of(alloc, &[0x01, 0x01]) == at(1, Kind::Length));
-    assert!(rt; fault_of(alloc, &[0x15, 0x00, 0x15, 0x00]) == at(2, Kind::Extra));
-    assert!(rt;
-        fault_of(alloc, &[0x01, 0x00, 0x31, 0x04, 0x2A, 0x02, 0x30, 0x31]) == at(6, Kind::Content)
-    );
-    assert!(rt;
-        fault_of(
-            alloc,
-            &[0x01, 0x00, 0x31, 0x06, 0x2A, 0x01, 0x31, 0x2A, 0x01, 0x31]
-        ) == at(7, Kind::Extra)
-    );
-    assert!(rt;
-        fault_of(alloc, &[0x01, 0x00, 0x31, 0x03, 0x2A, 0x02, 0x31]) == at(5, Kind::Length)
-    );
-    assert!(rt;
-        fault_of(alloc, &[0x01, 0x00, 0x31, 0x03, 0x2A, 0x01, 0x31, 0x00]) == at(7, Kind::Extra)
-    );
-    // An answer to a mark without its number.
-    assert!(rt; fault_of(alloc, &[0x01, 0x00, 0x32, 0x00]) == at(4, Kind::Missing));
-    // Activity numbers that differ.
-    assert!(rt;
-        fault_of(
-            alloc,
-            &[
-                0x01, 0x00, 0x1D, 0x0B, 0x21, 0x06, 0x29, 0x01, 0x31, 0x2A, 0x01, 0x31, 0x29, 0x01,
-                0x32
-            ]
-        ) == at(14, Kind::Content)
-    );
-    // An activity's resumption without the mark.
-    assert!(rt;
-        fault_of(
-            alloc,
-            &[
-                0x01, 0x00, 0x1D, 0x08, 0x21, 0x03, 0x29, 0x01, 0x31, 0x29, 0x01, 0x31
-            ]
-        ) == at(12, Kind::Missing)
-    );
-    // A restart of another type.
-    assert!(rt;
-        fault_of(
-            alloc,
-            &[0x01, 0x00, 0x35, 0x06, 0x1B, 0x01, 0x01, 0x2A, 0x01, 0x31]
-        ) == at(6, Kind::Content)
-    );
-    // User data in both parameters.
-    assert!(rt; fault_of(alloc, &[0x0D, 0x04, 0xC1, 0x00, 0xC2, 0x00]) == at(4, Kind::Extra));
+    for (octets, place, kind) in &FAULTY {
+        let fault = SFault::At {
+            place: *place,
+            kind: *kind,
+        };
+        assert!(rt; fault_of(rt.alloc(), octets) == Some(fault));
+    }
 }
