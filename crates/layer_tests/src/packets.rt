@@ -1,8 +1,7 @@
 //! Octets from outside: an invocation, an opening, a faulty header, the largest packet.
 
-use osi_base::{Kind, Octets};
+use osi_base::{Kind, NoMemory, Octets};
 use std::alloc::Global;
-use std::process::Abort;
 use std::test::*;
 use tpkt::{
     Ends, Packet, TFault, TFed, TReader, write_confirm, write_connect, write_disconnect,
@@ -10,7 +9,7 @@ use tpkt::{
 };
 
 /// An invocation in one DT.
-const INVOCATION: [u8; 31] = [
+const INVOCATION: &'static [u8] = &[
     0x03, 0x00, 0x00, 0x1F, 0x02, 0xF0, 0x80, 0x01, 0x00, 0x01, 0x00, 0x61, 0x12, 0x30, 0x10, 0x02,
     0x01, 0x05, 0xA0, 0x0B, 0xA1, 0x09, 0x02, 0x01, 0x01, 0x02, 0x01, 0x01, 0x02, 0x01, 0x05,
 ];
@@ -99,22 +98,43 @@ const PARTS: [&[u8]; 16] = [
 ];
 
 /// A connection request with size 0A and the selectors 00 01.
-const REQUEST: [u8; 22] = [
+const REQUEST: &'static [u8] = &[
     0x03, 0x00, 0x00, 0x16, 0x11, 0xE0, 0x00, 0x00, 0x00, 0x01, 0x00, 0xC0, 0x01, 0x0A, 0xC1, 0x02,
     0x00, 0x01, 0xC2, 0x02, 0x00, 0x01,
 ];
 
 /// The confirm that answers it.
-const CONFIRM: [u8; 14] = [
+const CONFIRM: &'static [u8] = &[
     0x03, 0x00, 0x00, 0x0E, 0x09, 0xD0, 0x00, 0x01, 0x00, 0x02, 0x00, 0xC0, 0x01, 0x0A,
 ];
 
 /// A disconnect request, and a unit that tells an error.
-const DISCONNECT: [u8; 11] = [
+const DISCONNECT: &'static [u8] = &[
     0x03, 0x00, 0x00, 0x0B, 0x06, 0x80, 0x00, 0x01, 0x00, 0x00, 0x00,
 ];
 
-const PROBLEM: [u8; 9] = [0x03, 0x00, 0x00, 0x09, 0x04, 0x70, 0x00, 0x01, 0x00];
+const PROBLEM: &'static [u8] = &[0x03, 0x00, 0x00, 0x09, 0x04, 0x70, 0x00, 0x01, 0x00];
+
+/// Streams, and the place and the kind of the fault of each.
+const FAULTY: [(&'static [u8], u64, Kind); 9] = [
+    (&[3, 0, 0, 6], 2, Kind::Length),
+    (&[3, 1], 0, Kind::Tag),
+    (&[3, 0, 0, 7, 3], 4, Kind::Length),
+    (&[3, 0, 0, 7, 2, 0xF1], 5, Kind::Tag),
+    (&[3, 0, 0, 7, 1, 0xF0], 4, Kind::Length),
+    (&[3, 0, 0, 7, 2, 0xF0, 1], 6, Kind::Content),
+    (&[3, 0, 0, 11, 6, 0xE0, 0, 0, 0, 1, 1], 10, Kind::Content),
+    (
+        &[3, 0, 0, 15, 10, 0xE0, 0, 0, 0, 1, 0, 0xC0, 2, 9, 9],
+        11,
+        Kind::Content,
+    ),
+    (
+        &[3, 0, 0, 12, 7, 0xE0, 0, 0, 0, 1, 0, 0xC5],
+        11,
+        Kind::Content,
+    ),
+];
 
 /// The octets of the one TSDU of a feed without a fault.
 fn tsdu_of(fed: &TFed) -> Option<&[u8]> {
@@ -166,14 +186,18 @@ fn is_part(alloc: Global, octets: &[u8]) -> Result<bool, Fail> {
     Ok(write_tsdu(alloc, tsdu, 1024)?.as_slice() == octets)
 }
 
+/// Whether the first of two pieces of the invocation gives nothing, and the second gives it.
+fn is_joined(alloc: Global, first: &[u8], second: &[u8]) -> Option<bool> {
+    let mut reader = TReader::new(alloc);
+    let quiet = is_quiet(&reader.feed(first).ok()?);
+    let fed = reader.feed(second).ok()?;
+    Some(quiet && tsdu_of(&fed) == Some(&INVOCATION[7..]))
+}
+
 #[test]
 fn cut_at_each_place(rt: HostRuntime) {
     for i in 0..INVOCATION.len() {
-        let mut reader = TReader::new(rt.alloc());
-        let first = reader.feed(&INVOCATION[..i]).ok();
-        let second = reader.feed(&INVOCATION[i..]).ok();
-        assert!(rt; matches!(&first, Some(fed) if is_quiet(fed)));
-        assert!(rt; matches!(&second, Some(fed) if tsdu_of(fed) == Some(&INVOCATION[7..])));
+        assert!(rt; is_joined(rt.alloc(), &INVOCATION[..i], &INVOCATION[i..]) == Some(true));
     }
 }
 
@@ -190,6 +214,14 @@ fn cut_into_single_octets(rt: HostRuntime) {
     }
 }
 
+#[test]
+fn each_part(rt: HostRuntime) -> Result<(), Fail> {
+    for octets in &PARTS {
+        assert!(rt; is_part(rt.alloc(), octets)?);
+    }
+    Ok(())
+}
+
 /// Whether a feed gave a request, or a confirm, with these fields.
 fn is_connection(fed: &TFed, destination: u16, source: u16, selector: &[u8]) -> bool {
     match fed.packets.get(0) {
@@ -203,80 +235,57 @@ fn is_connection(fed: &TFed, destination: u16, source: u16, selector: &[u8]) -> 
     }
 }
 
-fn units_are_read(rt: &impl Abort, alloc: Global) -> Result<(), Fail> {
-    let mut reader = TReader::new(alloc);
-    assert!(rt; is_connection(&reader.feed(&REQUEST)?, 0, 1, &[0, 1]));
-    assert!(rt; is_connection(&reader.feed(&CONFIRM)?, 1, 2, &[]));
-    let fed = reader.feed(&DISCONNECT)?;
+#[test]
+fn units_are_read(rt: HostRuntime) -> Result<(), Fail> {
+    let mut reader = TReader::new(rt.alloc());
+    assert!(rt; is_connection(&reader.feed(REQUEST)?, 0, 1, &[0, 1]));
+    assert!(rt; is_connection(&reader.feed(CONFIRM)?, 1, 2, &[]));
+    let fed = reader.feed(DISCONNECT)?;
     assert!(rt; matches!(fed.packets.get(0), Some(Packet::Disconnect)));
-    let fed = reader.feed(&PROBLEM)?;
+    let fed = reader.feed(PROBLEM)?;
     assert!(rt; matches!(fed.packets.get(0), Some(Packet::Problem)));
     Ok(())
 }
 
-fn connections_are_written(rt: &impl Abort, alloc: Global) -> Result<(), Fail> {
-    let ends = Ends {
-        destination: 0,
-        source: 1,
+/// The ends of a connection with size 0A.
+fn ends(alloc: Global, destination: u16, source: u16, selector: &[u8]) -> Result<Ends, NoMemory> {
+    Ok(Ends {
+        destination,
+        source,
         size: Some(0x0A),
-        calling: Octets::from_slice(alloc, &[0, 1])?,
-        called: Octets::from_slice(alloc, &[0, 1])?,
-    };
-    assert!(rt; ends.has_room());
-    assert_eq!(rt; write_connect(alloc, &ends)?.as_slice(), REQUEST.as_slice());
-    let ends = Ends {
-        destination: 1,
-        source: 2,
-        size: Some(0x0A),
-        calling: Octets::new(alloc),
-        called: Octets::new(alloc),
-    };
-    assert!(rt; ends.has_room());
-    assert_eq!(rt; write_confirm(alloc, &ends)?.as_slice(), CONFIRM.as_slice());
-    Ok(())
+        calling: Octets::from_slice(alloc, selector)?,
+        called: Octets::from_slice(alloc, selector)?,
+    })
 }
 
-fn ends_are_written(rt: &impl Abort, alloc: Global) -> Result<(), Fail> {
-    assert_eq!(rt;
-        write_disconnect(alloc, 1, 0, 0)?.as_slice(),
-        DISCONNECT.as_slice()
-    );
-    assert_eq!(rt; write_problem(alloc, 1, 0)?.as_slice(), PROBLEM.as_slice());
+#[test]
+fn a_request_is_written(rt: HostRuntime) -> Result<(), Fail> {
+    let ends = ends(rt.alloc(), 0, 1, &[0, 1])?;
+    assert!(rt; ends.has_room());
+    assert!(rt; write_connect(rt.alloc(), &ends)?.as_slice() == REQUEST);
     Ok(())
 }
 
 #[test]
-fn each_unit(rt: HostRuntime) -> Result<(), Fail> {
-    let alloc = rt.alloc();
-    for octets in PARTS {
-        assert!(rt; is_part(alloc, octets)?);
-    }
-    units_are_read(&rt, alloc)?;
-    connections_are_written(&rt, alloc)?;
-    ends_are_written(&rt, alloc)
+fn a_confirm_is_written(rt: HostRuntime) -> Result<(), Fail> {
+    let ends = ends(rt.alloc(), 1, 2, &[])?;
+    assert!(rt; ends.has_room());
+    assert!(rt; write_confirm(rt.alloc(), &ends)?.as_slice() == CONFIRM);
+    Ok(())
+}
+
+#[test]
+fn the_end_of_a_connection_is_written(rt: HostRuntime) -> Result<(), Fail> {
+    assert!(rt; write_disconnect(rt.alloc(), 1, 0, 0)?.as_slice() == DISCONNECT);
+    assert!(rt; write_problem(rt.alloc(), 1, 0)?.as_slice() == PROBLEM);
+    Ok(())
 }
 
 #[test]
 fn faulty_headers(rt: HostRuntime) {
-    let alloc = rt.alloc();
-    assert!(rt; fault_of(alloc, &[3, 0, 0, 6]) == Some((2, Kind::Length)));
-    assert!(rt; fault_of(alloc, &[3, 1]) == Some((0, Kind::Tag)));
-    assert!(rt; fault_of(alloc, &[3, 0, 0, 7, 3]) == Some((4, Kind::Length)));
-    assert!(rt; fault_of(alloc, &[3, 0, 0, 7, 2, 0xF1]) == Some((5, Kind::Tag)));
-    assert!(rt; fault_of(alloc, &[3, 0, 0, 7, 1, 0xF0]) == Some((4, Kind::Length)));
-    assert!(rt; fault_of(alloc, &[3, 0, 0, 7, 2, 0xF0, 1]) == Some((6, Kind::Content)));
-    assert!(rt;
-        fault_of(alloc, &[3, 0, 0, 11, 6, 0xE0, 0, 0, 0, 1, 1]) == Some((10, Kind::Content))
-    );
-    assert!(rt;
-        fault_of(
-            alloc,
-            &[3, 0, 0, 15, 10, 0xE0, 0, 0, 0, 1, 0, 0xC0, 2, 9, 9]
-        ) == Some((11, Kind::Content))
-    );
-    assert!(rt;
-        fault_of(alloc, &[3, 0, 0, 12, 7, 0xE0, 0, 0, 0, 1, 0, 0xC5]) == Some((11, Kind::Content))
-    );
+    for (stream, place, kind) in &FAULTY {
+        assert!(rt; fault_of(rt.alloc(), stream) == Some((*place, *kind)));
+    }
 }
 
 #[test]
@@ -301,22 +310,25 @@ fn cut_into_parts_of_128(rt: HostRuntime) -> Result<(), Fail> {
     Ok(())
 }
 
+/// Feeds a packet that is not the last, of so many octets: whether nothing is given.
+fn is_fed(reader: &mut TReader, head: &[u8], octets: &[u8]) -> Option<bool> {
+    let quiet = is_quiet(&reader.feed(head).ok()?);
+    let fed = reader.feed(octets).ok()?;
+    Some(quiet && is_quiet(&fed))
+}
+
 #[test]
 fn longest_tsdu(rt: HostRuntime) -> Result<(), Fail> {
     let mut reader = TReader::new(rt.alloc());
     let octets = vec![in rt.alloc(); 5u8; 65_528]?;
     for _ in 0..16 {
-        reader.feed(&[3, 0, 0xFF, 0xFF, 2, 0xF0, 0])?;
-        let fed = reader.feed(&octets)?;
-        assert!(rt; is_quiet(&fed));
+        assert!(rt; is_fed(&mut reader, &[3, 0, 0xFF, 0xFF, 2, 0xF0, 0], &octets) == Some(true));
     }
-    reader.feed(&[3, 0, 0, 0x87, 2, 0xF0, 0])?;
-    let fed = reader.feed(&octets[..128])?;
-    assert!(rt; is_quiet(&fed));
-    let fed = reader.feed(&[3, 0, 0, 8, 2, 0xF0])?;
+    assert!(rt; is_fed(&mut reader, &[3, 0, 0, 0x87, 2, 0xF0, 0], &octets[..128]) == Some(true));
+    let fault = reader.feed(&[3, 0, 0, 8, 2, 0xF0])?.fault;
     assert!(rt;
         matches!(
-            fed.fault,
+            fault,
             Some(TFault {
                 place: 1_048_700,
                 kind: Kind::Length
