@@ -1,11 +1,12 @@
 //! The worked APDUs, written and read.
 
-use asn1_types::{Node, TypeId, TypeRow, TypeTable, Val};
-use osi_base::{ListOf, Name, NoMemory, Octets, Oid};
+use crate::sample::{integer, is_integer, module};
+use asn1_types::{Node, Val};
+use osi_base::{NoMemory, Octets};
 use rose::{Content, First, Heads};
 use std::alloc::Global;
 use std::test::*;
-use stub_tables::{Apdu, Code, ErrorRow, Operation, Tables, Use};
+use stub_tables::{Apdu, Code, Tables};
 
 /// The invocation 1 of the operation 1 with 200.
 const INVOKE: [u8; 12] = [0xA1, 0x0A, 2, 1, 1, 2, 1, 1, 2, 2, 0, 0xC8];
@@ -15,67 +16,6 @@ const RESULT: [u8; 14] = [0xA2, 0x0C, 2, 1, 1, 0x30, 7, 2, 1, 1, 2, 2, 0xFF, 0x7
 
 /// The error 7 in its place.
 const ERROR: [u8; 8] = [0xA3, 6, 2, 1, 1, 2, 1, 7];
-
-/// What carries a value of INTEGER, the first row of the types, or nothing.
-fn carrying(inner: Option<TypeId>) -> Use {
-    Use {
-        inner,
-        optional: false,
-    }
-}
-
-/// The operation `add`, from INTEGER to INTEGER, with the code 1.
-fn add(alloc: Global) -> Result<Operation, NoMemory> {
-    Ok(Operation {
-        name: Name::from_str(alloc, "add")?,
-        code: Code::Local(1),
-        argument: carrying(Some(TypeId(0))),
-        result: carrying(Some(TypeId(0))),
-        returns: true,
-        always: true,
-        errors: ListOf::new(alloc),
-        linked: ListOf::new(alloc),
-    })
-}
-
-/// A module with the operation `add` and the error `overflow`, which carries nothing and has the
-/// code 7.
-fn module(alloc: Global) -> Result<Tables, NoMemory> {
-    let mut types = TypeTable::new(alloc);
-    let Ok(_) = types.add(TypeRow::Integer {
-        low: i64::MIN,
-        high: i64::MAX,
-    }) else {
-        return Err(NoMemory);
-    };
-    let mut operations = ListOf::new(alloc);
-    operations.push(add(alloc)?)?;
-    let mut errors = ListOf::new(alloc);
-    errors.push(ErrorRow {
-        name: Name::from_str(alloc, "overflow")?,
-        code: Code::Local(7),
-        parameter: carrying(None),
-    })?;
-    Ok(Tables {
-        name: Name::from_str(alloc, "One")?,
-        name_oid: Oid::from_slice(alloc, &[2, 999, 7, 4])?,
-        types,
-        operations,
-        errors,
-    })
-}
-
-/// Whether this is that value of INTEGER.
-fn is_integer(value: &Option<Val>, number: i64) -> bool {
-    matches!(value, Some(Val { node: Node::Int(n) }) if *n == number)
-}
-
-/// A value of INTEGER.
-fn integer(number: i64) -> Option<Val> {
-    Some(Val {
-        node: Node::Int(number),
-    })
-}
 
 /// The invocation 1 of `add` with this argument.
 fn invoke_written(
@@ -120,11 +60,11 @@ fn written_as_worked(rt: HostRuntime) -> Result<(), Fail> {
     let heads = Heads::new(rt.alloc())?;
     let tables = module(rt.alloc())?;
     let invoke = invoke_written(rt.alloc(), &heads, &tables, 200)?;
-    assert_eq!(rt; invoke.as_slice(), INVOKE.as_slice());
+    assert!(rt; invoke.as_slice() == INVOKE.as_slice());
     let returned = result_written(rt.alloc(), &heads, &tables, &integer(-129))?;
-    assert_eq!(rt; returned.as_slice(), RESULT.as_slice());
+    assert!(rt; returned.as_slice() == RESULT.as_slice());
     let error = error_written(rt.alloc(), &heads, &tables)?;
-    assert_eq!(rt; error.as_slice(), ERROR.as_slice());
+    assert!(rt; error.as_slice() == ERROR.as_slice());
     Ok(())
 }
 

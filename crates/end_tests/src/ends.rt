@@ -1,12 +1,12 @@
 //! The worked APDUs, as two ends write and take them.
 
-use asn1_types::{Node, TypeId, TypeRow, TypeTable, Val};
+use crate::sample::{integer, is_integer, module};
 use dialogue::{Call, CallRefusal, Config, Indication, Indications, Mode, Phase};
-use osi_base::{Layer, ListOf, Name, NoMemory, Octets, Oid};
+use osi_base::{Layer, ListOf, NoMemory, Octets};
 use stack::End;
 use std::alloc::Global;
 use std::test::*;
-use stub_tables::{Code, ErrorRow, Operation, Tables, Use};
+use stub_tables::Tables;
 
 /// An exchange: the argument of the invocation, its octets, and what comes back.
 struct Exchange {
@@ -43,64 +43,6 @@ const EXCHANGES: [Exchange; 3] = [
         outcome: &[0xA3, 6, 2, 1, 1, 2, 1, 7],
     },
 ];
-
-/// A value of INTEGER.
-fn integer(number: i64) -> Option<Val> {
-    Some(Val {
-        node: Node::Int(number),
-    })
-}
-
-/// What carries nothing, or a value of INTEGER, the first row of the types.
-fn carrying(inner: Option<TypeId>) -> Use {
-    Use {
-        inner,
-        optional: false,
-    }
-}
-
-/// The operation `add`, from INTEGER to INTEGER, with the code 1 and the one error.
-fn add(alloc: Global) -> Result<Operation, NoMemory> {
-    let mut errors = ListOf::new(alloc);
-    errors.push(0)?;
-    Ok(Operation {
-        name: Name::from_str(alloc, "add")?,
-        code: Code::Local(1),
-        argument: carrying(Some(TypeId(0))),
-        result: carrying(Some(TypeId(0))),
-        returns: true,
-        always: true,
-        errors,
-        linked: ListOf::new(alloc),
-    })
-}
-
-/// A module with the operation `add` and the error `overflow`, which carries nothing and has the
-/// code 7.
-fn module(alloc: Global) -> Result<Tables, NoMemory> {
-    let mut types = TypeTable::new(alloc);
-    let Ok(_) = types.add(TypeRow::Integer {
-        low: i64::MIN,
-        high: i64::MAX,
-    }) else {
-        return Err(NoMemory);
-    };
-    let mut operations = ListOf::new(alloc);
-    operations.push(add(alloc)?)?;
-    let mut errors = ListOf::new(alloc);
-    errors.push(ErrorRow {
-        name: Name::from_str(alloc, "overflow")?,
-        code: Code::Local(7),
-        parameter: carrying(None),
-    })?;
-    Ok(Tables {
-        name: Name::from_str(alloc, "One")?,
-        name_oid: Oid::from_slice(alloc, &[2, 999, 7, 4])?,
-        types,
-        operations,
-        errors,
-    })
-}
 
 /// How an end of bare mode is set up.
 fn config(alloc: Global, initiator: bool) -> Result<Config, NoMemory> {
@@ -141,11 +83,6 @@ fn fed(end: &mut End<'_>, octets: &[u8], cut: usize) -> Option<Indications> {
         return None;
     }
     end.feed(&octets[cut..]).ok()
-}
-
-/// Whether this is that value of INTEGER.
-fn is_integer(value: &Option<Val>, number: i64) -> bool {
-    matches!(value, Some(Val { node: Node::Int(n) }) if *n == number)
 }
 
 /// Whether an invocation of `add` alone was told, with this argument.

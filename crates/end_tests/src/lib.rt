@@ -8,4 +8,6 @@ mod apdus;
 #[cfg(test)]
 mod ends;
 #[cfg(test)]
+mod sample;
+#[cfg(test)]
 mod scripts;

@@ -69,7 +69,7 @@ fn reads_schedules(rt: HostRuntime) -> Result<(), Fail> {
         ),
     ];
     for (schedule, events) in rows {
-        assert_eq!(rt; events_of(alloc, &tables, schedule), events);
+        assert!(rt; events_of(alloc, &tables, schedule) == events);
     }
     Ok(())
 }
@@ -113,7 +113,7 @@ fn names_the_first_faulty_line(rt: HostRuntime) -> Result<(), Fail> {
         ("mode bare\n\tcarry A all\n", 2),
     ];
     for (schedule, line) in rows {
-        assert_eq!(rt; refused_line(alloc, &tables, schedule), line);
+        assert!(rt; refused_line(alloc, &tables, schedule) == line);
     }
     Ok(())
 }
@@ -189,7 +189,7 @@ fn prints_a_transcript(rt: HostRuntime) -> Result<(), Fail> {
 end A up
 end B over
 ";
-    assert_eq!(rt; printed.as_slice(), expected.as_slice());
+    assert!(rt; printed.as_slice() == expected.as_slice());
     Ok(())
 }
 
