@@ -1,0 +1,4 @@
+pub mod Faults
+pub mod Limits
+pub mod Sending
+pub mod Receiving
