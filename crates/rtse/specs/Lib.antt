@@ -2,3 +2,4 @@ pub mod Faults
 pub mod Limits
 pub mod Sending
 pub mod Receiving
+pub mod Exchange

@@ -4,6 +4,7 @@
 
 mod fault;
 mod incoming;
+pub mod laws;
 mod outgoing;
 
 pub use fault::RtseFault;
