@@ -1,3 +1,6 @@
+pub mod Failing
+pub mod Limits
+pub mod Lines
 pub mod Memory
 pub mod Oid
 pub mod Outside
