@@ -1,5 +1,5 @@
 -- What an end keeps of the other end's transfers (X.228 7.4, 8.2).
-use Rattle.std.specs.Prelude.{◌≡◌, ℕ, ◌+◌, ◌-◌, ◌*◌, ◌<◌, ◌≤◌, ◌==◌, ◌&&◌, nat_lt, nat_le, Bool, true, false, List, [], ◌∷◌, ◌++◌, length, take, if◌then◌else◌, Result, Ok, Err, slice_index, ◌⊎◌, ◌^◌}
+use Rattle.std.specs.Prelude.{◌≡◌, ℕ, ◌+◌, ◌-◌, ◌<◌, ◌≤◌, ◌==◌, ◌&&◌, nat_lt, nat_le, Bool, true, false, List, [], ◌∷◌, ◌++◌, length, take, if◌then◌else◌, Result, Ok, Err, slice_index, ◌⊎◌, ◌^◌}
 use Rattle.rtse.specs.declared.fault.RtseFault.{RtseFault}
 use Rattle.rtse.specs.declared.fault.RtseFault.TheVariants.{WrongNumber, TooLong, NoMemory}
 use Rattle.rtse.specs.declared.incoming.Ended.{Ended}

@@ -1,5 +1,5 @@
 -- What an end gives of a transfer (X.228 7.4, 8.2): chunks, each but the last with a mark behind it, and the end.
-use Rattle.std.specs.Prelude.{◌≡◌, ℕ, ◌+◌, ◌-◌, ◌*◌, ◌<◌, ◌≤◌, ◌==◌, ◌||◌, nat_lt, nat_le, Bool, true, false, List, length, take, drop, if◌then◌else◌, IsTrue, ◌≢◌}
+use Rattle.std.specs.Prelude.{◌≡◌, ℕ, ◌+◌, ◌-◌, ◌*◌, ◌<◌, ◌≤◌, ◌==◌, ◌||◌, nat_le, Bool, true, false, List, length, take, drop, if◌then◌else◌, IsTrue, ◌≢◌}
 use Rattle.rtse.specs.declared.outgoing.Step.{Step}
 use Rattle.rtse.specs.declared.outgoing.Step.TheVariants.{Chunk, Mark, End, Wait}
 use Rattle.rtse.specs.Limits.{transfer_limit, activity_limit, checkpoint_limit, window_limit}
