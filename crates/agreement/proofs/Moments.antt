@@ -4,9 +4,8 @@ use Rattle.agreement.specs.Sets.{Role, other}
 use Rattle.agreement.specs.Sets.Role.{Initiator, Responder}
 use Rattle.agreement.specs.Messages.{Setup, Message}
 use Rattle.agreement.specs.Messages.Act.{Starts, Encodes, Resumes}
-use Rattle.agreement.specs.State.{State}
 use Rattle.agreement.specs.Acts.{confirmed_of}
-use Rattle.agreement.specs.Worlds.{Step, World, Shared, state_of, after, Sending, sendings, shared_at, shared_resumed, shared_after, flight_to, taken_off, sent_in, sent_by_step}
+use Rattle.agreement.specs.Worlds.{Step, World, Shared, state_of, after, sendings, shared_at, shared_resumed, shared_after, flight_to, taken_off, sent_in, sent_by_step}
 use Rattle.agreement.specs.Worlds.Step.{Acts}
 use Rattle.agreement.specs.Worlds.Moment.{By, Break}
 use Rattle.agreement.proofs.Views.{nil-append}

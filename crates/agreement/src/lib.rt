@@ -12,7 +12,8 @@ pub use cases::{
     resumption_from_a_mark, resumption_from_nothing,
 };
 pub use laws::{
-    accepted_names_open, answered_once, contexts_stay, initiator_leads, invoked_once,
-    no_abort_of_itself, one_holder, one_outcome, taken_as_sent, the_others_own,
-    transfers_arrive_once, transfers_arrive_whole,
+    accepted_names_open, alterations_are_few, answered_once, contexts_are_known, contexts_stay,
+    initiator_leads, invoked_once, items_of_activities, no_abort_of_itself, one_holder,
+    one_operation, one_outcome, taken_as_sent, the_others_own, transfers_arrive_once,
+    transfers_arrive_whole,
 };
