@@ -5,3 +5,4 @@ pub mod Requests
 pub mod Takings
 pub mod Machine
 pub mod Asked
+pub mod Laws

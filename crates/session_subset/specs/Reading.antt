@@ -118,10 +118,12 @@ turn_after role turn (requested word) = turn_requested role turn word
 turn_after role turn (took word) = turn_taken role turn word
 turn_after role turn _ = turn
 
--- an own GTC is unanswered: the turn is on its way
+-- an own GTC is unanswered: the turn is on its way, unless it was put at the initiator
 abbrev pub giving_after : Bool → Step → Bool
 giving_after giving (requested (Accept options version initial requirements user)) = false
 giving_after giving (took (Accept options version initial requirements user)) = false
+giving_after giving (requested (ResynchronizeAck number user)) = false
+giving_after giving (took (ResynchronizeAck number user)) = false
 giving_after giving (requested GiveTokensConfirm) = true
 giving_after giving (took GiveTokensAck) = false
 giving_after giving broke = false

@@ -240,21 +240,22 @@ fn restart_taken(state: &mut SessionState, number: u32)
 
 /// RA, of either end: the marks from this number on are dropped, and the turn is at the initiator.
 fn restarted(role: SessionRole, state: &mut SessionState, number: u32)
-    ensures { state.new ≡ record state.old { turn = role.initiator; mark = number - 1 } }
+    ensures { state.new ≡ record state.old { turn = role.initiator; giving = false; mark = number - 1 } }
 {
     state.turn = role.initiator;
+    state.giving = false;
     state.mark = number.saturating_sub(1);
 }
 
 fn restart_answered(role: SessionRole, state: &mut SessionState, number: u32)
-    ensures { state.new ≡ record state.old { turn = role.initiator; mark = number - 1; owed = Owed.Nothing } }
+    ensures { state.new ≡ record state.old { turn = role.initiator; giving = false; mark = number - 1; owed = Owed.Nothing } }
 {
     restarted(role, state, number);
     state.owed = Owed::Nothing;
 }
 
 fn restart_answer_taken(role: SessionRole, state: &mut SessionState, number: u32)
-    ensures { state.new ≡ record state.old { turn = role.initiator; mark = number - 1; awaited = Awaited.Nothing } }
+    ensures { state.new ≡ record state.old { turn = role.initiator; giving = false; mark = number - 1; awaited = Awaited.Nothing } }
 {
     restarted(role, state, number);
     state.awaited = Awaited::Nothing;

@@ -1,1 +1,13 @@
 //! Laws of the session machine. Each is the contract of a function that does nothing.
+
+ghost use Rattle.session_subset.specs.Laws.{TurnOrGiving, UnitsOfMode};
+
+/// At each moment of a machine the turn is here, or is on its way to the peer, or neither.
+pub fn turn_or_giving()
+    ensures { TurnOrGiving }
+{}
+
+/// Activities are selected in reliable mode alone, and restarts in direct mode alone.
+pub fn units_of_mode()
+    ensures { UnitsOfMode }
+{}
