@@ -6,6 +6,8 @@ use Rattle.session_subset.specs.declared.session.Taken.{Taken}
 use Rattle.session_subset.specs.declared.session.Taken.TheVariants.{Passed, Word}
 use Rattle.session_subset.specs.declared.state.Awaited.{Awaited}
 use Rattle.session_subset.specs.declared.state.Awaited.TheVariants.{Restart}
+use Rattle.session_subset.specs.declared.state.Owed.{Owed}
+use Rattle.session_subset.specs.declared.state.Owed.TheVariants as owing
 use Rattle.session_subset.specs.declared.state.SessionState.{SessionState}
 use Rattle.session_subset.specs.Steps.{Step, took, passed}
 use Rattle.session_subset.specs.Requests.{is_up}
@@ -13,6 +15,10 @@ use Rattle.session_subset.specs.Requests.{is_up}
 abbrev pub awaits_a_restart : Awaited → Bool
 awaits_a_restart (Restart number) = true
 awaits_a_restart _ = false
+
+abbrev pub owes_a_restart : Owed → Bool
+owes_a_restart (owing.Restart number) = true
+owes_a_restart _ = false
 
 -- this end holds the turn: it is here, the association stands, and no own restart is unanswered
 abbrev pub holds_turn : SessionState → Bool

@@ -1,10 +1,9 @@
 -- What a contract sees of a machine, and the histories that it stands for.
-use Rattle.std.specs.Prelude.{◌≡◌, Bool, true, List, [], ◌∷◌, Option, Some, None, Ok}
-use Rattle.osi_base.specs.declared.session_word.SessionWord.{SessionWord}
+use Rattle.std.specs.Prelude.{◌≡◌, true, [], ◌∷◌, None, Ok}
 use Rattle.session_subset.specs.declared.session.Taken.TheVariants.{Passed, Word}
 use Rattle.session_subset.specs.declared.state.SessionRole.{SessionRole}
 use Rattle.session_subset.specs.declared.state.SessionState.{SessionState}
-use Rattle.session_subset.specs.Steps.{Step, History, requested, took, passed, transport_asked, transport_refused, broke}
+use Rattle.session_subset.specs.Steps.{Step, History, requested, took, passed}
 use Rattle.session_subset.specs.Reading.{state_of}
 use Rattle.session_subset.specs.Requests.{may_request, refusal_of}
 use Rattle.session_subset.specs.Takings.{taking}

@@ -1,6 +1,6 @@
 -- What a history says of a machine: one function for each thing that is read, from the machine's own
 -- steps alone (X.225 7).
-use Rattle.std.specs.Prelude.{ℕ, zero, suc, ◌-◌, nat_eq, Bool, true, false, if◌then◌else◌, List, [], ◌∷◌, Option, Some, None}
+use Rattle.std.specs.Prelude.{ℕ, ◌-◌, Bool, true, false, if◌then◌else◌, [], ◌∷◌, Some}
 use Rattle.osi_base.specs.declared.session_word.SessionWord.{SessionWord}
 use Rattle.osi_base.specs.declared.session_word.SessionWord.TheVariants.{Connect, Accept, Refuse, Finish, Disconnect, Abort, AbortAccept, GiveTokens, GiveTokensConfirm, GiveTokensAck, Mark, MarkAck, Resynchronize, ResynchronizeAck, ActivityStart, ActivityResume, ActivityInterrupt, ActivityInterruptAck, ActivityDiscard, ActivityDiscardAck, ActivityEnd, ActivityEndAck}
 use Rattle.session_subset.specs.declared.units.FunctionalUnits.{FunctionalUnits}
@@ -118,13 +118,12 @@ turn_after role turn (requested word) = turn_requested role turn word
 turn_after role turn (took word) = turn_taken role turn word
 turn_after role turn _ = turn
 
--- an own GTC is unanswered: the turn is on its way, unless it was put at the initiator
+-- an own GTC is unanswered, and the turn, which is on its way, hasn't come back
 abbrev pub giving_after : Bool → Step → Bool
 giving_after giving (requested (Accept options version initial requirements user)) = false
 giving_after giving (took (Accept options version initial requirements user)) = false
-giving_after giving (requested (ResynchronizeAck number user)) = false
-giving_after giving (took (ResynchronizeAck number user)) = false
 giving_after giving (requested GiveTokensConfirm) = true
+giving_after giving (took GiveTokensConfirm) = false
 giving_after giving (took GiveTokensAck) = false
 giving_after giving broke = false
 giving_after giving _ = giving

@@ -6,15 +6,13 @@ use Rattle.session_subset.specs.declared.fault.SessionRefusal.{SessionRefusal}
 use Rattle.session_subset.specs.declared.fault.SessionRefusal.TheVariants as refusals
 use Rattle.session_subset.specs.declared.state.SessionRole.{SessionRole}
 use Rattle.session_subset.specs.declared.state.SessionPhase.{SessionPhase}
-use Rattle.session_subset.specs.declared.state.SessionPhase.TheVariants.{Idle, Opening, Up, Releasing, Broken, Recovering, Over}
+use Rattle.session_subset.specs.declared.state.SessionPhase.TheVariants.{Idle, Opening, Up, Broken, Recovering, Over}
 use Rattle.session_subset.specs.declared.state.Awaited.{Awaited}
 use Rattle.session_subset.specs.declared.state.Awaited.TheVariants as awaiting
 use Rattle.session_subset.specs.declared.state.Owed.{Owed}
 use Rattle.session_subset.specs.declared.state.Owed.TheVariants as owing
 use Rattle.session_subset.specs.declared.state.Progress.{Progress}
 use Rattle.session_subset.specs.declared.state.Progress.TheVariants.{Absent, Running, Ending, Suspended}
-use Rattle.session_subset.specs.declared.state.OwnActivity.{OwnActivity}
-use Rattle.session_subset.specs.declared.state.PeerActivity.{PeerActivity}
 use Rattle.session_subset.specs.declared.state.SessionState.{SessionState}
 
 -- ---- phases

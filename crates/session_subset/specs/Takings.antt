@@ -1,5 +1,5 @@
 -- What a machine passes over, and what it may take (X.225 7).
-use Rattle.std.specs.Prelude.{ℕ, ◌+◌, nat_eq, nat_le, nat_lt, Bool, true, false, not, ◌&&◌, ◌||◌, if◌then◌else◌, Option, Some, None, Result, Ok, Err}
+use Rattle.std.specs.Prelude.{ℕ, nat_eq, nat_le, nat_lt, Bool, true, false, not, ◌&&◌, ◌||◌, if◌then◌else◌, Option, None, Result, Ok, Err}
 use Rattle.osi_base.specs.declared.session_word.SessionWord.{SessionWord}
 use Rattle.osi_base.specs.declared.session_word.SessionWord.TheVariants.{Connect, Accept, Refuse, Finish, Disconnect, Abort, AbortAccept, GiveTokens, PleaseTokens, GiveTokensConfirm, GiveTokensAck, TypedData, Data, Mark, MarkAck, Resynchronize, ResynchronizeAck, ActivityStart, ActivityResume, ActivityInterrupt, ActivityInterruptAck, ActivityDiscard, ActivityDiscardAck, ActivityEnd, ActivityEndAck}
 use Rattle.session_subset.specs.declared.fault.SessionFault.{SessionFault}
@@ -15,7 +15,7 @@ use Rattle.session_subset.specs.declared.state.OwnActivity.{OwnActivity}
 use Rattle.session_subset.specs.declared.state.PeerActivity.{PeerActivity}
 use Rattle.session_subset.specs.declared.state.SessionState.{SessionState}
 use Rattle.session_subset.specs.Units.{version_is_2, requirements_of, selected, are_enough}
-use Rattle.session_subset.specs.Steps.{Step, took}
+use Rattle.session_subset.specs.Steps.{took}
 use Rattle.session_subset.specs.Reading.{after}
 use Rattle.session_subset.specs.Requests.{is_up, is_next, is_up_to_next, is_waiting, is_ending, is_in_progress, owes_nothing}
 
@@ -160,7 +160,7 @@ may_take role state GiveTokensAck = is_up state.phase && state.giving
 may_take role state (GiveTokens tokens) =
     (is_up state.phase && state.units.minor_synchronize) && (not role.reliable && not state.turn)
 may_take role state GiveTokensConfirm =
-    ((is_up state.phase && state.units.activity_management) && owes_nothing state.owed) && (not state.giving && peer_rests state)
+    ((is_up state.phase && state.units.activity_management) && owes_nothing state.owed) && peer_rests state
 may_take role state (PleaseTokens tokens user) = is_up state.phase && state.units.minor_synchronize
 may_take role state (Finish transport user) =
     ((not role.initiator && is_up state.phase) && owes_nothing state.owed) && (not role.reliable || peer_rests state)

@@ -204,9 +204,10 @@ fn give_sent(state: &mut SessionState)
 }
 
 fn give_taken(state: &mut SessionState)
-    ensures { state.new ≡ record state.old { turn = true; owed = Owed.Give } }
+    ensures { state.new ≡ record state.old { turn = true; giving = false; owed = Owed.Give } }
 {
     state.turn = true;
+    state.giving = false;
     state.owed = Owed::Give;
 }
 
@@ -240,22 +241,21 @@ fn restart_taken(state: &mut SessionState, number: u32)
 
 /// RA, of either end: the marks from this number on are dropped, and the turn is at the initiator.
 fn restarted(role: SessionRole, state: &mut SessionState, number: u32)
-    ensures { state.new ≡ record state.old { turn = role.initiator; giving = false; mark = number - 1 } }
+    ensures { state.new ≡ record state.old { turn = role.initiator; mark = number - 1 } }
 {
     state.turn = role.initiator;
-    state.giving = false;
     state.mark = number.saturating_sub(1);
 }
 
 fn restart_answered(role: SessionRole, state: &mut SessionState, number: u32)
-    ensures { state.new ≡ record state.old { turn = role.initiator; giving = false; mark = number - 1; owed = Owed.Nothing } }
+    ensures { state.new ≡ record state.old { turn = role.initiator; mark = number - 1; owed = Owed.Nothing } }
 {
     restarted(role, state, number);
     state.owed = Owed::Nothing;
 }
 
 fn restart_answer_taken(role: SessionRole, state: &mut SessionState, number: u32)
-    ensures { state.new ≡ record state.old { turn = role.initiator; giving = false; mark = number - 1; awaited = Awaited.Nothing } }
+    ensures { state.new ≡ record state.old { turn = role.initiator; mark = number - 1; awaited = Awaited.Nothing } }
 {
     restarted(role, state, number);
     state.awaited = Awaited::Nothing;

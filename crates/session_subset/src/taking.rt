@@ -218,12 +218,11 @@ impl SessionState {
     }
 
     fn may_take_give_confirm(&self) -> bool
-        ensures { result ≡ (((is_up self.now.phase && self.now.units.activity_management) && owes_nothing self.now.owed) && (not self.now.giving && peer_rests self.now)) }
+        ensures { result ≡ (((is_up self.now.phase && self.now.units.activity_management) && owes_nothing self.now.owed) && peer_rests self.now) }
     {
         is_up(self.phase)
             && self.units.activity_management
             && owes_nothing(self.owed)
-            && !self.giving
             && self.peer_rests()
     }
 
