@@ -1,12 +1,12 @@
 -- What may be called of alterations (X.226 6.2; the rows and their order are this project's own).
-use Rattle.std.specs.Prelude.{ℕ, ◌+◌, List, [], ◌∷◌, ◌++◌, map, length, Bool, true, false, not, ◌&&◌, ◌||◌, nat_eq, nat_lt, nat_le, Option, Some, None, is_some, Ok, Err, if◌then◌else◌}
+use Rattle.std.specs.Prelude.{ℕ, ◌+◌, List, [], ◌∷◌, ◌++◌, map, length, Bool, false, not, ◌&&◌, ◌||◌, nat_eq, nat_lt, nat_le, Option, Some, None, is_some, Ok, Err, if◌then◌else◌}
 use Rattle.std.specs.List.{list_any}
 use Rattle.osi_base.specs.declared.words.Proposal.{Proposal}
 use Rattle.dialogue.specs.declared.call.CallRefusal.{CallRefusal}
 use Rattle.dialogue.specs.declared.call.CallRefusal.TheVariants as refusals
-use Rattle.end_rules.specs.Ground.{Ground, Item, is_reliable, most_contexts, most_alterations, most_transfers, highest_context}
+use Rattle.end_rules.specs.Base.{Base, is_reliable, most_contexts, most_alterations, most_transfers, highest_context}
 use Rattle.end_rules.specs.Sets.{Alteration, named_ids, is_among, is_named_in, count_added, pair_of, is_fixed, has_parity}
-use Rattle.end_rules.specs.State.{Body, OpenCall, Queued, Progress, Encoded, Transfer, Awaited, is_free, is_empty, is_current, is_ending, is_suspended}
+use Rattle.end_rules.specs.State.{Body, OpenCall, Queued, Encoded, Transfer, is_free, is_empty, is_current, is_ending, is_suspended}
 use Rattle.end_rules.specs.Invoking.{Reply, unless_refused}
 
 -- ---- the contexts in use (this project's own rule)
@@ -44,9 +44,9 @@ abbrev pub is_bad : Alteration → Bool
 is_bad a = is_empty (named_ids a) || has_double (named_ids a) || list_any is_no_context (named_ids a) || list_any has_bad_transfers a.add
 
 -- why one addition is refused
-abbrev pub addition_refusal : Ground → Body → ℕ → Option CallRefusal
-addition_refusal ground body k =
-    if not (has_parity ground.initiator k) then Some (refusals.WrongParity k)
+abbrev pub addition_refusal : Base → Body → ℕ → Option CallRefusal
+addition_refusal base body k =
+    if not (has_parity base.initiator k) then Some (refusals.WrongParity k)
     else (if is_named_in body.sets.own k then Some (refusals.Named k)
     else (if is_some (pair_of body.sets.held k) then Some (refusals.Present k)
     else None))
@@ -65,9 +65,9 @@ abbrev pub or_else : Option CallRefusal → Option CallRefusal → Option CallRe
 or_else None later = later
 or_else (Some refusal) later = Some refusal
 
-abbrev pub additions_refusal : Ground → Body → List Proposal → Option CallRefusal
-additions_refusal ground body [] = None
-additions_refusal ground body (p ∷ ps) = or_else (addition_refusal ground body p.id) (additions_refusal ground body ps)
+abbrev pub additions_refusal : Base → Body → List Proposal → Option CallRefusal
+additions_refusal base body [] = None
+additions_refusal base body (p ∷ ps) = or_else (addition_refusal base body p.id) (additions_refusal base body ps)
 
 abbrev pub deletions_refusal : Body → List ℕ → Option CallRefusal
 deletions_refusal body [] = None
@@ -77,18 +77,18 @@ deletions_refusal body (k ∷ ks) = or_else (deletion_refusal body k) (deletions
 abbrev pub is_set_full : Body → Alteration → Bool
 is_set_full body a = nat_lt most_contexts (length body.sets.held + count_added body.sets.own + length a.add)
 
-abbrev pub alteration_refusal : Ground → Body → Alteration → Option CallRefusal
-alteration_refusal ground body a =
-    or_else (additions_refusal ground body a.add)
+abbrev pub alteration_refusal : Base → Body → Alteration → Option CallRefusal
+alteration_refusal base body a =
+    or_else (additions_refusal base body a.add)
     (or_else (deletions_refusal body a.delete)
     (if is_set_full body a then Some refusals.SetFull else None))
 
-abbrev pub can_alter : Ground → Body → Alteration → Reply
-can_alter ground body a =
+abbrev pub can_alter : Base → Body → Alteration → Reply
+can_alter base body a =
     if not body.link.manages then Err refusals.NotNegotiated
     else (if not (is_free body.link.awaits) then Err refusals.Waiting
-    else (if is_reliable ground.mode && not body.link.turn then Err refusals.NoTurn
+    else (if is_reliable base.mode && not body.link.turn then Err refusals.NoTurn
     else (if is_current is_ending body.sending.current then Err (refusals.Ending body.sending.started)
     else (if nat_le most_alterations (length body.sets.own) then Err refusals.AlterPending
     else (if is_bad a then Err refusals.BadProposal
-    else unless_refused (alteration_refusal ground body a) (Ok None))))))
+    else unless_refused (alteration_refusal base body a) (Ok None))))))

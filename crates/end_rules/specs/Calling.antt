@@ -1,24 +1,23 @@
 -- What may be called, and why not: the first row that fails decides (X.225 7, X.228 8; the rows and their
 -- order are this project's own).
-use Rattle.std.specs.Prelude.{ℕ, List, length, Bool, true, false, not, ◌&&◌, ◌||◌, nat_eq, nat_lt, nat_le, Option, Some, None, Ok, Err, if◌then◌else◌}
+use Rattle.std.specs.Prelude.{ℕ, length, Bool, true, false, not, ◌&&◌, ◌||◌, nat_lt, nat_le, None, Ok, Err, if◌then◌else◌}
 use Rattle.dialogue.specs.declared.call.Call.{Call}
 use Rattle.dialogue.specs.declared.call.Call.TheVariants as the_calls
-use Rattle.dialogue.specs.declared.call.CallRefusal.{CallRefusal}
 use Rattle.dialogue.specs.declared.call.CallRefusal.TheVariants as refusals
 use Rattle.dialogue.specs.declared.config.Phase.{Phase}
-use Rattle.dialogue.specs.declared.config.Phase.TheVariants.{Idle, Opening, Up, Releasing, Broken, Recovering, Dead}
-use Rattle.end_rules.specs.Ground.{Ground, is_bare, is_direct, is_reliable, most_marks}
-use Rattle.end_rules.specs.Sets.{Alteration, Saved, next_number}
-use Rattle.end_rules.specs.State.{Body, Transfer, Awaited, is_up, is_broken, is_free, is_none, is_empty, is_current, is_running, is_ending, is_suspended, opens_of}
+use Rattle.dialogue.specs.declared.config.Phase.TheVariants.{Idle, Opening, Up, Releasing, Recovering, Dead}
+use Rattle.end_rules.specs.Base.{Base, is_bare, is_direct, is_reliable, most_marks}
+use Rattle.end_rules.specs.Sets.{next_number}
+use Rattle.end_rules.specs.State.{Body, is_up, is_broken, is_free, is_none, is_empty, is_current, is_running, is_ending, is_suspended, opens_of}
 use Rattle.end_rules.specs.Units.{has_marks, has_restarts, has_token}
 use Rattle.end_rules.specs.Invoking.{Reply, can_invoke, can_answer, can_refuse}
 use Rattle.end_rules.specs.Altering.{can_alter}
 
 -- ---- marks, the turn and restarts
 
-abbrev pub can_mark : Ground → Body → Reply
-can_mark ground body =
-    if not (is_direct ground.mode && has_marks body.link.selected) then Err refusals.NotNegotiated
+abbrev pub can_mark : Base → Body → Reply
+can_mark base body =
+    if not (is_direct base.mode && has_marks body.link.selected) then Err refusals.NotNegotiated
     else (if not (is_free body.link.awaits) then Err refusals.Waiting
     else (if not body.link.turn then Err refusals.NoTurn
     else (if not (is_empty body.sets.own) then Err refusals.AlterPending
@@ -29,42 +28,42 @@ can_mark ground body =
 abbrev pub has_activity : Body → Bool
 has_activity body = is_current is_running body.sending.current || is_current is_ending body.sending.current
 
-abbrev pub can_give : Ground → Body → Reply
-can_give ground body =
-    if not (has_token ground body) then Err refusals.NotNegotiated
+abbrev pub can_give : Base → Body → Reply
+can_give base body =
+    if not (has_token base body) then Err refusals.NotNegotiated
     else (if not (is_free body.link.awaits) then Err refusals.Waiting
     else (if not body.link.turn then Err refusals.NoTurn
     else (if not (is_empty body.sets.own) then Err refusals.AlterPending
     else (if has_activity body then Err (refusals.ActivityOpen body.sending.started)
     else Ok None))))
 
-abbrev pub can_please : Ground → Body → Reply
-can_please ground body =
-    if not (has_token ground body) then Err refusals.NotNegotiated
+abbrev pub can_please : Base → Body → Reply
+can_please base body =
+    if not (has_token base body) then Err refusals.NotNegotiated
     else (if not (is_free body.link.awaits) then Err refusals.Waiting
     else (if body.link.turn then Err refusals.HasTurn
     else Ok None))
 
-abbrev pub can_restart : Ground → Body → ℕ → Reply
-can_restart ground body n =
-    if not (is_direct ground.mode && has_restarts body.link.selected) then Err refusals.NotNegotiated
+abbrev pub can_restart : Base → Body → ℕ → Reply
+can_restart base body n =
+    if not (is_direct base.mode && has_restarts body.link.selected) then Err refusals.NotNegotiated
     else (if not (is_free body.link.awaits) then Err refusals.Waiting
     else (if not (nat_le 1 n && nat_le n (next_number body.saved)) then Err (refusals.NoSuchMark n)
     else Ok None))
 
 -- ---- transfers
 
-abbrev pub can_stop : Ground → Body → Reply
-can_stop ground body =
-    if is_direct ground.mode then Err refusals.NotNegotiated
+abbrev pub can_stop : Base → Body → Reply
+can_stop base body =
+    if is_direct base.mode then Err refusals.NotNegotiated
     else (if not (is_free body.link.awaits) then Err refusals.Waiting
     else (if not (has_activity body) then Err refusals.NoActivity
     else (if is_current is_ending body.sending.current then Err (refusals.Ending body.sending.started)
     else Ok None)))
 
-abbrev pub can_resume : Ground → Body → Reply
-can_resume ground body =
-    if is_direct ground.mode then Err refusals.NotNegotiated
+abbrev pub can_resume : Base → Body → Reply
+can_resume base body =
+    if is_direct base.mode then Err refusals.NotNegotiated
     else (if not (is_free body.link.awaits) then Err refusals.Waiting
     else (if not (is_current is_suspended body.sending.current) then Err refusals.NotSuspended
     else (if not body.link.turn then Err refusals.NoTurn
@@ -73,10 +72,10 @@ can_resume ground body =
 
 -- ---- release
 
-abbrev pub can_release : Ground → Body → Reply
-can_release ground body =
+abbrev pub can_release : Base → Body → Reply
+can_release base body =
     if not (is_free body.link.awaits) then Err refusals.Waiting
-    else (if is_reliable ground.mode && not body.link.turn then Err refusals.NoTurn
+    else (if is_reliable base.mode && not body.link.turn then Err refusals.NoTurn
     else (if not (is_empty body.sets.own) then Err refusals.AlterPending
     else (if not (is_none body.sending.current) then Err (refusals.ActivityOpen body.sending.started)
     else (if not (is_empty body.sending.queue) then Err (refusals.QueueWaiting (length body.sending.queue))
@@ -85,22 +84,22 @@ can_release ground body =
 
 -- ---- the rows of each call
 
-abbrev pub can_by_rows : Ground → Body → Call → Reply
-can_by_rows ground body the_calls.Open = Ok None
-can_by_rows ground body (the_calls.Invoke context operation argument linked) = can_invoke ground body context operation argument linked
-can_by_rows ground body (the_calls.Answer id result) = can_answer ground body id result
-can_by_rows ground body (the_calls.Refuse id error parameter) = can_refuse ground body id error parameter
-can_by_rows ground body (the_calls.Alter add delete) = can_alter ground body (record { add = add; delete = delete })
-can_by_rows ground body the_calls.Mark = can_mark ground body
-can_by_rows ground body the_calls.Give = can_give ground body
-can_by_rows ground body (the_calls.Please priority) = can_please ground body
-can_by_rows ground body (the_calls.Resync n) = can_restart ground body n
-can_by_rows ground body the_calls.Interrupt = can_stop ground body
-can_by_rows ground body the_calls.Resume = can_resume ground body
-can_by_rows ground body the_calls.Discard = can_stop ground body
-can_by_rows ground body the_calls.Recover = Ok None
-can_by_rows ground body the_calls.Release = can_release ground body
-can_by_rows ground body the_calls.Abort = Ok None
+abbrev pub can_by_rows : Base → Body → Call → Reply
+can_by_rows base body the_calls.Open = Ok None
+can_by_rows base body (the_calls.Invoke context operation argument linked) = can_invoke base body context operation argument linked
+can_by_rows base body (the_calls.Answer id result) = can_answer base body id result
+can_by_rows base body (the_calls.Refuse id error parameter) = can_refuse base body id error parameter
+can_by_rows base body (the_calls.Alter add delete) = can_alter base body (record { add = add; delete = delete })
+can_by_rows base body the_calls.Mark = can_mark base body
+can_by_rows base body the_calls.Give = can_give base body
+can_by_rows base body (the_calls.Please priority) = can_please base body
+can_by_rows base body (the_calls.Resync n) = can_restart base body n
+can_by_rows base body the_calls.Interrupt = can_stop base body
+can_by_rows base body the_calls.Resume = can_resume base body
+can_by_rows base body the_calls.Discard = can_stop base body
+can_by_rows base body the_calls.Recover = Ok None
+can_by_rows base body the_calls.Release = can_release base body
+can_by_rows base body the_calls.Abort = Ok None
 
 -- ---- the rows of all calls
 
@@ -141,10 +140,10 @@ is_of_bare_mode (the_calls.Refuse id error parameter) = true
 is_of_bare_mode _ = false
 
 -- the answer to a call
-abbrev pub can_call : Ground → Body → Call → Reply
-can_call ground body call =
+abbrev pub can_call : Base → Body → Call → Reply
+can_call base body call =
     if is_dead body.link.phase then Err refusals.Dead
-    else (if is_initiators call && not ground.initiator then Err refusals.NotInitiator
+    else (if is_initiators call && not base.initiator then Err refusals.NotInitiator
     else (if not (is_phase_for call body.link.phase) then Err (refusals.WrongPhase body.link.phase)
-    else (if is_bare ground.mode && not (is_of_bare_mode call) then Err refusals.NotNegotiated
-    else can_by_rows ground body call)))
+    else (if is_bare base.mode && not (is_of_bare_mode call) then Err refusals.NotNegotiated
+    else can_by_rows base body call)))

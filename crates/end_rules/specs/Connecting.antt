@@ -1,9 +1,8 @@
 -- How an opening is taken: what may not stand in it, whether it is accepted, and what an end is afterwards (X.225
 -- 7.1 to 7.3, X.226 6.1, X.227 7.1, X.228 7.1; recoveries as in this project's profile).
-use Rattle.std.specs.Prelude.{ℕ, ◌/◌, ◌%◌, ◌+◌, min, ℤ, pos, List, [], ◌∷◌, ◌++◌, map, Bool, true, false, not, ◌&&◌, ◌||◌, nat_eq, if◌then◌else◌, Option, Some, None, is_some}
+use Rattle.std.specs.Prelude.{ℕ, ◌/◌, ◌%◌, min, pos, List, [], ◌∷◌, ◌++◌, Bool, true, false, not, ◌&&◌, ◌||◌, nat_eq, if◌then◌else◌, Option, Some, None, is_some}
 use Rattle.std.specs.Ordering.{int_eq}
 use Rattle.osi_base.specs.declared.words.SetItem.{SetItem}
-use Rattle.osi_base.specs.declared.words.Proposal.{Proposal}
 use Rattle.osi_base.specs.declared.words.AddAnswer.{AddAnswer}
 use Rattle.osi_base.specs.declared.session_word.SessionConnect.{SessionConnect}
 use Rattle.osi_base.specs.declared.presentation_word.PresentationConnect.{PresentationConnect}
@@ -16,17 +15,16 @@ use Rattle.osi_base.specs.declared.rtse_word.ConnectionData.{ConnectionData}
 use Rattle.osi_base.specs.declared.rtse_word.ConnectionData.TheVariants as data_of
 use Rattle.dialogue.specs.declared.config.Mode.{Mode}
 use Rattle.dialogue.specs.declared.config.Mode.TheVariants.{Bare, Direct, Reliable}
-use Rattle.dialogue.specs.declared.config.Phase.{Phase}
 use Rattle.dialogue.specs.declared.config.Phase.TheVariants.{Up, Broken, Over}
 use Rattle.dialogue.specs.declared.indication.Indication.{Indication}
 use Rattle.dialogue.specs.declared.indication.Indication.TheVariants as indications
-use Rattle.end_rules.specs.Ground.{Ground, Fault, is_reliable, acse_name, rtse_name}
+use Rattle.end_rules.specs.Base.{Base, Fault, is_reliable, acse_name, rtse_name}
 use Rattle.end_rules.specs.Sets.{same_name, has_abstract, pair_of, lowest_with, accepted_set, fit_proposals, Saved}
 use Rattle.end_rules.specs.Messages.{Information, Transferring, Other, Content, Association, Value, Accepting, Message}
-use Rattle.end_rules.specs.State.{Body, Link, Carrying, NoAnswer, new_body, is_broken, is_none, Transfer}
+use Rattle.end_rules.specs.State.{Body, Carrying, NoAnswer, new_body, is_broken, is_none}
 use Rattle.end_rules.specs.Units.{has_units, needed_units, selected_with, has_version_two, manages_with}
 use Rattle.end_rules.specs.Policy.{opening_policy, is_faulty_proposal}
-use Rattle.end_rules.specs.Writing.{proposals, acse_context, rtse_context, information, accept_message, refuse_message, provider_refusal, connection_data, is_recovering}
+use Rattle.end_rules.specs.Writing.{proposals, rtse_context, information, accept_message, refuse_message, provider_refusal, connection_data, is_recovering}
 use Rattle.end_rules.specs.Faults.{invalid_ppdu, acse_fault, rtse_fault, fault_if, or_fault, cuts, losses}
 
 -- ---- values of association control
@@ -96,11 +94,11 @@ information_fault is_meant accepted (Other id octets ∷ more) = Some invalid_pp
 -- ---- CN
 
 -- a CN as it is looked at: what its list is answered, and which contexts stand then
-abbrev pub results_for : Ground → PresentationConnect → List AddAnswer
-results_for ground presentation = opening_policy ground presentation.definitions
+abbrev pub results_for : Base → PresentationConnect → List AddAnswer
+results_for base presentation = opening_policy base presentation.definitions
 
-abbrev pub set_for : Ground → PresentationConnect → List SetItem
-set_for ground presentation = accepted_set presentation.definitions (results_for ground presentation)
+abbrev pub set_for : Base → PresentationConnect → List SetItem
+set_for base presentation = accepted_set presentation.definitions (results_for base presentation)
 
 abbrev pub has_acse : List SetItem → Bool
 has_acse accepted = is_some (lowest_with acse_name [] accepted)
@@ -114,13 +112,13 @@ is_open_request _ = false
 
 -- Its list is faulty; or, where association control is accepted, it carries no AARQ; or, where reliable transfer
 -- is, the AARQ carries what is no RTORQ.
-abbrev pub connect_fault : Ground → PresentationConnect → List Value → Option Fault
-connect_fault ground presentation values =
+abbrev pub connect_fault : Base → PresentationConnect → List Value → Option Fault
+connect_fault base presentation values =
     or_fault (fault_if (is_faulty_proposal true [] presentation.definitions) invalid_ppdu)
-    (or_fault (fault_if (has_acse (set_for ground presentation) && not (is_request (the_one values))) acse_fault)
-    (if is_reliable ground.mode && has_acse (set_for ground presentation) && has_rtse (set_for ground presentation)
-     then information_fault is_open_request (set_for ground presentation) (user_of (the_one values))
-     else None))
+    (or_fault (fault_if (has_acse (set_for base presentation) && not (is_request (the_one values))) acse_fault)
+    (if is_reliable base.mode && has_acse (set_for base presentation) && has_rtse (set_for base presentation)
+    then information_fault is_open_request (set_for base presentation) (user_of (the_one values))
+    else None))
 
 -- The session refuses: version 2 lacks, or a unit that the mode needs; another initial number than 1; a token at
 -- the responder (a pair of bits 01 of the token setting).
@@ -133,20 +131,20 @@ gives_token None = false
 gives_token (Some setting) =
     nat_eq (setting % 4) 1 || nat_eq ((setting / 4) % 4) 1 || nat_eq ((setting / 16) % 4) 1 || nat_eq ((setting / 64) % 4) 1
 
-abbrev pub session_refuses : Ground → SessionConnect → Bool
-session_refuses ground session =
-    not (has_version_two session.version) || not (has_units (needed_units ground.mode) (selected_with ground.mode session.requirements)) ||
+abbrev pub session_refuses : Base → SessionConnect → Bool
+session_refuses base session =
+    not (has_version_two session.version) || not (has_units (needed_units base.mode) (selected_with base.mode session.requirements)) ||
     has_other_initial session.initial || gives_token session.token_setting
 
 -- The presentation or association control refuses: a default context stands; association control isn't
 -- accepted, or in reliable mode reliable transfer; or there is no RTORQ.
-abbrev pub lacks_request : Ground → List SetItem → List Value → Bool
-lacks_request ground accepted values = is_reliable ground.mode && (not (has_rtse accepted) || is_none (rtse_in (user_of (the_one values))))
+abbrev pub lacks_request : Base → List SetItem → List Value → Bool
+lacks_request base accepted values = is_reliable base.mode && (not (has_rtse accepted) || is_none (rtse_in (user_of (the_one values))))
 
-abbrev pub presentation_refuses : Ground → PresentationConnect → List Value → Bool
-presentation_refuses ground presentation values =
-    is_some presentation.default_context || not (has_acse (set_for ground presentation)) ||
-    lacks_request ground (set_for ground presentation) values
+abbrev pub presentation_refuses : Base → PresentationConnect → List Value → Bool
+presentation_refuses base presentation values =
+    is_some presentation.default_context || not (has_acse (set_for base presentation)) ||
+    lacks_request base (set_for base presentation) values
 
 -- the responder has the association that these references name
 abbrev pub same_octets : Option (List ℕ) → List ℕ → Bool
@@ -167,27 +165,27 @@ rejection_of body (Some (rtse.OpenRequest checkpoint window mode connection)) =
     else None))
 rejection_of body _ = None
 
-abbrev pub transfer_rejection : Ground → Body → List Value → Option ℕ
-transfer_rejection ground body values = if is_reliable ground.mode then rejection_of body (rtse_in (user_of (the_one values))) else None
+abbrev pub transfer_rejection : Base → Body → List Value → Option ℕ
+transfer_rejection base body values = if is_reliable base.mode then rejection_of body (rtse_in (user_of (the_one values))) else None
 
-abbrev pub is_refused : Ground → Body → SessionConnect → PresentationConnect → List Value → Bool
-is_refused ground body session presentation values =
-    session_refuses ground session || presentation_refuses ground presentation values || is_some (transfer_rejection ground body values)
+abbrev pub is_refused : Base → Body → SessionConnect → PresentationConnect → List Value → Bool
+is_refused base body session presentation values =
+    session_refuses base session || presentation_refuses base presentation values || is_some (transfer_rejection base body values)
 
 -- ---- the answer
 
 -- an RTORJ stands where it alone refuses
-abbrev pub rejecting_information : Ground → SessionConnect → List SetItem → Option ℕ → List Information
-rejecting_information ground session accepted None = []
-rejecting_information ground session accepted (Some reason) =
-    if session_refuses ground session then [] else Transferring (rtse_context accepted) (rtse.OpenReject (pos reason)) ∷ []
+abbrev pub rejecting_information : Base → SessionConnect → List SetItem → Option ℕ → List Information
+rejecting_information base session accepted None = []
+rejecting_information base session accepted (Some reason) =
+    if session_refuses base session then [] else Transferring (rtse_context accepted) (rtse.OpenReject (pos reason)) ∷ []
 
-abbrev pub refusal_message : Ground → Body → SessionConnect → PresentationConnect → List Value → Message
-refusal_message ground body session presentation values =
-    if is_some presentation.default_context || not (has_acse (set_for ground presentation)) then provider_refusal
-    else refuse_message (set_for ground presentation) (results_for ground presentation) (context_named (the_one values))
-         (if lacks_request ground (set_for ground presentation) values then []
-          else rejecting_information ground session (set_for ground presentation) (transfer_rejection ground body values))
+abbrev pub refusal_message : Base → Body → SessionConnect → PresentationConnect → List Value → Message
+refusal_message base body session presentation values =
+    if is_some presentation.default_context || not (has_acse (set_for base presentation)) then provider_refusal
+    else refuse_message (set_for base presentation) (results_for base presentation) (context_named (the_one values))
+    (if lacks_request base (set_for base presentation) values then []
+    else rejecting_information base session (set_for base presentation) (transfer_rejection base body values))
 
 -- agreed: no checkpoints where one end says 0, else the smaller; the smaller window (X.228 8.1)
 abbrev pub agreed_checkpoint : ℕ → ℕ → ℕ
@@ -197,50 +195,58 @@ pub record Agreed : Type 0 where
   pub checkpoint : ℕ
   pub window : ℕ
 
-abbrev pub agreed_with : Ground → Option Rtse → Agreed
-agreed_with ground (Some (rtse.OpenRequest checkpoint window mode connection)) =
-    record { checkpoint = agreed_checkpoint ground.config.checkpoint checkpoint; window = min ground.config.window window }
-agreed_with ground (Some (rtse.OpenAccept checkpoint window connection)) = record { checkpoint = checkpoint; window = window }
-agreed_with ground _ = record { checkpoint = 0; window = 1 }
+abbrev pub agreed_with : Base → Option Rtse → Agreed
+agreed_with base (Some (rtse.OpenRequest checkpoint window mode connection)) =
+    record { checkpoint = agreed_checkpoint base.config.checkpoint checkpoint; window = min base.config.window window }
+agreed_with base (Some (rtse.OpenAccept checkpoint window connection)) = record { checkpoint = checkpoint; window = window }
+agreed_with base _ = record { checkpoint = 0; window = 1 }
 
-abbrev pub agreed_for : Ground → List Value → Agreed
-agreed_for ground values = agreed_with ground (rtse_in (user_of (the_one values)))
+abbrev pub agreed_for : Base → List Value → Agreed
+agreed_for base values = agreed_with base (rtse_in (user_of (the_one values)))
 
-abbrev pub data_named : Ground → Option Rtse → ConnectionData
-data_named ground (Some (rtse.OpenRequest checkpoint window mode connection)) = connection
-data_named ground _ = connection_data ground false
+abbrev pub data_named : Base → Option Rtse → ConnectionData
+data_named base (Some (rtse.OpenRequest checkpoint window mode connection)) = connection
+data_named base _ = connection_data base false
 
 -- the RTOAC has connection data of the form that came
-abbrev pub answering_data : Ground → ConnectionData → ConnectionData
-answering_data ground (data_of.Open value) = connection_data ground false
-answering_data ground (data_of.Recover reference common) = data_of.Recover reference common
+abbrev pub answering_data : Base → ConnectionData → ConnectionData
+answering_data base (data_of.Open value) = connection_data base false
+answering_data base (data_of.Recover reference common) = data_of.Recover reference common
 
-abbrev pub accepting_information : Ground → List SetItem → List Value → List Information
-accepting_information ground accepted values =
-    information ground.mode accepted
-    (rtse.OpenAccept (agreed_for ground values).checkpoint (agreed_for ground values).window
-     (answering_data ground (data_named ground (rtse_in (user_of (the_one values))))))
+abbrev pub accepting_information : Base → List SetItem → List Value → List Information
+accepting_information base accepted values =
+    information base.mode accepted
+    (rtse.OpenAccept (agreed_for base values).checkpoint (agreed_for base values).window
+    (answering_data base (data_named base (rtse_in (user_of (the_one values))))))
 
-abbrev pub acceptance_message : Ground → SessionConnect → PresentationConnect → List Value → Message
-acceptance_message ground session presentation values =
-    accept_message ground (set_for ground presentation) (results_for ground presentation)
-    (selected_with ground.mode session.requirements)
-    (manages_with presentation.requirements (selected_with ground.mode session.requirements))
-    (context_named (the_one values)) (accepting_information ground (set_for ground presentation) values)
+abbrev pub acceptance_message : Base → SessionConnect → PresentationConnect → List Value → Message
+acceptance_message base session presentation values =
+    accept_message base (set_for base presentation) (results_for base presentation)
+    (selected_with base.mode session.requirements)
+    (manages_with presentation.requirements (selected_with base.mode session.requirements))
+    (context_named (the_one values)) (accepting_information base (set_for base presentation) values)
 
 -- ---- up
 
 -- in direct mode number 0 saves the accepted contexts; in reliable mode they are the inter-activity set
-abbrev pub joined_with : Ground → List SetItem → ℕ → Bool → Agreed → Body → Body
-joined_with ground accepted selected manages agreed body =
+abbrev pub joined_with : Base → List SetItem → ℕ → Bool → Agreed → Body → Body
+joined_with base accepted selected manages agreed body =
     record body {
       link =
           record body.link {
-            phase = Up; stage = Carrying; selected = selected; manages = manages; turn = ground.initiator; gave = false;
-            awaits = NoAnswer; accepted = accepted; checkpoint = agreed.checkpoint; window = agreed.window;
+            phase = Up;
+            stage = Carrying;
+            selected = selected;
+            manages = manages;
+            turn = base.initiator;
+            gave = false;
+            awaits = NoAnswer;
+            accepted = accepted;
+            checkpoint = agreed.checkpoint;
+            window = agreed.window;
           };
-      sets = record { held = accepted; inter = inter_in ground.mode; own = [] };
-      saved = saved_in ground.mode;
+      sets = record { held = accepted; inter = inter_in base.mode; own = [] };
+      saved = saved_in base.mode;
     }
   where
     inter_in : Mode → List SetItem
@@ -254,39 +260,39 @@ joined_with ground accepted selected manages agreed body =
     saved_in Bare = body.saved
 
 -- it names the association that is broken
-abbrev pub recovers_in : Ground → List Value → Bool
-recovers_in ground values = is_reliable ground.mode && is_recovery (data_named ground (rtse_in (user_of (the_one values))))
+abbrev pub recovers_in : Base → List Value → Bool
+recovers_in base values = is_reliable base.mode && is_recovery (data_named base (rtse_in (user_of (the_one values))))
   where
     is_recovery : ConnectionData → Bool
     is_recovery (data_of.Open value) = false
     is_recovery (data_of.Recover reference common) = true
 
 -- an opening begins anew, with the references of its CN; a recovery goes on
-abbrev pub begun_with : Ground → SessionConnect → Body
-begun_with ground session =
-    let body = new_body ground in
+abbrev pub begun_with : Base → SessionConnect → Body
+begun_with base session =
+    let body = new_body base in
     record body { link = record body.link { reference = session.calling_reference; common = session.common_reference } }
 
-abbrev pub accepted_connect : Ground → Body → SessionConnect → PresentationConnect → List Value → Body
-accepted_connect ground body session presentation values =
-    joined_with ground (set_for ground presentation) (selected_with ground.mode session.requirements)
-    (manages_with presentation.requirements (selected_with ground.mode session.requirements)) (agreed_for ground values)
-    (if recovers_in ground values then body else begun_with ground session)
+abbrev pub accepted_connect : Base → Body → SessionConnect → PresentationConnect → List Value → Body
+accepted_connect base body session presentation values =
+    joined_with base (set_for base presentation) (selected_with base.mode session.requirements)
+    (manages_with presentation.requirements (selected_with base.mode session.requirements)) (agreed_for base values)
+    (if recovers_in base values then body else begun_with base session)
 
 -- who refuses is over, but for an end that is broken, which stays so
 abbrev pub refused_connect : Body → Body
 refused_connect body =
     record body { link = record body.link { phase = if is_broken body.link.phase then Broken else Over; stage = Carrying } }
 
-abbrev pub after_connect : Ground → Body → SessionConnect → PresentationConnect → List Value → Body
-after_connect ground body session presentation values =
-    if is_refused ground body session presentation values then refused_connect body
-    else accepted_connect ground body session presentation values
+abbrev pub after_connect : Base → Body → SessionConnect → PresentationConnect → List Value → Body
+after_connect base body session presentation values =
+    if is_refused base body session presentation values then refused_connect body
+    else accepted_connect base body session presentation values
 
-abbrev pub answer_to_connect : Ground → Body → SessionConnect → PresentationConnect → List Value → List Message
-answer_to_connect ground body session presentation values =
-    if is_refused ground body session presentation values then refusal_message ground body session presentation values ∷ []
-    else acceptance_message ground session presentation values ∷ []
+abbrev pub answer_to_connect : Base → Body → SessionConnect → PresentationConnect → List Value → List Message
+answer_to_connect base body session presentation values =
+    if is_refused base body session presentation values then refusal_message base body session presentation values ∷ []
+    else acceptance_message base session presentation values ∷ []
 
 -- an opening that reaches a broken end gives the old association up
 abbrev pub shown_opening : Body → Bool → List Indication
@@ -295,9 +301,9 @@ shown_opening body recovers =
     else (if is_broken body.link.phase then cuts body ++ indications.GivenUp ∷ indications.Opened ∷ []
     else indications.Opened ∷ [])
 
-abbrev pub shown_at_connect : Ground → Body → SessionConnect → PresentationConnect → List Value → List Indication
-shown_at_connect ground body session presentation values =
-    if is_refused ground body session presentation values then [] else shown_opening body (recovers_in ground values)
+abbrev pub shown_at_connect : Base → Body → SessionConnect → PresentationConnect → List Value → List Indication
+shown_at_connect base body session presentation values =
+    if is_refused base body session presentation values then [] else shown_opening body (recovers_in base values)
 
 -- ---- AC
 
@@ -310,25 +316,25 @@ abbrev pub lacks_accept : Option Rtse → Bool
 lacks_accept (Some (rtse.OpenAccept checkpoint window connection)) = nat_eq window 0
 lacks_accept _ = true
 
-abbrev pub set_accepted : Ground → PresentationAccept → List SetItem
-set_accepted ground presentation = accepted_set (proposals ground) presentation.results
+abbrev pub set_accepted : Base → PresentationAccept → List SetItem
+set_accepted base presentation = accepted_set (proposals base) presentation.results
 
 -- its results don't fit the proposals or refuse the contexts of the association; it has no AARE that accepts; in
 -- reliable mode no RTOAC
-abbrev pub accept_fault : Ground → PresentationAccept → List Value → Option Fault
-accept_fault ground presentation values =
-    or_fault (fault_if (not (fit_proposals (proposals ground) presentation.results)) invalid_ppdu)
-    (or_fault (fault_if (not (has_acse (set_accepted ground presentation)) || is_reliable ground.mode && not (has_rtse (set_accepted ground presentation))) invalid_ppdu)
+abbrev pub accept_fault : Base → PresentationAccept → List Value → Option Fault
+accept_fault base presentation values =
+    or_fault (fault_if (not (fit_proposals (proposals base) presentation.results)) invalid_ppdu)
+    (or_fault (fault_if (not (has_acse (set_accepted base presentation)) || is_reliable base.mode && not (has_rtse (set_accepted base presentation))) invalid_ppdu)
     (or_fault (fault_if (not (is_accepting (the_one values))) acse_fault)
-    (if is_reliable ground.mode
-     then or_fault (information_fault is_open_accept (set_accepted ground presentation) (user_of (the_one values)))
-          (fault_if (lacks_accept (rtse_in (user_of (the_one values)))) rtse_fault)
-     else None)))
+    (if is_reliable base.mode
+    then or_fault (information_fault is_open_accept (set_accepted base presentation) (user_of (the_one values)))
+    (fault_if (lacks_accept (rtse_in (user_of (the_one values)))) rtse_fault)
+    else None)))
 
-abbrev pub after_accept : Ground → Body → Accepting → PresentationAccept → List Value → Body
-after_accept ground body session presentation values =
-    joined_with ground (set_accepted ground presentation) (selected_with ground.mode session.requirements)
-    (manages_with presentation.requirements (selected_with ground.mode session.requirements)) (agreed_for ground values) body
+abbrev pub after_accept : Base → Body → Accepting → PresentationAccept → List Value → Body
+after_accept base body session presentation values =
+    joined_with base (set_accepted base presentation) (selected_with base.mode session.requirements)
+    (manages_with presentation.requirements (selected_with base.mode session.requirements)) (agreed_for base values) body
 
 abbrev pub shown_at_accept : Body → List Indication
 shown_at_accept body = if is_recovering body.link.phase then losses body ++ indications.Recovered ∷ [] else indications.Opened ∷ []

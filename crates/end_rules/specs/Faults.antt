@@ -8,10 +8,10 @@ use Rattle.osi_base.specs.declared.rtse_word.Rtse.TheVariants as rtse
 use Rattle.dialogue.specs.declared.config.Phase.TheVariants.{Over}
 use Rattle.dialogue.specs.declared.indication.Indication.{Indication}
 use Rattle.dialogue.specs.declared.indication.Indication.TheVariants as indications
-use Rattle.end_rules.specs.Ground.{Ground, Fault}
+use Rattle.end_rules.specs.Base.{Fault}
 use Rattle.end_rules.specs.Sets.{Alteration}
 use Rattle.end_rules.specs.Messages.{Message, Transferring}
-use Rattle.end_rules.specs.State.{Body, OpenCall, is_carrying, post_order, cut_all, in_phase}
+use Rattle.end_rules.specs.State.{Body, OpenCall, post_order, cut_all, in_phase}
 use Rattle.end_rules.specs.Writing.{rtse_context, session_abort, provider_abort, user_abort}
 
 abbrev pub fault_at : Layer → ℕ → ℕ → Fault

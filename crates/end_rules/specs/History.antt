@@ -1,15 +1,14 @@
 -- Histories: the steps of one end, newest first, and what they say of it. What it holds are its body and its line:
 -- the octets that wait to be given out, and what came and isn't reacted to yet.
-use Rattle.std.specs.Prelude.{◌≡◌, ℕ, List, [], ◌∷◌, ◌++◌, drop, map, Bool, true, false, if◌then◌else◌, Option, Some, None}
+use Rattle.std.specs.Prelude.{◌≡◌, ℕ, List, [], ◌∷◌, map, false, if◌then◌else◌, Some, None}
 use Rattle.osi_base.specs.declared.words.Layer.{Layer}
-use Rattle.osi_base.specs.declared.session_word.SessionWord.{SessionWord}
 use Rattle.dialogue.specs.declared.call.Call.{Call}
 use Rattle.dialogue.specs.declared.config.Mode.{Mode}
 use Rattle.dialogue.specs.declared.config.Mode.TheVariants.{Bare, Direct, Reliable}
 use Rattle.dialogue.specs.declared.config.Phase.{Phase}
 use Rattle.dialogue.specs.declared.config.Phase.TheVariants.{Idle, Opening, Broken, Over, Dead}
-use Rattle.end_rules.specs.Ground.{Ground, Fault, is_reliable}
-use Rattle.end_rules.specs.Messages.{Message, Transport, Session, Word, TransportUnit}
+use Rattle.end_rules.specs.Base.{Base, is_reliable}
+use Rattle.end_rules.specs.Messages.{Message, Transport, Session}
 use Rattle.end_rules.specs.State.{Body, Unused, NoAnswer, Suspended, Transfer, cut_all, new_body, on_transfer}
 use Rattle.end_rules.specs.Invoking.{Reply}
 use Rattle.end_rules.specs.Calling.{can_call}
@@ -50,9 +49,9 @@ History = List Step
 -- ---- the body
 
 -- a taking with what it answers
-abbrev pub after_taken : Ground → Body → Message → Body
-after_taken ground body (Transport unit) = after_transport ground body unit
-after_taken ground body (Session word) = after_word ground body word
+abbrev pub after_taken : Base → Body → Message → Body
+after_taken base body (Transport unit) = after_transport base body unit
+after_taken base body (Session word) = after_word base body word
 
 -- the phase after a break (this project's own rule)
 abbrev pub broken_phase : Mode → Phase → Phase
@@ -65,35 +64,35 @@ broken_phase Direct phase = Over
 broken_phase Bare phase = Over
 
 -- nothing went over the next connection, and nothing is awaited; a transfer in progress is suspended
-abbrev pub off_line : Ground → Body → Body
-off_line ground body =
+abbrev pub off_line : Base → Body → Body
+off_line base body =
     record (on_transfer (λ (t : Transfer). record t { progress = Suspended }) body) {
-      link = record body.link { phase = broken_phase ground.mode body.link.phase; stage = Unused; gave = false; awaits = NoAnswer };
+      link = record body.link { phase = broken_phase base.mode body.link.phase; stage = Unused; gave = false; awaits = NoAnswer };
       receiving = record body.receiving { active = false };
     }
 
 -- out of reliable mode the open invocations are cut
-abbrev pub after_broke : Ground → Body → Body
-after_broke ground body = if is_reliable ground.mode then off_line ground body else cut_all (off_line ground body)
+abbrev pub after_broke : Base → Body → Body
+after_broke base body = if is_reliable base.mode then off_line base body else cut_all (off_line base body)
 
-abbrev pub after_step : Ground → Body → Step → Body
-after_step ground body (called call reply) = after_call ground body call reply
-after_step ground body (sent message) = after_sent ground.mode body message
-after_step ground body (encoded context) = encoding ground context body
-after_step ground body (fed octets) = body
-after_step ground body (took message) = after_taken ground body message
-after_step ground body (answered to answer) = body
-after_step ground body passed = body
-after_step ground body (fault layer place reason) = over body
-after_step ground body (aborted message) = body
-after_step ground body feed_end = body
-after_step ground body (gave n) = body
-after_step ground body broke = after_broke ground body
+abbrev pub after_step : Base → Body → Step → Body
+after_step base body (called call reply) = after_call base body call reply
+after_step base body (sent message) = after_sent base.mode body message
+after_step base body (encoded context) = encoding base context body
+after_step base body (fed octets) = body
+after_step base body (took message) = after_taken base body message
+after_step base body (answered to answer) = body
+after_step base body passed = body
+after_step base body (fault layer place reason) = over body
+after_step base body (aborted message) = body
+after_step base body feed_end = body
+after_step base body (gave n) = body
+after_step base body broke = after_broke base body
 
 -- what a history says of the body of an end
-abbrev pub body_of : Ground → History → Body
-body_of ground [] = new_body ground
-body_of ground (x ∷ h) = after_step ground (body_of ground h) x
+abbrev pub body_of : Base → History → Body
+body_of base [] = new_body base
+body_of base (x ∷ h) = after_step base (body_of base h) x
 
 -- ---- the steps of a call, and those that an end makes by itself
 
@@ -101,17 +100,17 @@ abbrev pub step_of : OwnAct → Step
 step_of (SendsNow message) = sent message
 step_of (EncodesOn context) = encoded context
 
-abbrev pub after_steps : Ground → Body → List Step → Body
-after_steps ground body [] = body
-after_steps ground body (x ∷ xs) = after_steps ground (after_step ground body x) xs
+abbrev pub after_steps : Base → Body → List Step → Body
+after_steps base body [] = body
+after_steps base body (x ∷ xs) = after_steps base (after_step base body x) xs
 
 -- From the body, an end makes these steps by itself: each the next, until there is none.
-pub data ByItself (ground : Ground) : Body → List Step → Type 0 where
-  rests : {body : Body} → next_own ground body ≡ None → ByItself ground body []
-  goes : {body : Body} {steps : List Step} (act : OwnAct) → next_own ground body ≡ Some act
-      → ByItself ground (after_step ground body (step_of act)) steps → ByItself ground body (step_of act ∷ steps)
+pub data ByItself (base : Base) : Body → List Step → Type 0 where
+  rests : {body : Body} → next_own base body ≡ None → ByItself base body []
+  goes : {body : Body} {steps : List Step} (act : OwnAct) → next_own base body ≡ Some act
+      → ByItself base (after_step base body (step_of act)) steps → ByItself base body (step_of act ∷ steps)
 
 -- the answer, and the messages that the call makes due
-abbrev pub call_steps : Ground → Body → Call → List Step
-call_steps ground body call =
-    let reply = can_call ground body call in called call reply ∷ map sent (due_of ground body call reply)
+abbrev pub call_steps : Base → Body → Call → List Step
+call_steps base body call =
+    let reply = can_call base body call in called call reply ∷ map sent (due_of base body call reply)

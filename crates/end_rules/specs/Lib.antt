@@ -1,4 +1,4 @@
-pub mod Ground
+pub mod Base
 pub mod Sets
 pub mod Messages
 pub mod State
@@ -22,3 +22,4 @@ pub mod Requesting
 pub mod ByItself
 pub mod Reacting
 pub mod History
+pub mod Cases

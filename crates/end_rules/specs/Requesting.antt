@@ -1,11 +1,10 @@
 -- What a call that was accepted changes and sends, and what the sending of a request changes (X.225 7, X.226 6, X.228 7).
-use Rattle.std.specs.Prelude.{ℕ, zero, suc, ◌+◌, ℤ, List, [], ◌∷◌, ◌++◌, Bool, true, false, if◌then◌else◌, Option, Some, None, Result, Ok, Err}
+use Rattle.std.specs.Prelude.{ℕ, zero, suc, ◌+◌, ℤ, List, [], ◌∷◌, ◌++◌, Bool, true, false, if◌then◌else◌, Option, Some, None, Ok, Err}
 use Rattle.asn1_types.specs.declared.value.Val.{Val}
 use Rattle.stub_tables.specs.declared.operation.Operation.{Operation}
 use Rattle.stub_tables.specs.declared.operation.ErrorRow.{ErrorRow}
 use Rattle.stub_tables.specs.declared.apdu.Apdu.{Apdu}
 use Rattle.stub_tables.specs.Lookup.{operation_at, error_at}
-use Rattle.osi_base.specs.declared.words.Proposal.{Proposal}
 use Rattle.dialogue.specs.declared.config.Mode.{Mode}
 use Rattle.dialogue.specs.declared.config.Mode.TheVariants.{Bare, Direct, Reliable}
 use Rattle.dialogue.specs.declared.config.Phase.TheVariants.{Opening, Releasing, Recovering, Dead}
@@ -13,10 +12,10 @@ use Rattle.dialogue.specs.declared.call.Call.{Call}
 use Rattle.dialogue.specs.declared.call.Call.TheVariants as the_calls
 use Rattle.dialogue.specs.declared.call.CallRefusal.{CallRefusal}
 use Rattle.dialogue.specs.declared.call.CallRefusal.TheVariants.{NoMemory}
-use Rattle.end_rules.specs.Ground.{Ground, is_reliable}
-use Rattle.end_rules.specs.Sets.{Alteration, Saved, listed, below, newest, next_number}
-use Rattle.end_rules.specs.Messages.{Message, Transport, Session, Word, OfAssociation, OfData, OfMarks, OfActivities, AssociationWord, Finish, DataWord, Values, AlterContext, MarkWord, Mark, Restart, Give, Please, GiveConfirm, ActivityWord, Start, Resume, End, Interrupt, Discard, TransportUnit, ConnectionRequest, Value}
-use Rattle.end_rules.specs.State.{Body, Asked, RestartOf, InterruptOf, DiscardOf, ReleaseOf, OpenCall, Queued, Octets, Marked, Running, Ending, Encoded, Transfer, Sending, on_transfer, in_phase, awaiting, opened_with, close, up_to, resumed_set, pieces_of, confirmed_of, highest, is_carrying}
+use Rattle.end_rules.specs.Base.{Base}
+use Rattle.end_rules.specs.Sets.{listed, next_number}
+use Rattle.end_rules.specs.Messages.{Message, Transport, Session, Word, OfAssociation, OfData, OfMarks, OfActivities, AssociationWord, Finish, DataWord, Values, AlterContext, MarkWord, Mark, Restart, Give, GiveConfirm, ActivityWord, Start, Resume, End, Interrupt, Discard, TransportUnit, ConnectionRequest, Value}
+use Rattle.end_rules.specs.State.{Body, Asked, RestartOf, InterruptOf, DiscardOf, ReleaseOf, OpenCall, Queued, Octets, Marked, Running, Ending, Encoded, Transfer, Sending, on_transfer, in_phase, awaiting, opened_with, close, up_to, resumed_set, pieces_of, confirmed_of, is_carrying}
 use Rattle.end_rules.specs.Invoking.{Reply, invoke_apdu, result_apdu, error_apdu, carrier_in}
 use Rattle.end_rules.specs.Hearing.{opening, data_on}
 use Rattle.end_rules.specs.Writing.{finish_message, user_abort, give_message, please_message, connection_request}
@@ -43,34 +42,34 @@ sent_at_once Bare body None apdu = []
 sent_at_once Direct body (Some id) apdu = data_on body id apdu ∷ []
 sent_at_once Bare body (Some id) apdu = data_on body id apdu ∷ []
 
-abbrev pub invoking : Ground → ℕ → ℕ → ℤ → Option ℤ → Body → Body
-invoking ground context operation id linked body =
+abbrev pub invoking : Base → ℕ → ℕ → ℤ → Option ℤ → Body → Body
+invoking base context operation id linked body =
     record body {
-      calls = opening ground (record { own = true; id = id; operation = operation; context = context; parent = linked })
-              (record body.calls { made = body.calls.made + 1 });
+      calls = opening base (record { own = true; id = id; operation = operation; context = context; parent = linked })
+          (record body.calls { made = body.calls.made + 1 });
     }
 
-abbrev pub after_invoke : Ground → Body → ℕ → ℕ → ℤ → Option ℤ → Option Operation → Option Val → Body
-after_invoke ground body context place id linked None argument = body
-after_invoke ground body context place id linked (Some operation) argument =
-    handed_in ground.mode context (invoke_apdu operation id linked argument) (invoking ground context place id linked body)
+abbrev pub after_invoke : Base → Body → ℕ → ℕ → ℤ → Option ℤ → Option Operation → Option Val → Body
+after_invoke base body context place id linked None argument = body
+after_invoke base body context place id linked (Some operation) argument =
+    handed_in base.mode context (invoke_apdu operation id linked argument) (invoking base context place id linked body)
 
-abbrev pub due_invoke : Ground → Body → ℕ → ℤ → Option ℤ → Option Operation → Option Val → List Message
-due_invoke ground body context id linked None argument = []
-due_invoke ground body context id linked (Some operation) argument =
-    sent_at_once ground.mode body (Some context) (invoke_apdu operation id linked argument)
+abbrev pub due_invoke : Base → Body → ℕ → ℤ → Option ℤ → Option Operation → Option Val → List Message
+due_invoke base body context id linked None argument = []
+due_invoke base body context id linked (Some operation) argument =
+    sent_at_once base.mode body (Some context) (invoke_apdu operation id linked argument)
 
 -- an outcome closes its invocation, and goes on the carrier of its context
 abbrev pub answering : ℤ → Body → Body
 answering id body = record body { calls = close false id body.calls }
 
-abbrev pub after_outcome : Ground → Body → ℤ → Option OpenCall → Option Apdu → Body
-after_outcome ground body id (Some o) (Some apdu) = handed_in ground.mode o.context apdu (answering id body)
-after_outcome ground body id _ _ = body
+abbrev pub after_outcome : Base → Body → ℤ → Option OpenCall → Option Apdu → Body
+after_outcome base body id (Some o) (Some apdu) = handed_in base.mode o.context apdu (answering id body)
+after_outcome base body id _ _ = body
 
-abbrev pub due_outcome : Ground → Body → Option OpenCall → Option Apdu → List Message
-due_outcome ground body (Some o) (Some apdu) = sent_at_once ground.mode body (carrier_in ground body o.context) apdu
-due_outcome ground body _ _ = []
+abbrev pub due_outcome : Base → Body → Option OpenCall → Option Apdu → List Message
+due_outcome base body (Some o) (Some apdu) = sent_at_once base.mode body (carrier_in base body o.context) apdu
+due_outcome base body _ _ = []
 
 abbrev pub result_for : ℤ → Option Val → Option Operation → Option Apdu
 result_for id result None = None
@@ -80,63 +79,63 @@ abbrev pub error_for : ℤ → Option Val → Option ErrorRow → Option Apdu
 error_for id parameter None = None
 error_for id parameter (Some error) = Some (error_apdu error id parameter)
 
-abbrev pub operation_opened : Ground → Option OpenCall → Option Operation
-operation_opened ground None = None
-operation_opened ground (Some o) = operation_at ground.tables o.operation
+abbrev pub operation_opened : Base → Option OpenCall → Option Operation
+operation_opened base None = None
+operation_opened base (Some o) = operation_at base.tables o.operation
 
-abbrev pub result_in : Ground → Body → ℤ → Option Val → Option Apdu
-result_in ground body id result = result_for id result (operation_opened ground (opened_with false id body.calls.opens))
+abbrev pub result_in : Base → Body → ℤ → Option Val → Option Apdu
+result_in base body id result = result_for id result (operation_opened base (opened_with false id body.calls.opens))
 
 -- ---- an accepted call
 
 -- Open and Recover begin a connection and Abort ends the association; all other requests change the body as
 -- they are sent
-abbrev pub after_accepted : Ground → Body → Call → Option ℤ → Body
-after_accepted ground body (the_calls.Invoke context operation argument linked) (Some id) =
-    after_invoke ground body context operation id linked (operation_at ground.tables operation) argument
-after_accepted ground body (the_calls.Answer id result) answer =
-    after_outcome ground body id (opened_with false id body.calls.opens) (result_in ground body id result)
-after_accepted ground body (the_calls.Refuse id error parameter) answer =
-    after_outcome ground body id (opened_with false id body.calls.opens) (error_for id parameter (error_at ground.tables error))
-after_accepted ground body the_calls.Open answer = in_phase Opening body
-after_accepted ground body the_calls.Recover answer = in_phase Recovering body
-after_accepted ground body the_calls.Abort answer = over body
-after_accepted ground body _ answer = body
+abbrev pub after_accepted : Base → Body → Call → Option ℤ → Body
+after_accepted base body (the_calls.Invoke context operation argument linked) (Some id) =
+    after_invoke base body context operation id linked (operation_at base.tables operation) argument
+after_accepted base body (the_calls.Answer id result) answer =
+    after_outcome base body id (opened_with false id body.calls.opens) (result_in base body id result)
+after_accepted base body (the_calls.Refuse id error parameter) answer =
+    after_outcome base body id (opened_with false id body.calls.opens) (error_for id parameter (error_at base.tables error))
+after_accepted base body the_calls.Open answer = in_phase Opening body
+after_accepted base body the_calls.Recover answer = in_phase Recovering body
+after_accepted base body the_calls.Abort answer = over body
+after_accepted base body _ answer = body
 
 -- an end that wanted memory and got none is dead
 abbrev pub after_refused : Body → CallRefusal → Body
 after_refused body NoMemory = in_phase Dead body
 after_refused body _ = body
 
-abbrev pub after_call : Ground → Body → Call → Reply → Body
-after_call ground body call (Ok answer) = after_accepted ground body call answer
-after_call ground body call (Err refusal) = after_refused body refusal
+abbrev pub after_call : Base → Body → Call → Reply → Body
+after_call base body call (Ok answer) = after_accepted base body call answer
+after_call base body call (Err refusal) = after_refused body refusal
 
 -- the messages that it sends, from the body before it
-abbrev pub due_of_accepted : Ground → Body → Call → Option ℤ → List Message
-due_of_accepted ground body the_calls.Open answer = connection_request ground ∷ []
-due_of_accepted ground body (the_calls.Invoke context operation argument linked) (Some id) =
-    due_invoke ground body context id linked (operation_at ground.tables operation) argument
-due_of_accepted ground body (the_calls.Invoke context operation argument linked) None = []
-due_of_accepted ground body (the_calls.Answer id result) answer =
-    due_outcome ground body (opened_with false id body.calls.opens) (result_in ground body id result)
-due_of_accepted ground body (the_calls.Refuse id error parameter) answer =
-    due_outcome ground body (opened_with false id body.calls.opens) (error_for id parameter (error_at ground.tables error))
-due_of_accepted ground body (the_calls.Alter add delete) answer = Session (OfData (AlterContext add delete)) ∷ []
-due_of_accepted ground body the_calls.Mark answer = Session (OfMarks (Mark (next_number body.saved))) ∷ []
-due_of_accepted ground body the_calls.Give answer = give_message ground.mode ∷ []
-due_of_accepted ground body (the_calls.Please priority) answer = please_message body ground.mode priority ∷ []
-due_of_accepted ground body (the_calls.Resync n) answer = Session (OfMarks (Restart n (Some (listed (restored_set body n))))) ∷ []
-due_of_accepted ground body the_calls.Interrupt answer = Session (OfActivities (Interrupt (Some 0))) ∷ []
-due_of_accepted ground body the_calls.Resume answer = Session (OfActivities (Resume body.sending.started (confirmed_of body.sending.current))) ∷ []
-due_of_accepted ground body the_calls.Discard answer = Session (OfActivities (Discard (Some 0))) ∷ []
-due_of_accepted ground body the_calls.Recover answer = connection_request ground ∷ []
-due_of_accepted ground body the_calls.Release answer = finish_message body ∷ []
-due_of_accepted ground body the_calls.Abort answer = if is_carrying body.link.stage then user_abort body.link.accepted 0 [] ∷ [] else []
+abbrev pub due_of_accepted : Base → Body → Call → Option ℤ → List Message
+due_of_accepted base body the_calls.Open answer = connection_request base ∷ []
+due_of_accepted base body (the_calls.Invoke context operation argument linked) (Some id) =
+    due_invoke base body context id linked (operation_at base.tables operation) argument
+due_of_accepted base body (the_calls.Invoke context operation argument linked) None = []
+due_of_accepted base body (the_calls.Answer id result) answer =
+    due_outcome base body (opened_with false id body.calls.opens) (result_in base body id result)
+due_of_accepted base body (the_calls.Refuse id error parameter) answer =
+    due_outcome base body (opened_with false id body.calls.opens) (error_for id parameter (error_at base.tables error))
+due_of_accepted base body (the_calls.Alter add delete) answer = Session (OfData (AlterContext add delete)) ∷ []
+due_of_accepted base body the_calls.Mark answer = Session (OfMarks (Mark (next_number body.saved))) ∷ []
+due_of_accepted base body the_calls.Give answer = give_message base.mode ∷ []
+due_of_accepted base body (the_calls.Please priority) answer = please_message body base.mode priority ∷ []
+due_of_accepted base body (the_calls.Resync n) answer = Session (OfMarks (Restart n (Some (listed (restored_set body n))))) ∷ []
+due_of_accepted base body the_calls.Interrupt answer = Session (OfActivities (Interrupt (Some 0))) ∷ []
+due_of_accepted base body the_calls.Resume answer = Session (OfActivities (Resume body.sending.started (confirmed_of body.sending.current))) ∷ []
+due_of_accepted base body the_calls.Discard answer = Session (OfActivities (Discard (Some 0))) ∷ []
+due_of_accepted base body the_calls.Recover answer = connection_request base ∷ []
+due_of_accepted base body the_calls.Release answer = finish_message body ∷ []
+due_of_accepted base body the_calls.Abort answer = if is_carrying body.link.stage then user_abort body.link.accepted 0 [] ∷ [] else []
 
-abbrev pub due_of : Ground → Body → Call → Reply → List Message
-due_of ground body call (Ok answer) = due_of_accepted ground body call answer
-due_of ground body call (Err refusal) = []
+abbrev pub due_of : Base → Body → Call → Reply → List Message
+due_of base body call (Ok answer) = due_of_accepted base body call answer
+due_of base body call (Err refusal) = []
 
 -- ---- what the sending of a request changes
 

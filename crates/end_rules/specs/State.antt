@@ -1,7 +1,6 @@
 -- The state of one end in pieces, each the matter of one layer.
-use Rattle.std.specs.Prelude.{ℕ, zero, suc, ℤ, List, [], ◌∷◌, ◌++◌, Bool, true, false, not, ◌&&◌, ◌||◌, nat_eq, nat_lt, nat_le, if◌then◌else◌, length, map, filter, find, Option, Some, None}
+use Rattle.std.specs.Prelude.{ℕ, zero, suc, ℤ, List, [], ◌∷◌, ◌++◌, Bool, true, false, not, ◌&&◌, nat_eq, if◌then◌else◌, map, filter, find, Option, Some, None}
 use Rattle.std.specs.Ordering.{int_eq}
-use Rattle.osi_base.specs.declared.syntax.Pair.{Pair}
 use Rattle.osi_base.specs.declared.syntax.Syntax.TheVariants.{Ber}
 use Rattle.osi_base.specs.declared.words.SetItem.{SetItem}
 use Rattle.stub_tables.specs.declared.tables.Tables.{Tables}
@@ -9,8 +8,8 @@ use Rattle.stub_tables.specs.declared.apdu.Apdu.{Apdu}
 use Rattle.dialogue.specs.declared.config.Mode.{Mode}
 use Rattle.dialogue.specs.declared.config.Mode.TheVariants.{Bare, Direct, Reliable}
 use Rattle.dialogue.specs.declared.config.Phase.{Phase}
-use Rattle.dialogue.specs.declared.config.Phase.TheVariants.{Idle, Opening, Up, Releasing, Broken, Recovering, Over, Dead}
-use Rattle.end_rules.specs.Ground.{Ground, Item}
+use Rattle.dialogue.specs.declared.config.Phase.TheVariants.{Idle, Up, Broken, Over, Dead}
+use Rattle.end_rules.specs.Base.{Base, Item}
 use Rattle.end_rules.specs.Sets.{Alteration, Saved}
 
 -- ---- the association and its connection
@@ -147,18 +146,28 @@ first_set tables Bare = bare_set tables
 first_set tables Direct = []
 first_set tables Reliable = []
 
-abbrev pub new_link : Ground → Link
-new_link ground =
+abbrev pub new_link : Base → Link
+new_link base =
     record {
-      phase = first_phase ground.mode; stage = Unused; selected = 0; manages = false; turn = ground.initiator; gave = false;
-      awaits = NoAnswer; accepted = []; reference = None; common = None; checkpoint = 0; window = 1;
+      phase = first_phase base.mode;
+      stage = Unused;
+      selected = 0;
+      manages = false;
+      turn = base.initiator;
+      gave = false;
+      awaits = NoAnswer;
+      accepted = [];
+      reference = None;
+      common = None;
+      checkpoint = 0;
+      window = 1;
     }
 
-abbrev pub new_body : Ground → Body
-new_body ground =
+abbrev pub new_body : Base → Body
+new_body base =
     record {
-      link = new_link ground;
-      sets = record { held = first_set ground.tables ground.mode; inter = []; own = [] };
+      link = new_link base;
+      sets = record { held = first_set base.tables base.mode; inter = []; own = [] };
       saved = [];
       calls = record { opens = []; made = 0 };
       sending = record { started = 0; current = None; queue = [] };

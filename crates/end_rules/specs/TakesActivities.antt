@@ -1,11 +1,10 @@
 -- Activities (X.225 7.29 to 7.36, X.228 7; what is kept and restored is this project's own rule).
-use Rattle.std.specs.Prelude.{ℕ, ℤ, List, [], ◌∷◌, ◌++◌, Bool, true, false, not, nat_eq, if◌then◌else◌, Option, Some, None, is_some, Result, Ok, Err}
-use Rattle.osi_base.specs.declared.words.SetItem.{SetItem}
+use Rattle.std.specs.Prelude.{ℕ, ℤ, List, [], ◌∷◌, ◌++◌, true, false, nat_eq, if◌then◌else◌, Option, Some, None, is_some, Result, Ok, Err}
 use Rattle.stub_tables.specs.declared.apdu.Apdu.{Apdu}
 use Rattle.stub_tables.specs.declared.apdu.Apdu.TheVariants as apdus
 use Rattle.dialogue.specs.declared.indication.Indication.{Indication}
 use Rattle.dialogue.specs.declared.indication.Indication.TheVariants as indications
-use Rattle.end_rules.specs.Ground.{Ground, Fault, Item, Arrived, Whole, Raw}
+use Rattle.end_rules.specs.Base.{Base, Fault, Arrived, Whole, Raw}
 use Rattle.end_rules.specs.Messages.{Value, Remote, Unread, ActivityWord, Start, Resume, End, EndAck, Interrupt, InterruptAck, Discard, DiscardAck, OfActivities, Message, Session}
 use Rattle.end_rules.specs.State.{Body, NoAnswer, Receiving, Transfer, Suspended, Calls, joined, up_to, resumed_set, between, on_transfer, opened_with, close}
 use Rattle.end_rules.specs.Hearing.{Taken, take_values}
@@ -13,8 +12,8 @@ use Rattle.end_rules.specs.Faults.{losses}
 
 -- ---- the value that a transfer brings: at its end, where its number wasn't handed up, read under the held set
 
-abbrev pub arrived_now : Ground → Body → Result Arrived Fault
-arrived_now ground body = ground.spellings.arrived body.sets.held (joined body.receiving.pieces)
+abbrev pub arrived_now : Base → Body → Result Arrived Fault
+arrived_now base body = base.spellings.arrived body.sets.held (joined body.receiving.pieces)
 
 abbrev pub arrived_value : Arrived → Value
 arrived_value (Whole item) = record { id = item.id; pair = Some item.pair; content = Remote item.apdu }
@@ -24,15 +23,15 @@ abbrev pub values_arrived : Result Arrived Fault → List Value
 values_arrived (Ok arrived) = arrived_value arrived ∷ []
 values_arrived (Err fault) = []
 
-abbrev pub handed_up : Ground → Body → List Value
-handed_up ground body = if body.receiving.was_handed then [] else values_arrived (arrived_now ground body)
+abbrev pub handed_up : Base → Body → List Value
+handed_up base body = if body.receiving.was_handed then [] else values_arrived (arrived_now base body)
 
 abbrev pub fault_in : Result Arrived Fault → Option Fault
 fault_in (Ok arrived) = None
 fault_in (Err fault) = Some fault
 
-abbrev pub end_fault : Ground → Body → Option Fault
-end_fault ground body = if body.receiving.was_handed then None else fault_in (arrived_now ground body)
+abbrev pub end_fault : Base → Body → Option Fault
+end_fault base body = if body.receiving.was_handed then None else fault_in (arrived_now base body)
 
 -- ---- what changes
 
@@ -60,9 +59,9 @@ after_resume activity mark body =
     }
 
 -- what arrived is read before the inter-activity set comes back
-abbrev pub taken_at_end : Ground → Body → Taken
-taken_at_end ground body =
-    take_values ground (received (λ r. record r { was_handed = true; active = false }) body) (handed_up ground body)
+abbrev pub taken_at_end : Base → Body → Taken
+taken_at_end base body =
+    take_values base (received (λ r. record r { was_handed = true; active = false }) body) (handed_up base body)
 
 -- no own alteration is left, and nothing is waited for
 abbrev pub calmed : Body → Body
@@ -94,33 +93,33 @@ after_discard body =
 
 -- ---- the four answers of a taking
 
-abbrev pub activity_fault : Ground → Body → ActivityWord → Option Fault
-activity_fault ground body (End number) = end_fault ground body
-activity_fault ground body _ = None
+abbrev pub activity_fault : Base → Body → ActivityWord → Option Fault
+activity_fault base body (End number) = end_fault base body
+activity_fault base body _ = None
 
-abbrev pub after_activity : Ground → Body → ActivityWord → Body
-after_activity ground body (Start activity) = keeping (received (λ r. started_record activity) body)
-after_activity ground body (Resume activity mark) = after_resume activity mark body
-after_activity ground body (End number) = between (taken_at_end ground body).body
-after_activity ground body (EndAck number) = between (without_current body)
-after_activity ground body (Interrupt reason) = between (received (λ r. record r { active = false }) body)
-after_activity ground body InterruptAck = between (calmed (on_transfer (λ (t : Transfer). record t { progress = Suspended }) body))
-after_activity ground body (Discard reason) = between (received (λ r. record r { pieces = []; active = false }) body)
-after_activity ground body DiscardAck = after_discard body
+abbrev pub after_activity : Base → Body → ActivityWord → Body
+after_activity base body (Start activity) = keeping (received (λ r. started_record activity) body)
+after_activity base body (Resume activity mark) = after_resume activity mark body
+after_activity base body (End number) = between (taken_at_end base body).body
+after_activity base body (EndAck number) = between (without_current body)
+after_activity base body (Interrupt reason) = between (received (λ r. record r { active = false }) body)
+after_activity base body InterruptAck = between (calmed (on_transfer (λ (t : Transfer). record t { progress = Suspended }) body))
+after_activity base body (Discard reason) = between (received (λ r. record r { pieces = []; active = false }) body)
+after_activity base body DiscardAck = after_discard body
 
-abbrev pub answers_to_activity : Ground → Body → ActivityWord → List Message
-answers_to_activity ground body (End number) = Session (OfActivities (EndAck number)) ∷ []
-answers_to_activity ground body (Interrupt reason) = Session (OfActivities InterruptAck) ∷ []
-answers_to_activity ground body (Discard reason) = Session (OfActivities DiscardAck) ∷ []
-answers_to_activity ground body _ = []
+abbrev pub answers_to_activity : Base → Body → ActivityWord → List Message
+answers_to_activity base body (End number) = Session (OfActivities (EndAck number)) ∷ []
+answers_to_activity base body (Interrupt reason) = Session (OfActivities InterruptAck) ∷ []
+answers_to_activity base body (Discard reason) = Session (OfActivities DiscardAck) ∷ []
+answers_to_activity base body _ = []
 
-abbrev pub shown_of_activity : Ground → Body → ActivityWord → List Indication
-shown_of_activity ground body (Start activity) = []
-shown_of_activity ground body (Resume activity mark) = indications.Resumed activity mark ∷ []
-shown_of_activity ground body (End number) = (taken_at_end ground body).shown
-shown_of_activity ground body (EndAck number) = indications.Transferred body.sending.started ∷ []
-shown_of_activity ground body (Interrupt reason) = indications.Interrupted body.receiving.last ∷ []
-shown_of_activity ground body InterruptAck = losses body ++ indications.Interrupted body.sending.started ∷ []
-shown_of_activity ground body (Discard reason) = indications.Discarded body.receiving.last ∷ []
-shown_of_activity ground body DiscardAck =
+abbrev pub shown_of_activity : Base → Body → ActivityWord → List Indication
+shown_of_activity base body (Start activity) = []
+shown_of_activity base body (Resume activity mark) = indications.Resumed activity mark ∷ []
+shown_of_activity base body (End number) = (taken_at_end base body).shown
+shown_of_activity base body (EndAck number) = indications.Transferred body.sending.started ∷ []
+shown_of_activity base body (Interrupt reason) = indications.Interrupted body.receiving.last ∷ []
+shown_of_activity base body InterruptAck = losses body ++ indications.Interrupted body.sending.started ∷ []
+shown_of_activity base body (Discard reason) = indications.Discarded body.receiving.last ∷ []
+shown_of_activity base body DiscardAck =
     losses body ++ shown_cut (invocation_in body.sending.current) body.calls ++ indications.Discarded body.sending.started ∷ []

@@ -1,5 +1,5 @@
 -- Openings, refusals, releases and aborts (X.225 7.1 to 7.9, X.226 6.1, 6.4, X.227 7).
-use Rattle.std.specs.Prelude.{ℕ, List, [], ◌∷◌, ◌++◌, Bool, true, false, not, if◌then◌else◌, Option, Some, None}
+use Rattle.std.specs.Prelude.{List, [], ◌∷◌, ◌++◌, Bool, true, false, not, Option, Some, None}
 use Rattle.osi_base.specs.declared.words.Layer.TheVariants as layers
 use Rattle.osi_base.specs.declared.words.SetItem.{SetItem}
 use Rattle.osi_base.specs.declared.acse_word.Acse.{Acse}
@@ -7,8 +7,8 @@ use Rattle.osi_base.specs.declared.acse_word.Acse.TheVariants as acse
 use Rattle.dialogue.specs.declared.config.Phase.TheVariants.{Over}
 use Rattle.dialogue.specs.declared.indication.Indication.{Indication}
 use Rattle.dialogue.specs.declared.indication.Indication.TheVariants as indications
-use Rattle.end_rules.specs.Ground.{Ground, Fault}
-use Rattle.end_rules.specs.Messages.{Value, AssociationWord, Connect, Accept, Refuse, Finish, Disconnect, Abort, AbortAccept, Message}
+use Rattle.end_rules.specs.Base.{Base, Fault}
+use Rattle.end_rules.specs.Messages.{AssociationWord, Connect, Accept, Refuse, Finish, Disconnect, Abort, AbortAccept, Message}
 use Rattle.end_rules.specs.State.{Body, NoAnswer, in_phase, awaiting}
 use Rattle.end_rules.specs.Writing.{disconnect_message}
 use Rattle.end_rules.specs.Faults.{acse_fault, fault_if, cuts, over}
@@ -31,42 +31,42 @@ is_release_response (Some a) = is_rlre a.apdu
     is_rlre _ = false
 
 -- what is wrong above the session
-abbrev pub association_fault : Ground → Body → AssociationWord → Option Fault
-association_fault ground body (Connect session presentation values) = connect_fault ground presentation values
-association_fault ground body (Accept session presentation values) = accept_fault ground presentation values
-association_fault ground body (Refuse transport reason presentation values) = None
-association_fault ground body (Finish transport values) = fault_if (not (is_release_request (the_one values))) acse_fault
-association_fault ground body (Disconnect values) = fault_if (not (is_release_response (the_one values))) acse_fault
-association_fault ground body (Abort transport user) = None
-association_fault ground body AbortAccept = None
+abbrev pub association_fault : Base → Body → AssociationWord → Option Fault
+association_fault base body (Connect session presentation values) = connect_fault base presentation values
+association_fault base body (Accept session presentation values) = accept_fault base presentation values
+association_fault base body (Refuse transport reason presentation values) = None
+association_fault base body (Finish transport values) = fault_if (not (is_release_request (the_one values))) acse_fault
+association_fault base body (Disconnect values) = fault_if (not (is_release_response (the_one values))) acse_fault
+association_fault base body (Abort transport user) = None
+association_fault base body AbortAccept = None
 
 -- the contexts on which an abort for this word would go: those of a CN are answered as it comes
-abbrev pub contexts_for : Ground → Body → AssociationWord → List SetItem
-contexts_for ground body (Connect session presentation values) = set_for ground presentation
-contexts_for ground body _ = body.link.accepted
+abbrev pub contexts_for : Base → Body → AssociationWord → List SetItem
+contexts_for base body (Connect session presentation values) = set_for base presentation
+contexts_for base body _ = body.link.accepted
 
-abbrev pub after_association : Ground → Body → AssociationWord → Body
-after_association ground body (Connect session presentation values) = after_connect ground body session presentation values
-after_association ground body (Accept session presentation values) = after_accept ground body session presentation values
-after_association ground body (Refuse transport reason presentation values) = in_phase Over body
-after_association ground body (Finish transport values) = over body
-after_association ground body (Disconnect values) = awaiting NoAnswer (over body)
-after_association ground body (Abort transport user) = over body
-after_association ground body AbortAccept = over body
+abbrev pub after_association : Base → Body → AssociationWord → Body
+after_association base body (Connect session presentation values) = after_connect base body session presentation values
+after_association base body (Accept session presentation values) = after_accept base body session presentation values
+after_association base body (Refuse transport reason presentation values) = in_phase Over body
+after_association base body (Finish transport values) = over body
+after_association base body (Disconnect values) = awaiting NoAnswer (over body)
+after_association base body (Abort transport user) = over body
+after_association base body AbortAccept = over body
 
-abbrev pub answers_to_association : Ground → Body → AssociationWord → List Message
-answers_to_association ground body (Connect session presentation values) = answer_to_connect ground body session presentation values
-answers_to_association ground body (Finish transport values) = disconnect_message body ∷ []
-answers_to_association ground body _ = []
+abbrev pub answers_to_association : Base → Body → AssociationWord → List Message
+answers_to_association base body (Connect session presentation values) = answer_to_connect base body session presentation values
+answers_to_association base body (Finish transport values) = disconnect_message body ∷ []
+answers_to_association base body _ = []
 
 abbrev pub aborted_by_peer : Indication
 aborted_by_peer = indications.Aborted false layers.Session 0 0
 
-abbrev pub shown_of_association : Ground → Body → AssociationWord → List Indication
-shown_of_association ground body (Connect session presentation values) = shown_at_connect ground body session presentation values
-shown_of_association ground body (Accept session presentation values) = shown_at_accept body
-shown_of_association ground body (Refuse transport reason presentation values) = indications.AssociationRefused ∷ []
-shown_of_association ground body (Finish transport values) = cuts body ++ indications.Released ∷ []
-shown_of_association ground body (Disconnect values) = cuts body ++ indications.Released ∷ []
-shown_of_association ground body (Abort transport user) = cuts body ++ aborted_by_peer ∷ []
-shown_of_association ground body AbortAccept = cuts body ++ aborted_by_peer ∷ []
+abbrev pub shown_of_association : Base → Body → AssociationWord → List Indication
+shown_of_association base body (Connect session presentation values) = shown_at_connect base body session presentation values
+shown_of_association base body (Accept session presentation values) = shown_at_accept body
+shown_of_association base body (Refuse transport reason presentation values) = indications.AssociationRefused ∷ []
+shown_of_association base body (Finish transport values) = cuts body ++ indications.Released ∷ []
+shown_of_association base body (Disconnect values) = cuts body ++ indications.Released ∷ []
+shown_of_association base body (Abort transport user) = cuts body ++ aborted_by_peer ∷ []
+shown_of_association base body AbortAccept = cuts body ++ aborted_by_peer ∷ []

@@ -7,8 +7,8 @@ use Rattle.dialogue.specs.declared.config.Mode.{Mode}
 use Rattle.dialogue.specs.declared.config.Mode.TheVariants.{Bare, Direct, Reliable}
 use Rattle.dialogue.specs.declared.indication.Indication.{Indication}
 use Rattle.dialogue.specs.declared.indication.Indication.TheVariants as indications
-use Rattle.end_rules.specs.Ground.{Ground, Fault}
-use Rattle.end_rules.specs.Sets.{Saved, listed, same_lists, below, newest}
+use Rattle.end_rules.specs.Base.{Base, Fault}
+use Rattle.end_rules.specs.Sets.{listed, same_lists, below, newest}
 use Rattle.end_rules.specs.Messages.{Content, Plea, Value, MarkWord, Mark, MarkAck, Restart, RestartAck, Give, Please, GiveConfirm, GiveAck, OfMarks, Message, Session}
 use Rattle.end_rules.specs.State.{Body, NoAnswer, Marked, Transfer, on_transfer}
 use Rattle.end_rules.specs.Faults.{rtse_fault, fault_if, cuts, losses}
@@ -52,10 +52,10 @@ list_fault body n (Some list) =
     else Some (record { layer = layers.Presentation; place = 0; reason = 6; told = indications.RestoredListDiffers (restored_set body n) list ∷ [] })
 
 -- The marks from n on, own alterations and open invocations are gone, and the token is at the initiator.
-abbrev pub restarted : Ground → ℕ → Body → Body
-restarted ground n body =
+abbrev pub restarted : Base → ℕ → Body → Body
+restarted base n body =
     record body {
-      link = record body.link { turn = ground.initiator; awaits = NoAnswer };
+      link = record body.link { turn = base.initiator; awaits = NoAnswer };
       sets = record body.sets { held = restored_set body n; own = [] };
       saved = below n body.saved;
       calls = record body.calls { opens = [] };
@@ -102,34 +102,34 @@ shown_please (Some tokens) values = shown_plea (priority_in values)
 
 -- ---- the four answers of a taking
 
-abbrev pub mark_fault : Ground → Body → MarkWord → Option Fault
-mark_fault ground body (Restart number list) = list_fault body number list
-mark_fault ground body (RestartAck number list) = list_fault body number list
-mark_fault ground body (Please tokens values) = please_fault tokens values
-mark_fault ground body _ = None
+abbrev pub mark_fault : Base → Body → MarkWord → Option Fault
+mark_fault base body (Restart number list) = list_fault body number list
+mark_fault base body (RestartAck number list) = list_fault body number list
+mark_fault base body (Please tokens values) = please_fault tokens values
+mark_fault base body _ = None
 
-abbrev pub after_mark : Ground → Body → MarkWord → Body
-after_mark ground body (Mark number) = marked_in ground.mode number body
-after_mark ground body (MarkAck number) = confirmed_in ground.mode number body
-after_mark ground body (Restart number list) = restarted ground number body
-after_mark ground body (RestartAck number list) = restarted ground number body
-after_mark ground body (Give tokens) = with_turn tokens body
-after_mark ground body (Please tokens values) = body
-after_mark ground body GiveConfirm = with_turn (Some 0) body
-after_mark ground body GiveAck = record body { link = record body.link { gave = false } }
+abbrev pub after_mark : Base → Body → MarkWord → Body
+after_mark base body (Mark number) = marked_in base.mode number body
+after_mark base body (MarkAck number) = confirmed_in base.mode number body
+after_mark base body (Restart number list) = restarted base number body
+after_mark base body (RestartAck number list) = restarted base number body
+after_mark base body (Give tokens) = with_turn tokens body
+after_mark base body (Please tokens values) = body
+after_mark base body GiveConfirm = with_turn (Some 0) body
+after_mark base body GiveAck = record body { link = record body.link { gave = false } }
 
-abbrev pub answers_to_mark : Ground → Body → MarkWord → List Message
-answers_to_mark ground body (Mark number) = mark_answer ground.mode number
-answers_to_mark ground body (Restart number list) = Session (OfMarks (RestartAck number (Some (listed (restored_set body number))))) ∷ []
-answers_to_mark ground body GiveConfirm = Session (OfMarks GiveAck) ∷ []
-answers_to_mark ground body _ = []
+abbrev pub answers_to_mark : Base → Body → MarkWord → List Message
+answers_to_mark base body (Mark number) = mark_answer base.mode number
+answers_to_mark base body (Restart number list) = Session (OfMarks (RestartAck number (Some (listed (restored_set body number))))) ∷ []
+answers_to_mark base body GiveConfirm = Session (OfMarks GiveAck) ∷ []
+answers_to_mark base body _ = []
 
-abbrev pub shown_of_mark : Ground → Body → MarkWord → List Indication
-shown_of_mark ground body (Mark number) = mark_shown ground.mode number
-shown_of_mark ground body (MarkAck number) = []
-shown_of_mark ground body (Restart number list) = shown_restarted body number
-shown_of_mark ground body (RestartAck number list) = shown_restarted body number
-shown_of_mark ground body (Give tokens) = shown_turn tokens
-shown_of_mark ground body (Please tokens values) = shown_please tokens values
-shown_of_mark ground body GiveConfirm = indications.Turn ∷ []
-shown_of_mark ground body GiveAck = []
+abbrev pub shown_of_mark : Base → Body → MarkWord → List Indication
+shown_of_mark base body (Mark number) = mark_shown base.mode number
+shown_of_mark base body (MarkAck number) = []
+shown_of_mark base body (Restart number list) = shown_restarted body number
+shown_of_mark base body (RestartAck number list) = shown_restarted body number
+shown_of_mark base body (Give tokens) = shown_turn tokens
+shown_of_mark base body (Please tokens values) = shown_please tokens values
+shown_of_mark base body GiveConfirm = indications.Turn ∷ []
+shown_of_mark base body GiveAck = []

@@ -1,10 +1,10 @@
 -- Functional units of the session and what they allow (X.225 5.9, 8.3.1.16; X.226 6.3, 6.7).
-use Rattle.std.specs.Prelude.{ℕ, Bool, true, false, not, ◌&&◌, ◌||◌, nat_eq, bit_and, if◌then◌else◌, Option, Some, None, unwrap_or}
+use Rattle.std.specs.Prelude.{ℕ, Bool, false, ◌&&◌, ◌||◌, nat_eq, bit_and, Option, Some, None, unwrap_or}
 use Rattle.osi_base.specs.declared.bit_string.BitString.{BitString}
 use Rattle.osi_base.specs.BitString.{has_bit}
 use Rattle.dialogue.specs.declared.config.Mode.{Mode}
 use Rattle.dialogue.specs.declared.config.Mode.TheVariants.{Bare, Direct, Reliable}
-use Rattle.end_rules.specs.Ground.{Ground, is_direct, is_reliable}
+use Rattle.end_rules.specs.Base.{Base, is_direct, is_reliable}
 use Rattle.end_rules.specs.State.{Body}
 
 -- all these bits are set
@@ -57,5 +57,5 @@ manages_with requirements selected =
     has_both requirements && has_typed_data selected && (has_marks selected && has_restarts selected || has_activities selected)
 
 -- there is a token that can be given and asked for
-abbrev pub has_token : Ground → Body → Bool
-has_token ground body = is_reliable ground.mode || is_direct ground.mode && has_marks body.link.selected
+abbrev pub has_token : Base → Body → Bool
+has_token base body = is_reliable base.mode || is_direct base.mode && has_marks body.link.selected

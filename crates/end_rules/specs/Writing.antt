@@ -1,5 +1,5 @@
 -- The messages that an end writes, with all their fields (X.224 13, X.225 8.3, X.226 8.2, X.227 9, X.228 9).
-use Rattle.std.specs.Prelude.{ℕ, pos, List, [], ◌∷◌, ◌++◌, map, Bool, true, false, if◌then◌else◌, Option, Some, None, unwrap_or, option_map}
+use Rattle.std.specs.Prelude.{ℕ, pos, List, [], ◌∷◌, ◌++◌, Bool, true, false, Option, Some, None, unwrap_or, option_map}
 use Rattle.osi_base.specs.declared.bit_string.BitString.{BitString}
 use Rattle.osi_base.specs.declared.syntax.Pair.{Pair}
 use Rattle.osi_base.specs.declared.syntax.Syntax.TheVariants.{Ber}
@@ -8,7 +8,6 @@ use Rattle.osi_base.specs.declared.words.Proposal.{Proposal}
 use Rattle.osi_base.specs.declared.words.AddAnswer.{AddAnswer}
 use Rattle.osi_base.specs.declared.session_word.SessionConnect.{SessionConnect}
 use Rattle.osi_base.specs.declared.presentation_word.PresentationConnect.{PresentationConnect}
-use Rattle.osi_base.specs.declared.presentation_word.PresentationAccept.{PresentationAccept}
 use Rattle.osi_base.specs.declared.presentation_word.PresentationReject.{PresentationReject}
 use Rattle.osi_base.specs.declared.acse_word.Acse.{Acse}
 use Rattle.osi_base.specs.declared.acse_word.Acse.TheVariants as acse
@@ -21,10 +20,10 @@ use Rattle.dialogue.specs.declared.config.Mode.{Mode}
 use Rattle.dialogue.specs.declared.config.Mode.TheVariants.{Bare, Direct, Reliable}
 use Rattle.dialogue.specs.declared.config.Phase.{Phase}
 use Rattle.dialogue.specs.declared.config.Phase.TheVariants.{Recovering}
-use Rattle.end_rules.specs.Ground.{Ground, is_reliable, acse_name, rtse_name, ber_name, application_context}
+use Rattle.end_rules.specs.Base.{Base, acse_name, rtse_name, ber_name, application_context}
 use Rattle.end_rules.specs.Sets.{lowest_with, pair_of}
-use Rattle.end_rules.specs.Messages.{Information, Transferring, Content, Association, Plea, Part, Value, TransportUnit, ConnectionRequest, ConnectionConfirm, DisconnectRequest, Accepting, AbortData, NoData, ProviderReason, UserValues, Connect, Accept, Refuse, Finish, Disconnect, Abort, Values, Give, GiveConfirm, Please, OfAssociation, OfData, OfMarks, Message, Transport, Session}
-use Rattle.end_rules.specs.State.{Body, Link}
+use Rattle.end_rules.specs.Messages.{Information, Transferring, Content, Association, Plea, Part, Value, ConnectionRequest, NoData, ProviderReason, UserValues, Connect, Accept, Refuse, Finish, Disconnect, Abort, Values, Give, GiveConfirm, Please, OfAssociation, OfData, OfMarks, Message, Transport, Session}
+use Rattle.end_rules.specs.State.{Body}
 use Rattle.end_rules.specs.Units.{proposed_units}
 
 -- ---- values of the association
@@ -63,8 +62,8 @@ own_proposals Reliable = proposal_in_ber 1 acse_name ∷ proposal_in_ber 3 rtse_
 own_proposals Direct = proposal_in_ber 1 acse_name ∷ []
 own_proposals Bare = proposal_in_ber 1 acse_name ∷ []
 
-abbrev pub proposals : Ground → List Proposal
-proposals ground = own_proposals ground.mode ++ ground.config.contexts
+abbrev pub proposals : Base → List Proposal
+proposals base = own_proposals base.mode ++ base.config.contexts
 
 -- the references of the association stand in the CN of reliable mode
 abbrev pub in_reliable : Mode → List ℕ → Option (List ℕ)
@@ -83,44 +82,55 @@ abbrev pub requirement_bits : Bool → BitString
 requirement_bits true = record { octets = 192 ∷ []; unused = 6 }
 requirement_bits false = record { octets = 0 ∷ []; unused = 6 }
 
-abbrev pub session_connect : Ground → SessionConnect
-session_connect ground =
+abbrev pub session_connect : Base → SessionConnect
+session_connect base =
     record {
-      calling_reference = in_reliable ground.mode ground.config.reference;
-      common_reference = in_reliable ground.mode ground.config.common;
-      options = Some 0; version = Some 2; initial = initial_number ground.mode; token_setting = None;
-      requirements = Some (proposed_units ground.mode);
-      calling = Some ground.config.calling; called = Some ground.config.called; user = [];
+      calling_reference = in_reliable base.mode base.config.reference;
+      common_reference = in_reliable base.mode base.config.common;
+      options = Some 0;
+      version = Some 2;
+      initial = initial_number base.mode;
+      token_setting = None;
+      requirements = Some (proposed_units base.mode);
+      calling = Some base.config.calling;
+      called = Some base.config.called;
+      user = [];
     }
 
-abbrev pub presentation_connect : Ground → PresentationConnect
-presentation_connect ground =
+abbrev pub presentation_connect : Base → PresentationConnect
+presentation_connect base =
     record {
-      version = None; calling = Some ground.config.calling; called = Some ground.config.called; definitions = proposals ground;
-      default_context = None; requirements = Some (requirement_bits true); session_requirements = None; user = [];
+      version = None;
+      calling = Some base.config.calling;
+      called = Some base.config.called;
+      definitions = proposals base;
+      default_context = None;
+      requirements = Some (requirement_bits true);
+      session_requirements = None;
+      user = [];
     }
 
 -- what the opening of an association carries for its user: NULL; or which association it recovers
-abbrev pub connection_data : Ground → Bool → ConnectionData
-connection_data ground true = data_of.Recover ground.config.reference ground.config.common
-connection_data ground false = data_of.Open (5 ∷ 0 ∷ [])
+abbrev pub connection_data : Base → Bool → ConnectionData
+connection_data base true = data_of.Recover base.config.reference base.config.common
+connection_data base false = data_of.Open (5 ∷ 0 ∷ [])
 
-abbrev pub connect_values : Ground → Bool → List Value
-connect_values ground recovers =
-    acse_value [] (acse.AssociateRequest None (application_context ground.mode) [])
-    (information ground.mode [] (rtse.OpenRequest ground.config.checkpoint ground.config.window (pos 1) (connection_data ground recovers))) ∷ []
+abbrev pub connect_values : Base → Bool → List Value
+connect_values base recovers =
+    acse_value [] (acse.AssociateRequest None (application_context base.mode) [])
+    (information base.mode [] (rtse.OpenRequest base.config.checkpoint base.config.window (pos 1) (connection_data base recovers))) ∷ []
 
 -- CN, for an opening or a recovery
-abbrev pub connect_message : Ground → Bool → Message
-connect_message ground recovers = Session (OfAssociation (Connect (session_connect ground) (presentation_connect ground) (connect_values ground recovers)))
+abbrev pub connect_message : Base → Bool → Message
+connect_message base recovers = Session (OfAssociation (Connect (session_connect base) (presentation_connect base) (connect_values base recovers)))
 
 -- AC with these results
-abbrev pub accept_message : Ground → List SetItem → List AddAnswer → ℕ → Bool → List ℕ → List Information → Message
-accept_message ground accepted results selected manages context user =
+abbrev pub accept_message : Base → List SetItem → List AddAnswer → ℕ → Bool → List ℕ → List Information → Message
+accept_message base accepted results selected manages context user =
     Session (OfAssociation (Accept
-      (record { options = Some 0; version = Some 2; initial = initial_number ground.mode; requirements = Some selected })
-      (record { version = None; responding = Some ground.config.called; results = results; requirements = Some (requirement_bits manages); session_requirements = None; user = [] })
-      (acse_value accepted (acse.AssociateResponse context 0 (User (pos 0)) []) user ∷ [])))
+    (record { options = Some 0; version = Some 2; initial = initial_number base.mode; requirements = Some selected })
+    (record { version = None; responding = Some base.config.called; results = results; requirements = Some (requirement_bits manages); session_requirements = None; user = [] })
+    (acse_value accepted (acse.AssociateResponse context 0 (User (pos 0)) []) user ∷ [])))
 
 abbrev pub reject_with : List AddAnswer → Option ℕ → PresentationReject
 reject_with results reason =
@@ -130,7 +140,7 @@ reject_with results reason =
 abbrev pub refuse_message : List SetItem → List AddAnswer → List ℕ → List Information → Message
 refuse_message accepted results context user =
     Session (OfAssociation (Refuse (Some 1) (Some 2) (Some (reject_with results None))
-      (acse_value accepted (acse.AssociateResponse context 1 (User (pos 1)) []) user ∷ [])))
+    (acse_value accepted (acse.AssociateResponse context 1 (User (pos 1)) []) user ∷ [])))
 
 -- RF of the provider: reason not specified
 abbrev pub provider_refusal : Message
@@ -182,8 +192,8 @@ part_message body octets = Session (OfData (Values (rtse_value body (Part octets
 -- ---- the transport connection
 
 -- CR proposes 1,024 octets
-abbrev pub connection_request : Ground → Message
-connection_request ground = Transport (ConnectionRequest 1 (Some 10) ground.config.calling ground.config.called)
+abbrev pub connection_request : Base → Message
+connection_request base = Transport (ConnectionRequest 1 (Some 10) base.config.calling base.config.called)
 
 abbrev pub is_recovering : Phase → Bool
 is_recovering Recovering = true

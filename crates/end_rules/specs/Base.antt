@@ -61,16 +61,16 @@ pub record Spellings : Type 0 where
   -- what the octets of a transfer are under a set, or their fault
   pub arrived : List SetItem → List ℕ → Result Arrived Fault
 
-pub record Ground : Type 0 where
+pub record Base : Type 0 where
   pub tables : Tables
   pub config : Config
   pub initiator : Bool
   pub mode : Mode
   pub spellings : Spellings
 
--- the ground of an end that is made with these tables and this configuration
-abbrev pub ground_of : Tables → Config → Spellings → Ground
-ground_of tables config spellings =
+-- the base of an end that is made with these tables and this configuration
+abbrev pub base_of : Tables → Config → Spellings → Base
+base_of tables config spellings =
     record { tables = tables; config = config; initiator = config.initiator; mode = config.mode; spellings = spellings }
 
 abbrev pub is_bare : Mode → Bool
