@@ -1,6 +1,6 @@
 -- What an end of reliable mode sends by itself: while it leads, all that its transfer in progress gives, and the
 -- start of the next item (X.228 7.2, 7.3).
-use Rattle.std.specs.Prelude.{ℕ, zero, suc, ◌+◌, ◌-◌, ◌*◌, List, [], ◌∷◌, length, take, drop, Bool, true, false, not, ◌&&◌, nat_lt, nat_le, if◌then◌else◌, Option, Some, None, is_some}
+use Rattle.std.specs.Prelude.{ℕ, zero, suc, ◌-◌, ◌*◌, List, [], ◌∷◌, length, take, drop, Bool, true, false, not, ◌&&◌, nat_lt, nat_le, if◌then◌else◌, Option, Some, None, is_some}
 use Rattle.osi_base.specs.declared.syntax.Pair.{Pair}
 use Rattle.end_rules.specs.Base.{Base, Item, is_reliable, last_activity}
 use Rattle.end_rules.specs.Sets.{pair_of}
@@ -38,9 +38,9 @@ is_window_full transfer encoded = nat_le encoded.window (highest transfer.pieces
 
 abbrev pub next_of : Body → Transfer → Encoded → List ℕ → Option OwnAct
 next_of body transfer encoded left =
-    if ends_in_octets transfer.pieces && not (is_empty left) then Some (SendsNow (Session (OfMarks (Mark (highest transfer.pieces + 1)))))
+    if ends_in_octets transfer.pieces && not (is_empty left) then Some (SendsNow (Session (OfMarks (Mark (suc (highest transfer.pieces))))))
     else (if is_window_full transfer encoded then None
-    else (if is_empty left then Some (SendsNow (Session (OfActivities (End (highest transfer.pieces + 1)))))
+    else (if is_empty left then Some (SendsNow (Session (OfActivities (End (suc (highest transfer.pieces))))))
     else Some (SendsNow (part_message body (take (part_size encoded.checkpoint (length left)) left)))))
 
 -- what is left of the octets
@@ -62,7 +62,7 @@ abbrev pub next_start : Base → Body → List Queued → Option OwnAct
 next_start base body [] = None
 next_start base body (item ∷ items) =
     if is_some (carrier_in base body item.context) && nat_lt body.sending.started last_activity
-    then Some (SendsNow (Session (OfActivities (Start (body.sending.started + 1)))))
+    then Some (SendsNow (Session (OfActivities (Start (suc body.sending.started)))))
     else None
 
 abbrev pub next_in : Base → Body → Option Transfer → Option OwnAct

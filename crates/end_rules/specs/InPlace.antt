@@ -1,6 +1,6 @@
 -- Which units of the session may stand where they come: the phase, the functional units, the tokens, the
 -- activities and the numbers (X.225 7; numbers and activities as in this project's profile).
-use Rattle.std.specs.Prelude.{ℕ, ◌+◌, Bool, true, false, not, ◌&&◌, ◌||◌, nat_eq, nat_le, if◌then◌else◌, Option, Some, None}
+use Rattle.std.specs.Prelude.{ℕ, suc, Bool, true, false, not, ◌&&◌, ◌||◌, nat_eq, nat_le, if◌then◌else◌, Option, Some, None}
 use Rattle.osi_base.specs.declared.session_word.SessionWord.{SessionWord}
 use Rattle.osi_base.specs.declared.session_word.SessionWord.TheVariants as units
 use Rattle.dialogue.specs.declared.config.Phase.{Phase}
@@ -59,7 +59,7 @@ may_send_typed body = is_up body.link.phase && has_typed_data body.link.selected
 
 -- the number of the next mark that comes: in reliable mode of the peer's activity
 abbrev pub next_coming : Base → Body → ℕ
-next_coming base body = if is_reliable base.mode then highest body.receiving.pieces + 1 else next_number body.saved
+next_coming base body = if is_reliable base.mode then suc (highest body.receiving.pieces) else next_number body.saved
 
 abbrev pub may_mark : Base → Body → ℕ → Bool
 may_mark base body number =
@@ -70,7 +70,7 @@ may_mark base body number =
 abbrev pub is_next_confirmed : Option Transfer → ℕ → Bool
 is_next_confirmed None number = false
 is_next_confirmed (Some transfer) number =
-    not (is_suspended transfer.progress) && nat_eq number (transfer.confirmed + 1) && nat_le number (highest transfer.pieces)
+    not (is_suspended transfer.progress) && nat_eq number (suc transfer.confirmed) && nat_le number (highest transfer.pieces)
 
 -- in direct mode any, which is passed over
 abbrev pub may_confirm_mark : Base → Body → ℕ → Bool
@@ -104,13 +104,13 @@ abbrev pub may_begin : Body → Bool
 may_begin body = is_peers body && has_activities body.link.selected && not body.receiving.active
 
 abbrev pub may_start : Body → ℕ → Bool
-may_start body activity = may_begin body && nat_eq activity (body.receiving.last + 1)
+may_start body activity = may_begin body && nat_eq activity (suc body.receiving.last)
 
 -- a resumption names the last activity and one of its marks, or 0; or the next activity and 0
 abbrev pub may_resume_at : Receiving → ℕ → ℕ → Bool
 may_resume_at receiving activity mark =
     nat_eq activity receiving.last && nat_le mark (highest receiving.pieces) ||
-    nat_eq activity (receiving.last + 1) && nat_eq mark 0
+    nat_eq activity (suc receiving.last) && nat_eq mark 0
 
 abbrev pub may_resume : Body → ℕ → ℕ → Bool
 may_resume body activity mark = may_begin body && may_resume_at body.receiving activity mark
@@ -120,11 +120,11 @@ abbrev pub is_receiving : Body → Bool
 is_receiving body = is_up body.link.phase && body.receiving.active
 
 abbrev pub may_end : Body → ℕ → Bool
-may_end body number = is_receiving body && nat_eq number (highest body.receiving.pieces + 1)
+may_end body number = is_receiving body && nat_eq number (suc (highest body.receiving.pieces))
 
 abbrev pub may_confirm_end : Body → ℕ → Bool
 may_confirm_end body number =
-    is_up body.link.phase && is_current is_ending body.sending.current && nat_eq number (highest (pieces_of body.sending.current) + 1)
+    is_up body.link.phase && is_current is_ending body.sending.current && nat_eq number (suc (highest (pieces_of body.sending.current)))
 
 abbrev pub awaits_interrupt : Awaited → Bool
 awaits_interrupt InterruptOf = true

@@ -1,6 +1,6 @@
 -- What may be called of remote operations: Invoke, Answer, Refuse. The first row that fails decides (X.880 8;
 -- the rows and their order are this project's own).
-use Rattle.std.specs.Prelude.{ℕ, ◌+◌, min, ℤ, pos, length, Bool, true, false, not, ◌&&◌, ◌||◌, nat_lt, nat_le, Option, Some, None, Result, Ok, Err, if◌then◌else◌}
+use Rattle.std.specs.Prelude.{ℕ, suc, min, ℤ, pos, length, Bool, true, false, not, ◌&&◌, ◌||◌, nat_lt, nat_le, Option, Some, None, Result, Ok, Err, if◌then◌else◌}
 use Rattle.asn1_types.specs.declared.value.Val.{Val}
 use Rattle.osi_base.specs.declared.syntax.Syntax.{Syntax}
 use Rattle.osi_base.specs.declared.syntax.Syntax.TheVariants.{Ber, Der, Packed}
@@ -56,7 +56,7 @@ is_queue_full base body = is_reliable base.mode && nat_le most_queued (length bo
 
 -- the k-th invocation of an end has the identifier k (the last one stands for those past it)
 abbrev pub next_id : Body → ℤ
-next_id body = pos (min (body.calls.made + 1) last_invocation)
+next_id body = pos (min (suc body.calls.made) last_invocation)
 
 -- the identifier is in the set, with the module's abstract syntax
 abbrev pub is_on_module : Base → Body → ℕ → Bool

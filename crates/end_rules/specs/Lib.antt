@@ -22,4 +22,5 @@ pub mod Requesting
 pub mod ByItself
 pub mod Reacting
 pub mod History
+pub mod World
 pub mod Cases

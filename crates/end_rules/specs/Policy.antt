@@ -1,5 +1,5 @@
 -- How an end answers proposed contexts (X.226 6.2.3, 6.3.3; the policy is this project's own).
-use Rattle.std.specs.Prelude.{ℕ, ◌+◌, List, [], ◌∷◌, map, length, Bool, true, false, not, ◌&&◌, ◌||◌, nat_eq, nat_lt, if◌then◌else◌, Option, Some, None, is_some, find}
+use Rattle.std.specs.Prelude.{ℕ, suc, ◌+◌, List, [], ◌∷◌, map, length, Bool, true, false, not, ◌&&◌, ◌||◌, nat_eq, nat_lt, if◌then◌else◌, Option, Some, None, is_some, find}
 use Rattle.std.specs.List.{list_any}
 use Rattle.osi_base.specs.declared.words.Proposal.{Proposal}
 use Rattle.osi_base.specs.declared.words.AddAnswer.{AddAnswer}
@@ -44,7 +44,7 @@ answer_to_addition base connecting count p =
     else answer_within count (find (takes_syntax base connecting p.abstract_name) p.transfers)
 
 abbrev pub counted_with : ℕ → AddAnswer → ℕ
-counted_with count answer = if nat_eq answer.result 0 then count + 1 else count
+counted_with count answer = if nat_eq answer.result 0 then suc count else count
 
 abbrev pub answers_to_additions : Base → Bool → ℕ → List Proposal → List AddAnswer
 answers_to_additions base connecting count [] = []

@@ -1,5 +1,5 @@
 -- What a call that was accepted changes and sends, and what the sending of a request changes (X.225 7, X.226 6, X.228 7).
-use Rattle.std.specs.Prelude.{ℕ, zero, suc, ◌+◌, ℤ, List, [], ◌∷◌, ◌++◌, Bool, true, false, if◌then◌else◌, Option, Some, None, Ok, Err}
+use Rattle.std.specs.Prelude.{ℕ, zero, suc, ℤ, List, [], ◌∷◌, ◌++◌, Bool, true, false, if◌then◌else◌, Option, Some, None, Ok, Err}
 use Rattle.asn1_types.specs.declared.value.Val.{Val}
 use Rattle.stub_tables.specs.declared.operation.Operation.{Operation}
 use Rattle.stub_tables.specs.declared.operation.ErrorRow.{ErrorRow}
@@ -46,7 +46,7 @@ abbrev pub invoking : Base → ℕ → ℕ → ℤ → Option ℤ → Body → B
 invoking base context operation id linked body =
     record body {
       calls = opening base (record { own = true; id = id; operation = operation; context = context; parent = linked })
-          (record body.calls { made = body.calls.made + 1 });
+          (record body.calls { made = suc body.calls.made });
     }
 
 abbrev pub after_invoke : Base → Body → ℕ → ℕ → ℤ → Option ℤ → Option Operation → Option Val → Body
@@ -141,7 +141,7 @@ due_of base body call (Err refusal) = []
 
 -- the next item becomes the current transfer
 abbrev pub begun : Sending → Sending
-begun sending = record { started = sending.started + 1; current = first sending.queue; queue = rest sending.queue }
+begun sending = record { started = suc sending.started; current = first sending.queue; queue = rest sending.queue }
   where
     first : List Queued → Option Transfer
     first [] = None

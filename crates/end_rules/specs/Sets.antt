@@ -1,5 +1,5 @@
 -- Sets of presentation contexts, and what alters them (X.216 7.2, X.226 6.2, 6.3).
-use Rattle.std.specs.Prelude.{ℕ, ◌+◌, ◌%◌, List, [], ◌∷◌, ◌++◌, length, map, Bool, true, false, not, ◌&&◌, ◌||◌, nat_eq, nat_lt, if◌then◌else◌, Option, Some, None, is_some}
+use Rattle.std.specs.Prelude.{ℕ, suc, ◌+◌, ◌%◌, List, [], ◌∷◌, ◌++◌, length, map, Bool, true, false, not, ◌&&◌, ◌||◌, nat_eq, nat_lt, if◌then◌else◌, Option, Some, None, is_some}
 use Rattle.std.specs.Cmp.Lexicographic.{pointwise}
 use Rattle.std.specs.List.{list_any}
 use Rattle.osi_base.specs.Syntax.{name_of}
@@ -182,7 +182,7 @@ newest (mark ∷ marks) = mark.set
 -- the number of the next mark
 abbrev pub next_number : List Saved → ℕ
 next_number [] = 0
-next_number (mark ∷ marks) = mark.number + 1
+next_number (mark ∷ marks) = suc mark.number
 
 -- ---- whose an identifier is
 
