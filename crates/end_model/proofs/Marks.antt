@@ -1,13 +1,11 @@
 -- The sending of a mark in direct mode.
-use Rattle.std.proofs.Common.{◌≡◌, List, [], ◌∷◌, refl, sym, ap}
+use Rattle.std.proofs.Common.{◌≡◌, List, [], ◌∷◌, refl, ap}
 use Rattle.dialogue.specs.declared.config.Mode.TheVariants.{Direct}
-use Rattle.end_rules.specs.Base.{Base}
 use Rattle.end_rules.specs.Sets.{Saved, next_number}
-use Rattle.end_rules.specs.State.{Body}
 use Rattle.end_rules.specs.Messages.{Session, OfMarks, Mark}
 use Rattle.agreement.specs.Sets.{next_number as model_next}
 use Rattle.agreement.specs.Messages.Act.{Marks}
-use Rattle.end_model.specs.Seen.{Free, saved_seen, set_seen, seen}
+use Rattle.end_model.specs.Seen.{saved_seen, set_seen, seen}
 use Rattle.end_model.specs.Rows.{at, SendsAs}
 
 pub next-seen : (saved : List Saved) → next_number saved ≡ model_next (saved_seen saved)

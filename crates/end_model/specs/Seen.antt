@@ -163,8 +163,11 @@ encoded_seen base (Some encoded) = Some (item_seen base encoded.item)
 abbrev pub current_seen : Base → Transfer → model_state.Transfer
 current_seen base t =
     record {
-      item = queued_seen base t.item; value = encoded_seen base t.encoded; pieces = map piece_seen t.pieces;
-      confirmed = t.confirmed; progress = progress_seen t.progress;
+      item = queued_seen base t.item;
+      value = encoded_seen base t.encoded;
+      pieces = map piece_seen t.pieces;
+      confirmed = t.confirmed;
+      progress = progress_seen t.progress;
     }
 
 abbrev pub transfer_seen : Base → Option Transfer → Option model_state.Transfer

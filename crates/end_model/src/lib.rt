@@ -4,4 +4,4 @@
 
 mod rows;
 
-pub use rows::{association_taken, marks_sent, marks_taken, activities_sent, activities_taken};
+pub use rows::{activities_sent, activities_taken, association_taken, marks_sent, marks_taken};
