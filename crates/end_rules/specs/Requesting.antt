@@ -166,9 +166,12 @@ mark_sent Reliable number body = on_transfer (λ (t : Transfer). record t { piec
 mark_sent Direct number body = record body { saved = record { number = number; set = body.sets.held } ∷ body.saved }
 mark_sent Bare number body = body
 
--- the turn is in flight until it is taken
-abbrev pub given : Bool → Body → Body
-given gave body = record body { link = record body.link { turn = false; gave = gave } }
+-- the turn is in flight until it is taken; a giving of all tokens is confirmed
+abbrev pub given : Body → Body
+given body = record body { link = record body.link { turn = false } }
+
+abbrev pub given_all : Body → Body
+given_all body = record body { link = record body.link { turn = false; gave = true } }
 
 abbrev pub after_sent_association : Body → AssociationWord → Body
 after_sent_association body (Finish transport values) = awaiting ReleaseOf (in_phase Releasing body)
@@ -187,8 +190,8 @@ after_sent_data mode body _ = body
 abbrev pub after_sent_mark : Mode → Body → MarkWord → Body
 after_sent_mark mode body (Mark number) = mark_sent mode number body
 after_sent_mark mode body (Restart number list) = awaiting (RestartOf number) body
-after_sent_mark mode body (Give tokens) = given false body
-after_sent_mark mode body GiveConfirm = given true body
+after_sent_mark mode body (Give tokens) = given body
+after_sent_mark mode body GiveConfirm = given_all body
 after_sent_mark mode body _ = body
 
 abbrev pub after_sent_activity : Body → ActivityWord → Body

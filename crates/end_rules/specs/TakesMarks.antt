@@ -115,7 +115,7 @@ after_mark base body (Restart number list) = restarted base number body
 after_mark base body (RestartAck number list) = restarted base number body
 after_mark base body (Give tokens) = with_turn tokens body
 after_mark base body (Please tokens values) = body
-after_mark base body GiveConfirm = with_turn (Some 0) body
+after_mark base body GiveConfirm = record body { link = record body.link { turn = true; gave = false } }
 after_mark base body GiveAck = record body { link = record body.link { gave = false } }
 
 abbrev pub answers_to_mark : Base → Body → MarkWord → List Message
