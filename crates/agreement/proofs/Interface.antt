@@ -12,12 +12,12 @@ use Rattle.agreement.specs.Takings.{is_purged, IsChoice, MayTake, taken, value_o
 use Rattle.agreement.specs.Worlds.{Step, World, state_of, flight_to, ComesNext, IsRun}
 use Rattle.agreement.specs.Worlds.Step.{Acts, Takes, Passes}
 use Rattle.agreement.specs.Worlds.Moment.{By, Break}
-use Rattle.agreement.specs.Laws.{TakenAsSent, NoAbortOfItself, ContextsStay, ContextsAreKnown, HoldsTurn, OneHolder, InitiatorLeads, OneOutcome, OneOperation, TheOthersOwn, handed_by, all_handed, IsAmong, IsHandedIn, AnsweredOnce, AcceptedNamesOpen, ArriveWhole, ItemsOfActivities, ArriveOnce, InvokedOnce, AlterationsAreFew}
+use Rattle.agreement.specs.Laws.{TakenAsSent, NoAbortOfItself, ContextsStay, ContextsAreKnown, HoldsTurn, OneHolder, InitiatorLeads, OneOutcome, OneOperation, OneInvocation, TheOthersOwn, handed_by, all_handed, IsAmong, IsHandedIn, AnsweredOnce, AcceptedNamesOpen, ArriveWhole, ItemsOfActivities, ArriveOnce, InvokedOnce, AlterationsAreFew}
 use Rattle.agreement.proofs.Carried.{SendsOnly, carried, comes-as}
 use Rattle.agreement.proofs.StaysWorlds.{all-stay}
 use Rattle.agreement.proofs.Known.{contexts-known}
 use Rattle.agreement.proofs.Outcomes.{one-outcome, accepted-names_open}
-use Rattle.agreement.proofs.Operations.{one-operation}
+use Rattle.agreement.proofs.Operations.{one-operation, one-invocation}
 use Rattle.agreement.proofs.Items.{opens-unmade, all-items}
 use Rattle.agreement.proofs.Answered.{answered-once}
 use Rattle.agreement.proofs.Few.{alterations-few}
@@ -68,6 +68,7 @@ pub record Laws (setup : Setup) : Type 0 where
   pub initiator_leads : InitiatorLeads setup
   pub one_outcome : OneOutcome setup
   pub one_operation : OneOperation setup
+  pub one_invocation : OneInvocation setup
   pub others_own : TheOthersOwn setup
   pub answered_once : AnsweredOnce setup
   pub names_open : AcceptedNamesOpen setup
@@ -88,6 +89,7 @@ laws setup =
       initiator_leads = initiator-leads setup;
       one_outcome = one-outcome setup;
       one_operation = one-operation setup (others-own setup) (opens-unmade all-no_abort setup);
+      one_invocation = one-invocation setup (others-own setup) (opens-unmade all-no_abort setup);
       others_own = others-own setup;
       answered_once = answered-once setup (invoked-once setup);
       names_open = accepted-names_open setup;

@@ -16,7 +16,7 @@ use Rattle.agreement.specs.Takings.{taken, hears, handed_up, cut_item, marked_fr
 use Rattle.agreement.specs.Worlds.{Step, World, state_of, IsRun, after}
 use Rattle.agreement.specs.Worlds.Step.{Acts, Takes, Passes}
 use Rattle.agreement.specs.Worlds.Moment.{By, Break}
-use Rattle.agreement.specs.Laws.{TheOthersOwn, handed_by, all_handed, IsAmong, IsHandedIn, operation_of, Answer, answer_with, answers_by, answers, IsAnAnswer, OneOperation}
+use Rattle.agreement.specs.Laws.{TheOthersOwn, handed_by, all_handed, IsAmong, IsHandedIn, operation_of, Answer, answer_with, answers_by, answers, IsAnAnswer, OneOperation, OneInvocation}
 use Rattle.agreement.proofs.Order.{by_test}
 use Rattle.agreement.proofs.Answered.{answers-open}
 
@@ -358,3 +358,23 @@ one-operation setup own opens world role m choice value number content h e is o 
       subst (λ k. IsAnAnswer (record { number = number; content = content; operation = k }) (answers setup (other role) world)) known found.among,
       answer-allowed setup x.calls.own_open number content here.0 here.1 ∙ ap (λ k. setup.allows k content) (sym same) ∙ there.3,
     )
+
+-- and each number one invocation
+same-invoke : (n o p : ℕ) (l m : Option ℕ) (a b : List ℕ) (hs : List Apdu) (made : ℕ) → Falls hs made → IsAmong (Invoke n o l a) hs → IsAmong (Invoke n p m b) hs → Invoke n o l a ≡ Invoke n p m b
+same-invoke n o p l m a b [] made f h k = absurd h
+same-invoke n o p l m a b (Invoke number operation link argument ∷ hs) made f (inl h) (inl k) = sym h ∙ k
+same-invoke n o p l m a b (Invoke number operation link argument ∷ hs) made f (inl h) (inr k) =
+    absurd (let i = has-below n p hs f.0 f.3 (has-among n p m b hs k) in let e = f.1 in let c : number ≡ n = cc in omega arith)
+same-invoke n o p l m a b (Invoke number operation link argument ∷ hs) made f (inr h) (inl k) =
+    absurd (let i = has-below n o hs f.0 f.3 (has-among n o l a hs h) in let e = f.1 in let c : number ≡ n = cc in omega arith)
+same-invoke n o p l m a b (Invoke number operation link argument ∷ hs) made f (inr h) (inr k) = same-invoke n o p l m a b hs f.0 f.3 h k
+same-invoke n o p l m a b (Outcome number content ∷ hs) made f (inl h) k = absurd (cc)
+same-invoke n o p l m a b (Outcome number content ∷ hs) made f (inr h) (inl k) = absurd (cc)
+same-invoke n o p l m a b (Outcome number content ∷ hs) made f (inr h) (inr k) = same-invoke n o p l m a b hs made f h k
+same-invoke n o p l m a b (Reject number problem ∷ hs) made f (inl h) k = absurd (cc)
+same-invoke n o p l m a b (Reject number problem ∷ hs) made f (inr h) (inl k) = absurd (cc)
+same-invoke n o p l m a b (Reject number problem ∷ hs) made f (inr h) (inr k) = same-invoke n o p l m a b hs made f h k
+
+pub one-invocation : (setup : Setup) → TheOthersOwn setup → OpensUnmade setup → OneInvocation setup
+one-invocation setup own opens world role n o p l m a b run h k =
+    same-invoke n o p l m a b (all_handed role world) (state_of setup role world).calls.made (calls-from setup own opens world run role).falls h k

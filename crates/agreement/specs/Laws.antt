@@ -235,6 +235,14 @@ OneOperation setup =
     IsAnAnswer (record { number = number; content = content; operation = operation_of number (state_of setup role world).calls.own_open }) (answers setup (other role) world) ×
     (may_answer setup (state_of setup role world).calls.own_open number content ≡ true)
 
+-- one invocation: an end hands in at most one under each number, so its link and its argument, too, are at both ends
+-- those that were handed in
+abbrev pub OneInvocation : Setup → Type 0
+OneInvocation setup =
+    (world : World) (role : Role) (number operation operation' : ℕ) (link link' : Option ℕ) (argument argument' : List ℕ) → IsRun setup world →
+    IsAmong (Invoke number operation link argument) (all_handed role world) → IsAmong (Invoke number operation' link' argument') (all_handed role world) →
+    Invoke number operation link argument ≡ Invoke number operation' link' argument'
+
 -- an item as it was encoded: its activity, its APDU, its context, and the pair that the shared set
 -- gave that just then
 pub record Encoding : Type 0 where

@@ -2,7 +2,7 @@
 
 ghost use Rattle.std.specs.Prelude.{◌≡◌};
 ghost use Rattle.agreement.specs.Messages.{Setup};
-ghost use Rattle.agreement.specs.Laws.{TakenAsSent, NoAbortOfItself, OneHolder, InitiatorLeads, OneOutcome, TheOthersOwn, AnsweredOnce, AcceptedNamesOpen, ContextsStay, ArriveWhole, ArriveOnce, InvokedOnce, OneOperation, ItemsOfActivities, AlterationsAreFew, ContextsAreKnown};
+ghost use Rattle.agreement.specs.Laws.{TakenAsSent, NoAbortOfItself, OneHolder, InitiatorLeads, OneOutcome, TheOthersOwn, AnsweredOnce, AcceptedNamesOpen, ContextsStay, ArriveWhole, ArriveOnce, InvokedOnce, OneOperation, OneInvocation, ItemsOfActivities, AlterationsAreFew, ContextsAreKnown};
 
 /// Taken as sent: each message that an end took, and did not pass over, is the one that was sent in its
 /// place of the connection, and its value was read under the pair that the shared set gave at the sending.
@@ -79,6 +79,12 @@ pub fn invoked_once()
 /// its operation, its type or its error.
 pub fn one_operation()
     ensures law { (setup : Setup) → OneOperation setup }
+{}
+
+/// One invocation: an end hands in at most one invocation under each number, so its link and its argument, too, are
+/// at both ends those that were handed in.
+pub fn one_invocation()
+    ensures law { (setup : Setup) → OneInvocation setup }
 {}
 
 /// Items of activities: what was last encoded for an activity is the item that was started as that activity, the

@@ -16,6 +16,6 @@ pub use cases::{
 pub use laws::{
     accepted_names_open, alterations_are_few, answered_once, contexts_are_known, contexts_stay,
     initiator_leads, invoked_once, items_of_activities, no_abort_of_itself, one_holder,
-    one_operation, one_outcome, taken_as_sent, the_others_own, transfers_arrive_once,
-    transfers_arrive_whole,
+    one_invocation, one_operation, one_outcome, taken_as_sent, the_others_own,
+    transfers_arrive_once, transfers_arrive_whole,
 };
