@@ -3,6 +3,7 @@ pub mod ValueCode
 pub mod ValueView
 pub mod ValueFalls
 pub mod Rows
+pub mod Defaults
 pub mod Table
 pub mod Inside
 pub mod Whole

@@ -1,7 +1,7 @@
 -- The slots of a SET, as loops go over them.
-use Rattle.std.proofs.Common.{◌≡◌, ℕ, zero, suc, ◌+◌, ◌<◌, Bool, true, false, ◌&&◌, List, [], ◌∷◌, ◌++◌, length, drop, get_or, Option, Some, None, Ok, refl, sym, ap, ◌∙◌, arith, add-one, append_assoc}
+use Rattle.std.proofs.Common.{◌≡◌, ℕ, zero, suc, ◌+◌, ◌<◌, ◌≤◌, Bool, true, false, ◌&&◌, List, [], ◌∷◌, ◌++◌, length, take, drop, get_or, Option, Some, None, Ok, refl, sym, ap, ◌∙◌, subst, arith, add-one, append_assoc}
 use Rattle.std.specs.Prelude.{slice_get, slice_set}
-use Rattle.std.proofs.lemmas.List.{append-nil}
+use Rattle.std.proofs.lemmas.List.{append-nil, drop_all, take_all}
 use Rattle.asn1_types.specs.declared.row.Part.{Part}
 use Rattle.asn1_types.specs.Value.{Value}
 use Rattle.osi_base.specs.declared.words.Kind.TheVariants.{Missing, Extra}
@@ -13,7 +13,7 @@ use Rattle.ber_spelling.specs.declared.spot.Scope.{Scope}
 use Rattle.ber_spelling.specs.Reading.{Spot, Opened, Reading, ◌>>=◌, ended, refuse, Fails}
 use Rattle.ber_spelling.specs.Fields.{look_at}
 use Rattle.ber_spelling.specs.Order.{Filled}
-use Rattle.ber_spelling.specs.Rules.{Reader, items_at, no_parts_of, stands, is_filled, set_done, is_free, ordered_at, filled_by, fill_at, slot_at}
+use Rattle.ber_spelling.specs.Rules.{Reader, items_at, no_parts_of, stands, is_filled, set_done, is_free, ordered_at, filled_by, fill_at, slot_at, bare, kept_of, settled}
 use Rattle.ber_spelling.proofs.Steps.{Fails-bind, Fails-same}
 use Rattle.ber_spelling.proofs.Turns.{turn_is}
 
@@ -77,7 +77,7 @@ slot_is (w ∷ vs) (suc i) o lt e = slot_is vs i o (omega arith) e
 
 module _ (begins : ℕ → Class → ℕ → Bool) (inner : ℕ → Reader) where
   at_slot : (ps : List Part) (i which : ℕ) (p : Part) (before : Filled) (scope : Scope) (o : Opened) (s : Spot) → i < length ps → p ≡ get_or ps i p → begins p.inner.0 o.class o.number ≡ true
-      → slot_at begins inner which (drop i ps) before scope o s ≡ fill_at (inner p.inner.0) which before scope o s
+      → slot_at begins inner which (drop i ps) before scope o s ≡ fill_at (inner p.inner.0 (bare p.default)) which before scope o s
   unfolding slot_at
   at_slot [] i which p before scope o s lt e b = absurd (omega arith)
   at_slot (q ∷ ps) zero which p before scope o s lt e b =
@@ -95,22 +95,22 @@ module _ (begins : ℕ → Class → ℕ → Bool) (inner : ℕ → Reader) wher
 
   pub slot_fails : (f : ReadFault) (ps : List Part) (which : ℕ) (p : Part) (w : Option Value) (before : Filled) (scope : Scope) (o : Opened) (s : Spot) (total : Reading (Filled × Spot)) → which < length ps → p ≡ get_or ps which p → begins p.inner.0 o.class o.number ≡ true
       → which < length before.found → w ≡ get_or before.found which w → is_free (Some w) ≡ true
-      → slot_at begins inner which (drop which ps) before scope o s ≡ total → Fails f (ordered_at (inner p.inner.0) before.least scope o s) → Fails f total
+      → slot_at begins inner which (drop which ps) before scope o s ≡ total → Fails f (ordered_at (inner p.inner.0 (bare p.default)) before.least scope o s) → Fails f total
   slot_fails f ps which p w before scope o s total lt e b more d free so_far h =
       let slot : slice_get before.found which ≡ Some w = slot_is before.found which w more d in
-      let one : (ordered_at (inner p.inner.0) before.least scope o s >>= λ v. Ok (filled_by which o before v.0, v.1)) ≡ total = rw (← so_far) (sym (at_slot ps which which p before scope o s lt e b ∙ rw (slot, free) refl)) in
-      Fails-same f _ total one (Fails-bind f (ordered_at (inner p.inner.0) before.least scope o s) _ h)
+      let one : (ordered_at (inner p.inner.0 (bare p.default)) before.least scope o s >>= λ v. Ok (filled_by which o before v.0, v.1)) ≡ total = rw (← so_far) (sym (at_slot ps which which p before scope o s lt e b ∙ rw (slot, free) refl)) in
+      Fails-same f _ total one (Fails-bind f (ordered_at (inner p.inner.0 (bare p.default)) before.least scope o s) _ h)
 
   pub slot_gives : (ps : List Part) (which : ℕ) (p : Part) (w : Option Value) (before : Filled) (scope : Scope) (o : Opened) (s : Spot) (v : Value) (to : Spot) (total : Reading (Filled × Spot)) → which < length ps → p ≡ get_or ps which p → begins p.inner.0 o.class o.number ≡ true
       → which < length before.found → w ≡ get_or before.found which w → is_free (Some w) ≡ true
-      → slot_at begins inner which (drop which ps) before scope o s ≡ total → ordered_at (inner p.inner.0) before.least scope o s ≡ Ok (v, to) → total ≡ Ok (filled_by which o before v, to)
+      → slot_at begins inner which (drop which ps) before scope o s ≡ total → ordered_at (inner p.inner.0 (bare p.default)) before.least scope o s ≡ Ok (v, to) → total ≡ Ok (filled_by which o before v, to)
   slot_gives ps which p w before scope o s v to total lt e b more d free so_far h =
       let slot : slice_get before.found which ≡ Some w = slot_is before.found which w more d in
       sym so_far ∙ at_slot ps which which p before scope o s lt e b ∙ rw (slot, free, h) refl
 
 -- ---- all slots
 
-pub set_full : (ps : List Part) (s : Filled) → is_filled ps s.found ≡ true → set_done ps s ≡ Some (parts (parts_of s.found))
+pub set_full : (ps : List Part) (s : Filled) → is_filled ps s.found ≡ true → set_done ps s ≡ Some (parts (parts_of (settled ps s.found)))
 set_full ps s e = rw e refl
 
 pub set_lacks : (ps : List Part) (s : Filled) → is_filled ps s.found ≡ false → set_done ps s ≡ None
@@ -119,3 +119,21 @@ set_lacks ps s e = rw e refl
 pub turns_lack : {S T : Type 0} (step : S → Scope → Opened → Spot → Reading (S × Spot)) (done : S → Option T) (first : S) (scope : Scope) (s : Spot) (k place : ℕ) (after : Spot) (total : Reading (T × Spot)) → 0 < k → items_at step done k first scope s ≡ total
     → look_at scope s.place s.rest ≡ Ok (ended place after) → done first ≡ None → total ≡ refuse place Missing
 turns_lack step done first scope s k place after total lt so_far look d = sym so_far ∙ turn_is step done k first scope s lt ∙ rw (look, d) refl
+
+-- parts that have their default's value become absent one after the other
+pub settle_next : (ps : List Part) (vs : List (Option Value)) (i : ℕ) (p : Part) (o new : Option Value) (total : List (Option Value)) → i < length ps → length vs ≡ length ps → p ≡ get_or ps i p → o ≡ get_or vs i o → new ≡ kept_of p o
+    → take i vs ++ settled (drop i ps) (drop i vs) ≡ total → take (i + 1) (slice_set vs i new) ++ settled (drop (i + 1) ps) (drop (i + 1) (slice_set vs i new)) ≡ total
+settle_next [] vs i p o new total lt same at slot e h = absurd (omega arith)
+settle_next (q ∷ ps) [] i p o new total lt same at slot e h = absurd (omega arith)
+settle_next (q ∷ ps) (w ∷ vs) zero p o new total lt same at slot e h = rw (e, at, slot) h
+settle_next (q ∷ ps) (w ∷ vs) (suc i) p o new [] lt same at slot e h = absurd cc
+settle_next (q ∷ ps) (w ∷ vs) (suc i) p o new (t ∷ total) lt same at slot e h =
+    let tail : take i vs ++ settled (drop i ps) (drop i vs) ≡ total = cc in
+    let head : w ≡ t = cc in
+    let next : i + 1 ≡ suc i = omega arith in
+    let outer : suc (suc i) ≡ suc i + 1 = omega arith in
+    let behind = subst (λ (k : ℕ). take k (slice_set vs i new) ++ settled (drop k ps) (drop k (slice_set vs i new)) ≡ total) next (settle_next ps vs i p o new total (omega arith) (omega arith) at slot e tail) in
+    subst (λ (k : ℕ). take k (slice_set (w ∷ vs) (suc i) new) ++ settled (drop k (q ∷ ps)) (drop k (slice_set (w ∷ vs) (suc i) new)) ≡ t ∷ total) outer (λ j. head j ∷ behind j)
+
+pub settle_end : (ps : List Part) (vs : List (Option Value)) (i : ℕ) (total : List (Option Value)) → length ps ≤ i → length vs ≡ length ps → take i vs ++ settled (drop i ps) (drop i vs) ≡ total → vs ≡ total
+settle_end ps vs i total past same h = sym (rw (drop_all i ps past, take_all i vs (omega arith), append-nil vs) refl) ∙ h

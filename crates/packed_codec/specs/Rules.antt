@@ -5,12 +5,13 @@ use Rattle.asn1_types.specs.declared.row.TextKind.{TextKind}
 use Rattle.asn1_types.specs.declared.row.TypeRow.{TypeRow}
 use Rattle.asn1_types.specs.declared.row.TypeRow.TheVariants as row
 use Rattle.asn1_types.specs.Rows.{along}
-use Rattle.asn1_types.specs.Fits.{is_item, are_bits, is_text}
+use Rattle.asn1_types.specs.Defaults.{is_item, may_be_absent, is_default}
+use Rattle.asn1_types.specs.Fits.{are_bits, is_text}
 use Rattle.asn1_types.specs.Value.{Value, boolean, integer, null, octets, bits, object_id, text, parts, list, chosen}
 use Rattle.asn1_types.specs.ValueView.{parts_of, values_of}
 use Rattle.packed_codec.specs.Reading.{Spot, Reading, ◌>>=◌, refuse}
 use Rattle.packed_codec.specs.Fields.{announced_at, octet_at, count_at}
-use Rattle.packed_codec.specs.Numbers.{is_size, integer_of}
+use Rattle.packed_codec.specs.Numbers.{is_size, integer_of, integer_octets}
 use Rattle.packed_codec.specs.ObjectIds.{arcs_of}
 
 -- what stands at a spot, within a limit on the octets of the whole value
@@ -96,22 +97,28 @@ bits_at limit s = do
 
 -- ---- values that hold values
 
-unfoldable pub present_at : Reader → ℕ → Spot → Reading (Option Value × Spot)
-present_at inner limit s = do
-  v ← inner limit s
-  Ok (Some v.0, v.1)
+-- how many octets the last field has of a value that a default may name: the octet of a BOOLEAN, the contents of a number
+abbrev pub last_size : Value → ℕ
+last_size (integer z) = length (integer_octets z)
+last_size v = 1
 
--- before an optional part 0 where it is absent, 1 where it is present
-abbrev pub marked_at : Reader → ℕ → ℕ → ℕ × Spot → Reading (Option Value × Spot)
-marked_at inner limit place m =
-    if nat_eq m.0 0 then Ok (None, m.1) else (if nat_eq m.0 1 then present_at inner limit m.1 else refuse place)
+-- the default's value is at fault, in its last field
+unfoldable pub present_at : Reader → Part → ℕ → Spot → Reading (Option Value × Spot)
+present_at inner p limit s = do
+  v ← inner limit s
+  if is_default p.default v.0 then refuse (v.1.place - last_size v.0) else Ok (Some v.0, v.1)
+
+-- before a part that may be absent 0 where it is, 1 where it is present
+abbrev pub marked_at : Reader → Part → ℕ → ℕ → ℕ × Spot → Reading (Option Value × Spot)
+marked_at inner p limit place m =
+    if nat_eq m.0 0 then Ok (None, m.1) else (if nat_eq m.0 1 then present_at inner p limit m.1 else refuse place)
 
 unfoldable pub part_at : Reader → Part → ℕ → Spot → Reading (Option Value × Spot)
 part_at inner p limit s =
-    if p.optional then (do
+    if may_be_absent p then (do
       m ← octet_at limit s
-      marked_at inner limit s.place m)
-    else present_at inner limit s
+      marked_at inner p limit s.place m)
+    else present_at inner p limit s
 
 -- the parts in the order of the notation
 unfoldable pub parts_at : (ℕ → Reader) → ℕ → Spot → List Part → Reading (List (Option Value) × Spot)

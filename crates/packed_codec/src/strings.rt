@@ -1,7 +1,7 @@
 //! Values of one field, and values behind a size: numbers and strings.
 
 ghost use Rattle.std.specs.Prelude.{◌≡◌, ◌+◌, ◌≤◌, ◌<◌, ◌^◌, length, IfOk};
-ghost use Rattle.asn1_types.specs.Fits.{is_item};
+ghost use Rattle.asn1_types.specs.Defaults.{is_item};
 ghost use Rattle.packed_codec.specs.Reading.{Gives, spot_of, GoesOn};
 ghost use Rattle.packed_codec.specs.Rules.{boolean_at, null_at, number_at, string_at, number_rule, in_range, any_size, at_most, octets_rule, text_rule, object_id_rule, bits_at, bits_size, bits_rule};
 
