@@ -10,15 +10,16 @@ use Rattle.asn1_types.specs.declared.row.TypeRow.{TypeRow}
 use Rattle.asn1_types.specs.declared.row.TypeRow.TheVariants.{Boolean, Integer, Enumerated, Null, OctetString, BitString, ObjectId, Text, Sequence, Set, SequenceOf, Choice, Tagged, Any}
 use Rattle.asn1_types.specs.declared.refusal.RowRefusal.{RowRefusal}
 use Rattle.asn1_types.specs.Rows.{names_of, rows_of_parts, greatest, nesting_by, nesting, Opening, every, meets, openings_by, openings}
+use Rattle.asn1_types.specs.Limits.{most_levels}
 use Rattle.asn1_types.specs.Defaults.{default_by, no_default, takes_default, has_bad_default}
-use Rattle.asn1_types.specs.Table.{first_from, is_bad_range, is_double_name, clash, clashes_in_run, clashes_in_sequence, agrees_later, has_clash, deepest, refusal_after, refusal, IsSound}
+use Rattle.asn1_types.specs.Table.{first_from, is_bad_range, is_double_name, clash, clashes_in_run, clashes_in_sequence, agrees_later, has_clash, refusal_after, refusal, IsSound}
 use Rattle.asn1_types.proofs.Along.{IsDown, SameTo, agree, settled}
 
 pub record IsTaken (rows : List TypeRow) (row : TypeRow) : Type 0 where
   pub names : first_from (length rows) (names_of row) ≡ None
   pub range : is_bad_range row ≡ false
   pub double : is_double_name row ≡ false
-  pub nested : nat_lt deepest (nesting_by (nesting rows) row) ≡ false
+  pub nested : nat_lt most_levels (nesting_by (nesting rows) row) ≡ false
   pub apart : has_clash (openings rows) row ≡ false
 
 taken_tests : (a b c d f : Bool) (v w x y z : RowRefusal) → cond a (Some v) (cond b (Some w) (cond c (Some x) (cond d (Some y) (cond f (Some z) None)))) ≡ None → (a ≡ false) × (b ≡ false) × (c ≡ false) × (d ≡ false)
@@ -31,7 +32,7 @@ taken_tests false false false false f v w x y z e = (refl, refl, refl, refl)
 taken_from : (o : Option ℕ) (rows : List TypeRow) (row : TypeRow) → first_from (length rows) (names_of row) ≡ o → refusal_after o rows row ≡ None → IsTaken rows row
 taken_from (Some n) rows row f e = absurd cc
 taken_from None rows row f e =
-    let t = taken_tests (is_bad_range row) (is_double_name row) (nat_lt deepest (nesting_by (nesting rows) row)) (has_clash (openings rows) row) (has_bad_default (takes_default rows) row) _ _ _ _ _ e in
+    let t = taken_tests (is_bad_range row) (is_double_name row) (nat_lt most_levels (nesting_by (nesting rows) row)) (has_clash (openings rows) row) (has_bad_default (takes_default rows) row) _ _ _ _ _ e in
     record { names = f; range = t.0; double = t.1; nested = t.2; apart = t.3 }
 
 pub taken : (rows : List TypeRow) (row : TypeRow) → refusal rows row ≡ None → IsTaken rows row

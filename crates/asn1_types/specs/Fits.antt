@@ -10,14 +10,15 @@ use Rattle.asn1_types.specs.declared.row.TextKind.TheVariants.{Utf8, Ia5, Visibl
 use Rattle.asn1_types.specs.declared.row.TypeRow.{TypeRow}
 use Rattle.asn1_types.specs.declared.row.TypeRow.TheVariants as row
 use Rattle.asn1_types.specs.Value.{Value, boolean, integer, null, octets, bits, object_id, text, parts, list, chosen, any, MaybeValues, no_parts, absent, present, Values, no_values, value}
+use Rattle.asn1_types.specs.Limits.{number_bits}
 use Rattle.asn1_types.specs.Rows.{along}
 use Rattle.asn1_types.specs.Defaults.{is_item, may_be_absent, is_default}
 use Rattle.asn1_types.specs.Whole.{is_whole}
 
--- numbers have 64 bits
+-- numbers have 64 bits, one of them the sign's
 abbrev pub is_number : ℤ → Bool
-is_number (pos n) = nat_lt n (2 ^ 63)
-is_number (negsuc n) = nat_lt n (2 ^ 63)
+is_number (pos n) = nat_lt n (2 ^ (number_bits - 1))
+is_number (negsuc n) = nat_lt n (2 ^ (number_bits - 1))
 
 abbrev pub boolean_fits : Value → Bool
 boolean_fits (boolean b) = true

@@ -8,6 +8,7 @@ use Rattle.asn1_types.specs.declared.row.TypeRow.TheVariants.{Integer, Enumerate
 use Rattle.asn1_types.specs.declared.refusal.RowRefusal.{RowRefusal}
 use Rattle.asn1_types.specs.declared.refusal.RowRefusal.TheVariants.{NoSuchRow, BadRange, DoubleName, TooNested, TagsNotDistinct, BadDefault, NoMemory}
 use Rattle.asn1_types.specs.Rows.{Opening, names_of, nesting, nesting_by, openings, meets, is_no_tag}
+use Rattle.asn1_types.specs.Limits.{most_levels}
 use Rattle.asn1_types.specs.Defaults.{same_number, may_be_absent, takes_default, has_bad_default}
 
 -- the first row that is named and isn't there
@@ -68,16 +69,13 @@ has_clash openings (Set parts) = agrees_later (clash openings) parts
 has_clash openings (Choice parts) = agrees_later (clash openings) parts
 has_clash openings row = false
 
-abbrev pub deepest : ℕ
-deepest = 32
-
 -- why a row isn't added behind these rows
 abbrev pub refusal_after : Option ℕ → List TypeRow → TypeRow → Option RowRefusal
 refusal_after (Some n) rows row = Some (NoSuchRow n)
 refusal_after None rows row =
     if is_bad_range row then Some BadRange
     else (if is_double_name row then Some DoubleName
-    else (if nat_lt deepest (nesting_by (nesting rows) row) then Some TooNested
+    else (if nat_lt most_levels (nesting_by (nesting rows) row) then Some TooNested
     else (if has_clash (openings rows) row then Some TagsNotDistinct
     else (if has_bad_default (takes_default rows) row then Some BadDefault else None))))
 

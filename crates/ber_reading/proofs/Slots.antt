@@ -1,19 +1,21 @@
 -- The slots of a SET, as loops go over them.
-use Rattle.std.proofs.Common.{◌≡◌, ℕ, zero, suc, ◌+◌, ◌<◌, ◌≤◌, Bool, true, false, ◌&&◌, List, [], ◌∷◌, ◌++◌, length, take, drop, get_or, Option, Some, None, Ok, refl, sym, ap, ◌∙◌, subst, arith, add-one, append_assoc}
+use Rattle.std.proofs.Common.{◌≡◌, ℕ, zero, suc, ◌+◌, ◌<◌, ◌≤◌, Bool, true, false, ◌&&◌, List, [], ◌∷◌, ◌++◌, length, take, drop, get_or, Option, Some, None, Ok, Err, refl, sym, ap, ◌∙◌, subst, arith, add-one, append_assoc}
 use Rattle.std.specs.Prelude.{slice_get, slice_set}
 use Rattle.std.proofs.lemmas.List.{append-nil, drop_all, take_all}
 use Rattle.asn1_types.specs.declared.row.Part.{Part}
 use Rattle.asn1_types.specs.Value.{Value}
+use Rattle.osi_base.specs.declared.words.Kind.{Kind}
 use Rattle.osi_base.specs.declared.words.Kind.TheVariants.{Missing, Extra}
 use Rattle.asn1_types.specs.declared.row.Class.{Class}
 use Rattle.asn1_types.specs.Value.{parts}
 use Rattle.asn1_types.specs.ValueView.{parts_of}
 use Rattle.ber_spelling.specs.declared.fault.ReadFault.{ReadFault}
+use Rattle.ber_spelling.specs.declared.fault.ReadFault.TheVariants as faults
 use Rattle.ber_spelling.specs.declared.spot.Scope.{Scope}
 use Rattle.ber_spelling.specs.Reading.{Spot, Opened, Reading, ◌>>=◌, ended, refuse, Fails}
 use Rattle.ber_spelling.specs.Fields.{look_at}
 use Rattle.ber_spelling.specs.Order.{Filled}
-use Rattle.ber_spelling.specs.Rules.{Reader, items_at, no_parts_of, stands, is_filled, set_done, is_free, ordered_at, filled_by, fill_at, slot_at, bare, kept_of, settled}
+use Rattle.ber_spelling.specs.Rules.{Reader, items_at, no_parts_of, stands, is_filled, set_done, is_free, ordered_at, filled_by, fill_at, slot_at, bare, kept_of, settled, late_at, late_kind, alone, cut_behind}
 use Rattle.ber_spelling.proofs.Steps.{Fails-bind, Fails-same}
 use Rattle.ber_spelling.proofs.Turns.{turn_is}
 
@@ -88,7 +90,7 @@ module _ (begins : ℕ → Class → ℕ → Bool) (inner : ℕ → Reader) wher
   -- the slot is taken
   pub slot_taken : (ps : List Part) (which : ℕ) (p : Part) (w : Option Value) (before : Filled) (scope : Scope) (o : Opened) (s : Spot) (total : Reading (Filled × Spot)) → which < length ps → p ≡ get_or ps which p → begins p.inner.0 o.class o.number ≡ true
       → which < length before.found → w ≡ get_or before.found which w → is_free (Some w) ≡ false
-      → slot_at begins inner which (drop which ps) before scope o s ≡ total → total ≡ refuse o.start.place Extra
+      → slot_at begins inner which (drop which ps) before scope o s ≡ total → total ≡ late_at Extra (inner p.inner.0 (bare p.default)) scope o s
   slot_taken ps which p w before scope o s total lt e b more d taken so_far =
       let slot : slice_get before.found which ≡ Some w = slot_is before.found which w more d in
       sym so_far ∙ at_slot ps which which p before scope o s lt e b ∙ rw (slot, taken) refl
@@ -137,3 +139,14 @@ settle_next (q ∷ ps) (w ∷ vs) (suc i) p o new (t ∷ total) lt same at slot 
 
 pub settle_end : (ps : List Part) (vs : List (Option Value)) (i : ℕ) (total : List (Option Value)) → length ps ≤ i → length vs ≡ length ps → take i vs ++ settled (drop i ps) (drop i vs) ≡ total → vs ≡ total
 settle_end ps vs i total past same h = sym (rw (drop_all i ps past, take_all i vs (omega arith), append-nil vs) refl) ∙ h
+
+-- a part that comes twice fails as its identifier alone does
+pub late_fails : (e : ReadFault) (run : Scope → Opened → Spot → Reading (Value × Spot)) (kind : Kind) (scope : Scope) (o : Opened) (s : Spot) (total : Reading (Filled × Spot)) → total ≡ late_at kind run scope o s → Fails e (late_at {A = Unit {0}} kind run scope o s) → Fails e total
+late_fails (faults.NotSpelled place k) run kind scope o s total same h = same ∙ moved h
+  where
+    moved : late_at {A = Unit {0}} kind run scope o s ≡ Err (faults.NotSpelled place k) → late_at {A = Filled × Spot} kind run scope o s ≡ Err (faults.NotSpelled place k)
+    moved e = let fault : ◌≡◌ {A = ReadFault} (faults.NotSpelled o.start.place (late_kind kind (run scope (alone o s) (cut_behind s)))) (faults.NotSpelled place k) = cc in ap (λ (f : ReadFault). Err f) fault
+late_fails faults.Short run kind scope o s total same h = absurd cc
+late_fails (faults.TooDeep place) run kind scope o s total same h = absurd cc
+late_fails (faults.TooLong place) run kind scope o s total same h = absurd cc
+late_fails faults.NoMemory run kind scope o s total same h = tt

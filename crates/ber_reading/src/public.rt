@@ -2,6 +2,7 @@
 
 ghost use Rattle.std.specs.Prelude.{◌≡◌, ℕ, ◌+◌, ◌≤◌, ◌<◌, ◌^◌, false, true, length, take, IfOk, IfSome};
 ghost use Rattle.std.specs.List.{AllByRecursion};
+ghost use Rattle.asn1_types.specs.Limits.{most_octets};
 ghost use Rattle.asn1_types.specs.Rows.{begins, rows_of_parts};
 ghost use Rattle.asn1_types.specs.Value as tree;
 ghost use Rattle.ber_spelling.specs.Reading.{Gives, GoesOn, opened_of, spot_of};
@@ -35,11 +36,11 @@ pub fn ber_read(
 ) -> Result<Read, ReadFault>
     requires { of.0 < length table.now }
     // What is read is spelled by the octets used.
-    ensures found { IfOk result (λ r. (r.used ≤ length bytes.now) × Spells table.now of.0 false 262144 r.value (take r.used bytes.now)) }
+    ensures found { IfOk result (λ r. (r.used ≤ length bytes.now) × Spells table.now of.0 false most_octets r.value (take r.used bytes.now)) }
     // What the octets spell is read, unless memory is refused.
-    ensures only { (v : tree.Value) (n : ℕ) → n ≤ length bytes.now → Spells table.now of.0 false 262144 v (take n bytes.now) → IsRead result v n }
+    ensures only { (v : tree.Value) (n : ℕ) → n ≤ length bytes.now → Spells table.now of.0 false most_octets v (take n bytes.now) → IsRead result v n }
     // The fault is the first from the left.
-    ensures exact { Gives (λ r. (r.value, r.used)) result (read_at table.now of.0 false 262144 bytes.now) }
+    ensures exact { Gives (λ r. (r.value, r.used)) result (read_at table.now of.0 false most_octets bytes.now) }
 {
     read_whole(alloc, table, of, bytes, LIMIT, false)
 }
@@ -69,9 +70,9 @@ pub fn der_read(
     bytes: &[u8],
 ) -> Result<Read, ReadFault>
     requires { of.0 < length table.now }
-    ensures found { IfOk result (λ r. (r.used ≤ length bytes.now) × Spells table.now of.0 true 262144 r.value (take r.used bytes.now)) }
-    ensures only { (v : tree.Value) (n : ℕ) → n ≤ length bytes.now → Spells table.now of.0 true 262144 v (take n bytes.now) → IsRead result v n }
-    ensures exact { Gives (λ r. (r.value, r.used)) result (read_at table.now of.0 true 262144 bytes.now) }
+    ensures found { IfOk result (λ r. (r.used ≤ length bytes.now) × Spells table.now of.0 true most_octets r.value (take r.used bytes.now)) }
+    ensures only { (v : tree.Value) (n : ℕ) → n ≤ length bytes.now → Spells table.now of.0 true most_octets v (take n bytes.now) → IsRead result v n }
+    ensures exact { Gives (λ r. (r.value, r.used)) result (read_at table.now of.0 true most_octets bytes.now) }
 {
     read_whole(alloc, table, of, bytes, LIMIT, true)
 }

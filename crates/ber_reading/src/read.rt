@@ -724,7 +724,8 @@ fn slot<'a>(
     for (which, part) in parts.iter().enumerate() {
         if begins(table, part.inner, opened.class, opened.number) {
             if !is_free(&found[which]) {
-                return Err(refusal(opened.start.place, Kind::Extra));
+                let kind = Kind::Extra;
+                return Err(late(alloc, table, of, part, kind, scope, opened, spot));
             }
             let (value, after) = ordered(alloc, table, of, part, least, scope, opened, spot)?;
             return Ok((which, value, after));
@@ -753,19 +754,20 @@ fn ordered<'a>(
     ensures stops { IfOk result (λ x. GoesOn spot.entry.place (length spot.entry.rest.now) x.1) }
 {
     if scope.strict && rank(opened.class, opened.number) < least {
-        return Err(late(alloc, table, of, part, scope, opened, spot));
+        return Err(late(alloc, table, of, part, Kind::Form, scope, opened, spot));
     }
     let default = part.default;
     value(alloc, table, part.inner, None, default, scope, opened, spot)
 }
 
-/// The fault of a part that stands out of order: that of its identifier alone comes first.
+/// The fault of a part that may not stand here: that of its identifier alone comes first.
 #[cycle(reading)]
 fn late<'a>(
     alloc: Global,
     table: &TypeTable,
     of: TypeId,
     part: &Part,
+    kind: Kind,
     scope: &Scope,
     opened: &Opened<'a>,
     spot: Spot<'a>,
@@ -773,7 +775,7 @@ fn late<'a>(
     requires below { part.now.inner.0 < of.0 }
     requires row { of.0 ≤ length table.now }
     requires whole { spot.place + length spot.rest.now < 2 ^ 63 }
-    ensures { Fails result (late_at (reads table.now part.now.inner.0 (bare part.now.default)) scope.now (opened_of opened.now) (spot_of spot.entry)) }
+    ensures { Fails result (late_at {A = Unit {0}} kind (reads table.now part.now.inner.0 (bare part.now.default)) scope.now (opened_of opened.now) (spot_of spot.entry)) }
 {
     let behind = Spot {
         place: spot.place,
@@ -796,6 +798,6 @@ fn late<'a>(
                 ..
             },
         ) => refusal(opened.start.place, Kind::Tag),
-        _ => refusal(opened.start.place, Kind::Form),
+        _ => refusal(opened.start.place, kind),
     }
 }

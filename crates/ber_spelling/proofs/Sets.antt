@@ -3,7 +3,7 @@ use Rattle.std.proofs.Common.{◌≡◌, ℕ, zero, suc, ◌+◌, ◌≤◌, Boo
 use Rattle.std.specs.Prelude.{slice_get, slice_set, nat_lt}
 use Rattle.std.specs.List.{list_any}
 use Rattle.std.proofs.lemmas.Bool.{ltb-false, le-ltb, or_parts}
-use Rattle.osi_base.specs.declared.words.Kind.TheVariants.{Extra}
+use Rattle.osi_base.specs.declared.words.Kind.TheVariants.{Extra, Form}
 use Rattle.asn1_types.specs.declared.row.Part.{Part}
 use Rattle.asn1_types.specs.Rows.{Opening}
 use Rattle.asn1_types.specs.Table.{clash, agrees_later}
@@ -53,7 +53,7 @@ module _ (begins : Begins) (inner : ℕ → Reader) (rel : ℕ → Spelled) (h :
           | inl t ↦
               let b = bind_ok (ordered_at (inner p.inner.0 (bare p.default)) before.least scope o s) (λ v. Ok (filled_by which o before v.0, v.1)) (w, to) t.1 in
               let same = ok_is {A = Filled × Spot} (filled_by which o before b.0.0, b.0.1) (w, to) b.2 in
-              let u = unless_ok (scope.strict && nat_lt (rank o.class o.number) before.least) (faults.NotSpelled o.start.place (late_kind (inner p.inner.0 (bare p.default) scope (alone o s) (cut_behind s)))) (inner p.inner.0 (bare p.default) scope o s) b.0 b.1 in
+              let u = unless_ok (scope.strict && nat_lt (rank o.class o.number) before.least) (faults.NotSpelled o.start.place (late_kind Form (inner p.inner.0 (bare p.default) scope (alone o s) (cut_behind s)))) (inner p.inner.0 (bare p.default) scope o s) b.0 b.1 in
               let r = (h p.inner.0 (bare p.default)).found scope place rest o s b.0.0 b.0.1 are opens u.1 in
               let ranked : front_rank r.text ≡ rank o.class o.number = read_rank scope place rest r.text b.0.1.rest o s opens r.taken.parts ((heads p.inner.0).is (bare p.default) scope.strict scope.levels b.0.0 r.text r.spelled) in
               let order : scope.strict ≡ true → before.least ≤ front_rank r.text = λ strict. (let le = risen scope.strict (rank o.class o.number) before.least u.0 strict in rw ranked le) in
@@ -63,7 +63,7 @@ module _ (begins : Begins) (inner : ℕ → Reader) (rel : ℕ → Spelled) (h :
                 spelled = (which, p, b.0.0, there, free_is (slice_get before.found which) t.0, r.spelled, order, ap (λ (n : ℕ). record { found = slice_set before.found which (Some b.0.0); least = n + 1 }) (sym ranked));
                 is_in = r.is_in;
               })
-          | inr t ↦ absurd (let wrong : Err (faults.NotSpelled o.start.place Extra) ≡ done {A = Filled × Spot} (w, to) = t.1 in cc)
+          | inr t ↦ absurd (let wrong : Err (faults.NotSpelled o.start.place (late_kind Extra (inner p.inner.0 (bare p.default) scope (alone o s) (cut_behind s)))) ≡ done {A = Filled × Spot} (w, to) = t.1 in cc)
         ];
   }
 

@@ -1,6 +1,7 @@
 -- Reading values of rows strictly is reading them, or a fault of form.
-use Rattle.std.proofs.Common.{◌≡◌, ◌⊎◌, ℕ, zero, suc, Bool, true, false, not, ◌&&◌, cond, List, [], ◌∷◌, length, take, ◌-◌, Option, Some, None, Ok, Err, refl, sym, ap, ◌∙◌, inl, inr}
+use Rattle.std.proofs.Common.{◌≡◌, ◌⊎◌, ℕ, zero, suc, Bool, true, false, not, ◌&&◌, cond, List, [], ◌∷◌, length, take, ◌-◌, Option, Some, None, Ok, Err, refl, sym, ap, ◌∙◌, inl, inr, subst}
 use Rattle.std.specs.Prelude.{slice_get, nat_lt}
+use Rattle.osi_base.specs.declared.words.Kind.{Kind}
 use Rattle.osi_base.specs.declared.words.Kind.TheVariants.{Tag, Missing, Extra, Length, Content, Form}
 use Rattle.asn1_types.specs.declared.row.Class.{Class}
 use Rattle.asn1_types.specs.declared.row.Class.TheVariants.{Universal}
@@ -253,7 +254,7 @@ any_alone = record { each = λ scope o s. by_tag (is_no_tag o.class o.number) sc
 
 -- ---- a part out of order: its identifier is at fault as in BER, or the form is
 
-late_two : (r : Reading (Value × Spot)) → (late_kind r ≡ Tag) ⊎ (late_kind r ≡ Form)
+late_two : (r : Reading (Value × Spot)) → (late_kind Form r ≡ Tag) ⊎ (late_kind Form r ≡ Form)
 late_two (Ok x) = inr refl
 late_two (Err (faults.NotSpelled place Tag)) = inl refl
 late_two (Err (faults.NotSpelled place Missing)) = inr refl
@@ -266,25 +267,40 @@ late_two (Err (faults.TooDeep place)) = inr refl
 late_two (Err (faults.TooLong place)) = inr refl
 late_two (Err faults.NoMemory) = inr refl
 
-late_free : (r : Reading (Value × Spot)) → NoTag r → late_kind r ≡ Form
-late_free (Ok x) h = absurd h
-late_free (Err (faults.NotSpelled place Tag)) h = absurd (h refl)
-late_free (Err (faults.NotSpelled place Missing)) h = refl
-late_free (Err (faults.NotSpelled place Extra)) h = refl
-late_free (Err (faults.NotSpelled place Length)) h = refl
-late_free (Err (faults.NotSpelled place Content)) h = refl
-late_free (Err (faults.NotSpelled place Form)) h = refl
-late_free (Err faults.Short) h = refl
-late_free (Err (faults.TooDeep place)) h = refl
-late_free (Err (faults.TooLong place)) h = refl
-late_free (Err faults.NoMemory) h = refl
+late_free : (kind : Kind) (r : Reading (Value × Spot)) → NoTag r → late_kind kind r ≡ kind
+late_free kind (Ok x) h = absurd h
+late_free kind (Err (faults.NotSpelled place Tag)) h = absurd (h refl)
+late_free kind (Err (faults.NotSpelled place Missing)) h = refl
+late_free kind (Err (faults.NotSpelled place Extra)) h = refl
+late_free kind (Err (faults.NotSpelled place Length)) h = refl
+late_free kind (Err (faults.NotSpelled place Content)) h = refl
+late_free kind (Err (faults.NotSpelled place Form)) h = refl
+late_free kind (Err faults.Short) h = refl
+late_free kind (Err (faults.TooDeep place)) h = refl
+late_free kind (Err (faults.TooLong place)) h = refl
+late_free kind (Err faults.NoMemory) h = refl
 
-late_formal : (run : Run) → TagAlone run → (scope : Scope) (o : Opened) (s : Spot) → Formal same (late_at run scope o s) (run (lax scope) o s)
+late_formal : (run : Run) → TagAlone run → (scope : Scope) (o : Opened) (s : Spot) → Formal same (late_at Form run scope o s) (run (lax scope) o s)
 late_formal run h scope o s =
     elim (h.each scope o s) [
-      | inl free ↦ inl (late_free (run scope (alone o s) (cut_behind s)) free)
+      | inl free ↦ inl (late_free Form (run scope (alone o s) (cut_behind s)) free)
       | inr is ↦ elim (late_two (run scope (alone o s) (cut_behind s))) [ inl tag ↦ inr (is (lax scope) ∙ ap (refuse o.start.place) (sym tag)) | inr form ↦ inl form ]
     ]
+
+-- ---- a part that comes twice: its identifier is at fault in DER as in BER, or it is one too many
+
+alone_same : (run : Run) → TagAlone run → (scope : Scope) (o : Opened) (s : Spot) → late_kind Extra (run scope (alone o s) (cut_behind s)) ≡ late_kind Extra (run (lax scope) (alone o s) (cut_behind s))
+alone_same run h scope o s =
+    elim (h.each scope (alone o s) (cut_behind s)) [
+      | inl free ↦ elim (h.each (lax scope) (alone o s) (cut_behind s)) [
+        | inl too ↦ late_free Extra (run scope (alone o s) (cut_behind s)) free ∙ sym (late_free Extra (run (lax scope) (alone o s) (cut_behind s)) too)
+        | inr is ↦ absurd (subst (λ (r : Reading (Value × Spot)). NoTag r) (is scope) free refl)
+      ]
+      | inr is ↦ ap (late_kind Extra) (is scope ∙ sym (is (lax scope)))
+    ]
+
+twice_formal : (run : Run) → TagAlone run → (scope : Scope) (o : Opened) (s : Spot) → Formal {A = Filled × Spot} same (late_at Extra run scope o s) (late_at Extra run (lax scope) o s)
+twice_formal run h scope o s = inr (ap (refuse o.start.place) (sym (alone_same run h scope o s)))
 
 -- ---- SEQUENCE, SET and CHOICE
 
@@ -335,7 +351,7 @@ module _ (begins : ℕ → Class → ℕ → Bool) (inner : ℕ → Reader) (h :
     ordered_formal : (n : ℕ) (t : Guise) (least : ℕ) → FormalRun (ordered_at (inner n t) least)
     ordered_formal n t least = record { each = λ scope o s. by_order (scope.strict && nat_lt (rank o.class o.number) least) scope o s }
       where
-        by_order : (b : Bool) (scope : Scope) (o : Opened) (s : Spot) → Formal same (cond b (late_at (inner n t) scope o s) (inner n t scope o s)) (inner n t (lax scope) o s)
+        by_order : (b : Bool) (scope : Scope) (o : Opened) (s : Spot) → Formal same (cond b (late_at Form (inner n t) scope o s) (inner n t scope o s)) (inner n t (lax scope) o s)
         by_order true scope o s = late_formal (inner n t) (l n t) scope o s
         by_order false scope o s = (h n t).each scope o s
 
@@ -344,7 +360,7 @@ module _ (begins : ℕ → Class → ℕ → Bool) (inner : ℕ → Reader) (h :
       each = λ scope o s.
           Formal-cond same (is_free (slice_get before.found which)) _ _ _ _
           (λ u. Formal-bind same same (ordered_at (inner n t) before.least scope o s) (ordered_at (inner n t) before.least (lax scope) o s) _ _ ((ordered_formal n t before.least).each scope o s) (λ v. refl))
-          (λ u. inr refl);
+          (λ u. twice_formal (inner n t) (l n t) scope o s);
     }
 
     slot_formal : (which : ℕ) (ps : List Part) (before : Filled) → FormalRun (slot_at begins inner which ps before)

@@ -13,6 +13,7 @@ use Rattle.asn1_types.specs.Rows.{along, begins, same_class, is_no_tag, text_num
 use Rattle.asn1_types.specs.Value.{Value, boolean, integer, null, octets, bits, object_id, text, parts, list, chosen, any}
 use Rattle.asn1_types.specs.ValueView.{parts_of, values_of}
 use Rattle.asn1_types.specs.Whole.{is_marked}
+use Rattle.asn1_types.specs.Limits.{most_levels}
 use Rattle.asn1_types.specs.Defaults.{is_item, may_be_absent, is_default, kept}
 use Rattle.asn1_types.specs.Fits.{is_text, are_bits}
 use Rattle.ber_spelling.specs.declared.fault.ReadFault.TheVariants.{NotSpelled, Short}
@@ -187,7 +188,7 @@ segment_at kind (suc depth) before scope opened spot =
     else primitive_at (segment_rule kind before) always (segment_tag kind) scope opened spot
 
 abbrev pub segments_at : StringKind → tags.Tag → Scope → Opened → Spot → Reading (Gathered × Spot)
-segments_at kind tag = constructed_at (all_items_at (segment_at kind 32) (λ (g : Gathered). Some g) nothing) tag
+segments_at kind tag = constructed_at (all_items_at (segment_at kind most_levels) (λ (g : Gathered). Some g) nothing) tag
 
 -- in segments; not in DER (X.690 10.2)
 unfoldable pub segmented_at : StringKind → (Gathered → Option Value) → tags.Tag → Scope → Opened → Spot → Reading (Value × Spot)
@@ -195,7 +196,7 @@ segmented_at kind whole tag scope opened spot = do
   _ ← expect_at tag true opened
   _ ← form_at scope opened.start.place false
   x ← extent_at scope spot.place spot.rest
-  g ← all_items_at (segment_at kind 32) (λ (g : Gathered). Some g) nothing x.0 x.1
+  g ← all_items_at (segment_at kind most_levels) (λ (g : Gathered). Some g) nothing x.0 x.1
   v ← judge opened.start.place (λ (v : Value). v) (whole g.0)
   Ok (v, g.1)
 
@@ -367,18 +368,18 @@ alone opened after = record { start = record { place = after.place; rest = [] };
 abbrev pub cut_behind : Spot → Spot
 cut_behind after = record { place = after.place; rest = [] }
 
--- the fault of a part out of order: that of its identifier alone comes first
-abbrev pub late_kind : Reading (Value × Spot) → Kind
-late_kind (Err (NotSpelled place Tag)) = Tag
-late_kind read = Form
+-- the fault of a part that may not stand here: that of its identifier alone comes first
+abbrev pub late_kind : Kind → Reading (Value × Spot) → Kind
+late_kind kind (Err (NotSpelled place Tag)) = Tag
+late_kind kind read = kind
 
-abbrev pub late_at : (Scope → Opened → Spot → Reading (Value × Spot)) → Scope → Opened → Spot → Reading (Value × Spot)
-late_at inner scope opened spot = refuse opened.start.place (late_kind (inner scope (alone opened spot) (cut_behind spot)))
+abbrev pub late_at : {A : Type 0} → Kind → (Scope → Opened → Spot → Reading (Value × Spot)) → Scope → Opened → Spot → Reading A
+late_at kind inner scope opened spot = refuse opened.start.place (late_kind kind (inner scope (alone opened spot) (cut_behind spot)))
 
 -- in DER the tags of the parts rise (X.690 10.3)
 abbrev pub ordered_at : (Scope → Opened → Spot → Reading (Value × Spot)) → ℕ → Scope → Opened → Spot → Reading (Value × Spot)
 ordered_at inner least scope opened spot =
-    if scope.strict && nat_lt (rank opened.class opened.number) least then late_at inner scope opened spot else inner scope opened spot
+    if scope.strict && nat_lt (rank opened.class opened.number) least then late_at Form inner scope opened spot else inner scope opened spot
 
 abbrev pub is_free : Option (Option Value) → Bool
 is_free (Some None) = true
@@ -387,12 +388,13 @@ is_free slot = false
 abbrev pub filled_by : ℕ → Opened → Filled → Value → Filled
 filled_by which opened before v = record { found = slice_set before.found which (Some v); least = rank opened.class opened.number + 1 }
 
+-- a part comes once
 abbrev pub fill_at : (Scope → Opened → Spot → Reading (Value × Spot)) → ℕ → Filled → Scope → Opened → Spot → Reading (Filled × Spot)
 fill_at inner which before scope opened spot =
     if is_free (slice_get before.found which) then (do
       v ← ordered_at inner before.least scope opened spot
       Ok (filled_by which opened before v.0, v.1))
-    else refuse opened.start.place Extra
+    else late_at Extra inner scope opened spot
 
 -- the part that begins with this identifier, whose slot is free
 unfoldable pub slot_at : (ℕ → Class → ℕ → Bool) → (ℕ → Reader) → ℕ → List Part → Filled → Scope → Opened → Spot → Reading (Filled × Spot)
@@ -440,10 +442,10 @@ whole_at (suc inner) before scope opened spot =
     else (if is_marked spot.rest && opened.constructed then marked_at (all_items_at (whole_at inner) (λ (u : Unit {0}). Some u) tt) (anew (suc inner) scope) spot
     else sized_at (anew (suc inner) scope) spot)
 
--- levels are counted from 1 to 32
+-- levels are counted from 1 on
 unfoldable pub any_at : Scope → Opened → Spot → Reading (Value × Spot)
 any_at scope opened spot = do
-  w ← whole_at 32 tt scope opened spot
+  w ← whole_at most_levels tt scope opened spot
   Ok (any (take (length opened.start.rest - length w.1.rest) opened.start.rest), w.1)
 
 -- ---- each row
@@ -485,7 +487,7 @@ value_at rows n scope place rest = do
   reads rows n plain scope x.0 x.1
 
 abbrev pub outermost : ℕ → Bool → Scope
-outermost limit strict = record { levels = 32; limit = limit; end = None; marked = false; strict = strict }
+outermost limit strict = record { levels = most_levels; limit = limit; end = None; marked = false; strict = strict }
 
 -- what all octets are read as: a value and how many octets it has
 unfoldable pub read_at : List TypeRow → ℕ → Bool → ℕ → List ℕ → Reading (Value × ℕ)

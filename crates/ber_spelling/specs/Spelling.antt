@@ -10,6 +10,7 @@ use Rattle.asn1_types.specs.declared.row.TypeRow.{TypeRow}
 use Rattle.asn1_types.specs.declared.row.TypeRow.TheVariants as row
 use Rattle.asn1_types.specs.declared.row.Item.{Item}
 use Rattle.asn1_types.specs.Rows.{class_number, is_no_tag, text_number}
+use Rattle.asn1_types.specs.Limits.{most_levels, most_octets}
 use Rattle.asn1_types.specs.Defaults.{is_item, may_be_absent, is_default, kept}
 use Rattle.asn1_types.specs.Value.{Value, boolean, integer, null, object_id, parts, chosen, any, MaybeValues, no_parts, absent, present}
 use Rattle.ber_spelling.specs.declared.spot.Tag as tags
@@ -185,9 +186,9 @@ abbrev pub IsWhole : ℕ → List ℕ → Type 0
 IsWhole zero spelled = ⊥
 IsWhole (suc inner) spelled = IsSized spelled ⊎ IsMarked (IsWhole inner) spelled
 
--- its levels are counted from 1 to 32, whatever encloses it
+-- its levels are counted from 1 on, whatever encloses it
 abbrev pub AnyIs : ℕ → Value → List ℕ → Type 0
-AnyIs levels (any os) spelled = (0 < levels) × (spelled ≡ os) × IsWhole 32 os
+AnyIs levels (any os) spelled = (0 < levels) × (spelled ≡ os) × IsWhole most_levels os
 AnyIs levels v spelled = ⊥
 
 -- ---- strings (X.690 8.6, 8.7, 8.23)
@@ -214,7 +215,7 @@ abbrev pub StringIs : StringKind → (Gathered → Option Value) → (List ℕ �
 StringIs kind whole canonical tag strict levels v spelled =
     IsPrimitive tag strict levels (λ contents. (string_rule kind whole contents ≡ Some v) × (strict ≡ true → canonical contents ≡ true)) spelled
     ⊎ ((strict ≡ false) × (g : Gathered) × (whole g ≡ Some v)
-    × IsConstructed tag strict levels (λ inner contents. ItemsAre (λ (g : Gathered). Some g) (SegmentIs kind 32) nothing strict inner g contents) spelled)
+    × IsConstructed tag strict levels (λ inner contents. ItemsAre (λ (g : Gathered). Some g) (SegmentIs kind most_levels) nothing strict inner g contents) spelled)
 
 -- ---- each row, from what the rows that it names are spelled as
 
@@ -304,11 +305,11 @@ SpelledBy rows (suc turns) n guise strict levels v spelled = RowOr (RowIs (Spell
 
 -- octets spell a value of row n of a table, within a limit on their number (X.690; `strict` is DER)
 pub record Spells (rows : List TypeRow) (n : ℕ) (strict : Bool) (limit : ℕ) (v : Value) (spelled : List ℕ) : Type 0 where
-  pub by : SpelledBy rows (length rows) n plain strict 32 v spelled
+  pub by : SpelledBy rows (length rows) n plain strict most_levels v spelled
   pub within : length spelled ≤ limit
 
 abbrev pub Ber : List TypeRow → ℕ → Value → List ℕ → Type 0
-Ber rows n v spelled = Spells rows n false 262144 v spelled
+Ber rows n v spelled = Spells rows n false most_octets v spelled
 
 abbrev pub Der : List TypeRow → ℕ → Value → List ℕ → Type 0
-Der rows n v spelled = Spells rows n true 262144 v spelled
+Der rows n v spelled = Spells rows n true most_octets v spelled

@@ -1,7 +1,9 @@
 //! Worked rows: what octets are read as in BER and in DER, and what their value is written as.
 
-use asn1_types::{Class, Part, Parts, RowRefusal, TextKind, TypeId, TypeRow, TypeTable};
-use ber_codec::{LIMIT, ReadFault, ber_octets, ber_read, ber_read_within, der_read};
+use ber_codec::{
+    Class, LIMIT, Part, Parts, ReadFault, RowRefusal, TextKind, TypeId, TypeRow, TypeTable,
+    ber_octets, ber_read, ber_read_within, der_read,
+};
 use osi_base::{Kind, Name, NoMemory, Octets};
 use std::alloc::Global;
 use std::test::*;
@@ -56,7 +58,7 @@ fn part(alloc: Global, name: &str, inner: u32) -> Result<Part, NoMemory> {
 }
 
 /// Octets of a type: what they are read as in BER and in DER, and how their value is written.
-const ROWS: [(u32, &'static [u8], Outcome, Outcome, &'static [u8]); 33] = [
+const ROWS: [(u32, &'static [u8], Outcome, Outcome, &'static [u8]); 34] = [
     (
         INTEGER,
         &[2, 2, 0, 5],
@@ -147,6 +149,13 @@ const ROWS: [(u32, &'static [u8], Outcome, Outcome, &'static [u8]); 33] = [
     (
         SET,
         &[0x31, 6, 2, 1, 7, 0x21, 1, 5],
+        At(5, Kind::Tag),
+        At(5, Kind::Tag),
+        &[],
+    ),
+    (
+        SET,
+        &[0x31, 6, 2, 1, 7, 0x22, 1, 5],
         At(5, Kind::Tag),
         At(5, Kind::Tag),
         &[],
@@ -406,6 +415,46 @@ fn defaults_that_fit_their_types(rt: HostRuntime) -> Result<(), Fail> {
     assert!(rt; is_bad(rt.alloc(), NUMBER, -1, true)?);
     assert!(rt; is_bad(rt.alloc(), OCTETS, 0, false)?);
     Ok(())
+}
+
+/// How many octets are read in BER within a limit.
+fn used_within(
+    alloc: Global,
+    of: u32,
+    octets: &[u8],
+    most: u32,
+) -> Option<Result<usize, ReadFault>> {
+    let table = table(alloc).ok()?;
+    let of = TypeId(of);
+    if !table.has(of) {
+        return None;
+    }
+    Some(ber_read_within(alloc, &table, of, octets, most).map(|read| read.used))
+}
+
+/// Octets of a type within a limit: too long are they once one lies past it, or a complete length
+/// announces that one does.
+const LIMITED: [(u32, &'static [u8], u32, Outcome); 10] = [
+    (OCTETS, &[0x24, 0x80, 4, 1, 7], 5, Short),
+    (OCTETS, &[0x24, 0x80, 4, 1, 7, 0], 5, TooLong(5)),
+    (OCTETS, &[0x24, 0x80, 4, 1, 7, 0], 6, Short),
+    (OCTETS, &[0x24, 0x80, 4, 1, 7, 0, 0], 6, TooLong(5)),
+    (INTEGER, &[2, 0x82], 2, Short),
+    (INTEGER, &[2, 0x82, 0], 2, TooLong(1)),
+    (INTEGER, &[2, 1], 2, TooLong(1)),
+    (ANY, &[0x1F], 1, Short),
+    (ANY, &[0x1F, 0x81], 1, TooLong(0)),
+    (SET, &[0x31, 1, 1], 3, TooLong(3)),
+];
+
+#[test]
+fn octets_within_a_limit(rt: HostRuntime) {
+    for (of, octets, most, outcome) in &LIMITED {
+        match used_within(rt.alloc(), *of, octets, *most) {
+            Some(read) => assert!(rt; is_outcome(read, *outcome)),
+            None => assert!(rt; false),
+        }
+    }
 }
 
 /// A SEQUENCE whose second part has the first one's name is no row.

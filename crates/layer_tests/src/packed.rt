@@ -305,5 +305,9 @@ fn a_lower_limit(rt: HostRuntime) -> Result<(), Fail> {
     assert!(rt; whole.used == 6);
     let fault = packed_read_within(rt.alloc(), &table, of, &flags, 5);
     assert!(rt; matches!(&fault, Err(PackedFault::TooLong { place: 5 })));
+    let fault = packed_read_within(rt.alloc(), &table, TypeId(INTEGER), &[0x09], 5);
+    assert!(rt; matches!(&fault, Err(PackedFault::NotSpelled { place: 0, .. })));
+    let fault = packed_read_within(rt.alloc(), &table, TypeId(INTEGER), &[0x08], 5);
+    assert!(rt; matches!(&fault, Err(PackedFault::TooLong { place: 0 })));
     Ok(())
 }

@@ -104,7 +104,7 @@ unfolding number_at
 number_grows rule = record {
   grows = λ limit s more.
       Grows-bind (with_spot more) (with_spot more) (octet_at limit s) (octet_at limit (grown more s)) _ _ (octet_grows limit s more) (λ n e.
-      sized_grows limit s.place is_size rule n.0 n.1 more);
+      Grows-cond (with_spot more) (is_size n.0) _ _ _ _ (sized_grows limit s.place is_size rule n.0 n.1 more) refl);
 }
 
 string_grows : (few : ℕ → Bool) (rule : List ℕ → Option Value) → GrowsRun (string_at few rule)

@@ -98,7 +98,7 @@ unfolding number_at
 number_inside rule = record {
   each = λ limit s end e.
       then_inside second second end (octet_at limit s) _ (octet_inside limit s end e) (λ n d.
-      sized_inside limit s.place is_size rule n.0 n.1 end d (starts_inside s end e));
+      either_inside second end (is_size n.0) _ _ (sized_inside limit s.place is_size rule n.0 n.1 end d (starts_inside s end e)) (starts_inside s end e));
 }
 
 string_inside : (few : ℕ → Bool) (rule : List ℕ → Option Value) → StaysInside (string_at few rule)

@@ -5,6 +5,7 @@ use Rattle.asn1_types.specs.declared.row.TextKind.{TextKind}
 use Rattle.asn1_types.specs.declared.row.TypeRow.{TypeRow}
 use Rattle.asn1_types.specs.declared.row.TypeRow.TheVariants as row
 use Rattle.asn1_types.specs.Rows.{along}
+use Rattle.asn1_types.specs.Limits.{most_items}
 use Rattle.asn1_types.specs.Defaults.{is_item, may_be_absent, is_default}
 use Rattle.asn1_types.specs.Fits.{are_bits, is_text}
 use Rattle.asn1_types.specs.Value.{Value, boolean, integer, null, octets, bits, object_id, text, parts, list, chosen}
@@ -46,11 +47,11 @@ sized_at limit place few rule n = do
   v ← judge n.1.place (rule c.0)
   Ok (v, c.1)
 
--- a size of one octet, 1 to 8
+-- a size of one octet, 1 to 8; another announces nothing
 unfoldable pub number_at : (List ℕ → Option Value) → Reader
 number_at rule limit s = do
   n ← octet_at limit s
-  sized_at limit s.place is_size rule n
+  if is_size n.0 then sized_at limit s.place is_size rule n else refuse s.place
 
 unfoldable pub string_at : (ℕ → Bool) → (List ℕ → Option Value) → Reader
 string_at few rule limit s = do
@@ -190,10 +191,6 @@ read_by inner row.Any = dead
 
 unfoldable pub reads : List TypeRow → ℕ → Reader
 reads rows n = along dead read_by rows (length rows) n
-
--- the lists of one value have together at most so many items
-abbrev pub most_items : ℕ
-most_items = 131072
 
 abbrev pub start : List ℕ → Spot
 start bytes = record { place = 0; rest = bytes; left = most_items }

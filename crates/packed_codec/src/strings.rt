@@ -57,6 +57,9 @@ pub(crate) fn integer<'a>(
     ensures stops { IfOk result (λ x. GoesOn spot.entry.place (length spot.entry.rest.now) x.1) }
 {
     let (size, behind) = octet(limit, spot)?;
+    if !is_size(size) {
+        return Err(refusal(spot.place));
+    }
     let (octets, after) = announced(limit, spot.place, is_size(size), size as u32, behind)?;
     match integer_of(octets) {
         Some(number) if low <= number && number <= high => Ok((
@@ -81,6 +84,9 @@ pub(crate) fn enumerated<'a>(
     ensures stops { IfOk result (λ x. GoesOn spot.entry.place (length spot.entry.rest.now) x.1) }
 {
     let (size, behind) = octet(limit, spot)?;
+    if !is_size(size) {
+        return Err(refusal(spot.place));
+    }
     let (octets, after) = announced(limit, spot.place, is_size(size), size as u32, behind)?;
     match integer_of(octets) {
         Some(number) if is_item(items, number) => Ok((

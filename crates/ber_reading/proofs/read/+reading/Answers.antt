@@ -3,6 +3,7 @@ use Rattle.std.specs.Prelude.{List, Option, slice_set}
 use Rattle.std.proofs.lemmas.Option.{slice_get_within}
 use Rattle.std.proofs.lemmas.List.{take_rest, length-drop, drop-drop}
 use Rattle.asn1_types.specs.Value.{Value}
+use Rattle.osi_base.specs.declared.words.Kind.TheVariants.{Extra}
 use Rattle.ber_spelling.specs.Order.{rank}
 use Rattle.asn1_types.specs.declared.row.TypeRow.TheVariants.{Sequence, SequenceOf, Set, Choice, Tagged}
 use Rattle.asn1_types.specs.declared.row.Part.{Part}
@@ -10,8 +11,8 @@ use Rattle.asn1_types.specs.Rows.{begins}
 use Rattle.ber_reading.specs.Parts.{parts_from, parts_behind}
 use Rattle.asn1_types.proofs.Sound.{each_part, down_as, choice_few, later_parts}
 use Rattle.ber_spelling.specs.Reading.{opened_of, spot_of, ahead_of, LiesIn}
-use Rattle.ber_spelling.specs.Rules.{items_at, list_item_at, list_done, reads, slot_at, set_done, is_free, is_filled, plain}
-use Rattle.ber_reading.proofs.Slots.{none_length, set_length, slot_taken, slot_fails, slot_gives, set_full, set_lacks, turns_lack}
+use Rattle.ber_spelling.specs.Rules.{items_at, list_item_at, list_done, reads, slot_at, set_done, is_free, is_filled, plain, bare}
+use Rattle.ber_reading.proofs.Slots.{none_length, set_length, slot_taken, slot_fails, slot_gives, set_full, set_lacks, turns_lack, late_fails}
 use Rattle.ber_reading.proofs.Rows.{reads_at}
 use Rattle.ber_reading.proofs.AtOnce.{reads_it, lower}
 use Rattle.ber_reading.specs.AtOnce.{integer_opened, behind}
@@ -152,8 +153,8 @@ slot-returns-then-not-is_free-clause-gives t c =
     let b : begins c.args.table.now c.index-parts-which.result.inner.0 c.args.opened.now.class c.args.opened.now.number ≡ true = cc in
     let taken : is_free (Some c.index-found-which.result) ≡ false = cc in
     let more : c.loop-which.which < length c.args.found.now = omega (arith, c.requires.slots, c.loop-which-test.true) in
-    rw c.refusal.ensures (slot_taken (begins c.args.table.now) (reads c.args.table.now) c.args.parts.now c.loop-which.which c.index-parts-which.result c.index-found-which.result (record { found = c.args.found.now; least = c.args.least }) c.args.scope.now (opened_of c.args.opened.now) (spot_of c.args.spot) _
-    c.loop-which-test.true c.index-parts-which.is b more c.index-found-which.is taken c.loop-which.invariant)
+    late_fails c.late.result (reads c.args.table.now c.index-parts-which.result.inner.0 (bare c.index-parts-which.result.default)) Extra c.args.scope.now (opened_of c.args.opened.now) (spot_of c.args.spot) _ (slot_taken (begins c.args.table.now) (reads c.args.table.now) c.args.parts.now c.loop-which.which c.index-parts-which.result c.index-found-which.result (record { found = c.args.found.now; least = c.args.least }) c.args.scope.now (opened_of c.args.opened.now) (spot_of c.args.spot) _
+    c.loop-which-test.true c.index-parts-which.is b more c.index-found-which.is taken c.loop-which.invariant) c.late.ensures
 
 pub slot-returns-in_err-value-clause-gives : goal.slot-returns-in_err-value-clause-gives
 slot-returns-in_err-value-clause-gives t c =
@@ -302,3 +303,8 @@ value_as-returns-in-Integer-clause-gives t c =
     let low : SFits w64 c.in-Integer.low = search rules in
     let high : SFits w64 c.in-Integer.high = search rules in
     rw (c.in-Integer.is, ← c.tag_or-tag-in-Integer.ensures) (simp to_z-of_z at c.integer.ensures.gives)
+
+pub slot-late-requires : goal.slot-late-requires
+slot-late-requires t c =
+    let lt : c.index-parts-which.result.inner.0 < c.args.of.0 = each_part (λ m. m < c.args.of.0) c.args.parts.now c.loop-which.which c.index-parts-which.result c.requires.below c.loop-which-test.true c.index-parts-which.is in
+    (omega arith, (lt, (c.requires.row, (c.requires.whole, c.requires.start))))
