@@ -1,8 +1,9 @@
 -- The worked cases are runs.
-use Rattle.std.proofs.Common.{◌≡◌, ℕ, ◌≤◌, true, false, List, [], ◌∷◌, ◌++◌, refl, sym, ap, ◌∙◌, arith, true≢false}
+use Rattle.std.proofs.Common.{◌≡◌, ℕ, ◌≤◌, false, List, [], ◌∷◌, ◌++◌, refl, sym, ap, ◌∙◌, arith, true≢false}
 use Rattle.std.specs.Prelude.{Some, None, Contains}
 use Rattle.agreement.specs.Sets.{Pair}
 use Rattle.agreement.specs.Messages.{Apdu}
+use Rattle.agreement.specs.Messages.Problem.{General, OfInvocation, OfResult, OfError}
 use Rattle.agreement.specs.Messages.Apdu.{Invoke, Outcome, Reject}
 use Rattle.agreement.specs.Messages.Mode.{Direct, Reliable}
 use Rattle.agreement.specs.State.{Phase, Handed}
@@ -14,11 +15,13 @@ apdu-read : (a : Apdu) → apdu_of (written_plainly a) ≡ Some a
 apdu-read (Invoke number operation None argument) = refl
 apdu-read (Invoke number operation (Some link) argument) = refl
 apdu-read (Outcome number content) = refl
-apdu-read (Reject number true) = refl
-apdu-read (Reject number false) = refl
+apdu-read (Reject number (General code)) = refl
+apdu-read (Reject number (OfInvocation code)) = refl
+apdu-read (Reject number (OfResult code)) = refl
+apdu-read (Reject number (OfError code)) = refl
 
 pub faithful : IsFaithful
-faithful set value e =
+faithful set value w e =
     ap (λ p. value_of_parts value.identifier p (apdu_of (written_plainly value.apdu))) e ∙ ap (value_of_parts value.identifier (Some value.pair)) (apdu-read value.apdu)
 
 -- what is told apart, for the search
@@ -144,7 +147,7 @@ run-resumed_from_mark f = (
                         (
                           record { comes = refl; is_alive = recovering-alive; is_kept = refl; is_choice = tt },
                           (
-                            record { comes = refl; is_alive = broken-alive; is_kept = refl; is_choice = record { is_known = refl; is_set = search told } },
+                            record { comes = refl; is_alive = broken-alive; is_kept = refl; is_choice = record { has_it = refl; is_set = search told; is_known = search told } },
                             (
                               record { initiates = refl; is_broken = refl },
                               (
@@ -196,13 +199,13 @@ run-resumed_from_nothing f = (
           (
             record { by_transfers = refl; leads = record { is_free = record { is_up = refl; is_calm = refl }; has_turn = refl; is_settled = refl }; is_next = (refl, ([], refl)); is_within = six_octets },
             (
-              record { by_transfers = refl; leads = record { is_free = record { is_up = refl; is_calm = refl }; has_turn = refl; is_settled = refl }; is_due = (refl, refl); is_there = not-none _ },
+              record { by_transfers = refl; leads = record { is_free = record { is_up = refl; is_calm = refl }; has_turn = refl; is_settled = refl }; is_due = (refl, refl); is_writable = refl },
               (
                 record { by_transfers = refl; leads = record { is_free = record { is_up = refl; is_calm = refl }; has_turn = refl; is_settled = refl }; rests = refl },
                 (
                   record { comes = refl; is_alive = recovering-alive; is_kept = refl; is_choice = tt },
                   (
-                    record { comes = refl; is_alive = broken-alive; is_kept = refl; is_choice = record { is_known = refl; is_set = search told } },
+                    record { comes = refl; is_alive = broken-alive; is_kept = refl; is_choice = record { has_it = refl; is_set = search told; is_known = search told } },
                     (
                       record { initiates = refl; is_broken = refl },
                       (
@@ -239,7 +242,7 @@ run-completed_resumed f = (
               (
                 record { comes = refl; is_alive = recovering-alive; is_kept = refl; is_choice = tt },
                 (
-                  record { comes = refl; is_alive = broken-alive; is_kept = refl; is_choice = record { is_known = refl; is_set = search told } },
+                  record { comes = refl; is_alive = broken-alive; is_kept = refl; is_choice = record { has_it = refl; is_set = search told; is_known = search told } },
                   (
                     record { initiates = refl; is_broken = refl },
                     (

@@ -32,7 +32,7 @@ pub record Taking (setup : Setup) (world : World) (role : Role) (message : Messa
   pub pair : SamePair (state_of setup role world) (flight_to setup role world) message
 
 -- a taking of what comes next, also of the acceptance of an opening or a recovery
-pub takes : (setup : Setup) (world : World) (role : Role) (message : Message) (choice : Choice) → IsRun setup world → ComesNext message (flight_to setup role world) → ((state_of setup role world).phase ≡ Over → ⊥) → is_purged role (state_of setup role world).awaits message ≡ false → IsChoice (state_of setup role world) message choice → Taking setup world role message choice
+pub takes : (setup : Setup) (world : World) (role : Role) (message : Message) (choice : Choice) → IsRun setup world → ComesNext message (flight_to setup role world) → ((state_of setup role world).phase ≡ Over → ⊥) → is_purged role (state_of setup role world).awaits message ≡ false → IsChoice setup (state_of setup role world) message choice → Taking setup world role message choice
 takes setup world role message choice run comes alive kept chosen =
     let goes_on : IsRun setup (By role (Takes message choice) ∷ world) = (record { comes = comes; is_alive = alive; is_kept = kept; is_choice = chosen }, run) in
     record { run = goes_on; may = all-no_abort setup world role message choice goes_on; pair = takes-its_pair setup world role message choice goes_on }

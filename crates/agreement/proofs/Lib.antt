@@ -1,4 +1,5 @@
 pub mod Order
+pub mod Names
 pub mod Flights
 pub mod Normal
 pub mod Views
@@ -6,6 +7,7 @@ pub mod Acting
 pub mod Taking
 pub mod Steps
 pub mod Runs
+pub mod Carried
 pub mod DirectWorlds
 pub mod BareWorlds
 pub mod Mail

@@ -3,13 +3,13 @@ use Rattle.std.proofs.Common.{◌≡◌, ℕ, ◌≤◌, true, false, List, [], 
 use Rattle.std.specs.Prelude.{Option, Some, None}
 use Rattle.agreement.specs.Sets.{Role, other, ContextSet, Item}
 use Rattle.agreement.specs.Sets.Role.{Initiator, Responder}
-use Rattle.agreement.specs.Messages.{Apdu, Value, Mode, Setup, Message, Act, Choice}
+use Rattle.agreement.specs.Messages.{Apdu, Value, Mode, Setup, Message, Act, Choice, Calls}
 use Rattle.agreement.specs.Messages.Mode.{Bare, Direct, Reliable}
 use Rattle.agreement.specs.Messages.Apdu.{Invoke, Outcome, Reject}
-use Rattle.agreement.specs.Messages.Act.{Connects, Recovers, Says, Queues, Alters, Marks, Gives, Pleads, Restarts, Starts, Encodes, Sends, Ends, Interrupts, Discards, Resumes, Releases, Aborts, Withdraws}
+use Rattle.agreement.specs.Messages.Act.{Connects, Recovers, Says, Queues, Drops, Alters, Marks, Gives, Pleads, Restarts, Starts, Encodes, Sends, Ends, Interrupts, Discards, Resumes, Releases, Aborts, Withdraws, Fails}
 use Rattle.agreement.specs.Messages.Choice.{Nothing, Accepting, Refusing, Results}
 use Rattle.agreement.specs.Messages.Message.{Connect, Recover, Accept, Refuse, Data, Alter, AlterAnswer, Mark, MarkAnswer, Restart, RestartAnswer, Start, Resume, Chunk, End, EndAnswer, Interrupt, InterruptAnswer, Discard, DiscardAnswer, Give, GiveAnswer, Please, Release, ReleaseAnswer, UserAbort}
-use Rattle.agreement.specs.State.{Phase, Transfer, Calls, State}
+use Rattle.agreement.specs.State.{Phase, Transfer, State}
 use Rattle.agreement.specs.State.Phase.{Idle, Opening, Up, Broken, Over}
 use Rattle.agreement.specs.Calls.{handed_in}
 use Rattle.agreement.specs.Acts.{MayAct, acted, sent_by, marked_in, gave_in}
@@ -131,6 +131,7 @@ acts-unmade setup role x Connects h u = λ j. absurd j
 acts-unmade setup role x Recovers h u = λ j. absurd j
 acts-unmade setup role x (Says value) h u = up-not x _ h.is_free.is_up
 acts-unmade setup role x (Queues context apdu) h u = up-not x _ h.is_up
+acts-unmade setup role x Drops h u = u
 acts-unmade setup role x (Alters items) h u = u
 acts-unmade setup role x Marks h u = go setup.mode
   where
@@ -156,6 +157,7 @@ acts-unmade setup role x Resumes h u = u
 acts-unmade setup role x Releases h u = λ j. absurd j
 acts-unmade setup role x Aborts h u = λ j. absurd j
 acts-unmade setup role x Withdraws h u = λ j. absurd j
+acts-unmade setup role x Fails h u = λ j. absurd j
 
 refusing-unjoined : (p : Phase) → IsUnjoined (refusing p) → IsUnjoined p
 refusing-unjoined Broken j = tt

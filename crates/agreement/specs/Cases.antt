@@ -1,10 +1,11 @@
 -- Worked cases: short lists of events, whose outcome the definitions compute.
-use Rattle.std.specs.Prelude.{◌≡◌, ℕ, zero, suc, Bool, true, false, if◌then◌else◌, ◌++◌, List, [], ◌∷◌, Option, Some, None}
+use Rattle.std.specs.Prelude.{◌≡◌, ℕ, zero, suc, Bool, true, false, nat_eq, nat_lt, ◌&&◌, ◌||◌, if◌then◌else◌, ◌++◌, List, [], ◌∷◌, Option, Some, None}
 use Rattle.agreement.specs.Sets.{Pair, Context, ContextSet, Role, lookup}
 use Rattle.agreement.specs.Sets.Role.{Initiator, Responder}
 use Rattle.agreement.specs.Sets.Item.{Addition, Deletion}
 use Rattle.agreement.specs.Sets.Result.{Rejected, Accepted, AcceptedAs}
-use Rattle.agreement.specs.Messages.{Apdu, Value, Mode, Setup, Message, Act, Choice}
+use Rattle.agreement.specs.Messages.{Apdu, Problem, Calls, Value, Mode, Setup, Message, Act, Choice}
+use Rattle.agreement.specs.Messages.Problem.{General, OfInvocation, OfResult, OfError}
 use Rattle.agreement.specs.Messages.Apdu.{Invoke, Outcome, Reject}
 use Rattle.agreement.specs.Messages.Act.{Connects, Recovers, Says, Queues, Alters, Marks, Gives, Restarts, Starts, Encodes, Sends, Ends, Interrupts, Discards, Resumes}
 use Rattle.agreement.specs.Messages.Choice.{Nothing, Accepting, Results}
@@ -52,21 +53,28 @@ abbrev pub link_code : Option ℕ → ℕ
 link_code None = 0
 link_code (Some link) = suc link
 
+abbrev pub problem_code : Problem → List ℕ
+problem_code (General code) = 0 ∷ code ∷ []
+problem_code (OfInvocation code) = 1 ∷ code ∷ []
+problem_code (OfResult code) = 2 ∷ code ∷ []
+problem_code (OfError code) = 3 ∷ code ∷ []
+
 abbrev pub written_plainly : Apdu → List ℕ
-written_plainly (Invoke number operation link argument) = 0 ∷ number ∷ operation ∷ link_code link ∷ argument ∷ []
-written_plainly (Outcome number content) = 1 ∷ number ∷ content ∷ []
-written_plainly (Reject number true) = 2 ∷ number ∷ []
-written_plainly (Reject number false) = 3 ∷ number ∷ []
+written_plainly (Invoke number operation link argument) = 0 ∷ number ∷ operation ∷ link_code link ∷ argument
+written_plainly (Outcome number content) = 1 ∷ number ∷ content
+written_plainly (Reject number problem) = 2 ∷ number ∷ problem_code problem
 
 abbrev pub link_of : ℕ → Option ℕ
 link_of zero = None
 link_of (suc link) = Some link
 
 abbrev pub apdu_of : List ℕ → Option Apdu
-apdu_of (zero ∷ number ∷ operation ∷ link ∷ argument ∷ []) = Some (Invoke number operation (link_of link) argument)
-apdu_of (suc zero ∷ number ∷ content ∷ []) = Some (Outcome number content)
-apdu_of (suc (suc zero) ∷ number ∷ []) = Some (Reject number true)
-apdu_of (suc (suc (suc zero)) ∷ number ∷ []) = Some (Reject number false)
+apdu_of (zero ∷ number ∷ operation ∷ link ∷ argument) = Some (Invoke number operation (link_of link) argument)
+apdu_of (suc zero ∷ number ∷ content) = Some (Outcome number content)
+apdu_of (suc (suc zero) ∷ number ∷ zero ∷ code ∷ []) = Some (Reject number (General code))
+apdu_of (suc (suc zero) ∷ number ∷ suc zero ∷ code ∷ []) = Some (Reject number (OfInvocation code))
+apdu_of (suc (suc zero) ∷ number ∷ suc (suc zero) ∷ code ∷ []) = Some (Reject number (OfResult code))
+apdu_of (suc (suc zero) ∷ number ∷ suc (suc (suc zero)) ∷ code ∷ []) = Some (Reject number (OfError code))
 apdu_of octets = None
 
 abbrev pub value_of_parts : ℕ → Option Pair → Option Apdu → Option Value
@@ -77,17 +85,51 @@ abbrev pub read_plainly : ContextSet → List ℕ → Option Value
 read_plainly set [] = None
 read_plainly set (identifier ∷ octets) = value_of_parts identifier (lookup set identifier) (apdu_of octets)
 
+-- identifiers are at most 32767 (X.226 8.2)
+abbrev pub has_identifier : Value → Bool
+has_identifier value = nat_lt value.identifier 32768
+
 abbrev pub IsFaithful : Type 0
-IsFaithful = (set : ContextSet) (value : Value) → lookup set value.identifier ≡ Some value.pair → read_plainly set (value.identifier ∷ written_plainly value.apdu) ≡ Some value
+IsFaithful = (set : ContextSet) (value : Value) → has_identifier value ≡ true → lookup set value.identifier ≡ Some value.pair → read_plainly set (value.identifier ∷ written_plainly value.apdu) ≡ Some value
+
+abbrev pub is_name : List ℕ → List ℕ → Bool
+is_name [] [] = true
+is_name [] (arc ∷ arcs) = false
+is_name (arc ∷ arcs) [] = false
+is_name (arc ∷ arcs) (other ∷ others) = nat_eq arc other && is_name arcs others
+
+-- the ends know BER and a packed syntax
+abbrev pub ber : List ℕ
+ber = 2 ∷ 1 ∷ 1 ∷ []
+
+abbrev pub packed : List ℕ
+packed = 2 ∷ 999 ∷ 5 ∷ 1 ∷ []
+
+abbrev pub is_syntax : List ℕ → Bool
+is_syntax name = is_name name ber || is_name name packed
+
+-- an outcome here begins with the number of its operation, and goes on with 0 if it is a result
+abbrev pub has_outcome : ℕ → List ℕ → Bool
+has_outcome operation [] = false
+has_outcome operation (number ∷ rest) = nat_eq number operation
+
+abbrev pub problem_of : Calls → Apdu → Problem
+problem_of calls (Invoke number operation link argument) = OfInvocation 0
+problem_of calls (Outcome number (operation ∷ zero ∷ rest)) = OfResult 0
+problem_of calls (Outcome number content) = OfError 0
+problem_of calls (Reject number problem) = problem
 
 abbrev pub case_setup : Mode → IsFaithful → Setup
 case_setup mode faithful =
     record {
       mode = mode;
-      codec = record { written = λ value. value.identifier ∷ written_plainly value.apdu; read = read_plainly; faithful = faithful };
+      codec = record { written = λ value. value.identifier ∷ written_plainly value.apdu; read = read_plainly; may_write = has_identifier; faithful = faithful };
+      knows = is_syntax;
       silent = λ operation. false;
       links = λ parent child. true;
-      bare_context = record { identifier = 0; pair = record { abstract_syntax = 2 ∷ 999 ∷ 7 ∷ 1 ∷ []; transfer_syntax = 2 ∷ 1 ∷ 1 ∷ [] } };
+      allows = has_outcome;
+      problem = problem_of;
+      bare_context = record { identifier = 0; pair = record { abstract_syntax = 2 ∷ 999 ∷ 7 ∷ 1 ∷ []; transfer_syntax = ber } };
       most_marks = 4096;
       most_octets = 262400;
       most_open = 4096;
@@ -97,13 +139,13 @@ abbrev pub module_in : List ℕ → Pair
 module_in syntax = record { abstract_syntax = 2 ∷ 999 ∷ 7 ∷ 1 ∷ []; transfer_syntax = syntax }
 
 abbrev pub in_ber : Pair
-in_ber = module_in (2 ∷ 1 ∷ 1 ∷ [])
+in_ber = module_in ber
 
 abbrev pub in_packed : Pair
-in_packed = module_in (2 ∷ 999 ∷ 5 ∷ 1 ∷ [])
+in_packed = module_in packed
 
 abbrev pub acse_in_ber : Context
-acse_in_ber = record { identifier = 1; pair = record { abstract_syntax = 2 ∷ 2 ∷ 1 ∷ 0 ∷ 1 ∷ []; transfer_syntax = 2 ∷ 1 ∷ 1 ∷ [] } }
+acse_in_ber = record { identifier = 1; pair = record { abstract_syntax = 2 ∷ 2 ∷ 1 ∷ 0 ∷ 1 ∷ []; transfer_syntax = ber } }
 
 abbrev pub with_five : Pair → ContextSet
 with_five pair = acse_in_ber ∷ record { identifier = 5; pair = pair } ∷ []
@@ -113,7 +155,7 @@ abbrev pub opening : List Event
 opening = Does Initiator Connects ∷ Gets Responder (Accepting (with_five in_ber)) ∷ Gets Initiator Nothing ∷ []
 
 abbrev pub invocation : ℕ → Pair → Value
-invocation number pair = record { identifier = 5; pair = pair; apdu = Invoke number 1 None 5 }
+invocation number pair = record { identifier = 5; pair = pair; apdu = Invoke number 1 None (5 ∷ []) }
 
 -- both delete context 5 before either takes the other's alteration
 abbrev pub collision : List Event
@@ -168,7 +210,7 @@ third_part = 5 ∷ []
 
 abbrev pub begun : List Event
 begun =
-    opening ++ Does Initiator (Queues 5 (Invoke 1 1 None 5)) ∷ Does Initiator Starts ∷ Does Initiator (Encodes 5) ∷
+    opening ++ Does Initiator (Queues 5 (Invoke 1 1 None (5 ∷ []))) ∷ Does Initiator Starts ∷ Does Initiator (Encodes 5) ∷
     Does Initiator (Sends first_part) ∷ Does Initiator Marks ∷ Gets Responder Nothing ∷ Gets Responder Nothing ∷ Gets Responder Nothing ∷ []
 
 -- an interrupt: the confirmation of mark 1 is passed over

@@ -2,12 +2,12 @@
 use Rattle.std.specs.Prelude.{◌≡◌, ℕ, ◌<◌, true, false, if◌then◌else◌, ◌⊎◌, ◌++◌, List, [], ◌∷◌, Option, Some, None}
 use Rattle.agreement.specs.Sets.{Pair, Role, ContextSet, other, lookup, AreDistinct, is_among, identifiers}
 use Rattle.agreement.specs.Sets.Role.{Initiator, Responder}
-use Rattle.agreement.specs.Messages.{Apdu, Value, Setup, Message, Choice}
+use Rattle.agreement.specs.Messages.{Apdu, Invocation, Calls, Value, Setup, Message, Choice}
 use Rattle.agreement.specs.Messages.Message.{Accept, Connect, End}
 use Rattle.agreement.specs.Messages.Act.{Alters, Gives, Says, Queues, Encodes}
 use Rattle.agreement.specs.Messages.Choice.{Accepting}
 use Rattle.agreement.specs.Messages.Apdu.{Invoke, Outcome, Reject}
-use Rattle.agreement.specs.State.{Phase, Awaited, Transfer, Invocation, State, Calls}
+use Rattle.agreement.specs.State.{Phase, Awaited, Transfer, State}
 use Rattle.agreement.specs.State.Phase.{Up, Releasing}
 use Rattle.agreement.specs.State.Awaited.{RestartOf}
 use Rattle.agreement.specs.Acts.{IsNotBare}
@@ -116,13 +116,12 @@ InitiatorLeads setup =
     (state_of setup Initiator (later ++ (By Initiator (Takes (Accept set) choice) ∷ earlier))).phase ≡ Up →
     (state_of setup Initiator (later ++ (By Initiator (Takes (Accept set) choice) ∷ earlier))).turn ≡ true
 
--- the invocation that an APDU is the outcome of, as it is told: of a result, an error, or a reject of
+-- the invocation that an APDU is the outcome of, where it is accepted: of a result, an error, or a reject of
 -- the invocation (X.880 9)
 abbrev pub outcome_in : Apdu → List ℕ
 outcome_in (Invoke number operation link argument) = []
 outcome_in (Outcome number content) = number ∷ []
-outcome_in (Reject number true) = number ∷ []
-outcome_in (Reject number false) = []
+outcome_in (Reject number problem) = number ∷ []
 
 abbrev pub told_by : Setup → State → Option Value → List ℕ
 told_by setup state None = []
@@ -164,7 +163,7 @@ IsAmong apdu (first ∷ rest) = (first ≡ apdu) ⊎ IsAmong apdu rest
 abbrev pub IsHandedIn : List Apdu → Apdu → Type 0
 IsHandedIn handed (Invoke number operation link argument) = IsAmong (Invoke number operation link argument) handed
 IsHandedIn handed (Outcome number content) = IsAmong (Outcome number content) handed
-IsHandedIn handed (Reject number is_of_invocation) = Unit {0}
+IsHandedIn handed (Reject number problem) = Unit {0}
 
 -- the other side's own: each invocation and each outcome that is handed up is one that was handed in
 -- at the other end
@@ -270,7 +269,7 @@ NamesOpen setup calls (Invoke number operation None argument) = is_open number c
 NamesOpen setup calls (Invoke number operation (Some parent) argument) =
     (is_open number calls.peer_open ≡ false) × HasParent setup calls.own_open operation parent
 NamesOpen setup calls (Outcome number content) = is_open number calls.own_open ≡ true
-NamesOpen setup calls (Reject number is_of_invocation) = is_open number calls.own_open ≡ true
+NamesOpen setup calls (Reject number problem) = is_open number calls.own_open ≡ true
 
 -- what is accepted names what is open
 abbrev pub AcceptedNamesOpen : Setup → Type 0
