@@ -24,7 +24,7 @@ module _ (f g : ℕ → Value → Bool) where
   parts_same [] h (present v vs) = refl
   parts_same (p ∷ ps) h no_parts = refl
   parts_same (p ∷ ps) h (absent vs) = ap (λ b. may_be_absent p && b) (parts_same ps h.1 vs)
-  parts_same (p ∷ ps) h (present v vs) = λ i. (h.0 i v && not (is_default p.default v)) && parts_same ps h.1 vs i
+  parts_same (p ∷ ps) h (present v vs) = λ i. (not (is_default p.default v) && h.0 i v) && parts_same ps h.1 vs i
 
   alternative_same : (ps : List Part) → AllByRecursion (λ m. f m ≡ g m) (rows_of_parts ps) → (which : ℕ) → alternative_fits f (slice_get ps which) ≡ alternative_fits g (slice_get ps which)
   alternative_same [] h which = refl
@@ -75,7 +75,7 @@ parts_short f (p ∷ ps) (None ∷ vs) ne = and_false (may_be_absent p) (parts_s
     and_false : (a : Bool) {b : Bool} → false ≡ b → false ≡ (a && b)
     and_false true e = e
     and_false false e = refl
-parts_short f (p ∷ ps) (Some v ∷ vs) ne = and_false (f p.inner.0 v && not (is_default p.default v)) (parts_short f ps vs (λ e. ne (ap suc e)))
+parts_short f (p ∷ ps) (Some v ∷ vs) ne = and_false (not (is_default p.default v) && f p.inner.0 v) (parts_short f ps vs (λ e. ne (ap suc e)))
   where
     and_false : (a : Bool) {b : Bool} → false ≡ b → false ≡ (a && b)
     and_false true e = e

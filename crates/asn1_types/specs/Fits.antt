@@ -94,7 +94,7 @@ text_fits kind v = false
 -- part stands.
 abbrev pub part_fits : (ℕ → Value → Bool) → Part → Option Value → Bool
 part_fits inner p None = may_be_absent p
-part_fits inner p (Some v) = inner p.inner.0 v && not (is_default p.default v)
+part_fits inner p (Some v) = not (is_default p.default v) && inner p.inner.0 v
 
 -- as many parts as the row has
 abbrev pub parts_fit : (ℕ → Value → Bool) → List Part → MaybeValues → Bool

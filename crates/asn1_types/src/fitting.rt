@@ -204,7 +204,7 @@ fn part_fits(table: &TypeTable, of: TypeId, part: &Part, value: &Option<Val>) ->
     ensures { result ≡ part_fits (fits table.now) part.now value.now }
 {
     match value {
-        Some(value) => fits(table, part.inner, value) && !has_default_value(part, value),
+        Some(value) => !has_default_value(part, value) && fits(table, part.inner, value),
         None => may_be_absent(part),
     }
 }

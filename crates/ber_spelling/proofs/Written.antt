@@ -244,14 +244,14 @@ module _ (fit : ℕ → Value → Bool) (write : ℕ → Writer) (rel : ℕ → 
       let t = and_parts (may_be_absent p) (parts_fit fit ps vs) e in
       ([], parts_contents write ps vs, refl, inl (t.0, refl, refl), parts_written levels ps vs (omega arith) t.1 short)
   parts_written levels (p ∷ ps) (present v vs) le e short =
-      let t = and_parts (fit p.inner.0 v && not (is_default p.default v)) (parts_fit fit ps vs) e in
-      let u = and_parts (fit p.inner.0 v) (not (is_default p.default v)) t.0 in
-      let other : is_default p.default v ≡ false = not_true (is_default p.default v) u.1 in
+      let t = and_parts (not (is_default p.default v) && fit p.inner.0 v) (parts_fit fit ps vs) e in
+      let u = and_parts (not (is_default p.default v)) (fit p.inner.0 v) t.0 in
+      let other : is_default p.default v ≡ false = not_true (is_default p.default v) u.0 in
       let s = append_short (write p.inner.0 None v) (parts_contents write ps vs) short in (
         write p.inner.0 None v,
         parts_contents write ps vs,
         refl,
-        inr (v, ap (λ (b : Bool). cond b None (Some v)) other, (each p.inner.0).is None p.default strict levels v tt (omega arith) u.0 (λ k. other) s.0),
+        inr (v, ap (λ (b : Bool). cond b None (Some v)) other, (each p.inner.0).is None p.default strict levels v tt (omega arith) u.1 (λ k. other) s.0),
         parts_written levels ps vs (omega arith) t.1 s.1,
       )
 
@@ -324,10 +324,10 @@ module _ (fit : ℕ → Value → Bool) (write : ℕ → Writer) (rel : ℕ → 
       let t = and_parts (may_be_absent p) (parts_fit fit ps vs) e in
       (t.0, set_spelled levels ps vs (omega arith) t.1 short)
   set_spelled levels (p ∷ ps) (present v vs) le e short =
-      let t = and_parts (fit p.inner.0 v && not (is_default p.default v)) (parts_fit fit ps vs) e in
-      let u = and_parts (fit p.inner.0 v) (not (is_default p.default v)) t.0 in
-      let other : is_default p.default v ≡ false = not_true (is_default p.default v) u.1 in
-      ((each p.inner.0).is None p.default strict levels v tt (omega arith) u.0 (λ k. other) (first_short write Most p ps v vs short), set_spelled levels ps vs (omega arith) t.1 (rest_short write Most p ps v vs short), other)
+      let t = and_parts (not (is_default p.default v) && fit p.inner.0 v) (parts_fit fit ps vs) e in
+      let u = and_parts (not (is_default p.default v)) (fit p.inner.0 v) t.0 in
+      let other : is_default p.default v ≡ false = not_true (is_default p.default v) u.0 in
+      ((each p.inner.0).is None p.default strict levels v tt (omega arith) u.1 (λ k. other) (first_short write Most p ps v vs short), set_spelled levels ps vs (omega arith) t.1 (rest_short write Most p ps v vs short), other)
 
   set_written : (openings : ℕ → List Opening) (levels : ℕ) → ((m : ℕ) (d : Option ℤ) (v : Value) (s : List ℕ) → rel m (bare d) strict levels v s → Told openings m s) → (ps : List Part) (v : Value) → agrees_later (clash openings) ps ≡ false
       → greatest nest (rows_of_parts ps) ≤ levels → sequence_fits (parts_fit fit ps) v ≡ true → length (sequence_contents (set_parts write ps) v) < Most

@@ -71,7 +71,7 @@ values_list (value v vs) = ap (value v) (values_list vs)
 
 module _ (test : ℕ → Value → Bool) (write : ℕ → Writer) (inner : ℕ → Reader) (h : (n : ℕ) → Found (test n) (write n) (inner n)) where
   abbrev fits_present : Part → Value → Bool
-  fits_present p v = test p.inner.0 v && not (is_default p.default v)
+  fits_present p v = not (is_default p.default v) && test p.inner.0 v
 
   present_found : (p : Part) (limit : ℕ) (s : Spot) (o : Option Value) (to : Spot) → AreOctets s.rest → s.place ≤ limit → present_at (inner p.inner.0) p limit s ≡ Ok (o, to)
       → (v : Value) × (o ≡ Some v) × Read limit s (write p.inner.0 v) (items v) (fits_present p v) to
@@ -83,7 +83,7 @@ module _ (test : ℕ → Value → Bool) (write : ℕ → Writer) (inner : ℕ �
       let same = ok_is {A = Option Value × Spot} (Some b.0.0, b.0.1) (o, to) u.1 in
       let r = of_read (test n) (write n) limit s b.0.0 b.0.1 ((h n).found limit s b.0.0 b.0.1 are here b.1) in
       let fit : Read limit s (write n b.0.0) (items b.0.0) (fits_present p b.0.0) b.0.1 =
-      record { parts = r.parts; onward = r.onward; inside = r.inside; spent = r.spent; fits = both (test n b.0.0) (not (is_default p.default b.0.0)) r.fits (ap not u.0) } in
+      record { parts = r.parts; onward = r.onward; inside = r.inside; spent = r.spent; fits = both (not (is_default p.default b.0.0)) (test n b.0.0) (ap not u.0) r.fits } in
       (b.0.0, ap (λ (x : Option Value × Spot). x.0) (sym same), subst (λ (x : Option Value × Spot). Read limit s (write n b.0.0) (items b.0.0) (fits_present p b.0.0) x.1) same fit)
 
   abbrev PartAs : Part → ℕ → Spot → Option Value → Spot → Type 0

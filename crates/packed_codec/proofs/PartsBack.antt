@@ -24,12 +24,12 @@ not_true true e = absurd cc
 not_true false e = refl
 
 module _ (test : ℕ → Value → Bool) (write : ℕ → Writer) (inner : ℕ → Reader) (h : (n : ℕ) → Only (test n) (write n) (inner n)) (limit : ℕ) (lt : limit < 2 ^ 32) where
-  present_back : (p : Part) (place left : ℕ) (v : Value) (rest : List ℕ) → (test p.inner.0 v && not (is_default p.default v)) ≡ true → place + length (write p.inner.0 v) ≤ limit → items v ≤ left → left ≤ most_items
+  present_back : (p : Part) (place left : ℕ) (v : Value) (rest : List ℕ) → (not (is_default p.default v) && test p.inner.0 v) ≡ true → place + length (write p.inner.0 v) ≤ limit → items v ≤ left → left ≤ most_items
       → present_at (inner p.inner.0) p limit (at_spot place (write p.inner.0 v ++ rest) left) ≡ Ok (Some v, at_spot (place + length (write p.inner.0 v)) rest (left - items v))
   unfolding present_at
   present_back p place left v rest f le few most =
-      let t = and_parts (test p.inner.0 v) (not (is_default p.default v)) f in
-      rw ((h p.inner.0).only limit place left v rest t.0 lt le few most, not_true (is_default p.default v) t.1) refl
+      let t = and_parts (not (is_default p.default v)) (test p.inner.0 v) f in
+      rw ((h p.inner.0).only limit place left v rest t.1 lt le few most, not_true (is_default p.default v) t.0) refl
 
   part_back : (p : Part) (place left : ℕ) (o : Option Value) (rest : List ℕ) → part_fits test p o ≡ true → place + length (part_written write p o) ≤ limit → items_of_part o ≤ left → left ≤ most_items
       → part_at (inner p.inner.0) p limit (at_spot place (part_written write p o ++ rest) left) ≡ Ok (o, at_spot (place + length (part_written write p o)) rest (left - items_of_part o))
@@ -86,7 +86,7 @@ module _ (test : ℕ → Value → Bool) (write : ℕ → Writer) (inner : ℕ �
       step_back (part_at (inner p.inner.0) p limit) (λ x. parts_at inner limit x.1 ps >>= λ more. Ok (x.0 ∷ more.0, more.1)) place left 0 (items_of_parts vs) a b rest None (list_of vs) (omega arith) first (rw others refl)
       ∙ ap (λ (k : ℕ). Ok (None ∷ list_of vs, at_spot (place + length (a ++ b)) rest k)) none
   parts_back (p ∷ ps) place left (present v vs) rest f le few most =
-      let t = and_parts (test p.inner.0 v && not (is_default p.default v)) (parts_fit test ps vs) f in
+      let t = and_parts (not (is_default p.default v) && test p.inner.0 v) (parts_fit test ps vs) f in
       let a : List ℕ = part_written write p (Some v) in
       let b : List ℕ = parts_written write ps vs in
       let len = length-append a b in

@@ -190,16 +190,9 @@ abbrev code_test : Code → Bool
 code_test (Local number) = integer_fits (negsuc 9223372036854775807) (pos 9223372036854775807) (integer number)
 code_test (Global arcs) = object_id_fits (object_id arcs)
 
--- a part without a default
-abbrev has_no_default : Bool → Bool
-has_no_default fit = fit && true
-
-passes : (fit : Bool) → fit ≡ true → has_no_default fit ≡ true
-passes fit e = both fit true e refl
-
 abbrev any_test : Option (List ℕ) → Bool
 any_test None = true
-any_test (Some os) = has_no_default (is_whole os) && true
+any_test (Some os) = is_whole os && true
 
 code_passes : (c : Code) → code_fits c ≡ true → code_test c ≡ true
 code_passes (Local n) e = number_fits n e
@@ -207,37 +200,33 @@ code_passes (Global arcs) e = e
 
 any_passes : (os : Option (List ℕ)) → AreWhole os → any_test os ≡ true
 any_passes None h = refl
-any_passes (Some os) h = both (has_no_default (is_whole os)) true (passes (is_whole os) h) refl
+any_passes (Some os) h = both (is_whole os) true h refl
 
 three : (a b c : Bool) → a ≡ true → b ≡ true → c ≡ true → (a && (b && c)) ≡ true
 three a b c e f g = both a (b && c) e (both b c f g)
 
 invoke_fits : (id : ℤ) (c : Code) (os : Option (List ℕ)) → id_test id ≡ true → code_test c ≡ true → AreWhole os → fits head_rows apdu_row (invoke_value id None c os) ≡ true
 unfolding fits
-invoke_fits id (Local n) None i c w = three (has_no_default (id_test id)) (has_no_default (code_test (Local n))) true (passes (id_test id) i) (passes (code_test (Local n)) c) refl
-invoke_fits id (Global arcs) None i c w = three (has_no_default (id_test id)) (has_no_default (code_test (Global arcs))) true (passes (id_test id) i) (passes (code_test (Global arcs)) c) refl
-invoke_fits id (Local n) (Some os) i c w = three (has_no_default (id_test id)) (has_no_default (code_test (Local n))) (any_test (Some os)) (passes (id_test id) i) (passes (code_test (Local n)) c) (any_passes (Some os) w)
-invoke_fits id (Global arcs) (Some os) i c w = three (has_no_default (id_test id)) (has_no_default (code_test (Global arcs))) (any_test (Some os)) (passes (id_test id) i) (passes (code_test (Global arcs)) c) (any_passes (Some os) w)
+invoke_fits id (Local n) None i c w = three (id_test id) (code_test (Local n)) true i c refl
+invoke_fits id (Global arcs) None i c w = three (id_test id) (code_test (Global arcs)) true i c refl
+invoke_fits id (Local n) (Some os) i c w = three (id_test id) (code_test (Local n)) (any_test (Some os)) i c (any_passes (Some os) w)
+invoke_fits id (Global arcs) (Some os) i c w = three (id_test id) (code_test (Global arcs)) (any_test (Some os)) i c (any_passes (Some os) w)
 
 error_fits : (id : ℤ) (c : Code) (os : Option (List ℕ)) → id_test id ≡ true → code_test c ≡ true → AreWhole os → fits head_rows apdu_row (error_value id c os) ≡ true
 unfolding fits
-error_fits id (Local n) None i c w = three (has_no_default (id_test id)) (has_no_default (code_test (Local n))) true (passes (id_test id) i) (passes (code_test (Local n)) c) refl
-error_fits id (Global arcs) None i c w = three (has_no_default (id_test id)) (has_no_default (code_test (Global arcs))) true (passes (id_test id) i) (passes (code_test (Global arcs)) c) refl
-error_fits id (Local n) (Some os) i c w = three (has_no_default (id_test id)) (has_no_default (code_test (Local n))) (any_test (Some os)) (passes (id_test id) i) (passes (code_test (Local n)) c) (any_passes (Some os) w)
-error_fits id (Global arcs) (Some os) i c w = three (has_no_default (id_test id)) (has_no_default (code_test (Global arcs))) (any_test (Some os)) (passes (id_test id) i) (passes (code_test (Global arcs)) c) (any_passes (Some os) w)
+error_fits id (Local n) None i c w = three (id_test id) (code_test (Local n)) true i c refl
+error_fits id (Global arcs) None i c w = three (id_test id) (code_test (Global arcs)) true i c refl
+error_fits id (Local n) (Some os) i c w = three (id_test id) (code_test (Local n)) (any_test (Some os)) i c (any_passes (Some os) w)
+error_fits id (Global arcs) (Some os) i c w = three (id_test id) (code_test (Global arcs)) (any_test (Some os)) i c (any_passes (Some os) w)
 
 result_none_fits : (id : ℤ) (os : List ℕ) → id_test id ≡ true → fits head_rows apdu_row (result_value id None os) ≡ true
 unfolding fits
-result_none_fits id os i = both (has_no_default (id_test id)) true (passes (id_test id) i) refl
+result_none_fits id os i = both (id_test id) true i refl
 
 returned_fits : (id : ℤ) (c : Code) (v : Val) (os : List ℕ) → id_test id ≡ true → code_test c ≡ true → is_whole os ≡ true → fits head_rows apdu_row (result_value id (Some (record { code = c; value = v })) os) ≡ true
 unfolding fits
-returned_fits id (Local n) v os i c w =
-    let code = both (has_no_default (code_test (Local n))) (any_test (Some os)) (passes (code_test (Local n)) c) (any_passes (Some os) w) in
-    three (has_no_default (id_test id)) (has_no_default (has_no_default (code_test (Local n)) && any_test (Some os))) true (passes (id_test id) i) (passes (has_no_default (code_test (Local n)) && any_test (Some os)) code) refl
-returned_fits id (Global arcs) v os i c w =
-    let code = both (has_no_default (code_test (Global arcs))) (any_test (Some os)) (passes (code_test (Global arcs)) c) (any_passes (Some os) w) in
-    three (has_no_default (id_test id)) (has_no_default (has_no_default (code_test (Global arcs)) && any_test (Some os))) true (passes (id_test id) i) (passes (has_no_default (code_test (Global arcs)) && any_test (Some os)) code) refl
+returned_fits id (Local n) v os i c w = three (id_test id) (code_test (Local n) && any_test (Some os)) true i (both (code_test (Local n)) (any_test (Some os)) c (any_passes (Some os) w)) refl
+returned_fits id (Global arcs) v os i c w = three (id_test id) (code_test (Global arcs) && any_test (Some os)) true i (both (code_test (Global arcs)) (any_test (Some os)) c (any_passes (Some os) w)) refl
 
 -- ---- APDUs
 
