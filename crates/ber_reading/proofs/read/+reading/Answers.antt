@@ -307,4 +307,4 @@ value_as-returns-in-Integer-clause-gives t c =
 pub slot-late-requires : goal.slot-late-requires
 slot-late-requires t c =
     let lt : c.index-parts-which.result.inner.0 < c.args.of.0 = each_part (λ m. m < c.args.of.0) c.args.parts.now c.loop-which.which c.index-parts-which.result c.requires.below c.loop-which-test.true c.index-parts-which.is in
-    (omega arith, (lt, (c.requires.row, (c.requires.whole, c.requires.start))))
+    (omega arith, (lt, (c.requires.row, c.requires.whole)))
