@@ -28,6 +28,13 @@ pub mod ByTransfers
 pub mod Stays
 pub mod StaysWorlds
 pub mod Answered
+pub mod Operations
+pub mod Items
+pub mod Few
+pub mod Known
+pub mod Moments
+pub mod PurgedKinds
+pub mod Begun
 pub mod Interface
 pub mod CaseRuns
 pub mod Outcomes

@@ -223,7 +223,7 @@ broken-unjoined Direct p a j = absurd j
 broken-unjoined Reliable p a j = absurd (a refl)
 
 -- a break makes no invocation
-made-broken : (m : Mode) (calls : Calls) → (broken_calls m calls).made ≡ calls.made
+pub made-broken : (m : Mode) (calls : Calls) → (broken_calls m calls).made ≡ calls.made
 made-broken Bare calls = refl
 made-broken Direct calls = refl
 made-broken Reliable calls = refl
@@ -236,7 +236,7 @@ step-unmade setup n a role world (Acts act) h u = acts-unmade setup role (state_
 step-unmade setup n a role world (Takes m choice) h u = takes-unmade setup role (state_of setup role world) m choice a (n world role m choice h) u
 step-unmade setup n a role world (Passes m) h u = u
 
-unmade-kept : (setup : Setup) → NoAbortOfItself setup → (setup.mode ≡ Reliable → ⊥) → (world : World) → IsRun setup world → (role : Role) → Unmade (state_of setup role world)
+pub unmade-kept : (setup : Setup) → NoAbortOfItself setup → (setup.mode ≡ Reliable → ⊥) → (world : World) → IsRun setup world → (role : Role) → Unmade (state_of setup role world)
 unmade-kept setup n a [] h role = λ j. refl
 unmade-kept setup n a (Break ∷ world) h role =
     λ j. made-broken setup.mode (state_of setup role world).calls ∙ unmade-kept setup n a world h.1 role (broken-unjoined setup.mode (state_of setup role world).phase a j)

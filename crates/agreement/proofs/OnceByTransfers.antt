@@ -160,7 +160,7 @@ takes-turned base role x DiscardAnswer choice ns came z h k = none-turned ns cam
 takes-turned base role x m choice ns came z h k = k
 
 -- at an opening the responder is new, and the initiator sends nothing of transfers
-record Opens (base : Setup) (role : Role) (x y : State) : Type 0 where
+pub record Opens (base : Setup) (role : Role) (x y : State) : Type 0 where
   pub new : x ≡ new_end (reliable base) Responder
   pub at_start : y.outgoing ≡ (new_end (reliable base) Initiator).outgoing
 
@@ -235,7 +235,7 @@ Here base role world = Turned (invoked (reliable base) role world) (arrived (rel
 reached-at : (base : Setup) (world : World) (role : Role) → IsRun (reliable base) world → ReliableRelation base role (state_of (reliable base) role world) (state_of (reliable base) (other role) world) (flight_to (reliable base) role world) (flight_to (reliable base) (other role) world) (shared_at (reliable base) world)
 reached-at base world role h = at-role (reliable base) (ReliableRelation base) (reliable-keeps base) role world (reached (reliable base) (ReliableRelation base) (reliable-keeps base) world h)
 
-opens-in : (base : Setup) → NoAbortOfItself (reliable base) → (world : World) (role : Role) (choice : Choice) → IsRun (reliable base) (By role (Takes Connect choice) ∷ world) → IsStep (reliable base) role (state_of (reliable base) role world) (flight_to (reliable base) role world) (Takes Connect choice) → IsRun (reliable base) world → Opens base role (state_of (reliable base) role world) (state_of (reliable base) (other role) world)
+pub opens-in : (base : Setup) → NoAbortOfItself (reliable base) → (world : World) (role : Role) (choice : Choice) → IsRun (reliable base) (By role (Takes Connect choice) ∷ world) → IsStep (reliable base) role (state_of (reliable base) role world) (flight_to (reliable base) role world) (Takes Connect choice) → IsRun (reliable base) world → Opens base role (state_of (reliable base) role world) (state_of (reliable base) (other role) world)
 opens-in base n world role choice h k r = go (flight_to (reliable base) role world) k (reached-at base world role r)
   where
     go : (flight : List Sending) → IsStep (reliable base) role (state_of (reliable base) role world) flight (Takes Connect choice) → ReliableRelation base role (state_of (reliable base) role world) (state_of (reliable base) (other role) world) flight (flight_to (reliable base) (other role) world) (shared_at (reliable base) world) → Opens base role (state_of (reliable base) role world) (state_of (reliable base) (other role) world)

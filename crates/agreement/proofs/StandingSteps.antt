@@ -268,7 +268,7 @@ taker-takes base role x y down up shared m choice a r k same = by_before k.befor
         record {
           may = λ w. record { is_up = k.taker.up; in_mode = record { lacks_turn = k.taker.turn; rests = k.inactive_taker } };
           next =
-              Leads (record { up = k.taker.up; turn = refl; gave = g }) k.giver
+              Leads (record { up = k.taker.up; turn = refl; gave = refl }) k.giver
               (to-own base role (record x { turn = true }) y (down ++ (GiveAnswer ∷ [])) up shared k.taker.calm k.taker.own
               (turns base role x y down up shared k.taker k.giver k.inactive_taker k.inactive_giver k.gave k.held k.inter k.set k.shared_inter k.pairs k.others
               (subst (λ q. SavedIn (reliable base) x.outgoing.transfer (saved_of q shared)) same k.theirs) k.saved k.quiet_up (subst AllQuiet (sym rest) k.quiet_behind)));

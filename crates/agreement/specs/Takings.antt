@@ -389,7 +389,7 @@ taken setup role state DiscardAnswer choice =
       calls = cut_item state.outgoing.transfer state.calls;
       outgoing = record state.outgoing { transfer = None };
     })
-taken setup role state Give choice = record state { turn = true }
+taken setup role state Give choice = record state { turn = true; gave = false }
 taken setup role state GiveAnswer choice = record state { gave = false }
 taken setup role state (Please priority) choice = state
 taken setup role state Release choice = ended state
