@@ -4,4 +4,7 @@
 
 mod rows;
 
-pub use rows::{activities_sent, activities_taken, association_taken, marks_sent, marks_taken};
+pub use rows::{
+    activities_sent, activities_taken, alterations_sent, association_taken, marks_sent,
+    marks_taken, purged, transfers_sent, transfers_taken,
+};
