@@ -1,14 +1,14 @@
 -- What each message on its way satisfied when it was sent, what comes next satisfies.
-use Rattle.std.proofs.Common.{List, [], ◌∷◌, ◌++◌, subst}
+use Rattle.std.proofs.Common.{◌≡◌, List, [], ◌∷◌, ◌++◌, subst, true}
 use Rattle.agreement.specs.Sets.{Role, other, IsRising, AreKnown, IsKnownSet, ContextSet}
 use Rattle.agreement.specs.Sets.Role.{Initiator, Responder}
-use Rattle.agreement.specs.Messages.{Mode, Setup, Message, Act, Choice}
+use Rattle.agreement.specs.Messages.{Value, Mode, Setup, Message, Act, Choice}
 use Rattle.agreement.specs.Messages.Mode.{Bare, Direct, Reliable}
 use Rattle.agreement.specs.Messages.Act.{Connects, Recovers, Says, Queues, Drops, Alters, Marks, Gives, Pleads, Restarts, Starts, Encodes, Sends, Ends, Interrupts, Discards, Resumes, Releases, Aborts, Withdraws, Fails}
 use Rattle.agreement.specs.Messages.Choice.{Nothing, Accepting, Refusing, Results}
-use Rattle.agreement.specs.Messages.Message.{Connect, Recover, Accept, Alter, AlterAnswer, Mark, Restart, End, Interrupt, Discard, Give, Release}
+use Rattle.agreement.specs.Messages.Message.{Connect, Recover, Accept, Data, Alter, AlterAnswer, Mark, Restart, End, Interrupt, Discard, Give, Release}
 use Rattle.agreement.specs.State.{State}
-use Rattle.agreement.specs.Acts.{sent_by}
+use Rattle.agreement.specs.Acts.{MayAct, sent_by}
 use Rattle.agreement.specs.Takings.{IsChoice, answer_to, mark_answer, give_answer}
 use Rattle.agreement.specs.Worlds.{Step, World, Sending, sendings, state_of, shared_at, flight_to, taken_off, sent_by_step, ComesNext, IsRun}
 use Rattle.agreement.specs.Worlds.Step.{Acts, Takes, Passes}
@@ -117,3 +117,72 @@ step-sent setup world role (Passes m) h = tt
 
 pub was-sent : (setup : Setup) (world : World) (role : Role) (m : Message) → IsRun setup world → ComesNext m (flight_to setup role world) → WasSent setup m
 was-sent setup world role m h c = comes-as (WasSent setup) m (flight_to setup role world) c (carried setup (λ role s. WasSent setup s.message) (step-sent setup) world h role)
+
+-- values are sent by saying them alone, so each that comes may be written
+abbrev pub IsWritten : Setup → Message → Type 0
+IsWritten setup (Data value) = setup.codec.may_write value ≡ true
+IsWritten setup message = Unit {0}
+
+acts-written : (setup : Setup) (role : Role) (x : State) (act : Act) (at : ContextSet) → MayAct setup role x act → AllSent (λ s. IsWritten setup s.message) (sendings at (sent_by setup x act))
+acts-written setup role x Connects at h = (tt, tt)
+acts-written setup role x Recovers at h = (tt, tt)
+acts-written setup role x (Says value) at h = (h.is_writable, tt)
+acts-written setup role x (Queues context apdu) at h = tt
+acts-written setup role x Drops at h = tt
+acts-written setup role x (Alters items) at h = (tt, tt)
+acts-written setup role x Marks at h = (tt, tt)
+acts-written setup role x Gives at h = (tt, tt)
+acts-written setup role x (Pleads priority) at h = (tt, tt)
+acts-written setup role x (Restarts number) at h = (tt, tt)
+acts-written setup role x Starts at h = (tt, tt)
+acts-written setup role x (Encodes context) at h = tt
+acts-written setup role x (Sends octets) at h = (tt, tt)
+acts-written setup role x Ends at h = (tt, tt)
+acts-written setup role x Interrupts at h = (tt, tt)
+acts-written setup role x Discards at h = (tt, tt)
+acts-written setup role x Resumes at h = (tt, tt)
+acts-written setup role x Releases at h = (tt, tt)
+acts-written setup role x Aborts at h = (tt, tt)
+acts-written setup role x Withdraws at h = tt
+acts-written setup role x Fails at h = tt
+
+answers-written : (setup : Setup) (x : State) (m : Message) (choice : Choice) (at : ContextSet) → AllSent (λ s. IsWritten setup s.message) (sendings at (answer_to setup x m choice))
+answers-written setup x Connect (Accepting set) at = (tt, tt)
+answers-written setup x Connect Refusing at = (tt, tt)
+answers-written setup x Connect Nothing at = tt
+answers-written setup x Connect (Results results) at = tt
+answers-written setup x Recover (Accepting set) at = (tt, tt)
+answers-written setup x Recover Refusing at = (tt, tt)
+answers-written setup x Recover Nothing at = tt
+answers-written setup x Recover (Results results) at = tt
+answers-written setup x (Alter items) (Results results) at = (tt, tt)
+answers-written setup x (Alter items) (Accepting set) at = tt
+answers-written setup x (Alter items) Refusing at = tt
+answers-written setup x (Alter items) Nothing at = tt
+answers-written setup x (Mark number) choice at = go setup.mode
+  where
+    go : (m : Mode) → AllSent (λ s. IsWritten setup s.message) (sendings at (mark_answer m number))
+    go Bare = tt
+    go Direct = tt
+    go Reliable = (tt, tt)
+answers-written setup x (Restart number list) choice at = (tt, tt)
+answers-written setup x (End number) choice at = (tt, tt)
+answers-written setup x Interrupt choice at = (tt, tt)
+answers-written setup x Discard choice at = (tt, tt)
+answers-written setup x Give choice at = go setup.mode
+  where
+    go : (m : Mode) → AllSent (λ s. IsWritten setup s.message) (sendings at (give_answer m))
+    go Bare = tt
+    go Direct = tt
+    go Reliable = (tt, tt)
+answers-written setup x Release choice at = (tt, tt)
+answers-written setup x m choice at = tt
+
+step-written : (setup : Setup) → SendsOnly setup (λ role s. IsWritten setup s.message)
+step-written setup world role (Acts act) h = acts-written setup role (state_of setup role world) act (shared_at setup world).set h.0
+step-written setup world role (Takes m choice) h = answers-written setup (state_of setup role world) m choice (shared_at setup world).set
+step-written setup world role (Passes m) h = tt
+
+pub comes-written : (setup : Setup) (world : World) (role : Role) (value : Value) → IsRun setup world → ComesNext (Data value) (flight_to setup role world) → setup.codec.may_write value ≡ true
+comes-written setup world role value h c =
+    comes-as (IsWritten setup) (Data value) (flight_to setup role world) c (carried setup (λ role s. IsWritten setup s.message) (step-written setup) world h role)

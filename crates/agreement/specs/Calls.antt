@@ -30,7 +30,7 @@ opened setup number operation context calls =
 abbrev pub has_room : Setup → ℕ → List Invocation → Bool
 has_room setup operation calls = setup.silent operation || nat_lt (length calls) setup.most_open
 
--- the invocation is open, and its operation has this outcome (X.880 8.1)
+-- the invocation is open, and its operation has this outcome (X.880 8)
 abbrev pub may_answer : Setup → List Invocation → ℕ → List ℕ → Bool
 may_answer setup [] number content = false
 may_answer setup (call ∷ calls) number content =

@@ -86,7 +86,7 @@ abbrev pub read_plainly : ContextSet → List ℕ → Option Value
 read_plainly set [] = None
 read_plainly set (identifier ∷ octets) = value_of_parts identifier (lookup set identifier) (apdu_of octets)
 
--- identifiers are at most 32767 (X.226 8.2)
+-- identifiers are at most 32767 (this project's own limit)
 abbrev pub has_identifier : Value → Bool
 has_identifier value = nat_lt value.identifier 32768
 

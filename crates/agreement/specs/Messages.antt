@@ -2,7 +2,7 @@
 use Rattle.std.specs.Prelude.{◌≡◌, ℕ, Bool, true, false, List, Option, Some}
 use Rattle.agreement.specs.Sets.{Pair, Context, ContextSet, Item, Result, Listed, lookup}
 
--- why an APDU is rejected (X.880 9.5): a problem of any APDU, of an invocation, of a result, of an error
+-- why an APDU is rejected (X.880 9): a problem of any APDU, of an invocation, of a result, of an error
 pub data Problem : Type 0 where
   General : (code : ℕ) → Problem
   OfInvocation : (code : ℕ) → Problem

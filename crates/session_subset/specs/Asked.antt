@@ -5,7 +5,7 @@ use Rattle.session_subset.specs.declared.fault.SessionFault.{SessionFault}
 use Rattle.session_subset.specs.declared.session.Taken.{Taken}
 use Rattle.session_subset.specs.declared.session.Taken.TheVariants.{Passed, Word}
 use Rattle.session_subset.specs.declared.state.Awaited.{Awaited}
-use Rattle.session_subset.specs.declared.state.Awaited.TheVariants.{Restart}
+use Rattle.session_subset.specs.declared.state.Awaited.TheVariants.{Restart, Release}
 use Rattle.session_subset.specs.declared.state.Owed.{Owed}
 use Rattle.session_subset.specs.declared.state.Owed.TheVariants as owing
 use Rattle.session_subset.specs.declared.state.SessionState.{SessionState}
@@ -15,6 +15,10 @@ use Rattle.session_subset.specs.Requests.{is_up}
 abbrev pub awaits_a_restart : Awaited → Bool
 awaits_a_restart (Restart number) = true
 awaits_a_restart _ = false
+
+abbrev pub awaits_release : Awaited → Bool
+awaits_release Release = true
+awaits_release _ = false
 
 abbrev pub owes_a_restart : Owed → Bool
 owes_a_restart (owing.Restart number) = true

@@ -1,14 +1,17 @@
 -- Laws of one machine, over all histories that it can stand for.
-use Rattle.std.specs.Prelude.{◌≡◌, true, false, List, [], ◌∷◌}
+use Rattle.std.specs.Prelude.{◌≡◌, Bool, true, false, not, List, [], ◌∷◌}
 use Rattle.osi_base.specs.declared.session_word.SessionWord.{SessionWord}
+use Rattle.session_subset.specs.declared.state.Awaited.{Awaited}
+use Rattle.session_subset.specs.declared.state.SessionPhase.{SessionPhase}
+use Rattle.session_subset.specs.declared.state.SessionPhase.TheVariants.{Up, Releasing, Over}
 use Rattle.session_subset.specs.declared.state.SessionRole.{SessionRole}
 use Rattle.session_subset.specs.declared.state.SessionState.{SessionState}
 use Rattle.session_subset.specs.Steps.{History}
 use Rattle.session_subset.specs.Reading.{state_of}
 use Rattle.spdu_codec.specs.Written.{Fits, AreWritable}
-use Rattle.session_subset.specs.Requests.{may_request, units_sent}
+use Rattle.session_subset.specs.Requests.{is_waiting, may_request, units_sent}
 use Rattle.session_subset.specs.Machine.{IsLawful}
-use Rattle.session_subset.specs.Asked.{awaits_a_restart, owes_a_restart}
+use Rattle.session_subset.specs.Asked.{awaits_a_restart, awaits_release, owes_a_restart}
 
 -- the turn is here, or on its way to the peer, or neither: never both
 abbrev pub TurnOrGiving : Type 0
@@ -41,3 +44,16 @@ abbrev pub SentIsWritable : Type 0
 SentIsWritable =
     (role : SessionRole) (state : SessionState) (word : SessionWord) → Fits word → may_request role state word ≡ true
     → IsNoneOrWritable (units_sent state word)
+
+-- an own release is unanswered exactly while the association is being released, and any other own
+-- request only while it stands, unless the association is over
+abbrev pub is_fitting : SessionPhase → Awaited → Bool
+is_fitting Over awaited = true
+is_fitting Releasing awaited = awaits_release awaited
+is_fitting Up awaited = not (awaits_release awaited)
+is_fitting _ awaited = not (is_waiting awaited)
+
+abbrev pub AwaitedInPhase : Type 0
+AwaitedInPhase =
+    (role : SessionRole) (history : History) → IsLawful role history
+    → is_fitting (state_of role history).phase (state_of role history).awaited ≡ true

@@ -133,7 +133,10 @@ pub fn broke(role: SessionRole, state: &mut SessionState)
 
 /// CN, of either end, with its requirements.
 fn met(state: &mut SessionState, connect: &SessionConnect)
-    ensures { state.new ≡ record state.old { met = true; proposed = requirements_of connect.now.requirements } }
+    ensures { state.new ≡ record state.old {
+      met = true;
+      proposed = requirements_of connect.now.requirements;
+    } }
 {
     state.met = true;
     state.proposed = connect.requirements.unwrap_or(0);
@@ -156,7 +159,15 @@ fn connect_taken(role: SessionRole, state: &mut SessionState, connect: &SessionC
 
 /// AC, of either end: the association stands, with the turn at the initiator.
 fn accepted(role: SessionRole, state: &mut SessionState, requirements: Option<u16>)
-    ensures { state.new ≡ record state.old { phase = SessionPhase.Up; units = selected role.reliable state.old.proposed (requirements_of requirements); turn = role.initiator; giving = false; awaited = Awaited.Nothing; owed = Owed.Nothing; mark = 0 } }
+    ensures { state.new ≡ record state.old {
+      phase = SessionPhase.Up;
+      units = selected role.reliable state.old.proposed (requirements_of requirements);
+      turn = role.initiator;
+      giving = false;
+      awaited = Awaited.Nothing;
+      owed = Owed.Nothing;
+      mark = 0;
+    } }
 {
     state.phase = SessionPhase::Up;
     state.units = selected(role.reliable, state.proposed, requirements.unwrap_or(0));
@@ -168,14 +179,20 @@ fn accepted(role: SessionRole, state: &mut SessionState, requirements: Option<u1
 }
 
 fn refuse_sent(state: &mut SessionState)
-    ensures { state.new ≡ record state.old { phase = refused state.old.phase; owed = Owed.Nothing } }
+    ensures { state.new ≡ record state.old {
+      phase = refused state.old.phase;
+      owed = Owed.Nothing;
+    } }
 {
     state.phase = refused(state.phase);
     state.owed = Owed::Nothing;
 }
 
 fn finish_sent(state: &mut SessionState)
-    ensures { state.new ≡ record state.old { phase = SessionPhase.Releasing; awaited = Awaited.Release } }
+    ensures { state.new ≡ record state.old {
+      phase = SessionPhase.Releasing;
+      awaited = Awaited.Release;
+    } }
 {
     state.phase = SessionPhase::Releasing;
     state.awaited = Awaited::Release;
@@ -189,7 +206,10 @@ fn disconnect_sent(state: &mut SessionState)
 }
 
 fn disconnect_taken(state: &mut SessionState)
-    ensures { state.new ≡ record state.old { phase = SessionPhase.Over; awaited = Awaited.Nothing } }
+    ensures { state.new ≡ record state.old {
+      phase = SessionPhase.Over;
+      awaited = Awaited.Nothing;
+    } }
 {
     state.phase = SessionPhase::Over;
     state.awaited = Awaited::Nothing;
@@ -233,7 +253,10 @@ fn mark_taken(role: SessionRole, state: &mut SessionState, number: u32)
 
 /// RS: an own restart that crosses it has lost.
 fn restart_taken(state: &mut SessionState, number: u32)
-    ensures { state.new ≡ record state.old { awaited = Awaited.Nothing; owed = Owed.Restart number } }
+    ensures { state.new ≡ record state.old {
+      awaited = Awaited.Nothing;
+      owed = Owed.Restart number;
+    } }
 {
     state.awaited = Awaited::Nothing;
     state.owed = Owed::Restart(number);
@@ -248,21 +271,36 @@ fn restarted(role: SessionRole, state: &mut SessionState, number: u32)
 }
 
 fn restart_answered(role: SessionRole, state: &mut SessionState, number: u32)
-    ensures { state.new ≡ record state.old { turn = role.initiator; mark = number - 1; owed = Owed.Nothing } }
+    ensures { state.new ≡ record state.old {
+      turn = role.initiator;
+      mark = number - 1;
+      owed = Owed.Nothing;
+    } }
 {
     restarted(role, state, number);
     state.owed = Owed::Nothing;
 }
 
 fn restart_answer_taken(role: SessionRole, state: &mut SessionState, number: u32)
-    ensures { state.new ≡ record state.old { turn = role.initiator; mark = number - 1; awaited = Awaited.Nothing } }
+    ensures { state.new ≡ record state.old {
+      turn = role.initiator;
+      mark = number - 1;
+      awaited = Awaited.Nothing;
+    } }
 {
     restarted(role, state, number);
     state.awaited = Awaited::Nothing;
 }
 
 fn own_started(state: &mut SessionState, activity: u32)
-    ensures { state.new ≡ record state.old { own = record { number = activity; progress = Progress.Running; marks = 0; confirmed = 0 } } }
+    ensures { state.new ≡ record state.old {
+      own = record {
+        number = activity;
+        progress = Progress.Running;
+        marks = 0;
+        confirmed = 0;
+      };
+    } }
 {
     state.own = OwnActivity {
         number: activity,
@@ -273,7 +311,14 @@ fn own_started(state: &mut SessionState, activity: u32)
 }
 
 fn peer_started(state: &mut SessionState, activity: u32, mark: u32)
-    ensures { state.new ≡ record state.old { peer = record { number = activity; active = true; marks = mark; confirmed = mark } } }
+    ensures { state.new ≡ record state.old {
+      peer = record {
+        number = activity;
+        active = true;
+        marks = mark;
+        confirmed = mark;
+      };
+    } }
 {
     state.peer = PeerActivity {
         number: activity,
@@ -284,7 +329,12 @@ fn peer_started(state: &mut SessionState, activity: u32, mark: u32)
 }
 
 fn own_resumed(state: &mut SessionState, mark: u32)
-    ensures { state.new ≡ record state.old { own = record state.old.own { progress = Progress.Running; marks = mark } } }
+    ensures { state.new ≡ record state.old {
+      own = record state.old.own {
+        progress = Progress.Running;
+        marks = mark;
+      };
+    } }
 {
     state.own.progress = Progress::Running;
     state.own.marks = mark;
@@ -292,7 +342,12 @@ fn own_resumed(state: &mut SessionState, mark: u32)
 
 /// AD: what was confirmed is void.
 fn discard_sent(state: &mut SessionState)
-    ensures { state.new ≡ record state.old { awaited = Awaited.Discard; own = record state.old.own { confirmed = 0 } } }
+    ensures { state.new ≡ record state.old {
+      awaited = Awaited.Discard;
+      own = record state.old.own {
+        confirmed = 0;
+      };
+    } }
 {
     state.awaited = Awaited::Discard;
     state.own.confirmed = 0;
@@ -300,7 +355,14 @@ fn discard_sent(state: &mut SessionState)
 
 /// AD: of the activity only the number stays.
 fn discard_taken(state: &mut SessionState)
-    ensures { state.new ≡ record state.old { owed = Owed.Discard; peer = record state.old.peer { active = false; marks = 0; confirmed = 0 } } }
+    ensures { state.new ≡ record state.old {
+      owed = Owed.Discard;
+      peer = record state.old.peer {
+        active = false;
+        marks = 0;
+        confirmed = 0;
+      };
+    } }
 {
     state.owed = Owed::Discard;
     state.peer.active = false;
@@ -310,7 +372,12 @@ fn discard_taken(state: &mut SessionState)
 
 /// AI or AE: the peer's activity is no longer in progress, and this answer is owed.
 fn peer_stopped(state: &mut SessionState, owed: Owed)
-    ensures { state.new ≡ record state.old { owed = owed; peer = record state.old.peer { active = false } } }
+    ensures { state.new ≡ record state.old {
+      owed = owed;
+      peer = record state.old.peer {
+        active = false;
+      };
+    } }
 {
     state.owed = owed;
     state.peer.active = false;
@@ -318,7 +385,12 @@ fn peer_stopped(state: &mut SessionState, owed: Owed)
 
 /// AIA or ADA: the own activity is so.
 fn own_stopped(state: &mut SessionState, progress: Progress)
-    ensures { state.new ≡ record state.old { awaited = Awaited.Nothing; own = record state.old.own { progress = progress } } }
+    ensures { state.new ≡ record state.old {
+      awaited = Awaited.Nothing;
+      own = record state.old.own {
+        progress = progress;
+      };
+    } }
 {
     state.awaited = Awaited::Nothing;
     state.own.progress = progress;

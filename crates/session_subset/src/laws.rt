@@ -1,6 +1,6 @@
 //! Laws of the session machine. Each is the contract of a function that does nothing.
 
-ghost use Rattle.session_subset.specs.Laws.{AnswersOfMode, SentIsWritable, TurnOrGiving, UnitsOfMode};
+ghost use Rattle.session_subset.specs.Laws.{AnswersOfMode, AwaitedInPhase, SentIsWritable, TurnOrGiving, UnitsOfMode};
 
 /// At each moment of a machine the turn is here, or is on its way to the peer, or neither.
 pub fn turn_or_giving()
@@ -21,4 +21,10 @@ pub fn answers_of_mode()
 /// read.
 pub fn sent_is_writable()
     ensures { SentIsWritable }
+{}
+
+/// Unless the association is over, an own release is unanswered exactly in the phase of release, and
+/// another own request only while the association stands.
+pub fn awaited_in_phase()
+    ensures { AwaitedInPhase }
 {}

@@ -185,9 +185,10 @@ impl SessionState {
         }
     }
 
-    /// DT
+    /// Why data (DT) are refused.
     fn data_refusal(&self, role: SessionRole) -> Option<SessionRefusal>
-        ensures { result ≡ first_that_holds (waiting self.now ∷ in_reliable role (no_turn self.now ∷ no_activity self.now ∷ ending self.now ∷ [])) }
+        ensures { result ≡ first_that_holds (waiting self.now ∷ in_reliable role (no_turn self.now
+            ∷ no_activity self.now ∷ ending self.now ∷ [])) }
     {
         if self.is_waiting() {
             return Some(SessionRefusal::Waiting);
@@ -201,9 +202,10 @@ impl SessionState {
         self.activity_refusal()
     }
 
-    /// TD
+    /// Why typed data (TD) are refused.
     fn typed_refusal(&self) -> Option<SessionRefusal>
-        ensures { result ≡ first_that_holds (not_negotiated self.now.units.typed_data ∷ waiting self.now ∷ []) }
+        ensures { result ≡ first_that_holds (not_negotiated self.now.units.typed_data
+            ∷ waiting self.now ∷ []) }
     {
         if !self.units.typed_data {
             return Some(SessionRefusal::NotNegotiated);
@@ -214,9 +216,11 @@ impl SessionState {
         None
     }
 
-    /// MIP
+    /// Why a mark (MIP) is refused.
     fn mark_refusal(&self, role: SessionRole) -> Option<SessionRefusal>
-        ensures { result ≡ first_that_holds (not_negotiated self.now.units.minor_synchronize ∷ waiting self.now ∷ no_turn self.now ∷ in_reliable role (no_activity self.now ∷ ending self.now ∷ [])) }
+        ensures { result ≡ first_that_holds (not_negotiated self.now.units.minor_synchronize
+            ∷ waiting self.now ∷ no_turn self.now ∷ in_reliable role (no_activity self.now
+            ∷ ending self.now ∷ [])) }
     {
         if !self.units.minor_synchronize {
             return Some(SessionRefusal::NotNegotiated);
@@ -233,9 +237,10 @@ impl SessionState {
         self.activity_refusal()
     }
 
-    /// GT
+    /// Why a giving of the minor token (GT) is refused.
     fn give_refusal(&self, role: SessionRole) -> Option<SessionRefusal>
-        ensures { result ≡ first_that_holds (not_negotiated (not role.reliable && self.now.units.minor_synchronize) ∷ waiting self.now ∷ no_turn self.now ∷ []) }
+        ensures { result ≡ first_that_holds (not_negotiated (not role.reliable
+            && self.now.units.minor_synchronize) ∷ waiting self.now ∷ no_turn self.now ∷ []) }
     {
         if role.reliable || !self.units.minor_synchronize {
             return Some(SessionRefusal::NotNegotiated);
@@ -249,9 +254,10 @@ impl SessionState {
         None
     }
 
-    /// GTC
+    /// Why a giving of all tokens (GTC) is refused.
     fn give_confirm_refusal(&self) -> Option<SessionRefusal>
-        ensures { result ≡ first_that_holds (not_negotiated self.now.units.activity_management ∷ waiting self.now ∷ no_turn self.now ∷ activity_open self.now ∷ []) }
+        ensures { result ≡ first_that_holds (not_negotiated self.now.units.activity_management
+            ∷ waiting self.now ∷ no_turn self.now ∷ activity_open self.now ∷ []) }
     {
         if !self.units.activity_management {
             return Some(SessionRefusal::NotNegotiated);
@@ -270,9 +276,10 @@ impl SessionState {
         }
     }
 
-    /// PT
+    /// Why a request for the turn (PT) is refused.
     fn please_refusal(&self) -> Option<SessionRefusal>
-        ensures { result ≡ first_that_holds (not_negotiated self.now.units.minor_synchronize ∷ waiting self.now ∷ has_turn self.now ∷ []) }
+        ensures { result ≡ first_that_holds (not_negotiated self.now.units.minor_synchronize
+            ∷ waiting self.now ∷ has_turn self.now ∷ []) }
     {
         if !self.units.minor_synchronize {
             return Some(SessionRefusal::NotNegotiated);
@@ -286,9 +293,10 @@ impl SessionState {
         None
     }
 
-    /// RS
+    /// Why a restart (RS) is refused.
     fn restart_refusal(&self) -> Option<SessionRefusal>
-        ensures { result ≡ first_that_holds (not_negotiated self.now.units.resynchronize ∷ waiting self.now ∷ []) }
+        ensures { result ≡ first_that_holds (not_negotiated self.now.units.resynchronize
+            ∷ waiting self.now ∷ []) }
     {
         if !self.units.resynchronize {
             return Some(SessionRefusal::NotNegotiated);
@@ -299,9 +307,10 @@ impl SessionState {
         None
     }
 
-    /// AI and AD
+    /// Why an interrupt (AI) or a discard (AD) is refused.
     fn stop_refusal(&self) -> Option<SessionRefusal>
-        ensures { result ≡ first_that_holds (not_negotiated self.now.units.activity_management ∷ waiting self.now ∷ no_activity self.now ∷ ending self.now ∷ []) }
+        ensures { result ≡ first_that_holds (not_negotiated self.now.units.activity_management
+            ∷ waiting self.now ∷ no_activity self.now ∷ ending self.now ∷ []) }
     {
         if !self.units.activity_management {
             return Some(SessionRefusal::NotNegotiated);
@@ -312,9 +321,10 @@ impl SessionState {
         self.activity_refusal()
     }
 
-    /// AR
+    /// Why a resumption (AR) is refused.
     fn resume_refusal(&self) -> Option<SessionRefusal>
-        ensures { result ≡ first_that_holds (not_negotiated self.now.units.activity_management ∷ waiting self.now ∷ not_suspended self.now ∷ no_turn self.now ∷ []) }
+        ensures { result ≡ first_that_holds (not_negotiated self.now.units.activity_management
+            ∷ waiting self.now ∷ not_suspended self.now ∷ no_turn self.now ∷ []) }
     {
         if !self.units.activity_management {
             return Some(SessionRefusal::NotNegotiated);
@@ -331,9 +341,10 @@ impl SessionState {
         None
     }
 
-    /// AS
+    /// Why the start of an activity (AS) is refused.
     fn start_refusal(&self) -> Option<SessionRefusal>
-        ensures { result ≡ first_that_holds (not_negotiated self.now.units.activity_management ∷ waiting self.now ∷ no_turn self.now ∷ activity_left self.now ∷ []) }
+        ensures { result ≡ first_that_holds (not_negotiated self.now.units.activity_management
+            ∷ waiting self.now ∷ no_turn self.now ∷ activity_left self.now ∷ []) }
     {
         if !self.units.activity_management {
             return Some(SessionRefusal::NotNegotiated);
@@ -347,9 +358,10 @@ impl SessionState {
         self.left_refusal()
     }
 
-    /// AE
+    /// Why the end of an activity (AE) is refused.
     fn end_refusal(&self) -> Option<SessionRefusal>
-        ensures { result ≡ first_that_holds (not_negotiated self.now.units.activity_management ∷ waiting self.now ∷ no_turn self.now ∷ no_activity self.now ∷ ending self.now ∷ []) }
+        ensures { result ≡ first_that_holds (not_negotiated self.now.units.activity_management
+            ∷ waiting self.now ∷ no_turn self.now ∷ no_activity self.now ∷ ending self.now ∷ []) }
     {
         if !self.units.activity_management {
             return Some(SessionRefusal::NotNegotiated);
@@ -363,9 +375,10 @@ impl SessionState {
         self.activity_refusal()
     }
 
-    /// FN
+    /// Why a release (FN) is refused.
     fn release_refusal(&self, role: SessionRole) -> Option<SessionRefusal>
-        ensures { result ≡ first_that_holds (waiting self.now ∷ in_reliable role (no_turn self.now ∷ []) ++ activity_left self.now ∷ []) }
+        ensures { result ≡ first_that_holds (waiting self.now ∷ in_reliable role (no_turn self.now
+            ∷ []) ++ activity_left self.now ∷ []) }
     {
         if self.is_waiting() {
             return Some(SessionRefusal::Waiting);

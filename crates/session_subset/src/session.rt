@@ -84,7 +84,16 @@ impl Session {
     /// A machine at the initiator or the responder of an association that isn't asked for yet, for
     /// reliable or direct mode.
     pub fn new(alloc: Global, initiator: bool, reliable: bool) -> Session
-        ensures made { result ≡ record { role = record { initiator = initiator; reliable = reliable }; state = new_state (record { initiator = initiator; reliable = reliable }) } }
+        ensures made { result ≡ record {
+          role = record {
+            initiator = initiator;
+            reliable = reliable;
+          };
+          state = new_state (record {
+            initiator = initiator;
+            reliable = reliable;
+          });
+        } }
         ensures history { StandsFor result [] }
     {
         let role = SessionRole {
@@ -152,11 +161,18 @@ impl Session {
     /// row of the word's conditions that fails, or `NoMemory`, and changes nothing.
     pub fn request(&mut self, word: SessionWord) -> Result<Spdus, SessionRefusal>
         requires { may_request self.old.role self.old.state word ≡ true }
-        ensures refused { IfSome (refusal_of self.old.role self.old.state word) (λ refusal. result ≡ Err refusal) }
-        ensures accepted { IfNone (refusal_of self.old.role self.old.state word) (MatchResult result (λ units. units ≡ units_sent self.old.state word) (λ refusal. refusal ≡ SessionRefusal.NoMemory)) }
-        ensures state { MatchResult result (λ _. self.new ≡ record self.old { state = after self.old.role self.old.state (requested word) }) (λ _. self.new ≡ self.old) }
+        ensures refused { IfSome (refusal_of self.old.role self.old.state word) (λ refusal. result
+            ≡ Err refusal) }
+        ensures accepted { IfNone (refusal_of self.old.role self.old.state word) (MatchResult result
+            (λ units. units ≡ units_sent self.old.state word) (λ refusal. refusal
+            ≡ SessionRefusal.NoMemory)) }
+        ensures state { MatchResult result (λ _. self.new ≡ record self.old {
+          state = after self.old.role self.old.state (requested word);
+        }) (λ _. self.new
+            ≡ self.old) }
         // Where the machine stood for a history, it stands for it with the word sent.
-        ensures history { (h : History) → StandsFor self.old h → OnOk result (StandsFor self.new (requested word ∷ h)) }
+        ensures history { (h : History) → StandsFor self.old h
+            → OnOk result (StandsFor self.new (requested word ∷ h)) }
     {
         if let Some(refusal) = self.state.refusal(self.role, &word) {
             return Err(refusal);
@@ -177,10 +193,13 @@ impl Session {
     /// memory.
     pub fn take(&mut self, spdu: Spdu) -> Result<Taken, SessionFault>
         ensures answer { result ≡ taking self.old.role self.old.state spdu }
-        ensures state { self.new ≡ record self.old { state = after_taking self.old.role self.old.state result } }
+        ensures state { self.new ≡ record self.old {
+          state = after_taking self.old.role self.old.state result;
+        } }
         // Where the machine stood for a history, it stands for it with what came, unless it was out
         // of place.
-        ensures history { (h : History) → StandsFor self.old h → OnOk result (StandsFor self.new (step_of spdu result ∷ h)) }
+        ensures history { (h : History) → StandsFor self.old h
+            → OnOk result (StandsFor self.new (step_of spdu result ∷ h)) }
     {
         if is_purged(self.role, self.state.awaited, &spdu) || moves_nothing(&spdu) {
             return Ok(Taken::Passed);
@@ -197,16 +216,22 @@ impl Session {
 
     /// A transport connection was asked for: CR was sent, or taken.
     pub fn transport_asked(&mut self)
-        ensures state { self.new ≡ record self.old { state = after self.old.role self.old.state transport_asked } }
-        ensures history { (h : History) → StandsFor self.old h → StandsFor self.new (transport_asked ∷ h) }
+        ensures state { self.new ≡ record self.old {
+          state = after self.old.role self.old.state transport_asked;
+        } }
+        ensures history { (h : History) → StandsFor self.old h → StandsFor self.new (transport_asked
+            ∷ h) }
     {
         transport_asked(self.role, &mut self.state);
     }
 
     /// That connection was refused: DR was sent, or taken.
     pub fn transport_refused(&mut self)
-        ensures state { self.new ≡ record self.old { state = after self.old.role self.old.state transport_refused } }
-        ensures history { (h : History) → StandsFor self.old h → StandsFor self.new (transport_refused ∷ h) }
+        ensures state { self.new ≡ record self.old {
+          state = after self.old.role self.old.state transport_refused;
+        } }
+        ensures history { (h : History) → StandsFor self.old h
+            → StandsFor self.new (transport_refused ∷ h) }
     {
         transport_refused(self.role, &mut self.state);
     }
@@ -215,7 +240,9 @@ impl Session {
     /// other is over. An own activity in progress is suspended, the peer's is no longer in progress,
     /// nothing is awaited or owed; the activities' numbers and marks stay.
     pub fn broke(&mut self)
-        ensures state { self.new ≡ record self.old { state = after self.old.role self.old.state broke } }
+        ensures state { self.new ≡ record self.old {
+          state = after self.old.role self.old.state broke;
+        } }
         ensures history { (h : History) → StandsFor self.old h → StandsFor self.new (broke ∷ h) }
     {
         broke(self.role, &mut self.state);

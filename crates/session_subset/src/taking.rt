@@ -186,7 +186,8 @@ impl SessionState {
     }
 
     fn may_take_connect(&self, role: SessionRole) -> bool
-        ensures { result ≡ ((not role.initiator && not self.now.met) && is_callable self.now.phase) }
+        ensures { result ≡ ((not role.initiator && not self.now.met)
+            && is_callable self.now.phase) }
     {
         !role.initiator && !self.met && is_callable(self.phase)
     }
@@ -209,7 +210,8 @@ impl SessionState {
     }
 
     fn may_take_restart(&self, number: u32) -> bool
-        ensures { result ≡ (((is_up self.now.phase && self.now.units.resynchronize) && owes_nothing self.now.owed) && is_up_to_next number self.now.mark) }
+        ensures { result ≡ (((is_up self.now.phase && self.now.units.resynchronize)
+            && owes_nothing self.now.owed) && is_up_to_next number self.now.mark) }
     {
         is_up(self.phase)
             && self.units.resynchronize
@@ -218,7 +220,8 @@ impl SessionState {
     }
 
     fn may_take_give_confirm(&self) -> bool
-        ensures { result ≡ (((is_up self.now.phase && self.now.units.activity_management) && owes_nothing self.now.owed) && peer_rests self.now) }
+        ensures { result ≡ (((is_up self.now.phase && self.now.units.activity_management)
+            && owes_nothing self.now.owed) && peer_rests self.now) }
     {
         is_up(self.phase)
             && self.units.activity_management
@@ -227,7 +230,8 @@ impl SessionState {
     }
 
     fn may_take_release(&self, role: SessionRole) -> bool
-        ensures { result ≡ (((not role.initiator && is_up self.now.phase) && owes_nothing self.now.owed) && (not role.reliable || peer_rests self.now)) }
+        ensures { result ≡ (((not role.initiator && is_up self.now.phase)
+            && owes_nothing self.now.owed) && (not role.reliable || peer_rests self.now)) }
     {
         !role.initiator
             && is_up(self.phase)
@@ -237,7 +241,8 @@ impl SessionState {
 
     /// Whether a word of the peer's activity may be taken, with what else it asks.
     fn may_take_in_activity(&self) -> bool
-        ensures { result ≡ (((is_up self.now.phase && self.now.units.activity_management) && owes_nothing self.now.owed) && self.now.peer.active) }
+        ensures { result ≡ (((is_up self.now.phase && self.now.units.activity_management)
+            && owes_nothing self.now.owed) && self.now.peer.active) }
     {
         is_up(self.phase)
             && self.units.activity_management
@@ -247,7 +252,8 @@ impl SessionState {
 
     /// Whether an activity of the peer may begin or go on.
     fn may_take_beginning(&self) -> bool
-        ensures { result ≡ ((is_up self.now.phase && self.now.units.activity_management) && peer_rests self.now) }
+        ensures { result ≡ ((is_up self.now.phase && self.now.units.activity_management)
+            && peer_rests self.now) }
     {
         is_up(self.phase) && self.units.activity_management && self.peer_rests()
     }
