@@ -1,5 +1,5 @@
 -- Rows of fixed tables of types.
-use Rattle.std.specs.Prelude.{ℕ, ◌^◌, Bool, true, false, ◌&&◌, List, [], ◌∷◌, ◌++◌, is_none, nat_lt}
+use Rattle.std.specs.Prelude.{ℕ, ◌^◌, Bool, true, false, ◌&&◌, List, [], ◌∷◌, ◌++◌, is_none, nat_lt, None}
 use Rattle.asn1_types.specs.declared.row.Part.{Part}
 use Rattle.asn1_types.specs.declared.row.Class.{Class}
 use Rattle.asn1_types.specs.declared.row.Class.TheVariants.{Context}
@@ -8,7 +8,7 @@ use Rattle.asn1_types.specs.declared.row.TypeRow.TheVariants.{Tagged}
 use Rattle.asn1_types.specs.Table.{refusal}
 
 abbrev pub part : List ℕ → ℕ → Bool → Part
-part name row optional = record { name = name; inner = record { 0 = row }; optional = optional }
+part name row optional = record { name = name; inner = record { 0 = row }; optional = optional; default = None }
 
 -- a context tag in the place of a row's own, and one around it
 abbrev pub implicit : ℕ → ℕ → TypeRow

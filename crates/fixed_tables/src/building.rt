@@ -17,6 +17,7 @@ pub fn part(alloc: Global, name: &str, row: u32, optional: bool) -> Result<Part,
         name: Name::from_str(alloc, name)?,
         inner: TypeId(row),
         optional,
+        default: None,
     })
 }
 
