@@ -40,6 +40,7 @@ fn part(alloc: Global, name: &str, row: u32, optional: bool) -> Result<Part, NoM
         name: Name::from_str(alloc, name)?,
         inner: TypeId(row),
         optional,
+        default: None,
     })
 }
 

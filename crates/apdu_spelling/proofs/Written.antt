@@ -22,7 +22,7 @@ use Rattle.ber_spelling.proofs.WrittenFields.{contents_short}
 use Rattle.ber_spelling.proofs.Written.{written_spelled as value_spelled}
 use Rattle.ber_spelling.proofs.Wholes.{whole_is}
 use Rattle.ber_spelling.proofs.WholeSpelled.{written_whole as value_whole}
-use Rattle.packed_codec.specs.Rules.{most_items}
+use Rattle.asn1_types.specs.Limits.{most_items}
 use Rattle.packed_codec.specs.Writing.{packed, items}
 use Rattle.packed_codec.specs.Laws.{packs}
 use Rattle.stub_tables.specs.declared.tables.Tables.{Tables}

@@ -1,17 +1,17 @@
 -- The fixed table of heads, as rows of types. In BER and DER what is carried stands in a head as one whole value of
 -- any type, the last of its SEQUENCE (X.882 9). In the packed syntax it stands behind the head, which ends with a mark
 -- where it may lack.
-use Rattle.std.specs.Prelude.{ℕ, ◌+◌, pos, negsuc, true, false, List, [], ◌∷◌, codes}
+use Rattle.std.specs.Prelude.{ℕ, ◌+◌, pos, negsuc, true, false, List, [], ◌∷◌, None, codes}
 use Rattle.asn1_types.specs.declared.row.Part.{Part}
 use Rattle.asn1_types.specs.declared.row.Class.TheVariants.{Context}
 use Rattle.asn1_types.specs.declared.row.TypeRow.{TypeRow}
 use Rattle.asn1_types.specs.declared.row.TypeRow.TheVariants.{Integer, ObjectId, Null, Boolean, Sequence, Choice, Tagged, Any}
 
 abbrev pub part : List ℕ → ℕ → Part
-part name row = record { name = name; inner = record { 0 = row }; optional = false }
+part name row = record { name = name; inner = record { 0 = row }; optional = false; default = None }
 
 abbrev pub optional_part : List ℕ → ℕ → Part
-optional_part name row = record { name = name; inner = record { 0 = row }; optional = true }
+optional_part name row = record { name = name; inner = record { 0 = row }; optional = true; default = None }
 
 -- a tag of the context class in the place of the row's own
 abbrev pub tagged : ℕ → ℕ → TypeRow

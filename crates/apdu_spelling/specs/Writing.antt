@@ -8,7 +8,7 @@ use Rattle.asn1_types.specs.declared.table.TypeTable.{TypeTable}
 use Rattle.asn1_types.specs.declared.row.TypeId.{TypeId}
 use Rattle.asn1_types.specs.Fits.{is_number, fits}
 use Rattle.ber_spelling.specs.Writing.{written}
-use Rattle.packed_codec.specs.Rules.{most_items}
+use Rattle.asn1_types.specs.Limits.{most_items}
 use Rattle.packed_codec.specs.Writing.{packed, items}
 use Rattle.packed_codec.specs.Laws.{packs}
 use Rattle.stub_tables.specs.declared.tables.Tables.{Tables}

@@ -1,0 +1,10 @@
+use Rattle.std.proofs.Common.{not, nat_eq, rules, tests, ◌∙◌}
+use Rattle.std.proofs.lemmas.Fn.{filter_same}
+use Rattle.osi_base.specs.declared.words.SetItem.{SetItem}
+use Rattle.context_sets.proofs.Placing.{remove-filter}
+use Rattle.context_sets.proofs.sets.remove.Goals as goal
+
+pub returns-clause-items : goal.returns-clause-items
+returns-clause-items c =
+    filter_same _ (λ (item : SetItem). not (nat_eq item.id c.args.id)) _ (λ x b f k. search (rules, tests)) _ _ c.retain.ensures.filtered
+    ∙ remove-filter c.args.id c.args.items.now.items

@@ -1,0 +1,9 @@
+pub mod Sets
+pub mod Syntaxes
+pub mod Alterations
+pub mod Held
+pub mod Asking
+pub mod Policy
+pub mod Results
+pub mod Places
+pub mod Met

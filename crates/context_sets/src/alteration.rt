@@ -1,0 +1,10 @@
+//! Alterations.
+
+use osi_base::{Ids, Proposals};
+
+/// An alteration of a set: contexts to be added, and contexts to be deleted (X.226 8.4.2).
+#[derive(Debug, Drop)]
+pub struct Alteration {
+    pub added: Proposals,
+    pub deleted: Ids,
+}

@@ -1,0 +1,21 @@
+//! The defined context set of one end, and the alterations that it asks for and answers (X.216,
+//! X.226): which may be asked for, what is answered, and the set after each.
+#![tactic(auto)]
+
+mod alteration;
+mod asking;
+mod contexts;
+mod fault;
+mod judging;
+mod results;
+mod rules;
+mod sets;
+mod settling;
+mod syntaxes;
+
+pub use alteration::Alteration;
+pub use contexts::Contexts;
+pub use fault::{SetFault, SetRefusal};
+pub use results::accepted_list;
+pub use rules::{Rejection, Rules};
+pub use sets::{pair_of, put, remove};
