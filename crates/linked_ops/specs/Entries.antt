@@ -54,3 +54,11 @@ is_open_or_none (Some key) entries = is_open key entries
 abbrev pub IsFirst : Key → List Entry → Option Key → List Entry → Type 0
 IsFirst key entries None rest = (children_of key entries ≡ []) × (children_of key rest ≡ [])
 IsFirst key entries (Some child) rest = children_of key entries ≡ child ∷ children_of key rest
+
+-- behind these entries: keys are distinct, and each stands behind the one above it
+abbrev pub AreBehind : List Entry → List Entry → Type 0
+AreBehind front [] = Unit {0}
+AreBehind front (e ∷ es) = (is_open e.0 front ≡ false) × (is_open_or_none e.1 front ≡ true) × AreBehind (front ++ e ∷ []) es
+
+abbrev pub IsForest : List Entry → Type 0
+IsForest entries = AreBehind [] entries

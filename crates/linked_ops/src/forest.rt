@@ -1,7 +1,7 @@
 //! The forest of open invocations.
 
 ghost use Rattle.std.specs.Prelude.{◌≡◌, [], IfOk, ℕ};
-ghost use Rattle.linked_ops.specs.Entries.{is_open, parent_of, children_of, closed, post_order_of};
+ghost use Rattle.linked_ops.specs.Entries.{is_open, parent_of, children_of, closed, post_order_of, IsForest};
 ghost use Rattle.linked_ops.specs.Opening.{IsOpened};
 
 use crate::children::Children;
@@ -28,7 +28,11 @@ impl Model for Forest {
 
     ghost Value = { List (Key × Option Key) };
 
+    ghost use Rattle.linked_ops.specs.Entries.{IsForest};
+
     ghost view = { λ f. f.entries.items };
+
+    ghost invariant = { λ f. IsForest f.entries.items };
 }
 
 impl Forest {
@@ -40,6 +44,14 @@ impl Forest {
             alloc,
             entries: Vec::new(alloc),
         }
+    }
+
+    /// Does nothing. Its contract says that keys are distinct, and that each stands behind the one
+    /// above it.
+    pub fn is_forest(&self)
+        ensures { IsForest self.now }
+    {
+        let _entries = &self.entries;
     }
 
     /// Whether the key is open.
@@ -61,7 +73,7 @@ impl Forest {
                 return Err(ForestRefusal::ParentAbsent(above));
             }
         }
-        self.entries.push((key, parent))?;
+        rows::put(&mut self.entries, key, parent)?;
         Ok(())
     }
 
@@ -71,9 +83,7 @@ impl Forest {
         ensures answer { result ≡ is_open key self.old }
         ensures after { self.new ≡ closed key self.old }
     {
-        let was_open = rows::take_away(&mut self.entries, &key);
-        rows::orphan(self.entries.as_mut_slice(), &key);
-        was_open
+        rows::close_key(&mut self.entries, &key)
     }
 
     /// The key above this one; none where it is a root or isn't open.

@@ -1,9 +1,9 @@
 //! The entries of a forest as a list.
 
-ghost use Rattle.std.specs.Prelude.{◌≡◌, ◌++◌, ◌<◌, length, map, OnOk, IfSome};
+ghost use Rattle.std.specs.Prelude.{◌≡◌, ◌++◌, ◌∷◌, [], ◌<◌, length, map, true, false, OnOk, OnErr, IfSome};
 ghost use Rattle.std.specs.List.{position_from};
 ghost use Rattle.linked_ops.specs.Keys.{same_key, is_under};
-ghost use Rattle.linked_ops.specs.Entries.{Entry as entry, is_open, parent_of, orphaned, without, under, is_root, post_order_of};
+ghost use Rattle.linked_ops.specs.Entries.{Entry as entry, is_open, is_open_or_none, IsForest, parent_of, orphaned, without, closed, under, is_root, post_order_of};
 
 use crate::key::Key;
 use osi_base::NoMemory;
@@ -108,4 +108,29 @@ pub(crate) fn put_all(entries: &[Entry], told: &mut Vec<Key>) -> Result<(), NoMe
             put_all(rest, told)
         }
     }
+}
+
+/// Puts a key at the end, under an open one or as a root.
+pub(crate) fn put(entries: &mut Vec<Entry>, key: Key, parent: Option<Key>) -> Result<(), NoMemory>
+    requires forest { IsForest entries.old.items }
+    requires fresh { is_open key entries.old.items ≡ false }
+    requires placed { is_open_or_none parent entries.old.items ≡ true }
+    ensures ok { OnOk result (entries.new.items ≡ entries.old.items ++ (key, parent) ∷ []) }
+    ensures err { OnErr result (entries.new.items ≡ entries.old.items) }
+    ensures forest { IsForest entries.new.items }
+{
+    match entries.push((key, parent)) {
+        Ok(()) => Ok(()),
+        Err(_) => Err(NoMemory),
+    }
+}
+
+/// Takes a key away and makes its children roots; false exactly where it isn't there.
+pub(crate) fn close_key(entries: &mut Vec<Entry>, key: &Key) -> bool
+    ensures answer { result ≡ is_open key.now entries.old.items }
+    ensures after { entries.new.items ≡ closed key.now entries.old.items }
+{
+    let was_open = take_away(entries, key);
+    orphan(entries.as_mut_slice(), key);
+    was_open
 }
