@@ -1,3 +1,4 @@
 pub mod Marks
 pub mod Transfers
 pub mod PurgedWords
+pub mod Restarts
