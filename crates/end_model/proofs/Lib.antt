@@ -2,3 +2,4 @@ pub mod Marks
 pub mod Transfers
 pub mod PurgedWords
 pub mod Restarts
+pub mod Resuming

@@ -18,7 +18,7 @@ use Rattle.agreement.specs.Takings.{restored}
 use Rattle.end_model.specs.Seen.{role_seen, set_seen, saved_seen, queued_seen, phase_seen, outgoing_seen, seen}
 use Rattle.end_model.specs.Rows.{at}
 
-if-map : {A B : Type 0} (f : A → B) (b : Bool) (x y : A) → f (if b then x else y) ≡ (if b then f x else f y)
+pub if-map : {A B : Type 0} (f : A → B) (b : Bool) (x y : A) → f (if b then x else y) ≡ (if b then f x else f y)
 if-map f true x y = refl
 if-map f false x y = refl
 

@@ -1,5 +1,10 @@
 -- Each request that an end sends, and each message that it takes, is an act or a taking of the model.
-use Rattle.std.specs.Prelude.{◌≡◌, ℕ, suc, List, [], Bool, Option, Some}
+use Rattle.std.specs.Prelude.{◌≡◌, ℕ, suc, List, [], ◌∷◌, Bool, Option, Some}
+use Rattle.end_rules.specs.Messages.{Resume}
+use Rattle.end_rules.specs.State.{confirmed_of}
+use Rattle.end_rules.specs.TakesData.{part_in}
+use Rattle.agreement.specs.Messages.Act.{Resumes}
+use Rattle.agreement.specs.Messages.Message.{Resume as model_resume, Chunk as model_chunk}
 use Rattle.dialogue.specs.declared.config.Phase.TheVariants.{Opening, Recovering}
 use Rattle.end_rules.specs.TakesTransport.{after_transport}
 use Rattle.end_rules.specs.Faults.{over}
@@ -144,3 +149,9 @@ pub record Connections : Type 0 where
       seen (at mode base) (over body) ≡ acted (setup_seen free mode base) (seen (at mode base) body) Aborts
   pub withdraws : (mode : Mode) (free : Free) (base : Base) (body : Body) →
       seen (at mode base) (over body) ≡ acted (setup_seen free mode base) (seen (at mode base) body) Withdraws
+
+-- Resumptions: of the own transfer as it is sent, of the peer's activity as it is taken, and a part of it.
+pub record Resumptions : Type 0 where
+  pub sent : SendsAs Reliable (λ body. Session (OfActivities (Resume body.sending.started (confirmed_of body.sending.current)))) (λ body. Resumes)
+  pub resumed : (activity : ℕ) (mark : ℕ) → TakesAs Reliable (OfActivities (Resume activity mark)) (model_resume activity mark) Nothing
+  pub part : (value : Value) → TakesAs Reliable (OfData (Values (value ∷ []))) (model_chunk (part_in value.content)) Nothing
