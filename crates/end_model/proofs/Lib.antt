@@ -3,3 +3,4 @@ pub mod Transfers
 pub mod PurgedWords
 pub mod Restarts
 pub mod Resuming
+pub mod Breaking

@@ -20,7 +20,7 @@ use Rattle.end_model.specs.Seen.{set_seen, piece_seen, queued_seen, current_seen
 use Rattle.end_model.specs.Rows.{at, SendsAs, TakesAs}
 
 -- a change of the current transfer that is one of the model's
-on-current : (base : Base) (change : Transfer → Transfer) (seen_change : model.Transfer → model.Transfer) → ((t : Transfer) → current_seen base (change t) ≡ seen_change (current_seen base t)) → (started : ℕ) (queue : List Queued) (current : Option Transfer) → outgoing_seen base (on_current change (record { started = started; current = current; queue = queue })) ≡ model_on seen_change (outgoing_seen base (record { started = started; current = current; queue = queue }))
+pub on-current : (base : Base) (change : Transfer → Transfer) (seen_change : model.Transfer → model.Transfer) → ((t : Transfer) → current_seen base (change t) ≡ seen_change (current_seen base t)) → (started : ℕ) (queue : List Queued) (current : Option Transfer) → outgoing_seen base (on_current change (record { started = started; current = current; queue = queue })) ≡ model_on seen_change (outgoing_seen base (record { started = started; current = current; queue = queue }))
 on-current base change seen_change h started queue None = refl
 on-current base change seen_change h started queue (Some t) =
     let put : model.Transfer → model.Outgoing = λ x. record { started = started; transfer = Some x; queue = map (queued_seen base) queue } in

@@ -15,6 +15,10 @@ use Rattle.osi_base.specs.declared.presentation_word.PresentationReject.{Present
 use Rattle.dialogue.specs.declared.config.Mode.{Mode}
 use Rattle.dialogue.specs.declared.config.Mode.TheVariants.{Direct, Reliable}
 use Rattle.end_rules.specs.Sets.{next_number}
+use Rattle.end_rules.specs.History.{after_broke, broken_phase}
+use Rattle.end_rules.specs.State.{Unused}
+use Rattle.agreement.specs.Takings.{broken, broken_phase as model_broken_phase}
+use Rattle.end_model.specs.Seen.{mode_seen, phase_seen}
 use Rattle.end_rules.specs.Base.{Base}
 use Rattle.end_rules.specs.State.{Body}
 use Rattle.end_rules.specs.Messages.{Message, Session, Word, OfAssociation, OfData, OfMarks, OfActivities, Value, Values, AlterContext, MarkAck, RestartAck, End, InterruptAck, DiscardAck, unit_of, AbortData, Refuse, Finish, Disconnect, Abort, Mark, Restart, Give, Please, GiveConfirm, GiveAck, Start, EndAck, Interrupt, Discard}
@@ -155,3 +159,10 @@ pub record Resumptions : Type 0 where
   pub sent : SendsAs Reliable (λ body. Session (OfActivities (Resume body.sending.started (confirmed_of body.sending.current)))) (λ body. Resumes)
   pub resumed : (activity : ℕ) (mark : ℕ) → TakesAs Reliable (OfActivities (Resume activity mark)) (model_resume activity mark) Nothing
   pub part : (value : Value) → TakesAs Reliable (OfData (Values (value ∷ []))) (model_chunk (part_in value.content)) Nothing
+
+-- A break of the connection, where the phase after it is the model's: of an opening that breaks before its CN the model
+-- knows nothing, and it is over here.
+pub record Broke : Type 0 where
+  pub breaks : (mode : Mode) (free : Free) (base : Base) (body : Body) →
+      phase_seen Unused (broken_phase mode body.link.phase) ≡ model_broken_phase (mode_seen mode) (phase_seen body.link.stage body.link.phase) →
+      seen (at mode base) (after_broke (at mode base) body) ≡ broken (setup_seen free mode base) (seen (at mode base) body)

@@ -1,6 +1,6 @@
 //! Each row is the contract of a function with an empty body.
 
-ghost use Rattle.end_model.specs.Rows.{AssociationTaken, MarksSent, MarksTaken, ActivitiesSent, ActivitiesTaken, TransfersSent, TransfersTaken, AlterationsSent, Purged, RestartsTaken, Connections, Resumptions};
+ghost use Rattle.end_model.specs.Rows.{AssociationTaken, MarksSent, MarksTaken, ActivitiesSent, ActivitiesTaken, TransfersSent, TransfersTaken, AlterationsSent, Purged, RestartsTaken, Connections, Resumptions, Broke};
 
 /// Marks, givings, pleas and restarts, as they are sent.
 pub fn marks_sent()
@@ -60,4 +60,9 @@ pub fn connections()
 /// Resumptions: of the own transfer, as it is sent, and of the peer's activity with a part, as they are taken.
 pub fn resumptions()
     ensures rows { Resumptions }
+{}
+
+/// Breaks of the connection.
+pub fn breaks()
+    ensures rows { Broke }
 {}
