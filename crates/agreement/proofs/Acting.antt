@@ -7,7 +7,7 @@ use Rattle.agreement.specs.Sets.Role.{Initiator, Responder}
 use Rattle.agreement.specs.Sets.Item.{Addition, Deletion}
 use Rattle.agreement.specs.Messages.{Setup, Message, Act}
 use Rattle.agreement.specs.Messages.Mode.{Direct}
-use Rattle.agreement.specs.Messages.Act.{Connects, Recovers, Says, Queues, Alters, Marks, Gives, Pleads, Restarts, Starts, Encodes, Sends, Ends, Interrupts, Discards, Resumes, Releases, Aborts, Withdraws}
+use Rattle.agreement.specs.Messages.Act.{Connects, Recovers, Says, Queues, Drops, Alters, Marks, Gives, Pleads, Restarts, Starts, Encodes, Sends, Ends, Interrupts, Discards, Resumes, Releases, Aborts, Withdraws, Fails}
 use Rattle.agreement.specs.Messages.Message.{Data, Alter, AlterAnswer, Mark, Restart, Give, Please, Release, UserAbort}
 use Rattle.agreement.specs.State.{State}
 use Rattle.agreement.specs.State.Phase.{Idle, Up, Releasing, Broken, Over}
@@ -15,10 +15,11 @@ use Rattle.agreement.specs.State.Awaited.{RestartOf, ReleaseOf}
 use Rattle.agreement.specs.Acts.{MayAct, acted, sent_by, used}
 use Rattle.agreement.specs.Takings.{altered_first, later}
 use Rattle.agreement.specs.Worlds.{Sending, Shared, sendings, shared_all}
-use Rattle.agreement.proofs.Flights.{AreSound, Reads, IsUntouched, AllUntouched, rejections, rejections-fit}
-use Rattle.agreement.proofs.Flights.Entry.{AnAsk, ARelease, AQuiet}
+use Rattle.agreement.proofs.Flights.{AreSound, Reads, rejections, rejections-fit}
+use Rattle.agreement.proofs.Names.{IsUntouched, AllUntouched}
+use Rattle.agreement.proofs.Flights.Entry.{ARelease, AQuiet}
 use Rattle.agreement.proofs.Normal.{Normal, AreAbsent, AllAbsent, said, sent_plain, asks, marked, gave}
-use Rattle.agreement.proofs.Views.{direct, entry, entries, entries-append, IsLive, IsNoRelease, AllAre, all-append, IsAbort, core, Ask, View, Shaped, Joined, extended, Free, free, sends, withdraws-in}
+use Rattle.agreement.proofs.Views.{direct, entry, entries, entries-append, IsLive, IsNoRelease, AllAre, all-append, IsAbort, core, Ask, View, Shaped, Joined, extended, Free, free, sends, keeps, nil-append, withdraws-in}
 use Rattle.agreement.proofs.Views.Ask.{NotAsking, Asks}
 use Rattle.agreement.proofs.Views.View.{Plain, Asking, Answered, Joining, Leaving, Gone}
 
@@ -89,7 +90,7 @@ reads-no_release from held own (s ∷ flight) shared h n = go (λ held own share
   where
     go : ((held : ContextSet) (own : List (List Item)) (shared : ContextSet) → Reads from held own (entries flight) shared → AllAre IsNoRelease flight) → (m : Message) → Reads from held own (entry s.shared m ∷ entries flight) shared → IsNoRelease m × AllAre IsNoRelease flight
     go ih (Data value) h = (tt, ih held own shared h.2)
-    go ih (Alter items) h = (tt, ih (altered items (rejections items) held) own (altered items (rejections items) shared) (h.4 (rejections items) (rejections-fit items)))
+    go ih (Alter items) h = (tt, ih (altered items (rejections items) held) own (altered items (rejections items) shared) (h.3 (rejections items) (rejections-fit items)))
     go ih (AlterAnswer results) h = (tt, ih (altered_first own results held) (later own) shared h.1)
     go ih (Mark number) h = (tt, ih held own shared h.1)
     go ih Give h = (tt, ih held own shared h)
@@ -228,6 +229,11 @@ releases most role x y f g s at v k initiates =
         (reads-no_release (other role) x.sets.held x.sets.own k.before_me s k.normal.reads_me not_from)
         (subst IsNoRelease (sym shape.asks) tt, aborts-no_release shape.behind shape.ends))
 
+-- an end of an association that stands doesn't withdraw
+stays : (base : Setup) (role : Role) (x y : State) (f g : List Sending) (shared : Shared) → Joined base.most_marks role x y f g shared.set shared.saved → (x.phase ≡ Idle) ⊎ ((x.phase ≡ Broken) × (role ≡ Initiator)) → ⊥
+stays base role x y f g shared j (inl e) = not-idle base.most_marks role x y f g shared.set shared.saved j e
+stays base role x y f g shared j (inr e) = not-broken base.most_marks role x y f g shared.set shared.saved j e.0
+
 -- what an act keeps
 pub acts : (base : Setup) (role : Role) (x y : State) (f g : List Sending) (shared : Shared) (act : Act) → MayAct (direct base) role x act → Joined base.most_marks role x y f g shared.set shared.saved → Joined base.most_marks role (acted (direct base) x act) y f (g ++ sendings shared.set (sent_by (direct base) x act)) (shared_all Direct role (sent_by (direct base) x act) shared).set (shared_all Direct role (sent_by (direct base) x act) shared).saved
 acts base role x y f g shared Connects h j = absurd (not-idle base.most_marks role x y f g shared.set shared.saved j h.is_idle)
@@ -238,14 +244,14 @@ acts base role x y f g shared (Says value) h j =
     (said base.most_marks role (core x) k.peer (entries k.before_me) (entries k.to_peer) shared.set shared.saved value.identifier value.pair k.normal h.is_there
     (all-untouched_of role x.sets.held x.sets.own value.identifier value.pair k.normal.absent_me h.is_there h.is_kept))
 acts base role x y f g shared (Queues context apdu) h j = absurd (let e = h.by_transfers in cc)
+acts base role x y f g shared Drops h j =
+    let k = free base.most_marks role x y f g shared.set shared.saved j h.is_free.is_up h.is_free.is_calm in
+    subst (λ xs. Joined base.most_marks role (acted (direct base) x Drops) y f xs shared.set shared.saved) (sym (nil-append g))
+    (keeps base.most_marks role x y (acted (direct base) x Drops) f g shared.set shared.set shared.saved shared.saved k h.is_free.is_up h.is_free.is_calm k.normal)
 acts base role x y f g shared (Alters items) h j =
     let k = free base.most_marks role x y f g shared.set shared.saved j h.is_free.is_up h.is_free.is_calm in
-    let e = h.is_settled in
-    let n = asks base.most_marks role x.sets.held x.turn x.saved k.peer (entries k.before_me) (entries k.to_peer) shared.set shared.saved items
-    (subst (λ (o : List (List Item)). Normal base.most_marks role (record { held = x.sets.held; own = o; turn = x.turn; saved = x.saved }) k.peer (entries k.before_me) (entries k.to_peer) shared.set shared.saved) e k.normal)
-    (sound-of_asked role x.sets.held (used Direct x) items h.may_ask) h.once in
     sends base.most_marks role x y (acted (direct base) x (Alters items)) f g shared.set shared.set shared.saved shared.saved k (record { message = Alter items; shared = shared.set }) h.is_free.is_up h.is_free.is_calm tt tt
-    (subst (λ (o : List (List Item)). Normal base.most_marks role (record { held = x.sets.held; own = o ++ (items ∷ []); turn = x.turn; saved = x.saved }) k.peer (entries k.before_me) (entries k.to_peer ++ (AnAsk shared.set items ∷ [])) shared.set shared.saved) (sym e) n)
+    (asks base.most_marks role (core x) k.peer (entries k.before_me) (entries k.to_peer) shared.set shared.saved items k.normal (sound-of_asked role x.sets.held (used Direct x) items h.may_ask) h.once)
 acts base role x y f g shared Marks h j =
     let k = free base.most_marks role x y f g shared.set shared.saved j h.leads.is_free.is_up h.leads.is_free.is_calm in
     sends base.most_marks role x y (acted (direct base) x Marks) f g shared.set shared.set shared.saved (record { number = next_number x.saved; set = shared.set } ∷ shared.saved) k (record { message = Mark (next_number x.saved); shared = shared.set }) h.leads.is_free.is_up h.leads.is_free.is_calm tt tt
@@ -273,8 +279,5 @@ acts base role x y f g shared Releases h j =
     (free base.most_marks role x y f g shared.set shared.saved j h.is_free.is_up h.is_free.is_calm) h.initiates
 acts base role x y f g shared Aborts h j =
     aborts base.most_marks role x y (acted (direct base) x Aborts) f g shared.set shared.set shared.saved j refl
-acts base role x y f g shared Withdraws h j = absurd (go (withdraws-in role x.phase h.in_phase))
-  where
-    go : (x.phase ≡ Idle) ⊎ ((x.phase ≡ Broken) × (role ≡ Initiator)) → ⊥
-    go (inl e) = not-idle base.most_marks role x y f g shared.set shared.saved j e
-    go (inr e) = not-broken base.most_marks role x y f g shared.set shared.saved j e.0
+acts base role x y f g shared Withdraws h j = absurd (stays base role x y f g shared j (withdraws-in role x.phase h.in_phase))
+acts base role x y f g shared Fails h j = absurd (stays base role x y f g shared j (withdraws-in role x.phase h.in_phase))

@@ -4,14 +4,14 @@ use Rattle.std.specs.Prelude.{Option, Some, None}
 use Rattle.std.proofs.lemmas.Bool.Decides.{nat_tests}
 use Rattle.agreement.specs.Sets.{Role, is_among, AreDistinct, Item}
 use Rattle.agreement.specs.Sets.Role.{Initiator, Responder}
-use Rattle.agreement.specs.Messages.{Apdu, Value, Mode, Setup, Message, Act, Choice}
+use Rattle.agreement.specs.Messages.{Apdu, Value, Mode, Setup, Message, Act, Choice, Invocation, Calls}
 use Rattle.agreement.specs.Messages.Mode.{Bare, Direct, Reliable}
 use Rattle.agreement.specs.Messages.Apdu.{Invoke, Outcome, Reject}
-use Rattle.agreement.specs.Messages.Act.{Connects, Recovers, Says, Queues, Alters, Marks, Gives, Pleads, Restarts, Starts, Encodes, Sends, Ends, Interrupts, Discards, Resumes, Releases, Aborts, Withdraws}
+use Rattle.agreement.specs.Messages.Act.{Connects, Recovers, Says, Queues, Drops, Alters, Marks, Gives, Pleads, Restarts, Starts, Encodes, Sends, Ends, Interrupts, Discards, Resumes, Releases, Aborts, Withdraws, Fails}
 use Rattle.agreement.specs.Messages.Choice.{Nothing, Accepting, Refusing, Results}
 use Rattle.agreement.specs.Messages.Message.{Connect, Recover, Accept, Refuse, Data, Alter, AlterAnswer, Mark, MarkAnswer, Restart, RestartAnswer, Start, Resume, Chunk, End, EndAnswer, Interrupt, InterruptAnswer, Discard, DiscardAnswer, Give, GiveAnswer, Please, Release, ReleaseAnswer, UserAbort}
-use Rattle.agreement.specs.State.{Invocation, Calls, Handed, Transfer, State}
-use Rattle.agreement.specs.Calls.{is_open, close, opened, MayHandIn, handed_in, is_accepted, accepted, heard}
+use Rattle.agreement.specs.State.{Handed, Transfer, State}
+use Rattle.agreement.specs.Calls.{is_open, close, opened, may_answer, MayHandIn, handed_in, is_accepted, accepted, heard}
 use Rattle.agreement.specs.Acts.{MayAct, acted, marked_in, gave_in}
 use Rattle.agreement.specs.Takings.{taken, hears, handed_up, cut_item, marked_from, broken_calls}
 use Rattle.agreement.specs.Worlds.{Step, World, Sending, state_of, IsStep, IsRun, after}
@@ -74,9 +74,18 @@ answers ks n calls ns o k =
       up = up-close n calls ns k.up;
     }
 
+-- an outcome that may be handed in is of an open invocation
+pub answers-open : (setup : Setup) (calls : List Invocation) (n : ℕ) (content : List ℕ) → may_answer setup calls n content ≡ true → is_open n calls ≡ true
+answers-open setup [] n content h = absurd (true≢false (sym h))
+answers-open setup (call ∷ calls) n content h = go (nat_eq call.number n) h (answers-open setup calls n content)
+  where
+    go : (b : Bool) → (if b then setup.allows call.operation content else may_answer setup calls n content) ≡ true → (may_answer setup calls n content ≡ true → is_open n calls ≡ true) → (b || is_open n calls) ≡ true
+    go true e ih = refl
+    go false e ih = ih e
+
 hands-in : (setup : Setup) (ks : List ℕ) (calls : Calls) (due : List Handed) (context : ℕ) (apdu : Apdu) (ns : List ℕ) → MayHandIn setup calls due apdu → Keeps_answers ks calls.peer_open ns → Keeps_answers (answer_in apdu ++ ks) (handed_in setup calls context apdu).peer_open ns
 hands-in setup ks calls due context (Invoke number operation link argument) ns m k = k
-hands-in setup ks calls due context (Outcome number content) ns m k = answers ks number calls.peer_open ns m k
+hands-in setup ks calls due context (Outcome number content) ns m k = answers ks number calls.peer_open ns (answers-open setup calls.peer_open number content m) k
 hands-in setup ks calls due context (Reject number b) ns m k = k
 
 -- all is cut
@@ -137,6 +146,7 @@ acts-answers setup role ks x Connects ns h k = k
 acts-answers setup role ks x Recovers ns h k = k
 acts-answers setup role ks x (Says value) ns h k = hands-in setup ks x.calls x.outgoing.queue value.identifier value.apdu ns h.may_hand_in k
 acts-answers setup role ks x (Queues context apdu) ns h k = hands-in setup ks x.calls [] context apdu ns h.may_hand_in k
+acts-answers setup role ks x Drops ns h k = k
 acts-answers setup role ks x (Alters items) ns h k = k
 acts-answers setup role ks x Marks ns h k = go setup.mode
   where
@@ -162,6 +172,7 @@ acts-answers setup role ks x Resumes ns h k = k
 acts-answers setup role ks x Releases ns h k = k
 acts-answers setup role ks x Aborts ns h k = cuts ks x.calls.peer_open ns k
 acts-answers setup role ks x Withdraws ns h k = cuts ks x.calls.peer_open ns k
+acts-answers setup role ks x Fails ns h k = k
 
 begins : Keeps_answers [] [] []
 begins = record { distinct = tt; done = tt; up = tt }

@@ -10,6 +10,7 @@ use Rattle.agreement.specs.Worlds.{World, state_of, Shared, shared_at, Sending, 
 use Rattle.agreement.specs.Worlds.Step.{Takes}
 use Rattle.agreement.specs.Worlds.Moment.{By}
 use Rattle.agreement.specs.Laws.{TakenAsSent, NoAbortOfItself, HoldsTurn, IsNotRestarting, OneHolder}
+use Rattle.agreement.proofs.Carried.{WasSent, was-sent}
 use Rattle.agreement.proofs.Flights.{Paced, paced-holder}
 use Rattle.agreement.proofs.Normal.{Core, Normal}
 use Rattle.agreement.proofs.Views.{direct, entries, core, Ask, View, Joined, free, swap_joined}
@@ -25,11 +26,11 @@ pub record Given (setup : Setup) (role : Role) (x : State) (flight : List Sendin
   pub may : MayTake setup role x m
   pub pair : SamePair x flight m
 
-direct-given : (base : Setup) (role : Role) (x y : State) (flight g : List Sending) (shared : Shared) (m : Message) (choice : Choice) → DirectRelation base role x y flight g shared → IsStep (direct base) role x flight (Takes m choice) → Given (direct base) role x flight m
-direct-given base role x y [] g shared m choice i h = absurd h.comes
-direct-given base role x y (s ∷ flight) g shared m choice i h =
+direct-given : (base : Setup) (role : Role) (x y : State) (flight g : List Sending) (shared : Shared) (m : Message) (choice : Choice) → DirectRelation base role x y flight g shared → IsStep (direct base) role x flight (Takes m choice) → WasSent (direct base) m → Given (direct base) role x flight m
+direct-given base role x y [] g shared m choice i h w = absurd h.comes
+direct-given base role x y (s ∷ flight) g shared m choice i h w =
     let t = direct-takes base role x y s flight g shared m choice i h.comes h.is_alive h.is_kept h.is_choice in
-    record { may = t.may; pair = t.pair }
+    record { may = t.may w; pair = t.pair }
 
 bare-given : (base : Setup) (role : Role) (x y : State) (flight g : List Sending) (shared : Shared) (m : Message) (choice : Choice) → BareRelation base role x y flight g shared → IsStep (bare base) role x flight (Takes m choice) → Given (bare base) role x flight m
 bare-given base role x y [] g shared m choice i h = absurd h.comes
@@ -40,7 +41,7 @@ bare-given base role x y (s ∷ flight) g shared m choice i h =
 pub direct-at : (base : Setup) (world : World) (role : Role) (m : Message) (choice : Choice) → IsRun (direct base) (By role (Takes m choice) ∷ world) → Given (direct base) role (state_of (direct base) role world) (flight_to (direct base) role world) m
 direct-at base world role m choice h =
     direct-given base role (state_of (direct base) role world) (state_of (direct base) (other role) world) (flight_to (direct base) role world) (flight_to (direct base) (other role) world) (shared_at (direct base) world) m choice
-    (at-role (direct base) (DirectRelation base) (direct-keeps base) role world (reached (direct base) (DirectRelation base) (direct-keeps base) world h.1)) h.0
+    (at-role (direct base) (DirectRelation base) (direct-keeps base) role world (reached (direct base) (DirectRelation base) (direct-keeps base) world h.1)) h.0 (was-sent (direct base) world role m h.1 h.0.comes)
 
 pub bare-at : (base : Setup) (world : World) (role : Role) (m : Message) (choice : Choice) → IsRun (bare base) (By role (Takes m choice) ∷ world) → Given (bare base) role (state_of (bare base) role world) (flight_to (bare base) role world) m
 bare-at base world role m choice h =
@@ -111,4 +112,4 @@ direct-holder base world h =
 
 pub bare-holder : (base : Setup) → OneHolder (bare base)
 bare-holder base world h a b =
-    let e = (reached (bare base) (BareRelation base) (bare-keeps base) world h).me.turn in true≢false (sym a.0 ∙ e)
+    let e = (reached (bare base) (BareRelation base) (bare-keeps base) world h).peer.turn in true≢false (sym b.0 ∙ e)

@@ -5,7 +5,7 @@ use Rattle.agreement.specs.Sets.{Role, other, Item}
 use Rattle.agreement.specs.Sets.Role.{Initiator, Responder}
 use Rattle.agreement.specs.Messages.{Mode, Setup, Message, Act, Choice, Value}
 use Rattle.agreement.specs.Messages.Mode.{Bare, Direct, Reliable}
-use Rattle.agreement.specs.Messages.Act.{Connects, Recovers, Says, Queues, Alters, Marks, Gives, Pleads, Restarts, Starts, Encodes, Sends, Ends, Interrupts, Discards, Resumes, Releases, Aborts, Withdraws}
+use Rattle.agreement.specs.Messages.Act.{Connects, Recovers, Says, Queues, Drops, Alters, Marks, Gives, Pleads, Restarts, Starts, Encodes, Sends, Ends, Interrupts, Discards, Resumes, Releases, Aborts, Withdraws, Fails}
 use Rattle.agreement.specs.Messages.Choice.{Nothing, Accepting, Refusing, Results}
 use Rattle.agreement.specs.Messages.Message.{Connect, Recover, Accept, Refuse, Data, Alter, AlterAnswer, Mark, MarkAnswer, Restart, RestartAnswer, Start, Resume, Chunk, End, EndAnswer, Interrupt, InterruptAnswer, Discard, DiscardAnswer, Give, GiveAnswer, Please, Release, ReleaseAnswer, UserAbort}
 use Rattle.agreement.specs.State.{Phase, State, new_end}
@@ -16,6 +16,7 @@ use Rattle.agreement.specs.Worlds.{World, state_of, Shared, shared_at, Sending, 
 use Rattle.agreement.specs.Worlds.Step.{Acts, Takes, Passes}
 use Rattle.agreement.specs.Worlds.Moment.{By, Break}
 use Rattle.agreement.specs.Laws.{TakenAsSent, NoAbortOfItself, HoldsTurn, OneHolder, InitiatorLeads, ArriveOnce, ArriveWhole, TheOthersOwn, InvokedOnce}
+use Rattle.agreement.proofs.Carried.{WasSent, was-sent}
 use Rattle.agreement.proofs.Handing.{all-own, all-whole}
 use Rattle.agreement.proofs.Arrivals.{arrive-once}
 use Rattle.agreement.proofs.OnceByTransfers.{all-invoked}
@@ -28,16 +29,16 @@ use Rattle.agreement.proofs.ReliableWorlds.Stage.{Fresh, Asked, Dropped, Refused
 use Rattle.agreement.proofs.Mail.{taken-as_sent, by-mode}
 use Rattle.agreement.proofs.AtOnce.{bare-as_sent, direct-as_sent, bare-no_abort, direct-no_abort, bare-holder, direct-holder, Given}
 
-reliable-given : (base : Setup) (role : Role) (x y : State) (flight g : List Sending) (shared : Shared) (m : Message) (choice : Choice) → ReliableRelation base role x y flight g shared → IsStep (reliable base) role x flight (Takes m choice) → Given (reliable base) role x flight m
-reliable-given base role x y [] g shared m choice i h = absurd h.comes
-reliable-given base role x y (s ∷ flight) g shared m choice i h =
+reliable-given : (base : Setup) (role : Role) (x y : State) (flight g : List Sending) (shared : Shared) (m : Message) (choice : Choice) → ReliableRelation base role x y flight g shared → IsStep (reliable base) role x flight (Takes m choice) → WasSent (reliable base) m → Given (reliable base) role x flight m
+reliable-given base role x y [] g shared m choice i h w = absurd h.comes
+reliable-given base role x y (s ∷ flight) g shared m choice i h w =
     let t = reliable-takes base role x y s flight g shared m choice i h.comes h.is_alive h.is_kept h.is_choice in
-    record { may = t.may; pair = t.pair }
+    record { may = t.may w; pair = t.pair }
 
 pub reliable-at : (base : Setup) (world : World) (role : Role) (m : Message) (choice : Choice) → IsRun (reliable base) (By role (Takes m choice) ∷ world) → Given (reliable base) role (state_of (reliable base) role world) (flight_to (reliable base) role world) m
 reliable-at base world role m choice h =
     reliable-given base role (state_of (reliable base) role world) (state_of (reliable base) (other role) world) (flight_to (reliable base) role world) (flight_to (reliable base) (other role) world) (shared_at (reliable base) world) m choice
-    (at-role (reliable base) (ReliableRelation base) (reliable-keeps base) role world (reached (reliable base) (ReliableRelation base) (reliable-keeps base) world h.1)) h.0
+    (at-role (reliable base) (ReliableRelation base) (reliable-keeps base) role world (reached (reliable base) (ReliableRelation base) (reliable-keeps base) world h.1)) h.0 (was-sent (reliable base) world role m h.1 h.0.comes)
 
 reliable-no_abort : (base : Setup) → NoAbortOfItself (reliable base)
 reliable-no_abort base world role m choice h = (reliable-at base world role m choice h).may
@@ -59,8 +60,8 @@ stage-holder base a b f g shared (Stands j) h k =
     let i = is-seen Initiator a f g j.me j.up h.1 j.sees_me in
     let q = is-seen Responder b g f j.peer j.down k.1 j.sees_peer in
     both-lead (reliable base) j.me j.peer j.down j.up shared j.flow (ap (λ (x : State). x.turn) i.same ∙ h.0) (ap (λ (x : State). x.turn) q.same ∙ k.0)
-stage-holder base a b f g shared (Fresh p q n d) h k = let e = phase-of a (new_end (reliable base)) Idle p refl in let u = h.1 in cc
-stage-holder base a b f g shared (Asked s p q n d u) h k = let e = phase-of b (new_end (reliable base)) Idle q refl in let v = k.1 in cc
+stage-holder base a b f g shared (Fresh p q n d) h k = let e = phase-of a (new_end (reliable base) Initiator) Idle p refl in let u = h.1 in cc
+stage-holder base a b f g shared (Asked s p q n d u) h k = let e = phase-of b (new_end (reliable base) Responder) Idle q refl in let v = k.1 in cc
 stage-holder base a b f g shared (Dropped s behind p q n d u l) h k = let e = h.1 in cc
 stage-holder base a b f g shared (Refused s p w q n i) h k = let e = h.1 in cc
 stage-holder base a b f g shared (Lost p q v n) h k = let e = h.1 in cc
@@ -107,6 +108,7 @@ acts-leading setup x Connects n h = λ e. absurd (cc)
 acts-leading setup x Recovers n h = λ e. absurd (cc)
 acts-leading setup x (Says value) n h = h
 acts-leading setup x (Queues context apdu) n h = h
+acts-leading setup x Drops n h = h
 acts-leading setup x (Alters items) n h = h
 acts-leading setup x Marks n h = go setup.mode
   where
@@ -127,6 +129,7 @@ acts-leading setup x Resumes n h = h
 acts-leading setup x Releases n h = λ e. absurd (cc)
 acts-leading setup x Aborts n h = λ e. absurd (cc)
 acts-leading setup x Withdraws n h = λ e. absurd (cc)
+acts-leading setup x Fails n h = λ e. absurd (cc)
 
 refusing-up : (p : Phase) → refusing p ≡ Up → ⊥
 refusing-up Broken e = cc

@@ -1,24 +1,27 @@
 -- The worked cases are runs.
-use Rattle.std.proofs.Common.{◌≡◌, ℕ, ◌≤◌, true, false, List, [], ◌∷◌, ◌++◌, refl, sym, ap, ◌∙◌, arith, true≢false}
+use Rattle.std.proofs.Common.{◌≡◌, ℕ, ◌<◌, ◌≤◌, false, List, [], ◌∷◌, ◌++◌, refl, sym, ap, ◌∙◌, arith, true≢false}
 use Rattle.std.specs.Prelude.{Some, None, Contains}
 use Rattle.agreement.specs.Sets.{Pair}
 use Rattle.agreement.specs.Messages.{Apdu}
+use Rattle.agreement.specs.Messages.Problem.{General, OfInvocation, OfResult, OfError}
 use Rattle.agreement.specs.Messages.Apdu.{Invoke, Outcome, Reject}
 use Rattle.agreement.specs.Messages.Mode.{Direct, Reliable}
 use Rattle.agreement.specs.State.{Phase, Handed}
 use Rattle.agreement.specs.State.Phase.{Up, Broken, Recovering, Over}
 use Rattle.agreement.specs.State.Progress.{Running, Ending, Suspended}
-use Rattle.agreement.specs.Cases.{IsFaithful, written_plainly, value_of_parts, apdu_of, is_over, Happens, marked_once, begun, collision, use_rejected, addition_dropped, lower_wins, tie_won, read_by_mark, interrupted, discarded, resumed_from_mark, resumed_from_nothing, completed_resumed, giving_lost, giving_taken, recovery_broken}
+use Rattle.agreement.specs.Cases.{IsFaithful, written_plainly, value_of_parts, apdu_of, is_over, Happens, marked_once, begun, collision, use_rejected, addition_dropped, lower_wins, tie_won, read_by_mark, interrupted, discarded, resumed_from_mark, resumed_from_nothing, completed_resumed, giving_lost, giving_taken, recovery_broken, unconfirmed, cut_but_arrived, late_result, late_error, answered_once, wide_opening, accepted_known, two_answered, four_lost, withdrawn, refused_transport}
 
 apdu-read : (a : Apdu) → apdu_of (written_plainly a) ≡ Some a
 apdu-read (Invoke number operation None argument) = refl
 apdu-read (Invoke number operation (Some link) argument) = refl
 apdu-read (Outcome number content) = refl
-apdu-read (Reject number true) = refl
-apdu-read (Reject number false) = refl
+apdu-read (Reject number (General code)) = refl
+apdu-read (Reject number (OfInvocation code)) = refl
+apdu-read (Reject number (OfResult code)) = refl
+apdu-read (Reject number (OfError code)) = refl
 
 pub faithful : IsFaithful
-faithful set value e =
+faithful set value w e =
     ap (λ p. value_of_parts value.identifier p (apdu_of (written_plainly value.apdu))) e ∙ ap (value_of_parts value.identifier (Some value.pair)) (apdu-read value.apdu)
 
 -- what is told apart, for the search
@@ -64,6 +67,10 @@ five_octets = omega arith
 
 six_octets : 6 ≤ 262400
 six_octets = omega arith
+
+-- four alterations are no fewer than four
+pub five : 4 < 4 → ⊥
+five h = omega arith
 
 -- what is left of the octets: nothing, the third part, or the second and the third
 rest-none : (x y : List ℕ) → x ++ [] ≡ y → (rest : List ℕ) × (x ++ rest ≡ y)
@@ -144,7 +151,7 @@ run-resumed_from_mark f = (
                         (
                           record { comes = refl; is_alive = recovering-alive; is_kept = refl; is_choice = tt },
                           (
-                            record { comes = refl; is_alive = broken-alive; is_kept = refl; is_choice = record { is_known = refl; is_set = search told } },
+                            record { comes = refl; is_alive = broken-alive; is_kept = refl; is_choice = record { has_it = refl; is_set = search told; is_known = search told } },
                             (
                               record { initiates = refl; is_broken = refl },
                               (
@@ -196,13 +203,13 @@ run-resumed_from_nothing f = (
           (
             record { by_transfers = refl; leads = record { is_free = record { is_up = refl; is_calm = refl }; has_turn = refl; is_settled = refl }; is_next = (refl, ([], refl)); is_within = six_octets },
             (
-              record { by_transfers = refl; leads = record { is_free = record { is_up = refl; is_calm = refl }; has_turn = refl; is_settled = refl }; is_due = (refl, refl); is_there = not-none _ },
+              record { by_transfers = refl; leads = record { is_free = record { is_up = refl; is_calm = refl }; has_turn = refl; is_settled = refl }; is_due = (refl, refl); is_writable = refl },
               (
                 record { by_transfers = refl; leads = record { is_free = record { is_up = refl; is_calm = refl }; has_turn = refl; is_settled = refl }; rests = refl },
                 (
                   record { comes = refl; is_alive = recovering-alive; is_kept = refl; is_choice = tt },
                   (
-                    record { comes = refl; is_alive = broken-alive; is_kept = refl; is_choice = record { is_known = refl; is_set = search told } },
+                    record { comes = refl; is_alive = broken-alive; is_kept = refl; is_choice = record { has_it = refl; is_set = search told; is_known = search told } },
                     (
                       record { initiates = refl; is_broken = refl },
                       (
@@ -221,59 +228,38 @@ run-resumed_from_nothing f = (
   ),
 )
 
+run-unconfirmed : Happens Reliable unconfirmed
+run-unconfirmed f = (record { by_transfers = refl; leads = record { is_free = record { is_up = refl; is_calm = refl }; has_turn = refl; is_settled = refl }; rests = refl }, (record { comes = refl; is_alive = recovering-alive; is_kept = refl; is_choice = tt }, (record { comes = refl; is_alive = broken-alive; is_kept = refl; is_choice = record { has_it = refl; is_set = search told; is_known = search told } }, (record { initiates = refl; is_broken = refl }, (tt, (record { comes = refl; is_alive = up-alive; is_kept = refl; is_choice = tt }, (record { comes = refl; is_alive = up-alive; is_kept = refl; is_choice = tt }, (record { comes = refl; is_alive = up-alive; is_kept = refl; is_choice = tt }, (record { by_transfers = refl; leads = record { is_free = record { is_up = refl; is_calm = refl }; has_turn = refl; is_settled = refl }; is_whole = (refl, refl) }, (record { by_transfers = refl; leads = record { is_free = record { is_up = refl; is_calm = refl }; has_turn = refl; is_settled = refl }; is_next = (refl, ([], refl)); is_within = six_octets }, (record { by_transfers = refl; leads = record { is_free = record { is_up = refl; is_calm = refl }; has_turn = refl; is_settled = refl }; is_next = (refl, (5 ∷ [], refl)); is_within = five_octets }, (record { comes = refl; is_alive = up-alive; is_kept = refl; is_choice = tt }, run-begun f))))))))))))
+
 pub run-completed_resumed : Happens Reliable completed_resumed
-run-completed_resumed f = (
-  record { comes = refl; is_alive = up-alive; is_kept = refl; is_choice = tt },
-  (
-    record { comes = refl; is_alive = up-alive; is_kept = refl; is_choice = tt },
-    (
-      record { comes = refl; is_alive = up-alive; is_kept = refl; is_choice = tt },
-      (
-        record { comes = refl; is_alive = up-alive; is_kept = refl; is_choice = tt },
-        (
-          record { by_transfers = refl; leads = record { is_free = record { is_up = refl; is_calm = refl }; has_turn = refl; is_settled = refl }; is_whole = (refl, refl) },
-          (
-            record { by_transfers = refl; leads = record { is_free = record { is_up = refl; is_calm = refl }; has_turn = refl; is_settled = refl }; is_next = (refl, ([], refl)); is_within = six_octets },
-            (
-              record { by_transfers = refl; leads = record { is_free = record { is_up = refl; is_calm = refl }; has_turn = refl; is_settled = refl }; rests = refl },
-              (
-                record { comes = refl; is_alive = recovering-alive; is_kept = refl; is_choice = tt },
-                (
-                  record { comes = refl; is_alive = broken-alive; is_kept = refl; is_choice = record { is_known = refl; is_set = search told } },
-                  (
-                    record { initiates = refl; is_broken = refl },
-                    (
-                      tt,
-                      (
-                        record { comes = refl; is_alive = up-alive; is_kept = refl; is_choice = tt },
-                        (
-                          record { comes = refl; is_alive = up-alive; is_kept = refl; is_choice = tt },
-                          (
-                            record { comes = refl; is_alive = up-alive; is_kept = refl; is_choice = tt },
-                            (
-                              record { by_transfers = refl; leads = record { is_free = record { is_up = refl; is_calm = refl }; has_turn = refl; is_settled = refl }; is_whole = (refl, refl) },
-                              (
-                                record { by_transfers = refl; leads = record { is_free = record { is_up = refl; is_calm = refl }; has_turn = refl; is_settled = refl }; is_next = (refl, ([], refl)); is_within = six_octets },
-                                (
-                                  record { by_transfers = refl; leads = record { is_free = record { is_up = refl; is_calm = refl }; has_turn = refl; is_settled = refl }; is_next = (refl, (5 ∷ [], refl)); is_within = five_octets },
-                                  (
-                                    record { comes = refl; is_alive = up-alive; is_kept = refl; is_choice = tt },
-                                    run-begun f,
-                                  ),
-                                ),
-                              ),
-                            ),
-                          ),
-                        ),
-                      ),
-                    ),
-                  ),
-                ),
-              ),
-            ),
-          ),
-        ),
-      ),
-    ),
-  ),
-)
+run-completed_resumed f = (record { comes = refl; is_alive = up-alive; is_kept = refl; is_choice = tt }, (record { comes = refl; is_alive = up-alive; is_kept = refl; is_choice = tt }, (record { comes = refl; is_alive = up-alive; is_kept = refl; is_choice = tt }, (record { comes = refl; is_alive = up-alive; is_kept = refl; is_choice = tt }, (record { by_transfers = refl; leads = record { is_free = record { is_up = refl; is_calm = refl }; has_turn = refl; is_settled = refl }; is_whole = (refl, refl) }, (record { by_transfers = refl; leads = record { is_free = record { is_up = refl; is_calm = refl }; has_turn = refl; is_settled = refl }; is_next = (refl, ([], refl)); is_within = six_octets }, run-unconfirmed f))))))
+
+pub run-cut_but_arrived : Happens Reliable cut_but_arrived
+run-cut_but_arrived f = (record { comes = refl; is_alive = up-alive; is_kept = refl; is_choice = tt }, (record { comes = refl; is_alive = up-alive; is_kept = refl; is_choice = tt }, (record { leads = record { is_free = record { is_up = refl; is_calm = refl }; has_turn = refl; is_settled = refl }; in_mode = tt }, (record { comes = refl; is_alive = up-alive; is_kept = refl; is_choice = tt }, (record { comes = refl; is_alive = up-alive; is_kept = refl; is_choice = tt }, (record { by_transfers = refl; is_free = record { is_up = refl; is_calm = refl }; runs = refl }, (record { comes = refl; is_alive = up-alive; is_kept = refl; is_choice = tt }, run-unconfirmed f)))))))
+
+pub run-late_result : Happens Reliable late_result
+run-late_result f = (record { comes = refl; is_alive = up-alive; is_kept = refl; is_choice = tt }, (record { comes = refl; is_alive = up-alive; is_kept = refl; is_choice = tt }, (record { comes = refl; is_alive = up-alive; is_kept = refl; is_choice = tt }, (record { by_transfers = refl; leads = record { is_free = record { is_up = refl; is_calm = refl }; has_turn = refl; is_settled = refl }; is_whole = (refl, refl) }, (record { by_transfers = refl; leads = record { is_free = record { is_up = refl; is_calm = refl }; has_turn = refl; is_settled = refl }; is_next = (refl, ([], refl)); is_within = five_octets }, (record { by_transfers = refl; leads = record { is_free = record { is_up = refl; is_calm = refl }; has_turn = refl; is_settled = refl }; is_due = (refl, refl); is_writable = refl }, (record { by_transfers = refl; leads = record { is_free = record { is_up = refl; is_calm = refl }; has_turn = refl; is_settled = refl }; is_first = refl; has_item = not-nil _ _ }, (record { by_transfers = refl; is_up = refl; may_hand_in = refl }, run-cut_but_arrived f))))))))
+
+pub run-late_error : Happens Reliable late_error
+run-late_error f = (record { comes = refl; is_alive = up-alive; is_kept = refl; is_choice = tt }, (record { comes = refl; is_alive = up-alive; is_kept = refl; is_choice = tt }, (record { comes = refl; is_alive = up-alive; is_kept = refl; is_choice = tt }, (record { by_transfers = refl; leads = record { is_free = record { is_up = refl; is_calm = refl }; has_turn = refl; is_settled = refl }; is_whole = (refl, refl) }, (record { by_transfers = refl; leads = record { is_free = record { is_up = refl; is_calm = refl }; has_turn = refl; is_settled = refl }; is_next = (refl, ([], refl)); is_within = five_octets }, (record { by_transfers = refl; leads = record { is_free = record { is_up = refl; is_calm = refl }; has_turn = refl; is_settled = refl }; is_due = (refl, refl); is_writable = refl }, (record { by_transfers = refl; leads = record { is_free = record { is_up = refl; is_calm = refl }; has_turn = refl; is_settled = refl }; is_first = refl; has_item = not-nil _ _ }, (record { by_transfers = refl; is_up = refl; may_hand_in = refl }, run-cut_but_arrived f))))))))
+
+pub run-answered_once : Happens Direct answered_once
+run-answered_once f = search told
+
+pub run-wide_opening : Happens Direct wide_opening
+run-wide_opening f = search told
+
+pub run-accepted_known : Happens Direct accepted_known
+run-accepted_known f = search told
+
+pub run-two_answered : Happens Direct two_answered
+run-two_answered f = search told
+
+pub run-four_lost : Happens Direct four_lost
+run-four_lost f = (search told, (search told, (search told, (search told, (search told, (search told, (search told, (search told, (search told, (search told, (search told, run-marked_once f)))))))))))
+
+pub run-withdrawn : Happens Reliable withdrawn
+run-withdrawn f = (search told, (search told, run-begun f))
+
+pub run-refused_transport : Happens Reliable refused_transport
+run-refused_transport f = (search told, (search told, run-begun f))

@@ -4,7 +4,7 @@ use Rattle.agreement.specs.Sets.{Role, other, ContextSet, Saved}
 use Rattle.agreement.specs.Sets.Role.{Initiator, Responder}
 use Rattle.agreement.specs.Messages.{Setup, Message, Act, Choice}
 use Rattle.agreement.specs.Messages.Mode.{Direct}
-use Rattle.agreement.specs.Messages.Act.{Connects, Recovers, Says, Queues, Alters, Marks, Gives, Pleads, Restarts, Starts, Encodes, Sends, Ends, Interrupts, Discards, Resumes, Releases, Aborts, Withdraws}
+use Rattle.agreement.specs.Messages.Act.{Connects, Recovers, Says, Queues, Drops, Alters, Marks, Gives, Pleads, Restarts, Starts, Encodes, Sends, Ends, Interrupts, Discards, Resumes, Releases, Aborts, Withdraws, Fails}
 use Rattle.agreement.specs.Messages.Choice.{Nothing, Accepting, Refusing, Results}
 use Rattle.agreement.specs.Messages.Message.{Connect, Accept, Refuse, UserAbort}
 use Rattle.agreement.specs.State.{State, joined_with, new_end}
@@ -13,6 +13,7 @@ use Rattle.agreement.specs.State.Awaited.{NoAnswer}
 use Rattle.agreement.specs.Acts.{MayAct, MayAbortIn, MayWithdrawIn, acted, sent_by}
 use Rattle.agreement.specs.Takings.{is_purged, MayTake, IsChoice, IsUnjoined, IsBack, answer_to, taken, broken, broken_phase, refusing}
 use Rattle.agreement.specs.Worlds.{Sending, Shared, sendings, shared_all, shared_answered, pair_under}
+use Rattle.agreement.proofs.Carried.{WasSent}
 use Rattle.agreement.proofs.Normal.{Normal, begun, swapped}
 use Rattle.agreement.proofs.Views.{direct, entries, IsLive, AllAre, IsAbort, core, View, Joined, swap_joined}
 use Rattle.agreement.proofs.Views.Ask.{NotAsking}
@@ -43,6 +44,7 @@ over-still setup role x Connects h e = let d = h.is_idle in cc
 over-still setup role x Recovers h e = let d = h.is_broken in cc
 over-still setup role x (Says value) h e = let d = h.is_free.is_up in cc
 over-still setup role x (Queues context apdu) h e = let d = h.is_up in cc
+over-still setup role x Drops h e = let d = h.is_free.is_up in cc
 over-still setup role x (Alters items) h e = let d = h.is_free.is_up in cc
 over-still setup role x Marks h e = let d = h.leads.is_free.is_up in cc
 over-still setup role x Gives h e = let d = h.leads.is_free.is_up in cc
@@ -58,6 +60,7 @@ over-still setup role x Resumes h e = let d = h.leads.is_free.is_up in cc
 over-still setup role x Releases h e = let d = h.is_free.is_up in cc
 over-still setup role x Aborts h e = subst MayAbortIn e h.in_phase
 over-still setup role x Withdraws h e = subst (MayWithdrawIn role) e h.in_phase
+over-still setup role x Fails h e = subst (MayWithdrawIn role) e h.in_phase
 
 -- the phase of who may act otherwise than by opening, recovering, aborting or withdrawing
 pub data Acting (role : Role) (x : State) : Act → Type 0 where
@@ -65,6 +68,7 @@ pub data Acting (role : Role) (x : State) : Act → Type 0 where
   ByRecovering : role ≡ Initiator → x.phase ≡ Broken → Acting role x Recovers
   ByAborting : MayAbortIn x.phase → Acting role x Aborts
   ByWithdrawing : MayWithdrawIn role x.phase → Acting role x Withdraws
+  ByFailing : MayWithdrawIn role x.phase → Acting role x Fails
   WhileUp : {act : Act} → x.phase ≡ Up → Acting role x act
 
 pub acting : (setup : Setup) (role : Role) (x : State) (act : Act) → MayAct setup role x act → Acting role x act
@@ -72,6 +76,7 @@ acting setup role x Connects h = ByConnecting h.initiates h.is_idle
 acting setup role x Recovers h = ByRecovering h.initiates h.is_broken
 acting setup role x (Says value) h = WhileUp h.is_free.is_up
 acting setup role x (Queues context apdu) h = WhileUp h.is_up
+acting setup role x Drops h = WhileUp h.is_free.is_up
 acting setup role x (Alters items) h = WhileUp h.is_free.is_up
 acting setup role x Marks h = WhileUp h.leads.is_free.is_up
 acting setup role x Gives h = WhileUp h.leads.is_free.is_up
@@ -87,6 +92,7 @@ acting setup role x Resumes h = WhileUp h.leads.is_free.is_up
 acting setup role x Releases h = WhileUp h.is_free.is_up
 acting setup role x Aborts h = ByAborting h.in_phase
 acting setup role x Withdraws h = ByWithdrawing h.in_phase
+acting setup role x Fails h = ByFailing h.in_phase
 
 After : (base : Setup) (role : Role) (x y : State) (f g : List Sending) (shared : Shared) (act : Act) → Type 0
 After base role x y f g shared act = DirectRelation base role (acted (direct base) x act) y f (g ++ sendings shared.set (sent_by (direct base) x act)) (shared_all Direct role (sent_by (direct base) x act) shared)
@@ -102,6 +108,7 @@ initiator-acts base a b f g shared act (Fresh p q e d c k) h = go act (acting (d
     go Recovers (ByRecovering r i) = absurd (cc)
     go Aborts (ByAborting i) = absurd (subst MayAbortIn p i)
     go Withdraws (ByWithdrawing i) = Lost refl q (ap (λ xs. xs ++ []) d)
+    go Fails (ByFailing i) = Lost refl q (ap (λ xs. xs ++ []) d)
     go act (WhileUp i) = absurd (cc)
 initiator-acts base a b f g shared act (Asked s p k q c e d i) h = go act (acting (direct base) Initiator a act h)
   where
@@ -111,6 +118,7 @@ initiator-acts base a b f g shared act (Asked s p k q c e d i) h = go act (actin
     go Aborts (ByAborting j) =
         Dropped s (record { message = UserAbort; shared = shared.set } ∷ []) refl q c e (ap (λ xs. xs ++ (record { message = UserAbort; shared = shared.set } ∷ [])) d) i (tt, tt)
     go Withdraws (ByWithdrawing j) = absurd (subst (MayWithdrawIn Initiator) p j)
+    go Fails (ByFailing j) = absurd (subst (MayWithdrawIn Initiator) p j)
     go act (WhileUp j) = absurd (cc)
 initiator-acts base a b f g shared act (Refused s p k q e i) h = go act (acting (direct base) Initiator a act h)
   where
@@ -119,6 +127,7 @@ initiator-acts base a b f g shared act (Refused s p k q e i) h = go act (acting 
     go Recovers (ByRecovering r j) = absurd (cc)
     go Aborts (ByAborting j) = Dead refl q
     go Withdraws (ByWithdrawing j) = absurd (subst (MayWithdrawIn Initiator) p j)
+    go Fails (ByFailing j) = absurd (subst (MayWithdrawIn Initiator) p j)
     go act (WhileUp j) = absurd (cc)
 initiator-acts base a b f g shared act (Deaf (inl p) c q e) h = go act (acting (direct base) Initiator a act h)
   where
@@ -127,6 +136,7 @@ initiator-acts base a b f g shared act (Deaf (inl p) c q e) h = go act (acting (
     go Recovers (ByRecovering r j) = absurd (cc)
     go Aborts (ByAborting j) = absurd (subst MayAbortIn p j)
     go Withdraws (ByWithdrawing j) = Dead refl q
+    go Fails (ByFailing j) = Dead refl q
     go act (WhileUp j) = absurd (cc)
 initiator-acts base a b f g shared act (Deaf (inr p) c q e) h = go act (acting (direct base) Initiator a act h)
   where
@@ -135,20 +145,22 @@ initiator-acts base a b f g shared act (Deaf (inr p) c q e) h = go act (acting (
     go Recovers (ByRecovering r j) = absurd (cc)
     go Aborts (ByAborting j) = Dead refl q
     go Withdraws (ByWithdrawing j) = absurd (subst (MayWithdrawIn Initiator) p j)
+    go Fails (ByFailing j) = absurd (subst (MayWithdrawIn Initiator) p j)
     go act (WhileUp j) = absurd (cc)
 initiator-acts base a b f g shared act (Dropped s behind p q c e d i l) h = absurd (over-still (direct base) Initiator a act h p)
 initiator-acts base a b f g shared act (Lost p q e) h = absurd (over-still (direct base) Initiator a act h p)
 initiator-acts base a b f g shared act (Dead p q) h = absurd (over-still (direct base) Initiator a act h p)
 
--- a responder that is idle can only withdraw
-pub idle-withdraws : (setup : Setup) (x : State) (act : Act) → MayAct setup Responder x act → x.phase ≡ Idle → Withdraws ≡ act
-idle-withdraws setup x act h e = go act (acting setup Responder x act h)
+-- a responder that is idle can only go over
+pub idle-withdraws : (setup : Setup) (x : State) (act : Act) (P : Act → Type 0) → MayAct setup Responder x act → x.phase ≡ Idle → P Withdraws → P Fails → P act
+idle-withdraws setup x act P h e p q = go act (acting setup Responder x act h)
   where
-    go : (act : Act) → Acting Responder x act → Withdraws ≡ act
+    go : (act : Act) → Acting Responder x act → P act
     go Connects (ByConnecting r j) = absurd (cc)
     go Recovers (ByRecovering r j) = absurd (cc)
     go Aborts (ByAborting j) = absurd (subst MayAbortIn e j)
-    go Withdraws (ByWithdrawing j) = refl
+    go Withdraws (ByWithdrawing j) = p
+    go Fails (ByFailing j) = q
     go act (WhileUp j) = absurd (cc)
 
 responder-acts : (base : Setup) (a b : State) (f g : List Sending) (shared : Shared) (act : Act) → Stage base.most_marks a b f g shared → MayAct (direct base) Responder b act → After base Responder b a g f shared act
@@ -156,24 +168,24 @@ unfolding After
 responder-acts base a b f g shared act (Stands j) h =
     Stands (swap_joined base.most_marks Responder _ _ _ _ _ _ (acts base Responder b a g f shared act h (swap_joined base.most_marks Initiator a b f g shared.set shared.saved j)))
 responder-acts base a b f g shared act (Fresh p q e d c k) h =
-    subst (After base Responder b a g f shared) (idle-withdraws (direct base) b act h q) (Deaf (inl p) c refl (ap (λ xs. xs ++ []) e))
+    idle-withdraws (direct base) b act (After base Responder b a g f shared) h q (Deaf (inl p) c refl (ap (λ xs. xs ++ []) e)) (Deaf (inl p) c refl (ap (λ xs. xs ++ []) e))
 responder-acts base a b f g shared act (Asked s p k q c e d i) h =
-    subst (After base Responder b a g f shared) (idle-withdraws (direct base) b act h q) (Deaf (inr p) k refl (ap (λ xs. xs ++ []) e))
+    idle-withdraws (direct base) b act (After base Responder b a g f shared) h q (Deaf (inr p) k refl (ap (λ xs. xs ++ []) e)) (Deaf (inr p) k refl (ap (λ xs. xs ++ []) e))
 responder-acts base a b f g shared act (Dropped s behind p q c e d i l) h =
-    subst (After base Responder b a g f shared) (idle-withdraws (direct base) b act h q) (Dead p refl)
+    idle-withdraws (direct base) b act (After base Responder b a g f shared) h q (Dead p refl) (Dead p refl)
 responder-acts base a b f g shared act (Refused s p k q e i) h = absurd (over-still (direct base) Responder b act h q)
 responder-acts base a b f g shared act (Lost p q e) h =
-    subst (After base Responder b a g f shared) (idle-withdraws (direct base) b act h q) (Dead p refl)
+    idle-withdraws (direct base) b act (After base Responder b a g f shared) h q (Dead p refl) (Dead p refl)
 responder-acts base a b f g shared act (Deaf p c q e) h = absurd (over-still (direct base) Responder b act h q)
 responder-acts base a b f g shared act (Dead p q) h = absurd (over-still (direct base) Responder b act h q)
 
 -- what a taking gives
 pub record Took (base : Setup) (role : Role) (x y : State) (f g : List Sending) (shared : Shared) (s : Sending) (m : Message) (choice : Choice) : Type 0 where
-  pub may : MayTake (direct base) role x m
+  pub may : WasSent (direct base) m → MayTake (direct base) role x m
   pub pair : pair_under x.sets.held m ≡ pair_under s.shared m
   pub next : DirectRelation base role (taken (direct base) role x m choice) y f (g ++ sendings shared.set (answer_to (direct base) x m choice)) (shared_answered m choice shared)
 
-initiator-takes : (base : Setup) (a b : State) (s : Sending) (f g : List Sending) (shared : Shared) (m : Message) (choice : Choice) → Stage base.most_marks a b (s ∷ f) g shared → s.message ≡ m → (a.phase ≡ Over → ⊥) → is_purged Initiator a.awaits m ≡ false → IsChoice a m choice → Took base Initiator a b f g shared s m choice
+initiator-takes : (base : Setup) (a b : State) (s : Sending) (f g : List Sending) (shared : Shared) (m : Message) (choice : Choice) → Stage base.most_marks a b (s ∷ f) g shared → s.message ≡ m → (a.phase ≡ Over → ⊥) → is_purged Initiator a.awaits m ≡ false → IsChoice (direct base) a m choice → Took base Initiator a b f g shared s m choice
 initiator-takes base a b s f g shared m choice (Stands j) e alive kept c =
     let t = takes base Initiator a b s f g shared m choice e alive kept c j in
     record { may = t.may; pair = t.pair; next = Stands t.next }
@@ -184,7 +196,7 @@ initiator-takes base a b s f g shared m choice (Refused t p k q n i) e alive kep
     let first : s ≡ t = cc in
     let is : m ≡ Refuse = sym e ∙ ap (λ (u : Sending). u.message) first ∙ i in
     subst (λ u. Took base Initiator a b f g shared s u choice) (sym is)
-    (record { may = record { initiates = refl; asked = subst IsBack (sym p) tt }; pair = refl; next = Dead refl q })
+    (record { may = λ w. record { initiates = refl; asked = subst IsBack (sym p) tt }; pair = refl; next = Dead refl q })
 initiator-takes base a b s f g shared m choice (Lost p q n) e alive kept c = absurd (alive p)
 initiator-takes base a b s f g shared m choice (Dead p q) e alive kept c = absurd (alive p)
 initiator-takes base a b s f g shared m choice (Deaf p k q n) e alive kept c = absurd (cc)
@@ -193,25 +205,25 @@ abbrev acceptance_of : ContextSet → Shared → Sending
 acceptance_of set shared = record { message = Accept set; shared = shared.set }
 
 -- the responder accepts or refuses an opening
-opens : (base : Setup) (a b : State) (s : Sending) (f behind : List Sending) (shared : Shared) (choice : Choice) → (a.phase ≡ Opening) × (a.awaits ≡ NoAnswer) × (behind ≡ []) ⊎ (a.phase ≡ Over) → b.phase ≡ Idle → f ≡ [] → AllAre IsAbort behind → IsChoice b Connect choice → Took base Responder b a behind f shared s Connect choice
+opens : (base : Setup) (a b : State) (s : Sending) (f behind : List Sending) (shared : Shared) (choice : Choice) → (a.phase ≡ Opening) × (a.awaits ≡ NoAnswer) × (behind ≡ []) ⊎ (a.phase ≡ Over) → b.phase ≡ Idle → f ≡ [] → AllAre IsAbort behind → IsChoice (direct base) b Connect choice → Took base Responder b a behind f shared s Connect choice
 opens base a b s f behind shared (Accepting set) h q e l c =
     record {
-      may = record { responds = refl; is_unjoined = subst IsUnjoined (sym q) tt };
+      may = λ w. record { responds = refl; is_unjoined = subst IsUnjoined (sym q) tt };
       pair = refl;
-      next = Stands (subst (λ xs. Joined base.most_marks Initiator a (joined_with Responder set (new_end (direct base))) (xs ++ (acceptance_of set shared ∷ [])) behind set (record { number = 0; set = set } ∷ [])) (sym e) joined);
+      next = Stands (subst (λ xs. Joined base.most_marks Initiator a (joined_with Direct Responder set (new_end (direct base) Responder)) (xs ++ (acceptance_of set shared ∷ [])) behind set (record { number = 0; set = set } ∷ [])) (sym e) joined);
     }
   where
-    view : (a.phase ≡ Opening) × (a.awaits ≡ NoAnswer) × (behind ≡ []) ⊎ (a.phase ≡ Over) → View Initiator a (acceptance_of set shared ∷ []) behind NotAsking (core (joined_with Initiator set a)) []
+    view : (a.phase ≡ Opening) × (a.awaits ≡ NoAnswer) × (behind ≡ []) ⊎ (a.phase ≡ Over) → View Initiator a (acceptance_of set shared ∷ []) behind NotAsking (core (joined_with Direct Initiator set a)) []
     view (inl k) = Joining set (acceptance_of set shared) refl k.0 k.1 refl refl refl refl (subst (AllAre IsLive) (sym k.2) tt)
     view (inr k) = Gone k
 
-    joined : Joined base.most_marks Initiator a (joined_with Responder set (new_end (direct base))) (acceptance_of set shared ∷ []) behind set (record { number = 0; set = set } ∷ [])
+    joined : Joined base.most_marks Initiator a (joined_with Direct Responder set (new_end (direct base) Responder)) (acceptance_of set shared ∷ []) behind set (record { number = 0; set = set } ∷ [])
     joined =
         record {
           ask_me = NotAsking;
           ask_peer = NotAsking;
-          me = core (joined_with Initiator set a);
-          peer = core (joined_with Responder set (new_end (direct base)));
+          me = core (joined_with Direct Initiator set a);
+          peer = core (joined_with Direct Responder set (new_end (direct base) Responder));
           to_me = [];
           to_peer = behind;
           before_me = [];
@@ -223,27 +235,27 @@ opens base a b s f behind shared (Accepting set) h q e l c =
           normal = turned;
         }
       where
-        turned : Normal base.most_marks Initiator (core (joined_with Initiator set a)) (core (joined_with Responder set (new_end (direct base)))) [] (entries behind) set (record { number = 0; set = set } ∷ [])
+        turned : Normal base.most_marks Initiator (core (joined_with Direct Initiator set a)) (core (joined_with Direct Responder set (new_end (direct base) Responder))) [] (entries behind) set (record { number = 0; set = set } ∷ [])
         turned =
-            swapped base.most_marks Responder (core (joined_with Responder set (new_end (direct base)))) (core (joined_with Initiator set a)) (entries behind) [] set (record { number = 0; set = set } ∷ [])
-            (push-aborts base.most_marks Responder (core (joined_with Responder set (new_end (direct base)))) (core (joined_with Initiator set a)) behind [] [] set (record { number = 0; set = set } ∷ []) l
-            (begun base.most_marks Responder set (record { number = 0; set = set } ∷ []) false true c (c, tt) (λ x y. true≢false (sym x))))
+            swapped base.most_marks Responder (core (joined_with Direct Responder set (new_end (direct base) Responder))) (core (joined_with Direct Initiator set a)) (entries behind) [] set (record { number = 0; set = set } ∷ [])
+            (push-aborts base.most_marks Responder (core (joined_with Direct Responder set (new_end (direct base) Responder))) (core (joined_with Direct Initiator set a)) behind [] [] set (record { number = 0; set = set } ∷ []) l
+            (begun base.most_marks Responder set (record { number = 0; set = set } ∷ []) false true c.is_set (c.is_set, tt) (λ x y. true≢false (sym x))))
 opens base a b s f behind shared Refusing (inl h) q e l c =
     record {
-      may = record { responds = refl; is_unjoined = subst IsUnjoined (sym q) tt };
+      may = λ w. record { responds = refl; is_unjoined = subst IsUnjoined (sym q) tt };
       pair = refl;
       next = Refused (record { message = Refuse; shared = shared.set }) h.0 h.1 (ap refusing q) (ap (λ xs. xs ++ (record { message = Refuse; shared = shared.set } ∷ [])) e) refl;
     }
 opens base a b s f behind shared Refusing (inr h) q e l c =
     record {
-      may = record { responds = refl; is_unjoined = subst IsUnjoined (sym q) tt };
+      may = λ w. record { responds = refl; is_unjoined = subst IsUnjoined (sym q) tt };
       pair = refl;
       next = Dead h (ap refusing q);
     }
 opens base a b s f behind shared Nothing h q e l c = absurd c
 opens base a b s f behind shared (Results results) h q e l c = absurd c
 
-responder-takes : (base : Setup) (a b : State) (s : Sending) (f g : List Sending) (shared : Shared) (m : Message) (choice : Choice) → Stage base.most_marks a b f (s ∷ g) shared → s.message ≡ m → (b.phase ≡ Over → ⊥) → is_purged Responder b.awaits m ≡ false → IsChoice b m choice → Took base Responder b a g f shared s m choice
+responder-takes : (base : Setup) (a b : State) (s : Sending) (f g : List Sending) (shared : Shared) (m : Message) (choice : Choice) → Stage base.most_marks a b f (s ∷ g) shared → s.message ≡ m → (b.phase ≡ Over → ⊥) → is_purged Responder b.awaits m ≡ false → IsChoice (direct base) b m choice → Took base Responder b a g f shared s m choice
 responder-takes base a b s f g shared m choice (Stands j) e alive kept c =
     let t = takes base Responder b a s g f shared m choice e alive kept c (swap_joined base.most_marks Initiator a b f (s ∷ g) shared.set shared.saved j) in
     record { may = t.may; pair = t.pair; next = Stands (swap_joined base.most_marks Responder _ _ _ _ _ _ t.next) }
@@ -253,13 +265,13 @@ responder-takes base a b s f g shared m choice (Asked t p k q i n d u) e alive k
     let rest : g ≡ [] = cc in
     let is : m ≡ Connect = sym e ∙ ap (λ (u : Sending). u.message) first ∙ u in
     subst (λ v. Took base Responder b a g f shared s v choice) (sym is)
-    (opens base a b s f g shared choice (inl (p, k, rest)) q n (subst (AllAre IsAbort) (sym rest) tt) (subst (λ v. IsChoice b v choice) is c))
+    (opens base a b s f g shared choice (inl (p, k, rest)) q n (subst (AllAre IsAbort) (sym rest) tt) (subst (λ v. IsChoice (direct base) b v choice) is c))
 responder-takes base a b s f g shared m choice (Dropped t behind p q i n d u l) e alive kept c =
     let first : s ≡ t = cc in
     let rest : g ≡ behind = cc in
     let is : m ≡ Connect = sym e ∙ ap (λ (u : Sending). u.message) first ∙ u in
     subst (λ v. Took base Responder b a g f shared s v choice) (sym is)
-    (opens base a b s f g shared choice (inr p) q n (subst (AllAre IsAbort) (sym rest) l) (subst (λ v. IsChoice b v choice) is c))
+    (opens base a b s f g shared choice (inr p) q n (subst (AllAre IsAbort) (sym rest) l) (subst (λ v. IsChoice (direct base) b v choice) is c))
 responder-takes base a b s f g shared m choice (Refused t p k q n i) e alive kept c = absurd (alive q)
 responder-takes base a b s f g shared m choice (Lost p q n) e alive kept c = absurd (cc)
 responder-takes base a b s f g shared m choice (Dead p q) e alive kept c = absurd (alive q)
@@ -314,7 +326,7 @@ breaks base a b f g shared (Dead p q) = Dead (ap (broken_phase Direct) p) (ap (b
 breaks base a b f g shared (Deaf (inl p) k q n) = Deaf (inl (ap (broken_phase Direct) p)) refl (ap (broken_phase Direct) q) refl
 breaks base a b f g shared (Deaf (inr p) k q n) = Dead (ap (broken_phase Direct) p) (ap (broken_phase Direct) q)
 
-pub direct-takes : (base : Setup) (role : Role) (x y : State) (s : Sending) (f g : List Sending) (shared : Shared) (m : Message) (choice : Choice) → DirectRelation base role x y (s ∷ f) g shared → s.message ≡ m → (x.phase ≡ Over → ⊥) → is_purged role x.awaits m ≡ false → IsChoice x m choice → Took base role x y f g shared s m choice
+pub direct-takes : (base : Setup) (role : Role) (x y : State) (s : Sending) (f g : List Sending) (shared : Shared) (m : Message) (choice : Choice) → DirectRelation base role x y (s ∷ f) g shared → s.message ≡ m → (x.phase ≡ Over → ⊥) → is_purged role x.awaits m ≡ false → IsChoice (direct base) x m choice → Took base role x y f g shared s m choice
 direct-takes base Initiator x y s f g shared m choice h e alive kept c = initiator-takes base x y s f g shared m choice h e alive kept c
 direct-takes base Responder x y s f g shared m choice h e alive kept c = responder-takes base y x s g f shared m choice h e alive kept c
 

@@ -5,7 +5,7 @@ use Rattle.agreement.specs.Sets.{Role, other, Pair, ContextSet, lookup, Item}
 use Rattle.agreement.specs.Sets.Role.{Initiator, Responder}
 use Rattle.agreement.specs.Messages.{Apdu, Value, Mode, Setup, Message, Act, Choice}
 use Rattle.agreement.specs.Messages.Mode.{Bare, Direct, Reliable}
-use Rattle.agreement.specs.Messages.Act.{Connects, Recovers, Says, Queues, Alters, Marks, Gives, Pleads, Restarts, Starts, Encodes, Sends, Ends, Interrupts, Discards, Resumes, Releases, Aborts, Withdraws}
+use Rattle.agreement.specs.Messages.Act.{Connects, Recovers, Says, Queues, Drops, Alters, Marks, Gives, Pleads, Restarts, Starts, Encodes, Sends, Ends, Interrupts, Discards, Resumes, Releases, Aborts, Withdraws, Fails}
 use Rattle.agreement.specs.Messages.Choice.{Nothing, Accepting, Refusing, Results}
 use Rattle.agreement.specs.Messages.Message.{Connect, Recover, Accept, Refuse, Data, Alter, AlterAnswer, Mark, MarkAnswer, Restart, RestartAnswer, Start, Resume, Chunk, End, EndAnswer, Interrupt, InterruptAnswer, Discard, DiscardAnswer, Give, GiveAnswer, Please, Release, ReleaseAnswer, UserAbort}
 use Rattle.agreement.specs.State.{Phase, Awaited, Progress, Handed, Transfer, Outgoing, State, new_end}
@@ -36,8 +36,8 @@ phase-of x z p e h = ap (λ (q : State). q.phase) e ∙ h
 -- an end of reliable mode that is up stands on a connection
 pub up-stands : (base : Setup) (role : Role) (x y : State) (f g : List Sending) (shared : Shared) → ReliableRelation base role x y f g shared → x.phase ≡ Up → Standing (reliable base) role x y f g shared
 up-stands base Initiator x y f g shared (Stands j) u = j
-up-stands base Initiator x y f g shared (Fresh p q n d) u = absurd (let e = phase-of x (new_end (reliable base)) Idle p refl in cc)
-up-stands base Initiator x y f g shared (Asked s p q n d w) u = absurd (let e = phase-of x (record (new_end (reliable base)) { phase = Opening }) Opening p refl in cc)
+up-stands base Initiator x y f g shared (Fresh p q n d) u = absurd (let e = phase-of x (new_end (reliable base) Initiator) Idle p refl in cc)
+up-stands base Initiator x y f g shared (Asked s p q n d w) u = absurd (let e = phase-of x (record (new_end (reliable base) Initiator) { phase = Opening }) Opening p refl in cc)
 up-stands base Initiator x y f g shared (Dropped s behind p q n d w l) u = absurd (let e = p.0 in cc)
 up-stands base Initiator x y f g shared (Refused s p w q n i) u = absurd (cc)
 up-stands base Initiator x y f g shared (Lost p q v n) u = absurd (cc)
@@ -58,9 +58,9 @@ up-stands base Initiator x y f g shared (Deaf p w q n) u = absurd (go p)
     go (inl k) = cc
     go (inr k) = cc
 up-stands base Responder x y f g shared (Stands j) u = stands-swap (reliable base) Initiator y x g f shared j
-up-stands base Responder x y f g shared (Fresh p q n d) u = absurd (let e = phase-of x (new_end (reliable base)) Idle q refl in cc)
-up-stands base Responder x y f g shared (Asked s p q n d w) u = absurd (let e = phase-of x (new_end (reliable base)) Idle q refl in cc)
-up-stands base Responder x y f g shared (Dropped s behind p q n d w l) u = absurd (let e = phase-of x (new_end (reliable base)) Idle q refl in cc)
+up-stands base Responder x y f g shared (Fresh p q n d) u = absurd (let e = phase-of x (new_end (reliable base) Responder) Idle q refl in cc)
+up-stands base Responder x y f g shared (Asked s p q n d w) u = absurd (let e = phase-of x (new_end (reliable base) Responder) Idle q refl in cc)
+up-stands base Responder x y f g shared (Dropped s behind p q n d w l) u = absurd (let e = phase-of x (new_end (reliable base) Responder) Idle q refl in cc)
 up-stands base Responder x y f g shared (Refused s p w q n i) u = absurd (cc)
 up-stands base Responder x y f g shared (Lost p q v n) u = absurd (cc)
 up-stands base Responder x y f g shared (Dead p q) u = absurd (cc)
@@ -190,6 +190,7 @@ acts-encoded setup x shared t Connects es k h = h
 acts-encoded setup x shared t Recovers es k h = h
 acts-encoded setup x shared t (Says value) es k h = h
 acts-encoded setup x shared t (Queues context apdu) es k h = h
+acts-encoded setup x shared t Drops es k h = h
 acts-encoded setup x shared t (Alters items) es k h = h
 acts-encoded setup x shared t Marks es k h = go setup.mode t h
   where
@@ -230,6 +231,7 @@ acts-encoded setup x shared (Some t) Resumes es k h = resumed-encoded t.value t.
 acts-encoded setup x shared t Releases es k h = h
 acts-encoded setup x shared t Aborts es k h = h
 acts-encoded setup x shared t Withdraws es k h = h
+acts-encoded setup x shared t Fails es k h = h
 
 hears-encoded : (setup : Setup) (v : Option Value) (x : State) (es : List Encoding) → Encoded x.outgoing.transfer x.outgoing.started es → Encoded (hears setup v x).outgoing.transfer (hears setup v x).outgoing.started es
 hears-encoded setup None x es h = h
@@ -321,7 +323,7 @@ source-at base world role number choice h =
     go [] k r = absurd k.comes
     go (s ∷ flight) k r =
         end-source base role (state_of (reliable base) role world) (state_of (reliable base) (other role) world) s flight (flight_to (reliable base) (other role) world) (shared_at (reliable base) world) number r k.comes
-        (reliable-takes base role (state_of (reliable base) role world) (state_of (reliable base) (other role) world) s flight (flight_to (reliable base) (other role) world) (shared_at (reliable base) world) (End number) choice r k.comes k.is_alive k.is_kept k.is_choice).may
+        ((reliable-takes base role (state_of (reliable base) role world) (state_of (reliable base) (other role) world) s flight (flight_to (reliable base) (other role) world) (shared_at (reliable base) world) (End number) choice r k.comes k.is_alive k.is_kept k.is_choice).may tt)
 
 -- what is handed up is what was spelled
 pub handed-spelled : (base : Setup) (x : State) (w value : Value) → SpellsIn (Some w) (reliable base) x.sets.held x.incoming → handed_up (reliable base) x.sets.held x.incoming ≡ Some value → w ≡ value

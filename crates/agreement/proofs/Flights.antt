@@ -1,5 +1,5 @@
 -- What is on its way to an end in direct mode, as that end will read it.
-use Rattle.std.proofs.Common.{◌≡◌, ℕ, suc, ◌≤◌, ◌%◌, Bool, true, false, List, [], ◌∷◌, ◌++◌, refl, sym, ap, ◌∙◌, arith, true≢false, inl, inr, ◌⊎◌, subst}
+use Rattle.std.proofs.Common.{◌≡◌, ℕ, suc, ◌≤◌, ◌%◌, Bool, true, false, List, [], ◌∷◌, ◌++◌, refl, sym, ap, ◌∙◌, arith, true≢false, subst}
 use Rattle.std.specs.Prelude.{Some, None, is_some}
 use Rattle.std.proofs.lemmas.Bool.Decides.{nat_tests}
 use Rattle.agreement.specs.Sets.{Role, other, parity, Pair, ContextSet, Item, Result, Fits, changed, altered, lookup, IsRising, AreDistinct, identifier_of, identifiers, Saved, below, next_number}
@@ -7,7 +7,8 @@ use Rattle.agreement.specs.Sets.Role.{Initiator, Responder}
 use Rattle.agreement.specs.Sets.Item.{Addition, Deletion}
 use Rattle.agreement.specs.Sets.Result.{Rejected, Accepted, AcceptedAs}
 use Rattle.agreement.specs.Takings.{OnFirst, altered_first, later}
-use Rattle.agreement.proofs.Order.{put-put, put-remove, remove-remove, rising-put, rising-remove, lookup-put_other, lookup-remove_other}
+use Rattle.agreement.proofs.Order.{put-put, put-remove, remove-remove, rising-put, rising-remove}
+use Rattle.agreement.proofs.Names.{AllUntouched, AreUntouched, later-untouched, later-all_untouched, lookup-altered}
 
 pub data Entry : Type 0 where
   AValue : (shared : ContextSet) → (identifier : ℕ) → (pair : Pair) → Entry
@@ -55,7 +56,7 @@ Reads from held own [] shared = held ≡ shared
 Reads from held own (AValue at k p ∷ flight) shared =
     (lookup held k ≡ Some p) × (lookup at k ≡ Some p) × Reads from held own flight shared
 Reads from held own (AnAsk at items ∷ flight) shared =
-    (held ≡ at) × AreSound from held items × AreDistinct (identifiers items) × AllApart own items ×
+    AreSound from held items × AreDistinct (identifiers items) × AllApart own items ×
     ((results : List Result) → Fits items results → Reads from (altered items results held) own flight (altered items results shared))
 Reads from held own (AnAnswer results ∷ flight) shared =
     OnFirst (λ items. Fits items results) own × Reads from (altered_first own results held) (later own) flight shared
@@ -87,21 +88,6 @@ unanswered (AGive ∷ flight) own = unanswered flight own
 unanswered (ARelease ∷ flight) own = unanswered flight own
 unanswered (AQuiet ∷ flight) own = unanswered flight own
 unanswered (ABad ∷ flight) own = unanswered flight own
-
--- at most one own alteration
-abbrev pub IsOne : List (List Item) → Type 0
-IsOne [] = Unit {0}
-IsOne (items ∷ []) = Unit {0}
-IsOne (items ∷ more ∷ rest) = ⊥
-
--- a context that no item names
-abbrev pub IsUntouched : ℕ → List Item → Type 0
-IsUntouched k [] = Unit {0}
-IsUntouched k (item ∷ items) = (identifier_of item ≡ k → ⊥) × IsUntouched k items
-
-abbrev pub AllUntouched : ℕ → List (List Item) → Type 0
-AllUntouched k [] = Unit {0}
-AllUntouched k (items ∷ rest) = IsUntouched k items × AllUntouched k rest
 
 -- changes that are apart commute
 changed-changed : (i j : Item) (r q : Result) (set : ContextSet) → IsApart i j → IsRising set → changed i r (changed j q set) ≡ changed j q (changed i r set)
@@ -169,7 +155,7 @@ pub reads-settled : (from : Role) (held : ContextSet) (flight : List Entry) (sha
 reads-settled from held [] shared h = h
 reads-settled from held (AValue at k p ∷ flight) shared h = reads-settled from held flight shared h.2
 reads-settled from held (AnAsk at items ∷ flight) shared h =
-    let rest = h.4 (rejections items) (rejections-fit items) in
+    let rest = h.3 (rejections items) (rejections-fit items) in
     let e = rejections-altered items held in
     let f = rejections-altered items shared in
     reads-settled from held flight shared (subst (λ s. Reads from held [] flight s) f (subst (λ s. Reads from s [] flight (altered items (rejections items) shared)) e rest))
@@ -180,43 +166,30 @@ reads-settled from held (ARelease ∷ flight) shared h = reads-settled from held
 reads-settled from held (AQuiet ∷ flight) shared h = reads-settled from held flight shared h
 reads-settled from held (ABad ∷ flight) shared h = absurd h
 
-lookup-changed : (i : Item) (r : Result) (k : ℕ) (set : ContextSet) → (identifier_of i ≡ k → ⊥) → lookup (changed i r set) k ≡ lookup set k
-lookup-changed (Addition j o) (AcceptedAs p) k set n = lookup-put_other k j p set (λ e. n (sym e))
-lookup-changed (Addition j o) Rejected k set n = refl
-lookup-changed (Addition j o) Accepted k set n = refl
-lookup-changed (Deletion j) Accepted k set n = lookup-remove_other k j set (λ e. n (sym e))
-lookup-changed (Deletion j) Rejected k set n = refl
-lookup-changed (Deletion j) (AcceptedAs p) k set n = refl
-
-pub lookup-altered : (items : List Item) (results : List Result) (k : ℕ) (set : ContextSet) → IsUntouched k items → lookup (altered items results set) k ≡ lookup set k
-lookup-altered [] rs k set n = refl
-lookup-altered (i ∷ is) [] k set n = refl
-lookup-altered (i ∷ is) (r ∷ rs) k set n = lookup-altered is rs k (changed i r set) n.1 ∙ lookup-changed i r k set n.0
-
--- what an end may send on is in the shared set
-pub reads-lookup : (from : Role) (held : ContextSet) (own : List (List Item)) (flight : List Entry) (shared : ContextSet) (k : ℕ) (p : Pair) → Reads from held own flight shared → lookup held k ≡ Some p → AllUntouched k own → lookup shared k ≡ Some p
-reads-lookup from held own [] shared k p h e u = subst (λ s. lookup s k ≡ Some p) h e
-reads-lookup from held own (AValue at j q ∷ flight) shared k p h e u = reads-lookup from held own flight shared k p h.2 e u
-reads-lookup from held own (AnAsk at items ∷ flight) shared k p h e u =
-    let rest = h.4 (rejections items) (rejections-fit items) in
+-- what no own alteration names is in the shared set as in the own
+pub reads-same : (from : Role) (held : ContextSet) (own : List (List Item)) (flight : List Entry) (shared : ContextSet) (k : ℕ) → Reads from held own flight shared → AllUntouched k own → lookup held k ≡ lookup shared k
+reads-same from held own [] shared k h u = ap (λ s. lookup s k) h
+reads-same from held own (AValue at j q ∷ flight) shared k h u = reads-same from held own flight shared k h.2 u
+reads-same from held own (AnAsk at items ∷ flight) shared k h u =
+    let rest = h.3 (rejections items) (rejections-fit items) in
     let f = rejections-altered items held in
     let g = rejections-altered items shared in
-    reads-lookup from held own flight shared k p (subst (λ s. Reads from held own flight s) g (subst (λ s. Reads from s own flight (altered items (rejections items) shared)) f rest)) e u
-reads-lookup from held [] (AnAnswer results ∷ flight) shared k p h e u = absurd h.0
-reads-lookup from held (items ∷ own) (AnAnswer results ∷ flight) shared k p h e u =
-    reads-lookup from (altered items results held) own flight shared k p h.1 (lookup-altered items results k held u.0 ∙ e) u.1
-reads-lookup from held own (AMark at number ∷ flight) shared k p h e u = reads-lookup from held own flight shared k p h.1 e u
-reads-lookup from held own (AGive ∷ flight) shared k p h e u = reads-lookup from held own flight shared k p h e u
-reads-lookup from held own (ARelease ∷ flight) shared k p h e u = reads-lookup from held own flight shared k p h.1 e u
-reads-lookup from held own (AQuiet ∷ flight) shared k p h e u = reads-lookup from held own flight shared k p h e u
-reads-lookup from held own (ABad ∷ flight) shared k p h e u = absurd h
+    reads-same from held own flight shared k (subst (λ s. Reads from held own flight s) g (subst (λ s. Reads from s own flight (altered items (rejections items) shared)) f rest)) u
+reads-same from held [] (AnAnswer results ∷ flight) shared k h u = absurd h.0
+reads-same from held (items ∷ own) (AnAnswer results ∷ flight) shared k h u =
+    sym (lookup-altered items results k held u.0) ∙ reads-same from (altered items results held) own flight shared k h.1 u.1
+reads-same from held own (AMark at number ∷ flight) shared k h u = reads-same from held own flight shared k h.1 u
+reads-same from held own (AGive ∷ flight) shared k h u = reads-same from held own flight shared k h u
+reads-same from held own (ARelease ∷ flight) shared k h u = reads-same from held own flight shared k h.1 u
+reads-same from held own (AQuiet ∷ flight) shared k h u = reads-same from held own flight shared k h u
+reads-same from held own (ABad ∷ flight) shared k h u = absurd h
 
 -- a value joins a flight
 pub push-value : (from : Role) (held : ContextSet) (own : List (List Item)) (flight : List Entry) (shared at : ContextSet) (k : ℕ) (p : Pair) → Reads from held own flight shared → lookup at k ≡ Some p → lookup shared k ≡ Some p → AllUntouched k (asked flight) → Reads from held own (flight ++ (AValue at k p ∷ [])) shared
 push-value from held own [] shared at k p h a e u = (subst (λ s. lookup s k ≡ Some p) (sym h) e, a, h)
 push-value from held own (AValue bt j q ∷ flight) shared at k p h a e u = (h.0, h.1, push-value from held own flight shared at k p h.2 a e u)
 push-value from held own (AnAsk bt items ∷ flight) shared at k p h a e u =
-    (h.0, h.1, h.2, h.3, λ results fits. push-value from (altered items results held) own flight (altered items results shared) at k p (h.4 results fits) a (lookup-altered items results k shared u.0 ∙ e) u.1)
+    (h.0, h.1, h.2, λ results fits. push-value from (altered items results held) own flight (altered items results shared) at k p (h.3 results fits) a (lookup-altered items results k shared u.0 ∙ e) u.1)
 push-value from held own (AnAnswer results ∷ flight) shared at k p h a e u = (h.0, push-value from (altered_first own results held) (later own) flight shared at k p h.1 a e u)
 push-value from held own (AMark bt number ∷ flight) shared at k p h a e u = (h.0, push-value from held own flight shared at k p h.1 a e u)
 push-value from held own (AGive ∷ flight) shared at k p h a e u = push-value from held own flight shared at k p h a e u
@@ -224,63 +197,60 @@ push-value from held own (ARelease ∷ flight) shared at k p h a e u = (h.0, pus
 push-value from held own (AQuiet ∷ flight) shared at k p h a e u = push-value from held own flight shared at k p h a e u
 push-value from held own (ABad ∷ flight) shared at k p h a e u = absurd h
 
-later-none : (flight : List Entry) → unanswered flight [] ≡ []
-later-none [] = refl
-later-none (AValue bt j q ∷ flight) = later-none flight
-later-none (AnAsk bt items ∷ flight) = later-none flight
-later-none (AnAnswer results ∷ flight) = later-none flight
-later-none (AMark bt number ∷ flight) = later-none flight
-later-none (AGive ∷ flight) = later-none flight
-later-none (ARelease ∷ flight) = later-none flight
-later-none (AQuiet ∷ flight) = later-none flight
-later-none (ABad ∷ flight) = later-none flight
-
-pub unanswered-one : (flight : List Entry) (first : List Item) → (unanswered flight (first ∷ []) ≡ first ∷ []) ⊎ (unanswered flight (first ∷ []) ≡ [])
-unanswered-one [] first = inl refl
-unanswered-one (AValue bt j q ∷ flight) first = unanswered-one flight first
-unanswered-one (AnAsk bt items ∷ flight) first = unanswered-one flight first
-unanswered-one (AnAnswer results ∷ flight) first = inr (later-none flight)
-unanswered-one (AMark bt number ∷ flight) first = unanswered-one flight first
-unanswered-one (AGive ∷ flight) first = unanswered-one flight first
-unanswered-one (ARelease ∷ flight) first = unanswered-one flight first
-unanswered-one (AQuiet ∷ flight) first = unanswered-one flight first
-unanswered-one (ABad ∷ flight) first = unanswered-one flight first
-
-unanswered-head : (flight : List Entry) (first items : List Item) (more : List (List Item)) → unanswered flight (first ∷ []) ≡ items ∷ more → first ≡ items
-unanswered-head flight first items more e = go (unanswered-one flight first)
+-- what isn't answered yet is of the own alterations
+unanswered-apart : (flight : List Entry) (own : List (List Item)) (items : List Item) → AllApart own items → AllApart (unanswered flight own) items
+unanswered-apart [] own items a = a
+unanswered-apart (AValue bt j q ∷ flight) own items a = unanswered-apart flight own items a
+unanswered-apart (AnAsk bt asks ∷ flight) own items a = unanswered-apart flight own items a
+unanswered-apart (AnAnswer results ∷ flight) own items a = unanswered-apart flight (later own) items (go own a)
   where
-    go : (unanswered flight (first ∷ []) ≡ first ∷ []) ⊎ (unanswered flight (first ∷ []) ≡ []) → first ≡ items
-    go (inl f) = cc
-    go (inr f) = cc
+    go : (own : List (List Item)) → AllApart own items → AllApart (later own) items
+    go [] a = tt
+    go (o ∷ own) a = a.1
+unanswered-apart (AMark bt number ∷ flight) own items a = unanswered-apart flight own items a
+unanswered-apart (AGive ∷ flight) own items a = unanswered-apart flight own items a
+unanswered-apart (ARelease ∷ flight) own items a = unanswered-apart flight own items a
+unanswered-apart (AQuiet ∷ flight) own items a = unanswered-apart flight own items a
+unanswered-apart (ABad ∷ flight) own items a = unanswered-apart flight own items a
+
+pub unanswered-untouched : (flight : List Entry) (own : List (List Item)) (k : ℕ) → AllUntouched k own → AllUntouched k (unanswered flight own)
+unanswered-untouched [] own k u = u
+unanswered-untouched (AValue bt j q ∷ flight) own k u = unanswered-untouched flight own k u
+unanswered-untouched (AnAsk bt asks ∷ flight) own k u = unanswered-untouched flight own k u
+unanswered-untouched (AnAnswer results ∷ flight) own k u = unanswered-untouched flight (later own) k (later-untouched k own u)
+unanswered-untouched (AMark bt number ∷ flight) own k u = unanswered-untouched flight own k u
+unanswered-untouched (AGive ∷ flight) own k u = unanswered-untouched flight own k u
+unanswered-untouched (ARelease ∷ flight) own k u = unanswered-untouched flight own k u
+unanswered-untouched (AQuiet ∷ flight) own k u = unanswered-untouched flight own k u
+unanswered-untouched (ABad ∷ flight) own k u = unanswered-untouched flight own k u
+
+pub unanswered-all_untouched : (flight : List Entry) (own : List (List Item)) (items : List Item) → AreUntouched items own → AreUntouched items (unanswered flight own)
+unanswered-all_untouched flight own [] u = tt
+unanswered-all_untouched flight own (i ∷ is) u = (unanswered-untouched flight own (identifier_of i) u.0, unanswered-all_untouched flight own is u.1)
 
 -- an answer joins the flight to the end that asked for these items
-pub push-answer : (from : Role) (held : ContextSet) (own : List (List Item)) (flight : List Entry) (shared : ContextSet) (items : List Item) (more : List (List Item)) (results : List Result) → Reads from held own flight shared → IsRising shared → IsOne own → unanswered flight own ≡ items ∷ more → Fits items results → Reads from held own (flight ++ (AnAnswer results ∷ [])) (altered items results shared)
-push-answer from held [] [] shared items more results h r o e fits = absurd (cc)
-push-answer from held (first ∷ []) [] shared items more results h r o e fits =
-    let same : first ≡ items = cc in
-    (subst (λ i. Fits i results) (sym same) fits, ap (altered first results) h ∙ ap (λ i. altered i results shared) same)
-push-answer from held (first ∷ second ∷ own) [] shared items more results h r o e fits = absurd o
-push-answer from held own (AValue bt j q ∷ flight) shared items more results h r o e fits = (h.0, h.1, push-answer from held own flight shared items more results h.2 r o e fits)
-push-answer from held [] (AnAsk bt asks ∷ flight) shared items more results h r o e fits = absurd (let n = later-none flight in cc)
-push-answer from held (first ∷ []) (AnAsk bt asks ∷ flight) shared items more results h r o e fits = (
+answer-ends : (own : List (List Item)) (held shared : ContextSet) (items : List Item) (more : List (List Item)) (results : List Result) → own ≡ items ∷ more → held ≡ shared → Fits items results → OnFirst (λ is. Fits is results) own × (altered_first own results held ≡ altered items results shared)
+answer-ends own held shared items more results e h fits =
+    subst (λ (o : List (List Item)). OnFirst (λ is. Fits is results) o × (altered_first o results held ≡ altered items results shared)) (sym e) (fits, ap (altered items results) h)
+
+pub push-answer : (from : Role) (held : ContextSet) (own : List (List Item)) (flight : List Entry) (shared : ContextSet) (items : List Item) (more : List (List Item)) (results : List Result) → Reads from held own flight shared → IsRising shared → unanswered flight own ≡ items ∷ more → Fits items results → Reads from held own (flight ++ (AnAnswer results ∷ [])) (altered items results shared)
+push-answer from held own [] shared items more results h r e fits = answer-ends own held shared items more results e h fits
+push-answer from held own (AValue bt j q ∷ flight) shared items more results h r e fits = (h.0, h.1, push-answer from held own flight shared items more results h.2 r e fits)
+push-answer from held own (AnAsk bt asks ∷ flight) shared items more results h r e fits = (
   h.0,
   h.1,
   h.2,
-  h.3,
   λ qs fit.
-      subst (λ s. Reads from (altered asks qs held) (first ∷ []) (flight ++ (AnAnswer results ∷ [])) s)
-      (altered-altered items results asks qs shared (subst (λ i. AreApart i asks) (unanswered-head flight first items more e) h.3.0) r)
-      (push-answer from (altered asks qs held) (first ∷ []) flight (altered asks qs shared) items more results (h.4 qs fit) (rising-altered asks qs shared r) o e fits),
+      subst (λ s. Reads from (altered asks qs held) own (flight ++ (AnAnswer results ∷ [])) s)
+      (altered-altered items results asks qs shared (subst (λ (o : List (List Item)). AllApart o asks) e (unanswered-apart flight own asks h.2)).0 r)
+      (push-answer from (altered asks qs held) own flight (altered asks qs shared) items more results (h.3 qs fit) (rising-altered asks qs shared r) e fits),
 )
-push-answer from held (first ∷ second ∷ own) (AnAsk bt asks ∷ flight) shared items more results h r o e fits = absurd o
-push-answer from held [] (AnAnswer rs ∷ flight) shared items more results h r o e fits = absurd h.0
-push-answer from held (first ∷ []) (AnAnswer rs ∷ flight) shared items more results h r o e fits = absurd (let n = later-none flight in cc)
-push-answer from held (first ∷ second ∷ own) (AnAnswer rs ∷ flight) shared items more results h r o e fits = absurd o
-push-answer from held own (AMark bt number ∷ flight) shared items more results h r o e fits = (h.0, push-answer from held own flight shared items more results h.1 r o e fits)
-push-answer from held own (AGive ∷ flight) shared items more results h r o e fits = push-answer from held own flight shared items more results h r o e fits
-push-answer from held own (ARelease ∷ flight) shared items more results h r o e fits = (h.0, push-answer from held own flight shared items more results h.1 r o e fits)
-push-answer from held own (AQuiet ∷ flight) shared items more results h r o e fits = push-answer from held own flight shared items more results h r o e fits
-push-answer from held own (ABad ∷ flight) shared items more results h r o e fits = absurd h
+push-answer from held own (AnAnswer rs ∷ flight) shared items more results h r e fits = (h.0, push-answer from (altered_first own rs held) (later own) flight shared items more results h.1 r e fits)
+push-answer from held own (AMark bt number ∷ flight) shared items more results h r e fits = (h.0, push-answer from held own flight shared items more results h.1 r e fits)
+push-answer from held own (AGive ∷ flight) shared items more results h r e fits = push-answer from held own flight shared items more results h r e fits
+push-answer from held own (ARelease ∷ flight) shared items more results h r e fits = (h.0, push-answer from held own flight shared items more results h.1 r e fits)
+push-answer from held own (AQuiet ∷ flight) shared items more results h r e fits = push-answer from held own flight shared items more results h r e fits
+push-answer from held own (ABad ∷ flight) shared items more results h r e fits = absurd h
 
 -- sound items of one end are apart from those of the other, over one set
 sound-apart_item : (role : Role) (set : ContextSet) (i j : Item) → IsSound role set i → IsSound (other role) set j → IsApart i j
@@ -301,18 +271,47 @@ pub sound-apart : (role : Role) (set : ContextSet) (is js : List Item) → AreSo
 sound-apart role set [] js h g = tt
 sound-apart role set (i ∷ is) js h g = (sound-apart_from role set i js h.0 g, sound-apart role set is js h.1 g)
 
+-- items are sound over a set that is altered only where they name nothing
+abbrev pub AreSame : ContextSet → ContextSet → List Item → Type 0
+AreSame set other [] = Unit {0}
+AreSame set other (item ∷ items) = (lookup set (identifier_of item) ≡ lookup other (identifier_of item)) × AreSame set other items
+
+pub sound-same : (role : Role) (set other : ContextSet) (items : List Item) → AreSound role set items → AreSame set other items → AreSound role other items
+sound-same role set other [] s e = tt
+sound-same role set other (Addition k o ∷ items) s e = ((s.0.0, sym e.0 ∙ s.0.1), sound-same role set other items s.1 e.1)
+sound-same role set other (Deletion k ∷ items) s e = (ap is_some (sym e.0) ∙ s.0, sound-same role set other items s.1 e.1)
+
+same-altered : (set : ContextSet) (asks : List Item) (results : List Result) (items : List Item) (rest : List (List Item)) → AreUntouched items (asks ∷ rest) → AreSame set (altered asks results set) items
+same-altered set asks results [] rest u = tt
+same-altered set asks results (i ∷ is) rest u = (sym (lookup-altered asks results (identifier_of i) set u.0.0), same-altered set asks results is rest u.1)
+
+pub sound-altered : (role : Role) (set : ContextSet) (asks : List Item) (results : List Result) (items : List Item) (rest : List (List Item)) → AreUntouched items (asks ∷ rest) → AreSound role set items → AreSound role (altered asks results set) items
+sound-altered role set asks results items rest u s = sound-same role set (altered asks results set) items s (same-altered set asks results items rest u)
+
+pub sound-shared : (from role : Role) (held : ContextSet) (own : List (List Item)) (flight : List Entry) (shared : ContextSet) (items : List Item) → Reads from held own flight shared → AreUntouched items own → AreSound role held items → AreSound role shared items
+sound-shared from role held own flight shared items h u s = sound-same role held shared items s (same items u)
+  where
+    same : (is : List Item) → AreUntouched is own → AreSame held shared is
+    same [] u = tt
+    same (i ∷ is) u = (reads-same from held own flight shared (identifier_of i) h u.0, same is u.1)
+
 -- an alteration joins a flight
-pub push-ask : (from : Role) (held : ContextSet) (own : List (List Item)) (flight : List Entry) (shared at : ContextSet) (items : List Item) → Reads from held own flight shared → asked flight ≡ [] → shared ≡ at → AreSound from at items → AreDistinct (identifiers items) → AllApart (unanswered flight own) items → Reads from held own (flight ++ (AnAsk at items ∷ [])) shared
-push-ask from held own [] shared at items h n a s d u =
-    (h ∙ a, subst (λ x. AreSound from x items) (sym (h ∙ a)) s, d, u, λ results fits. ap (altered items results) h)
-push-ask from held own (AValue bt j q ∷ flight) shared at items h n a s d u = (h.0, h.1, push-ask from held own flight shared at items h.2 n a s d u)
-push-ask from held own (AnAsk bt asks ∷ flight) shared at items h n a s d u = absurd (cc)
-push-ask from held own (AnAnswer results ∷ flight) shared at items h n a s d u = (h.0, push-ask from (altered_first own results held) (later own) flight shared at items h.1 n a s d u)
-push-ask from held own (AMark bt number ∷ flight) shared at items h n a s d u = (h.0, push-ask from held own flight shared at items h.1 n a s d u)
-push-ask from held own (AGive ∷ flight) shared at items h n a s d u = push-ask from held own flight shared at items h n a s d u
-push-ask from held own (ARelease ∷ flight) shared at items h n a s d u = (h.0, push-ask from held own flight shared at items h.1 n a s d u)
-push-ask from held own (AQuiet ∷ flight) shared at items h n a s d u = push-ask from held own flight shared at items h n a s d u
-push-ask from held own (ABad ∷ flight) shared at items h n a s d u = absurd h
+pub push-ask : (from : Role) (held : ContextSet) (own : List (List Item)) (flight : List Entry) (shared at : ContextSet) (items : List Item) → Reads from held own flight shared → AreUntouched items (asked flight) → AreSound from shared items → AreDistinct (identifiers items) → AllApart (unanswered flight own) items → Reads from held own (flight ++ (AnAsk at items ∷ [])) shared
+push-ask from held own [] shared at items h n s d u =
+    (subst (λ x. AreSound from x items) (sym h) s, d, u, λ results fits. ap (altered items results) h)
+push-ask from held own (AValue bt j q ∷ flight) shared at items h n s d u = (h.0, h.1, push-ask from held own flight shared at items h.2 n s d u)
+push-ask from held own (AnAsk bt asks ∷ flight) shared at items h n s d u =
+    (h.0, h.1, h.2, λ results fits. push-ask from (altered asks results held) own flight (altered asks results shared) at items (h.3 results fits) (rest items n) (sound-altered from shared asks results items (asked flight) n s) d u)
+  where
+    rest : (is : List Item) → AreUntouched is (asks ∷ asked flight) → AreUntouched is (asked flight)
+    rest [] n = tt
+    rest (i ∷ is) n = (n.0.1, rest is n.1)
+push-ask from held own (AnAnswer results ∷ flight) shared at items h n s d u = (h.0, push-ask from (altered_first own results held) (later own) flight shared at items h.1 n s d u)
+push-ask from held own (AMark bt number ∷ flight) shared at items h n s d u = (h.0, push-ask from held own flight shared at items h.1 n s d u)
+push-ask from held own (AGive ∷ flight) shared at items h n s d u = push-ask from held own flight shared at items h n s d u
+push-ask from held own (ARelease ∷ flight) shared at items h n s d u = (h.0, push-ask from held own flight shared at items h.1 n s d u)
+push-ask from held own (AQuiet ∷ flight) shared at items h n s d u = push-ask from held own flight shared at items h n s d u
+push-ask from held own (ABad ∷ flight) shared at items h n s d u = absurd h
 
 -- a mark joins a flight
 pub push-mark : (from : Role) (held : ContextSet) (own : List (List Item)) (flight : List Entry) (shared at : ContextSet) (number : ℕ) → Reads from held own flight shared → asked flight ≡ [] → shared ≡ at → Reads from held own (flight ++ (AMark at number ∷ [])) shared
@@ -347,7 +346,7 @@ pub push-plain : (from : Role) (held : ContextSet) (own : List (List Item)) (fli
 push-plain from held own [] shared e h p = plain-end from held own shared e p h
 push-plain from held own (AValue bt j q ∷ flight) shared e h p = (h.0, h.1, push-plain from held own flight shared e h.2 p)
 push-plain from held own (AnAsk bt asks ∷ flight) shared e h p =
-    (h.0, h.1, h.2, h.3, λ results fits. push-plain from (altered asks results held) own flight (altered asks results shared) e (h.4 results fits) p)
+    (h.0, h.1, h.2, λ results fits. push-plain from (altered asks results held) own flight (altered asks results shared) e (h.3 results fits) p)
 push-plain from held own (AnAnswer results ∷ flight) shared e h p = (h.0, push-plain from (altered_first own results held) (later own) flight shared e h.1 p)
 push-plain from held own (AMark bt m ∷ flight) shared e h p = (h.0, push-plain from held own flight shared e h.1 p)
 push-plain from held own (AGive ∷ flight) shared e h p = push-plain from held own flight shared e h p
@@ -355,45 +354,71 @@ push-plain from held own (ARelease ∷ flight) shared e h p = (h.0, push-plain f
 push-plain from held own (AQuiet ∷ flight) shared e h p = push-plain from held own flight shared e h p
 push-plain from held own (ABad ∷ flight) shared e h p = absurd h
 
--- an end asks: what comes to it is read as before
-pub ask-none : (from : Role) (held : ContextSet) (items : List Item) (flight : List Entry) (shared : ContextSet) → Reads from held [] flight shared → asked flight ≡ [] → Reads from held (items ∷ []) flight shared
-ask-none from held items [] shared h n = h
-ask-none from held items (AValue bt j q ∷ flight) shared h n = (h.0, h.1, ask-none from held items flight shared h.2 n)
-ask-none from held items (AnAsk bt asks ∷ flight) shared h n = absurd (cc)
-ask-none from held items (AnAnswer results ∷ flight) shared h n = absurd h.0
-ask-none from held items (AMark bt m ∷ flight) shared h n = (h.0, ask-none from held items flight shared h.1 n)
-ask-none from held items (AGive ∷ flight) shared h n = ask-none from held items flight shared h n
-ask-none from held items (ARelease ∷ flight) shared h n = (h.0, ask-none from held items flight shared h.1 n)
-ask-none from held items (AQuiet ∷ flight) shared h n = ask-none from held items flight shared h n
-ask-none from held items (ABad ∷ flight) shared h n = absurd h
+-- the alterations on their way to an end are apart from what it may ask for
+abbrev pub ApartFromAll : List Item → List (List Item) → Type 0
+ApartFromAll items [] = Unit {0}
+ApartFromAll items (asks ∷ rest) = AreApart items asks × ApartFromAll items rest
 
-pub ask-one : (role : Role) (held : ContextSet) (items : List Item) (flight : List Entry) (shared : ContextSet) → Reads (other role) held [] flight shared → IsOne (asked flight) → AreSound role held items → Reads (other role) held (items ∷ []) flight shared
-ask-one role held items [] shared h o s = h
-ask-one role held items (AValue bt j q ∷ flight) shared h o s = (h.0, h.1, ask-one role held items flight shared h.2 o s)
-ask-one role held items (AnAsk bt asks ∷ flight) shared h o s = (
-  h.0,
-  h.1,
-  h.2,
-  (sound-apart role held items asks s h.1, tt),
-  λ results fits. ask-none (other role) (altered asks results held) items flight (altered asks results shared) (h.4 results fits) (none (asked flight) o),
-)
+pub asks-apart : (role : Role) (held : ContextSet) (own : List (List Item)) (flight : List Entry) (shared : ContextSet) (items : List Item) → Reads (other role) held own flight shared → AreUntouched items own → AreSound role held items → ApartFromAll items (asked flight) × AllApart (asked flight) items
+asks-apart role held own [] shared items h u s = (tt, tt)
+asks-apart role held own (AValue bt j q ∷ flight) shared items h u s = asks-apart role held own flight shared items h.2 u s
+asks-apart role held own (AnAsk bt asks ∷ flight) shared items h u s =
+    let rest = h.3 (rejections asks) (rejections-fit asks) in
+    let f = rejections-altered asks held in
+    let g = rejections-altered asks shared in
+    let ih = asks-apart role held own flight shared items (subst (λ x. Reads (other role) held own flight x) g (subst (λ x. Reads (other role) x own flight (altered asks (rejections asks) shared)) f rest)) u s in
+    ((sound-apart role held items asks s h.0, ih.0), (backwards role s h.0, ih.1))
   where
-    none : (xs : List (List Item)) → IsOne (asks ∷ xs) → xs ≡ []
-    none [] o = refl
-    none (x ∷ xs) o = absurd o
-ask-one role held items (AnAnswer results ∷ flight) shared h o s = absurd h.0
-ask-one role held items (AMark bt m ∷ flight) shared h o s = (h.0, ask-one role held items flight shared h.1 o s)
-ask-one role held items (AGive ∷ flight) shared h o s = ask-one role held items flight shared h o s
-ask-one role held items (ARelease ∷ flight) shared h o s = (h.0, ask-one role held items flight shared h.1 o s)
-ask-one role held items (AQuiet ∷ flight) shared h o s = ask-one role held items flight shared h o s
-ask-one role held items (ABad ∷ flight) shared h o s = absurd h
+    backwards : (r : Role) → AreSound r held items → AreSound (other r) held asks → AreApart asks items
+    backwards Initiator s h = sound-apart Responder held asks items h s
+    backwards Responder s h = sound-apart Initiator held asks items h s
+asks-apart role held [] (AnAnswer results ∷ flight) shared items h u s = absurd h.0
+asks-apart role held (o ∷ own) (AnAnswer results ∷ flight) shared items h u s =
+    asks-apart role (altered o results held) own flight shared items h.1 (later-all_untouched items (o ∷ own) u) (sound-altered role held o results items own u s)
+asks-apart role held own (AMark bt m ∷ flight) shared items h u s = asks-apart role held own flight shared items h.1 u s
+asks-apart role held own (AGive ∷ flight) shared items h u s = asks-apart role held own flight shared items h u s
+asks-apart role held own (ARelease ∷ flight) shared items h u s = asks-apart role held own flight shared items h.1 u s
+asks-apart role held own (AQuiet ∷ flight) shared items h u s = asks-apart role held own flight shared items h u s
+asks-apart role held own (ABad ∷ flight) shared items h u s = absurd h
+
+-- an end asks: what comes to it is read as before
+all-apart_more : (own : List (List Item)) (items asks : List Item) → AllApart own asks → AreApart items asks → AllApart (own ++ (items ∷ [])) asks
+all-apart_more [] items asks a b = (b, tt)
+all-apart_more (o ∷ own) items asks a b = (a.0, all-apart_more own items asks a.1 b)
+
+pub ask-more : (from : Role) (held : ContextSet) (own : List (List Item)) (items : List Item) (flight : List Entry) (shared : ContextSet) → Reads from held own flight shared → ApartFromAll items (asked flight) → Reads from held (own ++ (items ∷ [])) flight shared
+ask-more from held own items [] shared h a = h
+ask-more from held own items (AValue bt j q ∷ flight) shared h a = (h.0, h.1, ask-more from held own items flight shared h.2 a)
+ask-more from held own items (AnAsk bt asks ∷ flight) shared h a =
+    (h.0, h.1, all-apart_more own items asks h.2 a.0, λ results fits. ask-more from (altered asks results held) own items flight (altered asks results shared) (h.3 results fits) a.1)
+ask-more from held [] items (AnAnswer results ∷ flight) shared h a = absurd h.0
+ask-more from held (o ∷ own) items (AnAnswer results ∷ flight) shared h a = (h.0, ask-more from (altered o results held) own items flight shared h.1 a)
+ask-more from held own items (AMark bt m ∷ flight) shared h a = (h.0, ask-more from held own items flight shared h.1 a)
+ask-more from held own items (AGive ∷ flight) shared h a = ask-more from held own items flight shared h a
+ask-more from held own items (ARelease ∷ flight) shared h a = (h.0, ask-more from held own items flight shared h.1 a)
+ask-more from held own items (AQuiet ∷ flight) shared h a = ask-more from held own items flight shared h a
+ask-more from held own items (ABad ∷ flight) shared h a = absurd h
+
+-- an alteration that joins the own ones isn't answered
+pub unanswered-more : (from : Role) (held : ContextSet) (own : List (List Item)) (items : List Item) (flight : List Entry) (shared : ContextSet) → Reads from held own flight shared → unanswered flight (own ++ (items ∷ [])) ≡ unanswered flight own ++ (items ∷ [])
+unanswered-more from held own items [] shared h = refl
+unanswered-more from held own items (AValue bt j q ∷ flight) shared h = unanswered-more from held own items flight shared h.2
+unanswered-more from held own items (AnAsk bt asks ∷ flight) shared h =
+    unanswered-more from (altered asks (rejections asks) held) own items flight (altered asks (rejections asks) shared) (h.3 (rejections asks) (rejections-fit asks))
+unanswered-more from held [] items (AnAnswer results ∷ flight) shared h = absurd h.0
+unanswered-more from held (o ∷ own) items (AnAnswer results ∷ flight) shared h = unanswered-more from (altered o results held) own items flight shared h.1
+unanswered-more from held own items (AMark bt m ∷ flight) shared h = unanswered-more from held own items flight shared h.1
+unanswered-more from held own items (AGive ∷ flight) shared h = unanswered-more from held own items flight shared h
+unanswered-more from held own items (ARelease ∷ flight) shared h = unanswered-more from held own items flight shared h.1
+unanswered-more from held own items (AQuiet ∷ flight) shared h = unanswered-more from held own items flight shared h
+unanswered-more from held own items (ABad ∷ flight) shared h = absurd h
 
 -- no answer is in a flight to an end with no own alteration
 pub no-answers : (from : Role) (held : ContextSet) (flight : List Entry) (shared : ContextSet) (own : List (List Item)) → Reads from held [] flight shared → unanswered flight own ≡ own
 no-answers from held [] shared own h = refl
 no-answers from held (AValue bt j q ∷ flight) shared own h = no-answers from held flight shared own h.2
 no-answers from held (AnAsk bt asks ∷ flight) shared own h =
-    no-answers from (altered asks (rejections asks) held) flight (altered asks (rejections asks) shared) own (h.4 (rejections asks) (rejections-fit asks))
+    no-answers from (altered asks (rejections asks) held) flight (altered asks (rejections asks) shared) own (h.3 (rejections asks) (rejections-fit asks))
 no-answers from held (AnAnswer results ∷ flight) shared own h = absurd h.0
 no-answers from held (AMark bt m ∷ flight) shared own h = no-answers from held flight shared own h.1
 no-answers from held (AGive ∷ flight) shared own h = no-answers from held flight shared own h

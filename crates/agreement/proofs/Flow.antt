@@ -9,7 +9,7 @@ use Rattle.agreement.specs.State.Awaited.{NoAnswer, RestartOf, InterruptOf, Disc
 use Rattle.agreement.specs.State.Progress.{Running, Ending, Suspended}
 use Rattle.agreement.specs.Acts.{confirmed_of}
 use Rattle.agreement.specs.Takings.{OnFirst, altered_first, later}
-use Rattle.agreement.proofs.Flights.{AllUntouched, IsOne}
+use Rattle.agreement.proofs.Names.{AllUntouched}
 use Rattle.agreement.proofs.Pieces.{Agrees, Numbered, Carries, saved_in}
 use Rattle.agreement.proofs.Down.{Follower, Goal, IsQuiet, AllQuiet, Down, IsFlat, AllFlat, at-rest}
 
@@ -96,7 +96,7 @@ RestOf l up y = RestBy l.awaits l.transfer l up y × (y.inter ≡ l.sets.inter) 
 -- the octets that came are those of the value as it was encoded, whose context has its pair
 abbrev pub SpellsIn : Option Value → Setup → ContextSet → Incoming → Type 0
 SpellsIn None setup held incoming = ⊥
-SpellsIn (Some value) setup held incoming = (lookup held value.identifier ≡ Some value.pair) × (joined incoming.pieces ≡ setup.codec.written value)
+SpellsIn (Some value) setup held incoming = (lookup held value.identifier ≡ Some value.pair) × (joined incoming.pieces ≡ setup.codec.written value) × (setup.codec.may_write value ≡ true)
 
 abbrev pub value_in : Option Transfer → Option Value
 value_in None = None
@@ -164,15 +164,15 @@ abbrev pub SharedBy : Awaited → Sets → List Message → ContextSet → Type 
 SharedBy NoAnswer sets up set = set ≡ held_after sets.own sets.held sets.inter up
 SharedBy awaited sets up set = has_final up ≡ true → set ≡ sets.inter
 
--- a value carries through the marks; what isn't encoded has no piece
-abbrev pub CarriesIn : Option Value → List Piece → Type 0
-CarriesIn None pieces = pieces ≡ []
-CarriesIn (Some value) pieces = Carries value pieces
+-- a value may be written, and carries through the marks; what isn't encoded has no piece
+abbrev pub CarriesIn : Setup → Option Value → List Piece → Type 0
+CarriesIn setup None pieces = pieces ≡ []
+CarriesIn setup (Some value) pieces = (setup.codec.may_write value ≡ true) × Carries value pieces
 
 -- a transfer against what the shared set saved of it
-abbrev pub SavedIn : Option Transfer → List Saved → Type 0
-SavedIn None marks = Unit {0}
-SavedIn (Some t) marks = Numbered t.pieces × (marks ≡ saved_in t.pieces) × (t.confirmed ≤ highest t.pieces) × CarriesIn t.value t.pieces
+abbrev pub SavedIn : Setup → Option Transfer → List Saved → Type 0
+SavedIn setup None marks = Unit {0}
+SavedIn setup (Some t) marks = Numbered t.pieces × (marks ≡ saved_in t.pieces) × (t.confirmed ≤ highest t.pieces) × CarriesIn setup t.value t.pieces
 
 abbrev pub ValueHeld : Option Value → Sets → Type 0
 ValueHeld None sets = Unit {0}
@@ -189,7 +189,6 @@ RunsValue awaited transfer sets = Unit {0}
 pub record Flow (setup : Setup) (from : Role) (l : Leader) (lin : Incoming) (y : Follower) (yc : ℕ) (yt : Option Transfer) (down up : List Message) (set inter : ContextSet) (mine theirs : List Saved) : Type 0 where
   pub runs : Down setup from (Rest l) down y up
   pub asks : l.awaits ≡ NoAnswer → alters_in down ≡ unanswered_in up l.sets.own
-  pub one : IsOne l.sets.own
   pub begins : Begins l.started (confirmed_of l.transfer) down
   pub waits : Waits l.awaits (confirmed_of l.transfer) down
   pub after : has_final up ≡ true → AllQuiet down
@@ -198,8 +197,8 @@ pub record Flow (setup : Setup) (from : Role) (l : Leader) (lin : Incoming) (y :
   pub acks : l.awaits ≡ NoAnswer → Acks l.started (pieces_of_transfer l.transfer) y.incoming up
   pub others : PairedIn yt yc lin
   pub rests : lin.active ≡ false
-  pub saved : SavedIn l.transfer mine
-  pub theirs_saved : SavedIn yt theirs
+  pub saved : SavedIn setup l.transfer mine
+  pub theirs_saved : SavedIn setup yt theirs
   pub value : RunsValue l.awaits l.transfer l.sets
   pub inters : inter ≡ l.sets.inter
   pub sets : SharedBy l.awaits l.sets up set

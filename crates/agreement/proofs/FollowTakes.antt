@@ -17,9 +17,9 @@ use Rattle.agreement.proofs.Flow.Doing.{Resting, Going, Closing}
 use Rattle.agreement.proofs.Leads.{resumed-same, resumed-next}
 use Rattle.agreement.proofs.Follows.{final-more, after-more, shared-more, after-answer, after-mark, after-end, unanswered-mark, unanswered-end, IsPart, active-part, more-octets, more-mark, acks-more_octets, acks-more_mark, acks-flags, paired-map}
 
-numbered-of : (t : Option Transfer) (marks : List Saved) → SavedIn t marks → Numbered (pieces_of_transfer t)
-numbered-of None marks s = tt
-numbered-of (Some t) marks s = s.0
+numbered-of : (setup : Setup) (t : Option Transfer) (marks : List Saved) → SavedIn setup t marks → Numbered (pieces_of_transfer t)
+numbered-of setup None marks s = tt
+numbered-of setup (Some t) marks s = s.0
 
 -- an alteration
 pub follows_alter : (setup : Setup) (from : Role) (l : Leader) (lin : Incoming) (y : Follower) (yc : ℕ) (yt : Option Transfer) (items : List Item) (results : List Result) (down up : List Message) (set mid : ContextSet) (mine theirs : List Saved) → Fits items results → Flow setup from l lin y yc yt (Alter items ∷ down) up set mid mine theirs → Flow setup from l lin (record y { held = altered items results y.held }) yc yt down (up ++ (AlterAnswer results ∷ [])) (altered items results set) mid mine theirs
@@ -27,7 +27,6 @@ follows_alter setup from l lin y yc yt items results down up set mid mine theirs
     record {
       runs = n.runs.2 results f;
       asks = λ e. ap later (n.asks e) ∙ sym (unanswered-append up (AlterAnswer results ∷ []) l.sets.own);
-      one = n.one;
       begins = n.begins;
       waits = n.waits;
       after = after-more up (AlterAnswer results) (Alter items) down refl (λ x. x) n.after;
@@ -53,7 +52,6 @@ follows_mark setup from l lin y yc yt number down up set mid mine theirs n =
     record {
       runs = n.runs.2;
       asks = λ e. n.asks e ∙ sym (unanswered-mark up number l.sets.own);
-      one = n.one;
       begins = n.begins;
       waits = n.waits;
       after = after-more up (MarkAnswer number) (Mark number) down refl (λ x. x) n.after;
@@ -78,7 +76,7 @@ follows_mark setup from l lin y yc yt number down up set mid mine theirs n =
     self = omega arith
 
     new : (z : Follower) → IsPart l z → number ≤ highest z.incoming.pieces → Acks l.started (pieces_of_transfer l.transfer) z.incoming (MarkAnswer number ∷ [])
-    new z i b = (i.last, agrees-part number i.rest z.incoming.pieces (pieces_of_transfer l.transfer) i.same (numbered-of l.transfer mine n.saved) b, tt)
+    new z i b = (i.last, agrees-part number i.rest z.incoming.pieces (pieces_of_transfer l.transfer) i.same (numbered-of setup l.transfer mine n.saved) b, tt)
 
 -- the start of an activity
 pub follows_start : (setup : Setup) (from : Role) (l : Leader) (lin : Incoming) (y : Follower) (yc : ℕ) (yt : Option Transfer) (k : ℕ) (down up : List Message) (set mid : ContextSet) (mine theirs : List Saved) → Flow setup from l lin y yc yt (Start k ∷ down) up set mid mine theirs → Flow setup from l lin (record y { incoming = record { last = k; pieces = []; was_handed = false; active = true }; inter = y.held }) yc yt down up set mid mine theirs
@@ -86,7 +84,6 @@ follows_start setup from l lin y yc yt k down up set mid mine theirs n =
     record {
       runs = n.runs.3;
       asks = n.asks;
-      one = n.one;
       begins = n.begins.1;
       waits = n.waits;
       after = λ e. absurd (n.after e).0;
@@ -116,7 +113,6 @@ follows_resume setup from l lin y yc yt k j down up set mid mine theirs n =
     record {
       runs = n.runs.3;
       asks = n.asks;
-      one = n.one;
       begins = n.begins.2;
       waits = n.waits;
       after = λ e. absurd (n.after e).0;
@@ -161,7 +157,7 @@ follows_resume setup from l lin y yc yt k j down up set mid mine theirs n =
         self : (x : ℕ) → x ≤ x
         self x = omega arith
 
-    pair : (t : Option Transfer) → SavedIn t mine → (j ≡ confirmed_of t) ⊎ (confirmed_of t ≡ 0) → PairedIn t c i → MayResumeAt i k j → PairedIn t c (resumed_in k j i)
+    pair : (t : Option Transfer) → SavedIn setup t mine → (j ≡ confirmed_of t) ⊎ (confirmed_of t ≡ 0) → PairedIn t c i → MayResumeAt i k j → PairedIn t c (resumed_in k j i)
     pair None s b h m = subst (λ (x : Incoming). x.last ≡ c) (sym (is-same h)) h
     pair (Some t) s b (inl h) m = subst (λ x. PairedIn (Some t) c x) (sym (is-same h.0)) (inl (h.0, agrees t s.0 b h.1))
     pair (Some t) s b (inr h) (inl m) = absurd (clash' i.last c k h.0 m.0 n.begins.0)
@@ -175,7 +171,6 @@ follows_chunk setup from l lin y yc yt o down up set mid mine theirs n =
     record {
       runs = n.runs.1;
       asks = n.asks;
-      one = n.one;
       begins = n.begins;
       waits = n.waits;
       after = λ e. absurd (n.after e).0;
@@ -205,7 +200,6 @@ follows_end setup from l lin y yc yt number down up set mid mine theirs n =
     record {
       runs = n.runs.4;
       asks = λ e. n.asks e ∙ sym (unanswered-end up number l.sets.own);
-      one = n.one;
       begins = n.begins;
       waits = n.waits;
       after = λ e. n.runs.2;
@@ -227,7 +221,6 @@ follows_interrupt setup from l lin y yc yt down up set mid mine theirs n =
     record {
       runs = n.runs.2;
       asks = λ e. absurd (let w = n.waits.0 in cc);
-      one = n.one;
       begins = n.begins;
       waits = n.waits.1;
       after = λ e. n.runs.1;
@@ -248,7 +241,6 @@ follows_discard setup from l lin y yc yt down up set mid mine theirs n =
     record {
       runs = n.runs.2;
       asks = λ e. absurd (let w = n.waits.0 in cc);
-      one = n.one;
       begins = n.begins;
       waits = n.waits.2;
       after = λ e. n.runs.1;
@@ -275,7 +267,6 @@ follows_give_answer setup from l lin y yc yt down up set mid mine theirs n =
     record {
       runs = n.runs.1;
       asks = n.asks;
-      one = n.one;
       begins = n.begins;
       waits = n.waits;
       after = λ e. absurd (n.after e).0;
@@ -296,7 +287,6 @@ follows_please setup from l lin y yc yt p down up set mid mine theirs n =
     record {
       runs = n.runs;
       asks = n.asks;
-      one = n.one;
       begins = n.begins;
       waits = n.waits;
       after = λ e. (n.after e).1;
@@ -400,7 +390,6 @@ follower_sends setup from l lin y yc yt u down up set mid mine theirs q n =
     record {
       runs = down-up setup from (Rest l) u down y up [] q (λ us vs z r. rest-insert l u us vs z q r) (subst (λ us. Down setup from (Rest l) down y us) (sym (nil up)) n.runs);
       asks = λ e. n.asks e ∙ sym (unanswered-append up (u ∷ []) l.sets.own ∙ quiet-unanswered u (unanswered_in up l.sets.own) q);
-      one = n.one;
       begins = n.begins;
       waits = n.waits;
       after = λ e. n.after (was (final-more up (u ∷ []) e));

@@ -3,14 +3,14 @@ use Rattle.std.proofs.Common.{◌≡◌, ℕ, Bool, true, false, if◌then◌els
 use Rattle.std.specs.Prelude.{Option, Some, None}
 use Rattle.agreement.specs.Sets.{Role, other, Item, ContextSet}
 use Rattle.agreement.specs.Sets.Role.{Initiator, Responder}
-use Rattle.agreement.specs.Messages.{Apdu, Value, Mode, Setup, Message, Act, Choice}
+use Rattle.agreement.specs.Messages.{Apdu, Value, Mode, Setup, Message, Act, Choice, Calls}
 use Rattle.agreement.specs.Messages.Mode.{Bare, Direct, Reliable}
 use Rattle.agreement.specs.Messages.Apdu.{Invoke, Outcome, Reject}
-use Rattle.agreement.specs.Messages.Act.{Connects, Recovers, Says, Queues, Alters, Marks, Gives, Pleads, Restarts, Starts, Encodes, Sends, Ends, Interrupts, Discards, Resumes, Releases, Aborts, Withdraws}
+use Rattle.agreement.specs.Messages.Act.{Connects, Recovers, Says, Queues, Drops, Alters, Marks, Gives, Pleads, Restarts, Starts, Encodes, Sends, Ends, Interrupts, Discards, Resumes, Releases, Aborts, Withdraws, Fails}
 use Rattle.agreement.specs.Messages.Choice.{Nothing, Accepting, Refusing, Results}
 use Rattle.agreement.specs.Messages.Message.{Connect, Recover, Accept, Refuse, Data, Alter, AlterAnswer, Mark, MarkAnswer, Restart, RestartAnswer, Start, Resume, Chunk, End, EndAnswer, Interrupt, InterruptAnswer, Discard, DiscardAnswer, Give, GiveAnswer, Please, Release, ReleaseAnswer, UserAbort}
-use Rattle.agreement.specs.State.{Handed, Transfer, Outgoing, Calls, State}
-use Rattle.agreement.specs.Calls.{reject_of, rejects_of, is_accepted}
+use Rattle.agreement.specs.State.{Handed, Transfer, Outgoing, State}
+use Rattle.agreement.specs.Calls.{after_due, due_after, reject_of, rejects_of, is_accepted}
 use Rattle.agreement.specs.Acts.{acted, sent_by, marked_in, gave_in, started}
 use Rattle.agreement.specs.Takings.{taken, hears, handed_up, marked_from, broken, answer_to, mark_answer, give_answer}
 use Rattle.agreement.specs.Worlds.{Step, World, Sending, sendings, state_of, shared_at, flight_to, taken_off, sent_by_step, sent_in, ComesNext, IsRun, after}
@@ -73,12 +73,12 @@ all-append_items hs (x ∷ xs) ys h k = (h.0, all-append_items hs xs ys h.1 k)
 rejects-items : (hs : List Apdu) (setup : Setup) (calls : Calls) (context : ℕ) (a : Apdu) → AllItems hs (rejects_of setup calls context a)
 rejects-items hs setup calls context a = go (is_accepted setup calls a)
   where
-    made : (a : Apdu) → AllItems hs (reject_of context a)
+    made : (a : Apdu) → AllItems hs (reject_of setup calls context a)
     made (Invoke number operation link argument) = (tt, tt)
     made (Outcome number content) = (tt, tt)
     made (Reject number b) = tt
 
-    go : (b : Bool) → AllItems hs (if b then [] else reject_of context a)
+    go : (b : Bool) → AllItems hs (if b then [] else reject_of setup calls context a)
     go true = tt
     go false = made a
 
@@ -89,13 +89,25 @@ starts-items : (hs : List Apdu) (c : ℕ) (t : Option Transfer) (queue : List Ha
 starts-items hs c t [] h = record { queued = tt; current = tt }
 starts-items hs c t (item ∷ queue) h = record { queued = h.1; current = h.0 }
 
+after-items : (hs : List Apdu) (due : List Handed) → AllItems hs due → AllItems hs (after_due due)
+after-items hs [] h = tt
+after-items hs (item ∷ items) h = h.1
+
+due-items : (hs : List Apdu) (a : Apdu) (due : List Handed) → AllItems hs due → AllItems hs (due_after a due)
+due-items hs (Invoke number operation link argument) due h = h
+due-items hs (Outcome number content) due h = h
+due-items hs (Reject number problem) due h = after-items hs due h
+
 acts-items : (setup : Setup) (x : State) (t : Option Transfer) (act : Act) (hs : List Apdu) → Items hs (record x.outgoing { transfer = t }) → Items (handed_by (Acts act) ++ hs) (acted setup (with_transfer x t) act).outgoing
 acts-items setup x t Connects hs i = i
 acts-items setup x t Recovers hs i = i
-acts-items setup x t (Says value) hs i = items-more hs (value.apdu ∷ []) (record x.outgoing { transfer = t }) i
+acts-items setup x t (Says value) hs i =
+    let m = items-more hs (value.apdu ∷ []) (record x.outgoing { transfer = t }) i in
+    record { queued = due-items (value.apdu ∷ hs) value.apdu x.outgoing.queue m.queued; current = m.current }
 acts-items setup x t (Queues context apdu) hs i =
     let m = items-more hs (apdu ∷ []) (record x.outgoing { transfer = t }) i in
     record { queued = all-append_items (apdu ∷ hs) x.outgoing.queue (record { context = context; apdu = apdu } ∷ []) m.queued (just-handed hs apdu, tt); current = m.current }
+acts-items setup x t Drops hs i = record { queued = after-items hs x.outgoing.queue i.queued; current = i.current }
 acts-items setup x t (Alters items) hs i = i
 acts-items setup x t Marks hs i = go setup.mode t i
   where
@@ -127,6 +139,7 @@ acts-items setup x (Some t) Resumes hs i = record { queued = i.queued; current =
 acts-items setup x t Releases hs i = i
 acts-items setup x t Aborts hs i = i
 acts-items setup x t Withdraws hs i = i
+acts-items setup x t Fails hs i = i
 
 hears-items : (setup : Setup) (v : Option Value) (x : State) (hs : List Apdu) → Items hs x.outgoing → Items hs (hears setup v x).outgoing
 hears-items setup None x hs i = i
@@ -222,6 +235,7 @@ acts-said setup x Connects hs at = (tt, tt)
 acts-said setup x Recovers hs at = (tt, tt)
 acts-said setup x (Says value) hs at = (just-handed hs value.apdu, tt)
 acts-said setup x (Queues context apdu) hs at = tt
+acts-said setup x Drops hs at = tt
 acts-said setup x (Alters items) hs at = (tt, tt)
 acts-said setup x Marks hs at = (tt, tt)
 acts-said setup x Gives hs at = (tt, tt)
@@ -237,6 +251,7 @@ acts-said setup x Resumes hs at = (tt, tt)
 acts-said setup x Releases hs at = (tt, tt)
 acts-said setup x Aborts hs at = (tt, tt)
 acts-said setup x Withdraws hs at = tt
+acts-said setup x Fails hs at = tt
 
 answer-said : (setup : Setup) (x : State) (m : Message) (choice : Choice) (hs : List Apdu) (at : ContextSet) → AllAre (SaidIn hs) (sendings at (answer_to setup x m choice))
 answer-said setup x Connect (Accepting set) hs at = (tt, tt)

@@ -9,20 +9,12 @@ use Rattle.agreement.specs.State.Awaited.{NoAnswer, RestartOf, InterruptOf, Disc
 use Rattle.agreement.specs.State.Piece.{Octets, Marked}
 use Rattle.agreement.specs.State.Progress.{Running, Ending, Suspended}
 use Rattle.agreement.specs.Takings.{OnFirst, altered_first, later, is_purged}
-use Rattle.agreement.proofs.Flights.{AllUntouched, IsOne, lookup-altered, rejections, rejections-fit}
+use Rattle.agreement.proofs.Flights.{rejections, rejections-fit}
+use Rattle.agreement.proofs.Names.{AllUntouched, later-untouched, lookup-altered}
 use Rattle.agreement.proofs.Down.{Follower, Goal, AllQuiet, Down, at-rest, down-taken, down-quiet, quiet-down}
 use Rattle.agreement.proofs.Flow.{Leader, Ups, Purges, PairedIn, Rest, RestOf, RestBy, RestIn, Begins, has_final, alters_in, SharedBy, ValueIn, RunsValue, Flow, ups-quiet, after-part, unanswered-none, quiet-acks, flat-begins, flat-waits, quiet-flat, calm-waits}
 use Rattle.agreement.proofs.Flow.Doing.{Resting, Going, Closing}
 use Rattle.agreement.proofs.Leads.{quiet-part}
-
-later-one : (own : List (List Item)) → IsOne own → IsOne (later own)
-later-one [] o = tt
-later-one (x ∷ []) o = tt
-later-one (x ∷ y ∷ rest) o = absurd o
-
-later-untouched : (k : ℕ) (own : List (List Item)) → AllUntouched k own → AllUntouched k (later own)
-later-untouched k [] u = tt
-later-untouched k (x ∷ own) u = u.1
 
 lookup-first : (k : ℕ) (own : List (List Item)) (results : List Result) (held : ContextSet) → AllUntouched k own → lookup (altered_first own results held) k ≡ lookup held k
 lookup-first k [] results held u = refl
@@ -62,7 +54,6 @@ takes_answer setup from sets c t results lin y yc yt down up set mid mine theirs
       record {
         runs = down-taken setup from (Rest (calm sets c t)) (Rest (calm (answered sets results) c t)) (AlterAnswer results) down y up (λ held i q. q) (λ us z r. (answer-rest sets c t results us z r).1) n.runs;
         asks = n.asks;
-        one = later-one sets.own n.one;
         begins = n.begins;
         waits = n.waits;
         after = n.after;
@@ -128,7 +119,6 @@ takes_mark setup from sets c t m lin y yc yt down up set mid mine theirs n =
       record {
         runs = down-taken setup from (Rest (calm sets c (Some t))) (Rest (calm sets c (Some (record t { confirmed = m })))) (MarkAnswer m) down y up (λ held i q. q) (λ us z r. (mark-rest sets c t m us z r).1) n.runs;
         asks = n.asks;
-        one = n.one;
         begins = no-begins setup from (Rest (calm sets c (Some t))) c m down y (MarkAnswer m ∷ up) (λ q. q.0) n.runs;
         waits = calm-waits NoAnswer t.confirmed m down n.waits;
         after = n.after;
@@ -166,7 +156,6 @@ takes_end setup from sets c t m lin y yc yt down up set mid mine theirs n =
             quiet-down setup from (Rest (calm (record sets { held = sets.inter }) c None)) down y up quiet
             ((subst (λ own. Ups Resting 0 0 own sets.inter sets.inter up y.held) (sym now.2) now.3, now.4, now.5), now.6, now.7);
         asks = n.asks;
-        one = n.one;
         begins = flat-begins c 0 down (quiet-flat down quiet);
         waits = flat-waits NoAnswer 0 down (quiet-flat down quiet);
         after = λ e. quiet;
@@ -195,7 +184,6 @@ takes_interrupt_answer setup from sets c t lin y yc yt down up set mid mine thei
           down-taken setup from (Rest l) (Rest (calm (record { held = sets.inter; inter = sets.inter; own = [] }) c (Some (record t { progress = Suspended })))) InterruptAnswer down y up (λ held i q. q)
           (λ us z r. ((r.0.0.1, r.0.1, inl (r.0.2, record { in_first = n.saved.2; in_second = subst (λ p. t.confirmed ≤ highest p) (sym r.0.3) n.saved.2; same = ap (up_to t.confirmed) (sym r.0.3) })), r.1, r.2)) n.runs;
       asks = λ e. none down quiet ∙ sym (unanswered-none up);
-      one = tt;
       begins = flat-begins c t.confirmed down (quiet-flat down quiet);
       waits = flat-waits NoAnswer t.confirmed down (quiet-flat down quiet);
       after = λ e. quiet;
@@ -239,7 +227,6 @@ takes_discard_answer setup from sets c t lin y yc yt down up set mid mine theirs
           quiet-down setup from (Rest (calm (record { held = sets.inter; inter = sets.inter; own = [] }) c None)) down y up quiet
           ((now.0.0.1, now.0.1, now.0.2), now.1, now.2);
       asks = λ e. none down quiet ∙ sym (unanswered-none up);
-      one = tt;
       begins = flat-begins c 0 down (quiet-flat down quiet);
       waits = flat-waits NoAnswer 0 down (quiet-flat down quiet);
       after = λ e. quiet;
@@ -298,7 +285,6 @@ takes_please setup from l p lin y yc yt down up set mid mine theirs n =
     record {
       runs = down-taken setup from (Rest l) (Rest l) (Please p) down y up (λ held i q. q) (please-rest l p) n.runs;
       asks = n.asks;
-      one = n.one;
       begins = n.begins;
       waits = n.waits;
       after = n.after;
@@ -356,7 +342,6 @@ passes_interrupting setup from sets c (Some t) u lin y yc yt down up set mid min
     record {
       runs = down-taken setup from (Rest l) (Rest l) u down y up (λ held i q. q) (λ us z r. ((purges-passed false sets.inter u us z.held i r.0.0, r.0.1, r.0.2, r.0.3), r.1, r.2)) n.runs;
       asks = λ e. absurd (cc);
-      one = n.one;
       begins = n.begins;
       waits = n.waits;
       after = λ e. n.after (f ∙ e);
@@ -383,7 +368,6 @@ passes_discarding setup from sets c (Some t) u lin y yc yt down up set mid mine 
     record {
       runs = down-taken setup from (Rest l) (Rest l) u down y up (λ held i q. q) (λ us z r. ((purges-passed true sets.inter u us z.held i r.0.0, r.0.1, r.0.2), r.1, r.2)) n.runs;
       asks = λ e. absurd (cc);
-      one = n.one;
       begins = n.begins;
       waits = n.waits;
       after = λ e. n.after (f ∙ e);

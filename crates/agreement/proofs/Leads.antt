@@ -2,7 +2,7 @@
 use Rattle.std.proofs.Common.{◌≡◌, ℕ, zero, suc, ◌≤◌, length, Bool, true, false, List, [], ◌∷◌, ◌++◌, refl, sym, ap, ◌∙◌, arith, true≢false, subst, inl, inr, ap₂}
 use Rattle.std.specs.Prelude.{Option, Some, None}
 use Rattle.std.proofs.lemmas.Bool.Decides.{nat_tests}
-use Rattle.agreement.specs.Sets.{Role, ContextSet, Item, Result, Fits, altered, AreDistinct, identifiers, lookup, Saved}
+use Rattle.agreement.specs.Sets.{Role, ContextSet, Item, Result, Fits, altered, AreDistinct, identifier_of, identifiers, named, lookup, Saved}
 use Rattle.agreement.specs.Sets.Role.{Initiator}
 use Rattle.agreement.specs.Messages.{Value, Setup, Message}
 use Rattle.agreement.specs.Messages.Message.{Alter, AlterAnswer, Mark, MarkAnswer, Start, Resume, Chunk, End, EndAnswer, Interrupt, InterruptAnswer, Discard, DiscardAnswer, Please, Release, UserAbort}
@@ -12,7 +12,8 @@ use Rattle.agreement.specs.State.Piece.{Octets, Marked}
 use Rattle.agreement.specs.State.Progress.{Running, Ending, Suspended}
 use Rattle.agreement.specs.Acts.{confirmed_of, resumed_value, resumed_set}
 use Rattle.agreement.specs.Takings.{altered_first, later, resumed_in}
-use Rattle.agreement.proofs.Flights.{AreSound}
+use Rattle.agreement.proofs.Flights.{AreSound, AreSame, sound-same}
+use Rattle.agreement.proofs.Names.{AllUntouched, AreUntouched, lookup-altered, once-distinct, once-untouched}
 use Rattle.agreement.proofs.Pieces.{Agrees, Carries, saved_in, up_to-octets, up_to-mark, up_to-idem, highest-up_to, numbered-up_to, carries-up_to, carries-newest, agrees-zero}
 use Rattle.agreement.proofs.Down.{Follower, AllQuiet, Down, AllFlat, at-rest, push-quiet, push-flat, push-in, down-in, quiet-append}
 use Rattle.agreement.proofs.Flow.{Leader, Doing, Ups, Purges, PairedIn, Rest, RestOf, SpellsIn, RestBy, RestIn, Acks, Begins, has_final, RestsNow, alters_in, unanswered_in, held_after, CarriesIn, ValueHeld, RunsValue, Flow, IsOpen, IsClosing, IsReady, open-no_final, ups-quiet, ups-held, after-part, unanswered-none, alters-append, begins-append, waits-append, quiet-acks, flat-begins, flat-waits, flat-append, calm-waits}
@@ -67,14 +68,27 @@ ups-end k h held inter (MarkAnswer m ∷ up) there x u e = (tt, u.1, u.2, ups-en
 ups-end k h held inter (EndAnswer m ∷ up) there x u e = absurd u.0
 ups-end k h held inter (m ∷ up) there x u e = absurd u
 
-ups-alter : (stage : Doing) (k h : ℕ) (held inter : ContextSet) (up : List Message) (there : ContextSet) (items : List Item) (results : List Result) → (IsClosing stage → ⊥) → Fits items results → Ups stage k h [] held inter up there → Ups stage k h (items ∷ []) held inter (up ++ (AlterAnswer results ∷ [])) (altered items results there)
-ups-alter stage k h held inter [] there items results n f u = (f, (refl, ap (altered items results) u.1, u.2))
-ups-alter stage k h held inter (Please p ∷ up) there items results n f u = ups-alter stage k h held inter up there items results n f u
-ups-alter stage k h held inter (UserAbort ∷ up) there items results n f u = ups-alter stage k h held inter up there items results n f u
-ups-alter stage k h held inter (AlterAnswer r ∷ up) there items results n f u = absurd u.0
-ups-alter stage k h held inter (MarkAnswer m ∷ up) there items results n f u = (u.0, u.1, u.2, ups-alter stage (suc k) h held inter up there items results n f u.3)
-ups-alter stage k h held inter (EndAnswer m ∷ up) there items results n f u = absurd (n u.0)
-ups-alter stage k h held inter (m ∷ up) there items results n f u = absurd u
+ups-alter : (stage : Doing) (k h : ℕ) (own : List (List Item)) (held inter : ContextSet) (up : List Message) (there : ContextSet) (items : List Item) (results : List Result) → (IsClosing stage → ⊥) → Fits items results → Ups stage k h own held inter up there → Ups stage k h (own ++ (items ∷ [])) held inter (up ++ (AlterAnswer results ∷ [])) (altered items results there)
+ups-alter stage k h own held inter [] there items results n f u =
+    subst (λ (o : List (List Item)). Ups stage k h (o ++ (items ∷ [])) held inter (AlterAnswer results ∷ []) (altered items results there)) (sym u.0) (f, (refl, ap (altered items results) u.1, u.2))
+ups-alter stage k h own held inter (Please p ∷ up) there items results n f u = ups-alter stage k h own held inter up there items results n f u
+ups-alter stage k h own held inter (UserAbort ∷ up) there items results n f u = ups-alter stage k h own held inter up there items results n f u
+ups-alter stage k h [] held inter (AlterAnswer r ∷ up) there items results n f u = absurd u.0
+ups-alter stage k h (o ∷ own) held inter (AlterAnswer r ∷ up) there items results n f u = (u.0, ups-alter stage k h own (altered o r held) inter up there items results n f u.1)
+ups-alter stage k h own held inter (MarkAnswer m ∷ up) there items results n f u = (u.0, u.1, u.2, ups-alter stage (suc k) h own held inter up there items results n f u.3)
+ups-alter stage k h own held inter (EndAnswer m ∷ up) there items results n f u = absurd (n u.0)
+ups-alter stage k h own held inter (m ∷ up) there items results n f u = absurd u
+
+-- what no own alteration names is at the follower as at the leader
+ups-same : (stage : Doing) (k h : ℕ) (own : List (List Item)) (held inter : ContextSet) (up : List Message) (there : ContextSet) (i : ℕ) → (IsClosing stage → ⊥) → AllUntouched i own → Ups stage k h own held inter up there → lookup held i ≡ lookup there i
+ups-same stage k h own held inter [] there i n t u = ap (λ s. lookup s i) u.1
+ups-same stage k h own held inter (Please p ∷ up) there i n t u = ups-same stage k h own held inter up there i n t u
+ups-same stage k h own held inter (UserAbort ∷ up) there i n t u = ups-same stage k h own held inter up there i n t u
+ups-same stage k h [] held inter (AlterAnswer r ∷ up) there i n t u = absurd u.0
+ups-same stage k h (o ∷ own) held inter (AlterAnswer r ∷ up) there i n t u = sym (lookup-altered o r i held t.0) ∙ ups-same stage k h own (altered o r held) inter up there i n t.1 u.1
+ups-same stage k h own held inter (MarkAnswer m ∷ up) there i n t u = ups-same stage (suc k) h own held inter up there i n t u.3
+ups-same stage k h own held inter (EndAnswer m ∷ up) there i n t u = absurd (n u.0)
+ups-same stage k h own held inter (m ∷ up) there i n t u = absurd u
 
 ups-interrupt : (k h : ℕ) (own : List (List Item)) (held inter : ContextSet) (up : List Message) (there x : ContextSet) → Ups Going k h own held inter up there → inter ≡ x → Purges false inter (up ++ (InterruptAnswer ∷ [])) x
 ups-interrupt k h own held inter [] there x u e = (refl, (refl, e, tt))
@@ -99,14 +113,16 @@ pub quiet-part : (up more : List Message) → AllQuiet (up ++ more) → AllQuiet
 quiet-part [] more q = tt
 quiet-part (m ∷ up) more q = (q.0, quiet-part up more q.1)
 
-pub no-answer_part : (stage : Doing) (k h : ℕ) (held inter : ContextSet) (up more : List Message) (there : ContextSet) (own : List (List Item)) → (IsClosing stage → ⊥) → Ups stage k h [] held inter (up ++ more) there → (unanswered_in up own ≡ own) × (held_after own held inter up ≡ held)
-no-answer_part stage k h held inter [] more there own n u = (refl, refl)
-no-answer_part stage k h held inter (Please p ∷ up) more there own n u = no-answer_part stage k h held inter up more there own n u
-no-answer_part stage k h held inter (UserAbort ∷ up) more there own n u = no-answer_part stage k h held inter up more there own n u
-no-answer_part stage k h held inter (AlterAnswer r ∷ up) more there own n u = absurd u.0
-no-answer_part stage k h held inter (MarkAnswer m ∷ up) more there own n u = no-answer_part stage (suc k) h held inter up more there own n u.3
-no-answer_part stage k h held inter (EndAnswer m ∷ up) more there own n u = absurd (n u.0)
-no-answer_part stage k h held inter (m ∷ up) more there own n u = absurd u
+-- one more own alteration isn't answered there
+more_part : (stage : Doing) (k h : ℕ) (own : List (List Item)) (held inter : ContextSet) (up more : List Message) (there : ContextSet) (items : List Item) → (IsClosing stage → ⊥) → Ups stage k h own held inter (up ++ more) there → (unanswered_in up (own ++ (items ∷ [])) ≡ unanswered_in up own ++ (items ∷ [])) × (held_after (own ++ (items ∷ [])) held inter up ≡ held_after own held inter up)
+more_part stage k h own held inter [] more there items n u = (refl, refl)
+more_part stage k h own held inter (Please p ∷ up) more there items n u = more_part stage k h own held inter up more there items n u
+more_part stage k h own held inter (UserAbort ∷ up) more there items n u = more_part stage k h own held inter up more there items n u
+more_part stage k h [] held inter (AlterAnswer r ∷ up) more there items n u = absurd u.0
+more_part stage k h (o ∷ own) held inter (AlterAnswer r ∷ up) more there items n u = more_part stage k h own (altered o r held) inter up more there items n u.1
+more_part stage k h own held inter (MarkAnswer m ∷ up) more there items n u = more_part stage (suc k) h own held inter up more there items n u.3
+more_part stage k h own held inter (EndAnswer m ∷ up) more there items n u = absurd (n u.0)
+more_part stage k h own held inter (m ∷ up) more there items n u = absurd u
 
 acks-octets : (c : ℕ) (p : List Piece) (o : List ℕ) (incoming : Incoming) (up : List Message) → Acks c p incoming up → Acks c (Octets o ∷ p) incoming up
 acks-octets c p o i [] a = tt
@@ -148,7 +164,6 @@ sends_chunk setup from sets c t v o lin y yc yt down up set mid mine theirs with
           push-in setup from (Rest (going sets c (record t { value = Some v }))) (Rest (going sets c (record t { value = Some v; pieces = Octets o ∷ t.pieces }))) (Chunk o) down y up
           (λ us z r. r.0.1) (λ us z r. ((r.0.1, subst (λ (p : List Piece). length (joined p ++ o) ≤ setup.most_octets) (sym r.0.3) within), ((r.0.0, r.0.1, r.0.2, ap (λ (p : List Piece). Octets o ∷ p) r.0.3), r.1, r.2))) n.runs;
       asks = λ e. asks-more down (Chunk o) (unanswered_in up sets.own) refl (n.asks e);
-      one = n.one;
       begins = begins-append c t.confirmed down (Chunk o ∷ []) n.begins tt;
       waits = waits-append NoAnswer t.confirmed down (Chunk o ∷ []) n.waits tt;
       after = none-final (has_final up) _ (open-no_final setup from (going sets c (record t { value = Some v })) down y up not-ending n.runs);
@@ -181,7 +196,6 @@ sends_mark setup from held inter c t v lin y yc yt down up set mid mine theirs w
             ((ups-mark t.confirmed (highest t.pieces) held inter us z.held r.0.0, r.0.1, r.0.2, ap₂ (λ (x : ContextSet) (p : List Piece). Marked m x ∷ p) (sym same) r.0.3), r.1, r.2),
           )) n.runs;
       asks = λ e. asks-more down (Mark m) (unanswered_in up []) refl (n.asks e);
-      one = n.one;
       begins = begins-append c t.confirmed down (Mark m ∷ []) n.begins tt;
       waits = waits-append NoAnswer t.confirmed down (Mark m ∷ []) n.waits tt;
       after = none-final (has_final up) _ (open-no_final setup from l down y up not-ending n.runs);
@@ -194,7 +208,7 @@ sends_mark setup from held inter c t v lin y yc yt down up set mid mine theirs w
         (refl, n.saved.0),
         ap₂ (λ (x : ContextSet) (ms : List Saved). record { number = m; set = x } ∷ ms) (shared-held setup from (Some (record t { value = Some v; progress = Running })) held inter c lin y yc yt down up set mid mine theirs not-ending n) n.saved.1,
         lower n.saved.2,
-        (n.value.0, n.saved.3),
+        (n.saved.3.0, (n.value.0, n.saved.3.1)),
       );
       theirs_saved = n.theirs_saved;
       value = n.value;
@@ -234,7 +248,6 @@ starts setup from held inter c item lin y yc yt down up set mid mine theirs n =
           let q = ups-quiet held inter us z.held r.0.0 in
           (r.0.1, ap suc (sym r.0.2), q.0, ((quiet-ups Going 0 0 held held us z.held q.0 q.1 refl, refl, refl, refl), sym q.1, r.2))) n.runs;
       asks = λ e. asks-more down (Start (suc c)) (unanswered_in up []) refl (n.asks e);
-      one = tt;
       begins = begins-append (suc c) 0 down (Start (suc c) ∷ []) (flat-begins (suc c) 0 down flat) (refl, tt);
       waits = waits-append NoAnswer 0 down (Start (suc c) ∷ []) (flat-waits NoAnswer 0 down flat) tt;
       after = none-final (has_final up) _ (open-no_final setup from l down y up tt n.runs);
@@ -254,14 +267,13 @@ starts setup from held inter c item lin y yc yt down up set mid mine theirs n =
     zero-least = omega arith
 
 -- the item is encoded
-pub encodes : (setup : Setup) (from : Role) (held inter : ContextSet) (c : ℕ) (t : Transfer) (v : Value) (lin : Incoming) (y : Follower) (yc : ℕ) (yt : Option Transfer) (down up : List Message) (set mid : ContextSet) (mine theirs : List Saved) → lookup held v.identifier ≡ Some v.pair → Flow setup from (going (record { held = held; inter = inter; own = [] }) c (record t { value = None })) lin y yc yt down up set mid mine theirs → Flow setup from (going (record { held = held; inter = inter; own = [] }) c (record t { value = Some v })) lin y yc yt down up set mid mine theirs
-encodes setup from held inter c t v lin y yc yt down up set mid mine theirs h n =
+pub encodes : (setup : Setup) (from : Role) (held inter : ContextSet) (c : ℕ) (t : Transfer) (v : Value) (lin : Incoming) (y : Follower) (yc : ℕ) (yt : Option Transfer) (down up : List Message) (set mid : ContextSet) (mine theirs : List Saved) → lookup held v.identifier ≡ Some v.pair → setup.codec.may_write v ≡ true → Flow setup from (going (record { held = held; inter = inter; own = [] }) c (record t { value = None })) lin y yc yt down up set mid mine theirs → Flow setup from (going (record { held = held; inter = inter; own = [] }) c (record t { value = Some v })) lin y yc yt down up set mid mine theirs
+encodes setup from held inter c t v lin y yc yt down up set mid mine theirs h w n =
     record {
       runs =
           down-in setup from (Rest (going (record { held = held; inter = inter; own = [] }) c (record t { value = None }))) (Rest (going (record { held = held; inter = inter; own = [] }) c (record t { value = Some v }))) down y up
           (λ us z r. r.0.1) (λ us z r. r) n.runs;
       asks = n.asks;
-      one = n.one;
       begins = n.begins;
       waits = n.waits;
       after = n.after;
@@ -270,7 +282,7 @@ encodes setup from held inter c t v lin y yc yt down up set mid mine theirs h n 
       acks = n.acks;
       others = n.others;
       rests = n.rests;
-      saved = (n.saved.0, n.saved.1, n.saved.2, subst (Carries v) (sym n.saved.3) tt);
+      saved = (n.saved.0, n.saved.1, n.saved.2, (w, subst (Carries v) (sym n.saved.3) tt));
       theirs_saved = n.theirs_saved;
       value = (h, tt);
       inters = n.inters;
@@ -296,7 +308,6 @@ sends_end setup from held inter c t v lin y yc yt down up set mid mine theirs wh
             ((ups-end t.confirmed (highest t.pieces) held inter us z.held z.inter r.0.0 (sym r.1), refl, r.0.2, r.0.3), r.1, r.2),
           )) n.runs;
       asks = λ e. asks-more down (End (suc (highest t.pieces))) (unanswered_in up []) refl (n.asks e);
-      one = n.one;
       begins = begins-append c t.confirmed down (End (suc (highest t.pieces)) ∷ []) n.begins tt;
       waits = waits-append NoAnswer t.confirmed down (End (suc (highest t.pieces)) ∷ []) n.waits tt;
       after = none-final (has_final up) _ (open-no_final setup from l down y up not-ending n.runs);
@@ -323,7 +334,7 @@ sends_end setup from held inter c t v lin y yc yt down up set mid mine theirs wh
     pair (inr h) = inr h
 
     reads : (there : ContextSet) (incoming : Incoming) → held ≡ there → incoming.pieces ≡ t.pieces → SpellsIn (Some v) setup there incoming
-    reads there incoming same p = (subst (λ s. lookup s v.identifier ≡ Some v.pair) same n.value.0, ap joined p ∙ whole)
+    reads there incoming same p = (subst (λ s. lookup s v.identifier ≡ Some v.pair) same n.value.0, ap joined p ∙ whole, n.saved.3.0)
 
 -- an interrupt, a discard
 pub sends_interrupt : (setup : Setup) (from : Role) (sets : Sets) (c : ℕ) (t : Transfer) (lin : Incoming) (y : Follower) (yc : ℕ) (yt : Option Transfer) (down up : List Message) (set mid : ContextSet) (mine theirs : List Saved) → Flow setup from (going sets c t) lin y yc yt down up set mid mine theirs → Flow setup from (record { awaits = InterruptOf; sets = sets; started = c; transfer = Some (record t { progress = Running }) }) lin y yc yt (down ++ (Interrupt ∷ [])) up set mid mine theirs
@@ -334,7 +345,6 @@ sends_interrupt setup from sets c t lin y yc yt down up set mid mine theirs n =
           push-in setup from (Rest (going sets c t)) (Rest (record { awaits = InterruptOf; sets = sets; started = c; transfer = Some (record t { progress = Running }) })) Interrupt down y up (λ us z r. r.0.1)
           (λ us z r. (r.0.1, tt, ((ups-interrupt t.confirmed (highest t.pieces) sets.own sets.held sets.inter us z.held z.inter r.0.0 (sym r.1), refl, r.0.2, r.0.3), r.1, r.2))) n.runs;
       asks = λ e. absurd (cc);
-      one = n.one;
       begins = begins-append c t.confirmed down (Interrupt ∷ []) n.begins tt;
       waits = waits-append InterruptOf t.confirmed down (Interrupt ∷ []) (calm-waits InterruptOf t.confirmed t.confirmed down n.waits) (refl, tt);
       after = none-final (has_final up) _ none;
@@ -364,7 +374,6 @@ sends_discard setup from sets c t lin y yc yt down up set mid mine theirs n =
           push-in setup from (Rest (going sets c t)) (Rest (record { awaits = DiscardOf; sets = sets; started = c; transfer = Some (record t { confirmed = 0; progress = Running }) })) Discard down y up (λ us z r. r.0.1)
           (λ us z r. (r.0.1, tt, ((ups-discard t.confirmed (highest t.pieces) sets.own sets.held sets.inter us z.held z.inter r.0.0 (sym r.1), refl, r.0.2), r.1, r.2))) n.runs;
       asks = λ e. absurd (cc);
-      one = n.one;
       begins = begins-append c 0 down (Discard ∷ []) (begins-zero c t.confirmed down n.begins) tt;
       waits = waits-append DiscardOf 0 down (Discard ∷ []) (calm-waits DiscardOf t.confirmed 0 down n.waits) (refl, refl, tt);
       after = none-final (has_final up) _ none;
@@ -405,7 +414,6 @@ resumes setup from held inter c t lin y yc yt down up set mid mine theirs j e mo
     record {
       runs = push-flat setup from (Rest l) (Rest k) (Resume c j) down y up flat (λ us z r. enters us z r r.0.2) n.runs;
       asks = λ e. asks-more down (Resume c j) (unanswered_in up []) refl (n.asks e);
-      one = tt;
       begins = begins-append c t.confirmed down (Resume c j ∷ []) (flat-begins c t.confirmed down flat) (refl, inl (sym e), tt);
       waits = waits-append NoAnswer t.confirmed down (Resume c j ∷ []) (flat-waits NoAnswer t.confirmed down flat) tt;
       after = none-final (has_final up) _ none;
@@ -451,15 +459,15 @@ resumes setup from held inter c t lin y yc yt down up set mid mine theirs j e mo
     pair (inl h) = inl (h.0, agrees y.incoming.pieces h.1)
     pair (inr h) = inr h
 
-    carry : (i : ℕ) (value : Option Value) → CarriesIn value t.pieces → CarriesIn (resumed_value i value) (up_to i t.pieces)
+    carry : (i : ℕ) (value : Option Value) → CarriesIn setup value t.pieces → CarriesIn setup (resumed_value i value) (up_to i t.pieces)
     carry zero value h = refl
     carry (suc i) None h = ap (up_to (suc i)) h
-    carry (suc i) (Some v) h = carries-up_to v (suc i) t.pieces h
+    carry (suc i) (Some v) h = (h.0, carries-up_to v (suc i) t.pieces h.1)
 
-    held-value : (i : ℕ) (value : Option Value) → i ≤ highest t.pieces → CarriesIn value t.pieces → ValueHeld (resumed_value i value) (record { held = resumed_set i t.pieces held; inter = held; own = [] })
+    held-value : (i : ℕ) (value : Option Value) → i ≤ highest t.pieces → CarriesIn setup value t.pieces → ValueHeld (resumed_value i value) (record { held = resumed_set i t.pieces held; inter = held; own = [] })
     held-value zero value b h = tt
     held-value (suc i) None b h = tt
-    held-value (suc i) (Some v) b h = (carries-newest v (up_to (suc i) t.pieces) (carries-up_to v (suc i) t.pieces h) (some i (highest-up_to (suc i) t.pieces n.saved.0 b)), tt)
+    held-value (suc i) (Some v) b h = (carries-newest v (up_to (suc i) t.pieces) (carries-up_to v (suc i) t.pieces h.1) (some i (highest-up_to (suc i) t.pieces n.saved.0 b)), tt)
       where
         some : (i : ℕ) → highest (up_to (suc i) t.pieces) ≡ suc i → 1 ≤ highest (up_to (suc i) t.pieces)
         some i e = omega arith
@@ -505,73 +513,72 @@ resumes setup from held inter c t lin y yc yt down up set mid mine theirs j e mo
         )
 
 -- an alteration is asked for, between activities or in one
-open-rest : (t : Option Transfer) (l : Leader) (us : List Message) (z : Follower) → IsOpen NoAnswer t → RestBy NoAnswer t l us z → l.sets.own ≡ [] → l.sets.held ≡ z.held
-open-rest t l us z o r e = go t o r
+open-rest : (t : Option Transfer) (l : Leader) (us : List Message) (z : Follower) (items : List Item) → IsOpen NoAnswer t → RestBy NoAnswer t l us z → AreUntouched items l.sets.own → AreSame l.sets.held z.held items
+open-rest t l us z items o r u = go t o r
   where
-    none : (stage : Doing) (k h : ℕ) → (IsClosing stage → ⊥) → Ups stage k h l.sets.own l.sets.held l.sets.inter us z.held → l.sets.held ≡ z.held
-    none stage k h n u = ups-held stage k h l.sets.held l.sets.inter us z.held n (subst (λ own. Ups stage k h own l.sets.held l.sets.inter us z.held) e u)
+    all : (stage : Doing) (k h : ℕ) → (IsClosing stage → ⊥) → Ups stage k h l.sets.own l.sets.held l.sets.inter us z.held → (is : List Item) → AreUntouched is l.sets.own → AreSame l.sets.held z.held is
+    all stage k h n w [] u = tt
+    all stage k h n w (i ∷ is) u = (ups-same stage k h l.sets.own l.sets.held l.sets.inter us z.held (identifier_of i) n u.0 w, all stage k h n w is u.1)
 
-    go : (t : Option Transfer) → IsOpen NoAnswer t → RestBy NoAnswer t l us z → l.sets.held ≡ z.held
-    go None o r = none Resting 0 0 (λ x. x) r.0
+    go : (t : Option Transfer) → IsOpen NoAnswer t → RestBy NoAnswer t l us z → AreSame l.sets.held z.held items
+    go None o r = all Resting 0 0 (λ x. x) r.0 items u
     go (Some t) o r = by_progress t.progress o r
       where
-        by_progress : (p : Progress) → (p ≡ Ending → ⊥) → RestIn p t l us z → l.sets.held ≡ z.held
-        by_progress Suspended o r = none Resting 0 0 (λ x. x) r.0
-        by_progress Running o r = none Going t.confirmed (highest t.pieces) (λ x. x) r.0
+        by_progress : (p : Progress) → (p ≡ Ending → ⊥) → RestIn p t l us z → AreSame l.sets.held z.held items
+        by_progress Suspended o r = all Resting 0 0 (λ x. x) r.0 items u
+        by_progress Running o r = all Going t.confirmed (highest t.pieces) (λ x. x) r.0 items u
         by_progress Ending o r = absurd (o refl)
 
 -- the leader once it asked
 abbrev pub asking : Option Transfer → ℕ → ContextSet → ContextSet → List (List Item) → Leader
 asking t c held inter own = record { awaits = NoAnswer; sets = record { held = held; inter = inter; own = own }; started = c; transfer = t }
 
-alters-rest : (t : Option Transfer) (c : ℕ) (held inter : ContextSet) (items : List Item) (results : List Result) (us : List Message) (z : Follower) → IsOpen NoAnswer t → Fits items results → RestOf (asking t c held inter []) us z → RestOf (asking t c held inter (items ∷ [])) (us ++ (AlterAnswer results ∷ [])) (record z { held = altered items results z.held })
-alters-rest None c held inter items results us z o f r =
-    ((ups-alter Resting 0 0 held inter us z.held items results (λ x. x) f r.0.0, r.0.1, r.0.2), r.1, r.2)
-alters-rest (Some t) c held inter items results us z o f r = go t.progress o r.0
+alters-rest : (t : Option Transfer) (c : ℕ) (held inter : ContextSet) (own : List (List Item)) (items : List Item) (results : List Result) (us : List Message) (z : Follower) → IsOpen NoAnswer t → Fits items results → RestOf (asking t c held inter own) us z → RestOf (asking t c held inter (own ++ (items ∷ []))) (us ++ (AlterAnswer results ∷ [])) (record z { held = altered items results z.held })
+alters-rest None c held inter own items results us z o f r =
+    ((ups-alter Resting 0 0 own held inter us z.held items results (λ x. x) f r.0.0, r.0.1, r.0.2), r.1, r.2)
+alters-rest (Some t) c held inter own items results us z o f r = go t.progress o r.0
   where
-    go : (p : Progress) → (p ≡ Ending → ⊥) → RestIn p t (asking (Some t) c held inter []) us z → RestIn p t (asking (Some t) c held inter (items ∷ [])) (us ++ (AlterAnswer results ∷ [])) (record z { held = altered items results z.held }) × (z.inter ≡ inter) × (z.gave ≡ false)
-    go Suspended o h = ((ups-alter Resting 0 0 held inter us z.held items results (λ x. x) f h.0, h.1, h.2), r.1, r.2)
-    go Running o h = ((ups-alter Going t.confirmed (highest t.pieces) held inter us z.held items results (λ x. x) f h.0, h.1, h.2, h.3), r.1, r.2)
+    go : (p : Progress) → (p ≡ Ending → ⊥) → RestIn p t (asking (Some t) c held inter own) us z → RestIn p t (asking (Some t) c held inter (own ++ (items ∷ []))) (us ++ (AlterAnswer results ∷ [])) (record z { held = altered items results z.held }) × (z.inter ≡ inter) × (z.gave ≡ false)
+    go Suspended o h = ((ups-alter Resting 0 0 own held inter us z.held items results (λ x. x) f h.0, h.1, h.2), r.1, r.2)
+    go Running o h = ((ups-alter Going t.confirmed (highest t.pieces) own held inter us z.held items results (λ x. x) f h.0, h.1, h.2, h.3), r.1, r.2)
     go Ending o h = absurd (o refl)
 
-alters-part : (t : Option Transfer) (c : ℕ) (held inter : ContextSet) (own : List (List Item)) (up more : List Message) (z : Follower) → IsOpen NoAnswer t → RestOf (asking t c held inter []) (up ++ more) z → (unanswered_in up own ≡ own) × (held_after own held inter up ≡ held)
-alters-part None c held inter own up more z o r = no-answer_part Resting 0 0 held inter up more z.held own (λ x. x) r.0.0
-alters-part (Some t) c held inter own up more z o r = go t.progress o r.0
+alters-part : (t : Option Transfer) (c : ℕ) (held inter : ContextSet) (own : List (List Item)) (items : List Item) (up more : List Message) (z : Follower) → IsOpen NoAnswer t → RestOf (asking t c held inter own) (up ++ more) z → (unanswered_in up (own ++ (items ∷ [])) ≡ unanswered_in up own ++ (items ∷ [])) × (held_after (own ++ (items ∷ [])) held inter up ≡ held_after own held inter up)
+alters-part None c held inter own items up more z o r = more_part Resting 0 0 own held inter up more z.held items (λ x. x) r.0.0
+alters-part (Some t) c held inter own items up more z o r = go t.progress o r.0
   where
-    go : (p : Progress) → (p ≡ Ending → ⊥) → RestIn p t (asking (Some t) c held inter []) (up ++ more) z → (unanswered_in up own ≡ own) × (held_after own held inter up ≡ held)
-    go Suspended o h = no-answer_part Resting 0 0 held inter up more z.held own (λ x. x) h.0
-    go Running o h = no-answer_part Going t.confirmed (highest t.pieces) held inter up more z.held own (λ x. x) h.0
+    go : (p : Progress) → (p ≡ Ending → ⊥) → RestIn p t (asking (Some t) c held inter own) (up ++ more) z → (unanswered_in up (own ++ (items ∷ [])) ≡ unanswered_in up own ++ (items ∷ [])) × (held_after (own ++ (items ∷ [])) held inter up ≡ held_after own held inter up)
+    go Suspended o h = more_part Resting 0 0 own held inter up more z.held items (λ x. x) h.0
+    go Running o h = more_part Going t.confirmed (highest t.pieces) own held inter up more z.held items (λ x. x) h.0
     go Ending o h = absurd (o refl)
 
-alters-push : (setup : Setup) (from : Role) (t : Option Transfer) (c : ℕ) (held inter : ContextSet) (items : List Item) (down : List Message) (y : Follower) (up : List Message) → IsOpen NoAnswer t → AreSound from held items → AreDistinct (identifiers items) → (RestsNow NoAnswer t → AllFlat down) → Down setup from (Rest (asking t c held inter [])) down y up → Down setup from (Rest (asking t c held inter (items ∷ []))) (down ++ (Alter items ∷ [])) y up
-alters-push setup from t c held inter items down y up o s d flat h = go t o flat h
+alters-push : (setup : Setup) (from : Role) (t : Option Transfer) (c : ℕ) (held inter : ContextSet) (own : List (List Item)) (items : List Item) (down : List Message) (y : Follower) (up : List Message) → IsOpen NoAnswer t → AreUntouched items own → AreSound from held items → AreDistinct (identifiers items) → (RestsNow NoAnswer t → AllFlat down) → Down setup from (Rest (asking t c held inter own)) down y up → Down setup from (Rest (asking t c held inter (own ++ (items ∷ [])))) (down ++ (Alter items ∷ [])) y up
+alters-push setup from t c held inter own items down y up o u s d flat h = go t o flat h
   where
-    enters : (t : Option Transfer) → IsOpen NoAnswer t → (us : List Message) (z : Follower) → RestOf (asking t c held inter []) us z → Down setup from (Rest (asking t c held inter (items ∷ []))) (Alter items ∷ []) z us
+    enters : (t : Option Transfer) → IsOpen NoAnswer t → (us : List Message) (z : Follower) → RestOf (asking t c held inter own) us z → Down setup from (Rest (asking t c held inter (own ++ (items ∷ [])))) (Alter items ∷ []) z us
     enters t o us z r = (
-      subst (λ x. AreSound from x items) (open-rest t (asking t c held inter []) us z o r.0 refl) s,
+      sound-same from held z.held items s (open-rest t (asking t c held inter own) us z items o r.0 u),
       d,
-      λ results f. alters-rest t c held inter items results us z o f r,
+      λ results f. alters-rest t c held inter own items results us z o f r,
     )
 
-    go : (t : Option Transfer) → IsOpen NoAnswer t → (RestsNow NoAnswer t → AllFlat down) → Down setup from (Rest (asking t c held inter [])) down y up → Down setup from (Rest (asking t c held inter (items ∷ []))) (down ++ (Alter items ∷ [])) y up
-    go None o flat h = push-flat setup from (Rest (asking None c held inter [])) (Rest (asking None c held inter (items ∷ []))) (Alter items) down y up (flat tt) (enters None o) h
+    go : (t : Option Transfer) → IsOpen NoAnswer t → (RestsNow NoAnswer t → AllFlat down) → Down setup from (Rest (asking t c held inter own)) down y up → Down setup from (Rest (asking t c held inter (own ++ (items ∷ [])))) (down ++ (Alter items ∷ [])) y up
+    go None o flat h = push-flat setup from (Rest (asking None c held inter own)) (Rest (asking None c held inter (own ++ (items ∷ [])))) (Alter items) down y up (flat tt) (enters None o) h
     go (Some t) o flat h = by_progress t.progress o flat h
       where
-        by_progress : (p : Progress) → (p ≡ Ending → ⊥) → (p ≡ Suspended → AllFlat down) → Down setup from (Rest (asking (Some (record t { progress = p })) c held inter [])) down y up → Down setup from (Rest (asking (Some (record t { progress = p })) c held inter (items ∷ []))) (down ++ (Alter items ∷ [])) y up
-        by_progress Suspended o flat h = push-flat setup from (Rest (asking (Some (record t { progress = Suspended })) c held inter [])) (Rest (asking (Some (record t { progress = Suspended })) c held inter (items ∷ []))) (Alter items) down y up (flat refl) (enters (Some (record t { progress = Suspended })) (λ x. cc)) h
-        by_progress Running o flat h = push-in setup from (Rest (asking (Some (record t { progress = Running })) c held inter [])) (Rest (asking (Some (record t { progress = Running })) c held inter (items ∷ []))) (Alter items) down y up (λ us z r. r.0.1) (enters (Some (record t { progress = Running })) (λ x. cc)) h
+        by_progress : (p : Progress) → (p ≡ Ending → ⊥) → (p ≡ Suspended → AllFlat down) → Down setup from (Rest (asking (Some (record t { progress = p })) c held inter own)) down y up → Down setup from (Rest (asking (Some (record t { progress = p })) c held inter (own ++ (items ∷ [])))) (down ++ (Alter items ∷ [])) y up
+        by_progress Suspended o flat h = push-flat setup from (Rest (asking (Some (record t { progress = Suspended })) c held inter own)) (Rest (asking (Some (record t { progress = Suspended })) c held inter (own ++ (items ∷ [])))) (Alter items) down y up (flat refl) (enters (Some (record t { progress = Suspended })) (λ x. cc)) h
+        by_progress Running o flat h = push-in setup from (Rest (asking (Some (record t { progress = Running })) c held inter own)) (Rest (asking (Some (record t { progress = Running })) c held inter (own ++ (items ∷ [])))) (Alter items) down y up (λ us z r. r.0.1) (enters (Some (record t { progress = Running })) (λ x. cc)) h
         by_progress Ending o flat h = absurd (o refl)
 
-pub alters : (setup : Setup) (from : Role) (held inter : ContextSet) (c : ℕ) (t : Option Transfer) (items : List Item) (lin : Incoming) (y : Follower) (yc : ℕ) (yt : Option Transfer) (down up : List Message) (set mid : ContextSet) (mine theirs : List Saved) → IsOpen NoAnswer t → AreSound from held items → AreDistinct (identifiers items) → RunsValue NoAnswer t (record { held = held; inter = inter; own = items ∷ [] }) → Flow setup from (asking t c held inter []) lin y yc yt down up set mid mine theirs → Flow setup from (asking t c held inter (items ∷ [])) lin y yc yt (down ++ (Alter items ∷ [])) up set mid mine theirs
-alters setup from held inter c t items lin y yc yt down up set mid mine theirs o s d v n =
-    let none = open-no_final setup from (asking t c held inter []) down y up o n.runs in
-    let a = at-rest setup from (Rest (asking t c held inter [])) down y up n.runs in
-    let part = alters-part t c held inter (items ∷ []) up a.more a.last o a.rests in
-    let same = shared-held setup from t held inter c lin y yc yt down up set mid mine theirs o n in
+pub alters : (setup : Setup) (from : Role) (held inter : ContextSet) (own : List (List Item)) (c : ℕ) (t : Option Transfer) (items : List Item) (lin : Incoming) (y : Follower) (yc : ℕ) (yt : Option Transfer) (down up : List Message) (set mid : ContextSet) (mine theirs : List Saved) → IsOpen NoAnswer t → AreSound from held items → AreDistinct (named (own ++ (items ∷ []))) → RunsValue NoAnswer t (record { held = held; inter = inter; own = own ++ (items ∷ []) }) → Flow setup from (asking t c held inter own) lin y yc yt down up set mid mine theirs → Flow setup from (asking t c held inter (own ++ (items ∷ []))) lin y yc yt (down ++ (Alter items ∷ [])) up set mid mine theirs
+alters setup from held inter own c t items lin y yc yt down up set mid mine theirs o s once v n =
+    let none = open-no_final setup from (asking t c held inter own) down y up o n.runs in
+    let a = at-rest setup from (Rest (asking t c held inter own)) down y up n.runs in
+    let part = alters-part t c held inter own items up a.more a.last o a.rests in
     record {
-      runs = alters-push setup from t c held inter items down y up o s d n.idle n.runs;
-      asks = λ e. alters-append down (Alter items ∷ []) ∙ ap (λ xs. xs ++ (items ∷ [])) (n.asks refl ∙ unanswered-none up) ∙ sym part.0;
-      one = tt;
+      runs = alters-push setup from t c held inter own items down y up o (once-untouched own items once) s (once-distinct own items once) n.idle n.runs;
+      asks = λ e. alters-append down (Alter items ∷ []) ∙ ap (λ xs. xs ++ (items ∷ [])) (n.asks refl) ∙ sym part.0;
       begins = begins-append c (confirmed_of t) down (Alter items ∷ []) n.begins tt;
       waits = waits-append NoAnswer (confirmed_of t) down (Alter items ∷ []) n.waits tt;
       after = none-final (has_final up) _ none;
@@ -584,7 +591,7 @@ alters setup from held inter c t items lin y yc yt down up set mid mine theirs o
       theirs_saved = n.theirs_saved;
       value = v;
       inters = n.inters;
-      sets = same ∙ sym part.1;
+      sets = n.sets ∙ sym part.1;
     }
 
 -- an abort of the leader, or its release
@@ -593,7 +600,6 @@ sends_abort setup from l lin y yc yt down up set mid mine theirs n =
     record {
       runs = push-quiet setup from (Rest l) UserAbort down y up tt n.runs;
       asks = λ e. asks-more down UserAbort (unanswered_in up l.sets.own) refl (n.asks e);
-      one = n.one;
       begins = begins-append l.started (confirmed_of l.transfer) down (UserAbort ∷ []) n.begins tt;
       waits = waits-append l.awaits (confirmed_of l.transfer) down (UserAbort ∷ []) n.waits tt;
       after = λ e. quiet-append down (UserAbort ∷ []) (n.after e) (tt, tt);
@@ -614,7 +620,6 @@ sends_release setup from held inter c lin y yc yt down up set mid mine theirs i 
     record {
       runs = push-flat setup from (Rest (asking None c held inter [])) (Rest (asking None c held inter [])) Release down y up (n.idle tt) (λ us z r. (i, r.0.1, r)) n.runs;
       asks = λ e. asks-more down Release (unanswered_in up []) refl (n.asks e);
-      one = n.one;
       begins = begins-append c 0 down (Release ∷ []) n.begins tt;
       waits = waits-append NoAnswer 0 down (Release ∷ []) n.waits tt;
       after = none-final (has_final up) _ (open-no_final setup from (asking None c held inter []) down y up tt n.runs);

@@ -1,4 +1,5 @@
 pub mod Order
+pub mod Names
 pub mod Flights
 pub mod Normal
 pub mod Views
@@ -6,6 +7,7 @@ pub mod Acting
 pub mod Taking
 pub mod Steps
 pub mod Runs
+pub mod Carried
 pub mod DirectWorlds
 pub mod BareWorlds
 pub mod Mail
@@ -26,6 +28,13 @@ pub mod ByTransfers
 pub mod Stays
 pub mod StaysWorlds
 pub mod Answered
+pub mod Operations
+pub mod Items
+pub mod Few
+pub mod Known
+pub mod Moments
+pub mod PurgedKinds
+pub mod Begun
 pub mod Interface
 pub mod CaseRuns
 pub mod Outcomes

@@ -2,14 +2,15 @@
 use Rattle.std.proofs.Common.{◌≡◌, ℕ, ◌≤◌, ◌%◌, Bool, true, false, List, [], ◌∷◌, ◌++◌, refl, sym, ap, ◌∙◌, arith, true≢false, subst, inl, inr, ◌⊎◌, ap₂, nat_lt}
 use Rattle.std.specs.Prelude.{Some, None}
 use Rattle.std.proofs.lemmas.Bool.Decides.{nat_tests}
-use Rattle.agreement.specs.Sets.{Role, other, parity, Pair, ContextSet, Item, Result, Fits, changed, altered, lookup, remove, IsRising, AreDistinct, identifiers, Saved, below, newest, next_number, is_initiator}
+use Rattle.agreement.specs.Sets.{Role, other, parity, Pair, ContextSet, Item, Result, Fits, changed, altered, lookup, remove, IsRising, AreDistinct, identifiers, named, is_among, Saved, below, newest, next_number, is_initiator}
 use Rattle.agreement.specs.Sets.Role.{Initiator, Responder}
 use Rattle.agreement.specs.Sets.Item.{Addition, Deletion}
 use Rattle.agreement.specs.Sets.Result.{Rejected, Accepted, AcceptedAs}
 use Rattle.agreement.specs.Takings.{altered_first, later}
 use Rattle.agreement.proofs.Order.{lookup-put_other, by_test}
-use Rattle.agreement.proofs.Flights.{Entry, IsSound, AreSound, AllApart, AreApart, Reads, asked, unanswered, IsOne, AllUntouched, Paced, turn_after, saved_after, IsStill, rising-altered, reads-settled, reads-lookup, push-value, push-answer, push-ask, push-mark, push-plain, ask-one, no-answers, asked-append, unanswered-append, unanswered-one, paced-holder, paced-append, turn-append, saved-append, below-after, next-after, sound-apart}
-use Rattle.agreement.proofs.Flights.Entry.{AValue, AnAsk, AnAnswer, AMark, AGive, ARelease, AQuiet, ABad}
+use Rattle.agreement.proofs.Flights.{Entry, IsSound, AreSound, AllApart, Reads, asked, unanswered, Paced, turn_after, saved_after, IsStill, rising-altered, reads-settled, reads-same, sound-shared, push-value, push-answer, push-ask, push-mark, push-plain, asks-apart, ask-more, unanswered-more, unanswered-untouched, unanswered-all_untouched, no-answers, asked-append, unanswered-append, paced-holder, paced-append, turn-append, saved-append, below-after, next-after}
+use Rattle.agreement.proofs.Names.{IsUntouched, AllUntouched, AreUntouched, lookup-altered, once-distinct, once-untouched, first-untouched, later-distinct, among-named, among-later, among-item, among-items}
+use Rattle.agreement.proofs.Flights.Entry.{AValue, AnAsk, AnAnswer, AMark, AGive, ARelease, AQuiet}
 
 -- what agreement is about, of an end
 pub record Core : Type 0 where
@@ -40,8 +41,8 @@ pub record Normal (most : ℕ) (role : Role) (me peer : Core) (to_me to_peer : L
   pub reads_peer : Reads role peer.held peer.own to_peer shared
   pub asks_me : asked to_me ≡ unanswered to_peer peer.own
   pub asks_peer : asked to_peer ≡ unanswered to_me me.own
-  pub one_me : IsOne me.own
-  pub one_peer : IsOne peer.own
+  pub once_me : AreDistinct (named me.own)
+  pub once_peer : AreDistinct (named peer.own)
   pub absent_me : AllAbsent role me.held me.own
   pub absent_peer : AllAbsent (other role) peer.held peer.own
   pub rising : IsRising shared
@@ -59,8 +60,8 @@ swapped most Initiator me peer f g s v n =
       reads_peer = n.reads_me;
       asks_me = n.asks_peer;
       asks_peer = n.asks_me;
-      one_me = n.one_peer;
-      one_peer = n.one_me;
+      once_me = n.once_peer;
+      once_peer = n.once_me;
       absent_me = n.absent_peer;
       absent_peer = n.absent_me;
       rising = n.rising;
@@ -77,8 +78,8 @@ swapped most Responder me peer f g s v n =
       reads_peer = n.reads_me;
       asks_me = n.asks_peer;
       asks_peer = n.asks_me;
-      one_me = n.one_peer;
-      one_peer = n.one_me;
+      once_me = n.once_peer;
+      once_peer = n.once_me;
       absent_me = n.absent_peer;
       absent_peer = n.absent_me;
       rising = n.rising;
@@ -98,8 +99,8 @@ begun most role s v t u h g n =
       reads_peer = refl;
       asks_me = refl;
       asks_peer = refl;
-      one_me = tt;
-      one_peer = tt;
+      once_me = tt;
+      once_peer = tt;
       absent_me = tt;
       absent_peer = tt;
       rising = h;
@@ -127,8 +128,8 @@ more most role me peer f g s v e n q r =
       reads_peer = r;
       asks_me = n.asks_me ∙ sym (unanswered-append g (e ∷ []) peer.own ∙ q.1 (unanswered g peer.own));
       asks_peer = asked-append g (e ∷ []) ∙ ap (λ xs. asked g ++ xs) q.0 ∙ append-nil_of (asked g) ∙ n.asks_peer;
-      one_me = n.one_me;
-      one_peer = n.one_peer;
+      once_me = n.once_me;
+      once_peer = n.once_peer;
       absent_me = n.absent_me;
       absent_peer = n.absent_peer;
       rising = n.rising;
@@ -140,35 +141,14 @@ more most role me peer f g s v e n q r =
       saved_peer = saved-append peer.saved g (e ∷ []) ∙ q.4 (saved_after peer.saved g) ∙ n.saved_peer;
     }
 
--- the items that the peer has still to take are among the own ones
-all-untouched : (k : ℕ) (flight : List Entry) (own : List (List Item)) → IsOne own → AllUntouched k own → AllUntouched k (unanswered flight own)
-all-untouched k flight [] o u = subst (λ xs. AllUntouched k xs) (sym (none flight)) tt
-  where
-    none : (flight : List Entry) → unanswered flight [] ≡ []
-    none [] = refl
-    none (AValue bt j q ∷ flight) = none flight
-    none (AnAsk bt items ∷ flight) = none flight
-    none (AnAnswer results ∷ flight) = none flight
-    none (AMark bt number ∷ flight) = none flight
-    none (AGive ∷ flight) = none flight
-    none (ARelease ∷ flight) = none flight
-    none (AQuiet ∷ flight) = none flight
-    none (ABad ∷ flight) = none flight
-all-untouched k flight (items ∷ []) o u = go (unanswered-one flight items)
-  where
-    go : (unanswered flight (items ∷ []) ≡ items ∷ []) ⊎ (unanswered flight (items ∷ []) ≡ []) → AllUntouched k (unanswered flight (items ∷ []))
-    go (inl e) = subst (λ xs. AllUntouched k xs) (sym e) u
-    go (inr e) = subst (λ xs. AllUntouched k xs) (sym e) tt
-all-untouched k flight (items ∷ another ∷ rest) o u = absurd o
-
 -- a value is sent
 pub said : (most : ℕ) (role : Role) (me peer : Core) (f g : List Entry) (s : ContextSet) (v : List Saved) (k : ℕ) (p : Pair) → Normal most role me peer f g s v → lookup me.held k ≡ Some p → AllUntouched k me.own → Normal most role me peer f (g ++ (AValue s k p ∷ [])) s v
 unfolding plain-more
 said most role me peer f g s v k p n h u =
-    let there = reads-lookup (other role) me.held me.own f s k p n.reads_me h u in
+    let there : lookup s k ≡ Some p = sym (reads-same (other role) me.held me.own f s k n.reads_me u) ∙ h in
     more most role me peer f g s v (AValue s k p) n (refl, λ own. refl, λ t w. tt, λ t. refl, λ w. refl)
     (push-value role peer.held peer.own g s s k p n.reads_peer there there
-    (subst (λ xs. AllUntouched k xs) (sym n.asks_peer) (all-untouched k f me.own n.one_me u)))
+    (subst (λ xs. AllUntouched k xs) (sym n.asks_peer) (unanswered-untouched f me.own k u)))
 
 -- an entry that asks nothing is sent: a plea, a release, an abort
 pub sent_plain : (most : ℕ) (role : Role) (me peer : Core) (f g : List Entry) (s : ContextSet) (v : List Saved) (e : Entry) → Normal most role me peer f g s v → (e ≡ AQuiet) ⊎ (e ≡ ARelease) × (role ≡ Initiator) → Normal most role me peer f (g ++ (e ∷ [])) s v
@@ -188,71 +168,32 @@ none-asked most role me peer f g s v n e =
 holds-shared : (most : ℕ) (role : Role) (me peer : Core) (f g : List Entry) (s : ContextSet) (v : List Saved) → Normal most role me peer f g s v → me.own ≡ [] → me.held ≡ s
 holds-shared most role me peer f g s v n e = reads-settled (other role) me.held f s (subst (λ o. Reads (other role) me.held o f s) e n.reads_me)
 
-one-of : (xs ys : List (List Item)) → xs ≡ ys → IsOne ys → IsOne xs
-one-of xs ys e o = subst (λ x. IsOne x) (sym e) o
-
-one-unanswered : (flight : List Entry) (own : List (List Item)) → IsOne own → IsOne (unanswered flight own)
-one-unanswered flight [] o = none flight
-  where
-    none : (flight : List Entry) → IsOne (unanswered flight [])
-    none [] = tt
-    none (AValue bt j q ∷ flight) = none flight
-    none (AnAsk bt items ∷ flight) = none flight
-    none (AnAnswer results ∷ flight) = none flight
-    none (AMark bt number ∷ flight) = none flight
-    none (AGive ∷ flight) = none flight
-    none (ARelease ∷ flight) = none flight
-    none (AQuiet ∷ flight) = none flight
-    none (ABad ∷ flight) = none flight
-one-unanswered flight (items ∷ []) o = go (unanswered-one flight items)
-  where
-    go : (unanswered flight (items ∷ []) ≡ items ∷ []) ⊎ (unanswered flight (items ∷ []) ≡ []) → IsOne (unanswered flight (items ∷ []))
-    go (inl e) = subst (λ xs. IsOne xs) (sym e) tt
-    go (inr e) = subst (λ xs. IsOne xs) (sym e) tt
-one-unanswered flight (items ∷ another ∷ rest) o = absurd o
-
--- the alterations on their way to an end are apart from what it may ask for
-asks-apart : (role : Role) (held : ContextSet) (flight : List Entry) (shared : ContextSet) (items : List Item) → Reads (other role) held [] flight shared → IsOne (asked flight) → AreSound role held items → AllApart (asked flight) items
-asks-apart role held [] shared items h o s = tt
-asks-apart role held (AValue bt j q ∷ flight) shared items h o s = asks-apart role held flight shared items h.2 o s
-asks-apart role held (AnAsk bt asks ∷ flight) shared items h o s = (backwards role s h.1, none (asked flight) o)
-  where
-    none : (xs : List (List Item)) → IsOne (asks ∷ xs) → AllApart xs items
-    none [] o = tt
-    none (x ∷ xs) o = absurd o
-
-    backwards : (r : Role) → AreSound r held items → AreSound (other r) held asks → AreApart asks items
-    backwards Initiator s h = sound-apart Responder held asks items h s
-    backwards Responder s h = sound-apart Initiator held asks items h s
-asks-apart role held (AnAnswer results ∷ flight) shared items h o s = absurd h.0
-asks-apart role held (AMark bt m ∷ flight) shared items h o s = asks-apart role held flight shared items h.1 o s
-asks-apart role held (AGive ∷ flight) shared items h o s = asks-apart role held flight shared items h o s
-asks-apart role held (ARelease ∷ flight) shared items h o s = asks-apart role held flight shared items h.1 o s
-asks-apart role held (AQuiet ∷ flight) shared items h o s = asks-apart role held flight shared items h o s
-asks-apart role held (ABad ∷ flight) shared items h o s = absurd h
-
 absent-sound : (role : Role) (held : ContextSet) (items : List Item) → AreSound role held items → AreAbsent role held items
 absent-sound role held [] s = tt
 absent-sound role held (Addition k o ∷ items) s = (s.0, absent-sound role held items s.1)
 absent-sound role held (Deletion k ∷ items) s = (tt, absent-sound role held items s.1)
 
+all-absent_more : (role : Role) (held : ContextSet) (own : List (List Item)) (items : List Item) → AllAbsent role held own → AreAbsent role held items → AllAbsent role held (own ++ (items ∷ []))
+all-absent_more role held [] items a b = (b, tt)
+all-absent_more role held (o ∷ own) items a b = (a.0, all-absent_more role held own items a.1 b)
+
 -- an alteration is asked for
-pub asks : (most : ℕ) (role : Role) (held : ContextSet) (turn : Bool) (marks : List Saved) (peer : Core) (f g : List Entry) (s : ContextSet) (v : List Saved) (items : List Item) → Normal most role (record { held = held; own = []; turn = turn; saved = marks }) peer f g s v → AreSound role held items → AreDistinct (identifiers items) → Normal most role (record { held = held; own = items ∷ []; turn = turn; saved = marks }) peer f (g ++ (AnAsk s items ∷ [])) s v
-asks most role held turn marks peer f g s v items n h d =
-    let me : Core = record { held = held; own = []; turn = turn; saved = marks } in
-    let none = none-asked most role me peer f g s v n refl in
-    let same = holds-shared most role me peer f g s v n refl in
-    let single : IsOne (asked f) = one-of (asked f) (unanswered g peer.own) n.asks_me (one-unanswered g peer.own n.one_peer) in
+pub asks : (most : ℕ) (role : Role) (me peer : Core) (f g : List Entry) (s : ContextSet) (v : List Saved) (items : List Item) → Normal most role me peer f g s v → AreSound role me.held items → AreDistinct (named (me.own ++ (items ∷ []))) → Normal most role (record me { own = me.own ++ (items ∷ []) }) peer f (g ++ (AnAsk s items ∷ [])) s v
+asks most role me peer f g s v items n h once =
+    let u = once-untouched me.own items once in
+    let apart = asks-apart role me.held me.own f s items n.reads_me u h in
     record {
-      reads_me = ask-one role held items f s n.reads_me single h;
+      reads_me = ask-more (other role) me.held me.own items f s n.reads_me apart.0;
       reads_peer =
-          push-ask role peer.held peer.own g s s items n.reads_peer none refl (subst (λ x. AreSound role x items) same h) d
-          (subst (λ xs. AllApart xs items) n.asks_me (asks-apart role held f s items n.reads_me single h));
+          push-ask role peer.held peer.own g s s items n.reads_peer
+          (subst (λ xs. AreUntouched items xs) (sym n.asks_peer) (unanswered-all_untouched f me.own items u))
+          (sound-shared (other role) role me.held me.own f s items n.reads_me u h) (once-distinct me.own items once)
+          (subst (λ xs. AllApart xs items) n.asks_me apart.1);
       asks_me = n.asks_me ∙ sym (unanswered-append g (AnAsk s items ∷ []) peer.own);
-      asks_peer = asked-append g (AnAsk s items ∷ []) ∙ ap (λ xs. xs ++ (items ∷ [])) none ∙ sym (no-answers (other role) held f s (items ∷ []) n.reads_me);
-      one_me = tt;
-      one_peer = n.one_peer;
-      absent_me = (absent-sound role held items h, tt);
+      asks_peer = asked-append g (AnAsk s items ∷ []) ∙ ap (λ xs. xs ++ (items ∷ [])) n.asks_peer ∙ sym (unanswered-more (other role) me.held me.own items f s n.reads_me);
+      once_me = once;
+      once_peer = n.once_peer;
+      absent_me = all-absent_more role me.held me.own items n.absent_me (absent-sound role me.held items h);
       absent_peer = n.absent_peer;
       rising = n.rising;
       all_rising = n.all_rising;
@@ -301,13 +242,13 @@ pub takes_ask : (most : ℕ) (role : Role) (me peer : Core) (at : ContextSet) (i
 takes_ask most role me peer at items results f g s v n fits =
     let h = n.reads_me in
     record {
-      reads_me = h.4 results fits;
-      reads_peer = push-answer role peer.held peer.own g s items (asked f) results n.reads_peer n.rising n.one_peer (sym n.asks_me) fits;
+      reads_me = h.3 results fits;
+      reads_peer = push-answer role peer.held peer.own g s items (asked f) results n.reads_peer n.rising (sym n.asks_me) fits;
       asks_me = ap later n.asks_me ∙ sym (unanswered-append g (AnAnswer results ∷ []) peer.own);
       asks_peer = asked-append g (AnAnswer results ∷ []) ∙ append-nil_of (asked g) ∙ n.asks_peer;
-      one_me = n.one_me;
-      one_peer = n.one_peer;
-      absent_me = all-absent role me.held me.own items results me.held h.1 n.absent_me;
+      once_me = n.once_me;
+      once_peer = n.once_peer;
+      absent_me = all-absent role me.held me.own items results me.held h.0 n.absent_me;
       absent_peer = n.absent_peer;
       rising = rising-altered items results s n.rising;
       all_rising = n.all_rising;
@@ -318,15 +259,21 @@ takes_ask most role me peer at items results f g s v n fits =
       saved_peer = saved-append peer.saved g (AnAnswer results ∷ []) ∙ n.saved_peer;
     }
 
-later-absent : (role : Role) (held : ContextSet) (own : List (List Item)) → IsOne own → AllAbsent role held (later own)
-later-absent role held [] o = tt
-later-absent role held (x ∷ []) o = tt
-later-absent role held (x ∷ y ∷ rest) o = absurd o
+-- what the first alteration adds, no later one does
+absent-later : (role : Role) (held : ContextSet) (first : List Item) (results : List Result) (items : List Item) → ((k : ℕ) → is_among k (identifiers items) ≡ true → IsUntouched k first) → AreAbsent role held items → AreAbsent role (altered first results held) items
+absent-later role held first results [] u a = tt
+absent-later role held first results (Addition k o ∷ items) u a =
+    ((a.0.0, lookup-altered first results k held (u k (among-item (Addition k o) items)) ∙ a.0.1), absent-later role held first results items (λ j e. u j (among-items (Addition k o) items j e)) a.1)
+absent-later role held first results (Deletion k ∷ items) u a = (tt, absent-later role held first results items (λ j e. u j (among-items (Deletion k) items j e)) a.1)
 
-later-one : (own : List (List Item)) → IsOne own → IsOne (later own)
-later-one [] o = tt
-later-one (x ∷ []) o = tt
-later-one (x ∷ y ∷ rest) o = absurd o
+all-absent_later : (role : Role) (held : ContextSet) (first : List Item) (results : List Result) (own : List (List Item)) → ((k : ℕ) → is_among k (named own) ≡ true → IsUntouched k first) → AllAbsent role held own → AllAbsent role (altered first results held) own
+all-absent_later role held first results [] u a = tt
+all-absent_later role held first results (items ∷ own) u a =
+    (absent-later role held first results items (λ k e. u k (among-named items own k e)) a.0, all-absent_later role held first results own (λ k e. u k (among-later items own k e)) a.1)
+
+settles : (role : Role) (held : ContextSet) (own : List (List Item)) (results : List Result) → AreDistinct (named own) → AllAbsent role held own → AllAbsent role (altered_first own results held) (later own)
+settles role held [] results d a = tt
+settles role held (items ∷ own) results d a = all-absent_later role held items results own (first-untouched items own d) a.1
 
 -- an alteration's answer is taken
 pub takes_answer : (most : ℕ) (role : Role) (me peer : Core) (results : List Result) (f g : List Entry) (s : ContextSet) (v : List Saved) → Normal most role me peer (AnAnswer results ∷ f) g s v → Normal most role (record me { held = altered_first me.own results me.held; own = later me.own }) peer f g s v
@@ -336,9 +283,9 @@ takes_answer most role me peer results f g s v n =
       reads_peer = n.reads_peer;
       asks_me = n.asks_me;
       asks_peer = n.asks_peer;
-      one_me = later-one me.own n.one_me;
-      one_peer = n.one_peer;
-      absent_me = later-absent role (altered_first me.own results me.held) me.own n.one_me;
+      once_me = later-distinct me.own n.once_me;
+      once_peer = n.once_peer;
+      absent_me = settles role me.held me.own results n.once_me n.absent_me;
       absent_peer = n.absent_peer;
       rising = n.rising;
       all_rising = n.all_rising;
@@ -358,8 +305,8 @@ takes_mark most role me peer at number f g s v n =
       reads_peer = n.reads_peer;
       asks_me = n.asks_me;
       asks_peer = n.asks_peer;
-      one_me = n.one_me;
-      one_peer = n.one_peer;
+      once_me = n.once_me;
+      once_peer = n.once_peer;
       absent_me = n.absent_me;
       absent_peer = n.absent_peer;
       rising = n.rising;
@@ -379,8 +326,8 @@ takes_give most role me peer f g s v n =
       reads_peer = n.reads_peer;
       asks_me = n.asks_me;
       asks_peer = n.asks_peer;
-      one_me = n.one_me;
-      one_peer = n.one_peer;
+      once_me = n.once_me;
+      once_peer = n.once_peer;
       absent_me = n.absent_me;
       absent_peer = n.absent_peer;
       rising = n.rising;
@@ -400,8 +347,8 @@ takes_value most role me peer at k p f g s v n =
       reads_peer = n.reads_peer;
       asks_me = n.asks_me;
       asks_peer = n.asks_peer;
-      one_me = n.one_me;
-      one_peer = n.one_peer;
+      once_me = n.once_me;
+      once_peer = n.once_peer;
       absent_me = n.absent_me;
       absent_peer = n.absent_peer;
       rising = n.rising;
@@ -420,8 +367,8 @@ takes_quiet most role me peer f g s v n =
       reads_peer = n.reads_peer;
       asks_me = n.asks_me;
       asks_peer = n.asks_peer;
-      one_me = n.one_me;
-      one_peer = n.one_peer;
+      once_me = n.once_me;
+      once_peer = n.once_peer;
       absent_me = n.absent_me;
       absent_peer = n.absent_peer;
       rising = n.rising;
@@ -457,8 +404,8 @@ marked most role me peer f g s v n t o w =
       reads_peer = push-mark role peer.held peer.own g s s (next_number me.saved) n.reads_peer none refl;
       asks_me = n.asks_me ∙ sym (unanswered-append g (entry ∷ []) peer.own);
       asks_peer = asked-append g (entry ∷ []) ∙ append-nil_of (asked g) ∙ n.asks_peer;
-      one_me = n.one_me;
-      one_peer = n.one_peer;
+      once_me = n.once_me;
+      once_peer = n.once_peer;
       absent_me = n.absent_me;
       absent_peer = n.absent_peer;
       rising = n.rising;
@@ -481,8 +428,8 @@ gave most role me peer f g s v n t =
       reads_peer = push-plain role peer.held peer.own g s AGive n.reads_peer tt;
       asks_me = n.asks_me ∙ sym (unanswered-append g (AGive ∷ []) peer.own);
       asks_peer = asked-append g (AGive ∷ []) ∙ append-nil_of (asked g) ∙ n.asks_peer;
-      one_me = n.one_me;
-      one_peer = n.one_peer;
+      once_me = n.once_me;
+      once_peer = n.once_peer;
       absent_me = n.absent_me;
       absent_peer = n.absent_peer;
       rising = n.rising;

@@ -3,13 +3,13 @@ use Rattle.std.proofs.Common.{◌≡◌, ℕ, ◌≤◌, true, false, List, [], 
 use Rattle.std.specs.Prelude.{Option, Some, None}
 use Rattle.agreement.specs.Sets.{Role, other, ContextSet, Item}
 use Rattle.agreement.specs.Sets.Role.{Initiator, Responder}
-use Rattle.agreement.specs.Messages.{Apdu, Value, Mode, Setup, Message, Act, Choice}
+use Rattle.agreement.specs.Messages.{Apdu, Value, Mode, Setup, Message, Act, Choice, Calls}
 use Rattle.agreement.specs.Messages.Mode.{Bare, Direct, Reliable}
 use Rattle.agreement.specs.Messages.Apdu.{Invoke, Outcome, Reject}
-use Rattle.agreement.specs.Messages.Act.{Connects, Recovers, Says, Queues, Alters, Marks, Gives, Pleads, Restarts, Starts, Encodes, Sends, Ends, Interrupts, Discards, Resumes, Releases, Aborts, Withdraws}
+use Rattle.agreement.specs.Messages.Act.{Connects, Recovers, Says, Queues, Drops, Alters, Marks, Gives, Pleads, Restarts, Starts, Encodes, Sends, Ends, Interrupts, Discards, Resumes, Releases, Aborts, Withdraws, Fails}
 use Rattle.agreement.specs.Messages.Choice.{Nothing, Accepting, Refusing, Results}
 use Rattle.agreement.specs.Messages.Message.{Connect, Recover, Accept, Refuse, Data, Alter, AlterAnswer, Mark, MarkAnswer, Restart, RestartAnswer, Start, Resume, Chunk, End, EndAnswer, Interrupt, InterruptAnswer, Discard, DiscardAnswer, Give, GiveAnswer, Please, Release, ReleaseAnswer, UserAbort}
-use Rattle.agreement.specs.State.{Phase, Transfer, Calls, State}
+use Rattle.agreement.specs.State.{Phase, Transfer, State}
 use Rattle.agreement.specs.State.Phase.{Idle, Opening, Up, Broken, Over}
 use Rattle.agreement.specs.Calls.{handed_in}
 use Rattle.agreement.specs.Acts.{MayAct, acted, sent_by, marked_in, gave_in}
@@ -131,6 +131,7 @@ acts-unmade setup role x Connects h u = λ j. absurd j
 acts-unmade setup role x Recovers h u = λ j. absurd j
 acts-unmade setup role x (Says value) h u = up-not x _ h.is_free.is_up
 acts-unmade setup role x (Queues context apdu) h u = up-not x _ h.is_up
+acts-unmade setup role x Drops h u = u
 acts-unmade setup role x (Alters items) h u = u
 acts-unmade setup role x Marks h u = go setup.mode
   where
@@ -156,6 +157,7 @@ acts-unmade setup role x Resumes h u = u
 acts-unmade setup role x Releases h u = λ j. absurd j
 acts-unmade setup role x Aborts h u = λ j. absurd j
 acts-unmade setup role x Withdraws h u = λ j. absurd j
+acts-unmade setup role x Fails h u = λ j. absurd j
 
 refusing-unjoined : (p : Phase) → IsUnjoined (refusing p) → IsUnjoined p
 refusing-unjoined Broken j = tt
@@ -221,7 +223,7 @@ broken-unjoined Direct p a j = absurd j
 broken-unjoined Reliable p a j = absurd (a refl)
 
 -- a break makes no invocation
-made-broken : (m : Mode) (calls : Calls) → (broken_calls m calls).made ≡ calls.made
+pub made-broken : (m : Mode) (calls : Calls) → (broken_calls m calls).made ≡ calls.made
 made-broken Bare calls = refl
 made-broken Direct calls = refl
 made-broken Reliable calls = refl
@@ -234,7 +236,7 @@ step-unmade setup n a role world (Acts act) h u = acts-unmade setup role (state_
 step-unmade setup n a role world (Takes m choice) h u = takes-unmade setup role (state_of setup role world) m choice a (n world role m choice h) u
 step-unmade setup n a role world (Passes m) h u = u
 
-unmade-kept : (setup : Setup) → NoAbortOfItself setup → (setup.mode ≡ Reliable → ⊥) → (world : World) → IsRun setup world → (role : Role) → Unmade (state_of setup role world)
+pub unmade-kept : (setup : Setup) → NoAbortOfItself setup → (setup.mode ≡ Reliable → ⊥) → (world : World) → IsRun setup world → (role : Role) → Unmade (state_of setup role world)
 unmade-kept setup n a [] h role = λ j. refl
 unmade-kept setup n a (Break ∷ world) h role =
     λ j. made-broken setup.mode (state_of setup role world).calls ∙ unmade-kept setup n a world h.1 role (broken-unjoined setup.mode (state_of setup role world).phase a j)

@@ -3,11 +3,11 @@ use Rattle.std.proofs.Common.{◌≡◌, ℕ, ◌<◌, ◌≤◌, Bool, true, fa
 use Rattle.std.specs.Prelude.{Option, Some, None}
 use Rattle.agreement.specs.Sets.{Role, other, Item}
 use Rattle.agreement.specs.Sets.Role.{Initiator, Responder}
-use Rattle.agreement.specs.Messages.{Apdu, Value, Setup, Message, Act, Choice}
-use Rattle.agreement.specs.Messages.Act.{Says, Queues, Marks, Starts, Encodes, Sends, Ends, Discards, Resumes}
+use Rattle.agreement.specs.Messages.{Apdu, Value, Setup, Message, Act, Choice, Calls}
+use Rattle.agreement.specs.Messages.Act.{Says, Queues, Drops, Marks, Starts, Encodes, Sends, Ends, Discards, Resumes}
 use Rattle.agreement.specs.Messages.Choice.{Nothing, Accepting, Refusing, Results}
 use Rattle.agreement.specs.Messages.Message.{Connect, Recover, Data, Alter, MarkAnswer, Restart, RestartAnswer, End, EndAnswer, InterruptAnswer, DiscardAnswer}
-use Rattle.agreement.specs.State.{Phase, Handed, Transfer, Outgoing, Incoming, Calls, State, new_end}
+use Rattle.agreement.specs.State.{Phase, Handed, Transfer, Outgoing, Incoming, State, new_end}
 use Rattle.agreement.specs.State.Phase.{Idle, Up, Broken}
 use Rattle.agreement.specs.Calls.{handed_in, rejects_of}
 use Rattle.agreement.specs.Acts.{MayAct, acted, on_transfer, started}
@@ -95,6 +95,7 @@ acts-turned : (base : Setup) (role : Role) (x : State) (act : Act) (ns came : Li
 acts-turned base role x (Says value) ns came h k = absurd (h.at_once refl)
 acts-turned base role x (Queues context apdu) ns came h k =
     queued ns came (reliable base) x.outgoing x.calls context apdu (handed_in (reliable base) x.calls context apdu).made (λ pending o. once-handed (reliable base) x.calls [] context apdu ns pending h.may_hand_in o) k
+acts-turned base role x Drops ns came h k = absurd (h.at_once refl)
 acts-turned base role x Marks ns came h k = same-turned ns came x.outgoing (acted (reliable base) x Marks).outgoing x.calls.made x.calls.made refl (on-number _ (λ t. refl) x.outgoing) refl refl k
 acts-turned base role x Starts ns came h k = starts ns came x.outgoing x.calls.made k
 acts-turned base role x (Encodes context) ns came h k = same-turned ns came x.outgoing (acted (reliable base) x (Encodes context)).outgoing x.calls.made x.calls.made refl (on-number _ (λ t. refl) x.outgoing) refl refl k
@@ -112,7 +113,7 @@ hears-turned setup (Some v) x ns came k =
     (numbers-of_append x.outgoing.queue (rejects_of setup x.calls v.identifier v.apdu) ∙ ap (λ xs. numbers_of x.outgoing.queue ++ xs) (rejects-none setup x.calls v.identifier v.apdu) ∙ nil-numbers (numbers_of x.outgoing.queue))
     refl refl (made-heard setup x.calls v.identifier v.apdu) k
 
-opens-turned : (base : Setup) (role : Role) (x : State) (choice : Choice) (ns came : List ℕ) → x ≡ new_end (reliable base) → Turned ns came x.outgoing x.calls.made → Turned ns came (taken (reliable base) role x Connect choice).outgoing (taken (reliable base) role x Connect choice).calls.made
+opens-turned : (base : Setup) (role : Role) (x : State) (choice : Choice) (ns came : List ℕ) → x ≡ new_end (reliable base) Responder → Turned ns came x.outgoing x.calls.made → Turned ns came (taken (reliable base) role x Connect choice).outgoing (taken (reliable base) role x Connect choice).calls.made
 opens-turned base role x (Accepting set) ns came e k = subst (λ (z : State). Turned ns came z.outgoing z.calls.made) e k
 opens-turned base role x Refusing ns came e k = k
 opens-turned base role x Nothing ns came e k = k
@@ -130,7 +131,7 @@ alters-turned base role x items (Accepting set) ns came k = k
 alters-turned base role x items Refusing ns came k = k
 alters-turned base role x items Nothing ns came k = k
 
-takes-turned : (base : Setup) (role : Role) (x : State) (m : Message) (choice : Choice) (ns came : List ℕ) → (m ≡ Connect → x ≡ new_end (reliable base)) → MayTake (reliable base) role x m → Turned ns came x.outgoing x.calls.made → Turned ns came (taken (reliable base) role x m choice).outgoing (taken (reliable base) role x m choice).calls.made
+takes-turned : (base : Setup) (role : Role) (x : State) (m : Message) (choice : Choice) (ns came : List ℕ) → (m ≡ Connect → x ≡ new_end (reliable base) Responder) → MayTake (reliable base) role x m → Turned ns came x.outgoing x.calls.made → Turned ns came (taken (reliable base) role x m choice).outgoing (taken (reliable base) role x m choice).calls.made
 takes-turned base role x Connect choice ns came z h k = opens-turned base role x choice ns came (z refl) k
 takes-turned base role x Recover choice ns came z h k = recovers-turned base role x choice ns came k
 takes-turned base role x (Data value) choice ns came z h k = absurd (h.at_once refl)
@@ -159,9 +160,9 @@ takes-turned base role x DiscardAnswer choice ns came z h k = none-turned ns cam
 takes-turned base role x m choice ns came z h k = k
 
 -- at an opening the responder is new, and the initiator sends nothing of transfers
-record Opens (base : Setup) (role : Role) (x y : State) : Type 0 where
-  pub new : x ≡ new_end (reliable base)
-  pub at_start : y.outgoing ≡ (new_end (reliable base)).outgoing
+pub record Opens (base : Setup) (role : Role) (x y : State) : Type 0 where
+  pub new : x ≡ new_end (reliable base) Responder
+  pub at_start : y.outgoing ≡ (new_end (reliable base) Initiator).outgoing
 
 flowing-up : (setup : Setup) (role : Role) (x y : State) (down up : List Message) (shared : Shared) → Flowing setup role x y down up shared → y.phase ≡ Up
 flowing-up setup role x y down up shared (Leads o p n) = p.up
@@ -234,14 +235,14 @@ Here base role world = Turned (invoked (reliable base) role world) (arrived (rel
 reached-at : (base : Setup) (world : World) (role : Role) → IsRun (reliable base) world → ReliableRelation base role (state_of (reliable base) role world) (state_of (reliable base) (other role) world) (flight_to (reliable base) role world) (flight_to (reliable base) (other role) world) (shared_at (reliable base) world)
 reached-at base world role h = at-role (reliable base) (ReliableRelation base) (reliable-keeps base) role world (reached (reliable base) (ReliableRelation base) (reliable-keeps base) world h)
 
-opens-in : (base : Setup) → NoAbortOfItself (reliable base) → (world : World) (role : Role) (choice : Choice) → IsRun (reliable base) (By role (Takes Connect choice) ∷ world) → IsStep (reliable base) role (state_of (reliable base) role world) (flight_to (reliable base) role world) (Takes Connect choice) → IsRun (reliable base) world → Opens base role (state_of (reliable base) role world) (state_of (reliable base) (other role) world)
+pub opens-in : (base : Setup) → NoAbortOfItself (reliable base) → (world : World) (role : Role) (choice : Choice) → IsRun (reliable base) (By role (Takes Connect choice) ∷ world) → IsStep (reliable base) role (state_of (reliable base) role world) (flight_to (reliable base) role world) (Takes Connect choice) → IsRun (reliable base) world → Opens base role (state_of (reliable base) role world) (state_of (reliable base) (other role) world)
 opens-in base n world role choice h k r = go (flight_to (reliable base) role world) k (reached-at base world role r)
   where
     go : (flight : List Sending) → IsStep (reliable base) role (state_of (reliable base) role world) flight (Takes Connect choice) → ReliableRelation base role (state_of (reliable base) role world) (state_of (reliable base) (other role) world) flight (flight_to (reliable base) (other role) world) (shared_at (reliable base) world) → Opens base role (state_of (reliable base) role world) (state_of (reliable base) (other role) world)
     go [] k q = absurd k.comes
     go (s ∷ flight) k q = opens-at base role (state_of (reliable base) role world) (state_of (reliable base) (other role) world) s flight (flight_to (reliable base) (other role) world) (shared_at (reliable base) world) q k.comes (n world role Connect choice h)
 
-new-turned : (base : Setup) (x : State) (choice : Choice) (ns came : List ℕ) (o : Outgoing) (made : ℕ) → o ≡ (new_end (reliable base)).outgoing → Turned ns came o made → Turned (invoked_after (reliable base) x (Takes Connect choice) ns) (arrived_after (reliable base) x (Takes Connect choice) came) o made
+new-turned : (base : Setup) (x : State) (choice : Choice) (ns came : List ℕ) (o : Outgoing) (made : ℕ) → o ≡ (new_end (reliable base) Initiator).outgoing → Turned ns came o made → Turned (invoked_after (reliable base) x (Takes Connect choice) ns) (arrived_after (reliable base) x (Takes Connect choice) came) o made
 new-turned base x (Accepting set) ns came o made e k = subst (λ q. Turned [] [] q made) (sym e) (record { later = none; now = λ b. none })
   where
     least : 0 ≤ made

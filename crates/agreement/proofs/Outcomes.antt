@@ -4,13 +4,13 @@ use Rattle.std.specs.Prelude.{Option, Some, None}
 use Rattle.std.proofs.lemmas.Bool.Decides.{nat_tests}
 use Rattle.agreement.specs.Sets.{Role, is_among, AreDistinct, Item}
 use Rattle.agreement.specs.Sets.Role.{Initiator, Responder}
-use Rattle.agreement.specs.Messages.{Apdu, Value, Mode, Setup, Message, Act, Choice}
+use Rattle.agreement.specs.Messages.{Apdu, Value, Mode, Setup, Message, Act, Choice, Invocation, Calls, is_of_invocation}
 use Rattle.agreement.specs.Messages.Mode.{Bare, Direct, Reliable}
 use Rattle.agreement.specs.Messages.Apdu.{Invoke, Outcome, Reject}
-use Rattle.agreement.specs.Messages.Act.{Connects, Recovers, Says, Queues, Alters, Marks, Gives, Pleads, Restarts, Starts, Encodes, Sends, Ends, Interrupts, Discards, Resumes, Releases, Aborts, Withdraws}
+use Rattle.agreement.specs.Messages.Act.{Connects, Recovers, Says, Queues, Drops, Alters, Marks, Gives, Pleads, Restarts, Starts, Encodes, Sends, Ends, Interrupts, Discards, Resumes, Releases, Aborts, Withdraws, Fails}
 use Rattle.agreement.specs.Messages.Choice.{Nothing, Accepting, Refusing, Results}
 use Rattle.agreement.specs.Messages.Message.{Connect, Recover, Accept, Refuse, Data, Alter, AlterAnswer, Mark, MarkAnswer, Restart, RestartAnswer, Start, Resume, Chunk, End, EndAnswer, Interrupt, InterruptAnswer, Discard, DiscardAnswer, Give, GiveAnswer, Please, Release, ReleaseAnswer, UserAbort}
-use Rattle.agreement.specs.State.{Invocation, Calls, Handed, Transfer, State, no_calls}
+use Rattle.agreement.specs.State.{Handed, Transfer, State, no_calls}
 use Rattle.agreement.specs.Calls.{is_link_allowed, is_open, close, opened, MayHandIn, handed_in, has_room, is_accepted, accepted, heard}
 use Rattle.agreement.specs.Acts.{MayAct, acted, marked_in, gave_in}
 use Rattle.agreement.specs.Takings.{taken, hears, between, handed_up, cut_item, marked_from, broken_calls}
@@ -118,6 +118,18 @@ tells ts calls n o k =
       made = made-close n calls.own_open calls.made k.made;
     }
 
+pub both-true : (b c : Bool) → (not b && c) ≡ true → (b ≡ false) × (c ≡ true)
+both-true true c h = absurd (true≢false (sym h))
+both-true false c h = (refl, h)
+
+pub right-true : (b c : Bool) → (b && c) ≡ true → c ≡ true
+right-true true c h = h
+right-true false c h = absurd (true≢false (sym h))
+
+pub left-true : (b c : Bool) → (b && c) ≡ true → b ≡ true
+left-true true c h = refl
+left-true false c h = h
+
 -- an APDU is heard
 hears-apdu : (setup : Setup) (ts : List ℕ) (calls : Calls) (context : ℕ) (apdu : Apdu) → Keeps_calls ts calls → Keeps_calls ((if is_accepted setup calls apdu then outcome_in apdu else []) ++ ts) (heard setup calls context apdu)
 hears-apdu setup ts calls context apdu k = go (is_accepted setup calls apdu) refl
@@ -125,8 +137,7 @@ hears-apdu setup ts calls context apdu k = go (is_accepted setup calls apdu) ref
     takes : (a : Apdu) → is_accepted setup calls a ≡ true → Keeps_calls (outcome_in a ++ ts) (accepted setup calls context a)
     takes (Invoke number operation link argument) e = record { distinct = k.distinct; closed = k.closed; made = k.made }
     takes (Outcome number content) e = tells ts calls number e k
-    takes (Reject number true) e = tells ts calls number e k
-    takes (Reject number false) e = absurd (true≢false (sym e))
+    takes (Reject number problem) e = tells ts calls number (right-true (is_of_invocation problem) (is_open number calls.own_open) e) k
 
     go : (b : Bool) → is_accepted setup calls apdu ≡ b → Keeps_calls ((if b then outcome_in apdu else []) ++ ts) (if b then accepted setup calls context apdu else calls)
     go true e = takes apdu e
@@ -141,6 +152,7 @@ acts-calls setup role ts x Connects h k = k
 acts-calls setup role ts x Recovers h k = k
 acts-calls setup role ts x (Says value) h k = hands-in setup ts x.calls x.outgoing.queue value.identifier value.apdu h.may_hand_in k
 acts-calls setup role ts x (Queues context apdu) h k = hands-in setup ts x.calls [] context apdu h.may_hand_in k
+acts-calls setup role ts x Drops h k = k
 acts-calls setup role ts x (Alters items) h k = k
 acts-calls setup role ts x Marks h k = go setup.mode
   where
@@ -166,6 +178,7 @@ acts-calls setup role ts x Resumes h k = k
 acts-calls setup role ts x Releases h k = k
 acts-calls setup role ts x Aborts h k = cuts ts x.calls k
 acts-calls setup role ts x Withdraws h k = cuts ts x.calls k
+acts-calls setup role ts x Fails h k = k
 
 cuts-item : (ts : List ℕ) (t : Option Transfer) (calls : Calls) → Keeps_calls ts calls → Keeps_calls ts (cut_item t calls)
 cuts-item ts None calls k = k
@@ -264,18 +277,6 @@ link-open setup (call ∷ calls) operation parent h = go (link-open setup calls 
     go ih true e h = inl (eqb-true call.number parent e, h)
     go ih false e h = inr (ih h)
 
-both-true : (b c : Bool) → (not b && c) ≡ true → (b ≡ false) × (c ≡ true)
-both-true true c h = absurd (true≢false (sym h))
-both-true false c h = (refl, h)
-
-right-true : (b c : Bool) → (b && c) ≡ true → c ≡ true
-right-true true c h = h
-right-true false c h = absurd (true≢false (sym h))
-
-left-true : (b c : Bool) → (b && c) ≡ true → b ≡ true
-left-true true c h = refl
-left-true false c h = h
-
 pub accepted-names_open : (setup : Setup) → AcceptedNamesOpen setup
 accepted-names_open setup calls (Invoke number operation None argument) h =
     (both-true (is_open number calls.peer_open) (has_room setup operation calls.peer_open) (left-true _ true h)).0
@@ -286,5 +287,4 @@ accepted-names_open setup calls (Invoke number operation (Some parent) argument)
       link-open setup calls.own_open operation parent (right-true both link h),
     )
 accepted-names_open setup calls (Outcome number content) h = h
-accepted-names_open setup calls (Reject number true) h = h
-accepted-names_open setup calls (Reject number false) h = absurd (true≢false (sym h))
+accepted-names_open setup calls (Reject number problem) h = right-true (is_of_invocation problem) (is_open number calls.own_open) h

@@ -1,9 +1,9 @@
 -- Each invocation is taken at most once: numbers that rise from the sender to the taker.
 use Rattle.std.proofs.Common.{◌≡◌, ℕ, suc, ◌<◌, ◌≤◌, if◌then◌else◌, List, [], ◌∷◌, ◌++◌, refl, sym, ap, ◌∙◌, arith, subst, append_assoc}
-use Rattle.agreement.specs.Messages.{Apdu, Setup, Message}
+use Rattle.agreement.specs.Messages.{Apdu, Setup, Message, Calls}
 use Rattle.agreement.specs.Messages.Apdu.{Invoke, Outcome, Reject}
 use Rattle.agreement.specs.Messages.Message.{Data}
-use Rattle.agreement.specs.State.{Handed, Calls}
+use Rattle.agreement.specs.State.{Handed}
 use Rattle.agreement.specs.Calls.{is_accepted, heard, accepted, handed_in, MayHandIn, reject_of, rejects_of}
 use Rattle.agreement.specs.Worlds.{Sending}
 use Rattle.agreement.specs.Laws.{AreFalling, invocation_in}
@@ -112,9 +112,9 @@ numbers-of_append [] ys = refl
 numbers-of_append (x ∷ xs) ys = ap (λ zs. invocation_in x.apdu ++ zs) (numbers-of_append xs ys) ∙ sym (append_assoc (invocation_in x.apdu) (numbers_of xs) (numbers_of ys))
 
 pub rejects-none : (setup : Setup) (calls : Calls) (context : ℕ) (a : Apdu) → numbers_of (rejects_of setup calls context a) ≡ []
-rejects-none setup calls context a = by_test (λ (xs : List Handed). numbers_of xs ≡ []) (is_accepted setup calls a) [] (reject_of context a) (λ t. refl) (λ t. go a)
+rejects-none setup calls context a = by_test (λ (xs : List Handed). numbers_of xs ≡ []) (is_accepted setup calls a) [] (reject_of setup calls context a) (λ t. refl) (λ t. go a)
   where
-    go : (a : Apdu) → numbers_of (reject_of context a) ≡ []
+    go : (a : Apdu) → numbers_of (reject_of setup calls context a) ≡ []
     go (Invoke number operation link argument) = refl
     go (Outcome number content) = refl
     go (Reject number b) = refl

@@ -18,10 +18,10 @@ Relation = Role → State → State → List Sending → List Sending → Shared
 -- a relation that holds at first and that each kind of step keeps: an act, a taking, a passing over,
 -- a break
 pub record Keeps (setup : Setup) (I : Relation) : Type 0 where
-  pub starts : I Initiator (new_end setup) (new_end setup) [] [] (shared_at setup [])
+  pub starts : I Initiator (new_end setup Initiator) (new_end setup Responder) [] [] (shared_at setup [])
   pub swaps : (role : Role) (x y : State) (f g : List Sending) (shared : Shared) → I role x y f g shared → I (other role) y x g f shared
   pub acts : (role : Role) (x y : State) (f g : List Sending) (shared : Shared) (act : Act) → I role x y f g shared → MayAct setup role x act → I role (acted setup x act) y f (g ++ sendings shared.set (sent_by setup x act)) (shared_all setup.mode role (sent_by setup x act) shared)
-  pub takes : (role : Role) (x y : State) (s : Sending) (f g : List Sending) (shared : Shared) (m : Message) (choice : Choice) → I role x y (s ∷ f) g shared → s.message ≡ m → (x.phase ≡ Over → ⊥) → is_purged role x.awaits m ≡ false → IsChoice x m choice → I role (taken setup role x m choice) y f (g ++ sendings shared.set (answer_to setup x m choice)) (shared_answered m choice shared)
+  pub takes : (role : Role) (x y : State) (s : Sending) (f g : List Sending) (shared : Shared) (m : Message) (choice : Choice) → I role x y (s ∷ f) g shared → s.message ≡ m → (x.phase ≡ Over → ⊥) → is_purged role x.awaits m ≡ false → IsChoice setup x m choice → I role (taken setup role x m choice) y f (g ++ sendings shared.set (answer_to setup x m choice)) (shared_answered m choice shared)
   pub passes : (role : Role) (x y : State) (s : Sending) (f g : List Sending) (shared : Shared) (m : Message) → I role x y (s ∷ f) g shared → s.message ≡ m → (x.phase ≡ Over) ⊎ (is_purged role x.awaits m ≡ true) → I role x y f g shared
   pub breaks : (role : Role) (x y : State) (f g : List Sending) (shared : Shared) → I role x y f g shared → I role (broken setup x) (broken setup y) [] [] shared
 

@@ -7,16 +7,17 @@ use Rattle.agreement.specs.Sets.Item.{Addition, Deletion}
 use Rattle.std.proofs.lemmas.Bool.{eqb-false}
 use Rattle.agreement.specs.Messages.{Value, Setup, Message, Act}
 use Rattle.agreement.specs.Messages.Mode.{Reliable}
-use Rattle.agreement.specs.Messages.Act.{Connects, Recovers, Says, Queues, Alters, Marks, Gives, Pleads, Restarts, Starts, Encodes, Sends, Ends, Interrupts, Discards, Resumes, Releases, Aborts, Withdraws}
+use Rattle.agreement.specs.Messages.Act.{Connects, Recovers, Says, Queues, Drops, Alters, Marks, Gives, Pleads, Restarts, Starts, Encodes, Sends, Ends, Interrupts, Discards, Resumes, Releases, Aborts, Withdraws, Fails}
 use Rattle.agreement.specs.Messages.Message.{Accept, Alter, Give, GiveAnswer, Please, Release, UserAbort}
 use Rattle.agreement.specs.State.{Awaited, Progress, Handed, Transfer, Incoming, State, up_to, highest, joined, joined_with}
 use Rattle.agreement.specs.State.Phase.{Up, Releasing, Over}
 use Rattle.agreement.specs.State.Awaited.{NoAnswer, ReleaseOf}
 use Rattle.agreement.specs.State.Progress.{Running, Ending, Suspended}
-use Rattle.agreement.specs.Acts.{MayAct, acted, sent_by, RestsOrNone, IsNotEnding, MayWithdrawIn, OnEncoded, value_on, used}
+use Rattle.agreement.specs.Acts.{MayAct, acted, sent_by, RestsOrNone, IsNotEnding, MayWithdrawIn, OnEncoded, IsWritable, value_on, used}
 use Rattle.agreement.specs.Takings.{IsBack}
 use Rattle.agreement.specs.Worlds.{Sending, Shared, saved_of, saving, shared_all}
-use Rattle.agreement.proofs.Flights.{AreSound, IsUntouched}
+use Rattle.agreement.proofs.Flights.{AreSound}
+use Rattle.agreement.proofs.Names.{IsUntouched, untouched-append}
 use Rattle.agreement.proofs.Pieces.{saved_in, saved-up_to, newest-saved}
 use Rattle.agreement.proofs.Views.{IsLive, IsNoRelease, AllAre}
 use Rattle.agreement.proofs.Down.{Follower, AllQuiet, Down, AllFlat}
@@ -63,7 +64,7 @@ Calm from gave (UserAbort ∷ down) = Calm from gave down
 Calm from gave (message ∷ down) = ⊥
 
 -- x gave the turn, and y is yet to take it
-pub record Giving (role : Role) (x y : State) (down up : List Message) (shared : Shared) : Type 0 where
+pub record Giving (setup : Setup) (role : Role) (x y : State) (down up : List Message) (shared : Shared) : Type 0 where
   pub before : List Message
   pub behind : List Message
   pub shape : down ≡ before ++ (Give ∷ behind)
@@ -81,21 +82,21 @@ pub record Giving (role : Role) (x y : State) (down up : List Message) (shared :
   pub shared_inter : shared.inter ≡ x.sets.inter
   pub pairs : PairedIn x.outgoing.transfer x.outgoing.started y.incoming
   pub others : PairedIn y.outgoing.transfer y.outgoing.started x.incoming
-  pub saved : SavedIn x.outgoing.transfer (saved_of role shared)
-  pub theirs : SavedIn y.outgoing.transfer (saved_of (other role) shared)
+  pub saved : SavedIn setup x.outgoing.transfer (saved_of role shared)
+  pub theirs : SavedIn setup y.outgoing.transfer (saved_of (other role) shared)
 
 -- of two ends, x of this role, with what goes from x to y and what comes from y to x
 pub data Flowing (setup : Setup) (role : Role) (x y : State) (down up : List Message) (shared : Shared) : Type 0 where
   Leads : LeadOk x → FollowOk y → FlowOf setup role x y down up shared → Flowing setup role x y down up shared
   Follows : FollowOk x → LeadOk y → Flow setup (other role) (leader_of y) y.incoming (follower_of x) x.outgoing.started x.outgoing.transfer up down shared.set shared.inter (saved_of (other role) shared) (saved_of role shared) → Flowing setup role x y down up shared
-  Gives_away : Giving role x y down up shared → Flowing setup role x y down up shared
-  Is_given : Giving (other role) y x up down shared → Flowing setup role x y down up shared
+  Gives_away : Giving setup role x y down up shared → Flowing setup role x y down up shared
+  Is_given : Giving setup (other role) y x up down shared → Flowing setup role x y down up shared
 
 -- an end as it is, or as it will be once it took its acceptance; of an end that is leaving or over
 -- nothing is said
 pub data Sees (role : Role) (x : State) (f g : List Sending) (seen : State) (coming : List Message) : Type 0 where
   Same : seen ≡ x → coming ≡ messages f → AllAre IsLive g → Sees role x f g seen coming
-  Joins : (set : ContextSet) → (answer : Sending) → (rest : List Sending) → role ≡ Initiator → IsBack x.phase → x.awaits ≡ NoAnswer → seen ≡ joined_with role set x → f ≡ answer ∷ rest → answer.message ≡ Accept set → coming ≡ messages rest → AllAre IsLive g → Sees role x f g seen coming
+  Joins : (set : ContextSet) → (answer : Sending) → (rest : List Sending) → role ≡ Initiator → IsBack x.phase → x.awaits ≡ NoAnswer → seen ≡ joined_with Reliable role set x → f ≡ answer ∷ rest → answer.message ≡ Accept set → coming ≡ messages rest → AllAre IsLive g → Sees role x f g seen coming
   Leaves : role ≡ Initiator → x.phase ≡ Releasing → x.awaits ≡ ReleaseOf → AllAre IsNoRelease f → seen.outgoing ≡ x.outgoing → seen.incoming ≡ x.incoming → Sees role x f g seen coming
   Gone : x.phase ≡ Over → seen.outgoing ≡ x.outgoing → Sees role x f g seen coming
 
@@ -145,13 +146,13 @@ sound-asked role held used [] m = tt
 sound-asked role held used (Addition k o ∷ items) m = (m.0, sound-asked role held used items m.1)
 sound-asked role held used (Deletion k ∷ items) m = (m.0.0, sound-asked role held used items m.1)
 
-keeps-value : (x : State) (role : Role) (t : Option Transfer) (items : List Item) → AllMayAsk role x.sets.held (used Reliable (state_with x NoAnswer [] t)) items → RunsValue NoAnswer t (record x.sets { own = [] }) → RunsValue NoAnswer t (record x.sets { own = items ∷ [] })
-keeps-value x role None items a v = tt
-keeps-value x role (Some t) items a v = go t.progress t.value a v
+keeps-value : (x : State) (role : Role) (own : List (List Item)) (t : Option Transfer) (items : List Item) → AllMayAsk role x.sets.held (used Reliable (state_with x NoAnswer own t)) items → RunsValue NoAnswer t (record x.sets { own = own }) → RunsValue NoAnswer t (record x.sets { own = own ++ (items ∷ []) })
+keeps-value x role own None items a v = tt
+keeps-value x role own (Some t) items a v = go t.progress t.value a v
   where
-    go : (p : Progress) (value : Option Value) → AllMayAsk role x.sets.held (used Reliable (state_with x NoAnswer [] (Some (record t { value = value; progress = p })))) items → ValueIn p value (record x.sets { own = [] }) → ValueIn p value (record x.sets { own = items ∷ [] })
+    go : (p : Progress) (value : Option Value) → AllMayAsk role x.sets.held (used Reliable (state_with x NoAnswer own (Some (record t { value = value; progress = p })))) items → ValueIn p value (record x.sets { own = own }) → ValueIn p value (record x.sets { own = own ++ (items ∷ []) })
     go Running None a v = tt
-    go Running (Some w) a v = (v.0, (used-head w.identifier _ items role x.sets.held w.pair v.0 a, tt))
+    go Running (Some w) a v = (v.0, untouched-append w.identifier own items v.1 (used-head w.identifier _ items role x.sets.held w.pair v.0 a))
     go Ending value a v = tt
     go Suspended value a v = tt
 
@@ -189,7 +190,7 @@ quiet-rest (Some t) c held inter up y r h = go t.progress r h
     go Running e h = absurd (cc)
     go Ending e h = absurd (cc)
 
-gives-away : (base : Setup) (role : Role) (x y : State) (t : Option Transfer) (down up : List Message) (shared : Shared) → LeadOk x → FollowOk y → RestsOrNone t → FlowOf (reliable base) role (state_with x NoAnswer [] t) y down up shared → Giving role (record (state_with x NoAnswer [] t) { turn = false; gave = true }) y (down ++ (Give ∷ [])) up shared
+gives-away : (base : Setup) (role : Role) (x y : State) (t : Option Transfer) (down up : List Message) (shared : Shared) → LeadOk x → FollowOk y → RestsOrNone t → FlowOf (reliable base) role (state_with x NoAnswer [] t) y down up shared → Giving (reliable base) role (record (state_with x NoAnswer [] t) { turn = false; gave = true }) y (down ++ (Give ∷ [])) up shared
 gives-away base role x y t down up shared o p r n =
     let w = rests-now t r in
     let c = flat-calm (reliable base) role (leader_of (state_with x NoAnswer [] t)) down (follower_of y) up (n.idle w.0) (n.asks refl ∙ unanswered-none up) n.runs in
@@ -249,13 +250,20 @@ starts-act base role x y (item ∷ queue) down up shared o p h n =
     (saves (reliable base) role _ _ _ _ _ _ _ shared.set shared.set [] shared
     (starts (reliable base) role x.sets.held x.sets.inter x.outgoing.started item x.incoming (follower_of y) y.outgoing.started y.outgoing.transfer down up shared.set shared.inter (saved_of role shared) (saved_of (other role) shared) n))
 
-encodes-act : (base : Setup) (role : Role) (x y : State) (t : Transfer) (context : ℕ) (found : Option Pair) (down up : List Message) (shared : Shared) → LeadOk x → FollowOk y → lookup x.sets.held context ≡ found → (found ≡ None → ⊥) → FlowOf (reliable base) role (state_with x NoAnswer [] (put t None Running)) y down up shared → After base role (state_with x NoAnswer [] (put t None Running)) y down up shared (Encodes context)
-encodes-act base role x y t context None down up shared o p e f n = absurd (f refl)
+encodes-act : (base : Setup) (role : Role) (x y : State) (t : Transfer) (context : ℕ) (found : Option Pair) (down up : List Message) (shared : Shared) → LeadOk x → FollowOk y → lookup x.sets.held context ≡ found → IsWritable base.codec (value_on context t.item found) → FlowOf (reliable base) role (state_with x NoAnswer [] (put t None Running)) y down up shared → After base role (state_with x NoAnswer [] (put t None Running)) y down up shared (Encodes context)
+encodes-act base role x y t context None down up shared o p e f n = absurd f
 encodes-act base role x y t context (Some pair) down up shared o p e f n =
     Leads (record { up = o.up; turn = o.turn; gave = o.gave }) p
     (subst (λ d. FlowOf (reliable base) role (state_with x NoAnswer [] (put t (value_on context t.item (lookup x.sets.held context)) Running)) y d up shared) (sym (nil-messages down))
     (subst (λ l. FlowOf (reliable base) role (state_with x NoAnswer [] (put t (value_on context t.item l) Running)) y down up shared) (sym e)
-    (encodes (reliable base) role x.sets.held x.sets.inter x.outgoing.started t (record { identifier = context; pair = pair; apdu = t.item.apdu }) x.incoming (follower_of y) y.outgoing.started y.outgoing.transfer down up shared.set shared.inter (saved_of role shared) (saved_of (other role) shared) e n)))
+    (encodes (reliable base) role x.sets.held x.sets.inter x.outgoing.started t (record { identifier = context; pair = pair; apdu = t.item.apdu }) x.incoming (follower_of y) y.outgoing.started y.outgoing.transfer down up shared.set shared.inter (saved_of role shared) (saved_of (other role) shared) e f n)))
+
+-- the leader asks for an alteration
+pub alters-act : (base : Setup) (role : Role) (x y : State) (own : List (List Item)) (t : Option Transfer) (items : List Item) (down up : List Message) (shared : Shared) → LeadOk x → FollowOk y → MayAct (reliable base) role (state_with x NoAnswer own t) (Alters items) → FlowOf (reliable base) role (state_with x NoAnswer own t) y down up shared → After base role (state_with x NoAnswer own t) y down up shared (Alters items)
+alters-act base role x y own t items down up shared o p h n =
+    Leads (record { up = o.up; turn = o.turn; gave = o.gave }) p
+    (alters (reliable base) role x.sets.held x.sets.inter own x.outgoing.started t items x.incoming (follower_of y) y.outgoing.started y.outgoing.transfer down up shared.set shared.inter (saved_of role shared) (saved_of (other role) shared)
+    (not-ending t h.in_mode.1) (sound-asked role x.sets.held (used Reliable (state_with x NoAnswer own t)) items h.may_ask) h.once (keeps-value x role own t items h.may_ask n.value) n)
 
 -- what the leader does while it awaits nothing and has no own alteration
 pub lead-acts : (base : Setup) (role : Role) (x y : State) (t : Option Transfer) (down up : List Message) (shared : Shared) (act : Act) → LeadOk x → FollowOk y → MayAct (reliable base) role (state_with x NoAnswer [] t) act → FlowOf (reliable base) role (state_with x NoAnswer [] t) y down up shared → (act ≡ Releases → ⊥) → (act ≡ Aborts → ⊥) → After base role (state_with x NoAnswer [] t) y down up shared act
@@ -264,10 +272,8 @@ lead-acts base role x y t down up shared Recovers o p h n r a = absurd (let e = 
 lead-acts base role x y t down up shared (Says value) o p h n r a = absurd (h.at_once refl)
 lead-acts base role x y t down up shared (Queues context apdu) o p h n r a =
     Leads (record { up = o.up; turn = o.turn; gave = o.gave }) p (subst (λ d. FlowOf (reliable base) role (state_with x NoAnswer [] t) y d up shared) (sym (nil-messages down)) n)
-lead-acts base role x y t down up shared (Alters items) o p h n r a =
-    Leads (record { up = o.up; turn = o.turn; gave = o.gave }) p
-    (alters (reliable base) role x.sets.held x.sets.inter x.outgoing.started t items x.incoming (follower_of y) y.outgoing.started y.outgoing.transfer down up shared.set shared.inter (saved_of role shared) (saved_of (other role) shared)
-    (not-ending t h.in_mode.1) (sound-asked role x.sets.held (used Reliable (state_with x NoAnswer [] t)) items h.may_ask) h.once (keeps-value x role t items h.may_ask n.value) n)
+lead-acts base role x y t down up shared Drops o p h n r a = absurd (h.at_once refl)
+lead-acts base role x y t down up shared (Alters items) o p h n r a = alters-act base role x y [] t items down up shared o p h n
 lead-acts base role x y None down up shared Marks o p h n r a = absurd h.in_mode.0
 lead-acts base role x y (Some t) down up shared Marks o p h n r a = by_value t.value h.in_mode.0.1 n
   where
@@ -288,7 +294,7 @@ lead-acts base role x y (Some t) down up shared Starts o p h n r a = absurd (let
 lead-acts base role x y None down up shared (Encodes context) o p h n r a = absurd h.is_due
 lead-acts base role x y (Some t) down up shared (Encodes context) o p h n r a =
     subst₂ (λ q value. FlowOf (reliable base) role (state_with x NoAnswer [] (put t value q)) y down up shared → After base role (state_with x NoAnswer [] (put t value q)) y down up shared (Encodes context)) (sym h.is_due.0) (sym h.is_due.1)
-    (encodes-act base role x y t context (lookup x.sets.held context) down up shared o p refl h.is_there) n
+    (encodes-act base role x y t context (lookup x.sets.held context) down up shared o p refl h.is_writable) n
 lead-acts base role x y None down up shared (Sends octets) o p h n r a = absurd h.is_next
 lead-acts base role x y (Some t) down up shared (Sends octets) o p h n r a = by_value t.value h.is_next.1 n
   where
@@ -322,3 +328,4 @@ lead-acts base role x y (Some t) down up shared Resumes o p h n r a =
 lead-acts base role x y t down up shared Releases o p h n r a = absurd (r refl)
 lead-acts base role x y t down up shared Aborts o p h n r a = absurd (a refl)
 lead-acts base role x y t down up shared Withdraws o p h n r a = absurd (subst (MayWithdrawIn role) o.up h.in_phase)
+lead-acts base role x y t down up shared Fails o p h n r a = absurd (subst (MayWithdrawIn role) o.up h.in_phase)

@@ -5,7 +5,7 @@ use Rattle.agreement.specs.Sets.{Role, other, ContextSet}
 use Rattle.agreement.specs.Sets.Role.{Initiator, Responder}
 use Rattle.agreement.specs.Messages.{Setup, Message, Act, Apdu}
 use Rattle.agreement.specs.Messages.Mode.{Reliable}
-use Rattle.agreement.specs.Messages.Act.{Connects, Recovers, Says, Queues, Alters, Marks, Gives, Pleads, Restarts, Starts, Encodes, Sends, Ends, Interrupts, Discards, Resumes, Releases, Aborts, Withdraws}
+use Rattle.agreement.specs.Messages.Act.{Connects, Recovers, Says, Queues, Drops, Alters, Marks, Gives, Pleads, Restarts, Starts, Encodes, Sends, Ends, Interrupts, Discards, Resumes, Releases, Aborts, Withdraws, Fails}
 use Rattle.agreement.specs.Messages.Message.{Give, Please, Release, UserAbort}
 use Rattle.agreement.specs.State.{Transfer, State}
 use Rattle.agreement.specs.State.Phase.{Idle, Up, Broken, Over}
@@ -19,7 +19,7 @@ use Rattle.agreement.proofs.Down.{IsQuiet, AllQuiet, at-rest, quiet-append}
 use Rattle.agreement.proofs.Flow.{Rest, Flow}
 use Rattle.agreement.proofs.Leads.{sends_abort, sends_release, quiet-part}
 use Rattle.agreement.proofs.FollowTakes.{follower_sends}
-use Rattle.agreement.proofs.Standing.{reliable, leader_of, follower_of, messages, LeadOk, FollowOk, FlowOf, Flowing, Sees, Standing, state_with, After, lead-acts, interrupts-act, discards-act, nil-messages, quiet-rest}
+use Rattle.agreement.proofs.Standing.{reliable, leader_of, follower_of, messages, LeadOk, FollowOk, FlowOf, Flowing, Sees, Standing, state_with, After, lead-acts, alters-act, interrupts-act, discards-act, nil-messages, quiet-rest}
 use Rattle.agreement.proofs.Standing.Flowing.{Leads, Follows, Gives_away, Is_given}
 use Rattle.agreement.proofs.Standing.Sees.{Same, Joins, Leaves, Gone}
 
@@ -69,6 +69,7 @@ sent-live setup x Connects s r a = (tt, tt)
 sent-live setup x Recovers s r a = (tt, tt)
 sent-live setup x (Says value) s r a = (tt, tt)
 sent-live setup x (Queues context apdu) s r a = tt
+sent-live setup x Drops s r a = tt
 sent-live setup x (Alters items) s r a = (tt, tt)
 sent-live setup x Marks s r a = (tt, tt)
 sent-live setup x Gives s r a = (tt, tt)
@@ -84,6 +85,7 @@ sent-live setup x Resumes s r a = (tt, tt)
 sent-live setup x Releases s r a = absurd (r refl)
 sent-live setup x Aborts s r a = absurd (a refl)
 sent-live setup x Withdraws s r a = tt
+sent-live setup x Fails s r a = tt
 
 -- an end that is up is as it is seen
 pub record IsSeen (role : Role) (x : State) (f g : List Sending) (seen : State) (coming : List Message) : Type 0 where
@@ -117,7 +119,10 @@ leader-acts base role x y down up shared Recovers o p h n r a = absurd (let e = 
 leader-acts base role x y down up shared (Says value) o p h n r a = absurd (h.at_once refl)
 leader-acts base role x y down up shared (Queues context apdu) o p h n r a =
     Leads (record { up = o.up; turn = o.turn; gave = o.gave }) p (subst (λ d. FlowOf (reliable base) role x y d up shared) (sym (nil-messages down)) n)
-leader-acts base role x y down up shared (Alters items) o p h n r a = by-settled base role x y down up shared (Alters items) o p h n r a h.is_free.is_calm h.is_settled
+leader-acts base role x y down up shared Drops o p h n r a = absurd (h.at_once refl)
+leader-acts base role x y down up shared (Alters items) o p h n r a =
+    subst (λ w. MayAct (reliable base) role (state_with x w x.sets.own x.outgoing.transfer) (Alters items) → FlowOf (reliable base) role (state_with x w x.sets.own x.outgoing.transfer) y down up shared → After base role (state_with x w x.sets.own x.outgoing.transfer) y down up shared (Alters items)) (sym h.is_free.is_calm)
+    (λ h n. alters-act base role x y x.sets.own x.outgoing.transfer items down up shared o p h n) h n
 leader-acts base role x y down up shared Marks o p h n r a = by-settled base role x y down up shared Marks o p h n r a h.leads.is_free.is_calm h.leads.is_settled
 leader-acts base role x y down up shared Gives o p h n r a = by-settled base role x y down up shared Gives o p h n r a h.leads.is_free.is_calm h.leads.is_settled
 leader-acts base role x y down up shared (Pleads priority) o p h n r a = absurd (true≢false (sym o.turn ∙ h.lacks_turn))
@@ -136,6 +141,7 @@ leader-acts base role x y down up shared Resumes o p h n r a = by-settled base r
 leader-acts base role x y down up shared Releases o p h n r a = absurd (r refl)
 leader-acts base role x y down up shared Aborts o p h n r a = absurd (a refl)
 leader-acts base role x y down up shared Withdraws o p h n r a = absurd (subst (MayWithdrawIn role) o.up h.in_phase)
+leader-acts base role x y down up shared Fails o p h n r a = absurd (subst (MayWithdrawIn role) o.up h.in_phase)
 
 -- an end without the turn only pleads and queues
 pub data Waiting : Act → Type 0 where
@@ -154,6 +160,7 @@ waiting base role x Connects o h a = absurd (let e = h.is_idle in let f = o.up i
 waiting base role x Recovers o h a = absurd (let e = h.is_broken in let f = o.up in cc)
 waiting base role x (Says value) o h a = absurd (h.at_once refl)
 waiting base role x (Queues context apdu) o h a = Queueing context apdu
+waiting base role x Drops o h a = absurd (h.at_once refl)
 waiting base role x (Alters items) o h a = absurd (true≢false (sym h.in_mode.0 ∙ o.turn))
 waiting base role x Marks o h a = absurd (true≢false (sym h.leads.has_turn ∙ o.turn))
 waiting base role x Gives o h a = absurd (true≢false (sym h.leads.has_turn ∙ o.turn))
@@ -169,6 +176,7 @@ waiting base role x Resumes o h a = absurd (true≢false (sym h.leads.has_turn �
 waiting base role x Releases o h a = absurd (true≢false (sym h.in_mode.0 ∙ o.turn))
 waiting base role x Aborts o h a = absurd (a refl)
 waiting base role x Withdraws o h a = absurd (subst (MayWithdrawIn role) o.up h.in_phase)
+waiting base role x Fails o h a = absurd (subst (MayWithdrawIn role) o.up h.in_phase)
 
 follow-same : (x : State) → FollowOk x → FollowOk x
 follow-same x o = o
@@ -383,11 +391,17 @@ up-me setup role x y down up shared (Gives_away k) = (k.giver.up, k.taker.up)
 up-me setup role x y down up shared (Is_given k) = (k.taker.up, k.giver.up)
 
 -- what any act keeps
+-- an end of an association that stands doesn't withdraw
+stays-up : (base : Setup) (role : Role) (x y : State) (f g : List Sending) (shared : Shared) → Standing (reliable base) role x y f g shared → (x.phase ≡ Idle) ⊎ ((x.phase ≡ Broken) × (role ≡ Initiator)) → ⊥
+stays-up base role x y f g shared j (inl e) = not-idle_of role x f g j.me j.up (up-me (reliable base) role j.me j.peer j.down j.up shared j.flow).0 j.sees_me e
+stays-up base role x y f g shared j (inr e) = not-broken_of role x f g j.me j.up (up-me (reliable base) role j.me j.peer j.down j.up shared j.flow).0 j.sees_me e.0
+
 pub stands-acts : (base : Setup) (role : Role) (x y : State) (f g : List Sending) (shared : Shared) (act : Act) → MayAct (reliable base) role x act → Standing (reliable base) role x y f g shared → Standing (reliable base) role (acted (reliable base) x act) y f (g ++ sendings shared.set (sent_by (reliable base) x act)) (shared_all Reliable role (sent_by (reliable base) x act) shared)
 stands-acts base role x y f g shared Connects h j = absurd (not-idle_of role x f g j.me j.up (up-me (reliable base) role j.me j.peer j.down j.up shared j.flow).0 j.sees_me h.is_idle)
 stands-acts base role x y f g shared Recovers h j = absurd (not-broken_of role x f g j.me j.up (up-me (reliable base) role j.me j.peer j.down j.up shared j.flow).0 j.sees_me h.is_broken)
 stands-acts base role x y f g shared (Says value) h j = absurd (h.at_once refl)
 stands-acts base role x y f g shared (Queues context apdu) h j = stands-up base role x y f g shared (Queues context apdu) h (λ e. cc) (λ e. cc) h.is_up j
+stands-acts base role x y f g shared Drops h j = absurd (h.at_once refl)
 stands-acts base role x y f g shared (Alters items) h j = stands-up base role x y f g shared (Alters items) h (λ e. cc) (λ e. cc) h.is_free.is_up j
 stands-acts base role x y f g shared Marks h j = stands-up base role x y f g shared Marks h (λ e. cc) (λ e. cc) h.leads.is_free.is_up j
 stands-acts base role x y f g shared Gives h j = stands-up base role x y f g shared Gives h (λ e. cc) (λ e. cc) h.leads.is_free.is_up j
@@ -402,11 +416,5 @@ stands-acts base role x y f g shared Discards h j = stands-up base role x y f g 
 stands-acts base role x y f g shared Resumes h j = stands-up base role x y f g shared Resumes h (λ e. cc) (λ e. cc) h.leads.is_free.is_up j
 stands-acts base role x y f g shared Releases h j = stands-releases base role x y f g shared h j
 stands-acts base role x y f g shared Aborts h j = stands-aborts base role x y (acted (reliable base) x Aborts) f g shared refl refl j
-stands-acts base role x y f g shared Withdraws h j = absurd (go (withdraws-in role x.phase h.in_phase))
-  where
-    up : j.me.phase ≡ Up
-    up = (up-me (reliable base) role j.me j.peer j.down j.up shared j.flow).0
-
-    go : (x.phase ≡ Idle) ⊎ ((x.phase ≡ Broken) × (role ≡ Initiator)) → ⊥
-    go (inl e) = not-idle_of role x f g j.me j.up up j.sees_me e
-    go (inr e) = not-broken_of role x f g j.me j.up up j.sees_me e.0
+stands-acts base role x y f g shared Withdraws h j = absurd (stays-up base role x y f g shared j (withdraws-in role x.phase h.in_phase))
+stands-acts base role x y f g shared Fails h j = absurd (stays-up base role x y f g shared j (withdraws-in role x.phase h.in_phase))

@@ -7,13 +7,14 @@ use Rattle.agreement.specs.Messages.{Value, Mode, Setup, Message, Choice}
 use Rattle.agreement.specs.Messages.Mode.{Bare, Direct, Reliable}
 use Rattle.agreement.specs.Messages.Choice.{Nothing, Accepting, Refusing, Results}
 use Rattle.agreement.specs.Messages.Message.{Connect, Recover, Accept, Data, Alter, AlterAnswer, Mark, Restart, Start, Resume, Chunk, End, EndAnswer, Interrupt, InterruptAnswer, Discard, DiscardAnswer, Give, GiveAnswer, Please, Release, ReleaseAnswer, UserAbort}
-use Rattle.agreement.specs.State.{Awaited, Progress, Transfer, Incoming, State, Sets}
+use Rattle.agreement.specs.State.{Outgoing, Awaited, Progress, Transfer, Incoming, State, Sets}
 use Rattle.agreement.specs.State.Phase.{Up, Over}
 use Rattle.agreement.specs.State.Awaited.{NoAnswer, RestartOf, InterruptOf, DiscardOf, ReleaseOf}
 use Rattle.agreement.specs.State.Progress.{Running, Ending, Suspended}
 use Rattle.agreement.specs.Acts.{RestsOrNone}
 use Rattle.agreement.specs.Takings.{is_purged, MayTake, IsChoice, IsBack, answer_to, taken, hears, handed_up, between, mark_answer, give_answer, value_read, IsReadUnder}
 use Rattle.agreement.specs.Worlds.{Sending, Shared, sendings, shared_answered, saved_of, pair_under}
+use Rattle.agreement.proofs.Carried.{WasSent}
 use Rattle.agreement.proofs.Views.{IsLive, IsNoRelease, AllAre, all-append, nil-append}
 use Rattle.agreement.proofs.Taking.{may-be_asked, distinct-additions, no-other}
 use Rattle.agreement.proofs.Down.{Follower, Goal, AllQuiet, Down, AtRest, at-rest}
@@ -52,59 +53,53 @@ follow-again x z a b c d e o = record { up = a ∙ o.up; turn = b ∙ o.turn; ca
 
 -- what spells a value is read as it
 pub spells-value : (base : Setup) (value : Value) (held : ContextSet) (incoming : Incoming) → SpellsIn (Some value) (reliable base) held incoming → value_read (reliable base) held incoming ≡ Some value
-spells-value base value held incoming h = ap (base.codec.read held) h.1 ∙ base.codec.faithful held value h.0
+spells-value base value held incoming h = ap (base.codec.read held) h.1 ∙ base.codec.faithful held value h.2 h.0
 
 spells-read : (base : Setup) (value : Option Value) (held : ContextSet) (incoming : Incoming) → SpellsIn value (reliable base) held incoming → IsReadUnder held (value_read (reliable base) held incoming)
 spells-read base None held incoming h = absurd h
 spells-read base (Some value) held incoming h = subst (IsReadUnder held) (sym (spells-value base value held incoming h)) h.0
 
 -- the end that follows takes what comes, but what ends it
-follower-takes : (base : Setup) (role : Role) (x y : State) (down up : List Message) (shared : Shared) (m : Message) (choice : Choice) → FollowOk x → LeadOk y → IsChoice x m choice → (m ≡ UserAbort → ⊥) → (m ≡ Release → ⊥) → Behind base role x y down (m ∷ up) shared → FlowTakes base role x y down up shared m choice
+follower-takes : (base : Setup) (role : Role) (x y : State) (down up : List Message) (shared : Shared) (m : Message) (choice : Choice) → FollowOk x → LeadOk y → IsChoice (reliable base) x m choice → (m ≡ UserAbort → ⊥) → (m ≡ Release → ⊥) → Behind base role x y down (m ∷ up) shared → FlowTakes base role x y down up shared m choice
 follower-takes base role x y down up shared (Alter items) (Results results) o p c a r n =
     record {
-      may =
-          record {
-            is_up = o.up;
-            in_mode = o.turn;
-            once = distinct-additions items n.runs.1;
-            may_be_asked = may-be_asked (other role) x.sets.held items n.runs.0;
-          };
+      may = λ w. record { is_up = o.up; in_mode = o.turn; once = distinct-additions items n.runs.1; may_be_asked = may-be_asked (other role) x.sets.held items n.runs.0 };
       next =
           Follows (follow-again x (taken (reliable base) role x (Alter items) (Results results)) refl refl refl refl refl o) p
           (with-set base role (taken (reliable base) role x (Alter items) (Results results)) y (down ++ (AlterAnswer results ∷ [])) up (altered items results shared.set) shared
-          (follows_alter (reliable base) (other role) (leader_of y) y.incoming (follower_of x) x.outgoing.started x.outgoing.transfer items results up down shared.set shared.inter (saved_of (other role) shared) (saved_of role shared) c n));
+          (follows_alter (reliable base) (other role) (leader_of y) y.incoming (follower_of x) x.outgoing.started x.outgoing.transfer items results up down shared.set shared.inter (saved_of (other role) shared) (saved_of role shared) c.fits n));
     }
 follower-takes base role x y down up shared (Mark number) choice o p c a r n =
     record {
-      may = record { is_up = o.up; in_mode = record { lacks_turn = o.turn; is_active = n.runs.0; is_next = n.runs.1.0; is_within = n.runs.1.1 } };
+      may = λ w. record { is_up = o.up; in_mode = record { lacks_turn = o.turn; is_active = n.runs.0; is_next = n.runs.1.0; is_within = n.runs.1.1 } };
       next =
           Follows (follow-again x (taken (reliable base) role x (Mark number) choice) refl refl refl refl refl o) p
           (follows_mark (reliable base) (other role) (leader_of y) y.incoming (follower_of x) x.outgoing.started x.outgoing.transfer number up down shared.set shared.inter (saved_of (other role) shared) (saved_of role shared) n);
     }
 follower-takes base role x y down up shared (Start k) choice o p c a r n =
     record {
-      may = record { by_transfers = refl; is_up = o.up; lacks_turn = o.turn; rests = n.runs.0; is_next = n.runs.1 };
+      may = λ w. record { by_transfers = refl; is_up = o.up; lacks_turn = o.turn; rests = n.runs.0; is_next = n.runs.1 };
       next =
           keeps-nil base role (taken (reliable base) role x (Start k) choice) y down up shared (follow-again x (taken (reliable base) role x (Start k) choice) refl refl refl refl refl o) p
           (follows_start (reliable base) (other role) (leader_of y) y.incoming (follower_of x) x.outgoing.started x.outgoing.transfer k up down shared.set shared.inter (saved_of (other role) shared) (saved_of role shared) n);
     }
 follower-takes base role x y down up shared (Resume k j) choice o p c a r n =
     record {
-      may = record { by_transfers = refl; is_up = o.up; lacks_turn = o.turn; rests = n.runs.0; at_mark = n.runs.1 };
+      may = λ w. record { by_transfers = refl; is_up = o.up; lacks_turn = o.turn; rests = n.runs.0; at_mark = n.runs.1 };
       next =
           keeps-nil base role (taken (reliable base) role x (Resume k j) choice) y down up shared (follow-again x (taken (reliable base) role x (Resume k j) choice) refl refl refl refl refl o) p
           (follows_resume (reliable base) (other role) (leader_of y) y.incoming (follower_of x) x.outgoing.started x.outgoing.transfer k j up down shared.set shared.inter (saved_of (other role) shared) (saved_of role shared) n);
     }
 follower-takes base role x y down up shared (Chunk octets) choice o p c a r n =
     record {
-      may = record { by_transfers = refl; is_up = o.up; lacks_turn = o.turn; is_active = n.runs.0.0; is_within = n.runs.0.1 };
+      may = λ w. record { by_transfers = refl; is_up = o.up; lacks_turn = o.turn; is_active = n.runs.0.0; is_within = n.runs.0.1 };
       next =
           keeps-nil base role (taken (reliable base) role x (Chunk octets) choice) y down up shared (follow-again x (taken (reliable base) role x (Chunk octets) choice) refl refl refl refl refl o) p
           (follows_chunk (reliable base) (other role) (leader_of y) y.incoming (follower_of x) x.outgoing.started x.outgoing.transfer octets up down shared.set shared.inter (saved_of (other role) shared) (saved_of role shared) n);
     }
 follower-takes base role x y down up shared (End number) choice o p c a r n =
     record {
-      may = record { by_transfers = refl; is_up = o.up; lacks_turn = o.turn; is_active = n.runs.0; is_next = n.runs.1; is_read = λ e. spells-read base (value_in y.outgoing.transfer) x.sets.held x.incoming n.runs.3 };
+      may = λ w. record { by_transfers = refl; is_up = o.up; lacks_turn = o.turn; is_active = n.runs.0; is_next = n.runs.1; is_read = λ e. spells-read base (value_in y.outgoing.transfer) x.sets.held x.incoming n.runs.3 };
       next =
           ended-flow base role (record x { incoming = record x.incoming { was_handed = true; active = false } }) y (handed_up (reliable base) x.sets.held x.incoming) (down ++ (EndAnswer number ∷ [])) up (record shared { set = shared.inter })
           (follow-again x (record x { incoming = record x.incoming { was_handed = true; active = false } }) refl refl refl refl refl o) p
@@ -113,7 +108,7 @@ follower-takes base role x y down up shared (End number) choice o p c a r n =
     }
 follower-takes base role x y down up shared Interrupt choice o p c a r n =
     record {
-      may = record { by_transfers = refl; is_up = o.up; is_active = n.runs.0 };
+      may = λ w. record { by_transfers = refl; is_up = o.up; is_active = n.runs.0 };
       next =
           Follows (follow-again x (taken (reliable base) role x Interrupt choice) refl refl refl refl refl o) p
           (with-set base role (taken (reliable base) role x Interrupt choice) y (down ++ (InterruptAnswer ∷ [])) up shared.inter shared
@@ -121,7 +116,7 @@ follower-takes base role x y down up shared Interrupt choice o p c a r n =
     }
 follower-takes base role x y down up shared Discard choice o p c a r n =
     record {
-      may = record { by_transfers = refl; is_up = o.up; is_active = n.runs.0 };
+      may = λ w. record { by_transfers = refl; is_up = o.up; is_active = n.runs.0 };
       next =
           Follows (follow-again x (taken (reliable base) role x Discard choice) refl refl refl refl refl o) p
           (with-set base role (taken (reliable base) role x Discard choice) y (down ++ (DiscardAnswer ∷ [])) up shared.inter shared
@@ -129,14 +124,14 @@ follower-takes base role x y down up shared Discard choice o p c a r n =
     }
 follower-takes base role x y down up shared GiveAnswer choice o p c a r n =
     record {
-      may = record { by_transfers = refl; is_up = o.up; asked = n.runs.0 };
+      may = λ w. record { by_transfers = refl; is_up = o.up; asked = n.runs.0 };
       next =
           keeps-nil base role (taken (reliable base) role x GiveAnswer choice) y down up shared (follow-again x (taken (reliable base) role x GiveAnswer choice) refl refl refl refl refl o) p
           (follows_give_answer (reliable base) (other role) (leader_of y) y.incoming (follower_of x) x.outgoing.started x.outgoing.transfer up down shared.set shared.inter (saved_of (other role) shared) (saved_of role shared) n);
     }
 follower-takes base role x y down up shared (Please priority) choice o p c a r n =
     record {
-      may = record { is_up = o.up; in_mode = tt };
+      may = λ w. record { is_up = o.up; in_mode = tt };
       next =
           keeps-nil base role x y down up shared o p
           (follows_please (reliable base) (other role) (leader_of y) y.incoming (follower_of x) x.outgoing.started x.outgoing.transfer priority up down shared.set shared.inter (saved_of (other role) shared) (saved_of role shared) n);
@@ -147,13 +142,13 @@ follower-takes base role x y down up shared (Alter items) choice o p c a r n = a
 follower-takes base role x y down up shared m choice o p c a r n = absurd n.runs
 
 -- who gave the turn takes what is on its way to it
-giver-takes : (base : Setup) (role : Role) (x y : State) (down up : List Message) (shared : Shared) (m : Message) (choice : Choice) → (m ≡ UserAbort → ⊥) → Giving role x y down (m ∷ up) shared → FlowTakes base role x y down up shared m choice
+giver-takes : (base : Setup) (role : Role) (x y : State) (down up : List Message) (shared : Shared) (m : Message) (choice : Choice) → (m ≡ UserAbort → ⊥) → Giving (reliable base) role x y down (m ∷ up) shared → FlowTakes base role x y down up shared m choice
 giver-takes base role x y down up shared m choice a k = by_message m a k
   where
-    by_message : (m : Message) → (m ≡ UserAbort → ⊥) → Giving role x y down (m ∷ up) shared → FlowTakes base role x y down up shared m choice
+    by_message : (m : Message) → (m ≡ UserAbort → ⊥) → Giving (reliable base) role x y down (m ∷ up) shared → FlowTakes base role x y down up shared m choice
     by_message (Please priority) a k =
         record {
-          may = record { is_up = k.giver.up; in_mode = tt };
+          may = λ w. record { is_up = k.giver.up; in_mode = tt };
           next =
               Gives_away (record {
                 before = k.before;
@@ -209,7 +204,7 @@ rests-value None sets r = tt
 rests-value (Some t) sets r = subst (λ s. ValueIn s t.value sets) (sym r) tt
 
 -- x takes the turn from y; what x sent is quiet, and so is what comes behind the giving
-turns : (base : Setup) (role : Role) (x y : State) (down behind : List Message) (shared : Shared) → FollowOk x → FollowOk y → x.incoming.active ≡ false → y.incoming.active ≡ false → y.gave ≡ true → y.sets.held ≡ x.sets.held → y.sets.inter ≡ x.sets.inter → shared.set ≡ y.sets.held → shared.inter ≡ y.sets.inter → PairedIn y.outgoing.transfer y.outgoing.started x.incoming → PairedIn x.outgoing.transfer x.outgoing.started y.incoming → SavedIn x.outgoing.transfer (saved_of role shared) → SavedIn y.outgoing.transfer (saved_of (other role) shared) → AllQuiet down → AllQuiet behind → Flow (reliable base) role (record { awaits = NoAnswer; sets = record { held = x.sets.held; inter = x.sets.inter; own = [] }; started = x.outgoing.started; transfer = x.outgoing.transfer }) x.incoming (follower_of y) y.outgoing.started y.outgoing.transfer (down ++ (GiveAnswer ∷ [])) behind shared.set shared.inter (saved_of role shared) (saved_of (other role) shared)
+turns : (base : Setup) (role : Role) (x y : State) (down behind : List Message) (shared : Shared) → FollowOk x → FollowOk y → x.incoming.active ≡ false → y.incoming.active ≡ false → y.gave ≡ true → y.sets.held ≡ x.sets.held → y.sets.inter ≡ x.sets.inter → shared.set ≡ y.sets.held → shared.inter ≡ y.sets.inter → PairedIn y.outgoing.transfer y.outgoing.started x.incoming → PairedIn x.outgoing.transfer x.outgoing.started y.incoming → SavedIn (reliable base) x.outgoing.transfer (saved_of role shared) → SavedIn (reliable base) y.outgoing.transfer (saved_of (other role) shared) → AllQuiet down → AllQuiet behind → Flow (reliable base) role (record { awaits = NoAnswer; sets = record { held = x.sets.held; inter = x.sets.inter; own = [] }; started = x.outgoing.started; transfer = x.outgoing.transfer }) x.incoming (follower_of y) y.outgoing.started y.outgoing.transfer (down ++ (GiveAnswer ∷ [])) behind shared.set shared.inter (saved_of role shared) (saved_of (other role) shared)
 turns base role x y down behind shared o p ax ay gave held inter set mid pairs others saved theirs qd qb =
     let flat = flat-append down (GiveAnswer ∷ []) (quiet-flat down qd) (tt, tt) in
     record {
@@ -217,7 +212,6 @@ turns base role x y down behind shared o p ax ay gave held inter set mid pairs o
           quiet-then (reliable base) role (Rest l) down (GiveAnswer ∷ []) (follower_of y) behind qd
           (gave, (at-rest_now x.outgoing.transfer x.outgoing.started x.sets.held x.sets.inter behind (record (follower_of y) { gave = false }) o.rests qb (sym held) ay others, inter, refl));
       asks = λ e. none-altered down qd ∙ sym (unanswered-none behind);
-      one = tt;
       begins = flat-begins x.outgoing.started _ (down ++ (GiveAnswer ∷ [])) flat;
       waits = flat-waits NoAnswer _ (down ++ (GiveAnswer ∷ [])) flat;
       after = λ e. absurd (true≢false (sym e ∙ quiet-none behind qb));
@@ -241,7 +235,7 @@ to-own base role x y down up shared e f n =
     subst₂ (λ w q. Flow (reliable base) role (record { awaits = w; sets = record { held = x.sets.held; inter = x.sets.inter; own = q }; started = x.outgoing.started; transfer = x.outgoing.transfer }) x.incoming (follower_of y) y.outgoing.started y.outgoing.transfer down up shared.set shared.inter (saved_of role shared) (saved_of (other role) shared)) (sym e) (sym f) n
 
 -- who is given the turn takes what is on its way to it
-taker-takes : (base : Setup) (role : Role) (x y : State) (down up : List Message) (shared : Shared) (m : Message) (choice : Choice) → (m ≡ UserAbort → ⊥) → (m ≡ Release → ⊥) → (k : Giving (other role) y x (m ∷ up) down shared) → other (other role) ≡ role → FlowTakes base role x y down up shared m choice
+taker-takes : (base : Setup) (role : Role) (x y : State) (down up : List Message) (shared : Shared) (m : Message) (choice : Choice) → (m ≡ UserAbort → ⊥) → (m ≡ Release → ⊥) → (k : Giving (reliable base) (other role) y x (m ∷ up) down shared) → other (other role) ≡ role → FlowTakes base role x y down up shared m choice
 taker-takes base role x y down up shared m choice a r k same = by_before k.before k.shape k.calm
   where
     again : (z : State) (before : List Message) → up ≡ before ++ (Give ∷ k.behind) → Calm (other role) z.gave before → FollowOk z → z.incoming ≡ x.incoming → z.sets ≡ x.sets → z.outgoing ≡ x.outgoing → Flowing (reliable base) role z y (down ++ []) up shared
@@ -265,31 +259,31 @@ taker-takes base role x y down up shared m choice a r k same = by_before k.befor
           pairs = subst (λ q. PairedIn y.outgoing.transfer y.outgoing.started q) (sym i) k.pairs;
           others = subst (λ q. PairedIn q.transfer q.started y.incoming) (sym t) k.others;
           saved = k.saved;
-          theirs = subst (λ q. SavedIn q.transfer (saved_of (other (other role)) shared)) (sym t) k.theirs;
+          theirs = subst (λ (q : Outgoing). SavedIn (reliable base) q.transfer (saved_of (other (other role)) shared)) (sym t) k.theirs;
         })
 
     takes_turn : m ∷ up ≡ Give ∷ k.behind → x.gave ≡ false → FlowTakes base role x y down up shared Give choice
     takes_turn e g =
         let rest : up ≡ k.behind = cc in
         record {
-          may = record { is_up = k.taker.up; in_mode = record { lacks_turn = k.taker.turn; rests = k.inactive_taker } };
+          may = λ w. record { is_up = k.taker.up; in_mode = record { lacks_turn = k.taker.turn; rests = k.inactive_taker } };
           next =
-              Leads (record { up = k.taker.up; turn = refl; gave = g }) k.giver
+              Leads (record { up = k.taker.up; turn = refl; gave = refl }) k.giver
               (to-own base role (record x { turn = true }) y (down ++ (GiveAnswer ∷ [])) up shared k.taker.calm k.taker.own
               (turns base role x y down up shared k.taker k.giver k.inactive_taker k.inactive_giver k.gave k.held k.inter k.set k.shared_inter k.pairs k.others
-              (subst (λ q. SavedIn x.outgoing.transfer (saved_of q shared)) same k.theirs) k.saved k.quiet_up (subst AllQuiet (sym rest) k.quiet_behind)));
+              (subst (λ q. SavedIn (reliable base) x.outgoing.transfer (saved_of q shared)) same k.theirs) k.saved k.quiet_up (subst AllQuiet (sym rest) k.quiet_behind)));
         }
 
     by_first : (b : Message) (before : List Message) → m ≡ b → up ≡ before ++ (Give ∷ k.behind) → Calm (other role) x.gave (b ∷ before) → FlowTakes base role x y down up shared m choice
     by_first GiveAnswer before e f c =
         subst (λ q. FlowTakes base role x y down up shared q choice) (sym e)
         (record {
-          may = record { by_transfers = refl; is_up = k.taker.up; asked = c.0 };
+          may = λ w. record { by_transfers = refl; is_up = k.taker.up; asked = c.0 };
           next = again (record x { gave = false }) before f c.1 (follow-again x (record x { gave = false }) refl refl refl refl refl k.taker) refl refl refl;
         })
     by_first (Please priority) before e f c =
         subst (λ q. FlowTakes base role x y down up shared q choice) (sym e)
-        (record { may = record { is_up = k.taker.up; in_mode = tt }; next = again x before f c k.taker refl refl refl })
+        (record { may = λ w. record { is_up = k.taker.up; in_mode = tt }; next = again x before f c k.taker refl refl refl })
     by_first Release before e f c = absurd (r e)
     by_first UserAbort before e f c = absurd (a e)
     by_first b before e f c = absurd c
@@ -307,7 +301,7 @@ twice : (role : Role) → other (other role) ≡ role
 twice Initiator = refl
 twice Responder = refl
 
-flow-takes : (base : Setup) (role : Role) (x y : State) (down up : List Message) (shared : Shared) (m : Message) (choice : Choice) → is_purged role x.awaits m ≡ false → IsChoice x m choice → (m ≡ UserAbort → ⊥) → (m ≡ Release → ⊥) → Flowing (reliable base) role x y down (m ∷ up) shared → FlowTakes base role x y down up shared m choice
+flow-takes : (base : Setup) (role : Role) (x y : State) (down up : List Message) (shared : Shared) (m : Message) (choice : Choice) → is_purged role x.awaits m ≡ false → IsChoice (reliable base) x m choice → (m ≡ UserAbort → ⊥) → (m ≡ Release → ⊥) → Flowing (reliable base) role x y down (m ∷ up) shared → FlowTakes base role x y down up shared m choice
 flow-takes base role x y down up shared m choice kept c a r (Leads o p n) = leader-takes base role x y down up shared m choice o p kept a n
 flow-takes base role x y down up shared m choice kept c a r (Follows o p n) = follower-takes base role x y down up shared m choice o p c a r n
 flow-takes base role x y down up shared m choice kept c a r (Gives_away k) = giver-takes base role x y down up shared m choice a k
@@ -345,13 +339,13 @@ release-comes setup role x y down up shared (Is_given k) = by_before k.before k.
 
 -- what a taking gives
 pub record Takes (base : Setup) (role : Role) (x y : State) (f g : List Sending) (shared : Shared) (s : Sending) (m : Message) (choice : Choice) : Type 0 where
-  pub may : MayTake (reliable base) role x m
+  pub may : WasSent (reliable base) m → MayTake (reliable base) role x m
   pub pair : pair_under x.sets.held m ≡ pair_under s.shared m
   pub next : Standing (reliable base) role (taken (reliable base) role x m choice) y f (g ++ sendings shared.set (answer_to (reliable base) x m choice)) (shared_answered m choice shared)
 
 -- no data comes in reliable mode
-no-pair : (base : Setup) (role : Role) (x : State) (m : Message) (at : ContextSet) → MayTake (reliable base) role x m → pair_under x.sets.held m ≡ pair_under at m
-no-pair base role x (Data value) at h = absurd (h.at_once refl)
+no-pair : (base : Setup) (role : Role) (x : State) (m : Message) (at : ContextSet) → (WasSent (reliable base) m → MayTake (reliable base) role x m) → pair_under x.sets.held m ≡ pair_under at m
+no-pair base role x (Data value) at h = absurd ((h tt).at_once refl)
 no-pair base role x m at h = refl
 
 -- answers are live
@@ -399,7 +393,7 @@ live-no_release (s ∷ flight) h = (go s.message h.0, live-no_release flight h.1
 takes-abort : (base : Setup) (role : Role) (x y : State) (s : Sending) (f g : List Sending) (shared : Shared) (choice : Choice) → Standing (reliable base) role x y (s ∷ f) g shared → Takes base role x y f g shared s UserAbort choice
 takes-abort base role x y s f g shared choice j =
     record {
-      may = tt;
+      may = λ w. tt;
       pair = refl;
       next =
           record {
@@ -422,7 +416,7 @@ left role y g s f seen coming new (Gone p o) n q = Gone p o
 takes-release : (base : Setup) (role : Role) (x y : State) (s : Sending) (f g : List Sending) (shared : Shared) (choice : Choice) → s.message ≡ Release → x.phase ≡ Up → (other role ≡ Initiator) × (x.turn ≡ false) × (x.incoming.active ≡ false) → Standing (reliable base) role x y (s ∷ f) g shared → Takes base role x y f g shared s Release choice
 takes-release base role x y s f g shared choice e up r j =
     record {
-      may = record { responds = no-other role r.0; is_up = up; rests = λ q. (r.1, r.2) };
+      may = λ w. record { responds = no-other role r.0; is_up = up; rests = λ q. (r.1, r.2) };
       pair = refl;
       next =
           record {
@@ -447,7 +441,7 @@ kind Release = IsARelease refl
 kind m = IsAnother (λ e. cc) (λ e. cc)
 
 -- an end that is as it is seen takes what comes
-takes-same : (base : Setup) (role : Role) (x y : State) (s : Sending) (f g : List Sending) (shared : Shared) (m : Message) (choice : Choice) (j : Standing (reliable base) role x y (s ∷ f) g shared) → s.message ≡ m → is_purged role x.awaits m ≡ false → IsChoice x m choice → j.me ≡ x → j.up ≡ messages (s ∷ f) → AllAre IsLive g → Takes base role x y f g shared s m choice
+takes-same : (base : Setup) (role : Role) (x y : State) (s : Sending) (f g : List Sending) (shared : Shared) (m : Message) (choice : Choice) (j : Standing (reliable base) role x y (s ∷ f) g shared) → s.message ≡ m → is_purged role x.awaits m ≡ false → IsChoice (reliable base) x m choice → j.me ≡ x → j.up ≡ messages (s ∷ f) → AllAre IsLive g → Takes base role x y f g shared s m choice
 takes-same base role x y s f g shared m choice j e kept c same comes live = by_kind (kind m)
   where
     flow : Flowing (reliable base) role x j.peer j.down (m ∷ messages f) shared
@@ -478,7 +472,7 @@ takes-same base role x y s f g shared m choice j e kept c same comes live = by_k
         }
 
 -- whatever comes next and isn't passed over
-pub stands-takes : (base : Setup) (role : Role) (x y : State) (s : Sending) (f g : List Sending) (shared : Shared) (m : Message) (choice : Choice) → s.message ≡ m → (x.phase ≡ Over → ⊥) → is_purged role x.awaits m ≡ false → IsChoice x m choice → Standing (reliable base) role x y (s ∷ f) g shared → Takes base role x y f g shared s m choice
+pub stands-takes : (base : Setup) (role : Role) (x y : State) (s : Sending) (f g : List Sending) (shared : Shared) (m : Message) (choice : Choice) → s.message ≡ m → (x.phase ≡ Over → ⊥) → is_purged role x.awaits m ≡ false → IsChoice (reliable base) x m choice → Standing (reliable base) role x y (s ∷ f) g shared → Takes base role x y f g shared s m choice
 stands-takes base role x y s f g shared m choice e alive kept c j = by_view j.sees_me
   where
     by_view : Sees role x (s ∷ f) g j.me j.up → Takes base role x y f g shared s m choice
@@ -489,7 +483,7 @@ stands-takes base role x y s f g shared m choice e alive kept c j = by_view j.se
         let is : m ≡ Accept set = sym e ∙ ap (λ (u : Sending). u.message) first ∙ n in
         subst (λ q. Takes base role x y f g shared s q choice) (sym is)
         (record {
-          may = record { initiates = r; asked = p };
+          may = λ w. record { initiates = r; asked = p; is_set = w.0; is_known = w.1 };
           pair = refl;
           next =
               record {
@@ -507,7 +501,7 @@ stands-takes base role x y s f g shared m choice e alive kept c j = by_view j.se
         by_message : (q : Message) → s.message ≡ q → is_purged role ReleaseOf q ≡ false → Takes base role x y f g shared s q choice
         by_message ReleaseAnswer i k =
             record {
-              may = record { is_releasing = p; asked = a };
+              may = λ w. record { is_releasing = p; asked = a };
               pair = refl;
               next =
                   record {

@@ -9,6 +9,7 @@ use Rattle.agreement.specs.State.Awaited.{NoAnswer, RestartOf, InterruptOf, Disc
 use Rattle.agreement.specs.State.Progress.{Running, Ending, Suspended}
 use Rattle.agreement.specs.Takings.{is_purged, MayTake, answer_to, taken}
 use Rattle.agreement.specs.Worlds.{Shared, shared_answered, saved_of}
+use Rattle.agreement.proofs.Carried.{WasSent}
 use Rattle.agreement.proofs.Down.{Follower, at-rest}
 use Rattle.agreement.proofs.Flow.{Leader, Doing, Ups, Rest, RestBy, RestIn, Flow}
 use Rattle.agreement.proofs.LeadTakes.{takes_answer, takes_mark, takes_end, takes_interrupt_answer, takes_discard_answer, takes_please}
@@ -17,7 +18,7 @@ use Rattle.agreement.proofs.Standing.Flowing.{Leads}
 
 -- what a taking gives, of the flow
 pub record FlowTakes (base : Setup) (role : Role) (x y : State) (down up : List Message) (shared : Shared) (m : Message) (choice : Choice) : Type 0 where
-  pub may : MayTake (reliable base) role x m
+  pub may : WasSent (reliable base) m → MayTake (reliable base) role x m
   pub next : Flowing (reliable base) role (taken (reliable base) role x m choice) y (down ++ answer_to (reliable base) x m choice) up (shared_answered m choice shared)
 
 -- what may come up to a leader that awaits nothing
@@ -69,7 +70,7 @@ leader-calm base role x y down up shared m choice o p calm a n = by_message m a 
     by_mark number (Some t) n =
         let r = takes_mark (reliable base) role x.sets x.outgoing.started t number x.incoming (follower_of y) y.outgoing.started y.outgoing.transfer down up shared.set shared.inter (saved_of role shared) (saved_of (other role) shared) n in
         record {
-          may = record { by_transfers = refl; is_up = o.up; is_next = record { is_in_progress = r.0.goes_on; is_lowest = r.0.lowest; was_sent = r.0.sent } };
+          may = λ w. record { by_transfers = refl; is_up = o.up; is_next = record { is_in_progress = r.0.goes_on; is_lowest = r.0.lowest; was_sent = r.0.sent } };
           next = back (taken (reliable base) role (with_transfer x (Some t)) (MarkAnswer number) choice) refl (record { up = o.up; turn = o.turn; gave = o.gave }) r.1;
         }
 
@@ -79,7 +80,7 @@ leader-calm base role x y down up shared m choice o p calm a n = by_message m a 
     by_end number (Some t) n =
         let r = takes_end (reliable base) role x.sets x.outgoing.started t number x.incoming (follower_of y) y.outgoing.started y.outgoing.transfer down up shared.set shared.inter (saved_of role shared) (saved_of (other role) shared) n in
         record {
-          may = record { by_transfers = refl; is_up = o.up; is_its = record { ends = r.0.0; is_its = r.0.1 } };
+          may = λ w. record { by_transfers = refl; is_up = o.up; is_its = record { ends = r.0.0; is_its = r.0.1 } };
           next = back (taken (reliable base) role (with_transfer x (Some t)) (EndAnswer number) choice) refl (record { up = o.up; turn = o.turn; gave = o.gave }) r.1;
         }
 
@@ -87,14 +88,14 @@ leader-calm base role x y down up shared m choice o p calm a n = by_message m a 
     by_message (AlterAnswer results) a n =
         let r = takes_answer (reliable base) role x.sets x.outgoing.started x.outgoing.transfer results x.incoming (follower_of y) y.outgoing.started y.outgoing.transfer down up shared.set shared.inter (saved_of role shared) (saved_of (other role) shared) n in
         record {
-          may = record { is_up = o.up; fits = r.0 };
+          may = λ w. record { is_up = o.up; fits = r.0; is_known = w };
           next = back (taken (reliable base) role x (AlterAnswer results) choice) refl (record { up = o.up; turn = o.turn; gave = o.gave }) r.1;
         }
     by_message (MarkAnswer number) a n = by_mark number x.outgoing.transfer n
     by_message (EndAnswer number) a n = by_end number x.outgoing.transfer n
     by_message (Please priority) a n =
         record {
-          may = record { is_up = o.up; in_mode = tt };
+          may = λ w. record { is_up = o.up; in_mode = tt };
           next = back x refl o (takes_please (reliable base) role (record { awaits = NoAnswer; sets = x.sets; started = x.outgoing.started; transfer = x.outgoing.transfer }) priority x.incoming (follower_of y) y.outgoing.started y.outgoing.transfer down up shared.set shared.inter (saved_of role shared) (saved_of (other role) shared) n);
         }
     by_message UserAbort a n = absurd (a refl)
@@ -127,7 +128,7 @@ leader-takes base role x y down up shared m choice o p kept a n = by_await x.awa
     interrupted None n = absurd (purges-some base role InterruptOf x y None down (InterruptAnswer ∷ up) shared (inl refl) n refl)
     interrupted (Some t) n =
         record {
-          may = record { is_up = o.up; asked = refl };
+          may = λ w. record { by_transfers = refl; is_up = o.up; asked = refl };
           next =
               to_calm (taken (reliable base) role (with_transfer InterruptOf (Some t)) InterruptAnswer choice) refl (record { up = o.up; turn = o.turn; gave = o.gave })
               (takes_interrupt_answer (reliable base) role x.sets x.outgoing.started t x.incoming (follower_of y) y.outgoing.started y.outgoing.transfer down up shared.set shared.inter (saved_of role shared) (saved_of (other role) shared) n);
@@ -137,7 +138,7 @@ leader-takes base role x y down up shared m choice o p kept a n = by_await x.awa
     discarded None n = absurd (purges-some base role DiscardOf x y None down (DiscardAnswer ∷ up) shared (inr refl) n refl)
     discarded (Some t) n =
         record {
-          may = record { is_up = o.up; asked = refl };
+          may = λ w. record { by_transfers = refl; is_up = o.up; asked = refl };
           next =
               to_calm (taken (reliable base) role (with_transfer DiscardOf (Some t)) DiscardAnswer choice) refl (record { up = o.up; turn = o.turn; gave = o.gave })
               (takes_discard_answer (reliable base) role x.sets x.outgoing.started t x.incoming (follower_of y) y.outgoing.started y.outgoing.transfer down up shared.set shared.inter (saved_of role shared) (saved_of (other role) shared) n);

@@ -8,10 +8,10 @@ use Rattle.agreement.specs.Sets.Item.{Addition, Deletion}
 use Rattle.agreement.specs.Sets.Result.{Rejected, Accepted, AcceptedAs}
 use Rattle.agreement.specs.Messages.{Value, Mode, Setup, Message, Act, Choice}
 use Rattle.agreement.specs.Messages.Mode.{Bare, Direct, Reliable}
-use Rattle.agreement.specs.Messages.Act.{Connects, Recovers, Says, Queues, Alters, Marks, Gives, Pleads, Restarts, Starts, Encodes, Sends, Ends, Interrupts, Discards, Resumes, Releases, Aborts, Withdraws}
+use Rattle.agreement.specs.Messages.Act.{Connects, Recovers, Says, Queues, Drops, Alters, Marks, Gives, Pleads, Restarts, Starts, Encodes, Sends, Ends, Interrupts, Discards, Resumes, Releases, Aborts, Withdraws, Fails}
 use Rattle.agreement.specs.Messages.Choice.{Nothing, Accepting, Refusing, Results}
 use Rattle.agreement.specs.Messages.Message.{Connect, Recover, Accept, Refuse, Data, Alter, AlterAnswer, Mark, MarkAnswer, Restart, RestartAnswer, Start, Resume, Chunk, End, EndAnswer, Interrupt, InterruptAnswer, Discard, DiscardAnswer, Give, GiveAnswer, Please, Release, ReleaseAnswer, UserAbort}
-use Rattle.agreement.specs.State.{Phase, Awaited, Sets, Piece, Handed, Transfer, Outgoing, Incoming, State, up_to, newest_set, highest}
+use Rattle.agreement.specs.State.{joined_with, inter_with, saved_with, Phase, Awaited, Sets, Piece, Handed, Transfer, Outgoing, Incoming, State, up_to, newest_set, highest}
 use Rattle.agreement.specs.State.Phase.{Idle, Opening, Up, Broken, Over}
 use Rattle.agreement.specs.State.Awaited.{NoAnswer, RestartOf}
 use Rattle.agreement.specs.Acts.{MayAct, acted, marked_in, gave_in, on_transfer, started, pieces_of, confirmed_of, resumed, resumed_set}
@@ -102,15 +102,15 @@ abbrev IsPositive : Awaited → Type 0
 IsPositive (RestartOf n) = 1 ≤ n
 IsPositive awaited = Unit {0}
 
-pub record Stay (v : Value) (phase : Phase) (awaits : Awaited) (s : Sets) (saved : List Saved) (out into : List Piece) : Type 0 where
-  pub sets : IsJoined phase → Gives_pair v s.held × Gives_pair v s.inter × Saves v saved
+pub record Stay (v : Value) (mode : Mode) (phase : Phase) (awaits : Awaited) (s : Sets) (saved : List Saved) (out into : List Piece) : Type 0 where
+  pub sets : IsJoined phase → Gives_pair v s.held × (mode ≡ Reliable → Gives_pair v s.inter) × (mode ≡ Direct → Saves v saved)
   pub own : AllUnnamed v s.own
   pub asked : IsPositive awaits
   pub sent : Carries v out
   pub came : Numbered into × Carries v into
 
-abbrev pub StayOf : Value → State → Type 0
-StayOf v x = Stay v x.phase x.awaits x.sets x.saved (pieces_of x.outgoing.transfer) x.incoming.pieces
+abbrev pub StayOf : Value → Mode → State → Type 0
+StayOf v mode x = Stay v mode x.phase x.awaits x.sets x.saved (pieces_of x.outgoing.transfer) x.incoming.pieces
 
 carries-on : (v : Value) (change : Transfer → Transfer) (o : Outgoing) → ((t : Transfer) → Carries v t.pieces → Carries v (change t).pieces) → Carries v (pieces_of o.transfer) → Carries v (pieces_of (on_transfer change o).transfer)
 carries-on v change o f = go o.transfer
@@ -138,31 +138,29 @@ is-joined : (p : Phase) → p ≡ Up → IsJoined p
 is-joined p e = subst IsJoined (sym e) tt
 
 -- an act of the end
-pub acts-stay : (v : Value) (setup : Setup) (role : Role) (x : State) (act : Act) → MayAct setup role x act → LeavesAlone v.identifier v.pair (Acts act) → (act ≡ Resumes → HasItsMark x.outgoing.transfer) → StayOf v x → StayOf v (acted setup x act)
+pub acts-stay : (v : Value) (setup : Setup) (role : Role) (x : State) (act : Act) → MayAct setup role x act → LeavesAlone v.identifier v.pair (Acts act) → (act ≡ Resumes → HasItsMark x.outgoing.transfer) → StayOf v setup.mode x → StayOf v setup.mode (acted setup x act)
 acts-stay v setup role x Connects h l m k = record { sets = λ j. absurd j; own = k.own; asked = k.asked; sent = k.sent; came = k.came }
 acts-stay v setup role x Recovers h l m k = record { sets = λ j. absurd j; own = k.own; asked = k.asked; sent = k.sent; came = k.came }
 acts-stay v setup role x (Says value) h l m k = k
 acts-stay v setup role x (Queues context apdu) h l m k = k
+acts-stay v setup role x Drops h l m k = k
 acts-stay v setup role x (Alters items) h l m k = record { sets = k.sets; own = unnamed-append v x.sets.own items k.own l; asked = k.asked; sent = k.sent; came = k.came }
-acts-stay v setup role x Marks h l m k = go setup.mode
+acts-stay v setup role x Marks h l m k = go setup.mode k
   where
-    at : Gives_pair v x.sets.held × Gives_pair v x.sets.inter × Saves v x.saved
-    at = k.sets (is-joined x.phase h.leads.is_free.is_up)
-
-    go : (q : Mode) → StayOf v (marked_in q x)
-    go Bare = k
-    go Direct = record { sets = λ j. (at.0, at.1, (at.0, inr at.2)); own = k.own; asked = k.asked; sent = k.sent; came = k.came }
-    go Reliable = record { sets = k.sets; own = k.own; asked = k.asked; sent = carries-on v _ x.outgoing (λ t c. (at.0, c)) k.sent; came = k.came }
-acts-stay v setup role x Gives h l m k = go setup.mode
+    go : (q : Mode) → StayOf v q x → StayOf v q (marked_in q x)
+    go Bare k = k
+    go Direct k = let at = k.sets (is-joined x.phase h.leads.is_free.is_up) in record { sets = λ j. (at.0, at.1, λ e. (at.0, inr (at.2 e))); own = k.own; asked = k.asked; sent = k.sent; came = k.came }
+    go Reliable k = let at = k.sets (is-joined x.phase h.leads.is_free.is_up) in record { sets = k.sets; own = k.own; asked = k.asked; sent = carries-on v _ x.outgoing (λ t c. (at.0, c)) k.sent; came = k.came }
+acts-stay v setup role x Gives h l m k = go setup.mode k
   where
-    go : (q : Mode) → StayOf v (gave_in q x)
-    go Bare = k
-    go Direct = k
-    go Reliable = k
+    go : (q : Mode) → StayOf v q x → StayOf v q (gave_in q x)
+    go Bare k = k
+    go Direct k = record { sets = k.sets; own = k.own; asked = k.asked; sent = k.sent; came = k.came }
+    go Reliable k = record { sets = k.sets; own = k.own; asked = k.asked; sent = k.sent; came = k.came }
 acts-stay v setup role x (Pleads priority) h l m k = k
 acts-stay v setup role x (Restarts number) h l m k = record { sets = k.sets; own = k.own; asked = h.is_positive; sent = k.sent; came = k.came }
 acts-stay v setup role x Starts h l m k =
-    record { sets = λ j. let a = k.sets j in (a.0, a.0, a.2); own = k.own; asked = k.asked; sent = carries-started v x.outgoing; came = k.came }
+    record { sets = λ j. let a = k.sets j in (a.0, λ e. a.0, a.2); own = k.own; asked = k.asked; sent = carries-started v x.outgoing; came = k.came }
 acts-stay v setup role x (Encodes context) h l m k = record { sets = k.sets; own = k.own; asked = k.asked; sent = carries-on v _ x.outgoing (λ t c. c) k.sent; came = k.came }
 acts-stay v setup role x (Sends octets) h l m k = record { sets = k.sets; own = k.own; asked = k.asked; sent = carries-on v _ x.outgoing (λ t c. c) k.sent; came = k.came }
 acts-stay v setup role x Ends h l m k = record { sets = k.sets; own = k.own; asked = k.asked; sent = carries-on v _ x.outgoing (λ t c. c) k.sent; came = k.came }
@@ -170,7 +168,7 @@ acts-stay v setup role x Interrupts h l m k = record { sets = k.sets; own = k.ow
 acts-stay v setup role x Discards h l m k = record { sets = k.sets; own = k.own; asked = tt; sent = carries-on v _ x.outgoing (λ t c. c) k.sent; came = k.came }
 acts-stay v setup role x Resumes h l m k =
     record {
-      sets = λ j. let a = k.sets j in (gives-resumed v (confirmed_of x.outgoing.transfer) x.outgoing.transfer x.sets.held refl (m refl) k.sent a.0, a.0, a.2);
+      sets = λ j. let a = k.sets j in (gives-resumed v (confirmed_of x.outgoing.transfer) x.outgoing.transfer x.sets.held refl (m refl) k.sent a.0, λ e. a.0, a.2);
       own = k.own;
       asked = k.asked;
       sent = carries-on v resumed x.outgoing (λ t c. carries-up_to v t.confirmed t.pieces c) k.sent;
@@ -179,6 +177,7 @@ acts-stay v setup role x Resumes h l m k =
 acts-stay v setup role x Releases h l m k = record { sets = λ j. k.sets (is-joined x.phase h.is_free.is_up); own = k.own; asked = tt; sent = k.sent; came = k.came }
 acts-stay v setup role x Aborts h l m k = record { sets = λ j. absurd j; own = k.own; asked = k.asked; sent = k.sent; came = k.came }
 acts-stay v setup role x Withdraws h l m k = record { sets = λ j. absurd j; own = k.own; asked = k.asked; sent = k.sent; came = k.came }
+acts-stay v setup role x Fails h l m k = record { sets = λ j. absurd j; own = k.own; asked = k.asked; sent = k.sent; came = k.came }
 
 -- what is on its way: an acceptance gives the pair, an alteration doesn't name the context
 abbrev pub Sound : Value → Message → Type 0
@@ -190,22 +189,27 @@ refusing-apart : (p : Phase) → IsJoined (refusing p) → ⊥
 refusing-apart Broken j = j
 refusing-apart p j = j
 
-joins-stay : (v : Value) (set : ContextSet) (x : State) → Gives_pair v set → StayOf v x → Stay v Up NoAnswer (record { held = set; inter = set; own = [] }) (record { number = 0; set = set } ∷ []) (pieces_of x.outgoing.transfer) x.incoming.pieces
-joins-stay v set x g k = record { sets = λ j. (g, g, (g, inl refl)); own = tt; asked = tt; sent = k.sent; came = k.came }
+joined-sets : (v : Value) (mode : Mode) (set inter : ContextSet) (saved : List Saved) → Gives_pair v set → Gives_pair v set × (mode ≡ Reliable → Gives_pair v (inter_with mode set inter)) × (mode ≡ Direct → Saves v (saved_with mode set saved))
+joined-sets v Bare set inter saved g = (g, λ e. absurd (cc), λ e. absurd (cc))
+joined-sets v Direct set inter saved g = (g, λ e. absurd (cc), λ e. (g, inl refl))
+joined-sets v Reliable set inter saved g = (g, λ e. g, λ e. absurd (cc))
 
-opens-stay : (v : Value) (setup : Setup) (role : Role) (x : State) (choice : Choice) → IsChoice x Connect choice → LeavesAlone v.identifier v.pair (Takes Connect choice) → StayOf v x → StayOf v (taken setup role x Connect choice)
-opens-stay v setup role x (Accepting set) c l k = record { sets = λ j. (l, l, (l, inl refl)); own = tt; asked = tt; sent = tt; came = (tt, tt) }
+joins-stay : (v : Value) (mode : Mode) (role : Role) (set : ContextSet) (x : State) → Gives_pair v set → StayOf v mode x → StayOf v mode (joined_with mode role set x)
+joins-stay v mode role set x g k = record { sets = λ j. joined-sets v mode set x.sets.inter x.saved g; own = tt; asked = tt; sent = k.sent; came = k.came }
+
+opens-stay : (v : Value) (setup : Setup) (role : Role) (x : State) (choice : Choice) → IsChoice setup x Connect choice → LeavesAlone v.identifier v.pair (Takes Connect choice) → StayOf v setup.mode x → StayOf v setup.mode (taken setup role x Connect choice)
+opens-stay v setup role x (Accepting set) c l k = record { sets = λ j. joined-sets v setup.mode set [] [] l; own = tt; asked = tt; sent = tt; came = (tt, tt) }
 opens-stay v setup role x Refusing c l k = record { sets = λ j. absurd (refusing-apart x.phase j); own = k.own; asked = k.asked; sent = k.sent; came = k.came }
 opens-stay v setup role x Nothing c l k = absurd c
 opens-stay v setup role x (Results results) c l k = absurd c
 
-recovers-stay : (v : Value) (setup : Setup) (role : Role) (x : State) (choice : Choice) → IsChoice x Recover choice → LeavesAlone v.identifier v.pair (Takes Recover choice) → StayOf v x → StayOf v (taken setup role x Recover choice)
-recovers-stay v setup role x (Accepting set) c l k = joins-stay v set x l k
+recovers-stay : (v : Value) (setup : Setup) (role : Role) (x : State) (choice : Choice) → IsChoice setup x Recover choice → LeavesAlone v.identifier v.pair (Takes Recover choice) → StayOf v setup.mode x → StayOf v setup.mode (taken setup role x Recover choice)
+recovers-stay v setup role x (Accepting set) c l k = joins-stay v setup.mode role set x l k
 recovers-stay v setup role x Refusing c l k = record { sets = λ j. absurd (refusing-apart x.phase j); own = k.own; asked = k.asked; sent = k.sent; came = k.came }
 recovers-stay v setup role x Nothing c l k = absurd c
 recovers-stay v setup role x (Results results) c l k = absurd c
 
-alters-stay : (v : Value) (setup : Setup) (role : Role) (x : State) (items : List Item) (choice : Choice) → Unnamed v items → StayOf v x → StayOf v (taken setup role x (Alter items) choice)
+alters-stay : (v : Value) (setup : Setup) (role : Role) (x : State) (items : List Item) (choice : Choice) → Unnamed v items → StayOf v setup.mode x → StayOf v setup.mode (taken setup role x (Alter items) choice)
 alters-stay v setup role x items (Results results) u k =
     record { sets = λ j. let a = k.sets j in (gives-altered v items results x.sets.held u a.0, a.1, a.2); own = k.own; asked = k.asked; sent = k.sent; came = k.came }
 alters-stay v setup role x items (Accepting set) u k = k
@@ -213,10 +217,10 @@ alters-stay v setup role x items Refusing u k = k
 alters-stay v setup role x items Nothing u k = k
 
 -- a restart to a positive number
-restores-stay : (v : Value) (role : Role) (number : ℕ) (x : State) → 1 ≤ number → StayOf v x → Stay v x.phase NoAnswer (record x.sets { held = newest (below number x.saved); own = [] }) (below number x.saved) (pieces_of x.outgoing.transfer) x.incoming.pieces
-restores-stay v role number x p k =
+restores-stay : (v : Value) (mode : Mode) (role : Role) (number : ℕ) (x : State) → mode ≡ Direct → 1 ≤ number → StayOf v mode x → Stay v mode x.phase NoAnswer (record x.sets { held = newest (below number x.saved); own = [] }) (below number x.saved) (pieces_of x.outgoing.transfer) x.incoming.pieces
+restores-stay v mode role number x d p k =
     record {
-      sets = λ j. let a = k.sets j in let s = saves-below v number x.saved p a.2 in (saves-newest v (below number x.saved) s, a.1, s);
+      sets = λ j. let a = k.sets j in let s = saves-below v number x.saved p (a.2 d) in (saves-newest v (below number x.saved) s, a.1, λ e. s);
       own = tt;
       asked = tt;
       sent = k.sent;
@@ -236,43 +240,40 @@ gives-resumed_in v activity (suc n) i held (inr h) c g = absurd (none h.1)
     none : suc n ≡ 0 → ⊥
     none e = omega arith
 
-hears-stay : (v : Value) (setup : Setup) (value : Option Value) (x : State) → StayOf v x → StayOf v (hears setup value x)
+hears-stay : (v : Value) (setup : Setup) (value : Option Value) (x : State) → StayOf v setup.mode x → StayOf v setup.mode (hears setup value x)
 hears-stay v setup None x k = k
 hears-stay v setup (Some value) x k = k
 
-ends-stay : (v : Value) (setup : Setup) (value : Option Value) (x : State) → StayOf v x → StayOf v (between (hears setup value x))
-ends-stay v setup None x k = record { sets = λ j. let a = k.sets j in (a.1, a.1, a.2); own = k.own; asked = k.asked; sent = k.sent; came = k.came }
-ends-stay v setup (Some value) x k = record { sets = λ j. let a = k.sets j in (a.1, a.1, a.2); own = k.own; asked = k.asked; sent = k.sent; came = k.came }
+ends-stay : (v : Value) (setup : Setup) (value : Option Value) (x : State) → setup.mode ≡ Reliable → StayOf v setup.mode x → StayOf v setup.mode (between (hears setup value x))
+ends-stay v setup None x e k = record { sets = λ j. let a = k.sets j in (a.1 e, a.1, a.2); own = k.own; asked = k.asked; sent = k.sent; came = k.came }
+ends-stay v setup (Some value) x e k = record { sets = λ j. let a = k.sets j in (a.1 e, a.1, a.2); own = k.own; asked = k.asked; sent = k.sent; came = k.came }
 
 awaited-positive : (w : Awaited) (n : ℕ) → w ≡ RestartOf n → IsPositive w → 1 ≤ n
 awaited-positive w n e p = subst IsPositive e p
 
 -- a taking
-pub takes-stay : (v : Value) (setup : Setup) (role : Role) (x : State) (m : Message) (choice : Choice) → MayTake setup role x m → IsChoice x m choice → LeavesAlone v.identifier v.pair (Takes m choice) → Sound v m → StayOf v x → StayOf v (taken setup role x m choice)
+pub takes-stay : (v : Value) (setup : Setup) (role : Role) (x : State) (m : Message) (choice : Choice) → MayTake setup role x m → IsChoice setup x m choice → LeavesAlone v.identifier v.pair (Takes m choice) → Sound v m → StayOf v setup.mode x → StayOf v setup.mode (taken setup role x m choice)
 takes-stay v setup role x Connect choice h c l s k = opens-stay v setup role x choice c l k
 takes-stay v setup role x Recover choice h c l s k = recovers-stay v setup role x choice c l k
-takes-stay v setup role x (Accept set) choice h c l s k = joins-stay v set x s k
+takes-stay v setup role x (Accept set) choice h c l s k = joins-stay v setup.mode role set x s k
 takes-stay v setup role x Refuse choice h c l s k = record { sets = λ j. absurd j; own = k.own; asked = k.asked; sent = k.sent; came = k.came }
 takes-stay v setup role x (Data value) choice h c l s k = hears-stay v setup (Some value) x k
 takes-stay v setup role x (Alter items) choice h c l s k = alters-stay v setup role x items choice s k
 takes-stay v setup role x (AlterAnswer results) choice h c l s k =
     record { sets = λ j. let a = k.sets j in (gives-first v x.sets.own results x.sets.held k.own a.0, a.1, a.2); own = unnamed-later v x.sets.own k.own; asked = k.asked; sent = k.sent; came = k.came }
-takes-stay v setup role x (Mark number) choice h c l s k = go setup.mode h.in_mode
+takes-stay v setup role x (Mark number) choice h c l s k = go setup.mode h.in_mode k
   where
-    at : Gives_pair v x.sets.held × Gives_pair v x.sets.inter × Saves v x.saved
-    at = k.sets (is-joined x.phase h.is_up)
-
-    go : (q : Mode) → MayMarkFrom setup q x number → StayOf v (marked_from q number x)
-    go Bare i = k
-    go Direct i = record { sets = λ j. (at.0, at.1, (at.0, inr at.2)); own = k.own; asked = k.asked; sent = k.sent; came = k.came }
-    go Reliable i = record { sets = k.sets; own = k.own; asked = k.asked; sent = k.sent; came = ((i.is_next, k.came.0), (at.0, k.came.1)) }
+    go : (q : Mode) → MayMarkFrom setup q x number → StayOf v q x → StayOf v q (marked_from q number x)
+    go Bare i k = k
+    go Direct i k = let at = k.sets (is-joined x.phase h.is_up) in record { sets = λ j. (at.0, at.1, λ e. (at.0, inr (at.2 e))); own = k.own; asked = k.asked; sent = k.sent; came = k.came }
+    go Reliable i k = let at = k.sets (is-joined x.phase h.is_up) in record { sets = k.sets; own = k.own; asked = k.asked; sent = k.sent; came = ((i.is_next, k.came.0), (at.0, k.came.1)) }
 takes-stay v setup role x (MarkAnswer number) choice h c l s k = record { sets = k.sets; own = k.own; asked = k.asked; sent = carries-on v _ x.outgoing (λ t c. c) k.sent; came = k.came }
-takes-stay v setup role x (Restart number list) choice h c l s k = restores-stay v role number x h.is_positive k
-takes-stay v setup role x (RestartAnswer number list) choice h c l s k = restores-stay v role number x (awaited-positive x.awaits number h.asked k.asked) k
-takes-stay v setup role x (Start activity) choice h c l s k = record { sets = λ j. let a = k.sets j in (a.0, a.0, a.2); own = k.own; asked = k.asked; sent = k.sent; came = (tt, tt) }
+takes-stay v setup role x (Restart number list) choice h c l s k = restores-stay v setup.mode role number x h.is_direct h.is_positive k
+takes-stay v setup role x (RestartAnswer number list) choice h c l s k = restores-stay v setup.mode role number x h.is_direct (awaited-positive x.awaits number h.asked k.asked) k
+takes-stay v setup role x (Start activity) choice h c l s k = record { sets = λ j. let a = k.sets j in (a.0, λ e. a.0, a.2); own = k.own; asked = k.asked; sent = k.sent; came = (tt, tt) }
 takes-stay v setup role x (Resume activity mark) choice h c l s k =
     record {
-      sets = λ j. let a = k.sets j in (gives-resumed_in v activity mark x.incoming x.sets.held h.at_mark k.came a.0, a.0, a.2);
+      sets = λ j. let a = k.sets j in (gives-resumed_in v activity mark x.incoming x.sets.held h.at_mark k.came a.0, λ e. a.0, a.2);
       own = k.own;
       asked = k.asked;
       sent = k.sent;
@@ -280,17 +281,17 @@ takes-stay v setup role x (Resume activity mark) choice h c l s k =
     }
 takes-stay v setup role x (Chunk octets) choice h c l s k = record { sets = k.sets; own = k.own; asked = k.asked; sent = k.sent; came = k.came }
 takes-stay v setup role x (End number) choice h c l s k =
-    ends-stay v setup (handed_up setup x.sets.held x.incoming) (record x { incoming = record x.incoming { was_handed = true; active = false } }) k
-takes-stay v setup role x (EndAnswer number) choice h c l s k = record { sets = λ j. let a = k.sets j in (a.1, a.1, a.2); own = k.own; asked = k.asked; sent = tt; came = k.came }
-takes-stay v setup role x Interrupt choice h c l s k = record { sets = λ j. let a = k.sets j in (a.1, a.1, a.2); own = k.own; asked = k.asked; sent = k.sent; came = k.came }
-takes-stay v setup role x InterruptAnswer choice h c l s k = record { sets = λ j. let a = k.sets j in (a.1, a.1, a.2); own = tt; asked = tt; sent = carries-on v _ x.outgoing (λ t c. c) k.sent; came = k.came }
-takes-stay v setup role x Discard choice h c l s k = record { sets = λ j. let a = k.sets j in (a.1, a.1, a.2); own = k.own; asked = k.asked; sent = k.sent; came = (tt, tt) }
-takes-stay v setup role x DiscardAnswer choice h c l s k = record { sets = λ j. let a = k.sets j in (a.1, a.1, a.2); own = tt; asked = tt; sent = tt; came = k.came }
+    ends-stay v setup (handed_up setup x.sets.held x.incoming) (record x { incoming = record x.incoming { was_handed = true; active = false } }) h.by_transfers k
+takes-stay v setup role x (EndAnswer number) choice h c l s k = record { sets = λ j. let a = k.sets j in (a.1 h.by_transfers, a.1, a.2); own = k.own; asked = k.asked; sent = tt; came = k.came }
+takes-stay v setup role x Interrupt choice h c l s k = record { sets = λ j. let a = k.sets j in (a.1 h.by_transfers, a.1, a.2); own = k.own; asked = k.asked; sent = k.sent; came = k.came }
+takes-stay v setup role x InterruptAnswer choice h c l s k = record { sets = λ j. let a = k.sets j in (a.1 h.by_transfers, a.1, a.2); own = tt; asked = tt; sent = carries-on v _ x.outgoing (λ t c. c) k.sent; came = k.came }
+takes-stay v setup role x Discard choice h c l s k = record { sets = λ j. let a = k.sets j in (a.1 h.by_transfers, a.1, a.2); own = k.own; asked = k.asked; sent = k.sent; came = (tt, tt) }
+takes-stay v setup role x DiscardAnswer choice h c l s k = record { sets = λ j. let a = k.sets j in (a.1 h.by_transfers, a.1, a.2); own = tt; asked = tt; sent = tt; came = k.came }
 takes-stay v setup role x Give choice h c l s k = k
 takes-stay v setup role x GiveAnswer choice h c l s k = k
 takes-stay v setup role x (Please priority) choice h c l s k = k
 takes-stay v setup role x Release choice h c l s k = record { sets = λ j. absurd j; own = k.own; asked = k.asked; sent = k.sent; came = k.came }
-takes-stay v setup role x ReleaseAnswer choice h c l s k = record { sets = λ j. absurd j; own = k.own; asked = k.asked; sent = k.sent; came = k.came }
+takes-stay v setup role x ReleaseAnswer choice h c l s k = record { sets = λ j. absurd j; own = k.own; asked = tt; sent = k.sent; came = k.came }
 takes-stay v setup role x UserAbort choice h c l s k = record { sets = λ j. absurd j; own = k.own; asked = k.asked; sent = k.sent; came = k.came }
 
 broken-apart : (m : Mode) (p : Phase) → IsJoined (broken_phase m p) → ⊥
@@ -301,6 +302,6 @@ broken-apart Bare p j = j
 broken-apart Direct p j = j
 broken-apart Reliable p j = j
 
-pub breaks-stay : (v : Value) (setup : Setup) (x : State) → StayOf v x → StayOf v (broken setup x)
+pub breaks-stay : (v : Value) (setup : Setup) (x : State) → StayOf v setup.mode x → StayOf v setup.mode (broken setup x)
 breaks-stay v setup x k =
     record { sets = λ j. absurd (broken-apart setup.mode x.phase j); own = k.own; asked = tt; sent = carries-on v _ x.outgoing (λ t c. c) k.sent; came = k.came }

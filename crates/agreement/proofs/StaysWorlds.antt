@@ -4,9 +4,10 @@ use Rattle.std.specs.Prelude.{Option, Some, None}
 use Rattle.agreement.specs.Sets.{Role, ContextSet, Item, Saved, below, newest}
 use Rattle.agreement.specs.Sets.Role.{Initiator, Responder}
 use Rattle.agreement.specs.Messages.{Value, Mode, Setup, Message, Act, Choice}
+use Rattle.agreement.specs.Messages.Problem.{General}
 use Rattle.agreement.specs.Messages.Apdu.{Reject}
 use Rattle.agreement.specs.Messages.Mode.{Bare, Direct, Reliable}
-use Rattle.agreement.specs.Messages.Act.{Connects, Recovers, Says, Queues, Alters, Marks, Gives, Pleads, Restarts, Starts, Encodes, Sends, Ends, Interrupts, Discards, Resumes, Releases, Aborts, Withdraws}
+use Rattle.agreement.specs.Messages.Act.{Connects, Recovers, Says, Queues, Drops, Alters, Marks, Gives, Pleads, Restarts, Starts, Encodes, Sends, Ends, Interrupts, Discards, Resumes, Releases, Aborts, Withdraws, Fails}
 use Rattle.agreement.specs.Messages.Choice.{Nothing, Accepting, Refusing, Results}
 use Rattle.agreement.specs.Messages.Message.{Connect, Recover, Accept, Refuse, Data, Alter, AlterAnswer, Mark, MarkAnswer, Restart, RestartAnswer, Start, Resume, Chunk, End, EndAnswer, Interrupt, InterruptAnswer, Discard, DiscardAnswer, Give, GiveAnswer, Please, Release, ReleaseAnswer, UserAbort}
 use Rattle.agreement.specs.State.{Phase, Transfer, State, new_end, first_phase, up_to, newest_set, highest}
@@ -54,6 +55,7 @@ whole-acts v setup role x Connects shared g w = w
 whole-acts v setup role x Recovers shared g w = w
 whole-acts v setup role x (Says value) shared g w = w
 whole-acts v setup role x (Queues context apdu) shared g w = w
+whole-acts v setup role x Drops shared g w = w
 whole-acts v setup role x (Alters items) shared g w = w
 whole-acts v setup role x Marks shared g w = go setup.mode
   where
@@ -77,6 +79,7 @@ whole-acts v setup role x Resumes shared g w = whole-resumed v role (confirmed_o
 whole-acts v setup role x Releases shared g w = w
 whole-acts v setup role x Aborts shared g w = w
 whole-acts v setup role x Withdraws shared g w = w
+whole-acts v setup role x Fails shared g w = w
 
 -- an acceptance, of an opening or a recovery
 abbrev AcceptsIn : Step → Type 0
@@ -167,6 +170,7 @@ acts-plain v setup x Connects at l = ((tt, tt), neither)
 acts-plain v setup x Recovers at l = ((tt, tt), neither)
 acts-plain v setup x (Says value) at l = ((tt, tt), neither)
 acts-plain v setup x (Queues context apdu) at l = none-plain v
+acts-plain v setup x Drops at l = none-plain v
 acts-plain v setup x (Alters items) at l = ((l, tt), neither)
 acts-plain v setup x Marks at l = ((tt, tt), neither)
 acts-plain v setup x Gives at l = ((tt, tt), neither)
@@ -182,6 +186,7 @@ acts-plain v setup x Resumes at l = ((tt, tt), neither)
 acts-plain v setup x Releases at l = ((tt, tt), neither)
 acts-plain v setup x Aborts at l = ((tt, tt), neither)
 acts-plain v setup x Withdraws at l = none-plain v
+acts-plain v setup x Fails at l = none-plain v
 
 abbrev Sends_soundly : Value → Step → List Sending → Type 0
 Sends_soundly v step flight = AllSound v flight × (HasAcceptance flight → AcceptsIn step)
@@ -246,8 +251,10 @@ joins-acting setup role x Gives h j = go setup.mode j
 joins-acting setup role x Releases h j = subst IsJoined (sym h.is_free.is_up) tt
 joins-acting setup role x Aborts h j = absurd j
 joins-acting setup role x Withdraws h j = absurd j
+joins-acting setup role x Fails h j = absurd j
 joins-acting setup role x (Says value) h j = j
 joins-acting setup role x (Queues context apdu) h j = j
+joins-acting setup role x Drops h j = j
 joins-acting setup role x (Alters items) h j = j
 joins-acting setup role x (Pleads priority) h j = j
 joins-acting setup role x (Restarts number) h j = j
@@ -313,13 +320,13 @@ joins-taking setup role x GiveAnswer choice j = inr (inr j)
 joins-taking setup role x (Please priority) choice j = inr (inr j)
 
 -- of one end, with what comes to it; A says that an acceptance was sent
-record Half (v : Value) (x : State) (f : List Sending) (A : Type 0) : Type 0 where
-  pub me : StayOf v x
+record Half (v : Value) (mode : Mode) (x : State) (f : List Sending) (A : Type 0) : Type 0 where
+  pub me : StayOf v mode x
   pub sound : AllSound v f
   pub joined : IsJoined x.phase → A
   pub accepted : HasAcceptance f → A
 
-own-half : (v : Value) (setup : Setup) (role : Role) (x : State) (f : List Sending) (A : Type 0) (step : Step) → IsStep setup role x f step → ((m : Message) (choice : Choice) → step ≡ Takes m choice → MayTake setup role x m) → LeavesAlone v.identifier v.pair step → (step ≡ Acts Resumes → HasItsMark x.outgoing.transfer) → Half v x f A → Half v (after setup role x step) (taken_off step f) (AcceptsIn step ⊎ A)
+own-half : (v : Value) (setup : Setup) (role : Role) (x : State) (f : List Sending) (A : Type 0) (step : Step) → IsStep setup role x f step → ((m : Message) (choice : Choice) → step ≡ Takes m choice → MayTake setup role x m) → LeavesAlone v.identifier v.pair step → (step ≡ Acts Resumes → HasItsMark x.outgoing.transfer) → Half v setup.mode x f A → Half v setup.mode (after setup role x step) (taken_off step f) (AcceptsIn step ⊎ A)
 own-half v setup role x f A (Acts act) h t l m k =
     record {
       me = acts-stay v setup role x act h l (λ e. m (ap Acts e)) k.me;
@@ -344,8 +351,8 @@ own-half v setup role x [] A (Passes message) h t l m k = absurd h.comes
 own-half v setup role x (s ∷ f) A (Passes message) h t l m k =
     record { me = k.me; sound = k.sound.1; joined = λ j. inr (k.joined j); accepted = λ a. inr (k.accepted (inr a)) }
 
-peer-half : (v : Value) (y : State) (g new : List Sending) (A : Type 0) (step : Step) → Sends_soundly v step new → Half v y g A → Half v y (g ++ new) (AcceptsIn step ⊎ A)
-peer-half v y g new A step s k =
+peer-half : (v : Value) (mode : Mode) (y : State) (g new : List Sending) (A : Type 0) (step : Step) → Sends_soundly v step new → Half v mode y g A → Half v mode y (g ++ new) (AcceptsIn step ⊎ A)
+peer-half v mode y g new A step s k =
     record { me = k.me; sound = all-sound v g new k.sound s.0; joined = λ j. inr (k.joined j); accepted = λ a. go (acceptance-append g new a) }
   where
     go : HasAcceptance g ⊎ HasAcceptance new → AcceptsIn step ⊎ A
@@ -357,14 +364,14 @@ sends-soundly v setup x (Acts act) at l = plainly v (Acts act) (sendings at (sen
 sends-soundly v setup x (Takes m choice) at l = answers-soundly v setup x m choice at l
 sends-soundly v setup x (Passes m) at l = (tt, λ h. absurd h)
 
-gives-its_mark : (v : Value) (role : Role) (x : State) (shared : Shared) → HasItsMark x.outgoing.transfer → ItsMark role x shared → StayOf v x → (n : ℕ) → confirmed_of x.outgoing.transfer ≡ suc n → Gives_pair v (newest (below (suc (suc n)) (saved_of role shared)))
-gives-its_mark v role x shared m i k n e =
+gives-its_mark : (v : Value) (mode : Mode) (role : Role) (x : State) (shared : Shared) → HasItsMark x.outgoing.transfer → ItsMark role x shared → StayOf v mode x → (n : ℕ) → confirmed_of x.outgoing.transfer ≡ suc n → Gives_pair v (newest (below (suc (suc n)) (saved_of role shared)))
+gives-its_mark v mode role x shared m i k n e =
     subst (Gives_pair v) (sym (i n e)) (gives-mark v n (pieces_of x.outgoing.transfer) (m n e).0 (m n e).1 k.sent)
 
-whole-step : (v : Value) (setup : Setup) (role : Role) (x : State) (f : List Sending) (A : Type 0) (step : Step) (shared : Shared) → IsStep setup role x f step → ((m : Message) (choice : Choice) → step ≡ Takes m choice → MayTake setup role x m) → LeavesAlone v.identifier v.pair step → (step ≡ Acts Resumes → HasItsMark x.outgoing.transfer × ItsMark role x shared) → Half v x f A → (A → Whole v shared) → AcceptsIn step ⊎ A → Whole v (shared_after setup role x step shared)
+whole-step : (v : Value) (setup : Setup) (role : Role) (x : State) (f : List Sending) (A : Type 0) (step : Step) (shared : Shared) → IsStep setup role x f step → ((m : Message) (choice : Choice) → step ≡ Takes m choice → MayTake setup role x m) → LeavesAlone v.identifier v.pair step → (step ≡ Acts Resumes → HasItsMark x.outgoing.transfer × ItsMark role x shared) → Half v setup.mode x f A → (A → Whole v shared) → AcceptsIn step ⊎ A → Whole v (shared_after setup role x step shared)
 whole-step v setup role x f A (Acts act) shared h t l m k w (inl a) = absurd a
 whole-step v setup role x f A (Acts act) shared h t l m k w (inr a) =
-    whole-acts v setup role x act shared (λ e. gives-its_mark v role x shared (m (ap Acts e)).0 (m (ap Acts e)).1 k.me) (w a)
+    whole-acts v setup role x act shared (λ e. gives-its_mark v setup.mode role x shared (m (ap Acts e)).0 (m (ap Acts e)).1 k.me) (w a)
 whole-step v setup role x [] A (Takes message choice) shared h t l m k w a = absurd h.comes
 whole-step v setup role x (s ∷ f) A (Takes message choice) shared h t l m k w a =
     whole-takes v setup role x message choice shared (t message choice refl) l (subst (Sound v) h.comes k.sound.0) (go a)
@@ -385,8 +392,8 @@ abbrev pub ResumeFacts : Setup → Type 0
 ResumeFacts setup = (world : World) (role : Role) → IsRun setup (By role (Acts Resumes) ∷ world) → HasItsMark (state_of setup role world).outgoing.transfer × ItsMark role (state_of setup role world) (shared_at setup world)
 
 record Both (v : Value) (setup : Setup) (world : World) : Type 0 where
-  pub initiator : Half v (state_of setup Initiator world) (flight_to setup Initiator world) (Stood world)
-  pub responder : Half v (state_of setup Responder world) (flight_to setup Responder world) (Stood world)
+  pub initiator : Half v setup.mode (state_of setup Initiator world) (flight_to setup Initiator world) (Stood world)
+  pub responder : Half v setup.mode (state_of setup Responder world) (flight_to setup Responder world) (Stood world)
   pub whole : Stood world → Whole v (shared_at setup world)
 
 first-apart : (m : Mode) → IsNotBare m → IsJoined (first_phase m) → ⊥
@@ -402,14 +409,14 @@ broken-apart Bare p j = j
 broken-apart Direct p j = j
 broken-apart Reliable p j = j
 
-broken-half : (v : Value) (setup : Setup) (x : State) (f : List Sending) (A : Type 0) → Half v x f A → Half v (broken setup x) [] A
+broken-half : (v : Value) (setup : Setup) (x : State) (f : List Sending) (A : Type 0) → Half v setup.mode x f A → Half v setup.mode (broken setup x) [] A
 broken-half v setup x f A k = record { me = breaks-stay v setup x k.me; sound = tt; joined = λ j. absurd (broken-apart setup.mode x.phase j); accepted = λ a. absurd a }
 
 both-kept : (v : Value) (setup : Setup) → NoAbortOfItself setup → ResumeFacts setup → IsNotBare setup.mode → (world : World) → IsRun setup world → IsLeftAlone v.identifier v.pair world → Both v setup world
-both-kept v setup n r b [] h l = record { initiator = first; responder = first; whole = λ a. absurd a }
+both-kept v setup n r b [] h l = record { initiator = first Initiator; responder = first Responder; whole = λ a. absurd a }
   where
-    first : Half v (new_end setup) [] ⊥
-    first =
+    first : (role : Role) → Half v setup.mode (new_end setup role) [] ⊥
+    first role =
         record {
           me = record { sets = λ j. absurd (first-apart setup.mode b j); own = tt; asked = tt; sent = tt; came = (tt, tt) };
           sound = tt;
@@ -430,7 +437,7 @@ both-kept v setup n r b (By Initiator step ∷ world) h l =
           own-half v setup Initiator (state_of setup Initiator world) (flight_to setup Initiator world) (Stood world) step h.0
           (λ m c e. n world Initiator m c (subst (λ s. IsRun setup (By Initiator s ∷ world)) e h)) l.0 (λ e. (r world Initiator (subst (λ s. IsRun setup (By Initiator s ∷ world)) e h)).0) k.initiator;
       responder =
-          peer-half v (state_of setup Responder world) (flight_to setup Responder world) (sent_by_step setup Initiator world step) (Stood world) step
+          peer-half v setup.mode (state_of setup Responder world) (flight_to setup Responder world) (sent_by_step setup Initiator world step) (Stood world) step
           (sends-soundly v setup (state_of setup Initiator world) step (shared_at setup world).set l.0) k.responder;
       whole =
           whole-step v setup Initiator (state_of setup Initiator world) (flight_to setup Initiator world) (Stood world) step (shared_at setup world) h.0
@@ -440,7 +447,7 @@ both-kept v setup n r b (By Responder step ∷ world) h l =
     let k = both-kept v setup n r b world h.1 l.1 in
     record {
       initiator =
-          peer-half v (state_of setup Initiator world) (flight_to setup Initiator world) (sent_by_step setup Responder world step) (Stood world) step
+          peer-half v setup.mode (state_of setup Initiator world) (flight_to setup Initiator world) (sent_by_step setup Responder world step) (Stood world) step
           (sends-soundly v setup (state_of setup Responder world) step (shared_at setup world).set l.0) k.initiator;
       responder =
           own-half v setup Responder (state_of setup Responder world) (flight_to setup Responder world) (Stood world) step h.0
@@ -450,21 +457,21 @@ both-kept v setup n r b (By Responder step ∷ world) h l =
           (λ m c e. n world Responder m c (subst (λ s. IsRun setup (By Responder s ∷ world)) e h)) l.0 (λ e. r world Responder (subst (λ s. IsRun setup (By Responder s ∷ world)) e h)) k.responder k.whole;
     }
 
-half-of : (v : Value) (setup : Setup) (world : World) (role : Role) → Both v setup world → Half v (state_of setup role world) (flight_to setup role world) (Stood world)
+half-of : (v : Value) (setup : Setup) (world : World) (role : Role) → Both v setup world → Half v setup.mode (state_of setup role world) (flight_to setup role world) (Stood world)
 half-of v setup world Initiator k = k.initiator
 half-of v setup world Responder k = k.responder
 
 pub contexts-stay : (setup : Setup) → NoAbortOfItself setup → ResumeFacts setup → ContextsStay setup
 contexts-stay setup n r b world h k pair l role j =
-    let v : Value = record { identifier = k; pair = pair; apdu = Reject 0 false } in
+    let v : Value = record { identifier = k; pair = pair; apdu = Reject 0 (General 0) } in
     let both = both-kept v setup n r b world h l in
     let half = half-of v setup world role both in
     ((half.me.sets j).0, (both.whole (half.joined j)).set)
 
 -- what a resumption finds: nothing is resumed but in reliable mode
-saved-facts : (role : Role) (x : State) (shared : Shared) (t : Option Transfer) → x.outgoing.transfer ≡ t → SavedIn t (saved_of role shared) → HasItsMark t × ((n : ℕ) → confirmed_of t ≡ suc n → newest (below (suc (suc n)) (saved_of role shared)) ≡ newest_set (up_to (suc n) (pieces_of t)))
-saved-facts role x shared None e s = ((λ n f. absurd (cc)), (λ n f. absurd (cc)))
-saved-facts role x shared (Some t) e s = (
+saved-facts : (setup : Setup) (role : Role) (x : State) (shared : Shared) (t : Option Transfer) → x.outgoing.transfer ≡ t → SavedIn setup t (saved_of role shared) → HasItsMark t × ((n : ℕ) → confirmed_of t ≡ suc n → newest (below (suc (suc n)) (saved_of role shared)) ≡ newest_set (up_to (suc n) (pieces_of t)))
+saved-facts setup role x shared None e s = ((λ n f. absurd (cc)), (λ n f. absurd (cc)))
+saved-facts setup role x shared (Some t) e s = (
   (λ n f. (s.0, subst (λ q. q ≤ highest t.pieces) f s.2)),
   (λ n f. ap newest (ap (below (suc (suc n))) s.1 ∙ sym (saved-up_to (suc n) t.pieces s.0 (subst (λ q. q ≤ highest t.pieces) f s.2))) ∙ sym (newest-saved (up_to (suc n) t.pieces))),
 )
@@ -473,16 +480,16 @@ reliable-facts : (base : Setup) → ResumeFacts (reliable base)
 reliable-facts base world role h =
     let x = state_of (reliable base) role world in
     let shared = shared_at (reliable base) world in
-    saved-facts role x shared x.outgoing.transfer refl
+    saved-facts (reliable base) role x shared x.outgoing.transfer refl
     (resumes-saved role x _ (flight_to (reliable base) role world) _ shared h.0 (at-role (reliable base) (ReliableRelation base) (reliable-keeps base) role world (reached (reliable base) (ReliableRelation base) (reliable-keeps base) world h.1)))
   where
-    resumes-saved : (role : Role) (x y : State) (f g : List Sending) (shared : Shared) → MayAct (reliable base) role x Resumes → ReliableRelation base role x y f g shared → SavedIn x.outgoing.transfer (saved_of role shared)
+    resumes-saved : (role : Role) (x y : State) (f g : List Sending) (shared : Shared) → MayAct (reliable base) role x Resumes → ReliableRelation base role x y f g shared → SavedIn (reliable base) x.outgoing.transfer (saved_of role shared)
     resumes-saved role x y f g shared h r =
         let j = up-stands base role x y f g shared r h.leads.is_free.is_up in
         let i = is-seen role x f g j.me j.up h.leads.is_free.is_up j.sees_me in
         by_flow role x shared h j.peer j.down j.up (subst (λ z. Flowing (reliable base) role z j.peer j.down j.up shared) i.same j.flow)
       where
-        by_flow : (role : Role) (x : State) (shared : Shared) → MayAct (reliable base) role x Resumes → (y : State) (down up : List Message) → Flowing (reliable base) role x y down up shared → SavedIn x.outgoing.transfer (saved_of role shared)
+        by_flow : (role : Role) (x : State) (shared : Shared) → MayAct (reliable base) role x Resumes → (y : State) (down up : List Message) → Flowing (reliable base) role x y down up shared → SavedIn (reliable base) x.outgoing.transfer (saved_of role shared)
         by_flow role x shared h y down up (Leads o p n) = n.saved
         by_flow role x shared h y down up (Follows o p n) = absurd (true≢false (sym h.leads.has_turn ∙ o.turn))
         by_flow role x shared h y down up (Gives_away k) = absurd (true≢false (sym h.leads.has_turn ∙ k.giver.turn))

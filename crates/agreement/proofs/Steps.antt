@@ -4,6 +4,7 @@ use Rattle.std.proofs.lemmas.Bool.Decides.{nat_tests}
 use Rattle.agreement.specs.Sets.{Role, other, ContextSet, Saved, next_number}
 use Rattle.agreement.specs.Sets.Role.{Initiator, Responder}
 use Rattle.agreement.specs.Messages.{Setup, Message, Choice}
+use Rattle.agreement.specs.Messages.Mode.{Direct}
 use Rattle.agreement.specs.Messages.Message.{Accept, Data, Alter, AlterAnswer, Mark, Restart, RestartAnswer, Give, Please, Release, ReleaseAnswer, UserAbort}
 use Rattle.agreement.specs.State.{State, joined_with}
 use Rattle.agreement.specs.State.Phase.{Up, Over}
@@ -20,7 +21,7 @@ swapped_to : (most : ℕ) (role : Role) (me peer : Core) (g : List Sending) (f0 
 swapped_to most role me peer g f0 s v e n = swapped most role me peer [] (entries g) s v (subst (λ xs. Normal most role me peer (entries xs) (entries g) s v) e n)
 
 -- an end that is free takes what comes
-takes_plain : (base : Setup) (role : Role) (x y : State) (s : Sending) (f g : List Sending) (shared : Shared) (m : Message) (choice : Choice) → s.message ≡ m → x.phase ≡ Up → x.awaits ≡ NoAnswer → IsChoice x m choice → Joined base.most_marks role x y (s ∷ f) g shared.set shared.saved → Free base.most_marks role x y (s ∷ f) g shared.set shared.saved → Takes base role x y f g shared s m choice
+takes_plain : (base : Setup) (role : Role) (x y : State) (s : Sending) (f g : List Sending) (shared : Shared) (m : Message) (choice : Choice) → s.message ≡ m → x.phase ≡ Up → x.awaits ≡ NoAnswer → IsChoice (direct base) x m choice → Joined base.most_marks role x y (s ∷ f) g shared.set shared.saved → Free base.most_marks role x y (s ∷ f) g shared.set shared.saved → Takes base role x y f g shared s m choice
 takes_plain base role x y s f g shared m choice e up calm c j k = by_ask k.ask_peer k.shape_peer k.view_peer
   where
     by_ask : (ask : Ask) → Shaped ask k.peer (s ∷ f) k.before_me → View (other role) y g (s ∷ f) ask k.peer k.to_peer → Takes base role x y f g shared s m choice
@@ -166,7 +167,7 @@ takes_asking base role x y s f g shared m choice n passed j e up waits kept a c 
                 join (t ∷ before) h = (good-fine role (other role) k t.message h.0, join before h.1)
 
 -- whatever comes next and isn't passed over
-pub takes : (base : Setup) (role : Role) (x y : State) (s : Sending) (f g : List Sending) (shared : Shared) (m : Message) (choice : Choice) → s.message ≡ m → (x.phase ≡ Over → ⊥) → is_purged role x.awaits m ≡ false → IsChoice x m choice → Joined base.most_marks role x y (s ∷ f) g shared.set shared.saved → Takes base role x y f g shared s m choice
+pub takes : (base : Setup) (role : Role) (x y : State) (s : Sending) (f g : List Sending) (shared : Shared) (m : Message) (choice : Choice) → s.message ≡ m → (x.phase ≡ Over → ⊥) → is_purged role x.awaits m ≡ false → IsChoice (direct base) x m choice → Joined base.most_marks role x y (s ∷ f) g shared.set shared.saved → Takes base role x y f g shared s m choice
 takes base role x y s f g shared m choice e alive kept c j = by_view j.view_me
   where
     by_view : View role x (s ∷ f) g j.ask_me j.me j.to_me → Takes base role x y f g shared s m choice
@@ -186,7 +187,7 @@ takes base role x y s f g shared m choice e alive kept c j = by_view j.view_me
             let is : m ≡ RestartAnswer n list = sym e ∙ ap (λ (u : Sending). u.message) first ∙ i in
             subst (λ t. Takes base role x y f g shared s t choice) (sym is)
             (record {
-              may = record { is_up = p; asked = a; is_same = q };
+              may = λ w. record { is_direct = refl; is_up = p; asked = a; is_same = q };
               pair = refl;
               next =
                   record {
@@ -214,13 +215,13 @@ takes base role x y s f g shared m choice e alive kept c j = by_view j.view_me
         let is : m ≡ Accept set = sym e ∙ ap (λ (u : Sending). u.message) first ∙ i in
         subst (λ t. Takes base role x y f g shared s t choice) (sym is)
         (record {
-          may = record { initiates = r; asked = subst IsBack (sym p) tt };
+          may = λ w. record { initiates = r; asked = subst IsBack (sym p) tt; is_set = w.0; is_known = w.1 };
           pair = refl;
           next =
               record {
                 ask_me = NotAsking;
                 ask_peer = j.ask_peer;
-                me = core (joined_with role set x);
+                me = core (joined_with Direct role set x);
                 peer = j.peer;
                 to_me = f;
                 to_peer = j.to_peer;
@@ -238,7 +239,7 @@ takes base role x y s f g shared m choice e alive kept c j = by_view j.view_me
         by_message : (t : Message) → s.message ≡ t → is_purged role ReleaseOf t ≡ false → Takes base role x y f g shared s t choice
         by_message ReleaseAnswer i k =
             record {
-              may = record { is_releasing = p; asked = a };
+              may = λ w. record { is_releasing = p; asked = a };
               pair = refl;
               next =
                   over base.most_marks role x y (taken (direct base) role x ReleaseAnswer choice) (s ∷ f) g f (g ++ []) shared.set shared.saved j refl

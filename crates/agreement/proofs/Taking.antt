@@ -11,6 +11,7 @@ use Rattle.agreement.specs.State.Phase.{Up, Over}
 use Rattle.agreement.specs.State.Awaited.{NoAnswer, RestartOf}
 use Rattle.agreement.specs.Takings.{is_purged, MayTake, IsChoice, answer_to, taken, additions, altered_first, later}
 use Rattle.agreement.specs.Worlds.{Sending, Shared, sendings, shared_answered, pair_under}
+use Rattle.agreement.proofs.Carried.{WasSent}
 use Rattle.agreement.proofs.Flights.{Entry, AreSound, Reads, rejections, rejections-fit}
 use Rattle.agreement.proofs.Flights.Entry.{AQuiet}
 use Rattle.agreement.proofs.Normal.{Core, Normal, back, swapped, takes_ask, takes_answer, takes_mark, takes_give, takes_value, takes_quiet, below-me, below-peer, restarted, sent_plain}
@@ -20,7 +21,7 @@ use Rattle.agreement.proofs.Views.View.{Plain, Asking, Answered, Joining, Leavin
 
 -- what a taking gives: that it may be, that the pair is the one of the sending, and what goes on
 pub record Takes (base : Setup) (role : Role) (x y : State) (f g : List Sending) (shared : Shared) (s : Sending) (m : Message) (choice : Choice) : Type 0 where
-  pub may : MayTake (direct base) role x m
+  pub may : WasSent (direct base) m → MayTake (direct base) role x m
   pub pair : pair_under x.sets.held m ≡ pair_under s.shared m
   pub next : Joined base.most_marks role (taken (direct base) role x m choice) y f (g ++ sendings shared.set (answer_to (direct base) x m choice)) (shared_answered m choice shared).set (shared_answered m choice shared).saved
 
@@ -119,7 +120,7 @@ left role y g s f ask c whole new (Gone p) n q = Gone p
 pub takes_abort : (base : Setup) (role : Role) (x y : State) (s : Sending) (f g : List Sending) (shared : Shared) (choice : Choice) → Joined base.most_marks role x y (s ∷ f) g shared.set shared.saved → Takes base role x y f g shared s UserAbort choice
 takes_abort base role x y s f g shared choice j =
     record {
-      may = tt;
+      may = λ w. tt;
       pair = refl;
       next =
           over base.most_marks role x y (taken (direct base) role x UserAbort choice) (s ∷ f) g f (g ++ []) shared.set shared.saved j refl
@@ -129,7 +130,7 @@ takes_abort base role x y s f g shared choice j =
 pub takes_release : (base : Setup) (role : Role) (x y : State) (s : Sending) (f g : List Sending) (shared : Shared) (choice : Choice) → s.message ≡ Release → x.phase ≡ Up → other role ≡ Initiator → Joined base.most_marks role x y (s ∷ f) g shared.set shared.saved → Takes base role x y f g shared s Release choice
 takes_release base role x y s f g shared choice e up r j =
     record {
-      may = record { responds = no-other role r; is_up = up; rests = λ q. absurd (cc) };
+      may = λ w. record { responds = no-other role r; is_up = up; rests = λ q. absurd (cc) };
       pair = refl;
       next =
           over base.most_marks role x y (taken (direct base) role x Release choice) (s ∷ f) g f (g ++ (record { message = ReleaseAnswer; shared = shared.set } ∷ [])) shared.set shared.saved j refl
@@ -137,14 +138,14 @@ takes_release base role x y s f g shared choice e up r j =
     }
 
 -- what is taken by an end that is free, but a restart
-pub takes_free : (base : Setup) (role : Role) (x y : State) (s : Sending) (f g : List Sending) (shared : Shared) (m : Message) (choice : Choice) → s.message ≡ m → x.phase ≡ Up → x.awaits ≡ NoAnswer → IsChoice x m choice → Joined base.most_marks role x y (s ∷ f) g shared.set shared.saved → Head base.most_marks role x y s f g shared.set shared.saved → Takes base role x y f g shared s m choice
+pub takes_free : (base : Setup) (role : Role) (x y : State) (s : Sending) (f g : List Sending) (shared : Shared) (m : Message) (choice : Choice) → s.message ≡ m → x.phase ≡ Up → x.awaits ≡ NoAnswer → IsChoice (direct base) x m choice → Joined base.most_marks role x y (s ∷ f) g shared.set shared.saved → Head base.most_marks role x y s f g shared.set shared.saved → Takes base role x y f g shared s m choice
 takes_free base role x y s f g shared m choice e up calm c j h =
     go m choice e c (subst (λ t. Normal base.most_marks role (core x) h.peer (entry s.shared t ∷ entries h.rest) (entries h.to_peer) shared.set shared.saved) e h.normal)
   where
-    go : (m : Message) (choice : Choice) → s.message ≡ m → IsChoice x m choice → Normal base.most_marks role (core x) h.peer (entry s.shared m ∷ entries h.rest) (entries h.to_peer) shared.set shared.saved → Takes base role x y f g shared s m choice
+    go : (m : Message) (choice : Choice) → s.message ≡ m → IsChoice (direct base) x m choice → Normal base.most_marks role (core x) h.peer (entry s.shared m ∷ entries h.rest) (entries h.to_peer) shared.set shared.saved → Takes base role x y f g shared s m choice
     go (Data value) choice e' c n =
         record {
-          may = record { at_once = λ e. cc; is_up = up; is_read = n.reads_me.0 };
+          may = λ w. record { at_once = λ e. cc; is_up = up; is_read = n.reads_me.0 };
           pair = n.reads_me.0 ∙ sym n.reads_me.1;
           next =
               rest_of base.most_marks role x y (taken (direct base) role x (Data value) choice) s f g shared.set shared.set shared.saved shared.saved h up calm
@@ -153,22 +154,23 @@ takes_free base role x y s f g shared m choice e up calm c j h =
     go (Alter items) (Results results) e' c n =
         record {
           may =
+              λ w.
               record {
                 is_up = up;
                 in_mode = tt;
-                once = distinct-additions items n.reads_me.2;
-                may_be_asked = may-be_asked (other role) x.sets.held items n.reads_me.1;
+                once = distinct-additions items n.reads_me.1;
+                may_be_asked = may-be_asked (other role) x.sets.held items n.reads_me.0;
               };
           pair = refl;
           next =
               answered_to base.most_marks role x y (taken (direct base) role x (Alter items) (Results results)) s f g shared.set (altered items results shared.set) shared.saved shared.saved
               h (record { message = AlterAnswer results; shared = shared.set }) up calm tt tt
-              (takes_ask base.most_marks role (core x) h.peer s.shared items results (entries h.rest) (entries h.to_peer) shared.set shared.saved n c);
+              (takes_ask base.most_marks role (core x) h.peer s.shared items results (entries h.rest) (entries h.to_peer) shared.set shared.saved n c.fits);
         }
     go (Alter items) choice e' c n = absurd c
     go (AlterAnswer results) choice e' c n =
         record {
-          may = record { is_up = up; fits = n.reads_me.0 };
+          may = λ w. record { is_up = up; fits = n.reads_me.0; is_known = w };
           pair = refl;
           next =
               rest_of base.most_marks role x y (taken (direct base) role x (AlterAnswer results) choice) s f g shared.set shared.set shared.saved shared.saved h up calm
@@ -176,7 +178,7 @@ takes_free base role x y s f g shared m choice e up calm c j h =
         }
     go (Mark number) choice e' c n =
         record {
-          may = record { is_up = up; in_mode = record { lacks_turn = n.paced_me.0; is_next = n.paced_me.1; is_within = n.paced_me.2 } };
+          may = λ w. record { is_up = up; in_mode = record { lacks_turn = n.paced_me.0; is_next = n.paced_me.1; is_within = n.paced_me.2 } };
           pair = refl;
           next =
               rest_of base.most_marks role x y (taken (direct base) role x (Mark number) choice) s f g shared.set shared.set shared.saved shared.saved h up calm
@@ -184,7 +186,7 @@ takes_free base role x y s f g shared m choice e up calm c j h =
         }
     go Give choice e' c n =
         record {
-          may = record { is_up = up; in_mode = n.paced_me.0 };
+          may = λ w. record { is_up = up; in_mode = n.paced_me.0 };
           pair = refl;
           next =
               rest_of base.most_marks role x y (taken (direct base) role x Give choice) s f g shared.set shared.set shared.saved shared.saved h up calm
@@ -193,7 +195,7 @@ takes_free base role x y s f g shared m choice e up calm c j h =
     go Release choice e' c n = takes_release base role x y s f g shared choice e' up n.reads_me.0 j
     go (Please priority) choice e' c n =
         record {
-          may = record { is_up = up; in_mode = tt };
+          may = λ w. record { is_up = up; in_mode = tt };
           pair = refl;
           next =
               rest_of base.most_marks role x y (taken (direct base) role x (Please priority) choice) s f g shared.set shared.set shared.saved shared.saved h up calm
@@ -220,7 +222,7 @@ reads-good from held own (s ∷ flight) shared h = go (λ held own shared h. rea
   where
     go : ((held : ContextSet) (own : List (List Item)) (shared : ContextSet) → Reads from held own (entries flight) shared → AllAre (IsGood from) flight) → (m : Message) → Reads from held own (entry s.shared m ∷ entries flight) shared → IsGood from m × AllAre (IsGood from) flight
     go ih (Data value) h = (tt, ih held own shared h.2)
-    go ih (Alter items) h = (tt, ih (altered items (rejections items) held) own (altered items (rejections items) shared) (h.4 (rejections items) (rejections-fit items)))
+    go ih (Alter items) h = (tt, ih (altered items (rejections items) held) own (altered items (rejections items) shared) (h.3 (rejections items) (rejections-fit items)))
     go ih (AlterAnswer results) h = (tt, ih (altered_first own results held) (later own) shared h.1)
     go ih (Mark number) h = (tt, ih held own shared h.1)
     go ih Give h = (tt, ih held own shared h)
@@ -303,7 +305,7 @@ takes_restart base role x y s f g shared m list choice peer to_peer before_me be
     let equal : below m peer.saved ≡ below m x.saved = two ∙ sym one in
     let answer : Sending = record { message = RestartAnswer m (listed (newest (below m x.saved))); shared = shared.set } in
     record {
-      may = record { is_direct = refl; is_up = up; is_positive = positive; is_known = known; is_same = same ∙ ap (λ v. listed (newest v)) equal };
+      may = λ w. record { is_direct = refl; is_up = up; is_positive = positive; is_known = known; is_same = same ∙ ap (λ v. listed (newest v)) equal };
       pair = refl;
       next =
           record {

@@ -76,7 +76,7 @@ pub data View (role : Role) (x : State) (f g : List Sending) (ask : Ask) (c : Co
   Plain : x.phase ≡ Up → x.awaits ≡ NoAnswer → ask ≡ NotAsking → c ≡ core x → whole ≡ f → AllAre IsLive g → View role x f g ask c whole
   Asking : (n : ℕ) → (passed : List Sending) → x.phase ≡ Up → x.awaits ≡ RestartOf n → ask ≡ Asks n → c ≡ core x → whole ≡ passed ++ f → AllAre IsLive g → View role x f g ask c whole
   Answered : (n : ℕ) → (before : List Sending) → (answer : Sending) → (list : List Listed) → x.phase ≡ Up → x.awaits ≡ RestartOf n → ask ≡ NotAsking → c ≡ back role n (core x) → f ≡ before ++ (answer ∷ whole) → answer.message ≡ RestartAnswer n list → list ≡ listed (newest (below n x.saved)) → AllAre (λ m. is_purged role (RestartOf n) m ≡ true) before → AllAre IsLive g → View role x f g ask c whole
-  Joining : (set : ContextSet) → (answer : Sending) → role ≡ Initiator → x.phase ≡ Opening → x.awaits ≡ NoAnswer → ask ≡ NotAsking → c ≡ core (joined_with role set x) → f ≡ answer ∷ whole → answer.message ≡ Accept set → AllAre IsLive g → View role x f g ask c whole
+  Joining : (set : ContextSet) → (answer : Sending) → role ≡ Initiator → x.phase ≡ Opening → x.awaits ≡ NoAnswer → ask ≡ NotAsking → c ≡ core (joined_with Direct role set x) → f ≡ answer ∷ whole → answer.message ≡ Accept set → AllAre IsLive g → View role x f g ask c whole
   Leaving : role ≡ Initiator → x.phase ≡ Releasing → x.awaits ≡ ReleaseOf → AllAre IsNoRelease f → View role x f g ask c whole
   Gone : x.phase ≡ Over → View role x f g ask c whole
 

@@ -1,17 +1,17 @@
 -- What an end may do of itself, what it sends then, and its state afterwards (X.225 7, X.226 6, X.228 8).
-use Rattle.std.specs.Prelude.{◌≡◌, ℕ, suc, zero, ◌≤◌, true, false, ◌++◌, length, List, [], ◌∷◌, Option, Some, None}
-use Rattle.agreement.specs.Sets.{Pair, Role, ContextSet, AllMayAsk, AreDistinct, identifiers, some_deletes, lookup, listed, below, newest, next_number}
+use Rattle.std.specs.Prelude.{◌≡◌, ℕ, suc, zero, ◌<◌, ◌≤◌, true, false, ◌++◌, length, List, [], ◌∷◌, Option, Some, None}
+use Rattle.agreement.specs.Sets.{Pair, Role, ContextSet, AllMayAsk, AreDistinct, named, most_alterations, some_deletes, lookup, listed, below, newest, next_number}
 use Rattle.agreement.specs.Sets.Role.{Initiator}
 use Rattle.agreement.specs.Messages.{Value, Mode, Setup, Codec, Message, Act}
 use Rattle.agreement.specs.Messages.Mode.{Bare, Direct, Reliable}
 use Rattle.agreement.specs.Messages.Message.{Connect, Recover, Data, Alter, Mark, Give, Please, Restart, Start, Chunk, End, Interrupt, Discard, Resume, Release, UserAbort}
-use Rattle.agreement.specs.Messages.Act.{Connects, Recovers, Says, Queues, Alters, Marks, Gives, Pleads, Restarts, Starts, Encodes, Sends, Ends, Interrupts, Discards, Resumes, Releases, Aborts, Withdraws}
+use Rattle.agreement.specs.Messages.Act.{Connects, Recovers, Says, Queues, Drops, Alters, Marks, Gives, Pleads, Restarts, Starts, Encodes, Sends, Ends, Interrupts, Discards, Resumes, Releases, Aborts, Withdraws, Fails}
 use Rattle.agreement.specs.State.{Phase, Piece, Progress, Handed, Transfer, Outgoing, State, up_to, newest_set, highest, joined, cut_calls}
 use Rattle.agreement.specs.State.Phase.{Idle, Opening, Up, Releasing, Broken, Recovering, Over}
 use Rattle.agreement.specs.State.Awaited.{NoAnswer, RestartOf, InterruptOf, DiscardOf, ReleaseOf}
 use Rattle.agreement.specs.State.Piece.{Octets, Marked}
 use Rattle.agreement.specs.State.Progress.{Running, Ending, Suspended}
-use Rattle.agreement.specs.Calls.{MayHandIn, handed_in, contexts_of_calls, contexts_of_items}
+use Rattle.agreement.specs.Calls.{MayHandIn, handed_in, after_due, due_after, contexts_of_calls, contexts_of_items}
 
 abbrev pub has_progress : Progress → Option Transfer → Type 0
 has_progress progress None = ⊥
@@ -39,6 +39,21 @@ OnRunning P codec (Some transfer) = (transfer.progress ≡ Running) × OnEncoded
 abbrev pub IsUnencoded : Option Transfer → Type 0
 IsUnencoded None = ⊥
 IsUnencoded (Some transfer) = (transfer.progress ≡ Running) × (transfer.value ≡ None)
+
+-- the item on this context, under the pair that the set gives it
+abbrev pub value_on : ℕ → Handed → Option Pair → Option Value
+value_on context item None = None
+value_on context item (Some pair) = Some (record { identifier = context; pair = pair; apdu = item.apdu })
+
+-- there is such a value, and the codec may write it
+abbrev pub IsWritable : Codec → Option Value → Type 0
+IsWritable codec None = ⊥
+IsWritable codec (Some value) = codec.may_write value ≡ true
+
+-- the item of the transfer may be written on this context
+abbrev pub MayEncode : Codec → ℕ → ContextSet → Option Transfer → Type 0
+MayEncode codec context held None = ⊥
+MayEncode codec context held (Some transfer) = IsWritable codec (value_on context transfer.item (lookup held context))
 
 -- the context on which a transfer in progress is encoded; a suspended one needs none, since its
 -- resumption brings back a mark's set or encodes anew
@@ -132,6 +147,7 @@ MayAct setup role state (Says value) =
       is_free : IsFree state;
       is_there : lookup state.sets.held value.identifier ≡ Some value.pair;
       is_kept : some_deletes value.identifier state.sets.own ≡ false;
+      is_writable : setup.codec.may_write value ≡ true;
       may_hand_in : MayHandIn setup state.calls state.outgoing.queue value.apdu;
     }
 MayAct setup role state (Queues context apdu) =
@@ -140,12 +156,14 @@ MayAct setup role state (Queues context apdu) =
       is_up : state.phase ≡ Up;
       may_hand_in : MayHandIn setup state.calls [] apdu;
     }
+MayAct setup role state Drops =
+    record { at_once : (setup.mode ≡ Reliable) → ⊥; is_free : IsFree state; has_due : (state.outgoing.queue ≡ []) → ⊥ }
 MayAct setup role state (Alters items) =
     record {
       is_free : IsFree state;
-      is_settled : state.sets.own ≡ [];
+      has_place : length state.sets.own < most_alterations;
       in_mode : MayAlterIn setup.mode state;
-      once : AreDistinct (identifiers items);
+      once : AreDistinct (named (state.sets.own ++ (items ∷ [])));
       may_ask : AllMayAsk role state.sets.held (used setup.mode state) items;
     }
 MayAct setup role state Marks = record { leads : Leads state; in_mode : MayMarkIn setup setup.mode state }
@@ -171,7 +189,7 @@ MayAct setup role state (Encodes context) =
       by_transfers : setup.mode ≡ Reliable;
       leads : Leads state;
       is_due : IsUnencoded state.outgoing.transfer;
-      is_there : (lookup state.sets.held context ≡ None) → ⊥;
+      is_writable : MayEncode setup.codec context state.sets.held state.outgoing.transfer;
     }
 MayAct setup role state (Sends octets) =
     record {
@@ -202,6 +220,7 @@ MayAct setup role state Releases =
     }
 MayAct setup role state Aborts = record { in_phase : MayAbortIn state.phase; in_mode : IsNotBare setup.mode }
 MayAct setup role state Withdraws = record { in_phase : MayWithdrawIn role state.phase; in_mode : IsNotBare setup.mode }
+MayAct setup role state Fails = record { in_phase : MayWithdrawIn role state.phase; in_mode : IsNotBare setup.mode }
 
 abbrev pub confirmed_of : Option Transfer → ℕ
 confirmed_of None = 0
@@ -219,6 +238,7 @@ sent_by setup state Connects = Connect ∷ []
 sent_by setup state Recovers = Recover ∷ []
 sent_by setup state (Says value) = Data value ∷ []
 sent_by setup state (Queues context apdu) = []
+sent_by setup state Drops = []
 sent_by setup state (Alters items) = Alter items ∷ []
 sent_by setup state Marks = Mark (next_mark setup.mode state) ∷ []
 sent_by setup state Gives = Give ∷ []
@@ -234,6 +254,7 @@ sent_by setup state Resumes = Resume state.outgoing.started (confirmed_of state.
 sent_by setup state Releases = Release ∷ []
 sent_by setup state Aborts = UserAbort ∷ []
 sent_by setup state Withdraws = []
+sent_by setup state Fails = []
 
 abbrev pub on_transfer : (Transfer → Transfer) → Outgoing → Outgoing
 on_transfer change outgoing = record outgoing { transfer = on_some outgoing.transfer }
@@ -253,11 +274,6 @@ started outgoing = record { started = suc outgoing.started; transfer = first out
     rest : List Handed → List Handed
     rest [] = []
     rest (item ∷ items) = items
-
--- the item on this context, under the pair that the set gives it
-abbrev pub value_on : ℕ → Handed → Option Pair → Option Value
-value_on context item None = None
-value_on context item (Some pair) = Some (record { identifier = context; pair = pair; apdu = item.apdu })
 
 -- back to a mark; from nothing on the item is to be encoded anew
 abbrev pub resumed_value : ℕ → Option Value → Option Value
@@ -296,12 +312,17 @@ gave_in Reliable state = record state { turn = false; gave = true }
 abbrev pub acted : Setup → State → Act → State
 acted setup state Connects = record state { phase = Opening }
 acted setup state Recovers = record state { phase = Recovering }
-acted setup state (Says value) = record state { calls = handed_in setup state.calls value.identifier value.apdu }
+acted setup state (Says value) =
+    record state {
+      calls = handed_in setup state.calls value.identifier value.apdu;
+      outgoing = record state.outgoing { queue = due_after value.apdu state.outgoing.queue };
+    }
 acted setup state (Queues context apdu) =
     record state {
       calls = handed_in setup state.calls context apdu;
       outgoing = record state.outgoing { queue = state.outgoing.queue ++ (record { context = context; apdu = apdu } ∷ []) };
     }
+acted setup state Drops = record state { outgoing = record state.outgoing { queue = after_due state.outgoing.queue } }
 acted setup state (Alters items) = record state { sets = record state.sets { own = state.sets.own ++ (items ∷ []) } }
 acted setup state Marks = marked_in setup.mode state
 acted setup state Gives = gave_in setup.mode state
@@ -331,3 +352,4 @@ acted setup state Resumes =
 acted setup state Releases = record state { phase = Releasing; awaits = ReleaseOf }
 acted setup state Aborts = record state { phase = Over; calls = cut_calls state.calls }
 acted setup state Withdraws = record state { phase = Over; calls = cut_calls state.calls }
+acted setup state Fails = record state { phase = Over }

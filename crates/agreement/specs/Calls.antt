@@ -1,8 +1,8 @@
 -- Invocations and their outcomes at one end (X.880 8, 9).
-use Rattle.std.specs.Prelude.{◌≡◌, ℕ, suc, Bool, true, false, not, ◌&&◌, ◌||◌, nat_eq, nat_lt, length, if◌then◌else◌, List, [], ◌∷◌, Option, Some, None, Contains}
-use Rattle.agreement.specs.Messages.{Apdu, Setup}
+use Rattle.std.specs.Prelude.{◌≡◌, ℕ, suc, Bool, true, false, not, ◌&&◌, ◌||◌, nat_eq, nat_lt, length, if◌then◌else◌, List, [], ◌∷◌, Option, Some, None}
+use Rattle.agreement.specs.Messages.{Apdu, is_of_invocation, Invocation, Calls, Setup}
 use Rattle.agreement.specs.Messages.Apdu.{Invoke, Outcome, Reject}
-use Rattle.agreement.specs.State.{Handed, Invocation, Calls}
+use Rattle.agreement.specs.State.{Handed}
 
 abbrev pub is_open : ℕ → List Invocation → Bool
 is_open k [] = false
@@ -26,24 +26,45 @@ abbrev pub opened : Setup → ℕ → ℕ → ℕ → List Invocation → List I
 opened setup number operation context calls =
     if setup.silent operation then calls else record { number = number; operation = operation; context = context } ∷ calls
 
--- what an end may hand in: its next invocation, whose link names an open one of the peer; an outcome
--- of an open invocation of the peer; a reject that is due
+-- there is room for one more invocation; one without an outcome never opens (this project's own limit)
+abbrev pub has_room : Setup → ℕ → List Invocation → Bool
+has_room setup operation calls = setup.silent operation || nat_lt (length calls) setup.most_open
+
+-- the invocation is open, and its operation has this outcome (X.880 8)
+abbrev pub may_answer : Setup → List Invocation → ℕ → List ℕ → Bool
+may_answer setup [] number content = false
+may_answer setup (call ∷ calls) number content =
+    if nat_eq call.number number then setup.allows call.operation content else may_answer setup calls number content
+
+-- the reject is the first that is due
+abbrev pub IsDue : Apdu → List Handed → Type 0
+IsDue reject [] = ⊥
+IsDue reject (item ∷ items) = item.apdu ≡ reject
+
+-- what an end may hand in: its next invocation, for which there is room, and whose link names an open one
+-- of the peer; an outcome that an open invocation of the peer may have; the reject that is due
 abbrev pub MayHandIn : Setup → Calls → List Handed → Apdu → Type 0
 MayHandIn setup calls due (Invoke number operation link argument) =
-    (number ≡ suc calls.made) × (is_link_allowed setup calls.peer_open operation link ≡ true)
-MayHandIn setup calls due (Outcome number content) = is_open number calls.peer_open ≡ true
-MayHandIn setup calls due (Reject number is_of_invocation) =
-    (context : ℕ) × Contains due (record { context = context; apdu = Reject number is_of_invocation })
+    (number ≡ suc calls.made) × (is_link_allowed setup calls.peer_open operation link ≡ true) ×
+    (has_room setup operation calls.own_open ≡ true)
+MayHandIn setup calls due (Outcome number content) = may_answer setup calls.peer_open number content ≡ true
+MayHandIn setup calls due (Reject number problem) = IsDue (Reject number problem) due
 
 abbrev pub handed_in : Setup → Calls → ℕ → Apdu → Calls
 handed_in setup calls context (Invoke number operation link argument) =
     record calls { own_open = opened setup number operation context calls.own_open; made = suc calls.made }
 handed_in setup calls context (Outcome number content) = record calls { peer_open = close number calls.peer_open }
-handed_in setup calls context (Reject number is_of_invocation) = calls
+handed_in setup calls context (Reject number problem) = calls
 
--- there is room for one more invocation; one without an outcome never opens (this project's own limit)
-abbrev pub has_room : Setup → ℕ → List Invocation → Bool
-has_room setup operation calls = setup.silent operation || nat_lt (length calls) setup.most_open
+-- what is due without its first
+abbrev pub after_due : List Handed → List Handed
+after_due [] = []
+after_due (item ∷ items) = items
+
+-- a reject that is said is due no longer
+abbrev pub due_after : Apdu → List Handed → List Handed
+due_after (Reject number problem) due = after_due due
+due_after apdu due = due
 
 -- an APDU that is taken is accepted: an invocation whose number isn't open, for which there is room
 -- and whose link is allowed, an outcome or a reject of an own open invocation (X.880 9)
@@ -51,26 +72,28 @@ abbrev pub is_accepted : Setup → Calls → Apdu → Bool
 is_accepted setup calls (Invoke number operation link argument) =
     not (is_open number calls.peer_open) && has_room setup operation calls.peer_open && is_link_allowed setup calls.own_open operation link
 is_accepted setup calls (Outcome number content) = is_open number calls.own_open
-is_accepted setup calls (Reject number is_of_invocation) = is_of_invocation && is_open number calls.own_open
+is_accepted setup calls (Reject number problem) = is_of_invocation problem && is_open number calls.own_open
 
 abbrev pub accepted : Setup → Calls → ℕ → Apdu → Calls
 accepted setup calls context (Invoke number operation link argument) =
     record calls { peer_open = opened setup number operation context calls.peer_open }
 accepted setup calls context (Outcome number content) = record calls { own_open = close number calls.own_open }
-accepted setup calls context (Reject number is_of_invocation) = record calls { own_open = close number calls.own_open }
+accepted setup calls context (Reject number problem) = record calls { own_open = close number calls.own_open }
 
 -- what isn't accepted changes nothing
 abbrev pub heard : Setup → Calls → ℕ → Apdu → Calls
 heard setup calls context apdu = if is_accepted setup calls apdu then accepted setup calls context apdu else calls
 
--- and brings a reject, which joins what is due; a reject brings none
-abbrev pub reject_of : ℕ → Apdu → List Handed
-reject_of context (Invoke number operation link argument) = record { context = context; apdu = Reject number true } ∷ []
-reject_of context (Outcome number content) = record { context = context; apdu = Reject number false } ∷ []
-reject_of context (Reject number is_of_invocation) = []
+-- and brings a reject with its problem, which joins what is due; a reject brings none
+abbrev pub reject_of : Setup → Calls → ℕ → Apdu → List Handed
+reject_of setup calls context (Invoke number operation link argument) =
+    record { context = context; apdu = Reject number (setup.problem calls (Invoke number operation link argument)) } ∷ []
+reject_of setup calls context (Outcome number content) =
+    record { context = context; apdu = Reject number (setup.problem calls (Outcome number content)) } ∷ []
+reject_of setup calls context (Reject number problem) = []
 
 abbrev pub rejects_of : Setup → Calls → ℕ → Apdu → List Handed
-rejects_of setup calls context apdu = if is_accepted setup calls apdu then [] else reject_of context apdu
+rejects_of setup calls context apdu = if is_accepted setup calls apdu then [] else reject_of setup calls context apdu
 
 abbrev pub contexts_of_calls : List Invocation → List ℕ
 contexts_of_calls [] = []

@@ -1,18 +1,18 @@
 -- The laws of two ends, over every world that they can reach.
-use Rattle.std.specs.Prelude.{◌≡◌, ℕ, ◌<◌, true, false, if◌then◌else◌, ◌⊎◌, ◌++◌, List, [], ◌∷◌, Option, Some, None}
-use Rattle.agreement.specs.Sets.{Pair, Role, ContextSet, other, lookup, AreDistinct, is_among, identifiers}
+use Rattle.std.specs.Prelude.{◌≡◌, ℕ, suc, ◌<◌, ◌≤◌, nat_eq, length, true, false, if◌then◌else◌, ◌⊎◌, ◌++◌, List, [], ◌∷◌, Option, Some, None}
+use Rattle.agreement.specs.Sets.{Pair, Role, ContextSet, IsKnownSet, other, lookup, AreDistinct, is_among, identifiers, named, most_alterations}
 use Rattle.agreement.specs.Sets.Role.{Initiator, Responder}
-use Rattle.agreement.specs.Messages.{Apdu, Value, Setup, Message, Choice}
+use Rattle.agreement.specs.Messages.{Apdu, Invocation, Calls, Value, Setup, Message, Choice}
 use Rattle.agreement.specs.Messages.Message.{Accept, Connect, End}
-use Rattle.agreement.specs.Messages.Act.{Alters, Gives, Says, Queues, Encodes}
+use Rattle.agreement.specs.Messages.Act.{Alters, Gives, Says, Queues, Starts, Encodes}
 use Rattle.agreement.specs.Messages.Choice.{Accepting}
 use Rattle.agreement.specs.Messages.Apdu.{Invoke, Outcome, Reject}
-use Rattle.agreement.specs.State.{Phase, Awaited, Transfer, Invocation, State, Calls}
+use Rattle.agreement.specs.State.{Phase, Awaited, Handed, Transfer, State}
 use Rattle.agreement.specs.State.Phase.{Up, Releasing}
 use Rattle.agreement.specs.State.Awaited.{RestartOf}
 use Rattle.agreement.specs.Acts.{IsNotBare}
 use Rattle.agreement.specs.Takings.{MayTake, value_of, handed_up}
-use Rattle.agreement.specs.Calls.{is_open, is_accepted}
+use Rattle.agreement.specs.Calls.{is_open, may_answer, is_accepted}
 use Rattle.agreement.specs.Worlds.{Step, World, if_same, state_of, Sending, sent_by_step, shared_at, pair_under, IsRun}
 use Rattle.agreement.specs.Worlds.Step.{Acts, Takes, Passes}
 use Rattle.agreement.specs.Worlds.Moment.{By, Break}
@@ -116,13 +116,12 @@ InitiatorLeads setup =
     (state_of setup Initiator (later ++ (By Initiator (Takes (Accept set) choice) ∷ earlier))).phase ≡ Up →
     (state_of setup Initiator (later ++ (By Initiator (Takes (Accept set) choice) ∷ earlier))).turn ≡ true
 
--- the invocation that an APDU is the outcome of, as it is told: of a result, an error, or a reject of
+-- the invocation that an APDU is the outcome of, where it is accepted: of a result, an error, or a reject of
 -- the invocation (X.880 9)
 abbrev pub outcome_in : Apdu → List ℕ
 outcome_in (Invoke number operation link argument) = []
 outcome_in (Outcome number content) = number ∷ []
-outcome_in (Reject number true) = number ∷ []
-outcome_in (Reject number false) = []
+outcome_in (Reject number problem) = number ∷ []
 
 abbrev pub told_by : Setup → State → Option Value → List ℕ
 told_by setup state None = []
@@ -164,7 +163,7 @@ IsAmong apdu (first ∷ rest) = (first ≡ apdu) ⊎ IsAmong apdu rest
 abbrev pub IsHandedIn : List Apdu → Apdu → Type 0
 IsHandedIn handed (Invoke number operation link argument) = IsAmong (Invoke number operation link argument) handed
 IsHandedIn handed (Outcome number content) = IsAmong (Outcome number content) handed
-IsHandedIn handed (Reject number is_of_invocation) = Unit {0}
+IsHandedIn handed (Reject number problem) = Unit {0}
 
 -- the other side's own: each invocation and each outcome that is handed up is one that was handed in
 -- at the other end
@@ -193,6 +192,56 @@ answered role (By who step ∷ world) = if_same role who (answered_after step (a
 -- was handed in
 abbrev pub AnsweredOnce : Setup → Type 0
 AnsweredOnce setup = (world : World) → IsRun setup world → (role : Role) → AreDistinct (answered role world)
+
+-- the operation of the open invocation with this number
+abbrev pub operation_of : ℕ → List Invocation → Option ℕ
+operation_of number [] = None
+operation_of number (call ∷ calls) = if nat_eq call.number number then Some call.operation else operation_of number calls
+
+-- an outcome that an end handed in, with the operation of the invocation that it answers, as that stood open there
+pub record Answer : Type 0 where
+  pub number : ℕ
+  pub content : List ℕ
+  pub operation : Option ℕ
+
+abbrev pub answer_with : State → Apdu → List Answer
+answer_with state (Outcome number content) =
+    record { number = number; content = content; operation = operation_of number state.calls.peer_open } ∷ []
+answer_with state apdu = []
+
+abbrev pub answers_by : State → Step → List Answer
+answers_by state (Acts (Says value)) = answer_with state value.apdu
+answers_by state (Acts (Queues context apdu)) = answer_with state apdu
+answers_by state step = []
+
+-- the outcomes that an end handed in, the newest first
+abbrev pub answers : Setup → Role → World → List Answer
+answers setup role [] = []
+answers setup role (Break ∷ world) = answers setup role world
+answers setup role (By who step ∷ world) =
+    if_same role who (answers_by (state_of setup role world) step ++ answers setup role world) (answers setup role world)
+
+abbrev pub IsAnAnswer : Answer → List Answer → Type 0
+IsAnAnswer answer [] = ⊥
+IsAnAnswer answer (first ∷ rest) = (first ≡ answer) ⊎ IsAnAnswer answer rest
+
+-- one operation: where an outcome is accepted, the open invocation that it answers has the operation that it had
+-- at the end that answered, and this operation has that outcome
+abbrev pub OneOperation : Setup → Type 0
+OneOperation setup =
+    (world : World) (role : Role) (message : Message) (choice : Choice) (value : Value) (number : ℕ) (content : List ℕ) →
+    IsRun setup (By role (Takes message choice) ∷ world) → value_of setup (state_of setup role world) message ≡ Some value →
+    value.apdu ≡ Outcome number content → is_open number (state_of setup role world).calls.own_open ≡ true →
+    IsAnAnswer (record { number = number; content = content; operation = operation_of number (state_of setup role world).calls.own_open }) (answers setup (other role) world) ×
+    (may_answer setup (state_of setup role world).calls.own_open number content ≡ true)
+
+-- one invocation: an end hands in at most one under each number, so its link and its argument, too, are at both ends
+-- those that were handed in
+abbrev pub OneInvocation : Setup → Type 0
+OneInvocation setup =
+    (world : World) (role : Role) (number operation operation' : ℕ) (link link' : Option ℕ) (argument argument' : List ℕ) → IsRun setup world →
+    IsAmong (Invoke number operation link argument) (all_handed role world) → IsAmong (Invoke number operation' link' argument') (all_handed role world) →
+    Invoke number operation link argument ≡ Invoke number operation' link' argument'
 
 -- an item as it was encoded: its activity, its APDU, its context, and the pair that the shared set
 -- gave that just then
@@ -229,6 +278,36 @@ ArriveWhole setup =
     (world : World) (role : Role) (number : ℕ) (choice : Choice) (value : Value) → IsRun setup (By role (Takes (End number) choice) ∷ world) →
     handed_up setup (state_of setup role world).sets.held (state_of setup role world).incoming ≡ Some value →
     IsNewest (record { activity = (state_of setup role world).incoming.last; apdu = value.apdu; identifier = value.identifier; pair = Some value.pair }) (encodings setup (other role) world)
+
+-- the items that an end started since its association began, the newest first: the k-th is that of its activity k
+abbrev pub first_of : List Handed → List Handed
+first_of [] = []
+first_of (item ∷ items) = item ∷ []
+
+abbrev pub started_after : State → Step → List Handed → List Handed
+started_after state (Acts Starts) items = first_of state.outgoing.queue ++ items
+started_after state (Takes Connect (Accepting set)) items = []
+started_after state step items = items
+
+abbrev pub items_started : Setup → Role → World → List Handed
+items_started setup role [] = []
+items_started setup role (Break ∷ world) = items_started setup role world
+items_started setup role (By who step ∷ world) =
+    if_same role who (started_after (state_of setup role world) step (items_started setup role world)) (items_started setup role world)
+
+abbrev pub item_of : ℕ → List Handed → Option Handed
+item_of k [] = None
+item_of k (item ∷ items) = if nat_eq k (suc (length items)) then Some item else item_of k items
+
+abbrev pub IsOf : Apdu → Option Handed → Type 0
+IsOf apdu None = ⊥
+IsOf apdu (Some item) = item.apdu ≡ apdu
+
+-- items of activities: what was last encoded for an activity is the item that was started as that activity
+abbrev pub ItemsOfActivities : Setup → Type 0
+ItemsOfActivities setup =
+    (world : World) (role : Role) (encoding : Encoding) → IsRun setup world → IsNewest encoding (encodings setup role world) →
+    IsOf encoding.apdu (item_of encoding.activity (items_started setup role world))
 
 -- the activities whose transfers were handed up at an end since its association began, the newest first
 abbrev pub arrived_of : Option Value → ℕ → List ℕ
@@ -270,7 +349,7 @@ NamesOpen setup calls (Invoke number operation None argument) = is_open number c
 NamesOpen setup calls (Invoke number operation (Some parent) argument) =
     (is_open number calls.peer_open ≡ false) × HasParent setup calls.own_open operation parent
 NamesOpen setup calls (Outcome number content) = is_open number calls.own_open ≡ true
-NamesOpen setup calls (Reject number is_of_invocation) = is_open number calls.own_open ≡ true
+NamesOpen setup calls (Reject number problem) = is_open number calls.own_open ≡ true
 
 -- what is accepted names what is open
 abbrev pub AcceptedNamesOpen : Setup → Type 0
@@ -300,3 +379,20 @@ invoked setup role (By who step ∷ world) =
 -- each invocation is taken at most once: their numbers rise
 abbrev pub InvokedOnce : Setup → Type 0
 InvokedOnce setup = (world : World) → IsRun setup world → (role : Role) → AreFalling (invoked setup role world)
+
+-- alterations are few: an end has at most four unanswered ones, and no identifier is named twice in them
+abbrev pub AlterationsAreFew : Setup → Type 0
+AlterationsAreFew setup =
+    (world : World) → IsRun setup world → (role : Role) →
+    (length (state_of setup role world).sets.own ≤ most_alterations) × AreDistinct (named (state_of setup role world).sets.own)
+
+-- contexts are known: out of bare mode each context of an end's set and of the shared set has a transfer syntax that
+-- the ends know
+abbrev pub ContextsAreKnown : Setup → Type 0
+ContextsAreKnown setup =
+    IsNotBare setup.mode → (world : World) → IsRun setup world →
+    record {
+      initiator : IsKnownSet setup.knows (state_of setup Initiator world).sets.held;
+      responder : IsKnownSet setup.knows (state_of setup Responder world).sets.held;
+      shared : IsKnownSet setup.knows (shared_at setup world).set;
+    }

@@ -1,13 +1,36 @@
 -- The messages of an association, with their values kept abstract (X.225, X.226, X.227, X.228, X.880).
-use Rattle.std.specs.Prelude.{◌≡◌, ℕ, Bool, List, Option, Some}
+use Rattle.std.specs.Prelude.{◌≡◌, ℕ, Bool, true, false, List, Option, Some}
 use Rattle.agreement.specs.Sets.{Pair, Context, ContextSet, Item, Result, Listed, lookup}
 
--- an APDU of remote operations (X.880 9): an invocation with its number, operation and link, an
--- outcome (a result or an error) with its number, or a reject
+-- why an APDU is rejected (X.880 9): a problem of any APDU, of an invocation, of a result, of an error
+pub data Problem : Type 0 where
+  General : (code : ℕ) → Problem
+  OfInvocation : (code : ℕ) → Problem
+  OfResult : (code : ℕ) → Problem
+  OfError : (code : ℕ) → Problem
+
+abbrev pub is_of_invocation : Problem → Bool
+is_of_invocation (OfInvocation code) = true
+is_of_invocation problem = false
+
+-- an APDU of remote operations (X.880 9): an invocation with its number, operation, link and argument,
+-- an outcome (a result or an error) with its number, or a reject; argument and content are octets
 pub data Apdu : Type 0 where
-  Invoke : (number : ℕ) → (operation : ℕ) → (link : Option ℕ) → (argument : ℕ) → Apdu
-  Outcome : (number : ℕ) → (content : ℕ) → Apdu
-  Reject : (number : ℕ) → (is_of_invocation : Bool) → Apdu
+  Invoke : (number : ℕ) → (operation : ℕ) → (link : Option ℕ) → (argument : List ℕ) → Apdu
+  Outcome : (number : ℕ) → (content : List ℕ) → Apdu
+  Reject : (number : ℕ) → (problem : Problem) → Apdu
+
+-- an open invocation with its operation and context
+pub record Invocation : Type 0 where
+  pub number : ℕ
+  pub operation : ℕ
+  pub context : ℕ
+
+-- the own and the peer's open invocations of an end, and how many were made here
+pub record Calls : Type 0 where
+  pub own_open : List Invocation
+  pub peer_open : List Invocation
+  pub made : ℕ
 
 -- a presentation value: an APDU on a context, with the pair that it is written under
 pub record Value : Type 0 where
@@ -15,26 +38,32 @@ pub record Value : Type 0 where
   pub pair : Pair
   pub apdu : Apdu
 
--- how values stand in octets: what is written under the pair that a set gives its context is read
--- under that set as the same value
+-- how values stand in octets: of the values that it may write, what is written under the pair that a
+-- set gives its context is read under that set as the same value
 pub record Codec : Type 0 where
   pub written : Value → List ℕ
   pub read : ContextSet → List ℕ → Option Value
-  pub faithful : (set : ContextSet) (value : Value) → lookup set value.identifier ≡ Some value.pair → read set (written value) ≡ Some value
+  pub may_write : Value → Bool
+  pub faithful : (set : ContextSet) (value : Value) → may_write value ≡ true → lookup set value.identifier ≡ Some value.pair → read set (written value) ≡ Some value
 
 pub data Mode : Type 0 where
   Bare : Mode
   Direct : Mode
   Reliable : Mode
 
--- what the two ends have in common: the mode, the codec, which operations have no outcome, which
--- operation may be linked to an invocation of which (X.880 8), the one context of bare mode, and the
--- limits: the most marks, the most octets of a transfer, the most open invocations of one end
+-- what the two ends have in common: the mode, the codec, the transfer syntaxes that they know, which
+-- operations have no outcome, which operation may be linked to an invocation of which, which outcomes an
+-- operation has (X.880 8), the problem for which an APDU that isn't accepted is rejected, the one context
+-- of bare mode, and the limits: the most marks, the most octets of a transfer, the most open invocations
+-- of one end
 pub record Setup : Type 0 where
   pub mode : Mode
   pub codec : Codec
+  pub knows : List ℕ → Bool
   pub silent : ℕ → Bool
   pub links : ℕ → ℕ → Bool
+  pub allows : ℕ → List ℕ → Bool
+  pub problem : Calls → Apdu → Problem
   pub bare_context : Context
   pub most_marks : ℕ
   pub most_octets : ℕ
@@ -74,6 +103,7 @@ pub data Act : Type 0 where
   Recovers : Act
   Says : (value : Value) → Act
   Queues : (context : ℕ) → (apdu : Apdu) → Act  -- reliable mode: hands an APDU in
+  Drops : Act  -- else: drops the reject that is due, where no context may carry it
   Alters : (items : List Item) → Act
   Marks : Act
   Gives : Act
@@ -89,6 +119,7 @@ pub data Act : Type 0 where
   Releases : Act
   Aborts : Act
   Withdraws : Act  -- goes over before it sent or took a CN on this connection, with nothing sent
+  Fails : Act  -- so too, as the transport connection is refused (DR, X.224); what is open stays open
 
 -- what the taker of a message decides: the contexts that it accepts, that it refuses, or the results
 pub data Choice : Type 0 where

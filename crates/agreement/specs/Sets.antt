@@ -1,5 +1,5 @@
 -- Presentation contexts, sets of them and their alterations (X.216 7.2, X.226 6.2, 6.3).
-use Rattle.std.specs.Prelude.{◌≡◌, ℕ, suc, ◌<◌, ◌%◌, Bool, true, false, ◌||◌, nat_eq, nat_lt, if◌then◌else◌, List, [], ◌∷◌, Option, Some, None, is_some, Contains}
+use Rattle.std.specs.Prelude.{◌≡◌, ℕ, suc, ◌<◌, ◌%◌, Bool, true, false, ◌||◌, ◌++◌, nat_eq, nat_lt, if◌then◌else◌, List, [], ◌∷◌, Option, Some, None, is_some, Contains}
 
 -- the two ends of an association (X.217: the one that asks for it, and the other)
 pub data Role : Type 0 where
@@ -96,6 +96,21 @@ Fits [] (result ∷ results) = ⊥
 Fits (item ∷ items) [] = ⊥
 Fits (item ∷ items) (result ∷ results) = FitsItem item result × Fits items results
 
+-- each accepted addition has a transfer syntax that the ends know
+abbrev pub IsKnown : (List ℕ → Bool) → Result → Type 0
+IsKnown knows Rejected = Unit {0}
+IsKnown knows Accepted = Unit {0}
+IsKnown knows (AcceptedAs p) = knows p.transfer_syntax ≡ true
+
+abbrev pub AreKnown : (List ℕ → Bool) → List Result → Type 0
+AreKnown knows [] = Unit {0}
+AreKnown knows (result ∷ results) = IsKnown knows result × AreKnown knows results
+
+-- so has each context of an accepted set
+abbrev pub IsKnownSet : (List ℕ → Bool) → ContextSet → Type 0
+IsKnownSet knows [] = Unit {0}
+IsKnownSet knows (c ∷ cs) = (knows c.pair.transfer_syntax ≡ true) × IsKnownSet knows cs
+
 abbrev pub is_among : ℕ → List ℕ → Bool
 is_among k [] = false
 is_among k (j ∷ js) = nat_eq k j || is_among k js
@@ -116,6 +131,15 @@ identifiers (item ∷ items) = identifier_of item ∷ identifiers items
 abbrev pub AreDistinct : List ℕ → Type 0
 AreDistinct [] = Unit {0}
 AreDistinct (k ∷ ks) = (is_among k ks ≡ false) × AreDistinct ks
+
+-- the identifiers that some alterations name
+abbrev pub named : List (List Item) → List ℕ
+named [] = []
+named (items ∷ rest) = identifiers items ++ named rest
+
+-- an end has at most so many unanswered alterations (this project's own limit)
+abbrev pub most_alterations : ℕ
+most_alterations = 4
 
 -- what an end may ask for over its set: to add what is absent, under its own parity; to delete what
 -- is there and not in use

@@ -1,7 +1,7 @@
 -- What an end has in hand: its sets, what it sends, what it receives, its open invocations.
 use Rattle.std.specs.Prelude.{ℕ, zero, suc, Bool, false, nat_eq, if◌then◌else◌, List, [], ◌∷◌, ◌++◌, Option, None}
 use Rattle.agreement.specs.Sets.{Role, is_initiator, ContextSet, Item, Saved}
-use Rattle.agreement.specs.Messages.{Apdu, Value, Mode, Setup}
+use Rattle.agreement.specs.Messages.{Apdu, Calls, Value, Mode, Setup}
 use Rattle.agreement.specs.Messages.Mode.{Bare, Direct, Reliable}
 
 pub data Phase : Type 0 where
@@ -79,7 +79,8 @@ pub record Transfer : Type 0 where
   pub confirmed : ℕ
   pub progress : Progress
 
--- what an end sends: the number of its last started activity, the current transfer, the queue
+-- what an end sends: the number of its last started activity, the current transfer, and the queue: in
+-- reliable mode what is to be transferred, else the rejects that are due
 pub record Outgoing : Type 0 where
   pub started : ℕ
   pub transfer : Option Transfer
@@ -91,18 +92,6 @@ pub record Incoming : Type 0 where
   pub pieces : List Piece
   pub was_handed : Bool
   pub active : Bool
-
--- an open invocation with its operation and context
-pub record Invocation : Type 0 where
-  pub number : ℕ
-  pub operation : ℕ
-  pub context : ℕ
-
--- the own and the peer's open invocations, and how many were made here
-pub record Calls : Type 0 where
-  pub own_open : List Invocation
-  pub peer_open : List Invocation
-  pub made : ℕ
 
 pub record State : Type 0 where
   pub phase : Phase
@@ -131,12 +120,12 @@ first_set setup Bare = setup.bare_context ∷ []
 first_set setup Direct = []
 first_set setup Reliable = []
 
--- a new end
-abbrev pub new_end : Setup → State
-new_end setup =
+-- a new end; the turn is at the initiator
+abbrev pub new_end : Setup → Role → State
+new_end setup role =
     record {
       phase = first_phase setup.mode;
-      turn = false;
+      turn = is_initiator role;
       gave = false;
       awaits = NoAnswer;
       sets = record { held = first_set setup setup.mode; inter = []; own = [] };
@@ -146,14 +135,23 @@ new_end setup =
       calls = no_calls;
     }
 
--- up with the accepted contexts: number 0 saves them, the turn is at the initiator
-abbrev pub joined_with : Role → ContextSet → State → State
-joined_with role set state =
+-- what is accepted is the inter-activity set in reliable mode, and is saved under number 0 in direct mode
+abbrev pub inter_with : Mode → ContextSet → ContextSet → ContextSet
+inter_with Reliable set inter = set
+inter_with mode set inter = inter
+
+abbrev pub saved_with : Mode → ContextSet → List Saved → List Saved
+saved_with Direct set saved = record { number = 0; set = set } ∷ []
+saved_with mode set saved = saved
+
+-- up with the accepted contexts; the turn is at the initiator
+abbrev pub joined_with : Mode → Role → ContextSet → State → State
+joined_with mode role set state =
     record state {
       phase = Up;
       turn = is_initiator role;
       gave = false;
       awaits = NoAnswer;
-      sets = record { held = set; inter = set; own = [] };
-      saved = record { number = 0; set = set } ∷ [];
+      sets = record { held = set; inter = inter_with mode set state.sets.inter; own = [] };
+      saved = saved_with mode set state.saved;
     }

@@ -1,14 +1,14 @@
 -- What an end may take, what it passes over, what it answers, and its state afterwards (X.225 7, X.226 6, X.228 8).
 use Rattle.std.specs.Prelude.{◌≡◌, ℕ, suc, ◌≤◌, ◌⊎◌, Bool, true, false, not, ◌&&◌, ◌||◌, nat_eq, nat_lt, if◌then◌else◌, ◌++◌, length, List, [], ◌∷◌, Option, Some, None}
-use Rattle.agreement.specs.Sets.{IsRising, Role, is_initiator, other, ContextSet, Item, Result, Fits, AllMayBeAsked, AreDistinct, altered, identifiers, lookup, listed, below, newest, next_number}
+use Rattle.agreement.specs.Sets.{IsRising, AreKnown, IsKnownSet, Role, is_initiator, other, ContextSet, Item, Result, Fits, AllMayBeAsked, AreDistinct, altered, identifiers, lookup, listed, below, newest, next_number}
 use Rattle.agreement.specs.Sets.Role.{Initiator, Responder}
 use Rattle.agreement.specs.Sets.Item.{Addition, Deletion}
-use Rattle.agreement.specs.Messages.{Apdu, Value, Mode, Setup, Message, Choice}
+use Rattle.agreement.specs.Messages.{Apdu, Calls, Value, Mode, Setup, Message, Choice}
 use Rattle.agreement.specs.Messages.Mode.{Bare, Direct, Reliable}
 use Rattle.agreement.specs.Messages.Apdu.{Invoke}
 use Rattle.agreement.specs.Messages.Message.{Connect, Recover, Accept, Refuse, Data, Alter, AlterAnswer, Mark, MarkAnswer, Restart, RestartAnswer, Start, Resume, Chunk, End, EndAnswer, Interrupt, InterruptAnswer, Discard, DiscardAnswer, Give, GiveAnswer, Please, Release, ReleaseAnswer, UserAbort}
 use Rattle.agreement.specs.Messages.Choice.{Nothing, Accepting, Refusing, Results}
-use Rattle.agreement.specs.State.{Phase, Awaited, Transfer, Incoming, Calls, State, up_to, highest, joined, cut_calls, new_end, joined_with}
+use Rattle.agreement.specs.State.{Phase, Awaited, Transfer, Incoming, State, up_to, highest, joined, cut_calls, new_end, joined_with}
 use Rattle.agreement.specs.State.Phase.{Idle, Opening, Up, Releasing, Broken, Recovering, Over}
 use Rattle.agreement.specs.State.Awaited.{NoAnswer, RestartOf, InterruptOf, DiscardOf, ReleaseOf}
 use Rattle.agreement.specs.State.Piece.{Octets, Marked}
@@ -111,7 +111,8 @@ IsUnjoined phase = ⊥
 abbrev pub MayTake : Setup → Role → State → Message → Type 0
 MayTake setup role state Connect = record { responds : role ≡ Responder; is_unjoined : IsUnjoined state.phase }
 MayTake setup role state Recover = record { responds : role ≡ Responder; is_unjoined : IsUnjoined state.phase }
-MayTake setup role state (Accept set) = record { initiates : role ≡ Initiator; asked : IsBack state.phase }
+MayTake setup role state (Accept set) =
+    record { initiates : role ≡ Initiator; asked : IsBack state.phase; is_set : IsRising set; is_known : IsKnownSet setup.knows set }
 MayTake setup role state Refuse = record { initiates : role ≡ Initiator; asked : IsBack state.phase }
 MayTake setup role state (Data value) =
     record {
@@ -127,7 +128,7 @@ MayTake setup role state (Alter items) =
       may_be_asked : AllMayBeAsked (other role) state.sets.held items;
     }
 MayTake setup role state (AlterAnswer results) =
-    record { is_up : state.phase ≡ Up; fits : OnFirst (λ items. Fits items results) state.sets.own }
+    record { is_up : state.phase ≡ Up; fits : OnFirst (λ items. Fits items results) state.sets.own; is_known : AreKnown setup.knows results }
 MayTake setup role state (Mark number) =
     record { is_up : state.phase ≡ Up; in_mode : MayMarkFrom setup setup.mode state number }
 MayTake setup role state (MarkAnswer number) =
@@ -142,6 +143,7 @@ MayTake setup role state (Restart number list) =
     }
 MayTake setup role state (RestartAnswer number list) =
     record {
+      is_direct : setup.mode ≡ Direct;
       is_up : state.phase ≡ Up;
       asked : state.awaits ≡ RestartOf number;
       is_same : list ≡ listed (newest (below number state.saved));
@@ -183,10 +185,12 @@ MayTake setup role state (EndAnswer number) =
     record { by_transfers : setup.mode ≡ Reliable; is_up : state.phase ≡ Up; is_its : IsEndOf state.outgoing.transfer number }
 MayTake setup role state Interrupt =
     record { by_transfers : setup.mode ≡ Reliable; is_up : state.phase ≡ Up; is_active : state.incoming.active ≡ true }
-MayTake setup role state InterruptAnswer = record { is_up : state.phase ≡ Up; asked : state.awaits ≡ InterruptOf }
+MayTake setup role state InterruptAnswer =
+    record { by_transfers : setup.mode ≡ Reliable; is_up : state.phase ≡ Up; asked : state.awaits ≡ InterruptOf }
 MayTake setup role state Discard =
     record { by_transfers : setup.mode ≡ Reliable; is_up : state.phase ≡ Up; is_active : state.incoming.active ≡ true }
-MayTake setup role state DiscardAnswer = record { is_up : state.phase ≡ Up; asked : state.awaits ≡ DiscardOf }
+MayTake setup role state DiscardAnswer =
+    record { by_transfers : setup.mode ≡ Reliable; is_up : state.phase ≡ Up; asked : state.awaits ≡ DiscardOf }
 MayTake setup role state Give = record { is_up : state.phase ≡ Up; in_mode : MayGiveFrom setup.mode state }
 MayTake setup role state GiveAnswer = record { by_transfers : setup.mode ≡ Reliable; is_up : state.phase ≡ Up; asked : state.gave ≡ true }
 MayTake setup role state (Please priority) = record { is_up : state.phase ≡ Up; in_mode : IsNotBare setup.mode }
@@ -200,18 +204,19 @@ MayTake setup role state ReleaseAnswer = record { is_releasing : state.phase ≡
 MayTake setup role state UserAbort = Unit {0}
 
 -- what the taker may decide: over an opening freely, over a recovery where it has the association,
--- over an alteration by results that fit; over nothing else
-abbrev pub IsChoice : State → Message → Choice → Type 0
-IsChoice state Connect (Accepting set) = IsRising set
-IsChoice state Connect Refusing = Unit {0}
-IsChoice state Recover (Accepting set) = record { is_known : state.phase ≡ Broken; is_set : IsRising set }
-IsChoice state Recover Refusing = Unit {0}
-IsChoice state (Alter items) (Results results) = Fits items results
-IsChoice state Connect choice = ⊥
-IsChoice state Recover choice = ⊥
-IsChoice state (Alter items) choice = ⊥
-IsChoice state message Nothing = Unit {0}
-IsChoice state message choice = ⊥
+-- over an alteration by results that fit, each with transfer syntaxes that it knows; over nothing else
+abbrev pub IsChoice : Setup → State → Message → Choice → Type 0
+IsChoice setup state Connect (Accepting set) = record { is_set : IsRising set; is_known : IsKnownSet setup.knows set }
+IsChoice setup state Connect Refusing = Unit {0}
+IsChoice setup state Recover (Accepting set) =
+    record { has_it : state.phase ≡ Broken; is_set : IsRising set; is_known : IsKnownSet setup.knows set }
+IsChoice setup state Recover Refusing = Unit {0}
+IsChoice setup state (Alter items) (Results results) = record { fits : Fits items results; is_known : AreKnown setup.knows results }
+IsChoice setup state Connect choice = ⊥
+IsChoice setup state Recover choice = ⊥
+IsChoice setup state (Alter items) choice = ⊥
+IsChoice setup state message Nothing = Unit {0}
+IsChoice setup state message choice = ⊥
 
 abbrev pub acceptance : Choice → List Message
 acceptance (Accepting set) = Accept set ∷ []
@@ -308,14 +313,14 @@ refusing phase = Over
 
 -- an accepted opening begins anew; an accepted recovery goes on
 abbrev pub opened_by : Setup → Role → Choice → State → State
-opened_by setup role (Accepting set) state = joined_with role set (new_end setup)
+opened_by setup role (Accepting set) state = joined_with setup.mode role set (new_end setup role)
 opened_by setup role Refusing state = record state { phase = refusing state.phase }
 opened_by setup role choice state = state
 
-abbrev pub recovered_by : Role → Choice → State → State
-recovered_by role (Accepting set) state = joined_with role set state
-recovered_by role Refusing state = record state { phase = refusing state.phase }
-recovered_by role choice state = state
+abbrev pub recovered_by : Setup → Role → Choice → State → State
+recovered_by setup role (Accepting set) state = joined_with setup.mode role set state
+recovered_by setup role Refusing state = record state { phase = refusing state.phase }
+recovered_by setup role choice state = state
 
 abbrev pub altered_by : List Item → Choice → State → State
 altered_by items (Results results) state =
@@ -341,8 +346,8 @@ cut_item (Some transfer) calls = cut_apdu transfer.item.apdu calls
 -- the state after a taking
 abbrev pub taken : Setup → Role → State → Message → Choice → State
 taken setup role state Connect choice = opened_by setup role choice state
-taken setup role state Recover choice = recovered_by role choice state
-taken setup role state (Accept set) choice = joined_with role set state
+taken setup role state Recover choice = recovered_by setup role choice state
+taken setup role state (Accept set) choice = joined_with setup.mode role set state
 taken setup role state Refuse choice = record state { phase = Over }
 taken setup role state (Data value) choice = hears setup (Some value) state
 taken setup role state (Alter items) choice = altered_by items choice state
@@ -384,11 +389,11 @@ taken setup role state DiscardAnswer choice =
       calls = cut_item state.outgoing.transfer state.calls;
       outgoing = record state.outgoing { transfer = None };
     })
-taken setup role state Give choice = record state { turn = true }
+taken setup role state Give choice = record state { turn = true; gave = false }
 taken setup role state GiveAnswer choice = record state { gave = false }
 taken setup role state (Please priority) choice = state
 taken setup role state Release choice = ended state
-taken setup role state ReleaseAnswer choice = ended state
+taken setup role state ReleaseAnswer choice = record (ended state) { awaits = NoAnswer }
 taken setup role state UserAbort choice = ended state
 
 -- a connection that breaks leaves a reliable association broken, once it stood, and another over; a

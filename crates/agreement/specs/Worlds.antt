@@ -39,7 +39,7 @@ after setup role state (Passes message) = state
 
 -- the state of an end, from its own steps
 abbrev pub state_of : Setup → Role → World → State
-state_of setup role [] = new_end setup
+state_of setup role [] = new_end setup role
 state_of setup role (Break ∷ world) = broken setup (state_of setup role world)
 state_of setup role (By who step ∷ world) =
     if_same role who (after setup role (state_of setup role world) step) (state_of setup role world)
@@ -171,7 +171,7 @@ IsStep setup role state flight (Takes message choice) =
       comes : ComesNext message flight;
       is_alive : (state.phase ≡ Over) → ⊥;
       is_kept : is_purged role state.awaits message ≡ false;
-      is_choice : IsChoice state message choice;
+      is_choice : IsChoice setup state message choice;
     }
 IsStep setup role state flight (Passes message) =
     record {

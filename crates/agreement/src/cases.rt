@@ -1,14 +1,22 @@
 //! The worked cases: each is a run, and the definitions compute what it leaves.
 
-ghost use Rattle.std.specs.Prelude.{◌≡◌, true, false, [], ◌∷◌, None};
-ghost use Rattle.agreement.specs.Sets.{next_number};
-ghost use Rattle.agreement.specs.Messages.Mode.{Direct, Reliable};
+ghost use Rattle.std.specs.Prelude.{◌≡◌, true, false, [], ◌∷◌, ◌++◌, Some, None};
+ghost use Rattle.agreement.specs.Sets.{next_number, lookup};
+ghost use Rattle.agreement.specs.Sets.Role.{Initiator, Responder};
+ghost use Rattle.agreement.specs.Sets.Item.{Addition};
+ghost use Rattle.agreement.specs.Sets.Result.{AcceptedAs};
+ghost use Rattle.agreement.specs.Messages.Problem.{OfResult, OfError};
+ghost use Rattle.agreement.specs.Messages.Apdu.{Invoke, Reject};
+ghost use Rattle.agreement.specs.Messages.Message.{Alter};
+ghost use Rattle.agreement.specs.Messages.Act.{Says, Alters};
+ghost use Rattle.agreement.specs.Messages.Choice.{Results};
+ghost use Rattle.agreement.specs.Messages.Mode.{Bare, Direct, Reliable};
 ghost use Rattle.agreement.specs.State.{highest};
-ghost use Rattle.agreement.specs.State.Phase.{Up};
+ghost use Rattle.agreement.specs.State.Phase.{Up, Over};
 ghost use Rattle.agreement.specs.State.Awaited.{NoAnswer};
 ghost use Rattle.agreement.specs.State.Progress.{Suspended};
 ghost use Rattle.agreement.specs.Acts.{has_progress, confirmed_of};
-ghost use Rattle.agreement.specs.Cases.{Happens, Leaves, Arrive, IsFaithful, acse_in_ber, with_five, in_ber, collision, use_rejected, addition_dropped, lower_wins, tie_won, read_by_mark, interrupted, discarded, resumed_from_mark, resumed_from_nothing, completed_resumed, giving_lost, giving_taken, recovery_broken};
+ghost use Rattle.agreement.specs.Cases.{Happens, Leaves, Arrive, Refuses, Declines, Carries, opening, in_packed, in_unknown, outcome, invoked_once, answered_once, wide_opening, late_result, late_error, offered_twice, accepted_known, adds, two_in_flight, two_answered, four_in_flight, four_lost, withdrawn, refused_transport, IsFaithful, acse_in_ber, with_five, in_ber, collision, use_rejected, addition_dropped, lower_wins, tie_won, read_by_mark, interrupted, discarded, resumed_from_mark, resumed_from_nothing, completed_resumed, giving_lost, giving_taken, recovery_broken};
 
 /// The codec of the cases is faithful.
 pub fn plain_codec_is_faithful()
@@ -72,11 +80,12 @@ pub fn resumption_from_a_mark()
     ensures arrivals { Arrive Reliable resumed_from_mark (1 ∷ []) (1 ∷ []) }
 {}
 
-/// A transfer without a confirmed mark is encoded anew, and is handed up once.
+/// A transfer without a confirmed mark is encoded anew, as the item of its activity, and is handed up once.
 pub fn resumption_from_nothing()
     ensures run { Happens Reliable resumed_from_nothing }
     ensures outcome { Leaves Reliable resumed_from_nothing (λ a b. (a.outgoing.transfer ≡ None) × (highest b.incoming.pieces ≡ 0) × (b.incoming.was_handed ≡ true) × (b.calls.peer_open ≡ record { number = 1; operation = 1; context = 5 } ∷ [])) }
     ensures arrivals { Arrive Reliable resumed_from_nothing (1 ∷ []) (1 ∷ []) }
+    ensures items { Carries Reliable resumed_from_nothing (1 ∷ 1 ∷ []) (record { context = 5; apdu = Invoke 1 1 None (5 ∷ []) } ∷ []) }
 {}
 
 /// A completed activity that is resumed is confirmed again, and nothing is handed up.
@@ -102,4 +111,64 @@ pub fn giving_taken_before_a_break()
 pub fn recovery_that_breaks()
     ensures run { Happens Reliable recovery_broken }
     ensures outcome { Leaves Reliable recovery_broken (λ a b. (a.phase ≡ Up) × (b.phase ≡ Up) × (a.turn ≡ true) × (b.incoming.active ≡ true) × (b.incoming.last ≡ 1)) }
+{}
+
+/// At first the turn is at the initiator, in every mode.
+pub fn turn_at_first()
+    ensures bare { Leaves Bare [] (λ a b. (a.turn ≡ true) × (b.turn ≡ false)) }
+    ensures direct { Leaves Direct [] (λ a b. (a.turn ≡ true) × (b.turn ≡ false)) }
+    ensures reliable { Leaves Reliable [] (λ a b. (a.turn ≡ true) × (b.turn ≡ false)) }
+{}
+
+/// An invocation gets the outcome that its operation has, and no other.
+pub fn outcome_of_its_operation()
+    ensures run { Happens Direct answered_once }
+    ensures outcome { Leaves Direct answered_once (λ a b. (a.calls.own_open ≡ []) × (b.calls.peer_open ≡ [])) }
+    ensures refused { Refuses Direct invoked_once Responder (Says (outcome (2 ∷ 0 ∷ []))) }
+{}
+
+/// A value that the codec may not write is not said.
+pub fn unwritable_value_refused()
+    ensures run { Happens Direct wide_opening }
+    ensures refused { Refuses Direct wide_opening Initiator (Says (record { identifier = 40001; pair = in_ber; apdu = Invoke 1 1 None [] })) }
+{}
+
+/// A late result and a late error are rejected, each with its own problem.
+pub fn rejects_tell_their_problem()
+    ensures run_result { Happens Reliable late_result }
+    ensures result { Leaves Reliable late_result (λ a b. (a.outgoing.queue ≡ record { context = 5; apdu = Reject 1 (OfResult 0) } ∷ []) × (b.calls.peer_open ≡ [])) }
+    ensures run_error { Happens Reliable late_error }
+    ensures error { Leaves Reliable late_error (λ a b. (a.outgoing.queue ≡ record { context = 5; apdu = Reject 1 (OfError 0) } ∷ []) × (b.calls.peer_open ≡ [])) }
+{}
+
+/// Of two offers the one in a syntax that the ends know is accepted.
+pub fn unknown_syntax_declined()
+    ensures run { Happens Direct accepted_known }
+    ensures outcome { Leaves Direct accepted_known (λ a b. (lookup a.sets.held 7 ≡ Some in_packed) × (lookup b.sets.held 7 ≡ Some in_packed)) }
+    ensures declined { Declines Direct offered_twice Responder (Alter (Addition 7 (in_unknown ∷ in_packed ∷ []) ∷ [])) (Results (AcceptedAs in_unknown ∷ [])) }
+{}
+
+/// Two alterations in flight are answered in their order.
+pub fn alterations_answered_in_order()
+    ensures run { Happens Direct two_answered }
+    ensures first { Leaves Direct two_in_flight (λ a b. (a.sets.held ≡ acse_in_ber ∷ []) × (a.sets.own ≡ (Addition 7 (in_packed ∷ []) ∷ []) ∷ [])) }
+    ensures outcome { Leaves Direct two_answered (λ a b. (a.sets.held ≡ b.sets.held) × (lookup a.sets.held 5 ≡ None) × (lookup a.sets.held 7 ≡ Some in_packed) × (a.sets.own ≡ [])) }
+{}
+
+/// Four additions are in flight, no fifth is asked for, nor one that names the same context; a restart of the other
+/// end drops all four.
+pub fn restart_drops_four_additions()
+    ensures run { Happens Direct four_lost }
+    ensures outcome { Leaves Direct four_lost (λ a b. (a.sets.held ≡ with_five in_ber) × (b.sets.held ≡ with_five in_ber) × (a.sets.own ≡ []) × (next_number a.saved ≡ 2) × (next_number b.saved ≡ 2)) }
+    ensures fifth { Refuses Direct four_in_flight Initiator (Alters (Addition 15 (in_packed ∷ []) ∷ [])) }
+    ensures same { Refuses Direct (opening ++ adds 7 ∷ []) Initiator (Alters (Addition 7 (in_packed ∷ []) ∷ [])) }
+{}
+
+/// An initiator that withdraws before a recovery cuts its invocations; where the new transport connection is refused
+/// they stay open.
+pub fn refused_transport_leaves_calls()
+    ensures run_withdrawn { Happens Reliable withdrawn }
+    ensures withdrawn { Leaves Reliable withdrawn (λ a b. (a.phase ≡ Over) × (a.calls.own_open ≡ [])) }
+    ensures run { Happens Reliable refused_transport }
+    ensures outcome { Leaves Reliable refused_transport (λ a b. (a.phase ≡ Over) × (a.calls.own_open ≡ record { number = 1; operation = 1; context = 5 } ∷ [])) }
 {}

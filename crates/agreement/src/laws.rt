@@ -2,7 +2,7 @@
 
 ghost use Rattle.std.specs.Prelude.{◌≡◌};
 ghost use Rattle.agreement.specs.Messages.{Setup};
-ghost use Rattle.agreement.specs.Laws.{TakenAsSent, NoAbortOfItself, OneHolder, InitiatorLeads, OneOutcome, TheOthersOwn, AnsweredOnce, AcceptedNamesOpen, ContextsStay, ArriveWhole, ArriveOnce, InvokedOnce};
+ghost use Rattle.agreement.specs.Laws.{TakenAsSent, NoAbortOfItself, OneHolder, InitiatorLeads, OneOutcome, TheOthersOwn, AnsweredOnce, AcceptedNamesOpen, ContextsStay, ArriveWhole, ArriveOnce, InvokedOnce, OneOperation, OneInvocation, ItemsOfActivities, AlterationsAreFew, ContextsAreKnown};
 
 /// Taken as sent: each message that an end took, and did not pass over, is the one that was sent in its
 /// place of the connection, and its value was read under the pair that the shared set gave at the sending.
@@ -72,4 +72,34 @@ pub fn transfers_arrive_once()
 /// Each invocation is taken at most once: the numbers of the invocations that an end accepts rise.
 pub fn invoked_once()
     ensures law { (setup : Setup) → InvokedOnce setup }
+{}
+
+/// One operation: where an outcome is accepted, the open invocation that it answers has the operation that it had
+/// at the end that answered, and this operation has that outcome. So between two ends no outcome is rejected for
+/// its operation, its type or its error.
+pub fn one_operation()
+    ensures law { (setup : Setup) → OneOperation setup }
+{}
+
+/// One invocation: an end hands in at most one invocation under each number, so its link and its argument, too, are
+/// at both ends those that were handed in.
+pub fn one_invocation()
+    ensures law { (setup : Setup) → OneInvocation setup }
+{}
+
+/// Items of activities: what was last encoded for an activity is the item that was started as that activity, the
+/// k-th that the end started for its activity k.
+pub fn items_of_activities()
+    ensures law { (setup : Setup) → ItemsOfActivities setup }
+{}
+
+/// Alterations are few: an end has at most four unanswered ones, and no identifier is named twice in them.
+pub fn alterations_are_few()
+    ensures law { (setup : Setup) → AlterationsAreFew setup }
+{}
+
+/// Contexts are known: out of bare mode each context of the set of an end and of the shared set has a transfer
+/// syntax that the ends know.
+pub fn contexts_are_known()
+    ensures law { (setup : Setup) → ContextsAreKnown setup }
 {}

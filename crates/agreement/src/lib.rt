@@ -5,14 +5,17 @@ mod cases;
 mod laws;
 
 pub use cases::{
-    alterations_collide, completed_activity_resumed, deletion_rejected_for_use, discard_forgets,
-    giving_lost_in_a_break, giving_taken_before_a_break, initiator_wins_a_tie,
-    interrupt_passes_over_confirmations, lower_restart_wins, plain_codec_is_faithful,
-    recovery_that_breaks, restart_brings_back_a_pair, restart_drops_an_addition,
-    resumption_from_a_mark, resumption_from_nothing,
+    alterations_answered_in_order, alterations_collide, completed_activity_resumed,
+    deletion_rejected_for_use, discard_forgets, giving_lost_in_a_break,
+    giving_taken_before_a_break, initiator_wins_a_tie, interrupt_passes_over_confirmations,
+    lower_restart_wins, outcome_of_its_operation, plain_codec_is_faithful, recovery_that_breaks,
+    refused_transport_leaves_calls, rejects_tell_their_problem, restart_brings_back_a_pair,
+    restart_drops_an_addition, restart_drops_four_additions, resumption_from_a_mark,
+    resumption_from_nothing, turn_at_first, unknown_syntax_declined, unwritable_value_refused,
 };
 pub use laws::{
-    accepted_names_open, answered_once, contexts_stay, initiator_leads, invoked_once,
-    no_abort_of_itself, one_holder, one_outcome, taken_as_sent, the_others_own,
+    accepted_names_open, alterations_are_few, answered_once, contexts_are_known, contexts_stay,
+    initiator_leads, invoked_once, items_of_activities, no_abort_of_itself, one_holder,
+    one_invocation, one_operation, one_outcome, taken_as_sent, the_others_own,
     transfers_arrive_once, transfers_arrive_whole,
 };

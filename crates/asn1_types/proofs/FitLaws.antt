@@ -1,5 +1,5 @@
 -- Which values fit a row goes by the rows that it names.
-use Rattle.std.proofs.Common.{◌≡◌, ◌≢◌, ℕ, zero, suc, ◌<◌, ◌≤◌, Bool, true, false, ◌&&◌, List, [], ◌∷◌, length, drop, get_or, Option, Some, None, refl, sym, ap, subst, arith}
+use Rattle.std.proofs.Common.{◌≡◌, ◌≢◌, ℕ, zero, suc, ◌<◌, ◌≤◌, Bool, true, false, not, ◌&&◌, List, [], ◌∷◌, length, drop, get_or, Option, Some, None, refl, sym, ap, subst, arith}
 use Rattle.std.specs.Prelude.{slice_get, nat_lt}
 use Rattle.std.specs.List.{AllByRecursion, list_all}
 use Rattle.std.specs.Str.{IsUtf8, is_utf8}
@@ -9,6 +9,7 @@ use Rattle.asn1_types.specs.declared.row.Part.{Part}
 use Rattle.asn1_types.specs.declared.row.TypeRow.{TypeRow}
 use Rattle.asn1_types.specs.declared.row.TypeRow.TheVariants.{Boolean, Integer, Enumerated, Null, OctetString, BitString, ObjectId, Text, Sequence, Set, SequenceOf, Choice, Tagged, Any}
 use Rattle.asn1_types.specs.Rows.{along, names_of, rows_of_parts}
+use Rattle.asn1_types.specs.Defaults.{may_be_absent, is_default}
 use Rattle.asn1_types.specs.Table.{IsSound}
 use Rattle.asn1_types.specs.Value.{Value, MaybeValues, no_parts, absent, present}
 use Rattle.asn1_types.specs.ValueView.{parts_of}
@@ -22,8 +23,8 @@ module _ (f g : ℕ → Value → Bool) where
   parts_same [] h (absent vs) = refl
   parts_same [] h (present v vs) = refl
   parts_same (p ∷ ps) h no_parts = refl
-  parts_same (p ∷ ps) h (absent vs) = ap (λ b. p.optional && b) (parts_same ps h.1 vs)
-  parts_same (p ∷ ps) h (present v vs) = λ i. h.0 i v && parts_same ps h.1 vs i
+  parts_same (p ∷ ps) h (absent vs) = ap (λ b. may_be_absent p && b) (parts_same ps h.1 vs)
+  parts_same (p ∷ ps) h (present v vs) = λ i. (not (is_default p.default v) && h.0 i v) && parts_same ps h.1 vs i
 
   alternative_same : (ps : List Part) → AllByRecursion (λ m. f m ≡ g m) (rows_of_parts ps) → (which : ℕ) → alternative_fits f (slice_get ps which) ≡ alternative_fits g (slice_get ps which)
   alternative_same [] h which = refl
@@ -69,12 +70,12 @@ parts_short f [] [] ne = absurd (ne refl)
 parts_short f [] (None ∷ vs) ne = refl
 parts_short f [] (Some v ∷ vs) ne = refl
 parts_short f (p ∷ ps) [] ne = refl
-parts_short f (p ∷ ps) (None ∷ vs) ne = and_false p.optional (parts_short f ps vs (λ e. ne (ap suc e)))
+parts_short f (p ∷ ps) (None ∷ vs) ne = and_false (may_be_absent p) (parts_short f ps vs (λ e. ne (ap suc e)))
   where
     and_false : (a : Bool) {b : Bool} → false ≡ b → false ≡ (a && b)
     and_false true e = e
     and_false false e = refl
-parts_short f (p ∷ ps) (Some v ∷ vs) ne = and_false (f p.inner.0 v) (parts_short f ps vs (λ e. ne (ap suc e)))
+parts_short f (p ∷ ps) (Some v ∷ vs) ne = and_false (not (is_default p.default v) && f p.inner.0 v) (parts_short f ps vs (λ e. ne (ap suc e)))
   where
     and_false : (a : Bool) {b : Bool} → false ≡ b → false ≡ (a && b)
     and_false true e = e

@@ -1,5 +1,5 @@
 -- What a sound table says of each of its rows.
-use Rattle.std.proofs.Common.{◌≡◌, ℕ, zero, suc, ◌+◌, ◌<◌, ◌≤◌, Bool, true, false, cond, ◌||◌, List, [], ◌∷◌, length, take, drop, Option, Some, None, refl, sym, ap, ◌∙◌, arith, length-take, get_or, subst}
+use Rattle.std.proofs.Common.{◌≡◌, ℕ, zero, suc, ◌+◌, ◌<◌, ◌≤◌, ℤ, Bool, true, false, cond, ◌||◌, List, [], ◌∷◌, length, take, drop, Option, Some, None, refl, sym, ap, ◌∙◌, arith, length-take, get_or, subst}
 use Rattle.std.specs.Prelude.{slice_get, nat_lt, nat_eq}
 use Rattle.std.specs.List.{AllByRecursion, list_any, flat_map}
 use Rattle.std.proofs.lemmas.List.Folds.{list_any-append}
@@ -10,27 +10,29 @@ use Rattle.asn1_types.specs.declared.row.TypeRow.{TypeRow}
 use Rattle.asn1_types.specs.declared.row.TypeRow.TheVariants.{Boolean, Integer, Enumerated, Null, OctetString, BitString, ObjectId, Text, Sequence, Set, SequenceOf, Choice, Tagged, Any}
 use Rattle.asn1_types.specs.declared.refusal.RowRefusal.{RowRefusal}
 use Rattle.asn1_types.specs.Rows.{names_of, rows_of_parts, greatest, nesting_by, nesting, Opening, every, meets, openings_by, openings}
-use Rattle.asn1_types.specs.Table.{first_from, is_bad_range, is_double_name, clash, clashes_in_run, clashes_in_sequence, agrees_later, has_clash, deepest, refusal_after, refusal, IsSound}
+use Rattle.asn1_types.specs.Limits.{most_levels}
+use Rattle.asn1_types.specs.Defaults.{default_by, no_default, takes_default, has_bad_default}
+use Rattle.asn1_types.specs.Table.{first_from, is_bad_range, is_double_name, clash, clashes_in_run, clashes_in_sequence, agrees_later, has_clash, refusal_after, refusal, IsSound}
 use Rattle.asn1_types.proofs.Along.{IsDown, SameTo, agree, settled}
 
 pub record IsTaken (rows : List TypeRow) (row : TypeRow) : Type 0 where
   pub names : first_from (length rows) (names_of row) ≡ None
   pub range : is_bad_range row ≡ false
   pub double : is_double_name row ≡ false
-  pub nested : nat_lt deepest (nesting_by (nesting rows) row) ≡ false
+  pub nested : nat_lt most_levels (nesting_by (nesting rows) row) ≡ false
   pub apart : has_clash (openings rows) row ≡ false
 
-taken_tests : (a b c d : Bool) (w x y z : RowRefusal) → cond a (Some w) (cond b (Some x) (cond c (Some y) (cond d (Some z) None))) ≡ None → (a ≡ false) × (b ≡ false) × (c ≡ false) × (d ≡ false)
-taken_tests true b c d w x y z e = absurd cc
-taken_tests false true c d w x y z e = absurd cc
-taken_tests false false true d w x y z e = absurd cc
-taken_tests false false false true w x y z e = absurd cc
-taken_tests false false false false w x y z e = (refl, refl, refl, refl)
+taken_tests : (a b c d f : Bool) (v w x y z : RowRefusal) → cond a (Some v) (cond b (Some w) (cond c (Some x) (cond d (Some y) (cond f (Some z) None)))) ≡ None → (a ≡ false) × (b ≡ false) × (c ≡ false) × (d ≡ false)
+taken_tests true b c d f v w x y z e = absurd cc
+taken_tests false true c d f v w x y z e = absurd cc
+taken_tests false false true d f v w x y z e = absurd cc
+taken_tests false false false true f v w x y z e = absurd cc
+taken_tests false false false false f v w x y z e = (refl, refl, refl, refl)
 
 taken_from : (o : Option ℕ) (rows : List TypeRow) (row : TypeRow) → first_from (length rows) (names_of row) ≡ o → refusal_after o rows row ≡ None → IsTaken rows row
 taken_from (Some n) rows row f e = absurd cc
 taken_from None rows row f e =
-    let t = taken_tests (is_bad_range row) (is_double_name row) (nat_lt deepest (nesting_by (nesting rows) row)) (has_clash (openings rows) row) _ _ _ _ e in
+    let t = taken_tests (is_bad_range row) (is_double_name row) (nat_lt most_levels (nesting_by (nesting rows) row)) (has_clash (openings rows) row) (has_bad_default (takes_default rows) row) _ _ _ _ _ e in
     record { names = f; range = t.0; double = t.1; nested = t.2; apart = t.3 }
 
 pub taken : (rows : List TypeRow) (row : TypeRow) → refusal rows row ≡ None → IsTaken rows row
@@ -250,3 +252,24 @@ nesting_at rows sound n row e = settled 0 nesting_by nesting_cong rows (is_down 
 
 pub nested_few : (rows : List TypeRow) (row : TypeRow) → refusal rows row ≡ None → nesting_by (nesting rows) row ≤ 32
 nested_few rows row e = ltb-false 32 (nesting_by (nesting rows) row) ((taken rows row e).nested)
+
+default_cong : (row : TypeRow) (f g : ℕ → ℤ → Bool) → AllByRecursion (λ m. f m ≡ g m) (names_of row) → default_by f row ≡ default_by g row
+default_cong Boolean f g h = refl
+default_cong (Integer low high) f g h = refl
+default_cong (Enumerated items) f g h = refl
+default_cong Null f g h = refl
+default_cong (OctetString most) f g h = refl
+default_cong BitString f g h = refl
+default_cong ObjectId f g h = refl
+default_cong (Text kind) f g h = refl
+default_cong (Sequence parts) f g h = refl
+default_cong (Set parts) f g h = refl
+default_cong (SequenceOf inner) f g h = refl
+default_cong (Choice parts) f g h = refl
+default_cong (Tagged class number explicit inner) f g h = h.0
+default_cong Any f g h = refl
+
+-- which defaults fit a row, by the row
+pub takes_at : (rows : List TypeRow) → IsSound rows → (n : ℕ) (row : TypeRow) → slice_get rows n ≡ Some row → takes_default rows n ≡ default_by (takes_default rows) row
+unfolding takes_default
+takes_at rows sound n row e = settled no_default default_by default_cong rows (is_down rows sound) n row e

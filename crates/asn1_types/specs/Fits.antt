@@ -10,14 +10,15 @@ use Rattle.asn1_types.specs.declared.row.TextKind.TheVariants.{Utf8, Ia5, Visibl
 use Rattle.asn1_types.specs.declared.row.TypeRow.{TypeRow}
 use Rattle.asn1_types.specs.declared.row.TypeRow.TheVariants as row
 use Rattle.asn1_types.specs.Value.{Value, boolean, integer, null, octets, bits, object_id, text, parts, list, chosen, any, MaybeValues, no_parts, absent, present, Values, no_values, value}
+use Rattle.asn1_types.specs.Limits.{number_bits}
 use Rattle.asn1_types.specs.Rows.{along}
-use Rattle.asn1_types.specs.Table.{same_number}
+use Rattle.asn1_types.specs.Defaults.{is_item, may_be_absent, is_default}
 use Rattle.asn1_types.specs.Whole.{is_whole}
 
--- numbers have 64 bits
+-- numbers have 64 bits, one of them the sign's
 abbrev pub is_number : ℤ → Bool
-is_number (pos n) = nat_lt n (2 ^ 63)
-is_number (negsuc n) = nat_lt n (2 ^ 63)
+is_number (pos n) = nat_lt n (2 ^ (number_bits - 1))
+is_number (negsuc n) = nat_lt n (2 ^ (number_bits - 1))
 
 abbrev pub boolean_fits : Value → Bool
 boolean_fits (boolean b) = true
@@ -26,10 +27,6 @@ boolean_fits v = false
 abbrev pub integer_fits : ℤ → ℤ → Value → Bool
 integer_fits low high (integer z) = is_number z && not (int_lt z low) && not (int_lt high z)
 integer_fits low high v = false
-
--- some item has this number
-abbrev pub is_item : List Item → ℤ → Bool
-is_item items z = list_any (λ (item : Item). same_number item.number z) items
 
 abbrev pub enumerated_fits : List Item → Value → Bool
 enumerated_fits items (integer z) = is_number z && is_item items z
@@ -93,10 +90,11 @@ text_fits kind v = false
 
 -- ---- values inside
 
--- a part is there unless it is optional, and fits if it is there
+-- A part is there unless it may be absent, and fits if it is there and hasn't the default's value, for which the absent
+-- part stands.
 abbrev pub part_fits : (ℕ → Value → Bool) → Part → Option Value → Bool
-part_fits inner p None = p.optional
-part_fits inner p (Some v) = inner p.inner.0 v
+part_fits inner p None = may_be_absent p
+part_fits inner p (Some v) = not (is_default p.default v) && inner p.inner.0 v
 
 -- as many parts as the row has
 abbrev pub parts_fit : (ℕ → Value → Bool) → List Part → MaybeValues → Bool

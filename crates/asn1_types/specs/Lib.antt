@@ -1,8 +1,10 @@
+pub mod Limits
 pub mod Value
 pub mod ValueCode
 pub mod ValueView
 pub mod ValueFalls
 pub mod Rows
+pub mod Defaults
 pub mod Table
 pub mod Inside
 pub mod Whole

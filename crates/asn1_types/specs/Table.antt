@@ -1,13 +1,15 @@
 -- Sound tables: which rows may be added to a table, and what is wrong with those that may not.
-use Rattle.std.specs.Prelude.{◌≡◌, ℕ, ◌^◌, ◌<◌, ℤ, pos, negsuc, Bool, true, false, ◌||◌, ◌&&◌, List, [], ◌∷◌, length, take, Option, Some, None, slice_get, nat_eq, nat_lt, int_lt, if◌then◌else◌}
+use Rattle.std.specs.Prelude.{◌≡◌, ℕ, ◌^◌, ◌<◌, Bool, true, false, ◌||◌, ◌&&◌, List, [], ◌∷◌, length, take, Option, Some, None, slice_get, nat_eq, nat_lt, int_lt, if◌then◌else◌}
 use Rattle.std.specs.List.{list_any}
 use Rattle.asn1_types.specs.declared.row.Part.{Part}
 use Rattle.asn1_types.specs.declared.row.Item.{Item}
 use Rattle.asn1_types.specs.declared.row.TypeRow.{TypeRow}
 use Rattle.asn1_types.specs.declared.row.TypeRow.TheVariants.{Integer, Enumerated, Sequence, Set, Choice, Tagged}
 use Rattle.asn1_types.specs.declared.refusal.RowRefusal.{RowRefusal}
-use Rattle.asn1_types.specs.declared.refusal.RowRefusal.TheVariants.{NoSuchRow, BadRange, DoubleName, TooNested, TagsNotDistinct, NoMemory}
+use Rattle.asn1_types.specs.declared.refusal.RowRefusal.TheVariants.{NoSuchRow, BadRange, DoubleName, TooNested, TagsNotDistinct, BadDefault, NoMemory}
 use Rattle.asn1_types.specs.Rows.{Opening, names_of, nesting, nesting_by, openings, meets, is_no_tag}
+use Rattle.asn1_types.specs.Limits.{most_levels}
+use Rattle.asn1_types.specs.Defaults.{same_number, may_be_absent, takes_default, has_bad_default}
 
 -- the first row that is named and isn't there
 abbrev pub first_from : ℕ → List ℕ → Option ℕ
@@ -26,11 +28,6 @@ abbrev pub same_name : List ℕ → List ℕ → Bool
 same_name [] [] = true
 same_name (x ∷ xs) (y ∷ ys) = nat_eq x y && same_name xs ys
 same_name xs ys = false
-
-abbrev pub same_number : ℤ → ℤ → Bool
-same_number (pos a) (pos b) = nat_eq a b
-same_number (negsuc a) (negsuc b) = nat_eq a b
-same_number a b = false
 
 abbrev pub items_agree : Item → Item → Bool
 items_agree a b = same_name a.name b.name || same_number a.number b.number
@@ -55,15 +52,15 @@ is_double_name row = false
 abbrev pub clash : (ℕ → List Opening) → Part → Part → Bool
 clash openings a b = list_any (λ o. list_any (meets o) (openings b.inner.0)) (openings a.inner.0)
 
--- A part clashes with one of the run of optional parts behind it, or with the part after that run.
+-- A part clashes with one of the run of parts behind it that may be absent, or with the part after that run.
 abbrev pub clashes_in_run : (Part → Part → Bool) → Part → List Part → Bool
 clashes_in_run clash p [] = false
-clashes_in_run clash p (q ∷ qs) = clash p q || (q.optional && clashes_in_run clash p qs)
+clashes_in_run clash p (q ∷ qs) = clash p q || (may_be_absent q && clashes_in_run clash p qs)
 
--- In a SEQUENCE each run of optional parts is told apart, together with the part after it (X.680 25.6).
+-- In a SEQUENCE each run of parts that may be absent is told apart, together with the part after it (X.680 25.6).
 abbrev pub clashes_in_sequence : (Part → Part → Bool) → List Part → Bool
 clashes_in_sequence clash [] = false
-clashes_in_sequence clash (p ∷ ps) = (p.optional && clashes_in_run clash p ps) || clashes_in_sequence clash ps
+clashes_in_sequence clash (p ∷ ps) = (may_be_absent p && clashes_in_run clash p ps) || clashes_in_sequence clash ps
 
 -- The alternatives of a CHOICE and the parts of a SET are told apart by their tags (X.680 27.3, 29.3).
 abbrev pub has_clash : (ℕ → List Opening) → TypeRow → Bool
@@ -72,17 +69,15 @@ has_clash openings (Set parts) = agrees_later (clash openings) parts
 has_clash openings (Choice parts) = agrees_later (clash openings) parts
 has_clash openings row = false
 
-abbrev pub deepest : ℕ
-deepest = 32
-
 -- why a row isn't added behind these rows
 abbrev pub refusal_after : Option ℕ → List TypeRow → TypeRow → Option RowRefusal
 refusal_after (Some n) rows row = Some (NoSuchRow n)
 refusal_after None rows row =
     if is_bad_range row then Some BadRange
     else (if is_double_name row then Some DoubleName
-    else (if nat_lt deepest (nesting_by (nesting rows) row) then Some TooNested
-    else (if has_clash (openings rows) row then Some TagsNotDistinct else None)))
+    else (if nat_lt most_levels (nesting_by (nesting rows) row) then Some TooNested
+    else (if has_clash (openings rows) row then Some TagsNotDistinct
+    else (if has_bad_default (takes_default rows) row then Some BadDefault else None))))
 
 unfoldable pub refusal : List TypeRow → TypeRow → Option RowRefusal
 refusal rows row = refusal_after (first_from (length rows) (names_of row)) rows row
@@ -105,3 +100,4 @@ IsRefused first BadRange = first ≡ Some BadRange
 IsRefused first DoubleName = first ≡ Some DoubleName
 IsRefused first TooNested = first ≡ Some TooNested
 IsRefused first TagsNotDistinct = first ≡ Some TagsNotDistinct
+IsRefused first BadDefault = first ≡ Some BadDefault

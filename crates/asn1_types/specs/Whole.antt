@@ -1,6 +1,7 @@
 -- One whole value of any type, as octets (X.690 8.1): an identifier, a definite length and that many octets, or an
 -- indefinite length, whole values and end-of-contents.
 use Rattle.std.specs.Prelude.{ℕ, zero, suc, ◌-◌, ◌*◌, ◌+◌, ◌/◌, ◌%◌, Bool, true, false, ◌&&◌, ◌||◌, Option, Some, None, option_and_then, List, [], ◌∷◌, length, take, drop, nat_lt, nat_le, nat_eq, if◌then◌else◌}
+use Rattle.asn1_types.specs.Limits.{most_levels}
 
 -- the number that octets are, the most significant first
 abbrev pub number_256 : ℕ → List ℕ → ℕ
@@ -76,6 +77,6 @@ is_nothing None = false
 is_nothing (Some []) = true
 is_nothing (Some (octet ∷ rest)) = false
 
--- levels are counted from 1 to 32
+-- levels are counted from 1 on
 unfoldable pub is_whole : List ℕ → Bool
-is_whole octets = is_nothing (behind_whole 32 octets)
+is_whole octets = is_nothing (behind_whole most_levels octets)

@@ -2,7 +2,7 @@
 
 ghost use Rattle.std.specs.Prelude.{◌≡◌, ◌↔◌, ℕ, IsTrue, length};
 ghost use Rattle.std.specs.List.{list_any};
-ghost use Rattle.asn1_types.specs.Table.{is_bad_range, same_name, same_number, items_agree, parts_agree, agrees_later, is_double_name};
+ghost use Rattle.asn1_types.specs.Table.{is_bad_range, same_name, items_agree, parts_agree, agrees_later, is_double_name};
 
 use crate::opening::is_no_tag;
 use crate::row::{Item, Part, TypeRow};

@@ -5,6 +5,7 @@ ghost use Rattle.std.specs.List.{list_any, AllByRecursion};
 ghost use Rattle.asn1_types.specs.Rows.{openings, names_of, rows_of_parts};
 ghost use Rattle.asn1_types.specs.Table.{clash, clashes_in_run, clashes_in_sequence, agrees_later, has_clash};
 
+use crate::defaults::may_be_absent;
 use crate::opening::meet;
 use crate::row::{Part, TypeRow};
 use crate::table::TypeTable;
@@ -27,7 +28,7 @@ fn clashes_in_sequence(table: &TypeTable, parts: &[Part]) -> bool
     ensures { result ≡ clashes_in_sequence (clash (openings table.now)) parts.now }
 {
     for (index, part) in parts.iter().enumerate() {
-        if part.optional && clashes_in_run(table, part, &parts[index + 1..]) {
+        if may_be_absent(part) && clashes_in_run(table, part, &parts[index + 1..]) {
             return true;
         }
     }
@@ -43,7 +44,7 @@ fn clashes_in_run(table: &TypeTable, part: &Part, others: &[Part]) -> bool
         if meet(table, part.inner, other.inner) {
             return true;
         }
-        if !other.optional {
+        if !may_be_absent(other) {
             return false;
         }
     }

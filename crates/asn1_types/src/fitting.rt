@@ -8,6 +8,7 @@ ghost use Rattle.asn1_types.specs.Table.{IsSound};
 ghost use Rattle.asn1_types.specs.ValueView.{parts_of, values_of};
 ghost use Rattle.asn1_types.specs.Fits.{has_32_bits, boolean_fits, integer_fits, enumerated_fits, null_fits, object_id_fits, octets_fit, bits_fit, text_fits, part_fits, parts_fit, sequence_fits, values_fit, list_fits, alternative_fits, choice_fits, any_fits, fits_by, fits};
 
+use crate::defaults::{has_default_value, may_be_absent};
 use crate::row::{Item, Part, Parts, TextKind, TypeId, TypeRow};
 use crate::table::TypeTable;
 use crate::text::{are_bits, are_octets, is_item, is_text};
@@ -108,7 +109,7 @@ fn any_fits(value: &Val) -> bool
 /// Whether a value fits a row of a table: an INTEGER in its range, an ENUMERATED among its items,
 /// an OCTET STRING of at most `most` octets, a BIT STRING whose 0 to 7 unused bits are zero, a text
 /// of characters of its kind, of a SEQUENCE or SET as many parts as the row has in the order of the
-/// notation, each there unless it is optional, of a CHOICE an alternative that is there, and in an
+/// notation, each there unless it may be absent and none with its default's value, of a CHOICE an alternative that is there, and in an
 /// `Any` one whole value (X.690 8.1). Nothing fits a row that is not there.
 #[cycle(fitting)]
 pub fn fits(table: &TypeTable, of: TypeId, value: &Val) -> bool
@@ -203,8 +204,8 @@ fn part_fits(table: &TypeTable, of: TypeId, part: &Part, value: &Option<Val>) ->
     ensures { result ≡ part_fits (fits table.now) part.now value.now }
 {
     match value {
-        Some(value) => fits(table, part.inner, value),
-        None => part.optional,
+        Some(value) => !has_default_value(part, value) && fits(table, part.inner, value),
+        None => may_be_absent(part),
     }
 }
 

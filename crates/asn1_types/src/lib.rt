@@ -4,6 +4,7 @@
 
 mod check;
 mod clash;
+mod defaults;
 mod fitting;
 mod nesting;
 mod opening;
@@ -14,6 +15,7 @@ mod text;
 mod value;
 mod whole;
 
+pub use defaults::{has_default_value, may_be_absent};
 pub use fitting::fits;
 pub use opening::{begins, is_no_tag, same_class, text_number};
 pub use refusal::RowRefusal;

@@ -19,12 +19,15 @@ pub struct Item {
 pub type Named = ListOf<Item>;
 
 /// A part of a SEQUENCE or SET, or an alternative of a CHOICE. Of an alternative `optional` means
-/// nothing.
+/// nothing, and it has no default. A part isn't both optional and one with a default.
 #[derive(Debug, Drop)]
 pub struct Part {
     pub name: Name,
     pub inner: TypeId,
     pub optional: bool,
+    /// For what the absent part stands (X.680 25.9): 0 or 1 of a BOOLEAN, the number of an
+    /// INTEGER or of an item of an ENUMERATED.
+    pub default: Option<i64>,
 }
 
 /// The parts of a SEQUENCE or SET, or the alternatives of a CHOICE, as a list.

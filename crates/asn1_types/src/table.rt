@@ -7,6 +7,7 @@ ghost use Rattle.asn1_types.specs.Table.{HasShortTag, IsSound, first_from, refus
 
 use crate::check::{is_bad_range, is_double_name};
 use crate::clash::has_clash;
+use crate::defaults::has_bad_default;
 use crate::nesting::{first_missing, nesting_of};
 use crate::refusal::RowRefusal;
 use crate::row::{TypeId, TypeRow};
@@ -14,8 +15,8 @@ use std::alloc::Global;
 use std::marker::Model;
 
 /// A table of types, in rows that are numbered from 0. Its rows are sound: each names only lower
-/// rows, is nested at most 32 deep, and tells its parts apart by their tags. Contracts see the
-/// rows as a list.
+/// rows, is nested at most 32 deep, tells its parts apart by their tags, and has defaults that fit
+/// their types. Contracts see the rows as a list.
 #[derive(Debug, Drop)]
 pub struct TypeTable {
     rows: Vec<TypeRow>,
@@ -131,6 +132,9 @@ impl TypeTable {
         }
         if has_clash(self, row) {
             return Some(RowRefusal::TagsNotDistinct);
+        }
+        if has_bad_default(self, row) {
+            return Some(RowRefusal::BadDefault);
         }
         None
     }

@@ -3,7 +3,8 @@
 ghost use Rattle.std.specs.Prelude.{◌≡◌, ◌<◌, ◌^◌};
 ghost use Rattle.std.specs.List.{list_all};
 ghost use Rattle.std.specs.Str.{is_utf8};
-ghost use Rattle.asn1_types.specs.Fits.{is_item, is_octet, are_bits, is_between, is_printable, is_character, is_text};
+ghost use Rattle.asn1_types.specs.Defaults.{is_item};
+ghost use Rattle.asn1_types.specs.Fits.{is_octet, are_bits, is_between, is_printable, is_character, is_text};
 
 use crate::row::{Item, TextKind};
 

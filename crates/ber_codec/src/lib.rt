@@ -1,6 +1,11 @@
-//! BER and DER (X.690) for the types of `asn1_types`: reading, writing and their laws, as one crate.
+//! Types and values of ASN.1 (X.680) in BER and DER (X.690): rows and tables of types, values and
+//! which of them fit, reading, writing and their laws, as one crate.
 #![tactic(auto)]
 
+pub use asn1_types::{
+    Class, Item, MaybeVals, Named, Node, Part, Parts, RowRefusal, TextKind, TypeId, TypeRow,
+    TypeTable, Val, Vals, fits, has_default_value, is_whole, may_be_absent,
+};
 pub use ber_reading::{LIMIT, Read, ReadFault, ber_read, ber_read_within, der_read};
 pub use ber_spelling::{
     beginning_is_short, der_is_ber, der_is_ber_in_form, der_is_whole, fault_is_first, fault_stays,

@@ -13,11 +13,15 @@ use Rattle.asn1_types.specs.Rows.{rows_of_parts, begins, Opening, openings, open
 use Rattle.asn1_types.specs.Table.{IsSound}
 use Rattle.asn1_types.specs.Value.{Value, integer, chosen}
 use Rattle.asn1_types.proofs.Sound.{openings_at}
+use Rattle.asn1_types.specs.Defaults.{may_be_absent, is_default, kept}
+use Rattle.ber_spelling.specs.declared.spot.Tag as tags
+use Rattle.ber_spelling.proofs.Identifiers.{bind_ok, ok_is}
+use Rattle.ber_spelling.proofs.Steady.{judge_is, form_passes}
 use Rattle.ber_spelling.specs.declared.spot.Scope.{Scope}
 use Rattle.ber_spelling.specs.declared.spot.Spot as codes
-use Rattle.ber_spelling.specs.Reading.{spot_of, Spot, Opened, begun, ◌>>=◌, is_past, within}
+use Rattle.ber_spelling.specs.Reading.{spot_of, Spot, Opened, begun, ◌>>=◌, is_past, within, Reading}
 use Rattle.ber_spelling.specs.Fields.{is_end, opened_at, identifier_at, announced_at, definite_at, contents_at, look_at}
-use Rattle.ber_spelling.specs.Rules.{Reader, always, integer_rule, primitive_at, choice_at, reads}
+use Rattle.ber_spelling.specs.Rules.{Reader, always, integer_rule, primitive_at, choice_at, reads, bare, plain, is_other, expect_at, judge, form_at}
 use Rattle.ber_spelling.proofs.Growing.{within_is}
 use Rattle.ber_reading.specs.AtOnce.{IsReach, integer_tag, integer_opened, behind}
 use Rattle.ber_reading.specs.Parts.{part_from}
@@ -86,6 +90,32 @@ module _ (scope : Scope) (u r : ℕ) (h : IsReach scope u r) where
   integer_is low high z place (first ∷ count ∷ more) len two le few there is =
       subst (λ (f : ℕ). primitive_at (integer_rule low high) always integer_tag scope (integer_opened (record { place = place; rest = f ∷ count ∷ more })) (record { place = place + 1; rest = count ∷ more }) ≡ Ok (integer z, record { place = place + 2 + count; rest = drop count more })) (sym two) (integer_over low high z place count more le few (omega arith) is)
 
+-- contents that no default names are read as those of no part with a default
+prim_other : (rule : List ℕ → Option Value) (other : Option Value → Bool) (t : tags.Tag) (scope : Scope) (o : Opened) (s : Spot) (v : Value) (to : Spot)
+    → primitive_at rule always t scope o s ≡ Ok (v, to) → other (Some v) ≡ true → primitive_at rule (λ c. other (rule c)) t scope o s ≡ Ok (v, to)
+unfolding primitive_at
+prim_other rule other t scope o s v to e named =
+    let b1 = bind_ok (expect_at t false o) _ (v, to) e in
+    let b2 = bind_ok (contents_at scope s.place s.rest) _ (v, to) b1.2 in
+    let b3 = bind_ok (judge b2.0.0 (λ (x : Value). x) (rule b2.0.1)) _ (v, to) b2.2 in
+    let b4 = bind_ok (form_at scope b2.0.0 (always b2.0.1)) _ (v, to) b3.2 in
+    let same = ok_is {A = Value × Spot} (b3.0, b2.0.2) (v, to) b4.2 in
+    let ruled : rule b2.0.1 ≡ Some v = judge_is b2.0.0 (rule b2.0.1) b3.0 b3.1 ∙ ap (λ (x : Value × Spot). Some x.0) same in
+    let passed : form_at scope b2.0.0 (other (rule b2.0.1)) ≡ Ok tt = form_passes scope b2.0.0 (other (rule b2.0.1)) (λ k. ap other ruled ∙ named) in
+    rw (b1.1, b2.1, b3.1, passed) (ap (λ (x : Value × Spot). Ok x) same)
+
+other_is : (b : Bool) → not b ≡ true → b ≡ false
+other_is true e = absurd cc
+other_is false e = refl
+
+kept_other : (p : Part) (v : Value) (next : Spot) → is_other p.default (Some v) ≡ true → ◌≡◌ {A = Reading (Option Value × Spot)} (Ok (kept p v, next)) (Ok (Some v, next))
+kept_other p v next e = rw (other_is (is_default p.default v) e) refl
+
+-- the value of a CHOICE is no default
+pub no_choice : (default : Option ℤ) (which : ℕ) (v : Value) → is_default default (chosen which v) ≡ false
+no_choice None which v = refl
+no_choice (Some d) which v = refl
+
 module _ (rows : List TypeRow) (sound : IsSound rows) (n : ℕ) (low high z : ℤ) (at : slice_get rows n ≡ Some (Integer low high)) (scope : Scope) (s next : Spot)
     (looked : look_at scope s.place s.rest ≡ Ok (begun (integer_opened s) (behind s))) (gives : primitive_at (integer_rule low high) always integer_tag scope (integer_opened s) (behind s) ≡ Ok (integer z, next)) where
   opens : openings rows n ≡ tag Universal 2 ∷ []
@@ -95,22 +125,26 @@ module _ (rows : List TypeRow) (sound : IsSound rows) (n : ℕ) (low high z : �
   begins_it = ap (list_any (allows Universal 2)) opens
 
   -- an INTEGER is read by its rule
-  pub reads_it : reads rows n None scope (integer_opened s) (behind s) ≡ Ok (integer z, next)
-  reads_it = ap (λ (r : Reader). r None scope (integer_opened s) (behind s)) (reads_at rows sound n (Integer low high) at) ∙ gives
+  pub reads_other : (default : Option ℤ) → is_other default (Some (integer z)) ≡ true → reads rows n (bare default) scope (integer_opened s) (behind s) ≡ Ok (integer z, next)
+  reads_other default other = ap (λ (r : Reader). r (bare default) scope (integer_opened s) (behind s)) (reads_at rows sound n (Integer low high) at)
+      ∙ prim_other (integer_rule low high) (is_other default) integer_tag scope (integer_opened s) (behind s) (integer z) next gives other
 
-  pub part_is : (p : Part) → p.inner.0 ≡ n → part_from (begins rows) (reads rows n) p scope s ≡ Ok (Some (integer z), next)
+  pub reads_it : reads rows n plain scope (integer_opened s) (behind s) ≡ Ok (integer z, next)
+  reads_it = reads_other None refl
+
+  pub part_is : (p : Part) → p.inner.0 ≡ n → is_other p.default (Some (integer z)) ≡ true → part_from (begins rows) (reads rows n) p scope s ≡ Ok (Some (integer z), next)
   unfolding part_from
-  part_is p e = rw (looked, e, begins_it, reads_it) refl
+  part_is p e other = rw (looked, e, begins_it, reads_other p.default other) (kept_other p (integer z) next other)
 
   pub choice_is : (p : Part) (ps : List Part) → p.inner.0 ≡ n → choice_at (begins rows) (reads rows) 0 (p ∷ ps) scope (integer_opened s) (behind s) ≡ Ok (chosen 0 (integer z), next)
   unfolding choice_at
   choice_is p ps e = rw (e, begins_it, reads_it) refl
 
 -- a part that may be absent, where another field begins
-pub absent_is : (rows : List TypeRow) (p : Part) (scope : Scope) (s : Spot) (o : Opened) (after : Spot) → look_at scope s.place s.rest ≡ Ok (begun o after) → p.optional ≡ true → begins rows p.inner.0 o.class o.number ≡ false
+pub absent_is : (rows : List TypeRow) (p : Part) (scope : Scope) (s : Spot) (o : Opened) (after : Spot) → look_at scope s.place s.rest ≡ Ok (begun o after) → may_be_absent p ≡ true → begins rows p.inner.0 o.class o.number ≡ false
     → part_from (begins rows) (reads rows p.inner.0) p scope s ≡ Ok (None, s)
 unfolding part_from
-absent_is rows p scope s o after looked optional other = rw (looked, other, optional) refl
+absent_is rows p scope s o after looked may other = rw (looked, other, may) refl
 
 pub lower : (ps : List Part) (n k : ℕ) → n ≤ k → AllByRecursion (λ m. m < n) (rows_of_parts ps) → AllByRecursion (λ m. m < k) (rows_of_parts ps)
 lower [] n k le h = tt
@@ -144,7 +178,7 @@ first_allows rows (p ∷ ps) scope o s v next which e = by_test (begins rows p.i
   allowed = allows o.class o.number
 
   by_test : (b : Bool) → begins rows p.inner.0 o.class o.number ≡ b → (choice_at (begins rows) (reads rows) (suc which) ps scope o s ≡ Ok (v, next) → list_any allowed (flat_map (λ (p : Part). openings rows p.inner.0) ps) ≡ true)
-      → cond b (reads rows p.inner.0 None scope o s >>= λ v. Ok (chosen which v.0, v.1)) (choice_at (begins rows) (reads rows) (suc which) ps scope o s) ≡ Ok (v, next)
+      → cond b (reads rows p.inner.0 plain scope o s >>= λ v. Ok (chosen which v.0, v.1)) (choice_at (begins rows) (reads rows) (suc which) ps scope o s) ≡ Ok (v, next)
       → list_any allowed (flat_map (λ (p : Part). openings rows p.inner.0) (p ∷ ps)) ≡ true
   by_test true is more e = list_any-append allowed (openings rows p.inner.0) (flat_map (λ (p : Part). openings rows p.inner.0) ps) ∙ rw (and_parts (not (is_no_tag o.class o.number)) (list_any allowed (openings rows p.inner.0)) is).1 refl
   by_test false is more e = list_any-append allowed (openings rows p.inner.0) (flat_map (λ (p : Part). openings rows p.inner.0) ps) ∙ rw (more e) (or_always (list_any allowed (openings rows p.inner.0)))
@@ -152,9 +186,9 @@ first_allows rows (p ∷ ps) scope o s v next which e = by_test (begins rows p.i
 -- a part that is a CHOICE
 pub choice_part : (rows : List TypeRow) → IsSound rows → (p : Part) (ps : List Part) → slice_get rows p.inner.0 ≡ Some (Choice ps) → (scope : Scope) (s : Spot) (v : Value) (next : Spot)
     → look_at scope s.place s.rest ≡ Ok (begun (integer_opened s) (behind s)) → choice_at (begins rows) (reads rows) 0 ps scope (integer_opened s) (behind s) ≡ Ok (v, next)
-    → part_from (begins rows) (reads rows p.inner.0) p scope s ≡ Ok (Some v, next)
+    → is_default p.default v ≡ false → part_from (begins rows) (reads rows p.inner.0) p scope s ≡ Ok (Some v, next)
 unfolding part_from
-choice_part rows sound p ps at scope s v next looked read_so =
+choice_part rows sound p ps at scope s v next looked read_so other =
     let it : begins rows p.inner.0 Universal 2 ≡ true = ap (list_any (allows Universal 2)) (openings_at rows sound p.inner.0 (Choice ps) at) ∙ first_allows rows ps scope (integer_opened s) (behind s) v next 0 read_so in
-    let read : reads rows p.inner.0 None scope (integer_opened s) (behind s) ≡ Ok (v, next) = ap (λ (r : Reader). r None scope (integer_opened s) (behind s)) (reads_at rows sound p.inner.0 (Choice ps) at) ∙ read_so in
-    rw (looked, it, read) refl
+    let read : reads rows p.inner.0 (bare p.default) scope (integer_opened s) (behind s) ≡ Ok (v, next) = ap (λ (r : Reader). r (bare p.default) scope (integer_opened s) (behind s)) (reads_at rows sound p.inner.0 (Choice ps) at) ∙ read_so in
+    rw (looked, it, read, other) refl

@@ -7,12 +7,13 @@ use Rattle.asn1_types.specs.Value.{Value, parts}
 use Rattle.asn1_types.specs.ValueView.{parts_of}
 use Rattle.asn1_types.specs.declared.row.Class.{Class}
 use Rattle.asn1_types.specs.declared.row.Part.{Part}
+use Rattle.asn1_types.specs.Defaults.{may_be_absent, kept}
 use Rattle.ber_spelling.specs.declared.fault.ReadFault.{ReadFault}
 use Rattle.ber_spelling.specs.declared.spot.Scope.{Scope}
 use Rattle.ber_spelling.specs.declared.spot.Tag as tags
 use Rattle.ber_spelling.specs.Reading.{Spot, Opened, Ahead, ended, begun, Reading, ◌>>=◌, Fails, refuse}
 use Rattle.ber_spelling.specs.Fields.{look_at, extent_at}
-use Rattle.ber_spelling.specs.Rules.{Reader, part_at, parts_at, present_at, last_of, close_at, expect_at, sequence_at}
+use Rattle.ber_spelling.specs.Rules.{Reader, part_at, parts_at, present_at, last_of, close_at, expect_at, sequence_at, bare}
 use Rattle.ber_spelling.proofs.Steps.{Fails-bind, Fails-same}
 use Rattle.ber_reading.specs.Parts.{taken_at, absent_at, found_at, part_from, parts_from, parts_behind}
 
@@ -22,14 +23,14 @@ Parts = Reading (List (Option Value) × Spot)
 abbrev cons : Option Value → List (Option Value) × Spot → Parts
 cons o more = Ok (o ∷ more.0, more.1)
 
-abbrev seen : Value → Ahead → Reading (Option Value × Ahead)
-seen v a = Ok (Some v, a)
+abbrev seen : Option Value → Ahead → Reading (Option Value × Ahead)
+seen o a = Ok (o, a)
 
-abbrev taken : Value × Spot → Reading (Option Value × Spot)
-taken v = Ok (Some v.0, v.1)
+abbrev taken : Part → Value × Spot → Reading (Option Value × Spot)
+taken p v = Ok (kept p v.0, v.1)
 
 abbrev still : Bool → ℕ → Ahead → Reading (Option Value × Ahead)
-still optional place a = if optional then Ok (None, a) else refuse place Missing
+still may place a = if may then Ok (None, a) else refuse place Missing
 
 module _ (begins : ℕ → Class → ℕ → Bool) (inner : ℕ → Reader) (scope : Scope) where
   abbrev ahead_all : List Part → Option Value × Ahead → Parts
@@ -38,35 +39,35 @@ module _ (begins : ℕ → Class → ℕ → Bool) (inner : ℕ → Reader) (sco
   abbrev from_all : List Part → Option Value × Spot → Parts
   from_all ps x = parts_from begins inner scope x.1 ps >>= cons x.0
 
-  looked_goes : (ps : List Part) (v : Value) (read : Reading Ahead)
-      → ((read >>= seen v) >>= ahead_all ps) ≡ ((read >>= λ a. parts_at begins inner scope a ps) >>= cons (Some v))
-  looked_goes ps v (Ok a) = refl
-  looked_goes ps v (Err e) = refl
+  looked_goes : (ps : List Part) (o : Option Value) (read : Reading Ahead)
+      → ((read >>= seen o) >>= ahead_all ps) ≡ ((read >>= λ a. parts_at begins inner scope a ps) >>= cons o)
+  looked_goes ps o (Ok a) = refl
+  looked_goes ps o (Err e) = refl
 
   -- behind a value that was read the next thing is looked at
-  present_goes : (ps : List Part) (read : Reading (Value × Spot))
-      → ((read >>= λ v. look_at scope v.1.place v.1.rest >>= seen v.0) >>= ahead_all ps) ≡ ((read >>= taken) >>= from_all ps)
+  present_goes : (p : Part) (ps : List Part) (read : Reading (Value × Spot))
+      → ((read >>= λ v. look_at scope v.1.place v.1.rest >>= seen (kept p v.0)) >>= ahead_all ps) ≡ ((read >>= taken p) >>= from_all ps)
   unfolding parts_from
-  present_goes ps (Ok v) = looked_goes ps v.0 (look_at scope v.1.place v.1.rest)
-  present_goes ps (Err e) = refl
+  present_goes p ps (Ok v) = looked_goes ps (kept p v.0) (look_at scope v.1.place v.1.rest)
+  present_goes p ps (Err e) = refl
 
   -- a part that isn't there leaves all as it is
-  absent_goes : (ps : List Part) (optional : Bool) (place : ℕ) (s : Spot) (a : Ahead) → look_at scope s.place s.rest ≡ Ok a
-      → (still optional place a >>= ahead_all ps) ≡ (absent_at optional place s >>= from_all ps)
+  absent_goes : (ps : List Part) (may : Bool) (place : ℕ) (s : Spot) (a : Ahead) → look_at scope s.place s.rest ≡ Ok a
+      → (still may place a >>= ahead_all ps) ≡ (absent_at may place s >>= from_all ps)
   unfolding parts_from
   absent_goes ps true place s a look = rw look refl
   absent_goes ps false place s a look = refl
 
   begins_goes : (p : Part) (ps : List Part) (s : Spot) (o : Opened) (t : Spot) → look_at scope s.place s.rest ≡ Ok (begun o t) → (b : Bool)
-      → ((if b then present_at (inner p.inner.0) scope (begun o t) else still p.optional o.start.place (begun o t)) >>= ahead_all ps)
-      ≡ ((if b then taken_at (inner p.inner.0) scope (begun o t) else absent_at p.optional o.start.place s) >>= from_all ps)
-  begins_goes p ps s o t look true = present_goes ps (inner p.inner.0 None scope o t)
-  begins_goes p ps s o t look false = absent_goes ps p.optional o.start.place s (begun o t) look
+      → ((if b then present_at (inner p.inner.0) p scope (begun o t) else still (may_be_absent p) o.start.place (begun o t)) >>= ahead_all ps)
+      ≡ ((if b then taken_at (inner p.inner.0) p scope (begun o t) else absent_at (may_be_absent p) o.start.place s) >>= from_all ps)
+  begins_goes p ps s o t look true = present_goes p ps (inner p.inner.0 (bare p.default) scope o t)
+  begins_goes p ps s o t look false = absent_goes ps (may_be_absent p) o.start.place s (begun o t) look
 
   found_goes : (p : Part) (ps : List Part) (s : Spot) (a : Ahead) → look_at scope s.place s.rest ≡ Ok a
       → parts_at begins inner scope a (p ∷ ps) ≡ (found_at begins (inner p.inner.0) p scope s a >>= from_all ps)
   unfolding parts_at part_at
-  found_goes p ps s (ended place after) look = absent_goes ps p.optional place s (ended place after) look
+  found_goes p ps s (ended place after) look = absent_goes ps (may_be_absent p) place s (ended place after) look
   found_goes p ps s (begun o t) look = begins_goes p ps s o t look (begins p.inner.0 o.class o.number)
 
   looks_goes : (p : Part) (ps : List Part) (s : Spot) (read : Reading Ahead) → look_at scope s.place s.rest ≡ read

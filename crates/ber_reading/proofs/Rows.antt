@@ -12,7 +12,7 @@ use Rattle.asn1_types.proofs.Along.{settled}
 use Rattle.asn1_types.proofs.Sound.{is_down}
 use Rattle.ber_spelling.specs.declared.spot.Scope.{Scope}
 use Rattle.ber_spelling.specs.Reading.{Spot, Ahead, Reading, ◌>>=◌}
-use Rattle.ber_spelling.specs.Rules.{Reader, part_at, parts_at, sequence_at, choice_at, list_at, constructed_at, all_items_at, fill_at, slot_at, set_done, nothing_filled, or_explicit, tagged_at, expect_at, tag_or, dead, read_by, reads}
+use Rattle.ber_spelling.specs.Rules.{Reader, part_at, parts_at, sequence_at, choice_at, list_at, constructed_at, all_items_at, fill_at, slot_at, set_done, nothing_filled, or_explicit, tagged_at, expect_at, tag_or, dead, read_by, reads, bare, plain}
 use Rattle.ber_spelling.specs.Fields.{extent_at, look_at}
 use Rattle.asn1_types.specs.Value.{Value, chosen, parts}
 use Rattle.asn1_types.specs.ValueView.{parts_of}
@@ -29,13 +29,13 @@ module _ (begins : ℕ → Class → ℕ → Bool) (f g : ℕ → Reader) where
   unfolding choice_at
   choice_cong which [] h = refl
   choice_cong which (p ∷ ps) h = λ i scope opened spot.
-      cond (begins p.inner.0 opened.class opened.number) (h.0 i None scope opened spot >>= λ v. Ok (chosen which v.0, v.1)) (choice_cong (suc which) ps h.1 i scope opened spot)
+      cond (begins p.inner.0 opened.class opened.number) (h.0 i plain scope opened spot >>= λ v. Ok (chosen which v.0, v.1)) (choice_cong (suc which) ps h.1 i scope opened spot)
 
   slot_cong : (which : ℕ) (ps : List Part) → AllByRecursion (λ m. f m ≡ g m) (rows_of_parts ps) → slot_at begins f which ps ≡ slot_at begins g which ps
   unfolding slot_at
   slot_cong which [] h = refl
   slot_cong which (p ∷ ps) h = λ i before scope opened spot.
-      cond (begins p.inner.0 opened.class opened.number) (fill_at (h.0 i) which before scope opened spot) (slot_cong (suc which) ps h.1 i before scope opened spot)
+      cond (begins p.inner.0 opened.class opened.number) (fill_at (h.0 i (bare p.default)) which before scope opened spot) (slot_cong (suc which) ps h.1 i before scope opened spot)
 
   read_cong : (row : TypeRow) → AllByRecursion (λ m. f m ≡ g m) (names_of row) → read_by begins f row ≡ read_by begins g row
   unfolding sequence_at
@@ -47,12 +47,12 @@ module _ (begins : ℕ → Class → ℕ → Bool) (f g : ℕ → Reader) where
   read_cong BitString h = refl
   read_cong ObjectId h = refl
   read_cong (Text kind) h = refl
-  read_cong (Sequence ps) h = λ i tag scope opened spot.
-      expect_at (tag_or tag Universal 16) true opened >>= λ _. extent_at scope spot.place spot.rest >>= λ x. look_at x.0 x.1.place x.1.rest >>= λ a.
+  read_cong (Sequence ps) h = λ i guise scope opened spot.
+      expect_at (tag_or guise.tag Universal 16) true opened >>= λ _. extent_at scope spot.place spot.rest >>= λ x. look_at x.0 x.1.place x.1.rest >>= λ a.
       parts_cong ps h i x.0 a >>= λ found. Ok (parts (parts_of found.0), found.1)
-  read_cong (Set ps) h = λ i tag. constructed_at (all_items_at (slot_cong 0 ps h i) (set_done ps) (nothing_filled ps)) (tag_or tag Universal 17)
-  read_cong (SequenceOf of) h = λ i tag. list_at (h.0 i) (tag_or tag Universal 16)
-  read_cong (Choice ps) h = ap or_explicit (choice_cong 0 ps h)
+  read_cong (Set ps) h = λ i guise. constructed_at (all_items_at (slot_cong 0 ps h i) (set_done ps) (nothing_filled ps)) (tag_or guise.tag Universal 17)
+  read_cong (SequenceOf of) h = λ i guise. list_at (h.0 i) (tag_or guise.tag Universal 16)
+  read_cong (Choice ps) h = λ i guise. or_explicit (choice_cong 0 ps h i) guise.tag
   read_cong (Tagged class number true of) h = ap (λ r. tagged_at true r class number) h.0
   read_cong (Tagged class number false of) h = ap (λ r. tagged_at false r class number) h.0
   read_cong Any h = refl

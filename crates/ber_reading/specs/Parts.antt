@@ -4,23 +4,25 @@ use Rattle.osi_base.specs.declared.words.Kind.TheVariants.{Missing}
 use Rattle.asn1_types.specs.declared.row.Class.{Class}
 use Rattle.asn1_types.specs.declared.row.Part.{Part}
 use Rattle.asn1_types.specs.Value.{Value}
+use Rattle.asn1_types.specs.Defaults.{may_be_absent, kept}
 use Rattle.ber_spelling.specs.declared.spot.Scope.{Scope}
 use Rattle.ber_spelling.specs.Reading.{Spot, Ahead, ended, begun, Reading, ◌>>=◌, refuse}
 use Rattle.ber_spelling.specs.Fields.{look_at}
-use Rattle.ber_spelling.specs.Rules.{Reader, is_part, place_of, parts_at}
+use Rattle.ber_spelling.specs.Rules.{Reader, is_part, place_of, parts_at, bare}
 
-abbrev pub taken_at : Reader → Scope → Ahead → Reading (Option Value × Spot)
-taken_at inner scope (ended place after) = refuse place Missing
-taken_at inner scope (begun opened after) = do
-  v ← inner None scope opened after
-  Ok (Some v.0, v.1)
+-- a part with its default's value is read as absent
+abbrev pub taken_at : Reader → Part → Scope → Ahead → Reading (Option Value × Spot)
+taken_at inner p scope (ended place after) = refuse place Missing
+taken_at inner p scope (begun opened after) = do
+  v ← inner (bare p.default) scope opened after
+  Ok (kept p v.0, v.1)
 
 -- a part that is not there leaves the spot as it is
 abbrev pub absent_at : Bool → ℕ → Spot → Reading (Option Value × Spot)
-absent_at optional place spot = if optional then Ok (None, spot) else refuse place Missing
+absent_at may place spot = if may then Ok (None, spot) else refuse place Missing
 
 abbrev pub found_at : (ℕ → Class → ℕ → Bool) → Reader → Part → Scope → Spot → Ahead → Reading (Option Value × Spot)
-found_at begins inner p scope spot ahead = if is_part begins p ahead then taken_at inner scope ahead else absent_at p.optional (place_of ahead) spot
+found_at begins inner p scope spot ahead = if is_part begins p ahead then taken_at inner p scope ahead else absent_at (may_be_absent p) (place_of ahead) spot
 
 -- one part, if it is there, and where reading goes on
 unfoldable pub part_from : (ℕ → Class → ℕ → Bool) → Reader → Part → Scope → Spot → Reading (Option Value × Spot)

@@ -14,9 +14,10 @@ ghost use Rattle.ber_reading.specs.AtOnce.{IsReach, integer_tag, integer_opened,
 ghost use Rattle.ber_reading.specs.Parts.{part_from, parts_from, parts_behind};
 
 use asn1_types::{
-    Class, MaybeVals, Node, Part, TypeId, TypeRow, TypeTable, Val, begins, is_no_tag, same_class,
+    Class, MaybeVals, Node, Part, TypeId, TypeRow, TypeTable, Val, begins, is_no_tag,
+    may_be_absent, same_class,
 };
-use ber_spelling::{Opened, Scope, Spot, class_of, integer_of};
+use ber_spelling::{Opened, Scope, Spot, class_of, integer_of, is_other_number};
 use std::alloc::Global;
 
 /// Up to where a field goes on at most that is read at once. It is 0 where the contents end at
@@ -163,7 +164,7 @@ fn is_absent(
     ensures { result ≡ true → part_from (begins table.now) (reads table.now part.now.inner.0) part.now scope.now (spot_of spot.entry) ≡ Ok (None, spot_of spot.entry) }
 {
     match spot.rest {
-        [first, ..] if part.optional && *first % 32 != 31 && spot.place < reach => {
+        [first, ..] if may_be_absent(part) && *first % 32 != 31 && spot.place < reach => {
             !row_begins(
                 table,
                 part.inner,
@@ -205,6 +206,9 @@ pub(crate) fn parts_at_once<'a>(
                 let Some((number, next)) = integer_ahead(*low, *high, scope, reach, spot) else {
                     return spot;
                 };
+                if !is_other_number(part.default, number) {
+                    return spot;
+                }
                 let node = Node::Int(number);
                 found.push_reserved(Some(Val { node }));
                 spot = next;

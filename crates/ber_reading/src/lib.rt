@@ -7,3 +7,4 @@ mod read;
 
 pub use ber_spelling::ReadFault;
 pub use public::{LIMIT, Read, ber_read, ber_read_within, der_read};
+pub use read::value;

@@ -1,11 +1,12 @@
 //! Reading whole values.
 
-ghost use Rattle.std.specs.Prelude.{◌≡◌, ℕ, ◌+◌, ◌≤◌, ◌<◌, ◌^◌, false, true, None, length, take, IfOk, IfSome};
+ghost use Rattle.std.specs.Prelude.{◌≡◌, ℕ, ◌+◌, ◌≤◌, ◌<◌, ◌^◌, false, true, length, take, IfOk, IfSome};
 ghost use Rattle.std.specs.List.{AllByRecursion};
+ghost use Rattle.asn1_types.specs.Limits.{most_octets};
 ghost use Rattle.asn1_types.specs.Rows.{begins, rows_of_parts};
 ghost use Rattle.asn1_types.specs.Value as tree;
 ghost use Rattle.ber_spelling.specs.Reading.{Gives, GoesOn, opened_of, spot_of};
-ghost use Rattle.ber_spelling.specs.Rules.{outermost, reads, sequence_at, read_at};
+ghost use Rattle.ber_spelling.specs.Rules.{plain, outermost, reads, sequence_at, read_at};
 ghost use Rattle.ber_spelling.specs.Spelling.{Spells};
 ghost use Rattle.ber_reading.specs.Calls.{IsRead, GivesRead};
 
@@ -35,11 +36,11 @@ pub fn ber_read(
 ) -> Result<Read, ReadFault>
     requires { of.0 < length table.now }
     // What is read is spelled by the octets used.
-    ensures found { IfOk result (λ r. (r.used ≤ length bytes.now) × Spells table.now of.0 false 262144 r.value (take r.used bytes.now)) }
+    ensures found { IfOk result (λ r. (r.used ≤ length bytes.now) × Spells table.now of.0 false most_octets r.value (take r.used bytes.now)) }
     // What the octets spell is read, unless memory is refused.
-    ensures only { (v : tree.Value) (n : ℕ) → n ≤ length bytes.now → Spells table.now of.0 false 262144 v (take n bytes.now) → IsRead result v n }
+    ensures only { (v : tree.Value) (n : ℕ) → n ≤ length bytes.now → Spells table.now of.0 false most_octets v (take n bytes.now) → IsRead result v n }
     // The fault is the first from the left.
-    ensures exact { Gives (λ r. (r.value, r.used)) result (read_at table.now of.0 false 262144 bytes.now) }
+    ensures exact { Gives (λ r. (r.value, r.used)) result (read_at table.now of.0 false most_octets bytes.now) }
 {
     read_whole(alloc, table, of, bytes, LIMIT, false)
 }
@@ -69,9 +70,9 @@ pub fn der_read(
     bytes: &[u8],
 ) -> Result<Read, ReadFault>
     requires { of.0 < length table.now }
-    ensures found { IfOk result (λ r. (r.used ≤ length bytes.now) × Spells table.now of.0 true 262144 r.value (take r.used bytes.now)) }
-    ensures only { (v : tree.Value) (n : ℕ) → n ≤ length bytes.now → Spells table.now of.0 true 262144 v (take n bytes.now) → IsRead result v n }
-    ensures exact { Gives (λ r. (r.value, r.used)) result (read_at table.now of.0 true 262144 bytes.now) }
+    ensures found { IfOk result (λ r. (r.used ≤ length bytes.now) × Spells table.now of.0 true most_octets r.value (take r.used bytes.now)) }
+    ensures only { (v : tree.Value) (n : ℕ) → n ≤ length bytes.now → Spells table.now of.0 true most_octets v (take n bytes.now) → IsRead result v n }
+    ensures exact { Gives (λ r. (r.value, r.used)) result (read_at table.now of.0 true most_octets bytes.now) }
 {
     read_whole(alloc, table, of, bytes, LIMIT, true)
 }
@@ -139,7 +140,7 @@ fn sequence_of(table: &TypeTable, of: TypeId) -> Option<(TypeId, &Parts, Tag)>
     requires { of.0 < length table.now }
     ensures row { IfSome result (λ x. x.0.0 ≤ length table.now) }
     ensures below { IfSome result (λ x. AllByRecursion (λ m. m < x.0.0) (rows_of_parts x.1.now)) }
-    ensures is { IfSome result (λ x. reads table.now of.0 None ≡ sequence_at (begins table.now) (reads table.now) x.1.now x.2) }
+    ensures is { IfSome result (λ x. reads table.now of.0 plain ≡ sequence_at (begins table.now) (reads table.now) x.1.now x.2) }
 {
     match table.row(of) {
         TypeRow::Tagged {
@@ -183,9 +184,9 @@ fn read_sequence<'a>(
 ) -> Result<(Val, Spot<'a>), ReadFault>
     requires row { row.0 ≤ length table.now }
     requires below { AllByRecursion (λ m. m < row.0) (rows_of_parts parts.now) }
-    requires is { reads table.now of.0 None ≡ sequence_at (begins table.now) (reads table.now) parts.now tag }
+    requires is { reads table.now of.0 plain ≡ sequence_at (begins table.now) (reads table.now) parts.now tag }
     requires whole { spot.place + length spot.rest.now < 2 ^ 63 }
-    ensures gives { Gives (λ x. (x.0, spot_of x.1)) result (reads table.now of.0 None scope.now (opened_of opened.now) (spot_of spot.entry)) }
+    ensures gives { Gives (λ x. (x.0, spot_of x.1)) result (reads table.now of.0 plain scope.now (opened_of opened.now) (spot_of spot.entry)) }
     ensures stops { IfOk result (λ x. GoesOn spot.entry.place (length spot.entry.rest.now) x.1) }
 {
     sequence(alloc, table, row, parts, tag, scope, opened, spot)
@@ -204,14 +205,14 @@ fn read_behind<'a>(
     requires row { of.0 < length table.now }
     requires whole { spot.place + length spot.rest.now < 2 ^ 63 }
     requires start { GoesOn opened.now.start.place (length opened.now.start.rest.now) spot }
-    ensures { GivesRead result (reads table.now of.0 None scope.now (opened_of opened.now) (spot_of spot.entry)) }
+    ensures { GivesRead result (reads table.now of.0 plain scope.now (opened_of opened.now) (spot_of spot.entry)) }
 {
     if let Some((row, parts, tag)) = sequence_of(table, of) {
         let (value, after) = read_sequence(alloc, table, of, row, parts, tag, scope, opened, spot)?;
         let used = after.place;
         return Ok(Read { value, used });
     }
-    let (value, after) = value(alloc, table, of, None, scope, opened, spot)?;
+    let (value, after) = value(alloc, table, of, None, None, scope, opened, spot)?;
     let used = after.place;
     Ok(Read { value, used })
 }

@@ -1,19 +1,21 @@
 //! Reading values, row by row.
 
-ghost use Rattle.std.specs.Prelude.{◌≡◌, ◌+◌, ◌≤◌, ◌<◌, ◌^◌, [], length, Some, None, slice_get, slice_set, IfOk, List};
+ghost use Rattle.std.specs.Prelude.{◌≡◌, false, true, ◌+◌, ◌≤◌, ◌<◌, ◌^◌, [], length, Some, None, slice_get, slice_set, IfOk, List};
 ghost use Rattle.std.specs.List.{AllByRecursion};
 ghost use Rattle.asn1_types.specs.Rows.{begins, rows_of_parts, names_of};
+ghost use Rattle.asn1_types.specs.Defaults.{may_be_absent, kept};
 ghost use Rattle.asn1_types.specs.Table.{IsSound};
 ghost use Rattle.asn1_types.specs.Value as tree;
 ghost use Rattle.asn1_types.specs.ValueView.{values_of, parts_of};
 ghost use Rattle.ber_spelling.specs.Reading.{begun, Opens, Gives, Fails, spot_of, opened_of, GoesOn};
-ghost use Rattle.ber_spelling.specs.Rules.{open_at, close_at, all_items_at, list_item_at, list_done, list_at, sequence_at, choice_at, any_at, explicit_at, or_explicit, tagged_at, read_by, reads, no_parts_of, nothing_filled, is_free, stands, is_filled, set_done, late_kind, late_at, ordered_at, fill_at, slot_at, set_at};
+ghost use Rattle.ber_spelling.specs.Rules.{open_at, close_at, all_items_at, list_item_at, list_done, list_at, sequence_at, choice_at, any_at, explicit_at, or_explicit, tagged_at, read_by, reads, no_parts_of, nothing_filled, is_free, stands, is_filled, kept_of, settled, set_done, bare, under, late_kind, late_at, ordered_at, fill_at, slot_at, set_at};
 ghost use Rattle.ber_spelling.specs.Order.{rank};
 ghost use Rattle.ber_reading.specs.Parts.{absent_at, found_at, part_from, parts_from};
 
 use crate::at_once::{integer_ahead, parts_at_once, reach};
 use asn1_types::{
-    Class, MaybeVals, Node, Part, Parts, TypeId, TypeRow, TypeTable, Val, Vals, begins, text_number,
+    Class, MaybeVals, Node, Part, Parts, TypeId, TypeRow, TypeTable, Val, Vals, begins,
+    has_default_value, may_be_absent, text_number,
 };
 use ber_spelling::{
     Ahead, Opened, ReadFault, Scope, Spot, Tag, bit_string, boolean, enumerated, expect, extent,
@@ -100,11 +102,12 @@ fn any<'a>(
 
 /// What stands behind an identifier, as a value of this row, under another tag if one is given.
 #[cycle(reading)]
-pub(crate) fn value<'a>(
+pub fn value<'a>(
     alloc: Global,
     table: &TypeTable,
     of: TypeId,
     tag: Option<Tag>,
+    default: Option<i64>,
     scope: &Scope,
     opened: &Opened<'a>,
     spot: Spot<'a>,
@@ -112,10 +115,11 @@ pub(crate) fn value<'a>(
     requires row { of.0 < length table.now }
     requires whole { spot.place + length spot.rest.now < 2 ^ 63 }
     requires start { GoesOn opened.now.start.place (length opened.now.start.rest.now) spot }
-    ensures gives { Gives (λ x. (x.0, spot_of x.1)) result (reads table.now of.0 tag scope.now (opened_of opened.now) (spot_of spot.entry)) }
+    ensures gives { Gives (λ x. (x.0, spot_of x.1)) result (reads table.now of.0 (under tag default) scope.now (opened_of opened.now) (spot_of spot.entry)) }
     ensures stops { IfOk result (λ x. GoesOn spot.entry.place (length spot.entry.rest.now) x.1) }
 {
-    value_as(alloc, table, of, table.row(of), tag, scope, opened, spot)
+    let row = table.row(of);
+    value_as(alloc, table, of, row, tag, default, scope, opened, spot)
 }
 
 /// As `value`, of the row that stands in the table.
@@ -127,6 +131,7 @@ fn value_as<'a>(
     of: TypeId,
     row: &TypeRow,
     tag: Option<Tag>,
+    default: Option<i64>,
     scope: &Scope,
     opened: &Opened<'a>,
     spot: Spot<'a>,
@@ -135,14 +140,17 @@ fn value_as<'a>(
     requires sound { IsSound table.now }
     requires whole { spot.place + length spot.rest.now < 2 ^ 63 }
     requires start { GoesOn opened.now.start.place (length opened.now.start.rest.now) spot }
-    ensures gives { Gives (λ x. (x.0, spot_of x.1)) result (read_by (begins table.now) (reads table.now) row.now tag scope.now (opened_of opened.now) (spot_of spot.entry)) }
+    ensures gives { Gives (λ x. (x.0, spot_of x.1)) result (read_by (begins table.now) (reads table.now) row.now (under tag default) scope.now (opened_of opened.now) (spot_of spot.entry)) }
     ensures stops { IfOk result (λ x. GoesOn spot.entry.place (length spot.entry.rest.now) x.1) }
 {
     match row {
-        TypeRow::Boolean => boolean(tag_or(tag, Class::Universal, 1), scope, opened, spot),
+        TypeRow::Boolean => {
+            let tag = tag_or(tag, Class::Universal, 1);
+            boolean(tag, default, scope, opened, spot)
+        }
         TypeRow::Enumerated(items) => {
             let tag = tag_or(tag, Class::Universal, 10);
-            enumerated(items.as_slice(), tag, scope, opened, spot)
+            enumerated(items.as_slice(), tag, default, scope, opened, spot)
         }
         TypeRow::OctetString { most } => {
             let tag = tag_or(tag, Class::Universal, 4);
@@ -161,14 +169,8 @@ fn value_as<'a>(
             list(alloc, table, of, *inner, tag, scope, opened, spot)
         }
         TypeRow::Integer { low, high } => {
-            integer(
-                *low,
-                *high,
-                tag_or(tag, Class::Universal, 2),
-                scope,
-                opened,
-                spot,
-            )
+            let tag = tag_or(tag, Class::Universal, 2);
+            integer(*low, *high, tag, default, scope, opened, spot)
         }
         TypeRow::Null => null(tag_or(tag, Class::Universal, 5), scope, opened, spot),
         TypeRow::ObjectId => {
@@ -204,9 +206,18 @@ fn value_as<'a>(
         } => {
             let tag = tag_or(tag, *class, *number);
             if *explicit {
-                tagged(alloc, table, of, *inner, tag, scope, opened, spot)
+                tagged(alloc, table, of, *inner, tag, default, scope, opened, spot)
             } else {
-                value(alloc, table, *inner, Some(tag), scope, opened, spot)
+                value(
+                    alloc,
+                    table,
+                    *inner,
+                    Some(tag),
+                    default,
+                    scope,
+                    opened,
+                    spot,
+                )
             }
         }
         TypeRow::Any => match tag {
@@ -282,7 +293,7 @@ fn items<'a>(
         match look(scope, spot)? {
             Ahead::Ended { after, .. } => return Ok((found, after)),
             Ahead::Begun(opened, after) => {
-                let (value, next) = value(alloc, table, inner, None, scope, &opened, after)?;
+                let (value, next) = value(alloc, table, inner, None, None, scope, &opened, after)?;
                 found.push(value)?;
                 spot = next;
             }
@@ -318,6 +329,7 @@ fn tagged<'a>(
     of: TypeId,
     inner: TypeId,
     tag: Tag,
+    default: Option<i64>,
     scope: &Scope,
     opened: &Opened<'a>,
     spot: Spot<'a>,
@@ -325,11 +337,11 @@ fn tagged<'a>(
     requires below { inner.0 < of.0 }
     requires row { of.0 ≤ length table.now }
     requires whole { spot.place + length spot.rest.now < 2 ^ 63 }
-    ensures gives { Gives (λ x. (x.0, spot_of x.1)) result (explicit_at (reads table.now inner.0 None) tag scope.now (opened_of opened.now) (spot_of spot.entry)) }
+    ensures gives { Gives (λ x. (x.0, spot_of x.1)) result (explicit_at (reads table.now inner.0 (bare default)) tag scope.now (opened_of opened.now) (spot_of spot.entry)) }
     ensures stops { IfOk result (λ x. GoesOn spot.entry.place (length spot.entry.rest.now) x.1) }
 {
     let (inside, first, spot) = open(tag, scope, opened, spot)?;
-    let (value, spot) = value(alloc, table, inner, None, &inside, &first, spot)?;
+    let (value, spot) = value(alloc, table, inner, None, default, &inside, &first, spot)?;
     Ok((value, close(&inside, spot)?))
 }
 
@@ -389,7 +401,7 @@ fn choice<'a>(
 {
     for (which, part) in alternatives.iter().enumerate() {
         if begins(table, part.inner, opened.class, opened.number) {
-            let (value, after) = value(alloc, table, part.inner, None, scope, opened, spot)?;
+            let (value, after) = value(alloc, table, part.inner, None, None, scope, opened, spot)?;
             let node = Node::Chosen {
                 which: which as u32,
                 value: Box::new(alloc, value)?,
@@ -486,6 +498,18 @@ fn part_of<'a>(
     }
 }
 
+/// The value of a part, unless it is the default's, for which the absent part stands.
+#[inline(always)]
+fn kept(part: &Part, value: Val) -> Option<Val>
+    ensures { result ≡ kept part.now value }
+{
+    if has_default_value(part, &value) {
+        None
+    } else {
+        Some(value)
+    }
+}
+
 /// A part that is not there, which leaves the spot as it is.
 #[inline(always)]
 fn absent<'a>(
@@ -493,10 +517,10 @@ fn absent<'a>(
     place: usize,
     spot: Spot<'a>,
 ) -> Result<(Option<Val>, Spot<'a>), ReadFault>
-    ensures gives { Gives (λ x. (x.0, spot_of x.1)) result (absent_at part.now.optional place (spot_of spot.entry)) }
+    ensures gives { Gives (λ x. (x.0, spot_of x.1)) result (absent_at (may_be_absent part.now) place (spot_of spot.entry)) }
     ensures stops { IfOk result (λ x. GoesOn spot.entry.place (length spot.entry.rest.now) x.1) }
 {
-    if part.optional {
+    if may_be_absent(part) {
         Ok((None, spot))
     } else {
         Err(refusal(place, Kind::Missing))
@@ -524,8 +548,12 @@ fn part_begun<'a>(
     ensures stops { IfOk result (λ x. GoesOn spot.entry.place (length spot.entry.rest.now) x.1) }
 {
     if begins(table, part.inner, opened.class, opened.number) {
-        let (value, next) = value(alloc, table, part.inner, None, scope, opened, after)?;
-        return Ok((Some(value), next));
+        let default = part.default;
+        let read = value(
+            alloc, table, part.inner, None, default, scope, opened, after,
+        )?;
+        let (value, next) = read;
+        return Ok((kept(part, value), next));
     }
     absent(part, opened.start.place, spot)
 }
@@ -597,6 +625,7 @@ fn slots<'a>(
         match look(scope, spot)? {
             Ahead::Ended { place, after } => {
                 if is_filled(parts, &found) {
+                    settle(parts, &mut found);
                     return Ok((found, after));
                 }
                 return Err(refusal(place, Kind::Missing));
@@ -629,11 +658,11 @@ fn stands(part: &Part, slot: &Option<Val>) -> bool
 {
     match slot {
         Some(_) => true,
-        None => part.optional,
+        None => may_be_absent(part),
     }
 }
 
-/// Whether each part stands that isn't optional.
+/// Whether each part stands that may not be absent.
 fn is_filled(parts: &[Part], found: &[Option<Val>]) -> bool
     requires { length found.now ≡ length parts.now }
     ensures { result ≡ is_filled parts.now found.now }
@@ -644,6 +673,29 @@ fn is_filled(parts: &[Part], found: &[Option<Val>]) -> bool
         }
     }
     true
+}
+
+/// Whether a part of a SET stands with its default's value.
+fn has_default(part: &Part, slot: &Option<Val>) -> bool
+    ensures no { result ≡ false → kept_of part.now slot.now ≡ slot.now }
+    ensures yes { result ≡ true → kept_of part.now slot.now ≡ None }
+{
+    match slot {
+        Some(value) => has_default_value(part, value),
+        None => false,
+    }
+}
+
+/// Makes each part absent that has its default's value.
+fn settle(parts: &[Part], found: &mut MaybeVals)
+    requires { length found.old.items ≡ length parts.now }
+    ensures { found.new.items ≡ settled parts.now found.old.items }
+{
+    for (index, part) in parts.iter().enumerate() {
+        if has_default(part, &found[index]) {
+            found[index] = None;
+        }
+    }
 }
 
 /// The part of a SET that begins with this identifier, and its slot, which must be free.
@@ -672,9 +724,10 @@ fn slot<'a>(
     for (which, part) in parts.iter().enumerate() {
         if begins(table, part.inner, opened.class, opened.number) {
             if !is_free(&found[which]) {
-                return Err(refusal(opened.start.place, Kind::Extra));
+                let kind = Kind::Extra;
+                return Err(late(alloc, table, of, part, kind, scope, opened, spot));
             }
-            let (value, after) = ordered(alloc, table, of, part.inner, least, scope, opened, spot)?;
+            let (value, after) = ordered(alloc, table, of, part, least, scope, opened, spot)?;
             return Ok((which, value, after));
         }
     }
@@ -687,40 +740,42 @@ fn ordered<'a>(
     alloc: Global,
     table: &TypeTable,
     of: TypeId,
-    inner: TypeId,
+    part: &Part,
     least: u64,
     scope: &Scope,
     opened: &Opened<'a>,
     spot: Spot<'a>,
 ) -> Result<(Val, Spot<'a>), ReadFault>
-    requires below { inner.0 < of.0 }
+    requires below { part.now.inner.0 < of.0 }
     requires row { of.0 ≤ length table.now }
     requires whole { spot.place + length spot.rest.now < 2 ^ 63 }
     requires start { GoesOn opened.now.start.place (length opened.now.start.rest.now) spot }
-    ensures gives { Gives (λ x. (x.0, spot_of x.1)) result (ordered_at (reads table.now inner.0) least scope.now (opened_of opened.now) (spot_of spot.entry)) }
+    ensures gives { Gives (λ x. (x.0, spot_of x.1)) result (ordered_at (reads table.now part.now.inner.0 (bare part.now.default)) least scope.now (opened_of opened.now) (spot_of spot.entry)) }
     ensures stops { IfOk result (λ x. GoesOn spot.entry.place (length spot.entry.rest.now) x.1) }
 {
     if scope.strict && rank(opened.class, opened.number) < least {
-        return Err(late(alloc, table, of, inner, scope, opened, spot));
+        return Err(late(alloc, table, of, part, Kind::Form, scope, opened, spot));
     }
-    value(alloc, table, inner, None, scope, opened, spot)
+    let default = part.default;
+    value(alloc, table, part.inner, None, default, scope, opened, spot)
 }
 
-/// The fault of a part that stands out of order: that of its identifier alone comes first.
+/// The fault of a part that may not stand here: that of its identifier alone comes first.
 #[cycle(reading)]
 fn late<'a>(
     alloc: Global,
     table: &TypeTable,
     of: TypeId,
-    inner: TypeId,
+    part: &Part,
+    kind: Kind,
     scope: &Scope,
     opened: &Opened<'a>,
     spot: Spot<'a>,
 ) -> ReadFault
-    requires below { inner.0 < of.0 }
+    requires below { part.now.inner.0 < of.0 }
     requires row { of.0 ≤ length table.now }
     requires whole { spot.place + length spot.rest.now < 2 ^ 63 }
-    ensures { Fails result (late_at (reads table.now inner.0) scope.now (opened_of opened.now) (spot_of spot.entry)) }
+    ensures { Fails result (late_at {A = Unit {0}} kind (reads table.now part.now.inner.0 (bare part.now.default)) scope.now (opened_of opened.now) (spot_of spot.entry)) }
 {
     let behind = Spot {
         place: spot.place,
@@ -732,7 +787,10 @@ fn late<'a>(
         constructed: opened.constructed,
         number: opened.number,
     };
-    match value(alloc, table, inner, None, scope, &alone, behind) {
+    let default = part.default;
+    match value(
+        alloc, table, part.inner, None, default, scope, &alone, behind,
+    ) {
         Err(ReadFault::NoMemory) => ReadFault::NoMemory,
         Err(
             ReadFault::NotSpelled {
@@ -740,6 +798,6 @@ fn late<'a>(
                 ..
             },
         ) => refusal(opened.start.place, Kind::Tag),
-        _ => refusal(opened.start.place, Kind::Form),
+        _ => refusal(opened.start.place, kind),
     }
 }

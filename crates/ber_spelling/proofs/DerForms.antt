@@ -6,7 +6,7 @@ use Rattle.asn1_types.specs.Value.{Value}
 use Rattle.ber_spelling.specs.declared.fault.ReadFault.TheVariants as faults
 use Rattle.ber_spelling.specs.Reading.{Reading}
 use Rattle.ber_spelling.specs.Fields.{identifier_at}
-use Rattle.ber_spelling.specs.Rules.{reads, value_at, read_at, outermost}
+use Rattle.ber_spelling.specs.Rules.{reads, value_at, read_at, outermost, plain}
 use Rattle.ber_spelling.specs.Laws.{DerIsBerInForm}
 use Rattle.ber_spelling.proofs.Strict.{Formal, same, Formal-bind, identifier_lax}
 use Rattle.ber_spelling.proofs.StrictRules.{along_strict}
@@ -18,7 +18,7 @@ read_formal rows n limit bytes =
     let ber = outermost limit false in
     Formal-bind same same (value_at rows n der 0 bytes) (value_at rows n ber 0 bytes) _ _
     (Formal-bind same same (identifier_at der 0 bytes) (identifier_at ber 0 bytes) _ _ (identifier_lax der 0 bytes) (λ x.
-    ((along_strict rows (length rows) n).formal None).each der x.0 x.1)) (λ x. refl)
+    ((along_strict rows (length rows) n).formal plain).each der x.0 x.1)) (λ x. refl)
 
 told : (der ber : Reading (Value × ℕ)) → Formal same der ber → (der ≡ ber) ⊎ ((place : ℕ) × (der ≡ Err (faults.NotSpelled place Form)))
 told (Ok x) ber h = inl (sym h)

@@ -5,6 +5,7 @@ use Rattle.std.specs.List.{list_any}
 use Rattle.std.proofs.lemmas.Bool.{eqb-true, and_parts, or_cases, or_parts}
 use Rattle.asn1_types.specs.declared.row.Class.{Class}
 use Rattle.asn1_types.specs.declared.row.Part.{Part}
+use Rattle.asn1_types.specs.Defaults.{may_be_absent}
 use Rattle.asn1_types.specs.Rows.{Opening, tag, every, is_no_tag, same_class, allows, meets}
 use Rattle.asn1_types.specs.Table.{clash, clashes_in_run, clashes_in_sequence}
 use Rattle.ber_spelling.proofs.Steady.{same_classes, class_itself, eqb_itself}
@@ -65,21 +66,21 @@ module _ (openings : ℕ → List Opening) (c : Class) (k : ℕ) where
   -- a part allows the identifier, and those before it may be left out
   abbrev pub RunAllows : List Part → Type 0
   RunAllows [] = ⊥
-  RunAllows (p ∷ ps) = (begins_by openings p.inner.0 c k ≡ true) ⊎ ((p.optional ≡ true) × RunAllows ps)
+  RunAllows (p ∷ ps) = (begins_by openings p.inner.0 c k ≡ true) ⊎ ((may_be_absent p ≡ true) × RunAllows ps)
 
   pub apart_in_run : (p : Part) (ps : List Part) → clashes_in_run (clash openings) p ps ≡ false → RunAllows ps → begins_by openings p.inner.0 c k ≡ false
   apart_in_run p [] e h = absurd h
   apart_in_run p (q ∷ qs) e (inl h) = apart p q (or_parts (clash openings p q) _ e).0 h
   apart_in_run p (q ∷ qs) e (inr h) =
-      let t : (q.optional && clashes_in_run (clash openings) p qs) ≡ false = (or_parts (clash openings p q) _ e).1 in
-      apart_in_run p qs (without q.optional _ h.0 t) h.1
+      let t : (may_be_absent q && clashes_in_run (clash openings) p qs) ≡ false = (or_parts (clash openings p q) _ e).1 in
+      apart_in_run p qs (without (may_be_absent q) _ h.0 t) h.1
     where
       without : (a b : Bool) → a ≡ true → (a && b) ≡ false → b ≡ false
       without true b x y = y
       without false b x y = absurd cc
 
-  pub run_apart : (p : Part) (ps : List Part) → p.optional ≡ true → clashes_in_sequence (clash openings) (p ∷ ps) ≡ false → RunAllows ps → begins_by openings p.inner.0 c k ≡ false
-  run_apart p ps o e h = apart_in_run p ps (with_optional p.optional _ o (or_parts _ (clashes_in_sequence (clash openings) ps) e).0) h
+  pub run_apart : (p : Part) (ps : List Part) → may_be_absent p ≡ true → clashes_in_sequence (clash openings) (p ∷ ps) ≡ false → RunAllows ps → begins_by openings p.inner.0 c k ≡ false
+  run_apart p ps o e h = apart_in_run p ps (with_optional (may_be_absent p) _ o (or_parts _ (clashes_in_sequence (clash openings) ps) e).0) h
     where
       with_optional : (a b : Bool) → a ≡ true → (a && b) ≡ false → b ≡ false
       with_optional true b x y = y

@@ -7,7 +7,7 @@ use Rattle.ber_spelling.specs.declared.spot.Scope.{Scope}
 use Rattle.ber_spelling.specs.Reading.{Spot, Opened, Ahead, ended, begun, is_past, within}
 use Rattle.ber_spelling.specs.Fields.{identifier_at, is_end, cut_off, begin_at, second_zero_at, mark_at, look_at}
 use Rattle.ber_spelling.proofs.Growing.{short_not_ok}
-use Rattle.ber_spelling.proofs.Identifiers.{IsIn, is_in, in_is, Taken, bind_ok, chosen_ok, ok_is, done}
+use Rattle.ber_spelling.proofs.Identifiers.{in_before, IsIn, is_in, in_is, Taken, bind_ok, chosen_ok, ok_is, done}
 
 -- what closes contents
 abbrev pub closing : Bool → List ℕ
@@ -82,7 +82,9 @@ mark_found scope place (first ∷ rest) a m e =
     elim (chosen_ok (nat_eq first 0) _ _ a e) [
       | inl t ↦ elim (chosen_ok (is_past scope.end (place + 2)) _ _ a t.1) [
         | inl u ↦ absurd (short_not_ok (within scope place (place + 2)) a u.1)
-        | inr u ↦ second_found scope place first rest a m (eqb-true first 0 t.0) u.1
+        | inr u ↦
+            let b = bind_ok (within scope place (place + 1)) _ a u.1 in
+            second_found scope place first rest a m (eqb-true first 0 t.0) b.2
       ]
       | inr t ↦ begin_found scope place (first ∷ rest) a t.1
     ]
@@ -118,7 +120,7 @@ look_closed scope place rest h = by_mark scope.marked refl h.by
         → cond m (cond (is_end scope.end place) (cut_off scope place (place + 1)) (mark_at scope place (closing m ++ rest))) (cond (is_end scope.end place) (Ok (ended place (record { place = place; rest = closing m ++ rest }))) (begin_at scope place (closing m ++ rest))) ≡ Ok (ended place (record { place = place + length (closing m); rest = rest }))
     by_mark true e here =
         let lt : place < place + 2 = omega arith in
-        rw (not_end scope.end place (place + 2) lt here.end, here.end, in_is scope place (place + 2) here) refl
+        rw (not_end scope.end place (place + 2) lt here.end, here.end, in_is scope place (place + 1) (in_before scope (place + 1) (place + 2) (omega arith) here), in_is scope place (place + 2) here) refl
     by_mark false e here = rw (plain scope.end here) (ap (λ (n : ℕ). Ok (ended place (record { place = n; rest = rest }))) (omega arith))
 
 -- where a value begins within, contents do not end

@@ -7,7 +7,7 @@ use Rattle.ber_spelling.specs.declared.fault.ReadFault.{ReadFault}
 use Rattle.ber_spelling.specs.declared.fault.ReadFault.TheVariants as faults
 use Rattle.ber_spelling.specs.Reading.{Reading}
 use Rattle.ber_spelling.specs.Fields.{identifier_at}
-use Rattle.ber_spelling.specs.Rules.{reads, value_at, read_at, outermost}
+use Rattle.ber_spelling.specs.Rules.{reads, value_at, read_at, outermost, plain}
 use Rattle.ber_spelling.proofs.WholeValues.{read_stays, fault_stays}
 use Rattle.ber_spelling.specs.Laws.{IsAt, FaultIsFirst}
 use Rattle.ber_spelling.proofs.Inside.{Inside, Inside-bind, second, Begun, identifier_inside}
@@ -23,7 +23,7 @@ read_inside rows n strict limit bytes =
     let end : ℕ = length bytes in
     Inside-bind (second end) anything end (value_at rows n scope 0 bytes) _
     (Inside-bind (Begun end) (second end) end (identifier_at scope 0 bytes) _ (identifier_inside scope 0 bytes end (omega arith)) (λ x k.
-    (along_inside rows (length rows) n None).each end scope x.0 x.1 k.0 k.1)) (λ x k. tt)
+    (along_inside rows (length rows) n plain).each end scope x.0 x.1 k.0 k.1)) (λ x k. tt)
 
 -- where a fault stands
 abbrev Placed : ℕ → ReadFault → Type 0

@@ -1,6 +1,6 @@
 -- What octets spell fits its row.
-use Rattle.std.proofs.Common.{◌≡◌, ℕ, zero, suc, Bool, true, false, ◌&&◌, List, [], ◌∷◌, ◌++◌, length, Option, Some, None, refl, ap, ◌∙◌, subst}
-use Rattle.std.specs.Prelude.{slice_get, slice_set}
+use Rattle.std.proofs.Common.{◌≡◌, ℕ, zero, suc, Bool, true, false, ◌&&◌, List, [], ◌∷◌, ◌++◌, length, Option, Some, None, refl, ap, ◌∙◌, subst, ℤ, ◌||◌, inl, inr}
+use Rattle.std.specs.Prelude.{slice_get, slice_set, if◌then◌else◌}
 use Rattle.std.specs.List.{list_all}
 use Rattle.std.proofs.lemmas.Bool.{and_parts}
 use Rattle.std.proofs.lemmas.Option.{cond_some}
@@ -9,15 +9,16 @@ use Rattle.asn1_types.specs.declared.row.Class.TheVariants.{Universal}
 use Rattle.asn1_types.specs.declared.row.Part.{Part}
 use Rattle.asn1_types.specs.declared.row.TypeRow.{TypeRow}
 use Rattle.asn1_types.specs.declared.row.TypeRow.TheVariants as row
+use Rattle.asn1_types.specs.Defaults.{has_default, may_be_absent, is_default, kept}
 use Rattle.asn1_types.specs.Rows.{of_row, along, text_number}
 use Rattle.asn1_types.specs.Value.{Value, boolean, integer, null, octets, bits, object_id, text, parts, list, chosen, any, MaybeValues, no_parts, absent, present}
 use Rattle.asn1_types.specs.ValueView.{parts_of, values_of}
-use Rattle.asn1_types.specs.Fits.{any_fits, parts_fit, sequence_fits, values_fit, list_fits, alternative_fits, choice_fits, fits_by, nothing_fits, fits}
+use Rattle.asn1_types.specs.Fits.{any_fits, part_fits, parts_fit, sequence_fits, values_fit, list_fits, alternative_fits, choice_fits, fits_by, nothing_fits, fits}
 use Rattle.ber_spelling.specs.Octets.{AreOctets}
 use Rattle.ber_spelling.specs.Order.{Filled}
 use Rattle.ber_spelling.specs.declared.spot.Tag as tags
-use Rattle.ber_spelling.specs.Rules.{tag_or, always, has_zero_bits, no_parts_of, nothing_filled, is_filled}
-use Rattle.ber_spelling.specs.Spelling.{BooleanIs, IntegerIs, EnumeratedIs, NullIs, ObjectIdIs, AnyIs, Spelled, Steps, PartsAre, SequenceIs, ListStep, ListIs, SetStep, SetIs, ChoiceIs, OrExplicit, RowIs, RowOr, SpelledBy, Spells}
+use Rattle.ber_spelling.specs.Rules.{tag_or, always, has_zero_bits, no_parts_of, nothing_filled, is_filled, Guise, bare, plain, under, settled}
+use Rattle.ber_spelling.specs.Spelling.{BooleanIs, IntegerIs, EnumeratedIs, NullIs, ObjectIdIs, AnyIs, Spelled, Steps, PartsAre, SequenceIs, ListStep, ListIs, SetStep, SetIs, ChoiceIs, OrExplicit, RowIs, RowOr, SpelledBy, Spells, IsOther, PartIs}
 use Rattle.ber_spelling.specs.Laws.{SpelledFits}
 use Rattle.ber_spelling.proofs.Steady.{octets_left, octets_right}
 use Rattle.ber_spelling.proofs.Around.{in_primitive, in_constructed}
@@ -25,20 +26,42 @@ use Rattle.ber_spelling.proofs.FittingContents.{boolean_fitting, null_fitting, i
 use Rattle.ber_spelling.proofs.Lax.{der_is_ber}
 
 record Fitting (rel : Spelled) (fit : Value → Bool) : Type 0 where
-  is : (t : Option tags.Tag) (levels : ℕ) (v : Value) (s : List ℕ) → AreOctets s → rel t false levels v s → fit v ≡ true
+  is : (t : Guise) (levels : ℕ) (v : Value) (s : List ℕ) → AreOctets s → rel t false levels v s → fit v ≡ true
+
+-- a value of a part that is no default fits, and of one that is the absent part
+kept_fits : (fit : ℕ → Value → Bool) (p : Part) (v : Value) → fit p.inner.0 v ≡ true → part_fits fit p (kept p v) ≡ true
+kept_fits fit p v e = by_default p.default (is_default p.default v) refl refl
+  where
+    has : (d : Option ℤ) → is_default d v ≡ true → has_default d ≡ true
+    has None e = absurd cc
+    has (Some d) e = refl
+
+    either : (a b : Bool) → b ≡ true → (a || b) ≡ true
+    either true b e = refl
+    either false b e = e
+
+    by_default : (d : Option ℤ) (b : Bool) → p.default ≡ d → is_default p.default v ≡ b → part_fits fit p (if b then None else Some v) ≡ true
+    by_default d true g t = either p.optional (has_default p.default) (has p.default t)
+    by_default d false g t = rw (e, t) refl
 
 module _ (rel : ℕ → Spelled) (fit : ℕ → Value → Bool) (h : (m : ℕ) → Fitting (rel m) (fit m)) where
   -- ---- SEQUENCE
+
+  part_fitting : (levels : ℕ) (p : Part) (o : Option Value) (s : List ℕ) → AreOctets s → PartIs (rel p.inner.0) false levels p o s → part_fits fit p o ≡ true
+  part_fitting levels p o s are (inl x) = rw x.1 x.0
+  part_fitting levels p o s are (inr x) = subst (λ (y : Option Value). part_fits fit p y ≡ true) x.1 (kept_fits fit p x.0 ((h p.inner.0).is (bare p.default) levels x.0 s are x.2))
 
   parts_fitting : (levels : ℕ) (ps : List Part) (vs : MaybeValues) (c : List ℕ) → AreOctets c → PartsAre rel false levels ps vs c → parts_fit fit ps vs ≡ true
   parts_fitting levels [] no_parts c are p = refl
   parts_fitting levels [] (absent vs) c are p = absurd p
   parts_fitting levels [] (present v vs) c are p = absurd p
   parts_fitting levels (q ∷ qs) no_parts c are p = absurd p
-  parts_fitting levels (q ∷ qs) (absent vs) c are p = rw p.0 (parts_fitting levels qs vs c are p.1)
+  parts_fitting levels (q ∷ qs) (absent vs) c are p =
+      let both : AreOctets (p.0 ++ p.1) = subst AreOctets p.2 are in
+      rw (part_fitting levels q None p.0 (octets_left p.0 p.1 both) p.3) (parts_fitting levels qs vs p.1 (octets_right p.0 p.1 both) p.4)
   parts_fitting levels (q ∷ qs) (present v vs) c are p =
       let both : AreOctets (p.0 ++ p.1) = subst AreOctets p.2 are in
-      rw ((h q.inner.0).is None levels v p.0 (octets_left p.0 p.1 both) p.3) (parts_fitting levels qs vs p.1 (octets_right p.0 p.1 both) p.4)
+      rw (part_fitting levels q (Some v) p.0 (octets_left p.0 p.1 both) p.3) (parts_fitting levels qs vs p.1 (octets_right p.0 p.1 both) p.4)
 
   sequence_fitting : (ps : List Part) (levels : ℕ) (v : Value) (c : List ℕ) → AreOctets c → SequenceIs rel false ps v levels c → sequence_fits (parts_fit fit ps) v ≡ true
   sequence_fitting ps levels (parts vs) c are p = parts_fitting levels ps vs c are p
@@ -80,12 +103,18 @@ module _ (rel : ℕ → Spelled) (fit : ℕ → Value → Bool) (h : (m : ℕ) �
       let t = and_parts (fit q.inner.0 w) (slots_fit qs os) all in
       rw t.0 (one_more qs os which p v at free e t.1)
 
-  filled_fit : (ps : List Part) (os : List (Option Value)) → is_filled ps os ≡ true → slots_fit ps os ≡ true → parts_fit fit ps (parts_of os) ≡ true
+  put_part : (o : Option Value) (p : Part) (ps : List Part) (os : List (Option Value)) → part_fits fit p o ≡ true → parts_fit fit ps (parts_of os) ≡ true → parts_fit fit (p ∷ ps) (parts_of (o ∷ os)) ≡ true
+  put_part None p ps os e all = rw e all
+  put_part (Some v) p ps os e all = rw e all
+
+  filled_fit : (ps : List Part) (os : List (Option Value)) → is_filled ps os ≡ true → slots_fit ps os ≡ true → parts_fit fit ps (parts_of (settled ps os)) ≡ true
   filled_fit [] [] f all = refl
   filled_fit [] (o ∷ os) f all = absurd cc
   filled_fit (p ∷ ps) [] f all = absurd cc
-  filled_fit (p ∷ ps) (None ∷ os) f all = let t = and_parts p.optional (is_filled ps os) f in rw t.0 (filled_fit ps os t.1 all)
-  filled_fit (p ∷ ps) (Some v ∷ os) f all = let t = and_parts (fit p.inner.0 v) (slots_fit ps os) all in rw t.0 (filled_fit ps os f t.1)
+  filled_fit (p ∷ ps) (None ∷ os) f all = let t = and_parts (may_be_absent p) (is_filled ps os) f in rw t.0 (filled_fit ps os t.1 all)
+  filled_fit (p ∷ ps) (Some v ∷ os) f all =
+      let t = and_parts (fit p.inner.0 v) (slots_fit ps os) all in
+      put_part (kept p v) p ps (settled ps os) (kept_fits fit p v t.0) (filled_fit ps os f t.1)
 
   slots_fitting : (ps : List Part) (levels : ℕ) (steps : List (List ℕ × Filled)) (a b : Filled) (c : List ℕ) → AreOctets c → slots_fit ps a.found ≡ true
       → Steps (λ x y s. SetStep rel ps x false levels y s) steps a b c → slots_fit ps b.found ≡ true
@@ -93,13 +122,13 @@ module _ (rel : ℕ → Spelled) (fit : ℕ → Value → Bool) (h : (m : ℕ) �
   slots_fitting ps levels (s ∷ more) a b c are all p =
       let both : AreOctets (s.0 ++ p.0) = subst AreOctets p.1 are in
       let q = p.2 in
-      let e : fit q.1.inner.0 q.2 ≡ true = (h q.1.inner.0).is None levels q.2 s.0 (octets_left s.0 p.0 both) q.5 in
+      let e : fit q.1.inner.0 q.2 ≡ true = (h q.1.inner.0).is (bare q.1.default) levels q.2 s.0 (octets_left s.0 p.0 both) q.5 in
       let next : slots_fit ps s.1.found ≡ true = ap (λ (x : Filled). slots_fit ps x.found) q.7 ∙ one_more ps a.found q.0 q.1 q.2 q.3 q.4 e all in
       slots_fitting ps levels more s.1 b p.0 (octets_right s.0 p.0 both) next p.3
 
   set_fitting : (ps : List Part) (levels : ℕ) (v : Value) (c : List ℕ) → AreOctets c → SetIs rel ps false v levels c → sequence_fits (parts_fit fit ps) v ≡ true
   set_fitting ps levels v c are p =
-      let t = cond_some (is_filled ps p.0.found) (parts (parts_of p.0.found)) v p.1 in
+      let t = cond_some (is_filled ps p.0.found) (parts (parts_of (settled ps p.0.found))) v p.1 in
       subst (λ (x : Value). sequence_fits (parts_fit fit ps) x ≡ true) t.1 (filled_fit ps p.0.found t.0 (slots_fitting ps levels p.2 (nothing_filled ps) p.0 c are (none_fit ps) p.3))
 
   -- ---- SEQUENCE OF and CHOICE
@@ -114,7 +143,7 @@ module _ (rel : ℕ → Spelled) (fit : ℕ → Value → Bool) (h : (m : ℕ) �
   items_fitting of levels (s ∷ more) a b c are all p =
       let both : AreOctets (s.0 ++ p.0) = subst AreOctets p.1 are in
       let q = p.2 in
-      let e : fit of q.0 ≡ true = (h of).is None levels q.0 s.0 (octets_left s.0 p.0 both) q.2 in
+      let e : fit of q.0 ≡ true = (h of).is plain levels q.0 s.0 (octets_left s.0 p.0 both) q.2 in
       let next : list_all (fit of) s.1 ≡ true = ap (list_all (fit of)) q.1 ∙ list_all-append (fit of) a (q.0 ∷ []) ∙ rw (all, e) refl in
       items_fitting of levels more s.1 b p.0 (octets_right s.0 p.0 both) next p.3
 
@@ -124,7 +153,7 @@ module _ (rel : ℕ → Spelled) (fit : ℕ → Value → Bool) (h : (m : ℕ) �
       subst (λ (x : Value). list_fits (fit of) x ≡ true) same (values_all (fit of) p.0 ∙ items_fitting of levels p.2 [] p.0 c are refl p.3)
 
   choice_fitting : (ps : List Part) (levels : ℕ) (v : Value) (s : List ℕ) → AreOctets s → ChoiceIs rel ps false levels v s → choice_fits (λ which. alternative_fits fit (slice_get ps which)) v ≡ true
-  choice_fitting ps levels (chosen which v) s are p = rw p.1 ((h p.0.inner.0).is None levels v s are p.2)
+  choice_fitting ps levels (chosen which v) s are p = rw p.1 ((h p.0.inner.0).is plain levels v s are p.2)
   choice_fitting ps levels (boolean x) s are p = absurd p
   choice_fitting ps levels (integer x) s are p = absurd p
   choice_fitting ps levels null s are p = absurd p
@@ -143,32 +172,32 @@ module _ (rel : ℕ → Spelled) (fit : ℕ → Value → Bool) (h : (m : ℕ) �
   explicit_fitting P v good each None levels s are p = each levels s are p
   explicit_fitting P v good each (Some t) levels s are p = in_constructed t false levels (λ l c. P false l v c) s are p each
 
-  row_fitting : (r : TypeRow) (t : Option tags.Tag) (levels : ℕ) (v : Value) (s : List ℕ)
+  row_fitting : (r : TypeRow) (t : Guise) (levels : ℕ) (v : Value) (s : List ℕ)
       → AreOctets s → RowIs rel r t false levels v s → fits_by fit r v ≡ true
-  row_fitting row.Boolean t levels v s are p = in_primitive (tag_or t Universal 1) false levels (BooleanIs false v) s are p (λ c of q. boolean_fitting false v c q)
-  row_fitting (row.Integer low high) t levels v s are p = in_primitive (tag_or t Universal 2) false levels (IntegerIs low high v) s are p (λ c of q. integer_fitting low high v c of q)
-  row_fitting (row.Enumerated items) t levels v s are p = in_primitive (tag_or t Universal 10) false levels (EnumeratedIs items v) s are p (λ c of q. enumerated_fitting items v c of q)
-  row_fitting row.Null t levels v s are p = in_primitive (tag_or t Universal 5) false levels (NullIs v) s are p (λ c of q. null_fitting v c q)
-  row_fitting (row.OctetString most) t levels v s are p = octets_fitting most always (tag_or t Universal 4) levels v s are p
-  row_fitting row.BitString t levels v s are p = bits_fitting has_zero_bits (tag_or t Universal 3) levels v s are p
-  row_fitting row.ObjectId t levels v s are p = in_primitive (tag_or t Universal 6) false levels (ObjectIdIs v) s are p (λ c of q. object_id_fitting v c q)
-  row_fitting (row.Text kind) t levels v s are p = text_fitting kind always (tag_or t Universal (text_number kind)) levels v s are p
-  row_fitting (row.Sequence ps) t levels v s are p = in_constructed (tag_or t Universal 16) false levels (SequenceIs rel false ps v) s are p (λ l c of q. sequence_fitting ps l v c of q)
-  row_fitting (row.Set ps) t levels v s are p = in_constructed (tag_or t Universal 17) false levels (SetIs rel ps false v) s are p (λ l c of q. set_fitting ps l v c of q)
-  row_fitting (row.SequenceOf item) t levels v s are p = in_constructed (tag_or t Universal 16) false levels (ListIs (rel item.0) false v) s are p (λ l c of q. list_fitting item.0 l v c of q)
+  row_fitting row.Boolean t levels v s are p = in_primitive (tag_or t.tag Universal 1) false levels (λ c. BooleanIs false v c × IsOther t.default false v) s are p (λ c of q. boolean_fitting false v c q.0)
+  row_fitting (row.Integer low high) t levels v s are p = in_primitive (tag_or t.tag Universal 2) false levels (λ c. IntegerIs low high v c × IsOther t.default false v) s are p (λ c of q. integer_fitting low high v c of q.0)
+  row_fitting (row.Enumerated items) t levels v s are p = in_primitive (tag_or t.tag Universal 10) false levels (λ c. EnumeratedIs items v c × IsOther t.default false v) s are p (λ c of q. enumerated_fitting items v c of q.0)
+  row_fitting row.Null t levels v s are p = in_primitive (tag_or t.tag Universal 5) false levels (NullIs v) s are p (λ c of q. null_fitting v c q)
+  row_fitting (row.OctetString most) t levels v s are p = octets_fitting most always (tag_or t.tag Universal 4) levels v s are p
+  row_fitting row.BitString t levels v s are p = bits_fitting has_zero_bits (tag_or t.tag Universal 3) levels v s are p
+  row_fitting row.ObjectId t levels v s are p = in_primitive (tag_or t.tag Universal 6) false levels (ObjectIdIs v) s are p (λ c of q. object_id_fitting v c q)
+  row_fitting (row.Text kind) t levels v s are p = text_fitting kind always (tag_or t.tag Universal (text_number kind)) levels v s are p
+  row_fitting (row.Sequence ps) t levels v s are p = in_constructed (tag_or t.tag Universal 16) false levels (SequenceIs rel false ps v) s are p (λ l c of q. sequence_fitting ps l v c of q)
+  row_fitting (row.Set ps) t levels v s are p = in_constructed (tag_or t.tag Universal 17) false levels (SetIs rel ps false v) s are p (λ l c of q. set_fitting ps l v c of q)
+  row_fitting (row.SequenceOf item) t levels v s are p = in_constructed (tag_or t.tag Universal 16) false levels (ListIs (rel item.0) false v) s are p (λ l c of q. list_fitting item.0 l v c of q)
   row_fitting (row.Choice ps) t levels v s are p =
-      explicit_fitting (ChoiceIs rel ps) v (choice_fits (λ which. alternative_fits fit (slice_get ps which)) v) (λ l c of q. choice_fitting ps l v c of q) t levels s are p
+      explicit_fitting (ChoiceIs rel ps) v (choice_fits (λ which. alternative_fits fit (slice_get ps which)) v) (λ l c of q. choice_fitting ps l v c of q) t.tag levels s are p
   row_fitting (row.Tagged class number true inner) t levels v s are p =
-      in_constructed (tag_or t class number) false levels (λ l c. rel inner.0 None false l v c) s are p (λ l c of q. (h inner.0).is None l v c of q)
-  row_fitting (row.Tagged class number false inner) t levels v s are p = (h inner.0).is (Some (tag_or t class number)) levels v s are p
-  row_fitting row.Any t levels v s are p = explicit_fitting (λ strict. AnyIs) v (any_fits v) (λ l c of q. any_fitting l v c q) t levels s are p
+      in_constructed (tag_or t.tag class number) false levels (λ l c. rel inner.0 (bare t.default) false l v c) s are p (λ l c of q. (h inner.0).is (bare t.default) l v c of q)
+  row_fitting (row.Tagged class number false inner) t levels v s are p = (h inner.0).is (under (Some (tag_or t.tag class number)) t.default) levels v s are p
+  row_fitting row.Any t levels v s are p = explicit_fitting (λ strict. AnyIs) v (any_fits v) (λ l c of q. any_fitting l v c q) t.tag levels s are p
 
 module _ (rows : List TypeRow) where
   along_fitting : (turns n : ℕ) → Fitting (SpelledBy rows turns n) (along nothing_fits fits_by rows turns n)
   along_fitting zero n = record { is = λ t levels v s are p. absurd p }
   along_fitting (suc turns) n = record { is = by (slice_get rows n) (λ m. along_fitting turns m) }
     where
-      by : (o : Option TypeRow) → ((m : ℕ) → Fitting (SpelledBy rows turns m) (along nothing_fits fits_by rows turns m)) → (t : Option tags.Tag) (levels : ℕ) (v : Value) (s : List ℕ) → AreOctets s
+      by : (o : Option TypeRow) → ((m : ℕ) → Fitting (SpelledBy rows turns m) (along nothing_fits fits_by rows turns m)) → (t : Guise) (levels : ℕ) (v : Value) (s : List ℕ) → AreOctets s
           → RowOr (RowIs (SpelledBy rows turns)) o t false levels v s → of_row nothing_fits (fits_by (along nothing_fits fits_by rows turns)) o v ≡ true
       by None h t levels v s are p = absurd p
       by (Some r) h t levels v s are p =
@@ -180,4 +209,4 @@ lax rows n false limit v s p = p
 
 pub spelled_fits : SpelledFits
 unfolding fits
-spelled_fits rows n strict limit v s are p = (along_fitting rows (length rows) n).is None 32 v s are (lax rows n strict limit v s p).by
+spelled_fits rows n strict limit v s are p = (along_fitting rows (length rows) n).is plain 32 v s are (lax rows n strict limit v s p).by

@@ -1,5 +1,5 @@
 -- What reading gives stays what it is, whatever octets follow, unless the octets were too few.
-use Rattle.std.proofs.Common.{◌≡◌, ℕ, ◌+◌, ◌-◌, ◌≤◌, Bool, true, false, not, ◌&&◌, ◌||◌, ◌*◌, ◌%◌, cond, ltb, List, [], ◌∷◌, ◌++◌, length, take, drop, Option, Some, None, Ok, Err, refl, arith, length-append, inl, inr}
+use Rattle.std.proofs.Common.{◌≡◌, ℕ, ◌+◌, ◌-◌, ◌≤◌, Bool, true, false, not, ◌&&◌, ◌||◌, ◌*◌, ◌%◌, cond, ltb, List, [], ◌∷◌, ◌++◌, length, take, drop, Option, Some, None, Ok, Err, refl, arith, length-append, inl, inr, ◌⊎◌, ◌<◌}
 use Rattle.std.specs.Prelude.{nat_lt, nat_eq}
 use Rattle.std.proofs.lemmas.Bool.{cases_lt, lt-ltb, le-ltb, ltb-false, leb-true}
 use Rattle.std.proofs.lemmas.List.{take-append-le, drop-append-le}
@@ -8,7 +8,7 @@ use Rattle.ber_spelling.specs.declared.fault.ReadFault.{ReadFault}
 use Rattle.ber_spelling.specs.declared.fault.ReadFault.TheVariants as faults
 use Rattle.ber_spelling.specs.declared.spot.Scope.{Scope}
 use Rattle.ber_spelling.specs.Reading.{Spot, Opened, Ahead, ended, begun, Reading, ◌>>=◌, is_past, within}
-use Rattle.ber_spelling.specs.Fields.{capped, digits_at, is_lax, high_at, identifier_at, number_from, announced_at, long_at, is_end, cut_off, lacking, definite_at, extent_at, contents_at, begin_at, second_zero_at, mark_at, look_at}
+use Rattle.ber_spelling.specs.Fields.{capped, digits_at, is_lax, high_at, identifier_at, number_from, announced_at, long_at, is_end, cut_off, lacking_from, sure_reach, definite_at, extent_at, contents_at, begin_at, second_zero_at, mark_at, look_at}
 
 abbrev pub grown : List ℕ → Spot → Spot
 grown more s = record { place = s.place; rest = s.rest ++ more }
@@ -87,38 +87,62 @@ pub cut_first : {B : Type 0} (h : B → B) (scope : Scope) (place until : ℕ) (
 cut_first h scope place until f past =
     Grows-same h (within scope place until) (λ _. Err faults.Short) f (λ x e. let free : is_past scope.end until ≡ false = (within_ok scope place until x e).1 in absurd cc)
 
-pub lacking_first : {B : Type 0} (h : B → B) (scope : Scope) (place : ℕ) (read : Reading B) (f : Unit {0} → Reading B) → read ≡ (within scope place (place + 1) >>= f) → Grows h (lacking scope place) read
-lacking_first h scope place read f same =
-    by_end (is_end scope.end place) refl
+pub lacking_first : {B : Type 0} (h : B → B) (scope : Scope) (place from : ℕ) (read : Reading B) (f : Unit {0} → Reading B) → read ≡ (within scope place (from + 1) >>= f) → Grows h (lacking_from scope place from) read
+lacking_first h scope place from read f same =
+    by_end (is_end scope.end from) refl
   where
-    by_end : (b : Bool) → is_end scope.end place ≡ b → Grows h (cond b (cut_off scope place (place + 1)) (Err faults.Short)) read
-    by_end true e = rw same (cut_first h scope place (place + 1) f (end_past scope.end place e))
+    by_end : (b : Bool) → is_end scope.end from ≡ b → Grows h (cond b (cut_off scope place (from + 1)) (Err faults.Short)) read
+    by_end true e = rw same (cut_first h scope place (from + 1) f (end_past scope.end from e))
     by_end false e = tt
 
-pub lacking_same : {B : Type 0} (h : B → B) (scope : Scope) (place : ℕ) → Grows h (lacking scope place) (lacking scope place)
-lacking_same h scope place =
-    Grows-cond h (is_end scope.end place) _ _ _ _ (λ t. Grows-same h (within scope place (place + 1)) (λ _. Err faults.Short) (λ _. Err faults.Short) (λ x e. tt)) (λ t. tt)
+pub lacking_same : {B : Type 0} (h : B → B) (scope : Scope) (place from : ℕ) → Grows h (lacking_from scope place from) (lacking_from scope place from)
+lacking_same h scope place from =
+    Grows-cond h (is_end scope.end from) _ _ _ _ (λ t. Grows-same h (within scope place (from + 1)) (λ _. Err faults.Short) (λ _. Err faults.Short) (λ x e. tt)) (λ t. tt)
 
 pub short_not_ok : {A B : Type 0} (r : Reading A) (x : B) → (r >>= λ _. Err faults.Short) ≡ Ok x → ⊥
 short_not_ok (Ok y) x e = absurd cc
 short_not_ok (Err f) x e = absurd cc
+
+pub lacking_not_ok : {B : Type 0} (scope : Scope) (place from : ℕ) (x : B) → lacking_from scope place from ≡ Ok x → ⊥
+lacking_not_ok {B} scope place from x e = by_end (is_end scope.end from) e
+  where
+    by_end : (b : Bool) → cond {A = Reading B} b (cut_off scope place (from + 1)) (Err faults.Short) ≡ Ok x → ⊥
+    by_end true e = short_not_ok (within scope place (from + 1)) x e
+    by_end false e = absurd cc
+
+-- a field whose octets lack stays cut off whatever follows
+too_long : {B : Type 0} (scope : Scope) (place until : ℕ) (f : Unit {0} → Reading B) → scope.limit < until → (within scope place until >>= f) ≡ Err (faults.TooLong place)
+unfolding within
+too_long scope place until f lt = rw (lt-ltb scope.limit until lt) refl
+
+cut_short : {B : Type 0} (scope : Scope) (place until : ℕ) → until ≤ scope.limit → is_past scope.end until ≡ false → cut_off {A = B} scope place until ≡ Err faults.Short
+cut_short scope place until le past = rw (within_is scope place until le past) refl
+
+past_less : (end : Option ℕ) (a b : ℕ) → a ≤ b → is_past end b ≡ false → is_past end a ≡ false
+past_less None a b le e = refl
+past_less (Some end) a b le e = let ge : b ≤ end = ltb-false end b e in le-ltb end a (omega arith)
+
+pub sure_first : {B : Type 0} (h : B → B) (scope : Scope) (place until there : ℕ) (read : Reading B) → there ≤ until → (is_past scope.end until ≡ true → Grows h (cut_off scope place until) read)
+    → (scope.limit < there → read ≡ Err (faults.TooLong place)) → Grows h (cut_off scope place (sure_reach scope.end until there)) read
+sure_first {B} h scope place until there read le past long = by_past (is_past scope.end until) refl
+  where
+    by_limit : is_past scope.end until ≡ false → (scope.limit < there) ⊎ (there ≤ scope.limit) → Grows h (cut_off scope place there) read
+    by_limit p (inl lt) = rw (too_long {B = B} scope place there (λ _. Err faults.Short) lt) (long lt)
+    by_limit p (inr ge) = rw (cut_short {B = B} scope place there ge (past_less scope.end there until le p)) tt
+
+    by_past : (b : Bool) → is_past scope.end until ≡ b → Grows h (cut_off scope place (cond b until there)) read
+    by_past true p = past p
+    by_past false p = by_limit p (cases_lt scope.limit there)
 
 -- ---- identifiers
 
 abbrev pub with_opened : List ℕ → Opened × Spot → Opened × Spot
 with_opened more x = (grown_opened more x.0, grown more x.1)
 
--- digits begin by staying within
-digits_first : (scope : Scope) (place number from : ℕ) (digits : List ℕ) → (f : Unit {0} → Reading (ℕ × Spot)) × (digits_at scope place number from digits ≡ (within scope place (from + 1) >>= f))
-unfolding digits_at
-digits_first scope place number from [] = (λ _. Err faults.Short, refl)
-digits_first scope place number from (d ∷ ds) = (_, refl)
-
 pub digits_grow : (scope : Scope) (place number from : ℕ) (digits more : List ℕ) → Grows (with_spot more) (digits_at scope place number from digits) (digits_at scope place number from (digits ++ more))
 unfolding digits_at
-digits_grow scope place number from [] more =
-    let first = digits_first scope place number from more in
-    rw first.1 (Grows-same (with_spot more) (within scope place (from + 1)) (λ _. Err faults.Short) first.0 (λ x e. tt))
+digits_grow scope place number from [] [] = lacking_same (with_spot []) scope place from
+digits_grow scope place number from [] (d ∷ more) = lacking_first (with_spot (d ∷ more)) scope place from _ _ refl
 digits_grow scope place number from (d ∷ ds) more =
     Grows-same (with_spot more) (within scope place (from + 1)) _ _ (λ x e.
     Grows-cond (with_spot more) (nat_lt d 128) _ _ _ _ (λ t. refl) (λ t. digits_grow scope place (capped (128 * number + (d - 128))) (from + 1) ds more))
@@ -127,7 +151,7 @@ high_grows : (scope : Scope) (place first : ℕ) (rest more : List ℕ) → Grow
 unfolding high_at digits_at
 high_grows scope place first [] more =
     Grows-bind (with_spot more) (with_opened more) (digits_at scope place 0 (place + 1) []) (digits_at scope place 0 (place + 1) more) _ _ (digits_grow scope place 0 (place + 1) [] more)
-    (λ x e. absurd (short_not_ok (within scope place (place + 1 + 1)) x e))
+    (λ x e. absurd (lacking_not_ok scope place (place + 1) x e))
 high_grows scope place first (d ∷ ds) more =
     Grows-bind (with_spot more) (with_opened more) (digits_at scope place 0 (place + 1) (d ∷ ds)) (digits_at scope place 0 (place + 1) (d ∷ (ds ++ more))) _ _ (digits_grow scope place 0 (place + 1) (d ∷ ds) more)
     (λ x e. Grows-cond (with_opened more) (is_lax (d ∷ ds) x.0) _ _ _ _ (λ t. refl) (λ t. refl))
@@ -150,14 +174,37 @@ announced_grows scope place count minimal from rest more =
 pub long_grows : (scope : Scope) (place size : ℕ) (rest more : List ℕ) → Grows (with_spot more) (long_at scope place size rest) (long_at scope place size (rest ++ more))
 unfolding long_at
 long_grows scope place size rest more =
-    Grows-same (with_spot more) (within scope place (place + 1 + size)) _ _ (λ x e.
-    Grows-enough (with_spot more) rest more size _ _ (λ le.
-    rw (take-append-le size rest more le, drop-append-le size rest more le) (Grows-cond (with_spot more) (nat_lt 8 size) _ _ _ _ (λ t. refl) (λ t. announced_grows scope place (number_from 0 (take size rest)) _ (place + 1 + size) (drop size rest) more))))
+    elim (cases_lt (length rest) size) [
+      | inl lt ↦ rw (lt-ltb (length rest) size lt) (sure_first (with_spot more) scope place (place + 1 + size) (place + 1 + length rest) _ (omega arith) (past lt) (long lt))
+      | inr le ↦
+          let longer : size ≤ length (rest ++ more) = omega (arith, length-append rest more) in
+          rw (le-ltb (length rest) size le, le-ltb (length (rest ++ more)) size longer)
+          (Grows-same (with_spot more) (within scope place (place + 1 + size)) _ _ (λ x e.
+          rw (take-append-le size rest more le, drop-append-le size rest more le) (Grows-cond (with_spot more) (nat_lt 8 size) _ _ _ _ (λ t. refl) (λ t. announced_grows scope place (number_from 0 (take size rest)) _ (place + 1 + size) (drop size rest) more))))
+    ]
+  where
+    -- the contents end before the field does
+    past : length rest < size → is_past scope.end (place + 1 + size) ≡ true → Grows (with_spot more) (cut_off scope place (place + 1 + size)) (long_at scope place size (rest ++ more))
+    past lt p = elim (cases_lt (length (rest ++ more)) size) [
+      | inl short ↦ rw (lt-ltb (length (rest ++ more)) size short, p) (Grows-same (with_spot more) (within scope place (place + 1 + size)) (λ _. Err faults.Short) (λ _. Err faults.Short) (λ x e. tt))
+      | inr le ↦ rw (le-ltb (length (rest ++ more)) size le) (cut_first (with_spot more) scope place (place + 1 + size) _ p)
+    ]
+
+    sure_more : (b : Bool) → length (rest ++ more) < size → scope.limit < place + 1 + length rest → scope.limit < cond b (place + 1 + size) (place + 1 + length (rest ++ more))
+    sure_more true short over = omega (arith, length-append rest more)
+    sure_more false short over = omega (arith, length-append rest more)
+
+    -- the limit lies among the octets that are there
+    long : length rest < size → scope.limit < place + 1 + length rest → long_at scope place size (rest ++ more) ≡ Err (faults.TooLong place)
+    long lt over = elim (cases_lt (length (rest ++ more)) size) [
+      | inl short ↦ rw (lt-ltb (length (rest ++ more)) size short) (too_long scope place (sure_reach scope.end (place + 1 + size) (place + 1 + length (rest ++ more))) (λ _. Err faults.Short) (sure_more (is_past scope.end (place + 1 + size)) short over))
+      | inr le ↦ rw (le-ltb (length (rest ++ more)) size le) (too_long scope place (place + 1 + size) _ (omega (arith, length-append rest more)))
+    ]
 
 pub definite_grows : (scope : Scope) (place : ℕ) (rest more : List ℕ) → Grows (with_spot more) (definite_at scope place rest) (definite_at scope place (rest ++ more))
 unfolding definite_at
-definite_grows scope place [] [] = lacking_same (with_spot []) scope place
-definite_grows scope place [] (o ∷ more) = lacking_first (with_spot (o ∷ more)) scope place _ _ refl
+definite_grows scope place [] [] = lacking_same (with_spot []) scope place place
+definite_grows scope place [] (o ∷ more) = lacking_first (with_spot (o ∷ more)) scope place place _ _ refl
 definite_grows scope place (first ∷ rest) more =
     Grows-same (with_spot more) (within scope place (place + 1)) _ _ (λ x e.
     Grows-cond (with_spot more) (nat_lt first 128) _ _ _ _ (λ t. announced_grows scope place first true (place + 1) rest more) (λ t.
@@ -171,9 +218,9 @@ join false (Err e) f g h = refl
 
 pub extent_grows : (scope : Scope) (place : ℕ) (rest more : List ℕ) → Grows (with_spot more) (extent_at scope place rest) (extent_at scope place (rest ++ more))
 unfolding extent_at definite_at
-extent_grows scope place [] [] = lacking_same (with_spot []) scope place
+extent_grows scope place [] [] = lacking_same (with_spot []) scope place place
 extent_grows scope place [] (o ∷ more) =
-    lacking_first (with_spot (o ∷ more)) scope place _ _ (join (nat_eq o 128) (within scope place (place + 1)) _ _ _)
+    lacking_first (with_spot (o ∷ more)) scope place place _ _ (join (nat_eq o 128) (within scope place (place + 1)) _ _ _)
 extent_grows scope place (first ∷ rest) more =
     Grows-cond (with_spot more) (nat_eq first 128) _ _ _ _
     (λ t. Grows-same (with_spot more) (within scope place (place + 1)) _ _ (λ x e. Grows-cond (with_spot more) scope.strict _ _ _ _ (λ t. refl) (λ t. refl)))
@@ -203,7 +250,7 @@ mark_grows : (scope : Scope) (place : ℕ) (rest more : List ℕ) → Grows (gro
 mark_grows scope place [] more = tt
 mark_grows scope place (first ∷ rest) more =
     Grows-cond (grown_ahead more) (nat_eq first 0) _ _ _ _
-    (λ t. Grows-cond (grown_ahead more) (is_past scope.end (place + 2)) _ _ _ _ (λ t. Grows-same (grown_ahead more) (within scope place (place + 2)) _ _ (λ x e. tt)) (λ t. second_grows scope place (first ∷ rest) rest more))
+    (λ t. Grows-cond (grown_ahead more) (is_past scope.end (place + 2)) _ _ _ _ (λ t. Grows-same (grown_ahead more) (within scope place (place + 2)) _ _ (λ x e. tt)) (λ t. Grows-same (grown_ahead more) (within scope place (place + 1)) _ _ (λ x e. second_grows scope place (first ∷ rest) rest more)))
     (λ t. begin_grows scope place (first ∷ rest) more)
 
 pub look_grows : (scope : Scope) (place : ℕ) (rest more : List ℕ) → Grows (grown_ahead more) (look_at scope place rest) (look_at scope place (rest ++ more))

@@ -1,5 +1,5 @@
 -- What a row is read as stays what it is, whatever octets follow.
-use Rattle.std.proofs.Common.{◌≡◌, ℕ, zero, suc, ◌-◌, Bool, true, false, List, [], ◌∷◌, ◌++◌, length, take, Option, Some, None, Ok, refl, ap, ◌∙◌, arith, length-append}
+use Rattle.std.proofs.Common.{◌≡◌, ℕ, zero, suc, ◌-◌, Bool, true, false, List, [], ◌∷◌, ◌++◌, length, take, Option, Some, None, Ok, refl, ap, ◌∙◌, arith, length-append, ◌&&◌}
 use Rattle.std.specs.Prelude.{slice_get}
 use Rattle.std.proofs.lemmas.List.{take-append-le}
 use Rattle.asn1_types.specs.declared.row.Class.{Class}
@@ -7,6 +7,7 @@ use Rattle.asn1_types.specs.declared.row.Class.TheVariants.{Universal}
 use Rattle.asn1_types.specs.declared.row.Part.{Part}
 use Rattle.asn1_types.specs.declared.row.TypeRow.{TypeRow}
 use Rattle.asn1_types.specs.declared.row.TypeRow.TheVariants as row
+use Rattle.asn1_types.specs.Defaults.{may_be_absent}
 use Rattle.asn1_types.specs.Rows.{of_row, along, begins, text_number}
 use Rattle.asn1_types.specs.Value.{Value}
 use Rattle.ber_spelling.specs.declared.spot.Scope.{Scope}
@@ -14,7 +15,7 @@ use Rattle.ber_spelling.specs.declared.spot.Tag as tags
 use Rattle.ber_spelling.specs.declared.spot.StringKind.TheVariants.{OfOctets, OfBits}
 use Rattle.ber_spelling.specs.Reading.{Spot, Opened, Ahead, ended, begun, Reading}
 use Rattle.ber_spelling.specs.Fields.{extent_at, look_at}
-use Rattle.ber_spelling.specs.Rules.{Reader, expect_at, first_of, last_of, open_at, close_at, explicit_at, present_at, part_at, parts_at, sequence_at, choice_at, whole_at, any_at, dead, or_explicit, all_items_at, slot_at, set_done, nothing_filled, read_by, tag_or, always, boolean_rule, is_strict_boolean, integer_rule, enumerated_rule, null_rule, object_id_rule, whole_octets, whole_text, whole_bits, has_zero_bits}
+use Rattle.ber_spelling.specs.Rules.{Reader, expect_at, first_of, last_of, open_at, close_at, explicit_at, present_at, part_at, parts_at, sequence_at, choice_at, whole_at, any_at, dead, or_explicit, all_items_at, slot_at, set_done, nothing_filled, read_by, tag_or, always, boolean_rule, is_strict_boolean, integer_rule, enumerated_rule, null_rule, object_id_rule, whole_octets, whole_text, whole_bits, has_zero_bits, Guise, bare, plain, under, is_other}
 use Rattle.ber_spelling.proofs.Growing.{grown, grown_opened, grown_ahead, Grows, Grows-bind, Grows-same, Grows-cond, with_spot, with_opened, extent_grows, look_grows}
 use Rattle.ber_spelling.proofs.Steady.{Run}
 use Rattle.ber_spelling.proofs.Items.{GrowsRun, constructed_grows}
@@ -70,25 +71,25 @@ any_grows = record {
         ap (λ (k : ℕ). Ok (Rattle.asn1_types.specs.Value.any (take k (rest ++ more)), grown more after)) same
         ∙ ap (λ (x : List ℕ). Ok (Rattle.asn1_types.specs.Value.any x, grown more after)) (take-append-le n rest more (omega arith))
 
-module _ (begins : ℕ → Class → ℕ → Bool) (inner : ℕ → Reader) (h : (n : ℕ) → GrowsRun (inner n None)) where
+module _ (begins : ℕ → Class → ℕ → Bool) (inner : ℕ → Reader) (h : (n : ℕ) (t : Guise) → GrowsRun (inner n t)) where
   abbrev with_ahead : List ℕ → Option Value × Ahead → Option Value × Ahead
   with_ahead more x = (x.0, grown_ahead more x.1)
 
   abbrev with_parts : List ℕ → List (Option Value) × Spot → List (Option Value) × Spot
   with_parts more x = (x.0, grown more x.1)
 
-  present_grows : (n : ℕ) (scope : Scope) (a : Ahead) (more : List ℕ) → Grows (with_ahead more) (present_at (inner n) scope a) (present_at (inner n) scope (grown_ahead more a))
-  present_grows n scope (ended place after) more = refl
-  present_grows n scope (begun o s) more =
-      Grows-bind (with_spot more) (with_ahead more) (inner n None scope o s) (inner n None scope (grown_opened more o) (grown more s)) _ _ ((h n).grows scope o s more) (λ v e.
+  present_grows : (p : Part) (scope : Scope) (a : Ahead) (more : List ℕ) → Grows (with_ahead more) (present_at (inner p.inner.0) p scope a) (present_at (inner p.inner.0) p scope (grown_ahead more a))
+  present_grows p scope (ended place after) more = refl
+  present_grows p scope (begun o s) more =
+      Grows-bind (with_spot more) (with_ahead more) (inner p.inner.0 (bare p.default) scope o s) (inner p.inner.0 (bare p.default) scope (grown_opened more o) (grown more s)) _ _ ((h p.inner.0 (bare p.default)).grows scope o s more) (λ v e.
       Grows-bind (grown_ahead more) (with_ahead more) (look_at scope v.1.place v.1.rest) (look_at scope v.1.place (v.1.rest ++ more)) _ _ (look_grows scope v.1.place v.1.rest more) (λ a e. refl))
 
   part_grows : (p : Part) (scope : Scope) (a : Ahead) (more : List ℕ) → Grows (with_ahead more) (part_at begins (inner p.inner.0) p scope a) (part_at begins (inner p.inner.0) p scope (grown_ahead more a))
   unfolding part_at
-  part_grows p scope (ended place after) more = Grows-cond (with_ahead more) p.optional _ _ _ _ (λ t. refl) (λ t. refl)
+  part_grows p scope (ended place after) more = Grows-cond (with_ahead more) (may_be_absent p) _ _ _ _ (λ t. refl) (λ t. refl)
   part_grows p scope (begun o s) more =
-      Grows-cond (with_ahead more) (begins p.inner.0 o.class o.number) _ _ _ _ (λ t. present_grows p.inner.0 scope (begun o s) more)
-      (λ t. Grows-cond (with_ahead more) p.optional _ _ _ _ (λ t. refl) (λ t. refl))
+      Grows-cond (with_ahead more) (begins p.inner.0 o.class o.number) _ _ _ _ (λ t. present_grows p scope (begun o s) more)
+      (λ t. Grows-cond (with_ahead more) (may_be_absent p) _ _ _ _ (λ t. refl) (λ t. refl))
 
   parts_grow : (ps : List Part) (scope : Scope) (a : Ahead) (more : List ℕ) → Grows (with_parts more) (parts_at begins inner scope a ps) (parts_at begins inner scope (grown_ahead more a) ps)
   unfolding parts_at
@@ -113,7 +114,7 @@ module _ (begins : ℕ → Class → ℕ → Bool) (inner : ℕ → Reader) (h :
   choice_grows which (p ∷ ps) = record {
     grows = λ scope o s more.
         Grows-cond (with_spot more) (begins p.inner.0 o.class o.number) _ _ _ _
-        (λ t. Grows-bind (with_spot more) (with_spot more) (inner p.inner.0 None scope o s) (inner p.inner.0 None scope (grown_opened more o) (grown more s)) _ _ ((h p.inner.0).grows scope o s more) (λ v e. refl))
+        (λ t. Grows-bind (with_spot more) (with_spot more) (inner p.inner.0 plain scope o s) (inner p.inner.0 plain scope (grown_opened more o) (grown more s)) _ _ ((h p.inner.0 plain).grows scope o s more) (λ v e. refl))
         (λ t. (choice_grows (suc which) ps).grows scope o s more);
   }
 
@@ -121,30 +122,30 @@ or_grows : (run : Run) (t : Option tags.Tag) → GrowsRun run → GrowsRun (or_e
 or_grows run None h = h
 or_grows run (Some t) h = explicit_grows run t h
 
-dead_grows : (t : Option tags.Tag) → GrowsRun (dead t)
+dead_grows : (t : Guise) → GrowsRun (dead t)
 dead_grows t = record { grows = λ scope o s more. refl }
 
-row_grows : (begins : ℕ → Class → ℕ → Bool) (inner : ℕ → Reader) → ((n : ℕ) (t : Option tags.Tag) → GrowsRun (inner n t)) → (r : TypeRow) (t : Option tags.Tag) → GrowsRun (read_by begins inner r t)
-row_grows begins inner h row.Boolean t = prim_grows boolean_rule is_strict_boolean (tag_or t Universal 1)
-row_grows begins inner h (row.Integer low high) t = prim_grows (integer_rule low high) always (tag_or t Universal 2)
-row_grows begins inner h (row.Enumerated items) t = prim_grows (enumerated_rule items) always (tag_or t Universal 10)
-row_grows begins inner h row.Null t = prim_grows null_rule always (tag_or t Universal 5)
-row_grows begins inner h (row.OctetString most) t = string_grows OfOctets (whole_octets most) always (tag_or t Universal 4)
-row_grows begins inner h row.BitString t = string_grows OfBits whole_bits has_zero_bits (tag_or t Universal 3)
-row_grows begins inner h row.ObjectId t = prim_grows object_id_rule always (tag_or t Universal 6)
-row_grows begins inner h (row.Text kind) t = string_grows OfOctets (whole_text kind) always (tag_or t Universal (text_number kind))
-row_grows begins inner h (row.Sequence ps) t = sequence_grows begins inner (λ n. h n None) ps (tag_or t Universal 16)
-row_grows begins inner h (row.Set ps) t = constructed_grows (all_items_at (slot_at begins inner 0 ps) (set_done ps) (nothing_filled ps)) (tag_or t Universal 17) (set_grows begins inner (λ n. h n None) ps)
-row_grows begins inner h (row.SequenceOf of) t = list_grows (inner of.0) (tag_or t Universal 16) (h of.0 None)
-row_grows begins inner h (row.Choice ps) t = or_grows (choice_at begins inner 0 ps) t (choice_grows begins inner (λ n. h n None) 0 ps)
-row_grows begins inner h (row.Tagged class number true of) t = explicit_grows (inner of.0 None) (tag_or t class number) (h of.0 None)
-row_grows begins inner h (row.Tagged class number false of) t = h of.0 (Some (tag_or t class number))
-row_grows begins inner h row.Any t = or_grows any_at t any_grows
+row_grows : (begins : ℕ → Class → ℕ → Bool) (inner : ℕ → Reader) → ((n : ℕ) (t : Guise) → GrowsRun (inner n t)) → (r : TypeRow) (t : Guise) → GrowsRun (read_by begins inner r t)
+row_grows begins inner h row.Boolean t = prim_grows boolean_rule (λ c. is_strict_boolean c && is_other t.default (boolean_rule c)) (tag_or t.tag Universal 1)
+row_grows begins inner h (row.Integer low high) t = prim_grows (integer_rule low high) (λ c. is_other t.default (integer_rule low high c)) (tag_or t.tag Universal 2)
+row_grows begins inner h (row.Enumerated items) t = prim_grows (enumerated_rule items) (λ c. is_other t.default (enumerated_rule items c)) (tag_or t.tag Universal 10)
+row_grows begins inner h row.Null t = prim_grows null_rule always (tag_or t.tag Universal 5)
+row_grows begins inner h (row.OctetString most) t = string_grows OfOctets (whole_octets most) always (tag_or t.tag Universal 4)
+row_grows begins inner h row.BitString t = string_grows OfBits whole_bits has_zero_bits (tag_or t.tag Universal 3)
+row_grows begins inner h row.ObjectId t = prim_grows object_id_rule always (tag_or t.tag Universal 6)
+row_grows begins inner h (row.Text kind) t = string_grows OfOctets (whole_text kind) always (tag_or t.tag Universal (text_number kind))
+row_grows begins inner h (row.Sequence ps) t = sequence_grows begins inner h ps (tag_or t.tag Universal 16)
+row_grows begins inner h (row.Set ps) t = constructed_grows (all_items_at (slot_at begins inner 0 ps) (set_done ps) (nothing_filled ps)) (tag_or t.tag Universal 17) (set_grows begins inner h ps)
+row_grows begins inner h (row.SequenceOf of) t = list_grows (inner of.0) (tag_or t.tag Universal 16) (h of.0 plain)
+row_grows begins inner h (row.Choice ps) t = or_grows (choice_at begins inner 0 ps) t.tag (choice_grows begins inner h 0 ps)
+row_grows begins inner h (row.Tagged class number true of) t = explicit_grows (inner of.0 (bare t.default)) (tag_or t.tag class number) (h of.0 (bare t.default))
+row_grows begins inner h (row.Tagged class number false of) t = h of.0 (under (Some (tag_or t.tag class number)) t.default)
+row_grows begins inner h row.Any t = or_grows any_at t.tag any_grows
 
-of_grows : (begins : ℕ → Class → ℕ → Bool) (inner : ℕ → Reader) → ((n : ℕ) (t : Option tags.Tag) → GrowsRun (inner n t)) → (o : Option TypeRow) (t : Option tags.Tag) → GrowsRun (of_row dead (read_by begins inner) o t)
+of_grows : (begins : ℕ → Class → ℕ → Bool) (inner : ℕ → Reader) → ((n : ℕ) (t : Guise) → GrowsRun (inner n t)) → (o : Option TypeRow) (t : Guise) → GrowsRun (of_row dead (read_by begins inner) o t)
 of_grows begins inner h None t = dead_grows t
 of_grows begins inner h (Some r) t = row_grows begins inner h r t
 
-pub along_grows : (rows : List TypeRow) (turns n : ℕ) (t : Option tags.Tag) → GrowsRun (along dead (read_by (begins rows)) rows turns n t)
+pub along_grows : (rows : List TypeRow) (turns n : ℕ) (t : Guise) → GrowsRun (along dead (read_by (begins rows)) rows turns n t)
 along_grows rows zero n t = dead_grows t
 along_grows rows (suc turns) n t = of_grows (begins rows) (along dead (read_by (begins rows)) rows turns) (λ m u. along_grows rows turns m u) (slice_get rows n) t

@@ -13,8 +13,8 @@ use Rattle.ber_spelling.specs.declared.spot.StringKind.{StringKind}
 use Rattle.ber_spelling.specs.declared.spot.StringKind.TheVariants.{OfOctets, OfBits}
 use Rattle.ber_spelling.specs.declared.spot.Gathered.{Gathered}
 use Rattle.ber_spelling.specs.Order.{front_rank}
-use Rattle.ber_spelling.specs.Rules.{tag_or, always, string_rule, nothing, whole_octets, whole_text, whole_bits, has_zero_bits}
-use Rattle.ber_spelling.specs.Spelling.{IsIdentifier, IsDefinite, IsIndefinite, IsPrimitive, IsConstructed, BooleanIs, IntegerIs, EnumeratedIs, NullIs, ObjectIdIs, IsWhole, AnyIs, Spelled, ItemsAre, SegmentIs, StringIs, SequenceIs, SetIs, ListIs, ChoiceIs, OrExplicit, RowIs, RowOr, SpelledBy}
+use Rattle.ber_spelling.specs.Rules.{tag_or, always, string_rule, nothing, whole_octets, whole_text, whole_bits, has_zero_bits, Guise, bare, plain, under}
+use Rattle.ber_spelling.specs.Spelling.{IsOther, IsIdentifier, IsDefinite, IsIndefinite, IsPrimitive, IsConstructed, BooleanIs, IntegerIs, EnumeratedIs, NullIs, ObjectIdIs, IsWhole, AnyIs, Spelled, ItemsAre, SegmentIs, StringIs, SequenceIs, SetIs, ListIs, ChoiceIs, OrExplicit, RowIs, RowOr, SpelledBy}
 use Rattle.ber_spelling.proofs.Orders.{front_head}
 
 pub record Headed (s : List ℕ) : Type 0 where
@@ -49,7 +49,7 @@ string_headed kind whole canonical tag strict levels v s (inl p) = primitive_hea
 string_headed kind whole canonical tag strict levels v s (inr p) = constructed_headed tag strict levels (λ inner contents. ItemsAre (λ (g : Gathered). Some g) (SegmentIs kind 32) nothing strict inner p.1 contents) s p.3
 
 pub record AreHeaded (rel : Spelled) : Type 0 where
-  pub is : (t : Option tags.Tag) (strict : Bool) (levels : ℕ) (v : Value) (s : List ℕ) → rel t strict levels v s → Headed s
+  pub is : (t : Guise) (strict : Bool) (levels : ℕ) (v : Value) (s : List ℕ) → rel t strict levels v s → Headed s
 
 whole_headed : (inner : ℕ) (os : List ℕ) → IsWhole (suc inner) os → Headed os
 whole_headed inner os (inl w) = record { class = w.class; constructed = w.constructed; number = w.number; head = w.head; tail = w.size ++ w.contents; is_identifier = w.is_identifier; are = w.are }
@@ -74,7 +74,7 @@ explicit_headed P each (Some t) strict levels v s p = constructed_headed t stric
 
 module _ (rel : ℕ → Spelled) (each : (m : ℕ) → AreHeaded (rel m)) where
   chosen_headed : (ps : List Part) (strict : Bool) (levels : ℕ) (v : Value) (s : List ℕ) → ChoiceIs rel ps strict levels v s → Headed s
-  chosen_headed ps strict levels (chosen which v) s p = (each p.0.inner.0).is None strict levels v s p.2
+  chosen_headed ps strict levels (chosen which v) s p = (each p.0.inner.0).is plain strict levels v s p.2
   chosen_headed ps strict levels (boolean x) s p = absurd p
   chosen_headed ps strict levels (integer x) s p = absurd p
   chosen_headed ps strict levels null s p = absurd p
@@ -86,24 +86,24 @@ module _ (rel : ℕ → Spelled) (each : (m : ℕ) → AreHeaded (rel m)) where
   chosen_headed ps strict levels (list x) s p = absurd p
   chosen_headed ps strict levels (any x) s p = absurd p
 
-  row_headed : (r : TypeRow) (t : Option tags.Tag) (strict : Bool) (levels : ℕ) (v : Value) (s : List ℕ) → RowIs rel r t strict levels v s → Headed s
-  row_headed row.Boolean t strict levels v s p = primitive_headed (tag_or t Universal 1) strict levels (BooleanIs strict v) s p
-  row_headed (row.Integer low high) t strict levels v s p = primitive_headed (tag_or t Universal 2) strict levels (IntegerIs low high v) s p
-  row_headed (row.Enumerated items) t strict levels v s p = primitive_headed (tag_or t Universal 10) strict levels (EnumeratedIs items v) s p
-  row_headed row.Null t strict levels v s p = primitive_headed (tag_or t Universal 5) strict levels (NullIs v) s p
-  row_headed (row.OctetString most) t strict levels v s p = string_headed OfOctets (whole_octets most) always (tag_or t Universal 4) strict levels v s p
-  row_headed row.BitString t strict levels v s p = string_headed OfBits whole_bits has_zero_bits (tag_or t Universal 3) strict levels v s p
-  row_headed row.ObjectId t strict levels v s p = primitive_headed (tag_or t Universal 6) strict levels (ObjectIdIs v) s p
-  row_headed (row.Text kind) t strict levels v s p = string_headed OfOctets (whole_text kind) always (tag_or t Universal (text_number kind)) strict levels v s p
-  row_headed (row.Sequence ps) t strict levels v s p = constructed_headed (tag_or t Universal 16) strict levels (SequenceIs rel strict ps v) s p
-  row_headed (row.Set ps) t strict levels v s p = constructed_headed (tag_or t Universal 17) strict levels (SetIs rel ps strict v) s p
-  row_headed (row.SequenceOf of) t strict levels v s p = constructed_headed (tag_or t Universal 16) strict levels (ListIs (rel of.0) strict v) s p
-  row_headed (row.Choice ps) t strict levels v s p = explicit_headed (ChoiceIs rel ps) (chosen_headed ps) t strict levels v s p
-  row_headed (row.Tagged class number true of) t strict levels v s p = constructed_headed (tag_or t class number) strict levels (λ l contents. rel of.0 None strict l v contents) s p
-  row_headed (row.Tagged class number false of) t strict levels v s p = (each of.0).is (Some (tag_or t class number)) strict levels v s p
-  row_headed row.Any t strict levels v s p = explicit_headed (λ strict. AnyIs) (λ strict. any_headed) t strict levels v s p
+  row_headed : (r : TypeRow) (t : Guise) (strict : Bool) (levels : ℕ) (v : Value) (s : List ℕ) → RowIs rel r t strict levels v s → Headed s
+  row_headed row.Boolean t strict levels v s p = primitive_headed (tag_or t.tag Universal 1) strict levels (λ c. BooleanIs strict v c × IsOther t.default strict v) s p
+  row_headed (row.Integer low high) t strict levels v s p = primitive_headed (tag_or t.tag Universal 2) strict levels (λ c. IntegerIs low high v c × IsOther t.default strict v) s p
+  row_headed (row.Enumerated items) t strict levels v s p = primitive_headed (tag_or t.tag Universal 10) strict levels (λ c. EnumeratedIs items v c × IsOther t.default strict v) s p
+  row_headed row.Null t strict levels v s p = primitive_headed (tag_or t.tag Universal 5) strict levels (NullIs v) s p
+  row_headed (row.OctetString most) t strict levels v s p = string_headed OfOctets (whole_octets most) always (tag_or t.tag Universal 4) strict levels v s p
+  row_headed row.BitString t strict levels v s p = string_headed OfBits whole_bits has_zero_bits (tag_or t.tag Universal 3) strict levels v s p
+  row_headed row.ObjectId t strict levels v s p = primitive_headed (tag_or t.tag Universal 6) strict levels (ObjectIdIs v) s p
+  row_headed (row.Text kind) t strict levels v s p = string_headed OfOctets (whole_text kind) always (tag_or t.tag Universal (text_number kind)) strict levels v s p
+  row_headed (row.Sequence ps) t strict levels v s p = constructed_headed (tag_or t.tag Universal 16) strict levels (SequenceIs rel strict ps v) s p
+  row_headed (row.Set ps) t strict levels v s p = constructed_headed (tag_or t.tag Universal 17) strict levels (SetIs rel ps strict v) s p
+  row_headed (row.SequenceOf of) t strict levels v s p = constructed_headed (tag_or t.tag Universal 16) strict levels (ListIs (rel of.0) strict v) s p
+  row_headed (row.Choice ps) t strict levels v s p = explicit_headed (ChoiceIs rel ps) (chosen_headed ps) t.tag strict levels v s p
+  row_headed (row.Tagged class number true of) t strict levels v s p = constructed_headed (tag_or t.tag class number) strict levels (λ l contents. rel of.0 (bare t.default) strict l v contents) s p
+  row_headed (row.Tagged class number false of) t strict levels v s p = (each of.0).is (under (Some (tag_or t.tag class number)) t.default) strict levels v s p
+  row_headed row.Any t strict levels v s p = explicit_headed (λ strict. AnyIs) (λ strict. any_headed) t.tag strict levels v s p
 
-  or_headed : (o : Option TypeRow) (t : Option tags.Tag) (strict : Bool) (levels : ℕ) (v : Value) (s : List ℕ) → RowOr (RowIs rel) o t strict levels v s → Headed s
+  or_headed : (o : Option TypeRow) (t : Guise) (strict : Bool) (levels : ℕ) (v : Value) (s : List ℕ) → RowOr (RowIs rel) o t strict levels v s → Headed s
   or_headed None t strict levels v s p = absurd p
   or_headed (Some r) t strict levels v s p = row_headed r t strict levels v s p
 

@@ -14,7 +14,7 @@ use Rattle.ber_spelling.specs.Reading.{Spot, Opened, Reading, ◌>>=◌, refuse,
 use Rattle.ber_spelling.specs.Fields.{class_of, is_constructed, capped, digits_at, opened_at, is_lax, high_at, identifier_at}
 use Rattle.ber_spelling.specs.Spelling.{AreDigits, low_bits, number_128, IsBase128, leading, IsIdentifier}
 use Rattle.ber_spelling.proofs.Numbers.{octets_tail}
-use Rattle.ber_spelling.proofs.Growing.{within_ok, within_is, short_not_ok}
+use Rattle.ber_spelling.proofs.Growing.{within_ok, within_is, lacking_not_ok}
 
 -- a place lies within the limit and the enclosing contents
 pub record IsIn (scope : Scope) (place : ℕ) : Type 0 where
@@ -120,7 +120,7 @@ digits_more d (e ∷ text) le lt h = (le, lt, h)
 
 digits_found : (scope : Scope) (place a from : ℕ) (ds : List ℕ) (n : ℕ) (s : Spot) → AreOctets ds → digits_at scope place (capped a) from ds ≡ Ok (n, s) → DigitsFound scope a from ds n s
 unfolding digits_at
-digits_found scope place a from [] n s octets e = absurd (short_not_ok (within scope place (from + 1)) (n, s) e)
+digits_found scope place a from [] n s octets e = absurd (lacking_not_ok scope place from (n, s) e)
 digits_found scope place a from (d ∷ ds) n s octets e =
     let b = bind_ok (within scope place (from + 1)) _ (n, s) e in
     elim (chosen_ok (nat_lt d 128) _ _ (n, s) b.2) [

@@ -6,7 +6,7 @@ use Rattle.std.proofs.lemmas.List.{length-drop}
 use Rattle.ber_spelling.specs.declared.fault.ReadFault.TheVariants as faults
 use Rattle.ber_spelling.specs.declared.spot.Scope.{Scope}
 use Rattle.ber_spelling.specs.Reading.{Spot, Opened, Ahead, ended, begun, Reading, ◌>>=◌, is_past, within}
-use Rattle.ber_spelling.specs.Fields.{capped, digits_at, is_lax, high_at, identifier_at, number_from, announced_at, long_at, is_end, cut_off, lacking, definite_at, extent_at, contents_at, begin_at, second_zero_at, mark_at, look_at}
+use Rattle.ber_spelling.specs.Fields.{capped, digits_at, is_lax, high_at, identifier_at, number_from, announced_at, long_at, is_end, cut_off, lacking_from, definite_at, extent_at, contents_at, begin_at, second_zero_at, mark_at, look_at}
 
 -- the octets from a spot on end here
 abbrev pub Ends : ℕ → Spot → Type 0
@@ -51,14 +51,14 @@ then_inside Q scope place until end f le h = Inside-bind nowhere Q end (within s
 cut_inside : {B : Type 0} (Q : B → Type 0) (scope : Scope) (place until end : ℕ) → place ≤ end → Inside Q end (cut_off {A = B} scope place until)
 cut_inside Q scope place until end le = then_inside Q scope place until end (λ _. Err faults.Short) le tt
 
-lacking_inside : {B : Type 0} (Q : B → Type 0) (scope : Scope) (place end : ℕ) → place ≤ end → Inside Q end (lacking {A = B} scope place)
-lacking_inside Q scope place end le = Inside-cond Q end (is_end scope.end place) _ _ (λ t. cut_inside Q scope place (place + 1) end le) (λ t. tt)
+lacking_inside : {B : Type 0} (Q : B → Type 0) (scope : Scope) (place from end : ℕ) → place ≤ end → Inside Q end (lacking_from {A = B} scope place from)
+lacking_inside Q scope place from end le = Inside-cond Q end (is_end scope.end from) _ _ (λ t. cut_inside Q scope place (from + 1) end le) (λ t. tt)
 
 -- ---- identifiers
 
 digits_inside : (scope : Scope) (place number from : ℕ) (digits : List ℕ) (end : ℕ) → place ≤ end → from + length digits ≡ end → Inside (second end) end (digits_at scope place number from digits)
 unfolding digits_at
-digits_inside scope place number from [] end le e = then_inside (second end) scope place (from + 1) end _ le tt
+digits_inside scope place number from [] end le e = lacking_inside (second end) scope place from end le
 digits_inside scope place number from (d ∷ ds) end le e =
     then_inside (second end) scope place (from + 1) end _ le
     (Inside-cond (second end) end (nat_lt d 128) _ _ (λ t. omega arith) (λ t. digits_inside scope place (capped (128 * number + (d - 128))) (from + 1) ds end le (omega arith)))
@@ -93,15 +93,15 @@ long_inside : (scope : Scope) (place size : ℕ) (rest : List ℕ) (end : ℕ) �
 unfolding long_at
 long_inside scope place size rest end e =
     let le : place ≤ end = omega arith in
-    then_inside (second end) scope place (place + 1 + size) end _ le
-    (Inside-cond (second end) end (ltb (length rest) size) _ _ (λ t. tt) (λ t.
+    Inside-cond (second end) end (ltb (length rest) size) _ _ (λ t. cut_inside (second end) scope place _ end le) (λ t.
     let enough : size ≤ length rest = ltb-false (length rest) size t in
-    Inside-cond (second end) end (nat_lt 8 size) _ _ (λ t. le) (λ t.
+    then_inside (second end) scope place (place + 1 + size) end _ le
+    (Inside-cond (second end) end (nat_lt 8 size) _ _ (λ t. le) (λ t.
     announced_inside scope place (number_from 0 (take size rest)) _ (place + 1 + size) (drop size rest) end le (omega (arith, length-drop size rest)))))
 
 definite_inside : (scope : Scope) (place : ℕ) (rest : List ℕ) (end : ℕ) → place + length rest ≡ end → Inside (second end) end (definite_at scope place rest)
 unfolding definite_at
-definite_inside scope place [] end e = lacking_inside (second end) scope place end (omega arith)
+definite_inside scope place [] end e = lacking_inside (second end) scope place place end (omega arith)
 definite_inside scope place (first ∷ rest) end e =
     let le : place ≤ end = omega arith in
     then_inside (second end) scope place (place + 1) end _ le
@@ -110,7 +110,7 @@ definite_inside scope place (first ∷ rest) end e =
 
 pub extent_inside : (scope : Scope) (place : ℕ) (rest : List ℕ) (end : ℕ) → place + length rest ≡ end → Inside (second end) end (extent_at scope place rest)
 unfolding extent_at
-extent_inside scope place [] end e = lacking_inside (second end) scope place end (omega arith)
+extent_inside scope place [] end e = lacking_inside (second end) scope place place end (omega arith)
 extent_inside scope place (first ∷ rest) end e =
     let le : place ≤ end = omega arith in
     Inside-cond (second end) end (nat_eq first 128) _ _
@@ -147,7 +147,7 @@ mark_inside : (scope : Scope) (place : ℕ) (rest : List ℕ) (end : ℕ) → pl
 mark_inside scope place [] end e = tt
 mark_inside scope place (first ∷ rest) end e =
     Inside-cond (Looked end) end (nat_eq first 0) _ _
-    (λ t. Inside-cond (Looked end) end (is_past scope.end (place + 2)) _ _ (λ t. cut_inside (Looked end) scope place (place + 2) end (omega arith)) (λ t. zero_inside scope place first rest end e))
+    (λ t. Inside-cond (Looked end) end (is_past scope.end (place + 2)) _ _ (λ t. cut_inside (Looked end) scope place (place + 2) end (omega arith)) (λ t. then_inside (Looked end) scope place (place + 1) end _ (omega arith) (zero_inside scope place first rest end e)))
     (λ t. begin_inside scope place (first ∷ rest) end e)
 
 pub look_inside : (scope : Scope) (place : ℕ) (rest : List ℕ) (end : ℕ) → place + length rest ≡ end → Inside (Looked end) end (look_at scope place rest)

@@ -6,6 +6,7 @@ use Rattle.asn1_types.specs.declared.row.Class.TheVariants.{Universal}
 use Rattle.asn1_types.specs.declared.row.Part.{Part}
 use Rattle.asn1_types.specs.declared.row.TypeRow.{TypeRow}
 use Rattle.asn1_types.specs.declared.row.TypeRow.TheVariants as row
+use Rattle.asn1_types.specs.Defaults.{may_be_absent}
 use Rattle.asn1_types.specs.Rows.{of_row, along, begins, text_number, is_no_tag}
 use Rattle.asn1_types.specs.Value.{Value}
 use Rattle.asn1_types.specs.Whole.{is_marked}
@@ -17,7 +18,7 @@ use Rattle.ber_spelling.specs.declared.spot.Gathered.{Gathered}
 use Rattle.ber_spelling.specs.Order.{rank, Filled}
 use Rattle.ber_spelling.specs.Reading.{Spot, Opened, Ahead, ended, begun, Reading, ◌>>=◌}
 use Rattle.ber_spelling.specs.Fields.{extent_at, contents_at, look_at}
-use Rattle.ber_spelling.specs.Rules.{Reader, is_opened, expect_at, judge, form_at, primitive_at, always, boolean_rule, is_strict_boolean, integer_rule, enumerated_rule, null_rule, object_id_rule, constructed_at, finish, item_at, items_at, all_items_at, segment_tag, nothing, segment_rule, segment_at, segmented_at, string_rule, string_at, whole_octets, whole_text, whole_bits, has_zero_bits, list_item_at, list_done, list_at, first_of, last_of, open_at, close_at, explicit_at, present_at, part_at, parts_at, sequence_at, nothing_filled, set_done, ordered_at, is_free, fill_at, slot_at, choice_at, anew, sized_at, marked_at, whole_at, any_at, dead, or_explicit, read_by, tag_or}
+use Rattle.ber_spelling.specs.Rules.{Reader, is_opened, expect_at, judge, form_at, primitive_at, always, boolean_rule, is_strict_boolean, integer_rule, enumerated_rule, null_rule, object_id_rule, constructed_at, finish, item_at, items_at, all_items_at, segment_tag, nothing, segment_rule, segment_at, segmented_at, string_rule, string_at, whole_octets, whole_text, whole_bits, has_zero_bits, list_item_at, list_done, list_at, first_of, last_of, open_at, close_at, explicit_at, present_at, part_at, parts_at, sequence_at, nothing_filled, set_done, ordered_at, is_free, fill_at, slot_at, choice_at, anew, sized_at, marked_at, whole_at, any_at, dead, or_explicit, read_by, tag_or, Guise, bare, plain, under, is_other}
 use Rattle.ber_spelling.proofs.Steady.{Run, RunOf}
 use Rattle.ber_spelling.proofs.Constructed.{BodyOf}
 use Rattle.ber_spelling.proofs.Inside.{Ends, Inside, Inside-bind, Inside-cond, nowhere, second, Begun, Contained, Looked, extent_inside, contents_inside, look_inside}
@@ -121,12 +122,12 @@ string_inside kind whole canonical tag = record {
       (λ t. (prim_inside (string_rule kind whole) canonical tag).each end scope o s le e);
 }
 
-list_step_inside : (inner : Reader) → InsideRun (inner None) → (before : List Value) → InsideRun (list_item_at inner before)
+list_step_inside : (inner : Reader) → InsideRun (inner plain) → (before : List Value) → InsideRun (list_item_at inner before)
 list_step_inside inner h before = record {
-  each = λ end scope o s le e. Inside-bind (second end) (second end) end (inner None scope o s) _ (h.each end scope o s le e) (λ v k. k);
+  each = λ end scope o s le e. Inside-bind (second end) (second end) end (inner plain scope o s) _ (h.each end scope o s le e) (λ v k. k);
 }
 
-list_inside : (inner : Reader) (tag : tags.Tag) → InsideRun (inner None) → InsideRun (list_at inner tag)
+list_inside : (inner : Reader) (tag : tags.Tag) → InsideRun (inner plain) → InsideRun (list_at inner tag)
 list_inside inner tag h = constructed_inside (all_items_at (list_item_at inner) list_done []) tag (all_inside (list_item_at inner) list_done (λ a. list_step_inside inner h a) [])
 
 -- ---- explicit tags
@@ -169,22 +170,22 @@ or_inside run (Some t) h = explicit_inside run t h
 
 -- ---- SEQUENCE, SET and CHOICE
 
-module _ (begins : ℕ → Class → ℕ → Bool) (inner : ℕ → Reader) (h : (n : ℕ) → InsideRun (inner n None)) where
+module _ (begins : ℕ → Class → ℕ → Bool) (inner : ℕ → Reader) (h : (n : ℕ) (t : Guise) → InsideRun (inner n t)) where
   abbrev ahead_of : ℕ → Option Value × Ahead → Type 0
   ahead_of end x = Looked end x.1
 
-  present_inside : (n : ℕ) (scope : Scope) (a : Ahead) (end : ℕ) → Looked end a → Inside (ahead_of end) end (present_at (inner n) scope a)
-  present_inside n scope (ended place after) end k = k.0
-  present_inside n scope (begun o s) end k =
-      Inside-bind (second end) (ahead_of end) end (inner n None scope o s) _ ((h n).each end scope o s k.0 k.1) (λ v l.
+  present_inside : (p : Part) (scope : Scope) (a : Ahead) (end : ℕ) → Looked end a → Inside (ahead_of end) end (present_at (inner p.inner.0) p scope a)
+  present_inside p scope (ended place after) end k = k.0
+  present_inside p scope (begun o s) end k =
+      Inside-bind (second end) (ahead_of end) end (inner p.inner.0 (bare p.default) scope o s) _ ((h p.inner.0 (bare p.default)).each end scope o s k.0 k.1) (λ v l.
       Inside-bind (Looked end) (ahead_of end) end (look_at scope v.1.place v.1.rest) _ (look_inside scope v.1.place v.1.rest end l) (λ a m. m))
 
   part_inside : (p : Part) (scope : Scope) (a : Ahead) (end : ℕ) → Looked end a → Inside (ahead_of end) end (part_at begins (inner p.inner.0) p scope a)
   unfolding part_at
-  part_inside p scope (ended place after) end k = Inside-cond (ahead_of end) end p.optional _ _ (λ t. k) (λ t. k.0)
+  part_inside p scope (ended place after) end k = Inside-cond (ahead_of end) end (may_be_absent p) _ _ (λ t. k) (λ t. k.0)
   part_inside p scope (begun o s) end k =
-      Inside-cond (ahead_of end) end (begins p.inner.0 o.class o.number) _ _ (λ t. present_inside p.inner.0 scope (begun o s) end k)
-      (λ t. Inside-cond (ahead_of end) end p.optional _ _ (λ t. k) (λ t. k.0))
+      Inside-cond (ahead_of end) end (begins p.inner.0 o.class o.number) _ _ (λ t. present_inside p scope (begun o s) end k)
+      (λ t. Inside-cond (ahead_of end) end (may_be_absent p) _ _ (λ t. k) (λ t. k.0))
 
   parts_inside : (ps : List Part) (scope : Scope) (a : Ahead) (end : ℕ) → Looked end a → Inside (second end) end (parts_at begins inner scope a ps)
   unfolding parts_at
@@ -203,17 +204,17 @@ module _ (begins : ℕ → Class → ℕ → Bool) (inner : ℕ → Reader) (h :
         Inside-bind (second end) (second end) end (parts_at begins inner x.0 a ps) _ (parts_inside ps x.0 a end l) (λ y m. m))));
   }
 
-  ordered_inside : (n least : ℕ) → InsideRun (ordered_at (inner n) least)
-  ordered_inside n least = record {
-    each = λ end scope o s le e. Inside-cond (second end) end (scope.strict && nat_lt (rank o.class o.number) least) _ _ (λ t. le) (λ t. (h n).each end scope o s le e);
+  ordered_inside : (n : ℕ) (t : Guise) (least : ℕ) → InsideRun (ordered_at (inner n t) least)
+  ordered_inside n t least = record {
+    each = λ end scope o s le e. Inside-cond (second end) end (scope.strict && nat_lt (rank o.class o.number) least) _ _ (λ u. le) (λ u. (h n t).each end scope o s le e);
   }
 
-  fill_inside : (n which : ℕ) (before : Filled) → InsideRun (fill_at (inner n) which before)
-  fill_inside n which before = record {
+  fill_inside : (n : ℕ) (t : Guise) (which : ℕ) (before : Filled) → InsideRun (fill_at (inner n t) which before)
+  fill_inside n t which before = record {
     each = λ end scope o s le e.
         Inside-cond (second end) end (is_free (slice_get before.found which)) _ _
-        (λ t. Inside-bind (second end) (second end) end (ordered_at (inner n) before.least scope o s) _ ((ordered_inside n before.least).each end scope o s le e) (λ v k. k))
-        (λ t. le);
+        (λ u. Inside-bind (second end) (second end) end (ordered_at (inner n t) before.least scope o s) _ ((ordered_inside n t before.least).each end scope o s le e) (λ v k. k))
+        (λ u. le);
   }
 
   slot_inside : (which : ℕ) (ps : List Part) (before : Filled) → InsideRun (slot_at begins inner which ps before)
@@ -222,7 +223,7 @@ module _ (begins : ℕ → Class → ℕ → Bool) (inner : ℕ → Reader) (h :
   slot_inside which (p ∷ ps) before = record {
     each = λ end scope o s le e.
         Inside-cond (second end) end (begins p.inner.0 o.class o.number) _ _
-        (λ t. (fill_inside p.inner.0 which before).each end scope o s le e)
+        (λ t. (fill_inside p.inner.0 (bare p.default) which before).each end scope o s le e)
         (λ t. (slot_inside (suc which) ps before).each end scope o s le e);
   }
 
@@ -235,7 +236,7 @@ module _ (begins : ℕ → Class → ℕ → Bool) (inner : ℕ → Reader) (h :
   choice_inside which (p ∷ ps) = record {
     each = λ end scope o s le e.
         Inside-cond (second end) end (begins p.inner.0 o.class o.number) _ _
-        (λ t. Inside-bind (second end) (second end) end (inner p.inner.0 None scope o s) _ ((h p.inner.0).each end scope o s le e) (λ v k. k))
+        (λ t. Inside-bind (second end) (second end) end (inner p.inner.0 plain scope o s) _ ((h p.inner.0 plain).each end scope o s le e) (λ v k. k))
         (λ t. (choice_inside (suc which) ps).each end scope o s le e);
   }
 
@@ -266,30 +267,30 @@ any_inside = record {
 
 -- ---- each row
 
-dead_inside : (t : Option tags.Tag) → InsideRun (dead t)
+dead_inside : (t : Guise) → InsideRun (dead t)
 dead_inside t = record { each = λ end scope o s le e. le }
 
-row_inside : (begins : ℕ → Class → ℕ → Bool) (inner : ℕ → Reader) → ((n : ℕ) (t : Option tags.Tag) → InsideRun (inner n t)) → (r : TypeRow) (t : Option tags.Tag) → InsideRun (read_by begins inner r t)
-row_inside begins inner h row.Boolean t = prim_inside boolean_rule is_strict_boolean (tag_or t Universal 1)
-row_inside begins inner h (row.Integer low high) t = prim_inside (integer_rule low high) always (tag_or t Universal 2)
-row_inside begins inner h (row.Enumerated items) t = prim_inside (enumerated_rule items) always (tag_or t Universal 10)
-row_inside begins inner h row.Null t = prim_inside null_rule always (tag_or t Universal 5)
-row_inside begins inner h (row.OctetString most) t = string_inside OfOctets (whole_octets most) always (tag_or t Universal 4)
-row_inside begins inner h row.BitString t = string_inside OfBits whole_bits has_zero_bits (tag_or t Universal 3)
-row_inside begins inner h row.ObjectId t = prim_inside object_id_rule always (tag_or t Universal 6)
-row_inside begins inner h (row.Text kind) t = string_inside OfOctets (whole_text kind) always (tag_or t Universal (text_number kind))
-row_inside begins inner h (row.Sequence ps) t = sequence_inside begins inner (λ n. h n None) ps (tag_or t Universal 16)
-row_inside begins inner h (row.Set ps) t = constructed_inside (all_items_at (slot_at begins inner 0 ps) (set_done ps) (nothing_filled ps)) (tag_or t Universal 17) (set_inside begins inner (λ n. h n None) ps)
-row_inside begins inner h (row.SequenceOf of) t = list_inside (inner of.0) (tag_or t Universal 16) (h of.0 None)
-row_inside begins inner h (row.Choice ps) t = or_inside (choice_at begins inner 0 ps) t (choice_inside begins inner (λ n. h n None) 0 ps)
-row_inside begins inner h (row.Tagged class number true of) t = explicit_inside (inner of.0 None) (tag_or t class number) (h of.0 None)
-row_inside begins inner h (row.Tagged class number false of) t = h of.0 (Some (tag_or t class number))
-row_inside begins inner h row.Any t = or_inside any_at t any_inside
+row_inside : (begins : ℕ → Class → ℕ → Bool) (inner : ℕ → Reader) → ((n : ℕ) (t : Guise) → InsideRun (inner n t)) → (r : TypeRow) (t : Guise) → InsideRun (read_by begins inner r t)
+row_inside begins inner h row.Boolean t = prim_inside boolean_rule (λ c. is_strict_boolean c && is_other t.default (boolean_rule c)) (tag_or t.tag Universal 1)
+row_inside begins inner h (row.Integer low high) t = prim_inside (integer_rule low high) (λ c. is_other t.default (integer_rule low high c)) (tag_or t.tag Universal 2)
+row_inside begins inner h (row.Enumerated items) t = prim_inside (enumerated_rule items) (λ c. is_other t.default (enumerated_rule items c)) (tag_or t.tag Universal 10)
+row_inside begins inner h row.Null t = prim_inside null_rule always (tag_or t.tag Universal 5)
+row_inside begins inner h (row.OctetString most) t = string_inside OfOctets (whole_octets most) always (tag_or t.tag Universal 4)
+row_inside begins inner h row.BitString t = string_inside OfBits whole_bits has_zero_bits (tag_or t.tag Universal 3)
+row_inside begins inner h row.ObjectId t = prim_inside object_id_rule always (tag_or t.tag Universal 6)
+row_inside begins inner h (row.Text kind) t = string_inside OfOctets (whole_text kind) always (tag_or t.tag Universal (text_number kind))
+row_inside begins inner h (row.Sequence ps) t = sequence_inside begins inner h ps (tag_or t.tag Universal 16)
+row_inside begins inner h (row.Set ps) t = constructed_inside (all_items_at (slot_at begins inner 0 ps) (set_done ps) (nothing_filled ps)) (tag_or t.tag Universal 17) (set_inside begins inner h ps)
+row_inside begins inner h (row.SequenceOf of) t = list_inside (inner of.0) (tag_or t.tag Universal 16) (h of.0 plain)
+row_inside begins inner h (row.Choice ps) t = or_inside (choice_at begins inner 0 ps) t.tag (choice_inside begins inner h 0 ps)
+row_inside begins inner h (row.Tagged class number true of) t = explicit_inside (inner of.0 (bare t.default)) (tag_or t.tag class number) (h of.0 (bare t.default))
+row_inside begins inner h (row.Tagged class number false of) t = h of.0 (under (Some (tag_or t.tag class number)) t.default)
+row_inside begins inner h row.Any t = or_inside any_at t.tag any_inside
 
-of_inside : (begins : ℕ → Class → ℕ → Bool) (inner : ℕ → Reader) → ((n : ℕ) (t : Option tags.Tag) → InsideRun (inner n t)) → (o : Option TypeRow) (t : Option tags.Tag) → InsideRun (of_row dead (read_by begins inner) o t)
+of_inside : (begins : ℕ → Class → ℕ → Bool) (inner : ℕ → Reader) → ((n : ℕ) (t : Guise) → InsideRun (inner n t)) → (o : Option TypeRow) (t : Guise) → InsideRun (of_row dead (read_by begins inner) o t)
 of_inside begins inner h None t = dead_inside t
 of_inside begins inner h (Some r) t = row_inside begins inner h r t
 
-pub along_inside : (rows : List TypeRow) (turns n : ℕ) (t : Option tags.Tag) → InsideRun (along dead (read_by (begins rows)) rows turns n t)
+pub along_inside : (rows : List TypeRow) (turns n : ℕ) (t : Guise) → InsideRun (along dead (read_by (begins rows)) rows turns n t)
 along_inside rows zero n t = dead_inside t
 along_inside rows (suc turns) n t = of_inside (begins rows) (along dead (read_by (begins rows)) rows turns) (λ m u. along_inside rows turns m u) (slice_get rows n) t

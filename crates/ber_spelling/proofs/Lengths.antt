@@ -6,10 +6,10 @@ use Rattle.std.proofs.lemmas.List.{take_at, drop_at, take-append-drop, length-ta
 use Rattle.osi_base.specs.declared.words.Kind.TheVariants.{Length, Form}
 use Rattle.ber_spelling.specs.declared.fault.ReadFault.TheVariants as faults
 use Rattle.ber_spelling.specs.declared.spot.Scope.{Scope}
-use Rattle.ber_spelling.specs.Reading.{Spot, Reading, refuse, within}
-use Rattle.ber_spelling.specs.Fields.{number_from, announced_at, long_at, is_end, cut_off, lacking, definite_at, inside, inside_until, extent_at, contents_at}
+use Rattle.ber_spelling.specs.Reading.{Spot, Reading, refuse, within, ◌>>=◌}
+use Rattle.ber_spelling.specs.Fields.{number_from, announced_at, long_at, is_end, sure_reach, definite_at, inside, inside_until, extent_at, contents_at}
 use Rattle.ber_spelling.specs.Spelling.{IsLong, IsLength}
-use Rattle.ber_spelling.proofs.Growing.{short_not_ok}
+use Rattle.ber_spelling.proofs.Growing.{short_not_ok, lacking_not_ok}
 use Rattle.ber_spelling.proofs.Identifiers.{IsIn, in_before, is_in, in_is, Taken, bind_ok, chosen_ok, unless_ok, ok_is}
 
 abbrev done : {A : Type 0} → A → Reading A
@@ -19,13 +19,6 @@ strict_minimal : (s m : Bool) → (s && not m) ≡ false → s ≡ true → m �
 strict_minimal true true e h = refl
 strict_minimal true false e h = absurd cc
 strict_minimal false m e h = absurd cc
-
-pub lacking_not_ok : {B : Type 0} (scope : Scope) (place : ℕ) (x : B) → lacking scope place ≡ Ok x → ⊥
-lacking_not_ok scope place x e =
-    elim (chosen_ok (is_end scope.end place) (cut_off scope place (place + 1)) (Err faults.Short) x e) [
-      | inl t ↦ short_not_ok (within scope place (place + 1)) x t.1
-      | inr t ↦ let no : Err faults.Short ≡ done x = t.1 in cc
-    ]
 
 pub record Announced (scope : Scope) (count : ℕ) (minimal : Bool) (from : ℕ) (rest : List ℕ) (n : ℕ) (s : Spot) : Type 0 where
   pub number : n ≡ count
@@ -58,13 +51,17 @@ pub record DefiniteFound (scope : Scope) (place : ℕ) (rest : List ℕ) (n : �
   pub is_length : IsLength scope.strict size n
   pub is_in : IsIn scope (s.place + n)
 
+enough_ok : {A B : Type 0} (lacks : Bool) (r : Reading A) (read : Reading B) (x : B) → cond lacks (r >>= λ _. Err faults.Short) read ≡ Ok x → (lacks ≡ false) × (read ≡ Ok x)
+enough_ok true r read x e = absurd (short_not_ok r x e)
+enough_ok false r read x e = (refl, e)
+
 long_found : (scope : Scope) (place first : ℕ) (rest : List ℕ) (n : ℕ) (s : Spot) → 129 ≤ first → long_at scope place (first - 128) rest ≡ Ok (n, s) → DefiniteFound scope place (first ∷ rest) n s
 unfolding long_at
 long_found scope place first rest n s large e =
     let size = first - 128 in
-    let b = bind_ok (within scope place (place + 1 + size)) _ (n, s) e in
-    let u = unless_ok (nat_lt (length rest) size) faults.Short _ (n, s) b.2 in
-    let v = unless_ok (nat_lt 8 size) (faults.NotSpelled place Length) _ (n, s) u.1 in
+    let u = enough_ok (nat_lt (length rest) size) (within scope place (sure_reach scope.end (place + 1 + size) (place + 1 + length rest))) _ (n, s) e in
+    let b = bind_ok (within scope place (place + 1 + size)) _ (n, s) u.1 in
+    let v = unless_ok (nat_lt 8 size) (faults.NotSpelled place Length) _ (n, s) b.2 in
     let enough : size ≤ length rest = ltb-false (length rest) size u.0 in
     let few : size ≤ 8 = ltb-false 8 size v.0 in
     let len : length (take size rest) ≡ size = omega (arith, length-take size rest) in
@@ -85,7 +82,7 @@ long_found scope place first rest n s large e =
 
 pub definite_found : (scope : Scope) (place : ℕ) (rest : List ℕ) (n : ℕ) (s : Spot) → definite_at scope place rest ≡ Ok (n, s) → DefiniteFound scope place rest n s
 unfolding definite_at
-definite_found scope place [] n s e = absurd (lacking_not_ok scope place (n, s) e)
+definite_found scope place [] n s e = absurd (lacking_not_ok scope place place (n, s) e)
 definite_found scope place (first ∷ rest) n s e =
     let b = bind_ok (within scope place (place + 1)) _ (n, s) e in
     elim (chosen_ok (nat_lt first 128) _ _ (n, s) b.2) [
@@ -118,8 +115,8 @@ long_again scope place first digits rest n h here =
     let enough : length digits ≤ length (digits ++ rest) = omega (arith, length-append digits rest) in
     let few : length digits ≤ 8 = h.few in
     rw (
-      in_is scope place (place + 1 + length digits) (in_before scope (place + 1 + length digits) (place + 1 + length digits + n) (omega arith) here),
       le-ltb (length (digits ++ rest)) (length digits) enough,
+      in_is scope place (place + 1 + length digits) (in_before scope (place + 1 + length digits) (place + 1 + length digits + n) (omega arith) here),
       le-ltb 8 (length digits) few,
       take_at digits rest (length digits) refl,
       drop_at digits rest (length digits) refl,
@@ -203,7 +200,7 @@ pub record Marked (scope : Scope) (place : ℕ) (rest : List ℕ) (x : Scope) (s
 
 pub extent_found : (scope : Scope) (place : ℕ) (rest : List ℕ) (x : Scope) (s : Spot) → extent_at scope place rest ≡ Ok (x, s) → Until scope place rest x s ⊎ Marked scope place rest x s
 unfolding extent_at
-extent_found scope place [] x s e = absurd (lacking_not_ok scope place (x, s) e)
+extent_found scope place [] x s e = absurd (lacking_not_ok scope place place (x, s) e)
 extent_found scope place (first ∷ rest) x s e =
     elim (chosen_ok (nat_eq first 128) _ _ (x, s) e) [
       | inl t ↦

@@ -13,13 +13,13 @@ use Rattle.ber_spelling.specs.Fields.{capped, class_of, digits_at, opened_at, is
 use Rattle.ber_spelling.specs.Order.{rank, front_number, front_rank}
 use Rattle.ber_spelling.specs.Spelling.{IsIdentifier}
 use Rattle.ber_spelling.specs.Writing.{identifier, length_octets, definite}
-use Rattle.ber_spelling.proofs.Growing.{short_not_ok}
+use Rattle.ber_spelling.proofs.Growing.{lacking_not_ok}
 use Rattle.ber_spelling.proofs.Identifiers.{bind_ok, chosen_ok, unless_ok, ok_is, identifier_again}
 use Rattle.ber_spelling.proofs.WrittenFields.{identifier_is}
 
 digits_front : (scope : Scope) (place number from : ℕ) (ds : List ℕ) (n : ℕ) (s : Spot) → digits_at scope place number from ds ≡ Ok (n, s) → front_number number ds ≡ n
 unfolding digits_at
-digits_front scope place number from [] n s e = absurd (short_not_ok (within scope place (from + 1)) (n, s) e)
+digits_front scope place number from [] n s e = absurd (lacking_not_ok scope place from (n, s) e)
 digits_front scope place number from (d ∷ ds) n s e =
     let b = bind_ok (within scope place (from + 1)) _ (n, s) e in
     elim (chosen_ok (nat_lt d 128) _ _ (n, s) b.2) [

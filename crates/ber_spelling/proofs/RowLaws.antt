@@ -1,5 +1,5 @@
 -- Each row: what is read is spelled so, and what is spelled so is read.
-use Rattle.std.proofs.Common.{◌≡◌, ℕ, zero, suc, ◌+◌, Bool, true, false, not, ◌||◌, List, [], ◌∷◌, Option, Some, None, refl, ap, ◌∙◌, subst, arith, inl, inr}
+use Rattle.std.proofs.Common.{◌≡◌, ℕ, zero, suc, ◌+◌, Bool, true, false, not, ◌||◌, List, [], ◌∷◌, Option, Some, None, refl, ap, ◌∙◌, subst, arith, inl, inr, ℤ, ◌&&◌, sym}
 use Rattle.std.proofs.lemmas.Bool.{and_parts}
 use Rattle.std.specs.Prelude.{slice_get}
 use Rattle.std.specs.List.{list_any, flat_map}
@@ -12,12 +12,14 @@ use Rattle.asn1_types.specs.declared.row.TextKind.TheVariants.{Utf8, Ia5, Visibl
 use Rattle.asn1_types.specs.declared.row.TypeRow.{TypeRow}
 use Rattle.asn1_types.specs.declared.row.TypeRow.TheVariants as row
 use Rattle.asn1_types.specs.Rows.{tag, every, of_row, along, begins, openings, is_no_tag, allows, text_number}
+use Rattle.asn1_types.specs.Defaults.{is_default}
+use Rattle.asn1_types.specs.Value.{Value}
 use Rattle.asn1_types.specs.Table.{IsSound}
 use Rattle.asn1_types.proofs.Sound.{IsSoundRow, sound_row}
 use Rattle.ber_spelling.specs.declared.spot.Tag as tags
 use Rattle.ber_spelling.specs.declared.spot.StringKind.TheVariants.{OfOctets, OfBits}
-use Rattle.ber_spelling.specs.Rules.{Reader, dead, tag_or, read_by, or_explicit, explicit_at, choice_at, any_at, always, all_items_at, slot_at, set_done, nothing_filled, boolean_rule, is_strict_boolean, integer_rule, enumerated_rule, null_rule, object_id_rule, whole_octets, whole_text, whole_bits, has_zero_bits, sequence_at}
-use Rattle.ber_spelling.specs.Spelling.{Spelled, RowIs, RowOr, SpelledBy, OrExplicit, ChoiceIs, SequenceIs, ItemsAre, SetStep, AnyIs, BooleanIs, IntegerIs, EnumeratedIs, NullIs, ObjectIdIs}
+use Rattle.ber_spelling.specs.Rules.{Reader, dead, tag_or, read_by, or_explicit, explicit_at, choice_at, any_at, always, all_items_at, slot_at, set_done, nothing_filled, boolean_rule, is_strict_boolean, integer_rule, enumerated_rule, null_rule, object_id_rule, whole_octets, whole_text, whole_bits, has_zero_bits, sequence_at, Guise, bare, plain, under, is_other}
+use Rattle.ber_spelling.specs.Spelling.{Spelled, RowIs, RowOr, SpelledBy, OrExplicit, ChoiceIs, SequenceIs, ItemsAre, SetStep, AnyIs, BooleanIs, IntegerIs, EnumeratedIs, NullIs, ObjectIdIs, IsOther}
 use Rattle.ber_spelling.proofs.Steady.{Run, Relation, Found, Only, only_wider, OfTag, prim_found, prim_only, class_itself, eqb_itself}
 use Rattle.ber_spelling.proofs.Constructed.{ConstructedBy, constructed_found, constructed_only, explicit_body, explicit_found, explicit_only, explicit_same}
 use Rattle.ber_spelling.proofs.Sequences.{sequence_body, sequence_found, choice_at_found}
@@ -33,7 +35,7 @@ use Rattle.ber_spelling.proofs.Oids.{object_id_sound, object_id_complete}
 
 -- ---- what is read is spelled so
 
-dead_found : (t : Option tags.Tag) → Found (dead t) (λ strict levels v text. ⊥)
+dead_found : (t : Guise) → Found (dead t) (λ strict levels v text. ⊥)
 dead_found t = record { found = λ scope place rest o s v to are opens e. absurd cc }
 
 pub tagged_found : (run : Run) (P : Relation) (t : tags.Tag) → Found run P → Found (explicit_at run t) (ConstructedBy t P)
@@ -43,33 +45,44 @@ or_found : (run : Run) (P : Relation) (t : Option tags.Tag) → Found run P → 
 or_found run P None h = h
 or_found run P (Some t) h = tagged_found run P t h
 
-module _ (rows : List TypeRow) where
-  row_found : (inner : ℕ → Reader) (rel : ℕ → Spelled) → ((n : ℕ) (t : Option tags.Tag) → Found (inner n t) (rel n t)) → ((n : ℕ) → AreHeaded (rel n)) → (r : TypeRow) (t : Option tags.Tag) → Found (read_by (begins rows) inner r t) (RowIs rel r t)
-  unfolding sequence_at
-  row_found inner rel h heads row.Boolean t = prim_found boolean_rule is_strict_boolean (tag_or t Universal 1) BooleanIs boolean_sound
-  row_found inner rel h heads (row.Integer low high) t = prim_found (integer_rule low high) always (tag_or t Universal 2) (λ strict. IntegerIs low high) (λ strict c v are e k. integer_sound low high c v are e)
-  row_found inner rel h heads (row.Enumerated items) t = prim_found (enumerated_rule items) always (tag_or t Universal 10) (λ strict. EnumeratedIs items) (λ strict c v are e k. enumerated_sound items c v e)
-  row_found inner rel h heads row.Null t = prim_found null_rule always (tag_or t Universal 5) (λ strict. NullIs) (λ strict c v are e k. null_sound c v are e)
-  row_found inner rel h heads (row.OctetString most) t = string_found OfOctets (whole_octets most) always (tag_or t Universal 4)
-  row_found inner rel h heads row.BitString t = string_found OfBits whole_bits has_zero_bits (tag_or t Universal 3)
-  row_found inner rel h heads row.ObjectId t = prim_found object_id_rule always (tag_or t Universal 6) (λ strict. ObjectIdIs) (λ strict c v are e k. object_id_sound c v are e)
-  row_found inner rel h heads (row.Text kind) t = string_found OfOctets (whole_text kind) always (tag_or t Universal (text_number kind))
-  row_found inner rel h heads (row.Sequence ps) t =
-      constructed_found (sequence_body (begins rows) inner ps) (tag_or t Universal 16) (λ strict levels v c. SequenceIs rel strict ps v levels c) (sequence_found (begins rows) inner rel (λ n. h n None) ps)
-  row_found inner rel h heads (row.Set ps) t =
-      constructed_found (all_items_at (slot_at (begins rows) inner 0 ps) (set_done ps) (nothing_filled ps)) (tag_or t Universal 17) (ItemsAre (set_done ps) (SetStep rel ps) (nothing_filled ps)) (set_found (begins rows) inner rel (λ n. h n None) heads ps)
-  row_found inner rel h heads (row.SequenceOf of) t = list_found (inner of.0) (rel of.0) (tag_or t Universal 16) (h of.0 None)
-  row_found inner rel h heads (row.Choice ps) t = or_found (choice_at (begins rows) inner 0 ps) (ChoiceIs rel ps) t (choice_at_found (begins rows) inner rel (λ n. h n None) ps ps 0 (λ i p e. let none : 0 + i ≡ i = omega arith in ap (slice_get ps) none ∙ e))
-  row_found inner rel h heads (row.Tagged class number true of) t = tagged_found (inner of.0 None) (rel of.0 None) (tag_or t class number) (h of.0 None)
-  row_found inner rel h heads (row.Tagged class number false of) t = h of.0 (Some (tag_or t class number))
-  row_found inner rel h heads row.Any t = or_found any_at (λ strict. AnyIs) t any_found
+-- contents that are canonical are no default's
+other_found : (rule : List ℕ → Option Value) (default : Option ℤ) (strict : Bool) (c : List ℕ) (v : Value) → rule c ≡ Some v → (strict ≡ true → is_other default (rule c) ≡ true) → IsOther default strict v
+other_found rule default strict c v e k = λ x. not_true (is_default default v) (subst (λ (o : Option Value). is_other default o ≡ true) e (k x))
+  where
+    not_true : (b : Bool) → not b ≡ true → b ≡ false
+    not_true true h = absurd cc
+    not_true false h = refl
 
-  of_found : (inner : ℕ → Reader) (rel : ℕ → Spelled) → ((n : ℕ) (t : Option tags.Tag) → Found (inner n t) (rel n t)) → ((n : ℕ) → AreHeaded (rel n)) → (o : Option TypeRow) (t : Option tags.Tag)
+other_only : (rule : List ℕ → Option Value) (default : Option ℤ) (strict : Bool) (c : List ℕ) (v : Value) → rule c ≡ Some v → IsOther default strict v → strict ≡ true → is_other default (rule c) ≡ true
+other_only rule default strict c v e h x = subst (λ (o : Option Value). is_other default o ≡ true) (sym e) (ap not (h x))
+
+module _ (rows : List TypeRow) where
+  row_found : (inner : ℕ → Reader) (rel : ℕ → Spelled) → ((n : ℕ) (t : Guise) → Found (inner n t) (rel n t)) → ((n : ℕ) → AreHeaded (rel n)) → (r : TypeRow) (t : Guise) → Found (read_by (begins rows) inner r t) (RowIs rel r t)
+  unfolding sequence_at
+  row_found inner rel h heads row.Boolean t = prim_found boolean_rule (λ c. is_strict_boolean c && is_other t.default (boolean_rule c)) (tag_or t.tag Universal 1) (λ strict v c. BooleanIs strict v c × IsOther t.default strict v) (λ strict c v are e k. (boolean_sound strict c v are e (λ x. (and_parts (is_strict_boolean c) (is_other t.default (boolean_rule c)) (k x)).0), other_found boolean_rule t.default strict c v e (λ x. (and_parts (is_strict_boolean c) (is_other t.default (boolean_rule c)) (k x)).1)))
+  row_found inner rel h heads (row.Integer low high) t = prim_found (integer_rule low high) (λ c. is_other t.default (integer_rule low high c)) (tag_or t.tag Universal 2) (λ strict v c. IntegerIs low high v c × IsOther t.default strict v) (λ strict c v are e k. (integer_sound low high c v are e, other_found (integer_rule low high) t.default strict c v e k))
+  row_found inner rel h heads (row.Enumerated items) t = prim_found (enumerated_rule items) (λ c. is_other t.default (enumerated_rule items c)) (tag_or t.tag Universal 10) (λ strict v c. EnumeratedIs items v c × IsOther t.default strict v) (λ strict c v are e k. (enumerated_sound items c v e, other_found (enumerated_rule items) t.default strict c v e k))
+  row_found inner rel h heads row.Null t = prim_found null_rule always (tag_or t.tag Universal 5) (λ strict. NullIs) (λ strict c v are e k. null_sound c v are e)
+  row_found inner rel h heads (row.OctetString most) t = string_found OfOctets (whole_octets most) always (tag_or t.tag Universal 4)
+  row_found inner rel h heads row.BitString t = string_found OfBits whole_bits has_zero_bits (tag_or t.tag Universal 3)
+  row_found inner rel h heads row.ObjectId t = prim_found object_id_rule always (tag_or t.tag Universal 6) (λ strict. ObjectIdIs) (λ strict c v are e k. object_id_sound c v are e)
+  row_found inner rel h heads (row.Text kind) t = string_found OfOctets (whole_text kind) always (tag_or t.tag Universal (text_number kind))
+  row_found inner rel h heads (row.Sequence ps) t =
+      constructed_found (sequence_body (begins rows) inner ps) (tag_or t.tag Universal 16) (λ strict levels v c. SequenceIs rel strict ps v levels c) (sequence_found (begins rows) inner rel h ps)
+  row_found inner rel h heads (row.Set ps) t =
+      constructed_found (all_items_at (slot_at (begins rows) inner 0 ps) (set_done ps) (nothing_filled ps)) (tag_or t.tag Universal 17) (ItemsAre (set_done ps) (SetStep rel ps) (nothing_filled ps)) (set_found (begins rows) inner rel h heads ps)
+  row_found inner rel h heads (row.SequenceOf of) t = list_found (inner of.0) (rel of.0) (tag_or t.tag Universal 16) (h of.0 plain)
+  row_found inner rel h heads (row.Choice ps) t = or_found (choice_at (begins rows) inner 0 ps) (ChoiceIs rel ps) t.tag (choice_at_found (begins rows) inner rel h ps ps 0 (λ i p e. let none : 0 + i ≡ i = omega arith in ap (slice_get ps) none ∙ e))
+  row_found inner rel h heads (row.Tagged class number true of) t = tagged_found (inner of.0 (bare t.default)) (rel of.0 (bare t.default)) (tag_or t.tag class number) (h of.0 (bare t.default))
+  row_found inner rel h heads (row.Tagged class number false of) t = h of.0 (under (Some (tag_or t.tag class number)) t.default)
+  row_found inner rel h heads row.Any t = or_found any_at (λ strict. AnyIs) t.tag any_found
+
+  of_found : (inner : ℕ → Reader) (rel : ℕ → Spelled) → ((n : ℕ) (t : Guise) → Found (inner n t) (rel n t)) → ((n : ℕ) → AreHeaded (rel n)) → (o : Option TypeRow) (t : Guise)
       → Found (of_row dead (read_by (begins rows) inner) o t) (λ strict levels v text. RowOr (RowIs rel) o t strict levels v text)
   of_found inner rel h heads None t = dead_found t
   of_found inner rel h heads (Some r) t = row_found inner rel h heads r t
 
-  pub along_found : (turns n : ℕ) (t : Option tags.Tag) → Found (along dead (read_by (begins rows)) rows turns n t) (λ strict levels v text. SpelledBy rows turns n t strict levels v text)
+  pub along_found : (turns n : ℕ) (t : Guise) → Found (along dead (read_by (begins rows)) rows turns n t) (λ strict levels v text. SpelledBy rows turns n t strict levels v text)
   along_found zero n t = dead_found t
   along_found (suc turns) n t = of_found (along dead (read_by (begins rows)) rows turns) (SpelledBy rows turns) (λ m u. along_found turns m u) (λ m. along_headed rows turns m) (slice_get rows n) t
 
@@ -138,46 +151,49 @@ module _ (rows : List TypeRow) (n : ℕ) where
   or_only B run P None ok w h = only_wider B (Allowed rows n None) run P w h
   or_only B run P (Some t) ok w h = tagged_only B run P t ok h
 
-  row_only : (inner : ℕ → Reader) (rel : ℕ → Spelled) → ((m : ℕ) (t : Option tags.Tag) → OkTag t → Only (Allowed rows m t) (inner m t) (rel m t)) → ((m : ℕ) → AreHeaded (rel m))
-      → (r : TypeRow) → IsSoundRow rows n r → (t : Option tags.Tag) → OkTag t → Only (Allowed rows n t) (read_by (begins rows) inner r t) (RowIs rel r t)
+  both : {a b : Bool} → a ≡ true → b ≡ true → (a && b) ≡ true
+  both x y = rw (x, y) refl
+
+  row_only : (inner : ℕ → Reader) (rel : ℕ → Spelled) → ((m : ℕ) (t : Guise) → OkTag t.tag → Only (Allowed rows m t.tag) (inner m t) (rel m t)) → ((m : ℕ) → AreHeaded (rel m))
+      → (r : TypeRow) → IsSoundRow rows n r → (t : Guise) → OkTag t.tag → Only (Allowed rows n t.tag) (read_by (begins rows) inner r t) (RowIs rel r t)
   unfolding sequence_at
   row_only inner rel h heads row.Boolean s t ok =
-      own Universal 1 s.opens refl t _ _ (prim_only boolean_rule is_strict_boolean (tag_or t Universal 1) BooleanIs (tag_ok t Universal 1 ok refl) boolean_complete)
+      own Universal 1 s.opens refl t.tag _ _ (prim_only boolean_rule (λ c. is_strict_boolean c && is_other t.default (boolean_rule c)) (tag_or t.tag Universal 1) (λ strict v c. BooleanIs strict v c × IsOther t.default strict v) (tag_ok t.tag Universal 1 ok refl) (λ strict c v p. (let x = boolean_complete strict c v p.0 in (x.0, λ k. both (x.1 k) (other_only boolean_rule t.default strict c v x.0 p.1 k)))))
   row_only inner rel h heads (row.Integer low high) s t ok =
-      own Universal 2 s.opens refl t _ _ (prim_only (integer_rule low high) always (tag_or t Universal 2) (λ strict. IntegerIs low high) (tag_ok t Universal 2 ok refl) (λ strict c v p. (integer_complete low high c v p, λ k. refl)))
+      own Universal 2 s.opens refl t.tag _ _ (prim_only (integer_rule low high) (λ c. is_other t.default (integer_rule low high c)) (tag_or t.tag Universal 2) (λ strict v c. IntegerIs low high v c × IsOther t.default strict v) (tag_ok t.tag Universal 2 ok refl) (λ strict c v p. (let x = integer_complete low high c v p.0 in (x, other_only (integer_rule low high) t.default strict c v x p.1))))
   row_only inner rel h heads (row.Enumerated items) s t ok =
-      own Universal 10 s.opens refl t _ _ (prim_only (enumerated_rule items) always (tag_or t Universal 10) (λ strict. EnumeratedIs items) (tag_ok t Universal 10 ok refl) (λ strict c v p. (enumerated_complete items c v p, λ k. refl)))
+      own Universal 10 s.opens refl t.tag _ _ (prim_only (enumerated_rule items) (λ c. is_other t.default (enumerated_rule items c)) (tag_or t.tag Universal 10) (λ strict v c. EnumeratedIs items v c × IsOther t.default strict v) (tag_ok t.tag Universal 10 ok refl) (λ strict c v p. (let x = enumerated_complete items c v p.0 in (x, other_only (enumerated_rule items) t.default strict c v x p.1))))
   row_only inner rel h heads row.Null s t ok =
-      own Universal 5 s.opens refl t _ _ (prim_only null_rule always (tag_or t Universal 5) (λ strict. NullIs) (tag_ok t Universal 5 ok refl) (λ strict c v p. (null_complete c v p, λ k. refl)))
-  row_only inner rel h heads (row.OctetString most) s t ok = own Universal 4 s.opens refl t _ _ (string_only OfOctets (whole_octets most) always (tag_or t Universal 4) (tag_ok t Universal 4 ok refl))
-  row_only inner rel h heads row.BitString s t ok = own Universal 3 s.opens refl t _ _ (string_only OfBits whole_bits has_zero_bits (tag_or t Universal 3) (tag_ok t Universal 3 ok refl))
+      own Universal 5 s.opens refl t.tag _ _ (prim_only null_rule always (tag_or t.tag Universal 5) (λ strict. NullIs) (tag_ok t.tag Universal 5 ok refl) (λ strict c v p. (null_complete c v p, λ k. refl)))
+  row_only inner rel h heads (row.OctetString most) s t ok = own Universal 4 s.opens refl t.tag _ _ (string_only OfOctets (whole_octets most) always (tag_or t.tag Universal 4) (tag_ok t.tag Universal 4 ok refl))
+  row_only inner rel h heads row.BitString s t ok = own Universal 3 s.opens refl t.tag _ _ (string_only OfBits whole_bits has_zero_bits (tag_or t.tag Universal 3) (tag_ok t.tag Universal 3 ok refl))
   row_only inner rel h heads row.ObjectId s t ok =
-      own Universal 6 s.opens refl t _ _ (prim_only object_id_rule always (tag_or t Universal 6) (λ strict. ObjectIdIs) (tag_ok t Universal 6 ok refl) (λ strict c v p. (object_id_complete c v p, λ k. refl)))
+      own Universal 6 s.opens refl t.tag _ _ (prim_only object_id_rule always (tag_or t.tag Universal 6) (λ strict. ObjectIdIs) (tag_ok t.tag Universal 6 ok refl) (λ strict c v p. (object_id_complete c v p, λ k. refl)))
   row_only inner rel h heads (row.Text kind) s t ok =
-      own Universal (text_number kind) s.opens (text_tag kind) t _ _ (string_only OfOctets (whole_text kind) always (tag_or t Universal (text_number kind)) (tag_ok t Universal (text_number kind) ok (text_tag kind)))
+      own Universal (text_number kind) s.opens (text_tag kind) t.tag _ _ (string_only OfOctets (whole_text kind) always (tag_or t.tag Universal (text_number kind)) (tag_ok t.tag Universal (text_number kind) ok (text_tag kind)))
   row_only inner rel h heads (row.Sequence ps) s t ok =
-      own Universal 16 s.opens refl t _ _
-      (constructed_only (sequence_body (begins rows) inner ps) (tag_or t Universal 16) (λ strict levels v c. SequenceIs rel strict ps v levels c) (tag_ok t Universal 16 ok refl)
-      (sequence_only (openings rows) inner rel (λ m. h m None tt) ps s.apart))
+      own Universal 16 s.opens refl t.tag _ _
+      (constructed_only (sequence_body (begins rows) inner ps) (tag_or t.tag Universal 16) (λ strict levels v c. SequenceIs rel strict ps v levels c) (tag_ok t.tag Universal 16 ok refl)
+      (sequence_only (openings rows) inner rel (λ m d. h m (bare d) tt) ps s.apart))
   row_only inner rel h heads (row.Set ps) s t ok =
-      own Universal 17 s.opens refl t _ _
-      (constructed_only (all_items_at (slot_at (begins rows) inner 0 ps) (set_done ps) (nothing_filled ps)) (tag_or t Universal 17) (ItemsAre (set_done ps) (SetStep rel ps) (nothing_filled ps)) (tag_ok t Universal 17 ok refl)
-      (set_only (openings rows) inner rel (λ m. h m None tt) heads ps s.apart))
+      own Universal 17 s.opens refl t.tag _ _
+      (constructed_only (all_items_at (slot_at (begins rows) inner 0 ps) (set_done ps) (nothing_filled ps)) (tag_or t.tag Universal 17) (ItemsAre (set_done ps) (SetStep rel ps) (nothing_filled ps)) (tag_ok t.tag Universal 17 ok refl)
+      (set_only (openings rows) inner rel (λ m d. h m (bare d) tt) heads ps s.apart))
   row_only inner rel h heads (row.SequenceOf of) s t ok =
-      own Universal 16 s.opens refl t _ _ (list_only (Allowed rows of.0 None) (inner of.0) (rel of.0) (tag_or t Universal 16) (tag_ok t Universal 16 ok refl) (h of.0 None tt))
+      own Universal 16 s.opens refl t.tag _ _ (list_only (Allowed rows of.0 None) (inner of.0) (rel of.0) (tag_or t.tag Universal 16) (tag_ok t.tag Universal 16 ok refl) (h of.0 plain tt))
   row_only inner rel h heads (row.Choice ps) s t ok =
-      or_only (AnyAllows (openings rows) ps) (choice_at (begins rows) inner 0 ps) (ChoiceIs rel ps) t ok (λ c k a. choice_begins ps s.opens c k a) (choice_only (openings rows) inner rel (λ m. h m None tt) ps s.apart)
+      or_only (AnyAllows (openings rows) ps) (choice_at (begins rows) inner 0 ps) (ChoiceIs rel ps) t.tag ok (λ c k a. choice_begins ps s.opens c k a) (choice_only (openings rows) inner rel (λ m d. h m (bare d) tt) ps s.apart)
   row_only inner rel h heads (row.Tagged class number true of) s t ok =
-      own class number s.opens s.range t _ _ (tagged_only (Allowed rows of.0 None) (inner of.0 None) (rel of.0 None) (tag_or t class number) (tag_ok t class number ok s.range) (h of.0 None tt))
+      own class number s.opens s.range t.tag _ _ (tagged_only (Allowed rows of.0 None) (inner of.0 (bare t.default)) (rel of.0 (bare t.default)) (tag_or t.tag class number) (tag_ok t.tag class number ok s.range) (h of.0 (bare t.default) tt))
   row_only inner rel h heads (row.Tagged class number false of) s t ok =
-      own class number s.opens s.range t _ _ (h of.0 (Some (tag_or t class number)) (tag_ok t class number ok s.range))
-  row_only inner rel h heads row.Any s t ok = or_only IsTagged any_at (λ strict. AnyIs) t ok (λ c k a. any_begins s.opens c k a) any_only
+      own class number s.opens s.range t.tag _ _ (h of.0 (under (Some (tag_or t.tag class number)) t.default) (tag_ok t.tag class number ok s.range))
+  row_only inner rel h heads row.Any s t ok = or_only IsTagged any_at (λ strict. AnyIs) t.tag ok (λ c k a. any_begins s.opens c k a) any_only
 
-  of_only : IsSound rows → (inner : ℕ → Reader) (rel : ℕ → Spelled) → ((m : ℕ) (t : Option tags.Tag) → OkTag t → Only (Allowed rows m t) (inner m t) (rel m t)) → ((m : ℕ) → AreHeaded (rel m))
-      → (o : Option TypeRow) → slice_get rows n ≡ o → (t : Option tags.Tag) → OkTag t → Only (Allowed rows n t) (of_row dead (read_by (begins rows) inner) o t) (λ strict levels v text. RowOr (RowIs rel) o t strict levels v text)
-  of_only sound inner rel h heads None e t ok = nothing (Allowed rows n t) (dead t)
+  of_only : IsSound rows → (inner : ℕ → Reader) (rel : ℕ → Spelled) → ((m : ℕ) (t : Guise) → OkTag t.tag → Only (Allowed rows m t.tag) (inner m t) (rel m t)) → ((m : ℕ) → AreHeaded (rel m))
+      → (o : Option TypeRow) → slice_get rows n ≡ o → (t : Guise) → OkTag t.tag → Only (Allowed rows n t.tag) (of_row dead (read_by (begins rows) inner) o t) (λ strict levels v text. RowOr (RowIs rel) o t strict levels v text)
+  of_only sound inner rel h heads None e t ok = nothing (Allowed rows n t.tag) (dead t)
   of_only sound inner rel h heads (Some r) e t ok = row_only inner rel h heads r (sound_row rows sound n r e) t ok
 
-pub along_only : (rows : List TypeRow) → IsSound rows → (turns n : ℕ) (t : Option tags.Tag) → OkTag t → Only (Allowed rows n t) (along dead (read_by (begins rows)) rows turns n t) (λ strict levels v text. SpelledBy rows turns n t strict levels v text)
-along_only rows sound zero n t ok = nothing (Allowed rows n t) (dead t)
+pub along_only : (rows : List TypeRow) → IsSound rows → (turns n : ℕ) (t : Guise) → OkTag t.tag → Only (Allowed rows n t.tag) (along dead (read_by (begins rows)) rows turns n t) (λ strict levels v text. SpelledBy rows turns n t strict levels v text)
+along_only rows sound zero n t ok = nothing (Allowed rows n t.tag) (dead t)
 along_only rows sound (suc turns) n t ok = of_only rows n sound (along dead (read_by (begins rows)) rows turns) (SpelledBy rows turns) (λ m u k. along_only rows sound turns m u k) (λ m. along_headed rows turns m) (slice_get rows n) refl t ok

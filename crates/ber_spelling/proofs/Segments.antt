@@ -10,7 +10,7 @@ use Rattle.ber_spelling.specs.declared.spot.StringKind.TheVariants.{OfOctets, Of
 use Rattle.ber_spelling.specs.declared.spot.Gathered.{Gathered}
 use Rattle.ber_spelling.specs.Reading.{Spot, Opened, ◌>>=◌}
 use Rattle.ber_spelling.specs.Fields.{extent_at, contents_at}
-use Rattle.ber_spelling.specs.Rules.{Reader, expect_at, judge, form_at, primitive_at, always, constructed_at, all_items_at, segment_tag, nothing, segment_rule, segment_at, segmented_at, string_rule, string_at, list_item_at, list_done, list_at}
+use Rattle.ber_spelling.specs.Rules.{Reader, expect_at, judge, form_at, primitive_at, always, constructed_at, all_items_at, segment_tag, nothing, segment_rule, segment_at, segmented_at, string_rule, string_at, list_item_at, list_done, list_at, plain}
 use Rattle.ber_spelling.specs.Spelling.{Spelled, IsConstructed, ItemsAre, SegmentIs, StringIs, ListStep, ListIs}
 use Rattle.ber_spelling.proofs.Identifiers.{bind_ok, chosen_ok, ok_is}
 use Rattle.ber_spelling.proofs.Steady.{RunOf, RelationOf, ReadAs, Found, ReadBack, Only, OfTag, opened_as, judge_is, form_lax, form_passes, prim_found, prim_only}
@@ -165,27 +165,27 @@ string_only kind whole canonical tag tagged = record {
 
 -- ---- SEQUENCE OF
 
-list_step_found : (inner : Reader) (rel : Spelled) → Found (inner None) (rel None) → (before : List Value) → Found (list_item_at inner before) (ListStep rel before)
+list_step_found : (inner : Reader) (rel : Spelled) → Found (inner plain) (rel plain) → (before : List Value) → Found (list_item_at inner before) (ListStep rel before)
 list_step_found inner rel h before = record {
   found = λ scope place rest o s vs to are opens e.
-      let b = bind_ok (inner None scope o s) (λ v. Ok (before ++ v.0 ∷ [], v.1)) (vs, to) e in
+      let b = bind_ok (inner plain scope o s) (λ v. Ok (before ++ v.0 ∷ [], v.1)) (vs, to) e in
       let same = ok_is {A = List Value × Spot} (before ++ b.0.0 ∷ [], b.0.1) (vs, to) b.2 in
       let r = h.found scope place rest o s b.0.0 b.0.1 are opens b.1 in
       subst (λ (y : List Value × Spot). ReadAs (ListStep rel before) scope place rest y.0 y.1) same (record { text = r.text; taken = r.taken; spelled = (b.0.0, refl, r.spelled); is_in = r.is_in });
 }
 
-pub list_found : (inner : Reader) (rel : Spelled) (tag : tags.Tag) → Found (inner None) (rel None) → Found (list_at inner tag) (λ strict levels v text. IsConstructed tag strict levels (ListIs rel strict v) text)
+pub list_found : (inner : Reader) (rel : Spelled) (tag : tags.Tag) → Found (inner plain) (rel plain) → Found (list_at inner tag) (λ strict levels v text. IsConstructed tag strict levels (ListIs rel strict v) text)
 list_found inner rel tag h = constructed_found (all_items_at (list_item_at inner) list_done []) tag (ItemsAre list_done (ListStep rel) []) (all_found (list_item_at inner) list_done (ListStep rel) [] (list_step_found inner rel h))
 
-list_step_only : (B : Class → ℕ → Type 0) (inner : Reader) (rel : Spelled) → Only B (inner None) (rel None) → (before : List Value) → Only B (list_item_at inner before) (ListStep rel before)
+list_step_only : (B : Class → ℕ → Type 0) (inner : Reader) (rel : Spelled) → Only B (inner plain) (rel plain) → (before : List Value) → Only B (list_item_at inner before) (ListStep rel before)
 list_step_only B inner rel h before = record {
   only = λ scope place vs text rest p here.
       let r = h.only scope place p.0 text rest p.2 here in
-      back_as B (inner None) (list_item_at inner before) scope place text rest p.0 vs r
+      back_as B (inner plain) (list_item_at inner before) scope place text rest p.0 vs r
       (rw r.reads (ap (λ (y : List Value). Ok (y, record { place = place + length text; rest = rest })) (sym p.1)));
 }
 
-pub list_only : (B : Class → ℕ → Type 0) (inner : Reader) (rel : Spelled) (tag : tags.Tag) → is_no_tag tag.class tag.number ≡ false → Only B (inner None) (rel None) → Only (OfTag tag) (list_at inner tag) (λ strict levels v text. IsConstructed tag strict levels (ListIs rel strict v) text)
+pub list_only : (B : Class → ℕ → Type 0) (inner : Reader) (rel : Spelled) (tag : tags.Tag) → is_no_tag tag.class tag.number ≡ false → Only B (inner plain) (rel plain) → Only (OfTag tag) (list_at inner tag) (λ strict levels v text. IsConstructed tag strict levels (ListIs rel strict v) text)
 list_only B inner rel tag tagged h = constructed_only (all_items_at (list_item_at inner) list_done []) tag (ItemsAre list_done (ListStep rel) []) tagged (all_only B (list_item_at inner) list_done (ListStep rel) [] (list_step_only B inner rel h))
 
 -- ---- it stays so
@@ -223,11 +223,11 @@ string_grows kind whole canonical tag = record {
       (λ t. (prim_grows (string_rule kind whole) canonical tag).grows scope o s more);
 }
 
-list_step_grows : (inner : Reader) → GrowsRun (inner None) → (before : List Value) → GrowsRun (list_item_at inner before)
+list_step_grows : (inner : Reader) → GrowsRun (inner plain) → (before : List Value) → GrowsRun (list_item_at inner before)
 list_step_grows inner h before = record {
   grows = λ scope o s more.
-      Grows-bind (with_spot more) (with_spot more) (inner None scope o s) (inner None scope (grown_opened more o) (grown more s)) _ _ (h.grows scope o s more) (λ v e. refl);
+      Grows-bind (with_spot more) (with_spot more) (inner plain scope o s) (inner plain scope (grown_opened more o) (grown more s)) _ _ (h.grows scope o s more) (λ v e. refl);
 }
 
-pub list_grows : (inner : Reader) (tag : tags.Tag) → GrowsRun (inner None) → GrowsRun (list_at inner tag)
+pub list_grows : (inner : Reader) (tag : tags.Tag) → GrowsRun (inner plain) → GrowsRun (list_at inner tag)
 list_grows inner tag h = constructed_grows (all_items_at (list_item_at inner) list_done []) tag (all_grow (list_item_at inner) list_done (list_step_grows inner h) [])

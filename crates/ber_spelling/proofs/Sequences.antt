@@ -4,6 +4,7 @@ use Rattle.std.specs.Prelude.{slice_get}
 use Rattle.osi_base.specs.declared.words.Kind.TheVariants.{Missing}
 use Rattle.asn1_types.specs.declared.row.Class.{Class}
 use Rattle.asn1_types.specs.declared.row.Part.{Part}
+use Rattle.asn1_types.specs.Defaults.{may_be_absent, kept}
 use Rattle.asn1_types.specs.Value.{Value, parts, chosen}
 use Rattle.asn1_types.specs.ValueView.{parts_of}
 use Rattle.ber_spelling.specs.declared.fault.ReadFault.TheVariants as faults
@@ -11,8 +12,8 @@ use Rattle.ber_spelling.specs.declared.spot.Scope.{Scope}
 use Rattle.ber_spelling.specs.Octets.{AreOctets}
 use Rattle.ber_spelling.specs.Reading.{Spot, Opened, Ahead, ended, begun, Reading, ◌>>=◌}
 use Rattle.ber_spelling.specs.Fields.{look_at}
-use Rattle.ber_spelling.specs.Rules.{Reader, last_of, is_part, place_of, present_at, part_at, parts_at, choice_at}
-use Rattle.ber_spelling.specs.Spelling.{Spelled, PartsAre, SequenceIs, ChoiceIs}
+use Rattle.ber_spelling.specs.Rules.{Reader, last_of, is_part, place_of, present_at, part_at, parts_at, choice_at, Guise, bare, plain}
+use Rattle.ber_spelling.specs.Spelling.{Spelled, PartIs, PartsAre, SequenceIs, ChoiceIs}
 use Rattle.ber_spelling.proofs.Identifiers.{IsIn, Taken, bind_ok, chosen_ok, ok_is, done}
 use Rattle.ber_spelling.proofs.Ends.{closing, Closes, EndFound, BeginFound, AheadFound, look_found}
 use Rattle.ber_spelling.proofs.Steady.{ReadAs, Found, taken_octets, taken_then}
@@ -33,7 +34,7 @@ pub record PartsAs (rel : ℕ → Spelled) (ps : List Part) (scope : Scope) (pla
   pub closes : Closes scope (place + length contents)
   pub is_in : IsIn scope to.place
 
-module _ (begins : Begins) (inner : ℕ → Reader) (rel : ℕ → Spelled) (h : (n : ℕ) → Found (inner n None) (rel n None)) where
+module _ (begins : Begins) (inner : ℕ → Reader) (rel : ℕ → Spelled) (h : (n : ℕ) (t : Guise) → Found (inner n t) (rel n t)) where
   no_more : (scope : Scope) (place : ℕ) (rest : List ℕ) (a : Ahead) (vs : List (Option Value)) (to : Spot) → AheadFound scope place rest a → parts_at begins inner scope a [] ≡ Ok (vs, to) → PartsAs rel [] scope place rest vs to
   unfolding parts_at
   no_more scope place rest a vs to f e =
@@ -53,46 +54,52 @@ module _ (begins : Begins) (inner : ℕ → Reader) (rel : ℕ → Spelled) (h :
   is_begun p (ended place after) e = absurd cc
   is_begun p (begun o s) e = (o, s, refl)
 
+  -- one part, and those behind it
+  put_first : (p : Part) (ps : List Part) (strict : Bool) (levels : ℕ) (o : Option Value) (os : List (Option Value)) (first others : List ℕ)
+      → PartIs (rel p.inner.0) strict levels p o first → PartsAre rel strict levels ps (parts_of os) others → PartsAre rel strict levels (p ∷ ps) (parts_of (o ∷ os)) (first ++ others)
+  put_first p ps strict levels None os first others x y = (first, others, refl, x, y)
+  put_first p ps strict levels (Some v) os first others x y = (first, others, refl, x, y)
+
   -- a part that is there, and those behind it
   present_found : (p : Part) (ps : List Part) (scope : Scope) (place : ℕ) (rest : List ℕ) (a next : Ahead) (o : Option Value) (vs : List (Option Value)) (to : Spot) → AreOctets rest → IsIn scope place → AheadFound scope place rest a
-      → is_part begins p a ≡ true → present_at (inner p.inner.0) scope a ≡ Ok (o, next)
+      → is_part begins p a ≡ true → present_at (inner p.inner.0) p scope a ≡ Ok (o, next)
       → ((mid : Spot) → AreOctets mid.rest → IsIn scope mid.place → look_at scope mid.place mid.rest ≡ Ok next → PartsAs rel ps scope mid.place mid.rest vs to)
       → PartsAs rel (p ∷ ps) scope place rest (o ∷ vs) to
   present_found p ps scope place rest a next o vs to are here f t e others =
       let g = is_begun p a t in
       let bf : BeginFound scope place rest g.0 g.1 = subst (AheadFound scope place rest) g.2 f in
-      let read : present_at (inner p.inner.0) scope (begun g.0 g.1) ≡ Ok (o, next) = ap (present_at (inner p.inner.0) scope) (sym g.2) ∙ e in
-      let b1 = bind_ok (inner p.inner.0 None scope g.0 g.1) (λ v. look_at scope v.1.place v.1.rest >>= λ a. Ok (Some v.0, a)) (o, next) read in
+      let read : present_at (inner p.inner.0) p scope (begun g.0 g.1) ≡ Ok (o, next) = ap (present_at (inner p.inner.0) p scope) (sym g.2) ∙ e in
+      let b1 = bind_ok (inner p.inner.0 (bare p.default) scope g.0 g.1) (λ v. look_at scope v.1.place v.1.rest >>= λ a. Ok (kept p v.0, a)) (o, next) read in
       let v : Value = b1.0.0 in
       let mid : Spot = b1.0.1 in
-      let b2 = bind_ok (look_at scope mid.place mid.rest) (λ a. Ok (Some v, a)) (o, next) b1.2 in
-      let same = ok_is {A = Option Value × Ahead} (Some v, b2.0) (o, next) b2.2 in
-      let o-is : Some v ≡ o = ap (λ (x : Option Value × Ahead). x.0) same in
+      let b2 = bind_ok (look_at scope mid.place mid.rest) (λ a. Ok (kept p v, a)) (o, next) b1.2 in
+      let same = ok_is {A = Option Value × Ahead} (kept p v, b2.0) (o, next) b2.2 in
+      let o-is : kept p v ≡ o = ap (λ (x : Option Value × Ahead). x.0) same in
       let next-is : b2.0 ≡ next = ap (λ (x : Option Value × Ahead). x.1) same in
-      let r = (h p.inner.0).found scope place rest g.0 g.1 v mid are bf.opens b1.1 in
+      let r = (h p.inner.0 (bare p.default)).found scope place rest g.0 g.1 v mid are bf.opens b1.1 in
       let ih = others mid (taken_octets place rest r.text mid r.taken are) r.is_in (b2.1 ∙ ap (λ (x : Ahead). Ok x) next-is) in
       subst (λ (y : Option Value). PartsAs rel (p ∷ ps) scope place rest (y ∷ vs) to) o-is (record {
         contents = r.text ++ ih.contents;
         taken = subst (λ (y : List ℕ). Taken place rest y to) (sym (append_assoc r.text ih.contents (closing scope.marked))) (taken_then place rest r.text (ih.contents ++ closing scope.marked) mid to r.taken ih.taken);
-        spelled = (r.text, ih.contents, refl, r.spelled, ih.spelled);
+        spelled = put_first p ps scope.strict scope.levels (kept p v) vs r.text ih.contents (inr (v, refl, r.spelled)) ih.spelled;
         closes = subst (Closes scope) (omega (arith, r.taken.onward, length-append r.text ih.contents)) ih.closes;
         is_in = ih.is_in;
       })
 
   -- a part that is left out
   absent_found : (p : Part) (ps : List Part) (scope : Scope) (place : ℕ) (rest : List ℕ) (a next : Ahead) (o : Option Value) (vs : List (Option Value)) (to : Spot)
-      → cond {A = Reading (Option Value × Ahead)} p.optional (Ok (None, a)) (Err (faults.NotSpelled (place_of a) Missing)) ≡ Ok (o, next)
+      → cond {A = Reading (Option Value × Ahead)} (may_be_absent p) (Ok (None, a)) (Err (faults.NotSpelled (place_of a) Missing)) ≡ Ok (o, next)
       → (next ≡ a → PartsAs rel ps scope place rest vs to)
       → PartsAs rel (p ∷ ps) scope place rest (o ∷ vs) to
   absent_found p ps scope place rest a next o vs to e others =
-      elim (chosen_ok {A = Option Value × Ahead} p.optional (Ok (None, a)) (Err (faults.NotSpelled (place_of a) Missing)) (o, next) e) [
+      elim (chosen_ok {A = Option Value × Ahead} (may_be_absent p) (Ok (None, a)) (Err (faults.NotSpelled (place_of a) Missing)) (o, next) e) [
         | inl t ↦
             let same = ok_is {A = Option Value × Ahead} (None, a) (o, next) t.1 in
             let ih = others (ap (λ (x : Option Value × Ahead). x.1) (sym same)) in
             subst (λ (y : Option Value × Ahead). PartsAs rel (p ∷ ps) scope place rest (y.0 ∷ vs) to) same (record {
               contents = ih.contents;
               taken = ih.taken;
-              spelled = (t.0, ih.spelled);
+              spelled = ([], ih.contents, refl, inl (t.0, refl, refl), ih.spelled);
               closes = ih.closes;
               is_in = ih.is_in;
             })
@@ -109,7 +116,7 @@ module _ (begins : Begins) (inner : ℕ → Reader) (rel : ℕ → Spelled) (h :
       let c = bind_ok (parts_at begins inner scope next ps) _ (vs, to) b.2 in
       let same = ok_is {A = List (Option Value) × Spot} (b.0.0 ∷ c.0.0, c.0.1) (vs, to) c.2 in
       subst (λ (y : List (Option Value) × Spot). PartsAs rel (p ∷ ps) scope place rest y.0 y.1) same
-      (elim (chosen_ok (is_part begins p a) (present_at (inner p.inner.0) scope a) _ b.0 b.1) [
+      (elim (chosen_ok (is_part begins p a) (present_at (inner p.inner.0) p scope a) _ b.0 b.1) [
         | inl t ↦ present_found p ps scope place rest a next b.0.0 c.0.0 c.0.1 are here (look_found scope place rest a here look) t.0 t.1
             (λ mid o i l. parts_found ps scope mid.place mid.rest next c.0.0 c.0.1 o i l c.1)
         | inr t ↦ absent_found p ps scope place rest a next b.0.0 c.0.0 c.0.1 t.1
@@ -141,9 +148,9 @@ module _ (begins : Begins) (inner : ℕ → Reader) (rel : ℕ → Spelled) (h :
     found = λ scope place rest o s v to are opens e.
         elim (chosen_ok (begins p.inner.0 o.class o.number) _ _ (v, to) e) [
           | inl t ↦
-              let b = bind_ok (inner p.inner.0 None scope o s) (λ x. Ok (chosen which x.0, x.1)) (v, to) t.1 in
+              let b = bind_ok (inner p.inner.0 plain scope o s) (λ x. Ok (chosen which x.0, x.1)) (v, to) t.1 in
               let same = ok_is {A = Value × Spot} (chosen which b.0.0, b.0.1) (v, to) b.2 in
-              let r = (h p.inner.0).found scope place rest o s b.0.0 b.0.1 are opens b.1 in
+              let r = (h p.inner.0 plain).found scope place rest o s b.0.0 b.0.1 are opens b.1 in
               subst (λ (y : Value × Spot). ReadAs (ChoiceIs rel all) scope place rest y.0 y.1) same (record {
                 text = r.text;
                 taken = r.taken;

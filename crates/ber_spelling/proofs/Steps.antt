@@ -1,5 +1,5 @@
 -- Steps of reading that stop.
-use Rattle.std.proofs.Common.{◌≡◌, ℕ, ◌+◌, List, [], ◌∷◌, refl, subst}
+use Rattle.std.proofs.Common.{◌≡◌, ℕ, ◌+◌, ◌<◌, List, [], ◌∷◌, length, refl, subst, arith}
 use Rattle.ber_spelling.specs.declared.fault.ReadFault.{ReadFault}
 use Rattle.ber_spelling.specs.declared.fault.ReadFault.TheVariants as faults
 use Rattle.ber_spelling.specs.declared.spot.Scope.{Scope}
@@ -17,11 +17,9 @@ Fails-bind faults.NoMemory read f h = tt
 pub Fails-same : {B : Type 0} (e : ReadFault) (a b : Reading B) → a ≡ b → Fails e a → Fails e b
 Fails-same {B} e a b same h = subst (λ (r : Reading B). Fails e r) same h
 
-pub digits_cut : (e : ReadFault) (scope : Scope) (place number from until : ℕ) (digits : List ℕ) → until ≡ from + 1 → Fails e (within scope place until) → Fails e (digits_at scope place number from digits)
+pub digits_cut : (e : ReadFault) (scope : Scope) (place number from until : ℕ) (digits : List ℕ) → 0 < length digits → until ≡ from + 1 → Fails e (within scope place until) → Fails e (digits_at scope place number from digits)
 unfolding digits_at
-digits_cut e scope place number from until [] same h =
-    let g : Fails e (within scope place (from + 1)) = rw (← same) h in
-    Fails-bind e (within scope place (from + 1)) _ g
-digits_cut e scope place number from until (d ∷ ds) same h =
+digits_cut e scope place number from until [] some same h = absurd (omega arith)
+digits_cut e scope place number from until (d ∷ ds) some same h =
     let g : Fails e (within scope place (from + 1)) = rw (← same) h in
     Fails-bind e (within scope place (from + 1)) _ g

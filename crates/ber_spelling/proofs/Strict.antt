@@ -5,7 +5,7 @@ use Rattle.osi_base.specs.declared.words.Kind.TheVariants.{Tag, Length, Form}
 use Rattle.ber_spelling.specs.declared.fault.ReadFault.TheVariants as faults
 use Rattle.ber_spelling.specs.declared.spot.Scope.{Scope}
 use Rattle.ber_spelling.specs.Reading.{Spot, Reading, ◌>>=◌, refuse, is_past, within}
-use Rattle.ber_spelling.specs.Fields.{capped, digits_at, is_lax, high_at, identifier_at, number_from, announced_at, long_at, is_end, lacking, definite_at, extent_at, contents_at, begin_at, second_zero_at, mark_at, look_at}
+use Rattle.ber_spelling.specs.Fields.{capped, digits_at, is_lax, high_at, identifier_at, number_from, announced_at, long_at, is_end, lacking, sure_reach, definite_at, extent_at, contents_at, begin_at, second_zero_at, mark_at, look_at}
 
 -- the scope of BER
 abbrev pub lax : Scope → Scope
@@ -89,8 +89,8 @@ announced_lax scope place count minimal from rest = Formal-same same (within sco
 long_lax : (scope : Scope) (place size : ℕ) (rest : List ℕ) → Formal same (long_at scope place size rest) (long_at (lax scope) place size rest)
 unfolding long_at within
 long_lax scope place size rest =
+    Formal-cond same (ltb (length rest) size) _ _ _ _ (λ t. Formal-same same (within scope place (sure_reach scope.end (place + 1 + size) (place + 1 + length rest))) _ _ (λ u. refl)) (λ t.
     Formal-same same (within scope place (place + 1 + size)) _ _ (λ u.
-    Formal-cond same (ltb (length rest) size) _ _ _ _ (λ t. refl) (λ t.
     Formal-cond same (nat_lt 8 size) _ _ _ _ (λ t. inr refl) (λ t. announced_lax scope place (number_from 0 (take size rest)) _ (place + 1 + size) (drop size rest))))
 
 lacking_lax : (A : Type 0) (scope : Scope) (place : ℕ) → Formal {A = A} same (lacking scope place) (lacking (lax scope) place)
@@ -138,7 +138,7 @@ unfolding within
 mark_lax scope place [] = refl
 mark_lax scope place (first ∷ rest) =
     Formal-cond same (nat_eq first 0) _ _ _ _
-    (λ t. Formal-cond same (is_past scope.end (place + 2)) _ _ _ _ (λ t. Formal-same same (within scope place (place + 2)) _ _ (λ u. refl)) (λ t. zero_lax scope place (first ∷ rest) rest))
+    (λ t. Formal-cond same (is_past scope.end (place + 2)) _ _ _ _ (λ t. Formal-same same (within scope place (place + 2)) _ _ (λ u. refl)) (λ t. Formal-same same (within scope place (place + 1)) _ _ (λ u. zero_lax scope place (first ∷ rest) rest)))
     (λ t. begin_lax scope place (first ∷ rest))
 
 pub look_lax : (scope : Scope) (place : ℕ) (rest : List ℕ) → Formal same (look_at scope place rest) (look_at (lax scope) place rest)

@@ -1,12 +1,14 @@
 -- Reading values of rows strictly is reading them, or a fault of form.
-use Rattle.std.proofs.Common.{◌≡◌, ◌⊎◌, ℕ, zero, suc, Bool, true, false, not, ◌&&◌, cond, List, [], ◌∷◌, length, take, ◌-◌, Option, Some, None, Ok, Err, refl, sym, ap, ◌∙◌, inl, inr}
+use Rattle.std.proofs.Common.{◌≡◌, ◌⊎◌, ℕ, zero, suc, Bool, true, false, not, ◌&&◌, cond, List, [], ◌∷◌, length, take, ◌-◌, Option, Some, None, Ok, Err, refl, sym, ap, ◌∙◌, inl, inr, subst}
 use Rattle.std.specs.Prelude.{slice_get, nat_lt}
+use Rattle.osi_base.specs.declared.words.Kind.{Kind}
 use Rattle.osi_base.specs.declared.words.Kind.TheVariants.{Tag, Missing, Extra, Length, Content, Form}
 use Rattle.asn1_types.specs.declared.row.Class.{Class}
 use Rattle.asn1_types.specs.declared.row.Class.TheVariants.{Universal}
 use Rattle.asn1_types.specs.declared.row.Part.{Part}
 use Rattle.asn1_types.specs.declared.row.TypeRow.{TypeRow}
 use Rattle.asn1_types.specs.declared.row.TypeRow.TheVariants as row
+use Rattle.asn1_types.specs.Defaults.{may_be_absent}
 use Rattle.asn1_types.specs.Rows.{of_row, along, begins, text_number, is_no_tag}
 use Rattle.asn1_types.specs.Value.{Value}
 use Rattle.asn1_types.specs.ValueView.{parts_of}
@@ -20,7 +22,7 @@ use Rattle.ber_spelling.specs.declared.spot.Gathered.{Gathered}
 use Rattle.ber_spelling.specs.Order.{rank, Filled}
 use Rattle.ber_spelling.specs.Reading.{Spot, Opened, Ahead, ended, begun, Reading, ◌>>=◌, refuse}
 use Rattle.ber_spelling.specs.Fields.{extent_at, contents_at, look_at}
-use Rattle.ber_spelling.specs.Rules.{Reader, is_opened, expect_at, judge, form_at, primitive_at, always, boolean_rule, is_strict_boolean, integer_rule, enumerated_rule, null_rule, object_id_rule, constructed_at, finish, item_at, items_at, all_items_at, segment_tag, nothing, segment_rule, segment_at, segmented_at, string_rule, string_at, whole_octets, whole_text, whole_bits, has_zero_bits, list_item_at, list_done, list_at, first_of, last_of, open_at, close_at, explicit_at, is_part, present_at, part_at, parts_at, sequence_at, nothing_filled, set_done, alone, cut_behind, late_kind, late_at, ordered_at, is_free, fill_at, slot_at, choice_at, anew, sized_at, marked_at, whole_at, any_at, dead, or_explicit, read_by, tag_or}
+use Rattle.ber_spelling.specs.Rules.{Reader, is_opened, expect_at, judge, form_at, primitive_at, always, boolean_rule, is_strict_boolean, integer_rule, enumerated_rule, null_rule, object_id_rule, constructed_at, finish, item_at, items_at, all_items_at, segment_tag, nothing, segment_rule, segment_at, segmented_at, string_rule, string_at, whole_octets, whole_text, whole_bits, has_zero_bits, list_item_at, list_done, list_at, first_of, last_of, open_at, close_at, explicit_at, is_part, present_at, part_at, parts_at, sequence_at, nothing_filled, set_done, alone, cut_behind, late_kind, late_at, ordered_at, is_free, fill_at, slot_at, choice_at, anew, sized_at, marked_at, whole_at, any_at, dead, or_explicit, read_by, tag_or, Guise, bare, plain, under, is_other}
 use Rattle.ber_spelling.proofs.Steady.{Run, RunOf}
 use Rattle.ber_spelling.proofs.Constructed.{BodyOf}
 use Rattle.ber_spelling.proofs.Strict.{lax, Formal, same, Formal-bind, Formal-same, Formal-cond, Formal-asked, Formal-refl, lax_extent, extent_lax, contents_lax, look_lax, NoTag, NoTag-bind, extent_no_tag, contents_no_tag}
@@ -106,10 +108,10 @@ string_formal kind whole canonical tag = record {
       Formal-cond same o.constructed _ _ _ _ (λ t. (segmented_formal kind whole tag).each scope o s) (λ t. (prim_formal (string_rule kind whole) canonical tag).each scope o s);
 }
 
-list_step_formal : (inner : Reader) → FormalRun (inner None) → (before : List Value) → FormalRun (list_item_at inner before)
-list_step_formal inner h before = record { each = λ scope o s. Formal-bind same same (inner None scope o s) (inner None (lax scope) o s) _ _ (h.each scope o s) (λ v. refl) }
+list_step_formal : (inner : Reader) → FormalRun (inner plain) → (before : List Value) → FormalRun (list_item_at inner before)
+list_step_formal inner h before = record { each = λ scope o s. Formal-bind same same (inner plain scope o s) (inner plain (lax scope) o s) _ _ (h.each scope o s) (λ v. refl) }
 
-list_formal : (inner : Reader) (tag : tags.Tag) → FormalRun (inner None) → FormalRun (list_at inner tag)
+list_formal : (inner : Reader) (tag : tags.Tag) → FormalRun (inner plain) → FormalRun (list_at inner tag)
 list_formal inner tag h = constructed_formal (all_items_at (list_item_at inner) list_done []) tag (all_formal (list_item_at inner) list_done (λ a. list_step_formal inner h a) [])
 
 -- ---- explicit tags
@@ -217,19 +219,19 @@ module _ (begins : ℕ → Class → ℕ → Bool) (inner : ℕ → Reader) wher
     each = λ scope o s. begins_tagged tag true o s _ _ (NoTag-bind (extent_at scope s.place []) _ (extent_no_tag scope s.place));
   }
 
-  choice_alone : ((n : ℕ) → TagAlone (inner n None)) → (which : ℕ) (ps : List Part) → TagAlone (choice_at begins inner which ps)
+  choice_alone : ((n : ℕ) (t : Guise) → TagAlone (inner n t)) → (which : ℕ) (ps : List Part) → TagAlone (choice_at begins inner which ps)
   unfolding choice_at
   choice_alone h which [] = record { each = λ scope o s. inr (λ other. refl) }
   choice_alone h which (p ∷ ps) = record {
-    each = λ scope o s. by_tag (begins p.inner.0 o.class o.number) scope o s ((h p.inner.0).each scope o s) ((choice_alone h (suc which) ps).each scope o s);
+    each = λ scope o s. by_tag (begins p.inner.0 o.class o.number) scope o s ((h p.inner.0 plain).each scope o s) ((choice_alone h (suc which) ps).each scope o s);
   }
     where
       by_tag : (b : Bool) (scope : Scope) (o : Opened) (s : Spot)
-          → NoTag (inner p.inner.0 None scope (alone o s) (cut_behind s)) ⊎ ((other : Scope) → inner p.inner.0 None other o s ≡ refuse o.start.place Tag)
+          → NoTag (inner p.inner.0 plain scope (alone o s) (cut_behind s)) ⊎ ((other : Scope) → inner p.inner.0 plain other o s ≡ refuse o.start.place Tag)
           → NoTag (choice_at begins inner (suc which) ps scope (alone o s) (cut_behind s)) ⊎ ((other : Scope) → choice_at begins inner (suc which) ps other o s ≡ refuse o.start.place Tag)
-          → NoTag (cond b (inner p.inner.0 None scope (alone o s) (cut_behind s) >>= λ v. Ok (Rattle.asn1_types.specs.Value.chosen which v.0, v.1)) (choice_at begins inner (suc which) ps scope (alone o s) (cut_behind s)))
-          ⊎ ((other : Scope) → cond b (inner p.inner.0 None other o s >>= λ v. Ok (Rattle.asn1_types.specs.Value.chosen which v.0, v.1)) (choice_at begins inner (suc which) ps other o s) ≡ refuse o.start.place Tag)
-      by_tag true scope o s (inl free) q = inl (NoTag-bind (inner p.inner.0 None scope (alone o s) (cut_behind s)) _ free)
+          → NoTag (cond b (inner p.inner.0 plain scope (alone o s) (cut_behind s) >>= λ v. Ok (Rattle.asn1_types.specs.Value.chosen which v.0, v.1)) (choice_at begins inner (suc which) ps scope (alone o s) (cut_behind s)))
+          ⊎ ((other : Scope) → cond b (inner p.inner.0 plain other o s >>= λ v. Ok (Rattle.asn1_types.specs.Value.chosen which v.0, v.1)) (choice_at begins inner (suc which) ps other o s) ≡ refuse o.start.place Tag)
+      by_tag true scope o s (inl free) q = inl (NoTag-bind (inner p.inner.0 plain scope (alone o s) (cut_behind s)) _ free)
       by_tag true scope o s (inr is) q = inr (λ other. rw (is other) refl)
       by_tag false scope o s p q = q
 
@@ -252,7 +254,7 @@ any_alone = record { each = λ scope o s. by_tag (is_no_tag o.class o.number) sc
 
 -- ---- a part out of order: its identifier is at fault as in BER, or the form is
 
-late_two : (r : Reading (Value × Spot)) → (late_kind r ≡ Tag) ⊎ (late_kind r ≡ Form)
+late_two : (r : Reading (Value × Spot)) → (late_kind Form r ≡ Tag) ⊎ (late_kind Form r ≡ Form)
 late_two (Ok x) = inr refl
 late_two (Err (faults.NotSpelled place Tag)) = inl refl
 late_two (Err (faults.NotSpelled place Missing)) = inr refl
@@ -265,39 +267,54 @@ late_two (Err (faults.TooDeep place)) = inr refl
 late_two (Err (faults.TooLong place)) = inr refl
 late_two (Err faults.NoMemory) = inr refl
 
-late_free : (r : Reading (Value × Spot)) → NoTag r → late_kind r ≡ Form
-late_free (Ok x) h = absurd h
-late_free (Err (faults.NotSpelled place Tag)) h = absurd (h refl)
-late_free (Err (faults.NotSpelled place Missing)) h = refl
-late_free (Err (faults.NotSpelled place Extra)) h = refl
-late_free (Err (faults.NotSpelled place Length)) h = refl
-late_free (Err (faults.NotSpelled place Content)) h = refl
-late_free (Err (faults.NotSpelled place Form)) h = refl
-late_free (Err faults.Short) h = refl
-late_free (Err (faults.TooDeep place)) h = refl
-late_free (Err (faults.TooLong place)) h = refl
-late_free (Err faults.NoMemory) h = refl
+late_free : (kind : Kind) (r : Reading (Value × Spot)) → NoTag r → late_kind kind r ≡ kind
+late_free kind (Ok x) h = absurd h
+late_free kind (Err (faults.NotSpelled place Tag)) h = absurd (h refl)
+late_free kind (Err (faults.NotSpelled place Missing)) h = refl
+late_free kind (Err (faults.NotSpelled place Extra)) h = refl
+late_free kind (Err (faults.NotSpelled place Length)) h = refl
+late_free kind (Err (faults.NotSpelled place Content)) h = refl
+late_free kind (Err (faults.NotSpelled place Form)) h = refl
+late_free kind (Err faults.Short) h = refl
+late_free kind (Err (faults.TooDeep place)) h = refl
+late_free kind (Err (faults.TooLong place)) h = refl
+late_free kind (Err faults.NoMemory) h = refl
 
-late_formal : (inner : Reader) → TagAlone (inner None) → (scope : Scope) (o : Opened) (s : Spot) → Formal same (late_at inner scope o s) (inner None (lax scope) o s)
-late_formal inner h scope o s =
+late_formal : (run : Run) → TagAlone run → (scope : Scope) (o : Opened) (s : Spot) → Formal same (late_at Form run scope o s) (run (lax scope) o s)
+late_formal run h scope o s =
     elim (h.each scope o s) [
-      | inl free ↦ inl (late_free (inner None scope (alone o s) (cut_behind s)) free)
-      | inr is ↦ elim (late_two (inner None scope (alone o s) (cut_behind s))) [ inl tag ↦ inr (is (lax scope) ∙ ap (refuse o.start.place) (sym tag)) | inr form ↦ inl form ]
+      | inl free ↦ inl (late_free Form (run scope (alone o s) (cut_behind s)) free)
+      | inr is ↦ elim (late_two (run scope (alone o s) (cut_behind s))) [ inl tag ↦ inr (is (lax scope) ∙ ap (refuse o.start.place) (sym tag)) | inr form ↦ inl form ]
     ]
+
+-- ---- a part that comes twice: its identifier is at fault in DER as in BER, or it is one too many
+
+alone_same : (run : Run) → TagAlone run → (scope : Scope) (o : Opened) (s : Spot) → late_kind Extra (run scope (alone o s) (cut_behind s)) ≡ late_kind Extra (run (lax scope) (alone o s) (cut_behind s))
+alone_same run h scope o s =
+    elim (h.each scope (alone o s) (cut_behind s)) [
+      | inl free ↦ elim (h.each (lax scope) (alone o s) (cut_behind s)) [
+        | inl too ↦ late_free Extra (run scope (alone o s) (cut_behind s)) free ∙ sym (late_free Extra (run (lax scope) (alone o s) (cut_behind s)) too)
+        | inr is ↦ absurd (subst (λ (r : Reading (Value × Spot)). NoTag r) (is scope) free refl)
+      ]
+      | inr is ↦ ap (late_kind Extra) (is scope ∙ sym (is (lax scope)))
+    ]
+
+twice_formal : (run : Run) → TagAlone run → (scope : Scope) (o : Opened) (s : Spot) → Formal {A = Filled × Spot} same (late_at Extra run scope o s) (late_at Extra run (lax scope) o s)
+twice_formal run h scope o s = inr (ap (refuse o.start.place) (sym (alone_same run h scope o s)))
 
 -- ---- SEQUENCE, SET and CHOICE
 
-module _ (begins : ℕ → Class → ℕ → Bool) (inner : ℕ → Reader) (h : (n : ℕ) → FormalRun (inner n None)) where
-  present_formal : (n : ℕ) (scope : Scope) (a : Ahead) → Formal same (present_at (inner n) scope a) (present_at (inner n) (lax scope) a)
-  present_formal n scope (ended place after) = inr refl
-  present_formal n scope (begun o s) =
-      Formal-bind same same (inner n None scope o s) (inner n None (lax scope) o s) _ _ ((h n).each scope o s) (λ v.
+module _ (begins : ℕ → Class → ℕ → Bool) (inner : ℕ → Reader) (h : (n : ℕ) (t : Guise) → FormalRun (inner n t)) where
+  present_formal : (p : Part) (scope : Scope) (a : Ahead) → Formal same (present_at (inner p.inner.0) p scope a) (present_at (inner p.inner.0) p (lax scope) a)
+  present_formal p scope (ended place after) = inr refl
+  present_formal p scope (begun o s) =
+      Formal-bind same same (inner p.inner.0 (bare p.default) scope o s) (inner p.inner.0 (bare p.default) (lax scope) o s) _ _ ((h p.inner.0 (bare p.default)).each scope o s) (λ v.
       Formal-bind same same (look_at scope v.1.place v.1.rest) (look_at (lax scope) v.1.place v.1.rest) _ _ (look_lax scope v.1.place v.1.rest) (λ a. refl))
 
   part_formal : (p : Part) (scope : Scope) (a : Ahead) → Formal same (part_at begins (inner p.inner.0) p scope a) (part_at begins (inner p.inner.0) p (lax scope) a)
   unfolding part_at
   part_formal p scope a =
-      Formal-cond same (is_part begins p a) _ _ _ _ (λ t. present_formal p.inner.0 scope a) (λ t. Formal-cond same p.optional _ _ _ _ (λ t. refl) (λ t. inr refl))
+      Formal-cond same (is_part begins p a) _ _ _ _ (λ t. present_formal p scope a) (λ t. Formal-cond same (may_be_absent p) _ _ _ _ (λ t. refl) (λ t. inr refl))
 
   parts_formal : (ps : List Part) (scope : Scope) (a : Ahead) → Formal same (parts_at begins inner scope a ps) (parts_at begins inner (lax scope) a ps)
   unfolding parts_at
@@ -326,24 +343,24 @@ module _ (begins : ℕ → Class → ℕ → Bool) (inner : ℕ → Reader) (h :
   choice_formal which (p ∷ ps) = record {
     each = λ scope o s.
         Formal-cond same (begins p.inner.0 o.class o.number) _ _ _ _
-        (λ t. Formal-bind same same (inner p.inner.0 None scope o s) (inner p.inner.0 None (lax scope) o s) _ _ ((h p.inner.0).each scope o s) (λ v. refl))
+        (λ t. Formal-bind same same (inner p.inner.0 plain scope o s) (inner p.inner.0 plain (lax scope) o s) _ _ ((h p.inner.0 plain).each scope o s) (λ v. refl))
         (λ t. (choice_formal (suc which) ps).each scope o s);
   }
 
-  module _ (l : (n : ℕ) → TagAlone (inner n None)) where
-    ordered_formal : (n least : ℕ) → FormalRun (ordered_at (inner n) least)
-    ordered_formal n least = record { each = λ scope o s. by_order (scope.strict && nat_lt (rank o.class o.number) least) scope o s }
+  module _ (l : (n : ℕ) (t : Guise) → TagAlone (inner n t)) where
+    ordered_formal : (n : ℕ) (t : Guise) (least : ℕ) → FormalRun (ordered_at (inner n t) least)
+    ordered_formal n t least = record { each = λ scope o s. by_order (scope.strict && nat_lt (rank o.class o.number) least) scope o s }
       where
-        by_order : (b : Bool) (scope : Scope) (o : Opened) (s : Spot) → Formal same (cond b (late_at (inner n) scope o s) (inner n None scope o s)) (inner n None (lax scope) o s)
-        by_order true scope o s = late_formal (inner n) (l n) scope o s
-        by_order false scope o s = (h n).each scope o s
+        by_order : (b : Bool) (scope : Scope) (o : Opened) (s : Spot) → Formal same (cond b (late_at Form (inner n t) scope o s) (inner n t scope o s)) (inner n t (lax scope) o s)
+        by_order true scope o s = late_formal (inner n t) (l n t) scope o s
+        by_order false scope o s = (h n t).each scope o s
 
-    fill_formal : (n which : ℕ) (before : Filled) → FormalRun (fill_at (inner n) which before)
-    fill_formal n which before = record {
+    fill_formal : (n : ℕ) (t : Guise) (which : ℕ) (before : Filled) → FormalRun (fill_at (inner n t) which before)
+    fill_formal n t which before = record {
       each = λ scope o s.
           Formal-cond same (is_free (slice_get before.found which)) _ _ _ _
-          (λ t. Formal-bind same same (ordered_at (inner n) before.least scope o s) (ordered_at (inner n) before.least (lax scope) o s) _ _ ((ordered_formal n before.least).each scope o s) (λ v. refl))
-          (λ t. inr refl);
+          (λ u. Formal-bind same same (ordered_at (inner n t) before.least scope o s) (ordered_at (inner n t) before.least (lax scope) o s) _ _ ((ordered_formal n t before.least).each scope o s) (λ v. refl))
+          (λ u. twice_formal (inner n t) (l n t) scope o s);
     }
 
     slot_formal : (which : ℕ) (ps : List Part) (before : Filled) → FormalRun (slot_at begins inner which ps before)
@@ -352,7 +369,7 @@ module _ (begins : ℕ → Class → ℕ → Bool) (inner : ℕ → Reader) (h :
     slot_formal which (p ∷ ps) before = record {
       each = λ scope o s.
           Formal-cond same (begins p.inner.0 o.class o.number) _ _ _ _
-          (λ t. (fill_formal p.inner.0 which before).each scope o s)
+          (λ t. (fill_formal p.inner.0 (bare p.default) which before).each scope o s)
           (λ t. (slot_formal (suc which) ps before).each scope o s);
     }
 
@@ -375,45 +392,45 @@ any_formal = record {
 -- ---- each row
 
 pub record Strict (reader : Reader) : Type 0 where
-  pub formal : (t : Option tags.Tag) → FormalRun (reader t)
-  pub tag_alone : (t : Option tags.Tag) → TagAlone (reader t)
+  pub formal : (t : Guise) → FormalRun (reader t)
+  pub tag_alone : (t : Guise) → TagAlone (reader t)
 
 dead_strict : Strict dead
 dead_strict = record { formal = λ t. record { each = λ scope o s. inr refl }; tag_alone = λ t. record { each = λ scope o s. inr (λ other. refl) } }
 
-row_formal : (begins : ℕ → Class → ℕ → Bool) (inner : ℕ → Reader) → ((n : ℕ) → Strict (inner n)) → (r : TypeRow) (t : Option tags.Tag) → FormalRun (read_by begins inner r t)
-row_formal begins inner h row.Boolean t = prim_formal boolean_rule is_strict_boolean (tag_or t Universal 1)
-row_formal begins inner h (row.Integer low high) t = prim_formal (integer_rule low high) always (tag_or t Universal 2)
-row_formal begins inner h (row.Enumerated items) t = prim_formal (enumerated_rule items) always (tag_or t Universal 10)
-row_formal begins inner h row.Null t = prim_formal null_rule always (tag_or t Universal 5)
-row_formal begins inner h (row.OctetString most) t = string_formal OfOctets (whole_octets most) always (tag_or t Universal 4)
-row_formal begins inner h row.BitString t = string_formal OfBits whole_bits has_zero_bits (tag_or t Universal 3)
-row_formal begins inner h row.ObjectId t = prim_formal object_id_rule always (tag_or t Universal 6)
-row_formal begins inner h (row.Text kind) t = string_formal OfOctets (whole_text kind) always (tag_or t Universal (text_number kind))
-row_formal begins inner h (row.Sequence ps) t = sequence_formal begins inner (λ n. (h n).formal None) ps (tag_or t Universal 16)
-row_formal begins inner h (row.Set ps) t = constructed_formal (all_items_at (slot_at begins inner 0 ps) (set_done ps) (nothing_filled ps)) (tag_or t Universal 17) (set_formal begins inner (λ n. (h n).formal None) (λ n. (h n).tag_alone None) ps)
-row_formal begins inner h (row.SequenceOf of) t = list_formal (inner of.0) (tag_or t Universal 16) ((h of.0).formal None)
-row_formal begins inner h (row.Choice ps) t = or_formal (choice_at begins inner 0 ps) t (choice_formal begins inner (λ n. (h n).formal None) 0 ps)
-row_formal begins inner h (row.Tagged class number true of) t = explicit_formal (inner of.0 None) (tag_or t class number) ((h of.0).formal None)
-row_formal begins inner h (row.Tagged class number false of) t = (h of.0).formal (Some (tag_or t class number))
-row_formal begins inner h row.Any t = or_formal any_at t any_formal
+row_formal : (begins : ℕ → Class → ℕ → Bool) (inner : ℕ → Reader) → ((n : ℕ) → Strict (inner n)) → (r : TypeRow) (t : Guise) → FormalRun (read_by begins inner r t)
+row_formal begins inner h row.Boolean t = prim_formal boolean_rule (λ c. is_strict_boolean c && is_other t.default (boolean_rule c)) (tag_or t.tag Universal 1)
+row_formal begins inner h (row.Integer low high) t = prim_formal (integer_rule low high) (λ c. is_other t.default (integer_rule low high c)) (tag_or t.tag Universal 2)
+row_formal begins inner h (row.Enumerated items) t = prim_formal (enumerated_rule items) (λ c. is_other t.default (enumerated_rule items c)) (tag_or t.tag Universal 10)
+row_formal begins inner h row.Null t = prim_formal null_rule always (tag_or t.tag Universal 5)
+row_formal begins inner h (row.OctetString most) t = string_formal OfOctets (whole_octets most) always (tag_or t.tag Universal 4)
+row_formal begins inner h row.BitString t = string_formal OfBits whole_bits has_zero_bits (tag_or t.tag Universal 3)
+row_formal begins inner h row.ObjectId t = prim_formal object_id_rule always (tag_or t.tag Universal 6)
+row_formal begins inner h (row.Text kind) t = string_formal OfOctets (whole_text kind) always (tag_or t.tag Universal (text_number kind))
+row_formal begins inner h (row.Sequence ps) t = sequence_formal begins inner (λ n t. (h n).formal t) ps (tag_or t.tag Universal 16)
+row_formal begins inner h (row.Set ps) t = constructed_formal (all_items_at (slot_at begins inner 0 ps) (set_done ps) (nothing_filled ps)) (tag_or t.tag Universal 17) (set_formal begins inner (λ n t. (h n).formal t) (λ n t. (h n).tag_alone t) ps)
+row_formal begins inner h (row.SequenceOf of) t = list_formal (inner of.0) (tag_or t.tag Universal 16) ((h of.0).formal plain)
+row_formal begins inner h (row.Choice ps) t = or_formal (choice_at begins inner 0 ps) t.tag (choice_formal begins inner (λ n t. (h n).formal t) 0 ps)
+row_formal begins inner h (row.Tagged class number true of) t = explicit_formal (inner of.0 (bare t.default)) (tag_or t.tag class number) ((h of.0).formal (bare t.default))
+row_formal begins inner h (row.Tagged class number false of) t = (h of.0).formal (under (Some (tag_or t.tag class number)) t.default)
+row_formal begins inner h row.Any t = or_formal any_at t.tag any_formal
 
-row_alone : (begins : ℕ → Class → ℕ → Bool) (inner : ℕ → Reader) → ((n : ℕ) → Strict (inner n)) → (r : TypeRow) (t : Option tags.Tag) → TagAlone (read_by begins inner r t)
-row_alone begins inner h row.Boolean t = prim_alone boolean_rule is_strict_boolean (tag_or t Universal 1)
-row_alone begins inner h (row.Integer low high) t = prim_alone (integer_rule low high) always (tag_or t Universal 2)
-row_alone begins inner h (row.Enumerated items) t = prim_alone (enumerated_rule items) always (tag_or t Universal 10)
-row_alone begins inner h row.Null t = prim_alone null_rule always (tag_or t Universal 5)
-row_alone begins inner h (row.OctetString most) t = string_alone OfOctets (whole_octets most) always (tag_or t Universal 4)
-row_alone begins inner h row.BitString t = string_alone OfBits whole_bits has_zero_bits (tag_or t Universal 3)
-row_alone begins inner h row.ObjectId t = prim_alone object_id_rule always (tag_or t Universal 6)
-row_alone begins inner h (row.Text kind) t = string_alone OfOctets (whole_text kind) always (tag_or t Universal (text_number kind))
-row_alone begins inner h (row.Sequence ps) t = sequence_alone begins inner ps (tag_or t Universal 16)
-row_alone begins inner h (row.Set ps) t = constructed_alone (all_items_at (slot_at begins inner 0 ps) (set_done ps) (nothing_filled ps)) (tag_or t Universal 17)
-row_alone begins inner h (row.SequenceOf of) t = constructed_alone (all_items_at (list_item_at (inner of.0)) list_done []) (tag_or t Universal 16)
-row_alone begins inner h (row.Choice ps) t = or_alone (choice_at begins inner 0 ps) t (choice_alone begins inner (λ n. (h n).tag_alone None) 0 ps)
-row_alone begins inner h (row.Tagged class number true of) t = explicit_alone (inner of.0 None) (tag_or t class number)
-row_alone begins inner h (row.Tagged class number false of) t = (h of.0).tag_alone (Some (tag_or t class number))
-row_alone begins inner h row.Any t = or_alone any_at t any_alone
+row_alone : (begins : ℕ → Class → ℕ → Bool) (inner : ℕ → Reader) → ((n : ℕ) → Strict (inner n)) → (r : TypeRow) (t : Guise) → TagAlone (read_by begins inner r t)
+row_alone begins inner h row.Boolean t = prim_alone boolean_rule (λ c. is_strict_boolean c && is_other t.default (boolean_rule c)) (tag_or t.tag Universal 1)
+row_alone begins inner h (row.Integer low high) t = prim_alone (integer_rule low high) (λ c. is_other t.default (integer_rule low high c)) (tag_or t.tag Universal 2)
+row_alone begins inner h (row.Enumerated items) t = prim_alone (enumerated_rule items) (λ c. is_other t.default (enumerated_rule items c)) (tag_or t.tag Universal 10)
+row_alone begins inner h row.Null t = prim_alone null_rule always (tag_or t.tag Universal 5)
+row_alone begins inner h (row.OctetString most) t = string_alone OfOctets (whole_octets most) always (tag_or t.tag Universal 4)
+row_alone begins inner h row.BitString t = string_alone OfBits whole_bits has_zero_bits (tag_or t.tag Universal 3)
+row_alone begins inner h row.ObjectId t = prim_alone object_id_rule always (tag_or t.tag Universal 6)
+row_alone begins inner h (row.Text kind) t = string_alone OfOctets (whole_text kind) always (tag_or t.tag Universal (text_number kind))
+row_alone begins inner h (row.Sequence ps) t = sequence_alone begins inner ps (tag_or t.tag Universal 16)
+row_alone begins inner h (row.Set ps) t = constructed_alone (all_items_at (slot_at begins inner 0 ps) (set_done ps) (nothing_filled ps)) (tag_or t.tag Universal 17)
+row_alone begins inner h (row.SequenceOf of) t = constructed_alone (all_items_at (list_item_at (inner of.0)) list_done []) (tag_or t.tag Universal 16)
+row_alone begins inner h (row.Choice ps) t = or_alone (choice_at begins inner 0 ps) t.tag (choice_alone begins inner (λ n t. (h n).tag_alone t) 0 ps)
+row_alone begins inner h (row.Tagged class number true of) t = explicit_alone (inner of.0 (bare t.default)) (tag_or t.tag class number)
+row_alone begins inner h (row.Tagged class number false of) t = (h of.0).tag_alone (under (Some (tag_or t.tag class number)) t.default)
+row_alone begins inner h row.Any t = or_alone any_at t.tag any_alone
 
 of_strict : (begins : ℕ → Class → ℕ → Bool) (inner : ℕ → Reader) → ((n : ℕ) → Strict (inner n)) → (o : Option TypeRow) → Strict (λ t. of_row dead (read_by begins inner) o t)
 of_strict begins inner h None = dead_strict

@@ -16,8 +16,8 @@ use Rattle.ber_spelling.specs.declared.spot.Tag as tags
 use Rattle.ber_spelling.specs.declared.spot.StringKind.TheVariants.{OfOctets, OfBits}
 use Rattle.ber_spelling.specs.declared.spot.Gathered.{Gathered}
 use Rattle.ber_spelling.specs.Order.{Filled}
-use Rattle.ber_spelling.specs.Rules.{tag_or, always, segment_tag, nothing, segment_rule, string_rule, and_whole, cleared, whole_octets, whole_text, whole_bits, has_zero_bits, is_filled, set_done}
-use Rattle.ber_spelling.specs.Spelling.{IsDefinite, IsPrimitive, IsConstructed, Spelled, StringIs, SequenceIs, SetIs, ListIs, ChoiceIs, RowIs, RowOr, SpelledBy, AnyIs}
+use Rattle.ber_spelling.specs.Rules.{tag_or, always, segment_tag, nothing, segment_rule, string_rule, and_whole, cleared, whole_octets, whole_text, whole_bits, has_zero_bits, is_filled, set_done, Guise, bare, plain, under, settled}
+use Rattle.ber_spelling.specs.Spelling.{IsDefinite, IsPrimitive, IsConstructed, Spelled, StringIs, SequenceIs, SetIs, ListIs, ChoiceIs, RowIs, RowOr, SpelledBy, AnyIs, OrExplicit}
 use Rattle.ber_spelling.specs.Laws.{HoldsUnused, UnusedBitsAreZeros, UnusedBitsAreCleared}
 use Rattle.ber_spelling.proofs.Around.{Before, before_of, around, around_one, around_are, primitive_as}
 use Rattle.ber_spelling.proofs.LastOctets.{Outcome, Last, Holds, with_last, holds_outcome, segment_outcome}
@@ -184,7 +184,7 @@ module _ (canonical : List ℕ → Bool) (tag : tags.Tag) (levels : ℕ) where
 -- ---- rows
 
 record HaveZeros (rel : Spelled) : Type 0 where
-  is : (t : Option tags.Tag) (levels : ℕ) (os : List ℕ) (unused : ℕ) (s : List ℕ) → rel t false levels (bits os unused) s → AreZeros os unused (rel t false levels (bits os unused)) s
+  is : (t : Guise) (levels : ℕ) (os : List ℕ) (unused : ℕ) (s : List ℕ) → rel t false levels (bits os unused) s → AreZeros os unused (rel t false levels (bits os unused)) s
 
 -- no other row has such values
 no_octets : (most : ℕ) (g : Gathered) (os : List ℕ) (unused : ℕ) → whole_octets most g ≡ Some (bits os unused) → zero ≡ suc zero
@@ -204,7 +204,7 @@ no_text kind g os unused e = by (is_text kind g.octets) e
 no_set : (ps : List Part) (f : Filled) (os : List ℕ) (unused : ℕ) → set_done ps f ≡ Some (bits os unused) → zero ≡ suc zero
 no_set ps f os unused e = by (is_filled ps f.found) e
   where
-    by : (b : Bool) → cond b (Some (parts (parts_of f.found))) None ≡ Some (bits os unused) → zero ≡ suc zero
+    by : (b : Bool) → cond b (Some (parts (parts_of (settled ps f.found)))) None ≡ Some (bits os unused) → zero ≡ suc zero
     by true e = absurd cc
     by false e = absurd cc
 
@@ -238,31 +238,37 @@ explicit_zeros P tag levels os unused s each p =
     )
 
 module _ (rel : ℕ → Spelled) (h : (m : ℕ) → HaveZeros (rel m)) where
-  row_zeros : (r : TypeRow) (t : Option tags.Tag) (levels : ℕ) (os : List ℕ) (unused : ℕ) (s : List ℕ) → RowIs rel r t false levels (bits os unused) s → AreZeros os unused (RowIs rel r t false levels (bits os unused)) s
-  row_zeros row.Boolean t levels os unused s p = absurd p.form.holds
-  row_zeros (row.Integer low high) t levels os unused s p = absurd p.form.holds
-  row_zeros (row.Enumerated items) t levels os unused s p = absurd p.form.holds
+  choice_zeros : (ps : List Part) (t : Option tags.Tag) (levels : ℕ) (os : List ℕ) (unused : ℕ) (s : List ℕ) → OrExplicit (ChoiceIs rel ps) t false levels (bits os unused) s → AreZeros os unused (OrExplicit (ChoiceIs rel ps) t false levels (bits os unused)) s
+  choice_zeros ps None levels os unused s p = absurd p
+  choice_zeros ps (Some t) levels os unused s p = absurd (around t false levels (λ l c. ChoiceIs rel ps false l (bits os unused) c) s p).holds
+
+  any_zeros : (t : Option tags.Tag) (levels : ℕ) (os : List ℕ) (unused : ℕ) (s : List ℕ) → OrExplicit (λ strict. AnyIs) t false levels (bits os unused) s → AreZeros os unused (OrExplicit (λ strict. AnyIs) t false levels (bits os unused)) s
+  any_zeros None levels os unused s p = absurd p
+  any_zeros (Some t) levels os unused s p = absurd (around t false levels (λ l c. AnyIs l (bits os unused) c) s p).holds
+
+  row_zeros : (r : TypeRow) (t : Guise) (levels : ℕ) (os : List ℕ) (unused : ℕ) (s : List ℕ) → RowIs rel r t false levels (bits os unused) s → AreZeros os unused (RowIs rel r t false levels (bits os unused)) s
+  row_zeros row.Boolean t levels os unused s p = absurd p.form.holds.0
+  row_zeros (row.Integer low high) t levels os unused s p = absurd p.form.holds.0
+  row_zeros (row.Enumerated items) t levels os unused s p = absurd p.form.holds.0
   row_zeros row.Null t levels os unused s p = absurd p.form.holds
-  row_zeros (row.OctetString most) t levels os unused s p = absurd (let no = no_string (whole_octets most) (no_octets most) (tag_or t Universal 4) levels os unused s p in cc)
-  row_zeros row.BitString t levels os unused s p = bits_zeros has_zero_bits (tag_or t Universal 3) levels os unused s p
+  row_zeros (row.OctetString most) t levels os unused s p = absurd (let no = no_string (whole_octets most) (no_octets most) (tag_or t.tag Universal 4) levels os unused s p in cc)
+  row_zeros row.BitString t levels os unused s p = bits_zeros has_zero_bits (tag_or t.tag Universal 3) levels os unused s p
   row_zeros row.ObjectId t levels os unused s p = absurd p.form.holds
-  row_zeros (row.Text kind) t levels os unused s p = absurd (let no = no_string (whole_text kind) (no_text kind) (tag_or t Universal (text_number kind)) levels os unused s p in cc)
-  row_zeros (row.Sequence ps) t levels os unused s p = absurd (around (tag_or t Universal 16) false levels (SequenceIs rel false ps (bits os unused)) s p).holds
+  row_zeros (row.Text kind) t levels os unused s p = absurd (let no = no_string (whole_text kind) (no_text kind) (tag_or t.tag Universal (text_number kind)) levels os unused s p in cc)
+  row_zeros (row.Sequence ps) t levels os unused s p = absurd (around (tag_or t.tag Universal 16) false levels (SequenceIs rel false ps (bits os unused)) s p).holds
   row_zeros (row.Set ps) t levels os unused s p =
-      let x = (around (tag_or t Universal 17) false levels (SetIs rel ps false (bits os unused)) s p).holds in
+      let x = (around (tag_or t.tag Universal 17) false levels (SetIs rel ps false (bits os unused)) s p).holds in
       absurd (let no = no_set ps x.0 os unused x.1 in cc)
   row_zeros (row.SequenceOf of) t levels os unused s p =
-      let x = (around (tag_or t Universal 16) false levels (ListIs (rel of.0) false (bits os unused)) s p).holds in
+      let x = (around (tag_or t.tag Universal 16) false levels (ListIs (rel of.0) false (bits os unused)) s p).holds in
       absurd (let no = x.1 in cc)
-  row_zeros (row.Choice ps) None levels os unused s p = absurd p
-  row_zeros (row.Choice ps) (Some t) levels os unused s p = absurd (around t false levels (λ l c. ChoiceIs rel ps false l (bits os unused) c) s p).holds
+  row_zeros (row.Choice ps) t levels os unused s p = choice_zeros ps t.tag levels os unused s p
   row_zeros (row.Tagged class number true of) t levels os unused s p =
-      explicit_zeros (λ l v c. rel of.0 None false l v c) (tag_or t class number) levels os unused s (λ l c q. (h of.0).is None l os unused c q) p
-  row_zeros (row.Tagged class number false of) t levels os unused s p = (h of.0).is (Some (tag_or t class number)) levels os unused s p
-  row_zeros row.Any None levels os unused s p = absurd p
-  row_zeros row.Any (Some t) levels os unused s p = absurd (around t false levels (λ l c. AnyIs l (bits os unused) c) s p).holds
+      explicit_zeros (λ l v c. rel of.0 (bare t.default) false l v c) (tag_or t.tag class number) levels os unused s (λ l c q. (h of.0).is (bare t.default) l os unused c q) p
+  row_zeros (row.Tagged class number false of) t levels os unused s p = (h of.0).is (under (Some (tag_or t.tag class number)) t.default) levels os unused s p
+  row_zeros row.Any t levels os unused s p = any_zeros t.tag levels os unused s p
 
-  of_zeros : (o : Option TypeRow) (t : Option tags.Tag) (levels : ℕ) (os : List ℕ) (unused : ℕ) (s : List ℕ) → RowOr (RowIs rel) o t false levels (bits os unused) s → AreZeros os unused (RowOr (RowIs rel) o t false levels (bits os unused)) s
+  of_zeros : (o : Option TypeRow) (t : Guise) (levels : ℕ) (os : List ℕ) (unused : ℕ) (s : List ℕ) → RowOr (RowIs rel) o t false levels (bits os unused) s → AreZeros os unused (RowOr (RowIs rel) o t false levels (bits os unused)) s
   of_zeros None t levels os unused s p = absurd p
   of_zeros (Some r) t levels os unused s p = row_zeros r t levels os unused s p
 
@@ -275,7 +281,7 @@ same_size front back x y limit s is le = omega (arith, ap length is, length-appe
 
 pub unused_bits_are_zeros : UnusedBitsAreZeros
 unused_bits_are_zeros rows n limit unused os spelled p =
-    let z = (along_zeros rows (length rows) n).is None 32 os unused spelled p.by in (
+    let z = (along_zeros rows (length rows) n).is plain 32 os unused spelled p.by in (
       z.0,
       λ lt.
           let h = z.1 lt in
@@ -295,7 +301,7 @@ ruled : (unused o : ℕ) (os : List ℕ) → unused < 8 → string_rule OfBits w
 ruled unused o os lt = rw (lt-ltb unused 8 lt, lt-leb 8 unused lt) refl
 
 by_row : (rows : List TypeRow) (turns n unused o : ℕ) (os s : List ℕ) → slice_get rows n ≡ Some row.BitString → unused < 8
-    → IsDefinite false false (segment_tag OfBits) (λ c. c ≡ unused ∷ o ∷ os) s → SpelledBy rows (suc turns) n None false 32 (bits (cleared unused (o ∷ os)) unused) s
+    → IsDefinite false false (segment_tag OfBits) (λ c. c ≡ unused ∷ o ∷ os) s → SpelledBy rows (suc turns) n plain false 32 (bits (cleared unused (o ∷ os)) unused) s
 by_row rows turns n unused o os s at lt d =
     let P : List ℕ → Type 0 = λ contents. (string_rule OfBits whole_bits contents ≡ Some (bits (cleared unused (o ∷ os)) unused)) × (false ≡ true → has_zero_bits contents ≡ true) in
     let one : IsPrimitive (segment_tag OfBits) false 32 (λ c. c ≡ unused ∷ o ∷ os) s = record { level = omega arith; small = omega arith; form = d } in

@@ -18,9 +18,9 @@ use Rattle.ber_spelling.specs.declared.spot.Tag as tags
 use Rattle.ber_spelling.specs.Fields.{is_constructed, number_from}
 use Rattle.ber_spelling.specs.declared.spot.StringKind.{StringKind}
 use Rattle.ber_spelling.specs.declared.spot.StringKind.TheVariants.{OfOctets, OfBits}
-use Rattle.ber_spelling.specs.Rules.{tag_or, string_rule, whole_octets, whole_bits, whole_text, has_zero_bits, always}
+use Rattle.ber_spelling.specs.Rules.{tag_or, string_rule, whole_octets, whole_bits, whole_text, has_zero_bits, always, Guise, bare, plain, under}
 use Rattle.ber_spelling.specs.declared.spot.Gathered.{Gathered}
-use Rattle.ber_spelling.specs.Spelling.{AreDigits, low_bits, IsBase128, leading, IsIdentifier, IsLength, IsDefinite, IsIndefinite, IsPrimitive, IsConstructed, AreAll, IsWhole, Spelled, SequenceIs, SetIs, ChoiceIs, BooleanIs, IntegerIs, EnumeratedIs, StringIs, ListIs, NullIs, ObjectIdIs, AnyIs, RowIs, RowOr, SpelledBy, Spells, OrExplicit}
+use Rattle.ber_spelling.specs.Spelling.{AreDigits, low_bits, IsBase128, leading, IsIdentifier, IsLength, IsDefinite, IsIndefinite, IsPrimitive, IsConstructed, AreAll, IsWhole, Spelled, SequenceIs, SetIs, ChoiceIs, BooleanIs, IntegerIs, EnumeratedIs, StringIs, ListIs, NullIs, ObjectIdIs, AnyIs, RowIs, RowOr, SpelledBy, Spells, OrExplicit, IsOther}
 use Rattle.ber_spelling.specs.Writing.{written}
 use Rattle.ber_spelling.proofs.Identifiers.{low_at, form_at}
 use Rattle.ber_spelling.proofs.Steady.{Head, head_some, regroup, regroup_marked}
@@ -210,7 +210,7 @@ string_whole kind whole canonical tag levels v s t (inr p) = absurd (let no : tr
 
 -- what holds of a row: each DER spelling under a tag that isn't UNIVERSAL 0 is whole
 record AreWhole (rel : Spelled) : Type 0 where
-  is : (t : Option tags.Tag) (levels : ℕ) (v : Value) (s : List ℕ) → OkTag t → rel t true levels v s → IsWhole 32 s
+  is : (t : Guise) (levels : ℕ) (v : Value) (s : List ℕ) → OkTag t.tag → rel t true levels v s → IsWhole 32 s
 
 any_whole : (levels : ℕ) (v : Value) (s : List ℕ) → AnyIs levels v s → IsWhole 32 s
 any_whole levels (any os) s p = subst (IsWhole 32) (sym p.1) p.2
@@ -231,7 +231,7 @@ explicit_whole P each (Some t) levels v s ok p = constructed_whole t levels (λ 
 
 module _ (rel : ℕ → Spelled) (each : (m : ℕ) → AreWhole (rel m)) where
   chosen_whole : (ps : List Part) (levels : ℕ) (v : Value) (s : List ℕ) → ChoiceIs rel ps true levels v s → IsWhole 32 s
-  chosen_whole ps levels (chosen which v) s p = (each p.0.inner.0).is None levels v s tt p.2
+  chosen_whole ps levels (chosen which v) s p = (each p.0.inner.0).is plain levels v s tt p.2
   chosen_whole ps levels (boolean x) s p = absurd p
   chosen_whole ps levels (integer x) s p = absurd p
   chosen_whole ps levels null s p = absurd p
@@ -243,36 +243,36 @@ module _ (rel : ℕ → Spelled) (each : (m : ℕ) → AreWhole (rel m)) where
   chosen_whole ps levels (list x) s p = absurd p
   chosen_whole ps levels (any x) s p = absurd p
 
-  row_whole : (r : TypeRow) → is_bad_range r ≡ false → (t : Option tags.Tag) (levels : ℕ) (v : Value) (s : List ℕ) → OkTag t → RowIs rel r t true levels v s → IsWhole 32 s
-  row_whole row.Boolean good t levels v s ok p = primitive_whole (tag_or t Universal 1) levels (BooleanIs true v) s (tag_ok t Universal 1 ok refl) p
-  row_whole (row.Integer low high) good t levels v s ok p = primitive_whole (tag_or t Universal 2) levels (IntegerIs low high v) s (tag_ok t Universal 2 ok refl) p
-  row_whole (row.Enumerated items) good t levels v s ok p = primitive_whole (tag_or t Universal 10) levels (EnumeratedIs items v) s (tag_ok t Universal 10 ok refl) p
-  row_whole row.Null good t levels v s ok p = primitive_whole (tag_or t Universal 5) levels (NullIs v) s (tag_ok t Universal 5 ok refl) p
-  row_whole (row.OctetString most) good t levels v s ok p = string_whole OfOctets (whole_octets most) always (tag_or t Universal 4) levels v s (tag_ok t Universal 4 ok refl) p
-  row_whole row.BitString good t levels v s ok p = string_whole OfBits whole_bits has_zero_bits (tag_or t Universal 3) levels v s (tag_ok t Universal 3 ok refl) p
-  row_whole row.ObjectId good t levels v s ok p = primitive_whole (tag_or t Universal 6) levels (ObjectIdIs v) s (tag_ok t Universal 6 ok refl) p
-  row_whole (row.Text kind) good t levels v s ok p = string_whole OfOctets (whole_text kind) always (tag_or t Universal (text_number kind)) levels v s (tag_ok t Universal (text_number kind) ok (text_tag kind)) p
-  row_whole (row.Sequence ps) good t levels v s ok p = constructed_whole (tag_or t Universal 16) levels (SequenceIs rel true ps v) s (tag_ok t Universal 16 ok refl) p
-  row_whole (row.Set ps) good t levels v s ok p = constructed_whole (tag_or t Universal 17) levels (SetIs rel ps true v) s (tag_ok t Universal 17 ok refl) p
-  row_whole (row.SequenceOf of) good t levels v s ok p = constructed_whole (tag_or t Universal 16) levels (ListIs (rel of.0) true v) s (tag_ok t Universal 16 ok refl) p
-  row_whole (row.Choice ps) good t levels v s ok p = explicit_whole (ChoiceIs rel ps) (chosen_whole ps) t levels v s ok p
+  row_whole : (r : TypeRow) → is_bad_range r ≡ false → (t : Guise) (levels : ℕ) (v : Value) (s : List ℕ) → OkTag t.tag → RowIs rel r t true levels v s → IsWhole 32 s
+  row_whole row.Boolean good t levels v s ok p = primitive_whole (tag_or t.tag Universal 1) levels (λ c. BooleanIs true v c × IsOther t.default true v) s (tag_ok t.tag Universal 1 ok refl) p
+  row_whole (row.Integer low high) good t levels v s ok p = primitive_whole (tag_or t.tag Universal 2) levels (λ c. IntegerIs low high v c × IsOther t.default true v) s (tag_ok t.tag Universal 2 ok refl) p
+  row_whole (row.Enumerated items) good t levels v s ok p = primitive_whole (tag_or t.tag Universal 10) levels (λ c. EnumeratedIs items v c × IsOther t.default true v) s (tag_ok t.tag Universal 10 ok refl) p
+  row_whole row.Null good t levels v s ok p = primitive_whole (tag_or t.tag Universal 5) levels (NullIs v) s (tag_ok t.tag Universal 5 ok refl) p
+  row_whole (row.OctetString most) good t levels v s ok p = string_whole OfOctets (whole_octets most) always (tag_or t.tag Universal 4) levels v s (tag_ok t.tag Universal 4 ok refl) p
+  row_whole row.BitString good t levels v s ok p = string_whole OfBits whole_bits has_zero_bits (tag_or t.tag Universal 3) levels v s (tag_ok t.tag Universal 3 ok refl) p
+  row_whole row.ObjectId good t levels v s ok p = primitive_whole (tag_or t.tag Universal 6) levels (ObjectIdIs v) s (tag_ok t.tag Universal 6 ok refl) p
+  row_whole (row.Text kind) good t levels v s ok p = string_whole OfOctets (whole_text kind) always (tag_or t.tag Universal (text_number kind)) levels v s (tag_ok t.tag Universal (text_number kind) ok (text_tag kind)) p
+  row_whole (row.Sequence ps) good t levels v s ok p = constructed_whole (tag_or t.tag Universal 16) levels (SequenceIs rel true ps v) s (tag_ok t.tag Universal 16 ok refl) p
+  row_whole (row.Set ps) good t levels v s ok p = constructed_whole (tag_or t.tag Universal 17) levels (SetIs rel ps true v) s (tag_ok t.tag Universal 17 ok refl) p
+  row_whole (row.SequenceOf of) good t levels v s ok p = constructed_whole (tag_or t.tag Universal 16) levels (ListIs (rel of.0) true v) s (tag_ok t.tag Universal 16 ok refl) p
+  row_whole (row.Choice ps) good t levels v s ok p = explicit_whole (ChoiceIs rel ps) (chosen_whole ps) t.tag levels v s ok p
   row_whole (row.Tagged class number true of) good t levels v s ok p =
-      constructed_whole (tag_or t class number) levels (λ l contents. rel of.0 None true l v contents) s (tag_ok t class number ok good) p
-  row_whole (row.Tagged class number false of) good t levels v s ok p = (each of.0).is (Some (tag_or t class number)) levels v s (tag_ok t class number ok good) p
-  row_whole row.Any good t levels v s ok p = explicit_whole (λ strict. AnyIs) any_whole t levels v s ok p
+      constructed_whole (tag_or t.tag class number) levels (λ l contents. rel of.0 (bare t.default) true l v contents) s (tag_ok t.tag class number ok good) p
+  row_whole (row.Tagged class number false of) good t levels v s ok p = (each of.0).is (under (Some (tag_or t.tag class number)) t.default) levels v s (tag_ok t.tag class number ok good) p
+  row_whole row.Any good t levels v s ok p = explicit_whole (λ strict. AnyIs) any_whole t.tag levels v s ok p
 
 module _ (rows : List TypeRow) (sound : IsSound rows) where
   all_whole : (turns n : ℕ) → AreWhole (SpelledBy rows turns n)
   all_whole zero n = record { is = λ t levels v s ok p. absurd p }
   all_whole (suc turns) n = record { is = by_row (slice_get rows n) refl (λ m. all_whole turns m) }
     where
-      by_row : (o : Option TypeRow) → slice_get rows n ≡ o → ((m : ℕ) → AreWhole (SpelledBy rows turns m)) → (t : Option tags.Tag) (levels : ℕ) (v : Value) (s : List ℕ) → OkTag t → RowOr (RowIs (SpelledBy rows turns)) o t true levels v s → IsWhole 32 s
+      by_row : (o : Option TypeRow) → slice_get rows n ≡ o → ((m : ℕ) → AreWhole (SpelledBy rows turns m)) → (t : Guise) (levels : ℕ) (v : Value) (s : List ℕ) → OkTag t.tag → RowOr (RowIs (SpelledBy rows turns)) o t true levels v s → IsWhole 32 s
       by_row None g h t levels v s ok p = absurd p
       by_row (Some r) g h t levels v s ok p = row_whole (SpelledBy rows turns) h r (sound_row rows sound n r g).range t levels v s ok p
 
   -- what DER spells is one whole value
   pub der_whole : (n limit : ℕ) (v : Value) (s : List ℕ) → Spells rows n true limit v s → IsWhole 32 s
-  der_whole n limit v s p = (all_whole (length rows) n).is None 32 v s tt p.by
+  der_whole n limit v s p = (all_whole (length rows) n).is plain 32 v s tt p.by
 
   pub der_is_whole : (n limit : ℕ) (v : Value) (s : List ℕ) → Spells rows n true limit v s → is_whole s ≡ true
   der_is_whole n limit v s p = is_whole_of s (der_whole n limit v s p)

@@ -7,7 +7,7 @@ use Rattle.ber_spelling.specs.declared.fault.ReadFault.{ReadFault}
 use Rattle.ber_spelling.specs.declared.fault.ReadFault.TheVariants as faults
 use Rattle.ber_spelling.specs.Reading.{Spot, Reading}
 use Rattle.ber_spelling.specs.Fields.{identifier_at}
-use Rattle.ber_spelling.specs.Rules.{reads, value_at, read_at, outermost}
+use Rattle.ber_spelling.specs.Rules.{reads, value_at, read_at, outermost, plain}
 use Rattle.ber_spelling.specs.Spelling.{SpelledBy, Spells}
 use Rattle.ber_spelling.specs.Laws.{ReadIsSpelled, SpelledIsRead, NoneBegins, ReadStays, FaultStays, BeginningIsShort, BeginsSpelled, OneHolds, OneOfThree}
 use Rattle.ber_spelling.proofs.Identifiers.{IsIn, bind_ok, ok_is}
@@ -24,13 +24,13 @@ read_is_spelled rows n strict limit bytes v used are e =
     let w : Value = b1.0.0 in
     let to : Spot = b1.0.1 in
     let b2 = bind_ok (identifier_at scope 0 bytes) _ (w, to) b1.1 in
-    let r = (along_found rows (length rows) n None).found scope 0 bytes b2.0.0 b2.0.1 w to are b2.1 b2.2 in
+    let r = (along_found rows (length rows) n plain).found scope 0 bytes b2.0.0 b2.0.1 w to are b2.1 b2.2 in
     let same = ok_is {A = Value × ℕ} (w, to.place) (v, used) b1.2 in
     let len : to.place ≡ length r.text = omega (arith, r.taken.onward) in
     let front : take to.place bytes ≡ r.text = ap (take to.place) r.taken.parts ∙ take_at r.text to.rest to.place (sym len) in
     let whole : to.place ≤ length bytes = omega (arith, ap length r.taken.parts, length-append r.text to.rest) in
     subst (λ (y : Value × ℕ). (y.1 ≤ length bytes) × Spells rows n strict limit y.0 (take y.1 bytes)) same
-    (whole, record { by = subst (λ (x : List ℕ). SpelledBy rows (length rows) n None strict 32 w x) (sym front) r.spelled; within = rw front (omega (arith, r.is_in.limit)) })
+    (whole, record { by = subst (λ (x : List ℕ). SpelledBy rows (length rows) n plain strict 32 w x) (sym front) r.spelled; within = rw front (omega (arith, r.is_in.limit)) })
 
 pub spelled_is_read : SpelledIsRead
 unfolding read_at value_at reads
@@ -38,7 +38,7 @@ spelled_is_read rows n strict limit v spelled rest sound p =
     let scope = outermost limit strict in
     let le : 0 + length spelled ≤ limit = omega (arith, p.within) in
     let here : IsIn scope (0 + length spelled) = record { limit = le; end = refl } in
-    let r = (along_only rows sound (length rows) n None tt).only scope 0 v spelled rest p.by here in
+    let r = (along_only rows sound (length rows) n plain tt).only scope 0 v spelled rest p.by here in
     rw (r.opens, r.reads) (let none : 0 + length spelled ≡ length spelled = omega arith in ap (λ (k : ℕ). Ok (v, k)) none)
 
 abbrev done : Value × ℕ → Reading (Value × ℕ)
@@ -62,7 +62,7 @@ read_grows rows n strict limit bytes more =
     let scope = outermost limit strict in
     Grows-bind (with_spot more) (λ x. x) (value_at rows n scope 0 bytes) (value_at rows n scope 0 (bytes ++ more)) _ _
     (Grows-bind (with_opened more) (with_spot more) (identifier_at scope 0 bytes) (identifier_at scope 0 (bytes ++ more)) _ _ (identifier_grows scope 0 bytes more) (λ x e.
-    (along_grows rows (length rows) n None).grows scope x.0 x.1 more)) (λ x e. refl)
+    (along_grows rows (length rows) n plain).grows scope x.0 x.1 more)) (λ x e. refl)
 
 grown_ok : (r s : Reading (Value × ℕ)) (x : Value × ℕ) → Grows (λ x. x) r s → r ≡ Ok x → s ≡ Ok x
 grown_ok r s x g e = let h : Grows (λ x. x) (Ok x) s = subst (λ (t : Reading (Value × ℕ)). Grows (λ x. x) t s) e g in h

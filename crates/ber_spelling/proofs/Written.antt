@@ -20,13 +20,14 @@ use Rattle.asn1_types.specs.Table.{HasShortTag, IsSound, clash, agrees_later, ha
 use Rattle.asn1_types.specs.Value.{Value, boolean, integer, null, octets, bits, object_id, text, parts, list, chosen, any, MaybeValues, no_parts, absent, present, Values, no_values, value}
 use Rattle.asn1_types.specs.ValueView.{values_of}
 use Rattle.asn1_types.specs.Whole.{is_whole}
-use Rattle.asn1_types.specs.Fits.{is_number, has_32_bits, is_octet, is_item, are_bits, is_text, boolean_fits, integer_fits, enumerated_fits, null_fits, octets_fit, bits_fit, text_fits, object_id_fits, values_fit, list_fits, parts_fit, sequence_fits, alternative_fits, choice_fits, any_fits, fits_by, nothing_fits, fits}
+use Rattle.asn1_types.specs.Defaults.{is_item, may_be_absent, is_default, kept}
+use Rattle.asn1_types.specs.Fits.{is_number, has_32_bits, is_octet, are_bits, is_text, boolean_fits, integer_fits, enumerated_fits, null_fits, octets_fit, bits_fit, text_fits, object_id_fits, values_fit, list_fits, parts_fit, sequence_fits, alternative_fits, choice_fits, any_fits, fits_by, nothing_fits, fits}
 use Rattle.asn1_types.proofs.Along.{settled}
 use Rattle.asn1_types.proofs.Sound.{is_down, taken, nesting_cong, nesting_before, sound_row}
 use Rattle.ber_spelling.specs.declared.spot.Tag as tags
 use Rattle.ber_spelling.specs.declared.spot.StringKind.TheVariants.{OfOctets, OfBits}
-use Rattle.ber_spelling.specs.Rules.{tag_or, always, string_rule, whole_octets, whole_text, cleared, whole_bits, has_zero_bits}
-use Rattle.ber_spelling.specs.Spelling.{Spelled, IsPrimitive, IsConstructed, IsWhole, PartsAre, SequenceIs, SetIs, ChoiceIs, Steps, ListStep, ListIs, BooleanIs, EnumeratedIs, IntegerIs, NullIs, ObjectIdIs, AnyIs, RowIs, RowOr, SpelledBy, Spells, OrExplicit, subidentifiers}
+use Rattle.ber_spelling.specs.Rules.{tag_or, always, string_rule, whole_octets, whole_text, cleared, whole_bits, has_zero_bits, bare, plain}
+use Rattle.ber_spelling.specs.Spelling.{Spelled, IsPrimitive, IsConstructed, IsWhole, PartsAre, SequenceIs, SetIs, ChoiceIs, Steps, ListStep, ListIs, BooleanIs, EnumeratedIs, IntegerIs, NullIs, ObjectIdIs, AnyIs, RowIs, RowOr, SpelledBy, Spells, OrExplicit, subidentifiers, IsOther, PartIs}
 use Rattle.ber_spelling.specs.Writing.{Writer, definite, boolean_contents, integer_contents, octets_contents, text_contents, bits_contents, object_id_contents, values_contents, list_contents, parts_contents, sequence_contents, set_parts, alternative_written, choice_written, any_written, under, write_by, nothing_written, writes, written}
 use Rattle.ber_spelling.specs.declared.spot.Scope.{Scope}
 use Rattle.ber_spelling.specs.Order.{front_rank}
@@ -220,7 +221,15 @@ need (Some t) n = suc n
 
 -- what holds at a row: with as many levels as it nests, what is written is spelled so
 record RowWritten (fit : Value → Bool) (write : Writer) (rel : Spelled) (nest : ℕ) : Type 0 where
-  is : (t : Option tags.Tag) (strict : Bool) (levels : ℕ) (v : Value) → OkTag t → need t nest ≤ levels → fit v ≡ true → length (write t v) < Most → rel t strict levels v (write t v)
+  is : (t : Option tags.Tag) (d : Option ℤ) (strict : Bool) (levels : ℕ) (v : Value) → OkTag t → need t nest ≤ levels → fit v ≡ true → IsOther d strict v → length (write t v) < Most → rel (Rattle.ber_spelling.specs.Rules.under t d) strict levels v (write t v)
+
+-- a value of no part is no default
+no_default : (strict : Bool) (v : Value) → IsOther None strict v
+no_default strict v = λ e. refl
+
+not_true : (b : Bool) → not b ≡ true → b ≡ false
+not_true true e = absurd cc
+not_true false e = refl
 
 append_short : (a b : List ℕ) → length (a ++ b) < Most → (length a < Most) × (length b < Most)
 append_short a b lt = let e = length-append a b in (omega arith, omega arith)
@@ -232,17 +241,24 @@ module _ (fit : ℕ → Value → Bool) (write : ℕ → Writer) (rel : ℕ → 
   parts_written levels [] (present v vs) le e short = absurd cc
   parts_written levels (p ∷ ps) no_parts le e short = absurd cc
   parts_written levels (p ∷ ps) (absent vs) le e short =
-      let t = and_parts p.optional (parts_fit fit ps vs) e in
-      (t.0, parts_written levels ps vs (omega arith) t.1 short)
+      let t = and_parts (may_be_absent p) (parts_fit fit ps vs) e in
+      ([], parts_contents write ps vs, refl, inl (t.0, refl, refl), parts_written levels ps vs (omega arith) t.1 short)
   parts_written levels (p ∷ ps) (present v vs) le e short =
-      let t = and_parts (fit p.inner.0 v) (parts_fit fit ps vs) e in
-      let s = append_short (write p.inner.0 None v) (parts_contents write ps vs) short in
-      (write p.inner.0 None v, parts_contents write ps vs, refl, (each p.inner.0).is None strict levels v tt (omega arith) t.0 s.0, parts_written levels ps vs (omega arith) t.1 s.1)
+      let t = and_parts (not (is_default p.default v) && fit p.inner.0 v) (parts_fit fit ps vs) e in
+      let u = and_parts (not (is_default p.default v)) (fit p.inner.0 v) t.0 in
+      let other : is_default p.default v ≡ false = not_true (is_default p.default v) u.0 in
+      let s = append_short (write p.inner.0 None v) (parts_contents write ps vs) short in (
+        write p.inner.0 None v,
+        parts_contents write ps vs,
+        refl,
+        inr (v, ap (λ (b : Bool). cond b None (Some v)) other, (each p.inner.0).is None p.default strict levels v tt (omega arith) u.1 (λ k. other) s.0),
+        parts_written levels ps vs (omega arith) t.1 s.1,
+      )
 
   slot_written : (levels : ℕ) (ps : List Part) (which : ℕ) (v : Value) → greatest nest (rows_of_parts ps) ≤ levels → alternative_fits fit (slice_get ps which) v ≡ true → length (alternative_written write (slice_get ps which) v) < Most
-      → (p : Part) × (slice_get ps which ≡ Some p) × rel p.inner.0 None strict levels v (alternative_written write (slice_get ps which) v)
+      → (p : Part) × (slice_get ps which ≡ Some p) × rel p.inner.0 plain strict levels v (alternative_written write (slice_get ps which) v)
   slot_written levels [] which v le e short = absurd cc
-  slot_written levels (p ∷ ps) zero v le e short = (p, refl, (each p.inner.0).is None strict levels v tt (omega arith) e short)
+  slot_written levels (p ∷ ps) zero v le e short = (p, refl, (each p.inner.0).is None None strict levels v tt (omega arith) e (no_default strict v) short)
   slot_written levels (p ∷ ps) (suc which) v le e short = slot_written levels ps which v (omega arith) e short
 
   abbrev items_in : Values → List Value
@@ -265,7 +281,7 @@ module _ (fit : ℕ → Value → Bool) (write : ℕ → Writer) (rel : ℕ → 
         (
           values_contents (write of) vs,
           refl,
-          (v, refl, (each of).is None strict levels v tt le t.0 s.0),
+          (v, refl, (each of).is None None strict levels v tt le t.0 (no_default strict v) s.0),
           subst (λ (l : List Value). Steps (λ a b text. ListStep (rel of) a strict levels b text) more.0 (before ++ v ∷ []) l (values_contents (write of) vs)) ends more.1,
         ),
       )
@@ -305,13 +321,15 @@ module _ (fit : ℕ → Value → Bool) (write : ℕ → Writer) (rel : ℕ → 
   set_spelled levels [] (present v vs) le e short = absurd cc
   set_spelled levels (p ∷ ps) no_parts le e short = absurd cc
   set_spelled levels (p ∷ ps) (absent vs) le e short =
-      let t = and_parts p.optional (parts_fit fit ps vs) e in
+      let t = and_parts (may_be_absent p) (parts_fit fit ps vs) e in
       (t.0, set_spelled levels ps vs (omega arith) t.1 short)
   set_spelled levels (p ∷ ps) (present v vs) le e short =
-      let t = and_parts (fit p.inner.0 v) (parts_fit fit ps vs) e in
-      ((each p.inner.0).is None strict levels v tt (omega arith) t.0 (first_short write Most p ps v vs short), set_spelled levels ps vs (omega arith) t.1 (rest_short write Most p ps v vs short))
+      let t = and_parts (not (is_default p.default v) && fit p.inner.0 v) (parts_fit fit ps vs) e in
+      let u = and_parts (not (is_default p.default v)) (fit p.inner.0 v) t.0 in
+      let other : is_default p.default v ≡ false = not_true (is_default p.default v) u.0 in
+      ((each p.inner.0).is None p.default strict levels v tt (omega arith) u.1 (λ k. other) (first_short write Most p ps v vs short), set_spelled levels ps vs (omega arith) t.1 (rest_short write Most p ps v vs short), other)
 
-  set_written : (openings : ℕ → List Opening) (levels : ℕ) → ((m : ℕ) (v : Value) (s : List ℕ) → rel m None strict levels v s → Told openings m s) → (ps : List Part) (v : Value) → agrees_later (clash openings) ps ≡ false
+  set_written : (openings : ℕ → List Opening) (levels : ℕ) → ((m : ℕ) (d : Option ℤ) (v : Value) (s : List ℕ) → rel m (bare d) strict levels v s → Told openings m s) → (ps : List Part) (v : Value) → agrees_later (clash openings) ps ≡ false
       → greatest nest (rows_of_parts ps) ≤ levels → sequence_fits (parts_fit fit ps) v ≡ true → length (sequence_contents (set_parts write ps) v) < Most
       → SetIs rel ps strict v levels (sequence_contents (set_parts write ps) v)
   set_written openings levels told ps (parts vs) d le e short =
@@ -375,10 +393,10 @@ nests rows sound n r e =
     subst (λ (k : ℕ). k ≤ 32) (sym (nesting_at rows sound n r e ∙ same)) few
 
 -- a spelling begins with a tag that its row allows
-told_of : (rows : List TypeRow) → IsSound rows → (turns m : ℕ) (strict : Bool) (levels : ℕ) (v : Value) (s : List ℕ) → SpelledBy rows turns m None strict levels v s → Told (openings rows) m s
-told_of rows sound turns m strict levels v s p =
+told_of : (rows : List TypeRow) → IsSound rows → (turns m : ℕ) (d : Option ℤ) (strict : Bool) (levels : ℕ) (v : Value) (s : List ℕ) → SpelledBy rows turns m (bare d) strict levels v s → Told (openings rows) m s
+told_of rows sound turns m d strict levels v s p =
     let scope : Scope = record { levels = levels; limit = length s; end = None; marked = false; strict = strict } in
-    let r = (along_only rows sound turns m None tt).only scope 0 v s [] p (record { limit = omega arith; end = refl }) in
+    let r = (along_only rows sound turns m (bare d) tt).only scope 0 v s [] p (record { limit = omega arith; end = refl }) in
     record {
       class = r.opened.class;
       number = r.opened.number;
@@ -389,9 +407,9 @@ told_of rows sound turns m strict levels v s p =
 
 module _ (whole : (os : List ℕ) → is_whole os ≡ true → IsWhole 32 os) where
   module _ (openings : ℕ → List Opening) (fit : ℕ → Value → Bool) (write : ℕ → Writer) (rel : ℕ → Spelled) (nest : ℕ → ℕ) (each : (m : ℕ) → RowWritten (fit m) (write m) (rel m) (nest m))
-      (told : (m : ℕ) (strict : Bool) (levels : ℕ) (v : Value) (s : List ℕ) → rel m None strict levels v s → Told openings m s)
+      (told : (m : ℕ) (d : Option ℤ) (strict : Bool) (levels : ℕ) (v : Value) (s : List ℕ) → rel m (bare d) strict levels v s → Told openings m s)
     where
-      choice_is : (ps : List Part) (t : Option tags.Tag) (strict : Bool) (levels : ℕ) (v : Value) → OkTag t → need t (1 + greatest nest (rows_of_parts ps)) ≤ levels → fits_by fit (row.Choice ps) v ≡ true → length (write_by write (row.Choice ps) t v) < Most → RowIs rel (row.Choice ps) t strict levels v (write_by write (row.Choice ps) t v)
+      choice_is : (ps : List Part) (t : Option tags.Tag) (strict : Bool) (levels : ℕ) (v : Value) → OkTag t → need t (1 + greatest nest (rows_of_parts ps)) ≤ levels → fits_by fit (row.Choice ps) v ≡ true → length (write_by write (row.Choice ps) t v) < Most → OrExplicit (ChoiceIs rel ps) t strict levels v (write_by write (row.Choice ps) t v)
       choice_is ps None strict levels v ok le e short = chosen_written fit write rel nest each strict levels ps v (omega arith) e short
       choice_is ps (Some t) strict levels v ok le e short =
           let l = lower (greatest nest (rows_of_parts ps)) levels (omega arith) in
@@ -408,63 +426,63 @@ module _ (whole : (os : List ℕ) → is_whole os ≡ true → IsWhole 32 os) wh
       some_level None k levels le = le
       some_level (Some t) k levels le = omega arith
 
-      row_is : (r : TypeRow) → has_clash openings r ≡ false → HasShortTag r → (t : Option tags.Tag) (strict : Bool) (levels : ℕ) (v : Value) → OkTag t → need t (nesting_by nest r) ≤ levels → fits_by fit r v ≡ true → length (write_by write r t v) < Most → RowIs rel r t strict levels v (write_by write r t v)
-      row_is row.Boolean apart small t strict levels v ok le e short =
-          primitive_is strict (tag_or t Universal 1) levels (BooleanIs strict v) (boolean_contents v) (tag_ok t Universal 1 ok (omega arith)) (omega (arith, some_level t 0 levels le)) short (boolean_written strict v e)
-      row_is (row.Integer low high) apart small t strict levels v ok le e short =
-          primitive_is strict (tag_or t Universal 2) levels (IntegerIs low high v) (integer_contents v) (tag_ok t Universal 2 ok (omega arith)) (omega (arith, some_level t 0 levels le)) short (integer_written low high v e)
-      row_is (row.Enumerated items) apart small t strict levels v ok le e short =
-          primitive_is strict (tag_or t Universal 10) levels (EnumeratedIs items v) (integer_contents v) (tag_ok t Universal 10 ok (omega arith)) (omega (arith, some_level t 0 levels le)) short (enumerated_written items v e)
-      row_is row.Null apart small t strict levels v ok le e short =
+      row_is : (r : TypeRow) → has_clash openings r ≡ false → HasShortTag r → (t : Option tags.Tag) (d : Option ℤ) (strict : Bool) (levels : ℕ) (v : Value) → OkTag t → need t (nesting_by nest r) ≤ levels → fits_by fit r v ≡ true → IsOther d strict v → length (write_by write r t v) < Most → RowIs rel r (Rattle.ber_spelling.specs.Rules.under t d) strict levels v (write_by write r t v)
+      row_is row.Boolean apart small t d strict levels v ok le e other short =
+          primitive_is strict (tag_or t Universal 1) levels (λ c. BooleanIs strict v c × IsOther d strict v) (boolean_contents v) (tag_ok t Universal 1 ok (omega arith)) (omega (arith, some_level t 0 levels le)) short (boolean_written strict v e, other)
+      row_is (row.Integer low high) apart small t d strict levels v ok le e other short =
+          primitive_is strict (tag_or t Universal 2) levels (λ c. IntegerIs low high v c × IsOther d strict v) (integer_contents v) (tag_ok t Universal 2 ok (omega arith)) (omega (arith, some_level t 0 levels le)) short (integer_written low high v e, other)
+      row_is (row.Enumerated items) apart small t d strict levels v ok le e other short =
+          primitive_is strict (tag_or t Universal 10) levels (λ c. EnumeratedIs items v c × IsOther d strict v) (integer_contents v) (tag_ok t Universal 10 ok (omega arith)) (omega (arith, some_level t 0 levels le)) short (enumerated_written items v e, other)
+      row_is row.Null apart small t d strict levels v ok le e other short =
           primitive_is strict (tag_or t Universal 5) levels (NullIs v) [] (tag_ok t Universal 5 ok (omega arith)) (omega (arith, some_level t 0 levels le)) short (null_written v e)
-      row_is (row.OctetString most) apart small t strict levels v ok le e short =
+      row_is (row.OctetString most) apart small t d strict levels v ok le e other short =
           inl (primitive_is strict (tag_or t Universal 4) levels (λ c. (string_rule OfOctets (whole_octets most) c ≡ Some v) × (strict ≡ true → always c ≡ true)) (octets_contents v) (tag_ok t Universal 4 ok (omega arith)) (omega (arith, some_level t 0 levels le)) short
           (octets_written most v e, λ s. refl))
-      row_is row.BitString apart small t strict levels v ok le e short =
+      row_is row.BitString apart small t d strict levels v ok le e other short =
           let b = bits_written v e in
           inl (primitive_is strict (tag_or t Universal 3) levels (λ c. (string_rule OfBits whole_bits c ≡ Some v) × (strict ≡ true → has_zero_bits c ≡ true)) (bits_contents v) (tag_ok t Universal 3 ok (omega arith)) (omega (arith, some_level t 0 levels le)) short
           (b.0, λ s. b.1))
-      row_is row.ObjectId apart small t strict levels v ok le e short =
+      row_is row.ObjectId apart small t d strict levels v ok le e other short =
           primitive_is strict (tag_or t Universal 6) levels (ObjectIdIs v) (object_id_contents v) (tag_ok t Universal 6 ok (omega arith)) (omega (arith, some_level t 0 levels le)) short (object_id_written v e)
-      row_is (row.Text kind) apart small t strict levels v ok le e short =
+      row_is (row.Text kind) apart small t d strict levels v ok le e other short =
           inl (primitive_is strict (tag_or t Universal (text_number kind)) levels (λ c. (string_rule OfOctets (whole_text kind) c ≡ Some v) × (strict ≡ true → always c ≡ true)) (text_contents v) (tag_ok t Universal (text_number kind) ok (text_small kind)) (omega (arith, some_level t 0 levels le)) short
           (text_written kind v e, λ s. refl))
-      row_is (row.Sequence ps) apart small t strict levels v ok le e short =
+      row_is (row.Sequence ps) apart small t d strict levels v ok le e other short =
           let l = lower (greatest nest (rows_of_parts ps)) levels (some_level t (greatest nest (rows_of_parts ps)) levels le) in
           let c : List ℕ = sequence_contents (parts_contents write ps) v in
           constructed_is strict (tag_or t Universal 16) levels l.0 (SequenceIs rel strict ps v) c l.1 (tag_ok t Universal 16 ok (omega arith)) short
           (sequence_written fit write rel nest each strict l.0 ps v l.2 e (contents_short true (tag_or t Universal 16) c Most short))
-      row_is (row.Set ps) apart small t strict levels v ok le e short =
+      row_is (row.Set ps) apart small t d strict levels v ok le e other short =
           let l = lower (greatest nest (rows_of_parts ps)) levels (some_level t (greatest nest (rows_of_parts ps)) levels le) in
           let c : List ℕ = sequence_contents (set_parts write ps) v in
           constructed_is strict (tag_or t Universal 17) levels l.0 (SetIs rel ps strict v) c l.1 (tag_ok t Universal 17 ok (omega arith)) short
-          (set_written fit write rel nest each strict openings l.0 (λ m w text. told m strict l.0 w text) ps v apart l.2 e (contents_short true (tag_or t Universal 17) c Most short))
-      row_is (row.SequenceOf of) apart small t strict levels v ok le e short =
+          (set_written fit write rel nest each strict openings l.0 (λ m k w text. told m k strict l.0 w text) ps v apart l.2 e (contents_short true (tag_or t Universal 17) c Most short))
+      row_is (row.SequenceOf of) apart small t d strict levels v ok le e other short =
           let l = lower (nest of.0) levels (omega (arith, some_level t (greatest nest (of.0 ∷ [])) levels le)) in
           let c : List ℕ = list_contents (write of.0) v in
           constructed_is strict (tag_or t Universal 16) levels l.0 (ListIs (rel of.0) strict v) c l.1 (tag_ok t Universal 16 ok (omega arith)) short
           (list_written fit write rel nest each strict of.0 l.0 v l.2 e (contents_short true (tag_or t Universal 16) c Most short))
-      row_is (row.Choice ps) apart small t strict levels v ok le e short = choice_is ps t strict levels v ok le e short
-      row_is (row.Tagged class number true of) apart small t strict levels v ok le e short =
+      row_is (row.Choice ps) apart small t d strict levels v ok le e other short = choice_is ps t strict levels v ok le e short
+      row_is (row.Tagged class number true of) apart small t d strict levels v ok le e other short =
           let l = lower (nest of.0) levels (omega (arith, some_level t (greatest nest (of.0 ∷ [])) levels le)) in
           let c : List ℕ = write of.0 None v in
-          constructed_is strict (tag_or t class number) levels l.0 (λ k contents. rel of.0 None strict k v contents) c l.1 (tag_ok t class number ok small) short
-          ((each of.0).is None strict l.0 v tt l.2 e (contents_short true (tag_or t class number) c Most short))
-      row_is (row.Tagged class number false of) apart small t strict levels v ok le e short =
-          (each of.0).is (Some (tag_or t class number)) strict levels v (tag_ok t class number ok small) (omega (arith, some_level t (greatest nest (of.0 ∷ [])) levels le)) e short
-      row_is row.Any apart small t strict levels v ok le e short = any_is t strict levels v ok le e short
+          constructed_is strict (tag_or t class number) levels l.0 (λ k contents. rel of.0 (bare d) strict k v contents) c l.1 (tag_ok t class number ok small) short
+          ((each of.0).is None d strict l.0 v tt l.2 e other (contents_short true (tag_or t class number) c Most short))
+      row_is (row.Tagged class number false of) apart small t d strict levels v ok le e other short =
+          (each of.0).is (Some (tag_or t class number)) d strict levels v (tag_ok t class number ok small) (omega (arith, some_level t (greatest nest (of.0 ∷ [])) levels le)) e other short
+      row_is row.Any apart small t d strict levels v ok le e other short = any_is t strict levels v ok le e short
 
   module _ (rows : List TypeRow) (sound : IsSound rows) where
     of_written : (turns n : ℕ) → ((m : ℕ) → RowWritten (along nothing_fits fits_by rows turns m) (along nothing_written write_by rows turns m) (SpelledBy rows turns m) (nesting rows m)) → (o : Option TypeRow) → slice_get rows n ≡ o
-        → (t : Option tags.Tag) (strict : Bool) (levels : ℕ) (v : Value) → OkTag t → need t (nesting rows n) ≤ levels
-        → of_row nothing_fits (fits_by (along nothing_fits fits_by rows turns)) o v ≡ true → length (of_row nothing_written (write_by (along nothing_written write_by rows turns)) o t v) < Most
-        → RowOr (RowIs (SpelledBy rows turns)) o t strict levels v (of_row nothing_written (write_by (along nothing_written write_by rows turns)) o t v)
-    of_written turns n h None g t strict levels v ok le e short = absurd cc
-    of_written turns n h (Some r) g t strict levels v ok le e short =
-        row_is (openings rows) (along nothing_fits fits_by rows turns) (along nothing_written write_by rows turns) (SpelledBy rows turns) (nesting rows) h (λ m. told_of rows sound turns m) r (sound_row rows sound n r g).apart (sound.short n r g) t strict levels v ok (subst (λ (k : ℕ). need t k ≤ levels) (nesting_at rows sound n r g) le) e short
+        → (t : Option tags.Tag) (d : Option ℤ) (strict : Bool) (levels : ℕ) (v : Value) → OkTag t → need t (nesting rows n) ≤ levels
+        → of_row nothing_fits (fits_by (along nothing_fits fits_by rows turns)) o v ≡ true → IsOther d strict v → length (of_row nothing_written (write_by (along nothing_written write_by rows turns)) o t v) < Most
+        → RowOr (RowIs (SpelledBy rows turns)) o (Rattle.ber_spelling.specs.Rules.under t d) strict levels v (of_row nothing_written (write_by (along nothing_written write_by rows turns)) o t v)
+    of_written turns n h None g t d strict levels v ok le e other short = absurd cc
+    of_written turns n h (Some r) g t d strict levels v ok le e other short =
+        row_is (openings rows) (along nothing_fits fits_by rows turns) (along nothing_written write_by rows turns) (SpelledBy rows turns) (nesting rows) h (λ m k. told_of rows sound turns m k) r (sound_row rows sound n r g).apart (sound.short n r g) t d strict levels v ok (subst (λ (k : ℕ). need t k ≤ levels) (nesting_at rows sound n r g) le) e other short
 
     all_written : (turns n : ℕ) → RowWritten (along nothing_fits fits_by rows turns n) (along nothing_written write_by rows turns n) (SpelledBy rows turns n) (nesting rows n)
-    all_written zero n = record { is = λ t strict levels v ok le e short. absurd cc }
+    all_written zero n = record { is = λ t d strict levels v ok le e other short. absurd cc }
     all_written (suc turns) n = record { is = of_written turns n (λ m. all_written turns m) (slice_get rows n) refl }
 
     no_fit : (turns n : ℕ) (v : Value) → along nothing_fits fits_by rows turns n v ≡ true → (r : TypeRow) × (slice_get rows n ≡ Some r)
@@ -479,4 +497,4 @@ module _ (whole : (os : List ℕ) → is_whole os ≡ true → IsWhole 32 os) wh
     unfolding fits written writes
     written_spelled n v e strict limit most le =
         let r = no_fit (length rows) n v e in
-        record { by = (all_written (length rows) n).is None strict 32 v tt (nests rows sound n r.0 r.1) e (omega arith); within = le }
+        record { by = (all_written (length rows) n).is None None strict 32 v tt (nests rows sound n r.0 r.1) e (no_default strict v) (omega arith); within = le }

@@ -1,17 +1,18 @@
 -- What is written of a SET whose parts are spelled is spelled so.
-use Rattle.std.proofs.Common.{◌≡◌, ◌≢◌, ℕ, zero, suc, ◌+◌, ◌^◌, ◌<◌, ◌≤◌, Bool, true, false, cond, List, [], ◌∷◌, ◌++◌, length, Option, Some, None, refl, sym, ap, ◌∙◌, subst, arith, length-append, ◌⊎◌, inl, inr}
+use Rattle.std.proofs.Common.{◌≡◌, ◌≢◌, ℕ, zero, suc, ◌+◌, ◌^◌, ◌<◌, ◌≤◌, Bool, true, false, cond, List, [], ◌∷◌, ◌++◌, length, Option, Some, None, refl, sym, ap, ◌∙◌, subst, arith, length-append, ◌⊎◌, inl, inr, ℤ}
 use Rattle.std.specs.Prelude.{slice_get, slice_set, nat_lt, nat_eq}
 use Rattle.std.specs.List.{list_any}
 use Rattle.std.proofs.lemmas.Bool.{cases_lt, lt-ltb, le-ltb, eqb-true, eqb-false, ne_eqb, or_parts}
 use Rattle.std.proofs.lemmas.List.{append-nil}
 use Rattle.asn1_types.specs.declared.row.Class.{Class}
 use Rattle.asn1_types.specs.declared.row.Part.{Part}
+use Rattle.asn1_types.specs.Defaults.{may_be_absent, is_default}
 use Rattle.asn1_types.specs.Rows.{Opening}
 use Rattle.asn1_types.specs.Table.{clash, agrees_later}
 use Rattle.asn1_types.specs.Value.{Value, parts, MaybeValues, no_parts, absent, present}
 use Rattle.asn1_types.specs.ValueView.{parts_of}
 use Rattle.ber_spelling.specs.Order.{rank, ranks, front_rank, Filled}
-use Rattle.ber_spelling.specs.Rules.{no_parts_of, nothing_filled, is_filled}
+use Rattle.ber_spelling.specs.Rules.{no_parts_of, nothing_filled, is_filled, bare, settled}
 use Rattle.ber_spelling.specs.Spelling.{Spelled, Steps, SetStep, SetIs}
 use Rattle.ber_spelling.specs.Writing.{Writer, parts_contents, of_rank, risen_parts, set_parts}
 use Rattle.ber_spelling.proofs.Steady.{eqb_itself}
@@ -31,12 +32,12 @@ module _ (write : ℕ → Writer) (rel : ℕ → Spelled) (strict : Bool) (level
   -- each part that stands is spelled as it is written
   abbrev pub AllSpelled : List Part → MaybeValues → Type 0
   AllSpelled [] no_parts = Unit {0}
-  AllSpelled (p ∷ ps) (absent vs) = (p.optional ≡ true) × AllSpelled ps vs
-  AllSpelled (p ∷ ps) (present v vs) = rel p.inner.0 None strict levels v (write p.inner.0 None v) × AllSpelled ps vs
+  AllSpelled (p ∷ ps) (absent vs) = (may_be_absent p ≡ true) × AllSpelled ps vs
+  AllSpelled (p ∷ ps) (present v vs) = rel p.inner.0 (bare p.default) strict levels v (write p.inner.0 None v) × AllSpelled ps vs × (is_default p.default v ≡ false)
   AllSpelled ps vs = ⊥
 
 module _ (openings : ℕ → List Opening) (write : ℕ → Writer) (rel : ℕ → Spelled) (strict : Bool) (levels : ℕ)
-    (told : (m : ℕ) (v : Value) (s : List ℕ) → rel m None strict levels v s → Told openings m s)
+    (told : (m : ℕ) (d : Option ℤ) (v : Value) (s : List ℕ) → rel m (bare d) strict levels v s → Told openings m s)
   where
     -- the parts whose tag has a rank below k
     abbrev below : ℕ → List Part → MaybeValues → List (Option Value)
@@ -51,7 +52,7 @@ module _ (openings : ℕ → List Opening) (write : ℕ → Writer) (rel : ℕ �
       v : Value
       there : slice_get ps which ≡ Some part
       free : slice_get (below k ps vs) which ≡ Some None
-      spelled : rel part.inner.0 None strict levels v (parts_contents (of_rank k write) ps vs)
+      spelled : rel part.inner.0 (bare part.default) strict levels v (parts_contents (of_rank k write) ps vs)
       ranked : front_rank (parts_contents (of_rank k write) ps vs) ≡ k
       after : below (suc k) ps vs ≡ slice_set (below k ps vs) which (Some v)
 
@@ -60,12 +61,12 @@ module _ (openings : ℕ → List Opening) (write : ℕ → Writer) (rel : ℕ �
       same : below (suc k) ps vs ≡ below k ps vs
 
     -- two parts have two tags
-    no_two : (p q : Part) (ps : List Part) (i : ℕ) (v w : Value) (a b : List ℕ) → list_any (clash openings p) ps ≡ false → slice_get ps i ≡ Some q → rel p.inner.0 None strict levels v a → rel q.inner.0 None strict levels w b → front_rank a ≡ front_rank b → ⊥
+    no_two : (p q : Part) (ps : List Part) (i : ℕ) (v w : Value) (a b : List ℕ) → list_any (clash openings p) ps ≡ false → slice_get ps i ≡ Some q → rel p.inner.0 (bare p.default) strict levels v a → rel q.inner.0 (bare q.default) strict levels w b → front_rank a ≡ front_rank b → ⊥
     no_two p q [] i v w a b d g x y e = absurd cc
     no_two p q (r ∷ ps) zero v w a b d g x y e =
         let same : r ≡ q = cc in
-        let s = told p.inner.0 v a x in
-        let t = told q.inner.0 w b y in
+        let s = told p.inner.0 p.default v a x in
+        let t = told q.inner.0 q.default w b y in
         let one = rank_is s.class t.class s.number t.number s.small t.small (sym s.rank_is ∙ e ∙ t.rank_is) in
         let both : begins_by openings r.inner.0 s.class s.number ≡ true = subst (λ (z : Part × (Class × ℕ)). begins_by openings z.0.inner.0 z.1.0 z.1.1 ≡ true) (λ i. (sym same i, (sym one.0 i, sym one.1 i))) t.allowed in
         let free : begins_by openings p.inner.0 s.class s.number ≡ false = apart openings s.class s.number p r (or_parts (clash openings p r) _ d).0 both in
@@ -73,7 +74,7 @@ module _ (openings : ℕ → List Opening) (write : ℕ → Writer) (rel : ℕ �
         absurd cc
     no_two p q (r ∷ ps) (suc i) v w a b d g x y e = no_two p q ps i v w a b (or_parts (clash openings p r) _ d).1 g x y e
 
-    here_adds : (k : ℕ) (p : Part) (ps : List Part) (v : Value) (vs : MaybeValues) → front_rank (write p.inner.0 None v) ≡ k → rel p.inner.0 None strict levels v (write p.inner.0 None v) → Stays k ps vs → Adds k (p ∷ ps) (present v vs)
+    here_adds : (k : ℕ) (p : Part) (ps : List Part) (v : Value) (vs : MaybeValues) → front_rank (write p.inner.0 None v) ≡ k → rel p.inner.0 (bare p.default) strict levels v (write p.inner.0 None v) → Stays k ps vs → Adds k (p ∷ ps) (present v vs)
     here_adds k p ps v vs e x s =
         let w : List ℕ = write p.inner.0 None v in
         let own : nat_eq (front_rank w) k ≡ true = ap (λ (n : ℕ). nat_eq n k) e ∙ eqb_itself k in
@@ -86,7 +87,7 @@ module _ (openings : ℕ → List Opening) (write : ℕ → Writer) (rel : ℕ �
           v = v;
           there = refl;
           free = ap (λ (b : Bool). slice_get (cond b (Some v) None ∷ below k ps vs) 0) not_yet;
-          spelled = subst (λ (z : List ℕ). rel p.inner.0 None strict levels v z) (sym text) x;
+          spelled = subst (λ (z : List ℕ). rel p.inner.0 (bare p.default) strict levels v z) (sym text) x;
           ranked = ap front_rank text ∙ e;
           after = ap (λ (b : Bool). cond b (Some v) None ∷ below (suc k) ps vs) now ∙ ap (λ (l : List (Option Value)). Some v ∷ l) s.same ∙ ap (λ (b : Bool). slice_set (cond b (Some v) None ∷ below k ps vs) 0 (Some v)) (sym not_yet);
         }
@@ -139,7 +140,7 @@ module _ (openings : ℕ → List Opening) (write : ℕ → Writer) (rel : ℕ �
               v = a.v;
               there = a.there;
               free = a.free;
-              spelled = subst (λ (z : List ℕ). rel a.part.inner.0 None strict levels a.v z) (sym text) a.spelled;
+              spelled = subst (λ (z : List ℕ). rel a.part.inner.0 (bare a.part.default) strict levels a.v z) (sym text) a.spelled;
               ranked = ap front_rank text ∙ a.ranked;
               after = ap (λ (b : Bool). cond b (Some v) None ∷ below (suc k) ps vs) f.1 ∙ ap (λ (l : List (Option Value)). cond (nat_lt (front_rank (write p.inner.0 None v)) k) (Some v) None ∷ l) a.after;
             })
@@ -205,6 +206,15 @@ module _ (openings : ℕ → List Opening) (write : ℕ → Writer) (rel : ℕ �
     all_filled (p ∷ ps) (absent vs) h = rw (h.0, all_filled ps vs h.1) refl
     all_filled (p ∷ ps) (present v vs) h = all_filled ps vs h.1
 
+    -- no part has its default's value
+    all_settled : (ps : List Part) (vs : MaybeValues) → AllSpelled write rel strict levels ps vs → settled ps (list_of vs) ≡ list_of vs
+    all_settled [] no_parts h = refl
+    all_settled [] (absent vs) h = absurd h
+    all_settled [] (present v vs) h = absurd h
+    all_settled (p ∷ ps) no_parts h = absurd h
+    all_settled (p ∷ ps) (absent vs) h = ap (λ (l : List (Option Value)). None ∷ l) (all_settled ps vs h.1)
+    all_settled (p ∷ ps) (present v vs) h = rw h.2 (ap (λ (l : List (Option Value)). Some v ∷ l) (all_settled ps vs h.1))
+
     risen_is : (total : ℕ) → ((s : List ℕ) → front_rank s < total) → (ps : List Part) (vs : MaybeValues) → AllSpelled write rel strict levels ps vs → agrees_later (clash openings) ps ≡ false → SetIs rel ps strict (parts vs) levels (risen_parts write total 0 ps vs)
     risen_is total lt ps vs h d =
         let s = risen_steps total 0 0 ps vs h d (omega arith) in
@@ -212,7 +222,7 @@ module _ (openings : ℕ → List Opening) (write : ℕ → Writer) (rel : ℕ �
         let begin : filled 0 0 ps vs ≡ nothing_filled ps = ap (λ (l : List (Option Value)). record { found = l; least = 0 }) (none_below ps vs h) in
         let all : below (0 + total) ps vs ≡ list_of vs = ap (λ (n : ℕ). below n ps vs) up ∙ all_below total lt ps vs h in
         let full : is_filled ps (below (0 + total) ps vs) ≡ true = ap (is_filled ps) all ∙ all_filled ps vs h in
-        let value : parts_of (below (0 + total) ps vs) ≡ vs = ap parts_of all ∙ parts_list vs in
+        let value : parts_of (settled ps (below (0 + total) ps vs)) ≡ vs = ap (λ (l : List (Option Value)). parts_of (settled ps l)) all ∙ ap parts_of (all_settled ps vs h) ∙ parts_list vs in
         (filled s.1 (0 + total) ps vs, rw full (ap (λ (x : MaybeValues). Some (parts x)) value), s.0, subst (λ (z : Filled). Go ps s.0 z (filled s.1 (0 + total) ps vs) (risen_parts write total 0 ps vs)) begin s.2)
 
     pub set_is : (ps : List Part) (vs : MaybeValues) → AllSpelled write rel strict levels ps vs → agrees_later (clash openings) ps ≡ false → SetIs rel ps strict (parts vs) levels (set_parts write ps vs)

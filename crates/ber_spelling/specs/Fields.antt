@@ -17,11 +17,27 @@ is_constructed first = nat_eq (first / 32 % 2) 1
 abbrev pub capped : ℕ → ℕ
 capped n = min n (2 ^ 32)
 
+-- a field at a place that goes on until here at least, and that is cut off
+abbrev pub cut_off : {A : Type 0} → Scope → ℕ → ℕ → Reading A
+cut_off scope place until = do
+  _ ← within scope place until
+  Err Short
+
+abbrev pub is_end : Option ℕ → ℕ → Bool
+is_end None place = false
+is_end (Some end) place = nat_le end place
+
+-- no octet where one of the field at a place must stand
+abbrev pub lacking_from : {A : Type 0} → Scope → ℕ → ℕ → Reading A
+lacking_from scope place from =
+    if is_end scope.end from then cut_off scope place (from + 1) else Err Short
+
+abbrev pub lacking : {A : Type 0} → Scope → ℕ → Reading A
+lacking scope place = lacking_from scope place place
+
 -- the octets of a high tag number, seven bits each, with bit 8 set in all but the last (X.690 8.1.2.4)
 unfoldable pub digits_at : Scope → ℕ → ℕ → ℕ → List ℕ → Reading (ℕ × Spot)
-digits_at scope place number from [] = do
-  _ ← within scope place (from + 1)
-  Err Short
+digits_at scope place number from [] = lacking_from scope place from
 digits_at scope place number from (digit ∷ rest) = do
   _ ← within scope place (from + 1)
   if nat_lt digit 128 then Ok (capped (128 * number + digit), record { place = from + 1; rest = rest })
@@ -58,29 +74,20 @@ announced_at scope place count minimal from rest = do
   _ ← within scope place (from + count)
   if scope.strict && not minimal then refuse place Form else Ok (count, record { place = from; rest = rest })
 
+-- How far a field certainly goes of which octets lack: to its end, where the contents end before it, else to the end
+-- of the octets that are there.
+abbrev pub sure_reach : Option ℕ → ℕ → ℕ → ℕ
+sure_reach end until there = if is_past end until then until else there
+
 -- the long form (X.690 8.1.3.5), DER's shortest (X.690 10.1)
 unfoldable pub long_at : Scope → ℕ → ℕ → List ℕ → Reading (ℕ × Spot)
-long_at scope place size rest = do
-  _ ← within scope place (place + 1 + size)
-  if nat_lt (length rest) size then Err Short
-      else (if nat_lt 8 size then refuse place Length
-      else announced_at scope place (number_from 0 (take size rest))
-      (nat_le 128 (number_from 0 (take size rest)) && nat_lt 0 (slice_index (take size rest) 0)) (place + 1 + size) (drop size rest))
-
--- a field that the end of the enclosing contents cuts off
-abbrev pub cut_off : {A : Type 0} → Scope → ℕ → ℕ → Reading A
-cut_off scope place until = do
-  _ ← within scope place until
-  Err Short
-
-abbrev pub is_end : Option ℕ → ℕ → Bool
-is_end None place = false
-is_end (Some end) place = nat_le end place
-
--- no octet where one must stand
-abbrev pub lacking : {A : Type 0} → Scope → ℕ → Reading A
-lacking scope place =
-    if is_end scope.end place then cut_off scope place (place + 1) else Err Short
+long_at scope place size rest =
+    if nat_lt (length rest) size then cut_off scope place (sure_reach scope.end (place + 1 + size) (place + 1 + length rest))
+    else (do
+      _ ← within scope place (place + 1 + size)
+      if nat_lt 8 size then refuse place Length
+          else announced_at scope place (number_from 0 (take size rest))
+          (nat_le 128 (number_from 0 (take size rest)) && nat_lt 0 (slice_index (take size rest) 0)) (place + 1 + size) (drop size rest))
 
 -- a definite length (X.690 8.1.3.3)
 unfoldable pub definite_at : Scope → ℕ → List ℕ → Reading (ℕ × Spot)
@@ -135,7 +142,10 @@ abbrev pub mark_at : Scope → ℕ → List ℕ → Reading Ahead
 mark_at scope place [] = Err Short
 mark_at scope place (first ∷ rest) =
     if nat_eq first 0 then
-    (if is_past scope.end (place + 2) then cut_off scope place (place + 2) else second_zero_at scope place (first ∷ rest) rest)
+    (if is_past scope.end (place + 2) then cut_off scope place (place + 2)
+    else (do
+      _ ← within scope place (place + 1)
+      second_zero_at scope place (first ∷ rest) rest))
     else begin_at scope place (first ∷ rest)
 
 -- whether contents end, or what begins there

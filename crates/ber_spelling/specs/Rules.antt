@@ -13,7 +13,9 @@ use Rattle.asn1_types.specs.Rows.{along, begins, same_class, is_no_tag, text_num
 use Rattle.asn1_types.specs.Value.{Value, boolean, integer, null, octets, bits, object_id, text, parts, list, chosen, any}
 use Rattle.asn1_types.specs.ValueView.{parts_of, values_of}
 use Rattle.asn1_types.specs.Whole.{is_marked}
-use Rattle.asn1_types.specs.Fits.{is_item, is_text, are_bits}
+use Rattle.asn1_types.specs.Limits.{most_levels}
+use Rattle.asn1_types.specs.Defaults.{is_item, may_be_absent, is_default, kept}
+use Rattle.asn1_types.specs.Fits.{is_text, are_bits}
 use Rattle.ber_spelling.specs.declared.fault.ReadFault.TheVariants.{NotSpelled, Short}
 use Rattle.ber_spelling.specs.declared.spot.Scope.{Scope}
 use Rattle.ber_spelling.specs.declared.spot.Tag as tags
@@ -27,9 +29,24 @@ use Rattle.ber_spelling.specs.Fields.{identifier_at, extent_at, contents_at, loo
 use Rattle.ber_spelling.specs.Primitives.{integer_of, arcs_of}
 use Rattle.ber_spelling.specs.Order.{rank, Filled}
 
--- Reads what stands behind an identifier, under another tag if one is given.
+-- How a value of a row stands: under another tag, if one is given, and as a part with a default.
+pub record Guise : Type 0 where
+  pub tag : Option tags.Tag
+  pub default : Option ℤ
+
+-- under its row's own tag
+abbrev pub bare : Option ℤ → Guise
+bare default = record { tag = None; default = default }
+
+abbrev pub plain : Guise
+plain = bare None
+
+abbrev pub under : Option tags.Tag → Option ℤ → Guise
+under tag default = record { tag = tag; default = default }
+
+-- Reads what stands behind an identifier.
 abbrev pub Reader : Type 0
-Reader = Option tags.Tag → Scope → Opened → Spot → Reading (Value × Spot)
+Reader = Guise → Scope → Opened → Spot → Reading (Value × Spot)
 
 abbrev pub tag_or : Option tags.Tag → Class → ℕ → tags.Tag
 tag_or None class number = record { class = class; number = number }
@@ -92,6 +109,11 @@ listed items (Some z) = if is_item items z then Some (integer z) else None
 -- X.690 8.4
 abbrev pub enumerated_rule : List Item → List ℕ → Option Value
 enumerated_rule items contents = listed items (integer_of contents)
+
+-- in DER a part doesn't have its default's value (X.690 11.5)
+abbrev pub is_other : Option ℤ → Option Value → Bool
+is_other default None = true
+is_other default (Some v) = not (is_default default v)
 
 abbrev pub null_rule : List ℕ → Option Value
 null_rule [] = Some null
@@ -166,7 +188,7 @@ segment_at kind (suc depth) before scope opened spot =
     else primitive_at (segment_rule kind before) always (segment_tag kind) scope opened spot
 
 abbrev pub segments_at : StringKind → tags.Tag → Scope → Opened → Spot → Reading (Gathered × Spot)
-segments_at kind tag = constructed_at (all_items_at (segment_at kind 32) (λ (g : Gathered). Some g) nothing) tag
+segments_at kind tag = constructed_at (all_items_at (segment_at kind most_levels) (λ (g : Gathered). Some g) nothing) tag
 
 -- in segments; not in DER (X.690 10.2)
 unfoldable pub segmented_at : StringKind → (Gathered → Option Value) → tags.Tag → Scope → Opened → Spot → Reading (Value × Spot)
@@ -174,7 +196,7 @@ segmented_at kind whole tag scope opened spot = do
   _ ← expect_at tag true opened
   _ ← form_at scope opened.start.place false
   x ← extent_at scope spot.place spot.rest
-  g ← all_items_at (segment_at kind 32) (λ (g : Gathered). Some g) nothing x.0 x.1
+  g ← all_items_at (segment_at kind most_levels) (λ (g : Gathered). Some g) nothing x.0 x.1
   v ← judge opened.start.place (λ (v : Value). v) (whole g.0)
   Ok (v, g.1)
 
@@ -227,7 +249,7 @@ canonical_by Bits contents = has_zero_bits contents
 
 abbrev pub list_item_at : Reader → List Value → Scope → Opened → Spot → Reading (List Value × Spot)
 list_item_at inner before scope opened spot = do
-  v ← inner None scope opened spot
+  v ← inner plain scope opened spot
   Ok (before ++ v.0 ∷ [], v.1)
 
 abbrev pub list_done : List Value → Option Value
@@ -276,17 +298,18 @@ abbrev pub place_of : Ahead → ℕ
 place_of (ended place after) = place
 place_of (begun opened after) = opened.start.place
 
-abbrev pub present_at : Reader → Scope → Ahead → Reading (Option Value × Ahead)
-present_at inner scope (ended place after) = refuse place Missing
-present_at inner scope (begun opened after) = do
-  v ← inner None scope opened after
+-- a part with its default's value is read as absent
+abbrev pub present_at : Reader → Part → Scope → Ahead → Reading (Option Value × Ahead)
+present_at inner p scope (ended place after) = refuse place Missing
+present_at inner p scope (begun opened after) = do
+  v ← inner (bare p.default) scope opened after
   a ← look_at scope v.1.place v.1.rest
-  Ok (Some v.0, a)
+  Ok (kept p v.0, a)
 
 unfoldable pub part_at : (ℕ → Class → ℕ → Bool) → Reader → Part → Scope → Ahead → Reading (Option Value × Ahead)
 part_at begins inner p scope ahead =
-    if is_part begins p ahead then present_at inner scope ahead
-    else (if p.optional then Ok (None, ahead) else refuse (place_of ahead) Missing)
+    if is_part begins p ahead then present_at inner p scope ahead
+    else (if may_be_absent p then Ok (None, ahead) else refuse (place_of ahead) Missing)
 
 unfoldable pub parts_at : (ℕ → Class → ℕ → Bool) → (ℕ → Reader) → Scope → Ahead → List Part → Reading (List (Option Value) × Spot)
 parts_at begins inner scope ahead [] = do
@@ -316,17 +339,27 @@ abbrev pub nothing_filled : List Part → Filled
 nothing_filled ps = record { found = no_parts_of ps; least = 0 }
 
 abbrev pub stands : Part → Option Value → Bool
-stands p None = p.optional
+stands p None = may_be_absent p
 stands p (Some v) = true
 
--- each part stands that isn't optional
+-- each part stands that may not be absent
 abbrev pub is_filled : List Part → List (Option Value) → Bool
 is_filled [] vs = true
 is_filled (p ∷ ps) [] = false
 is_filled (p ∷ ps) (o ∷ vs) = stands p o && is_filled ps vs
 
+abbrev pub kept_of : Part → Option Value → Option Value
+kept_of p None = None
+kept_of p (Some v) = kept p v
+
+-- a part with its default's value is absent
+abbrev pub settled : List Part → List (Option Value) → List (Option Value)
+settled [] vs = []
+settled (p ∷ ps) [] = []
+settled (p ∷ ps) (o ∷ vs) = kept_of p o ∷ settled ps vs
+
 abbrev pub set_done : List Part → Filled → Option Value
-set_done ps filled = if is_filled ps filled.found then Some (parts (parts_of filled.found)) else None
+set_done ps filled = if is_filled ps filled.found then Some (parts (parts_of (settled ps filled.found))) else None
 
 -- an identifier as if no octet stood behind it: what is read of it is a fault of its own, or one behind it
 abbrev pub alone : Opened → Spot → Opened
@@ -335,18 +368,18 @@ alone opened after = record { start = record { place = after.place; rest = [] };
 abbrev pub cut_behind : Spot → Spot
 cut_behind after = record { place = after.place; rest = [] }
 
--- the fault of a part out of order: that of its identifier alone comes first
-abbrev pub late_kind : Reading (Value × Spot) → Kind
-late_kind (Err (NotSpelled place Tag)) = Tag
-late_kind read = Form
+-- the fault of a part that may not stand here: that of its identifier alone comes first
+abbrev pub late_kind : Kind → Reading (Value × Spot) → Kind
+late_kind kind (Err (NotSpelled place Tag)) = Tag
+late_kind kind read = kind
 
-abbrev pub late_at : Reader → Scope → Opened → Spot → Reading (Value × Spot)
-late_at inner scope opened spot = refuse opened.start.place (late_kind (inner None scope (alone opened spot) (cut_behind spot)))
+abbrev pub late_at : {A : Type 0} → Kind → (Scope → Opened → Spot → Reading (Value × Spot)) → Scope → Opened → Spot → Reading A
+late_at kind inner scope opened spot = refuse opened.start.place (late_kind kind (inner scope (alone opened spot) (cut_behind spot)))
 
 -- in DER the tags of the parts rise (X.690 10.3)
-abbrev pub ordered_at : Reader → ℕ → Scope → Opened → Spot → Reading (Value × Spot)
+abbrev pub ordered_at : (Scope → Opened → Spot → Reading (Value × Spot)) → ℕ → Scope → Opened → Spot → Reading (Value × Spot)
 ordered_at inner least scope opened spot =
-    if scope.strict && nat_lt (rank opened.class opened.number) least then late_at inner scope opened spot else inner None scope opened spot
+    if scope.strict && nat_lt (rank opened.class opened.number) least then late_at Form inner scope opened spot else inner scope opened spot
 
 abbrev pub is_free : Option (Option Value) → Bool
 is_free (Some None) = true
@@ -355,18 +388,19 @@ is_free slot = false
 abbrev pub filled_by : ℕ → Opened → Filled → Value → Filled
 filled_by which opened before v = record { found = slice_set before.found which (Some v); least = rank opened.class opened.number + 1 }
 
-abbrev pub fill_at : Reader → ℕ → Filled → Scope → Opened → Spot → Reading (Filled × Spot)
+-- a part comes once
+abbrev pub fill_at : (Scope → Opened → Spot → Reading (Value × Spot)) → ℕ → Filled → Scope → Opened → Spot → Reading (Filled × Spot)
 fill_at inner which before scope opened spot =
     if is_free (slice_get before.found which) then (do
       v ← ordered_at inner before.least scope opened spot
       Ok (filled_by which opened before v.0, v.1))
-    else refuse opened.start.place Extra
+    else late_at Extra inner scope opened spot
 
 -- the part that begins with this identifier, whose slot is free
 unfoldable pub slot_at : (ℕ → Class → ℕ → Bool) → (ℕ → Reader) → ℕ → List Part → Filled → Scope → Opened → Spot → Reading (Filled × Spot)
 slot_at begins inner which [] before scope opened spot = refuse opened.start.place Extra
 slot_at begins inner which (p ∷ ps) before scope opened spot =
-    if begins p.inner.0 opened.class opened.number then fill_at (inner p.inner.0) which before scope opened spot
+    if begins p.inner.0 opened.class opened.number then fill_at (inner p.inner.0 (bare p.default)) which before scope opened spot
     else slot_at begins inner (suc which) ps before scope opened spot
 
 abbrev pub set_at : (ℕ → Class → ℕ → Bool) → (ℕ → Reader) → List Part → tags.Tag → Scope → Opened → Spot → Reading (Value × Spot)
@@ -378,7 +412,7 @@ unfoldable pub choice_at : (ℕ → Class → ℕ → Bool) → (ℕ → Reader)
 choice_at begins inner which [] scope opened spot = refuse opened.start.place Tag
 choice_at begins inner which (p ∷ ps) scope opened spot =
     if begins p.inner.0 opened.class opened.number then (do
-      v ← inner p.inner.0 None scope opened spot
+      v ← inner p.inner.0 plain scope opened spot
       Ok (chosen which v.0, v.1))
     else choice_at begins inner (suc which) ps scope opened spot
 
@@ -408,40 +442,40 @@ whole_at (suc inner) before scope opened spot =
     else (if is_marked spot.rest && opened.constructed then marked_at (all_items_at (whole_at inner) (λ (u : Unit {0}). Some u) tt) (anew (suc inner) scope) spot
     else sized_at (anew (suc inner) scope) spot)
 
--- levels are counted from 1 to 32
+-- levels are counted from 1 on
 unfoldable pub any_at : Scope → Opened → Spot → Reading (Value × Spot)
 any_at scope opened spot = do
-  w ← whole_at 32 tt scope opened spot
+  w ← whole_at most_levels tt scope opened spot
   Ok (any (take (length opened.start.rest - length w.1.rest) opened.start.rest), w.1)
 
 -- ---- each row
 
 abbrev pub dead : Reader
-dead tag scope opened spot = refuse opened.start.place Tag
+dead guise scope opened spot = refuse opened.start.place Tag
 
-abbrev pub or_explicit : (Scope → Opened → Spot → Reading (Value × Spot)) → Reader
+abbrev pub or_explicit : (Scope → Opened → Spot → Reading (Value × Spot)) → Option tags.Tag → Scope → Opened → Spot → Reading (Value × Spot)
 or_explicit inner None = inner
 or_explicit inner (Some tag) = explicit_at inner tag
 
 abbrev pub tagged_at : Bool → Reader → Class → ℕ → Reader
-tagged_at true inner class number tag = explicit_at (inner None) (tag_or tag class number)
-tagged_at false inner class number tag = inner (Some (tag_or tag class number))
+tagged_at true inner class number guise = explicit_at (inner (bare guise.default)) (tag_or guise.tag class number)
+tagged_at false inner class number guise = inner (under (Some (tag_or guise.tag class number)) guise.default)
 
 abbrev pub read_by : (ℕ → Class → ℕ → Bool) → (ℕ → Reader) → TypeRow → Reader
-read_by begins inner row.Boolean tag = primitive_at boolean_rule is_strict_boolean (tag_or tag Universal 1)
-read_by begins inner (row.Integer low high) tag = primitive_at (integer_rule low high) always (tag_or tag Universal 2)
-read_by begins inner (row.Enumerated items) tag = primitive_at (enumerated_rule items) always (tag_or tag Universal 10)
-read_by begins inner row.Null tag = primitive_at null_rule always (tag_or tag Universal 5)
-read_by begins inner (row.OctetString most) tag = string_at OfOctets (whole_octets most) always (tag_or tag Universal 4)
-read_by begins inner row.BitString tag = string_at OfBits whole_bits has_zero_bits (tag_or tag Universal 3)
-read_by begins inner row.ObjectId tag = primitive_at object_id_rule always (tag_or tag Universal 6)
-read_by begins inner (row.Text kind) tag = string_at OfOctets (whole_text kind) always (tag_or tag Universal (text_number kind))
-read_by begins inner (row.Sequence ps) tag = sequence_at begins inner ps (tag_or tag Universal 16)
-read_by begins inner (row.Set ps) tag = set_at begins inner ps (tag_or tag Universal 17)
-read_by begins inner (row.SequenceOf of) tag = list_at (inner of.0) (tag_or tag Universal 16)
-read_by begins inner (row.Choice ps) tag = or_explicit (choice_at begins inner 0 ps) tag
-read_by begins inner (row.Tagged class number explicit of) tag = tagged_at explicit (inner of.0) class number tag
-read_by begins inner row.Any tag = or_explicit any_at tag
+read_by begins inner row.Boolean guise = primitive_at boolean_rule (λ c. is_strict_boolean c && is_other guise.default (boolean_rule c)) (tag_or guise.tag Universal 1)
+read_by begins inner (row.Integer low high) guise = primitive_at (integer_rule low high) (λ c. is_other guise.default (integer_rule low high c)) (tag_or guise.tag Universal 2)
+read_by begins inner (row.Enumerated items) guise = primitive_at (enumerated_rule items) (λ c. is_other guise.default (enumerated_rule items c)) (tag_or guise.tag Universal 10)
+read_by begins inner row.Null guise = primitive_at null_rule always (tag_or guise.tag Universal 5)
+read_by begins inner (row.OctetString most) guise = string_at OfOctets (whole_octets most) always (tag_or guise.tag Universal 4)
+read_by begins inner row.BitString guise = string_at OfBits whole_bits has_zero_bits (tag_or guise.tag Universal 3)
+read_by begins inner row.ObjectId guise = primitive_at object_id_rule always (tag_or guise.tag Universal 6)
+read_by begins inner (row.Text kind) guise = string_at OfOctets (whole_text kind) always (tag_or guise.tag Universal (text_number kind))
+read_by begins inner (row.Sequence ps) guise = sequence_at begins inner ps (tag_or guise.tag Universal 16)
+read_by begins inner (row.Set ps) guise = set_at begins inner ps (tag_or guise.tag Universal 17)
+read_by begins inner (row.SequenceOf of) guise = list_at (inner of.0) (tag_or guise.tag Universal 16)
+read_by begins inner (row.Choice ps) guise = or_explicit (choice_at begins inner 0 ps) guise.tag
+read_by begins inner (row.Tagged class number explicit of) guise = tagged_at explicit (inner of.0) class number guise
+read_by begins inner row.Any guise = or_explicit any_at guise.tag
 
 unfoldable pub reads : List TypeRow → ℕ → Reader
 reads rows n = along dead (read_by (begins rows)) rows (length rows) n
@@ -450,10 +484,10 @@ reads rows n = along dead (read_by (begins rows)) rows (length rows) n
 unfoldable pub value_at : List TypeRow → ℕ → Scope → ℕ → List ℕ → Reading (Value × Spot)
 value_at rows n scope place rest = do
   x ← identifier_at scope place rest
-  reads rows n None scope x.0 x.1
+  reads rows n plain scope x.0 x.1
 
 abbrev pub outermost : ℕ → Bool → Scope
-outermost limit strict = record { levels = 32; limit = limit; end = None; marked = false; strict = strict }
+outermost limit strict = record { levels = most_levels; limit = limit; end = None; marked = false; strict = strict }
 
 -- what all octets are read as: a value and how many octets it has
 unfoldable pub read_at : List TypeRow → ℕ → Bool → ℕ → List ℕ → Reading (Value × ℕ)

@@ -10,7 +10,8 @@ use Rattle.asn1_types.specs.declared.row.TypeRow.{TypeRow}
 use Rattle.asn1_types.specs.declared.row.TypeRow.TheVariants as row
 use Rattle.asn1_types.specs.declared.row.Item.{Item}
 use Rattle.asn1_types.specs.Rows.{class_number, is_no_tag, text_number}
-use Rattle.asn1_types.specs.Fits.{is_item}
+use Rattle.asn1_types.specs.Limits.{most_levels, most_octets}
+use Rattle.asn1_types.specs.Defaults.{is_item, may_be_absent, is_default, kept}
 use Rattle.asn1_types.specs.Value.{Value, boolean, integer, null, object_id, parts, chosen, any, MaybeValues, no_parts, absent, present}
 use Rattle.ber_spelling.specs.declared.spot.Tag as tags
 use Rattle.ber_spelling.specs.Fields.{number_from}
@@ -18,7 +19,7 @@ use Rattle.ber_spelling.specs.Primitives.{is_padded, signed_of}
 use Rattle.ber_spelling.specs.declared.spot.StringKind.{StringKind}
 use Rattle.ber_spelling.specs.declared.spot.StringKind.TheVariants.{OfOctets, OfBits}
 use Rattle.ber_spelling.specs.declared.spot.Gathered.{Gathered}
-use Rattle.ber_spelling.specs.Rules.{tag_or, always, segment_tag, nothing, segment_rule, string_rule, whole_octets, whole_text, whole_bits, has_zero_bits, list_done, nothing_filled, set_done}
+use Rattle.ber_spelling.specs.Rules.{Guise, bare, plain, under, tag_or, always, segment_tag, nothing, segment_rule, string_rule, whole_octets, whole_text, whole_bits, has_zero_bits, list_done, nothing_filled, set_done}
 use Rattle.ber_spelling.specs.Order.{Filled, front_rank}
 
 -- ---- numbers in digits of seven bits (X.690 8.1.2.4.2, 8.19.2)
@@ -185,9 +186,9 @@ abbrev pub IsWhole : ℕ → List ℕ → Type 0
 IsWhole zero spelled = ⊥
 IsWhole (suc inner) spelled = IsSized spelled ⊎ IsMarked (IsWhole inner) spelled
 
--- its levels are counted from 1 to 32, whatever encloses it
+-- its levels are counted from 1 on, whatever encloses it
 abbrev pub AnyIs : ℕ → Value → List ℕ → Type 0
-AnyIs levels (any os) spelled = (0 < levels) × (spelled ≡ os) × IsWhole 32 os
+AnyIs levels (any os) spelled = (0 < levels) × (spelled ≡ os) × IsWhole most_levels os
 AnyIs levels v spelled = ⊥
 
 -- ---- strings (X.690 8.6, 8.7, 8.23)
@@ -214,20 +215,31 @@ abbrev pub StringIs : StringKind → (Gathered → Option Value) → (List ℕ �
 StringIs kind whole canonical tag strict levels v spelled =
     IsPrimitive tag strict levels (λ contents. (string_rule kind whole contents ≡ Some v) × (strict ≡ true → canonical contents ≡ true)) spelled
     ⊎ ((strict ≡ false) × (g : Gathered) × (whole g ≡ Some v)
-    × IsConstructed tag strict levels (λ inner contents. ItemsAre (λ (g : Gathered). Some g) (SegmentIs kind 32) nothing strict inner g contents) spelled)
+    × IsConstructed tag strict levels (λ inner contents. ItemsAre (λ (g : Gathered). Some g) (SegmentIs kind most_levels) nothing strict inner g contents) spelled)
 
 -- ---- each row, from what the rows that it names are spelled as
 
--- which octets spell which value, with so many levels, under another tag if one is given
+-- which octets spell which value, with so many levels, standing so
 abbrev pub Spelled : Type 1
-Spelled = Option tags.Tag → Bool → ℕ → Value → List ℕ → Type 0
+Spelled = Guise → Bool → ℕ → Value → List ℕ → Type 0
+
+-- in DER no part has its default's value (X.690 11.5)
+abbrev pub IsOther : Option ℤ → Bool → Value → Type 0
+IsOther default strict v = strict ≡ true → is_default default v ≡ false
+
+-- a part that is left out, or a value; the default's is that of the absent part (X.680 25.9)
+abbrev pub PartIs : Spelled → Bool → ℕ → Part → Option Value → List ℕ → Type 0
+PartIs inner strict levels p o spelled =
+    ((may_be_absent p ≡ true) × (o ≡ None) × (spelled ≡ []))
+    ⊎ ((v : Value) × (kept p v ≡ o) × inner (bare p.default) strict levels v spelled)
 
 -- the parts that are there, in the order of the notation (X.690 8.9)
 abbrev pub PartsAre : (ℕ → Spelled) → Bool → ℕ → List Part → MaybeValues → List ℕ → Type 0
 PartsAre inner strict levels [] no_parts contents = contents ≡ []
-PartsAre inner strict levels (p ∷ ps) (absent vs) contents = (p.optional ≡ true) × PartsAre inner strict levels ps vs contents
+PartsAre inner strict levels (p ∷ ps) (absent vs) contents =
+    (first : List ℕ) × (others : List ℕ) × (contents ≡ first ++ others) × PartIs (inner p.inner.0) strict levels p None first × PartsAre inner strict levels ps vs others
 PartsAre inner strict levels (p ∷ ps) (present v vs) contents =
-    (first : List ℕ) × (others : List ℕ) × (contents ≡ first ++ others) × inner p.inner.0 None strict levels v first × PartsAre inner strict levels ps vs others
+    (first : List ℕ) × (others : List ℕ) × (contents ≡ first ++ others) × PartIs (inner p.inner.0) strict levels p (Some v) first × PartsAre inner strict levels ps vs others
 PartsAre inner strict levels ps vs contents = ⊥
 
 abbrev pub SequenceIs : (ℕ → Spelled) → Bool → List Part → Value → ℕ → List ℕ → Type 0
@@ -236,7 +248,7 @@ SequenceIs inner strict ps v levels contents = ⊥
 
 -- one value more (X.690 8.10)
 abbrev pub ListStep : Spelled → List Value → Bool → ℕ → List Value → List ℕ → Type 0
-ListStep inner before strict levels after spelled = (v : Value) × (after ≡ before ++ v ∷ []) × inner None strict levels v spelled
+ListStep inner before strict levels after spelled = (v : Value) × (after ≡ before ++ v ∷ []) × inner plain strict levels v spelled
 
 abbrev pub ListIs : Spelled → Bool → Value → ℕ → List ℕ → Type 0
 ListIs inner strict v levels contents = ItemsAre list_done (ListStep inner) [] strict levels v contents
@@ -244,7 +256,7 @@ ListIs inner strict v levels contents = ItemsAre list_done (ListStep inner) [] s
 -- one part more, whose slot is free (X.690 8.11); in DER the tags rise (X.690 10.3)
 abbrev pub SetStep : (ℕ → Spelled) → List Part → Filled → Bool → ℕ → Filled → List ℕ → Type 0
 SetStep inner ps before strict levels after spelled =
-    (which : ℕ) × (p : Part) × (v : Value) × (slice_get ps which ≡ Some p) × (slice_get before.found which ≡ Some None) × inner p.inner.0 None strict levels v spelled
+    (which : ℕ) × (p : Part) × (v : Value) × (slice_get ps which ≡ Some p) × (slice_get before.found which ≡ Some None) × inner p.inner.0 (bare p.default) strict levels v spelled
     × (strict ≡ true → before.least ≤ front_rank spelled)
     × (after ≡ record { found = slice_set before.found which (Some v); least = front_rank spelled + 1 })
 
@@ -253,51 +265,51 @@ SetIs inner ps strict v levels contents = ItemsAre (set_done ps) (SetStep inner 
 
 -- a value of the alternative (X.690 8.13)
 abbrev pub ChoiceIs : (ℕ → Spelled) → List Part → Bool → ℕ → Value → List ℕ → Type 0
-ChoiceIs inner ps strict levels (chosen which v) spelled = (p : Part) × (slice_get ps which ≡ Some p) × inner p.inner.0 None strict levels v spelled
+ChoiceIs inner ps strict levels (chosen which v) spelled = (p : Part) × (slice_get ps which ≡ Some p) × inner p.inner.0 plain strict levels v spelled
 ChoiceIs inner ps strict levels v spelled = ⊥
 
 -- Over an untagged CHOICE or an `Any` each tag is explicit (X.680 31.2.7).
-abbrev pub OrExplicit : (Bool → ℕ → Value → List ℕ → Type 0) → Spelled
+abbrev pub OrExplicit : (Bool → ℕ → Value → List ℕ → Type 0) → Option tags.Tag → Bool → ℕ → Value → List ℕ → Type 0
 OrExplicit P None strict levels v spelled = P strict levels v spelled
 OrExplicit P (Some tag) strict levels v spelled = IsConstructed tag strict levels (λ inner contents. P strict inner v contents) spelled
 
 -- X.690 8.14
 abbrev pub TaggedIs : Bool → Spelled → Class → ℕ → Spelled
-TaggedIs true inner class number tag strict levels v spelled = IsConstructed (tag_or tag class number) strict levels (λ l contents. inner None strict l v contents) spelled
-TaggedIs false inner class number tag strict levels v spelled = inner (Some (tag_or tag class number)) strict levels v spelled
+TaggedIs true inner class number guise strict levels v spelled = IsConstructed (tag_or guise.tag class number) strict levels (λ l contents. inner (bare guise.default) strict l v contents) spelled
+TaggedIs false inner class number guise strict levels v spelled = inner (under (Some (tag_or guise.tag class number)) guise.default) strict levels v spelled
 
 abbrev pub RowIs : (ℕ → Spelled) → TypeRow → Spelled
-RowIs inner row.Boolean tag strict levels v spelled = IsPrimitive (tag_or tag Universal 1) strict levels (BooleanIs strict v) spelled
-RowIs inner (row.Integer low high) tag strict levels v spelled = IsPrimitive (tag_or tag Universal 2) strict levels (IntegerIs low high v) spelled
-RowIs inner (row.Enumerated items) tag strict levels v spelled = IsPrimitive (tag_or tag Universal 10) strict levels (EnumeratedIs items v) spelled
-RowIs inner row.Null tag strict levels v spelled = IsPrimitive (tag_or tag Universal 5) strict levels (NullIs v) spelled
-RowIs inner (row.OctetString most) tag strict levels v spelled = StringIs OfOctets (whole_octets most) always (tag_or tag Universal 4) strict levels v spelled
-RowIs inner row.BitString tag strict levels v spelled = StringIs OfBits whole_bits has_zero_bits (tag_or tag Universal 3) strict levels v spelled
-RowIs inner row.ObjectId tag strict levels v spelled = IsPrimitive (tag_or tag Universal 6) strict levels (ObjectIdIs v) spelled
-RowIs inner (row.Text kind) tag strict levels v spelled = StringIs OfOctets (whole_text kind) always (tag_or tag Universal (text_number kind)) strict levels v spelled
-RowIs inner (row.Sequence ps) tag strict levels v spelled = IsConstructed (tag_or tag Universal 16) strict levels (SequenceIs inner strict ps v) spelled
-RowIs inner (row.Set ps) tag strict levels v spelled = IsConstructed (tag_or tag Universal 17) strict levels (SetIs inner ps strict v) spelled
-RowIs inner (row.SequenceOf of) tag strict levels v spelled = IsConstructed (tag_or tag Universal 16) strict levels (ListIs (inner of.0) strict v) spelled
-RowIs inner (row.Choice ps) tag strict levels v spelled = OrExplicit (ChoiceIs inner ps) tag strict levels v spelled
-RowIs inner (row.Tagged class number explicit of) tag strict levels v spelled = TaggedIs explicit (inner of.0) class number tag strict levels v spelled
-RowIs inner row.Any tag strict levels v spelled = OrExplicit (λ s. AnyIs) tag strict levels v spelled
+RowIs inner row.Boolean guise strict levels v spelled = IsPrimitive (tag_or guise.tag Universal 1) strict levels (λ c. BooleanIs strict v c × IsOther guise.default strict v) spelled
+RowIs inner (row.Integer low high) guise strict levels v spelled = IsPrimitive (tag_or guise.tag Universal 2) strict levels (λ c. IntegerIs low high v c × IsOther guise.default strict v) spelled
+RowIs inner (row.Enumerated items) guise strict levels v spelled = IsPrimitive (tag_or guise.tag Universal 10) strict levels (λ c. EnumeratedIs items v c × IsOther guise.default strict v) spelled
+RowIs inner row.Null guise strict levels v spelled = IsPrimitive (tag_or guise.tag Universal 5) strict levels (NullIs v) spelled
+RowIs inner (row.OctetString most) guise strict levels v spelled = StringIs OfOctets (whole_octets most) always (tag_or guise.tag Universal 4) strict levels v spelled
+RowIs inner row.BitString guise strict levels v spelled = StringIs OfBits whole_bits has_zero_bits (tag_or guise.tag Universal 3) strict levels v spelled
+RowIs inner row.ObjectId guise strict levels v spelled = IsPrimitive (tag_or guise.tag Universal 6) strict levels (ObjectIdIs v) spelled
+RowIs inner (row.Text kind) guise strict levels v spelled = StringIs OfOctets (whole_text kind) always (tag_or guise.tag Universal (text_number kind)) strict levels v spelled
+RowIs inner (row.Sequence ps) guise strict levels v spelled = IsConstructed (tag_or guise.tag Universal 16) strict levels (SequenceIs inner strict ps v) spelled
+RowIs inner (row.Set ps) guise strict levels v spelled = IsConstructed (tag_or guise.tag Universal 17) strict levels (SetIs inner ps strict v) spelled
+RowIs inner (row.SequenceOf of) guise strict levels v spelled = IsConstructed (tag_or guise.tag Universal 16) strict levels (ListIs (inner of.0) strict v) spelled
+RowIs inner (row.Choice ps) guise strict levels v spelled = OrExplicit (ChoiceIs inner ps) guise.tag strict levels v spelled
+RowIs inner (row.Tagged class number explicit of) guise strict levels v spelled = TaggedIs explicit (inner of.0) class number guise strict levels v spelled
+RowIs inner row.Any guise strict levels v spelled = OrExplicit (λ s. AnyIs) guise.tag strict levels v spelled
 
 abbrev pub RowOr : (TypeRow → Spelled) → Option TypeRow → Spelled
-RowOr rule None tag strict levels v spelled = ⊥
-RowOr rule (Some r) tag strict levels v spelled = rule r tag strict levels v spelled
+RowOr rule None guise strict levels v spelled = ⊥
+RowOr rule (Some r) guise strict levels v spelled = rule r guise strict levels v spelled
 
 -- Each row names only lower rows, so as many turns as there are rows are enough.
 abbrev pub SpelledBy : List TypeRow → ℕ → ℕ → Spelled
-SpelledBy rows zero n tag strict levels v spelled = ⊥
-SpelledBy rows (suc turns) n tag strict levels v spelled = RowOr (RowIs (SpelledBy rows turns)) (slice_get rows n) tag strict levels v spelled
+SpelledBy rows zero n guise strict levels v spelled = ⊥
+SpelledBy rows (suc turns) n guise strict levels v spelled = RowOr (RowIs (SpelledBy rows turns)) (slice_get rows n) guise strict levels v spelled
 
 -- octets spell a value of row n of a table, within a limit on their number (X.690; `strict` is DER)
 pub record Spells (rows : List TypeRow) (n : ℕ) (strict : Bool) (limit : ℕ) (v : Value) (spelled : List ℕ) : Type 0 where
-  pub by : SpelledBy rows (length rows) n None strict 32 v spelled
+  pub by : SpelledBy rows (length rows) n plain strict most_levels v spelled
   pub within : length spelled ≤ limit
 
 abbrev pub Ber : List TypeRow → ℕ → Value → List ℕ → Type 0
-Ber rows n v spelled = Spells rows n false 262144 v spelled
+Ber rows n v spelled = Spells rows n false most_octets v spelled
 
 abbrev pub Der : List TypeRow → ℕ → Value → List ℕ → Type 0
-Der rows n v spelled = Spells rows n true 262144 v spelled
+Der rows n v spelled = Spells rows n true most_octets v spelled

@@ -2,7 +2,7 @@
 
 ghost use Rattle.std.specs.Prelude.{◌≢◌, IfErr, ◌≡◌, ◌∷◌, ◌+◌, ◌-◌, ◌≤◌, ◌<◌, ◌^◌, length, take, IfOk, Err};
 ghost use Rattle.ber_spelling.specs.Reading.{Gives, within, spot_of, opened_of, ahead_of, is_past, LiesIn, GoesOn, Opens};
-ghost use Rattle.ber_spelling.specs.Fields.{class_of, is_constructed, capped, digits_at, high_at, identifier_at, number_from, announced_at, long_at, definite_at, extent_at, contents_at, begin_at, mark_at, look_at, is_end, lacking};
+ghost use Rattle.ber_spelling.specs.Fields.{class_of, is_constructed, capped, digits_at, high_at, identifier_at, number_from, announced_at, long_at, definite_at, extent_at, contents_at, begin_at, mark_at, look_at, is_end, lacking_from, cut_off, sure_reach};
 
 use crate::fault::ReadFault;
 use crate::spot::{Ahead, Opened, Scope, Spot};
@@ -102,8 +102,7 @@ fn digits<'a>(scope: &Scope, place: usize, digits: &'a [u8]) -> Result<(u64, Spo
             ));
         }
     }
-    check_within(scope, place, (place + 2 + digits.len()) as u64)?;
-    Err(ReadFault::Short)
+    Err(lacking(scope, place, place + 1 + digits.len()))
 }
 
 /// The identifier at this spot (X.690 8.1.2).
@@ -236,10 +235,12 @@ fn long<'a>(
     ensures stops { IfOk result (λ x. GoesOn (place + 1) (length rest.now) x.1) }
     ensures reach { IfOk result (λ x. x.1.place + x.0 ≤ scope.now.limit) }
 {
-    check_reach(scope, place, place + 1, size as u64)?;
     if rest.len() < size as usize {
-        return Err(ReadFault::Short);
+        let until = place + 1 + size as usize;
+        let reach = sure_reach(scope.end, until, place + 1 + rest.len());
+        return Err(cut_off(scope, place, reach));
     }
+    check_reach(scope, place, place + 1, size as u64)?;
     if size > 8 {
         return Err(refusal(place, Kind::Length));
     }
@@ -258,18 +259,46 @@ fn long<'a>(
     )
 }
 
-/// What is wrong where no octet is left.
+/// What is wrong with the field at a place where no octet of it is left.
 #[tactic(auto, unfolding(crate::specs::Reading::within))]
 #[inline(never)]
-fn lacking(scope: &Scope, place: usize) -> ReadFault
-    requires { place < 2 ^ 63 }
-    ensures is { lacking {A = Unit {0}} scope.now place ≡ Err result }
+fn lacking(scope: &Scope, place: usize, from: usize) -> ReadFault
+    requires { from < 2 ^ 63 }
+    ensures is { lacking_from {A = Unit {0}} scope.now place from ≡ Err result }
     ensures no_memory { result ≢ ReadFault.NoMemory }
 {
-    if is_end(scope.end, place) {
-        if (scope.limit as u64) < place as u64 + 1 {
+    if is_end(scope.end, from) {
+        if (scope.limit as u64) < from as u64 + 1 {
             return ReadFault::TooLong { place };
         }
+        return refusal(place, Kind::Length);
+    }
+    ReadFault::Short
+}
+
+/// How far a field certainly goes that goes on until `until`, and of which octets lack: to its end,
+/// where the contents end before it, else to the end of the octets that are there.
+fn sure_reach(end: Option<usize>, until: usize, there: usize) -> usize
+    ensures { result ≡ sure_reach end until there }
+{
+    if is_past(end, until as u64) {
+        until
+    } else {
+        there
+    }
+}
+
+/// What is wrong with the field at a place that goes on until here at least and is cut off.
+#[tactic(auto, unfolding(crate::specs::Reading::within))]
+#[inline(never)]
+fn cut_off(scope: &Scope, place: usize, until: usize) -> ReadFault
+    ensures is { cut_off {A = Unit {0}} scope.now place until ≡ Err result }
+    ensures no_memory { result ≢ ReadFault.NoMemory }
+{
+    if (scope.limit as usize) < until {
+        return ReadFault::TooLong { place };
+    }
+    if is_past(scope.end, until as u64) {
         return refusal(place, Kind::Length);
     }
     ReadFault::Short
@@ -286,7 +315,7 @@ fn definite<'a>(scope: &Scope, spot: Spot<'a>) -> Result<(u64, Spot<'a>), ReadFa
     ensures reach { IfOk result (λ x. x.1.place + x.0 ≤ scope.now.limit) }
 {
     match spot.rest {
-        [] => Err(lacking(scope, spot.place)),
+        [] => Err(lacking(scope, spot.place, spot.place)),
         [first, rest @ ..] => {
             check_within(scope, spot.place, spot.place as u64 + 1)?;
             let behind = Spot {
@@ -340,7 +369,7 @@ pub fn extent<'a>(scope: &Scope, spot: Spot<'a>) -> Result<(Scope, Spot<'a>), Re
     ensures stops { IfOk result (λ x. GoesOn spot.entry.place (length spot.entry.rest.now) x.1) }
 {
     match spot.rest {
-        [] => Err(lacking(scope, spot.place)),
+        [] => Err(lacking(scope, spot.place, spot.place)),
         [first, rest @ ..] => {
             if *first != 128 {
                 let (count, spot) = definite(scope, spot)?;
@@ -404,6 +433,7 @@ fn mark<'a>(scope: &Scope, spot: Spot<'a>) -> Result<Ahead<'a>, ReadFault>
                 check_within(scope, spot.place, spot.place as u64 + 2)?;
                 return Err(ReadFault::Short);
             }
+            check_within(scope, spot.place, spot.place as u64 + 1)?;
             match after {
                 [] => Err(ReadFault::Short),
                 [0, rest @ ..] => {

@@ -20,7 +20,7 @@ pub use laws::{
     unused_bits_are_cleared, unused_bits_are_zeros, written_is_read, written_is_spelled,
 };
 pub use order::{RANKS, rank, rank_of};
-pub use plain::{boolean, enumerated, integer, null, object_id};
+pub use plain::{boolean, enumerated, integer, is_other_number, null, object_id};
 pub use primitives::integer_of;
 pub use spot::{Ahead, Gathered, Opened, Scope, Spot, StringKind, StringRule, Tag};
 pub use strings::{bit_string, octet_string, text};

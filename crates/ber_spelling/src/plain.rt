@@ -1,8 +1,9 @@
 //! Reading primitive values other than strings.
 
-ghost use Rattle.std.specs.Prelude.{◌≢◌, IfErr, ◌+◌, ◌<◌, ◌^◌, length, IfOk};
+ghost use Rattle.std.specs.Prelude.{◌≡◌, ◌&&◌, ◌≢◌, IfErr, ◌+◌, ◌<◌, ◌^◌, length, IfOk, Some};
+ghost use Rattle.asn1_types.specs.Value as tree;
 ghost use Rattle.ber_spelling.specs.Reading.{Gives, spot_of, opened_of, GoesOn};
-ghost use Rattle.ber_spelling.specs.Rules.{primitive_at, always, boolean_rule, is_strict_boolean, integer_rule, enumerated_rule, null_rule, object_id_rule};
+ghost use Rattle.ber_spelling.specs.Rules.{primitive_at, always, boolean_rule, is_strict_boolean, is_other, integer_rule, enumerated_rule, null_rule, object_id_rule};
 
 use crate::fault::ReadFault;
 use crate::fields::{contents, refusal};
@@ -13,17 +14,41 @@ use asn1_types::{Item, Node, Val, is_item};
 use osi_base::Kind;
 use std::alloc::Global;
 
+/// Whether a number is no part's default.
+#[inline(always)]
+pub fn is_other_number(default: Option<i64>, number: i64) -> bool
+    ensures { result ≡ is_other default (Some (tree.integer number)) }
+{
+    match default {
+        Some(default) => default != number,
+        None => true,
+    }
+}
+
+/// Whether a truth value is no part's default.
+#[inline(always)]
+fn is_other_truth(default: Option<i64>, truth: bool) -> bool
+    ensures { result ≡ is_other default (Some (tree.boolean truth)) }
+{
+    match default {
+        Some(default) => default != if truth { 1 } else { 0 },
+        None => true,
+    }
+}
+
 /// A BOOLEAN behind its identifier (X.690 8.2), and where reading goes on; or the first fault in it.
+/// In DER it isn't the default of its part.
 #[tactic(auto, unfolding(crate::specs::Rules::primitive_at))]
 #[inline(never)]
 pub fn boolean<'a>(
     tag: Tag,
+    default: Option<i64>,
     scope: &Scope,
     opened: &Opened<'a>,
     spot: Spot<'a>,
 ) -> Result<(Val, Spot<'a>), ReadFault>
     requires { spot.place + length spot.rest.now < 2 ^ 63 }
-    ensures gives { Gives (λ x. (x.0, spot_of x.1)) result (primitive_at boolean_rule is_strict_boolean tag scope.now (opened_of opened.now) (spot_of spot.entry)) }
+    ensures gives { Gives (λ x. (x.0, spot_of x.1)) result (primitive_at boolean_rule (λ c. is_strict_boolean c && is_other default (boolean_rule c)) tag scope.now (opened_of opened.now) (spot_of spot.entry)) }
     ensures no_memory { IfErr result (λ e. e ≢ ReadFault.NoMemory) }
     ensures stops { IfOk result (λ x. GoesOn spot.entry.place (length spot.entry.rest.now) x.1) }
 {
@@ -31,10 +56,14 @@ pub fn boolean<'a>(
     let (place, octets, after) = contents(scope, spot)?;
     match octets {
         [octet] => {
-            if scope.strict && *octet != 0 && *octet != 255 {
+            let truth = *octet != 0;
+            if scope.strict && !(*octet == 0 || *octet == 255) {
                 return Err(refusal(place, Kind::Form));
             }
-            let node = Node::Bool(*octet != 0);
+            if scope.strict && !is_other_truth(default, truth) {
+                return Err(refusal(place, Kind::Form));
+            }
+            let node = Node::Bool(truth);
             Ok((Val { node }, after))
         }
         _ => Err(refusal(place, Kind::Content)),
@@ -42,60 +71,64 @@ pub fn boolean<'a>(
 }
 
 /// An ENUMERATED of these items behind its identifier (X.690 8.4), and where
-/// reading goes on; or the first fault in it.
+/// reading goes on; or the first fault in it. In DER it isn't the default of its part.
 #[tactic(auto, unfolding(crate::specs::Rules::primitive_at))]
 #[inline(never)]
 pub fn enumerated<'a>(
     items: &[Item],
     tag: Tag,
+    default: Option<i64>,
     scope: &Scope,
     opened: &Opened<'a>,
     spot: Spot<'a>,
 ) -> Result<(Val, Spot<'a>), ReadFault>
     requires { spot.place + length spot.rest.now < 2 ^ 63 }
-    ensures gives { Gives (λ x. (x.0, spot_of x.1)) result (primitive_at (enumerated_rule items.now) always tag scope.now (opened_of opened.now) (spot_of spot.entry)) }
+    ensures gives { Gives (λ x. (x.0, spot_of x.1)) result (primitive_at (enumerated_rule items.now) (λ c. is_other default (enumerated_rule items.now c)) tag scope.now (opened_of opened.now) (spot_of spot.entry)) }
     ensures no_memory { IfErr result (λ e. e ≢ ReadFault.NoMemory) }
     ensures stops { IfOk result (λ x. GoesOn spot.entry.place (length spot.entry.rest.now) x.1) }
 {
     expect(tag, false, opened)?;
     let (place, octets, after) = contents(scope, spot)?;
     match integer_of(octets) {
-        Some(number) if is_item(items, number) => Ok((
-            Val {
-                node: Node::Int(number),
-            },
-            after,
-        )),
+        Some(number) if is_item(items, number) => {
+            if scope.strict && !is_other_number(default, number) {
+                return Err(refusal(place, Kind::Form));
+            }
+            let node = Node::Int(number);
+            Ok((Val { node }, after))
+        }
         _ => Err(refusal(place, Kind::Content)),
     }
 }
 
 /// An INTEGER from `low` to `high` behind its identifier (X.690 8.3), and where
-/// reading goes on; or the first fault in it.
+/// reading goes on; or the first fault in it. In DER it isn't the default of its part.
 #[tactic(auto, unfolding(crate::specs::Rules::primitive_at))]
 #[inline(never)]
 pub fn integer<'a>(
     low: i64,
     high: i64,
     tag: Tag,
+    default: Option<i64>,
     scope: &Scope,
     opened: &Opened<'a>,
     spot: Spot<'a>,
 ) -> Result<(Val, Spot<'a>), ReadFault>
     requires { spot.place + length spot.rest.now < 2 ^ 63 }
-    ensures gives { Gives (λ x. (x.0, spot_of x.1)) result (primitive_at (integer_rule low high) always tag scope.now (opened_of opened.now) (spot_of spot.entry)) }
+    ensures gives { Gives (λ x. (x.0, spot_of x.1)) result (primitive_at (integer_rule low high) (λ c. is_other default (integer_rule low high c)) tag scope.now (opened_of opened.now) (spot_of spot.entry)) }
     ensures no_memory { IfErr result (λ e. e ≢ ReadFault.NoMemory) }
     ensures stops { IfOk result (λ x. GoesOn spot.entry.place (length spot.entry.rest.now) x.1) }
 {
     expect(tag, false, opened)?;
     let (place, octets, after) = contents(scope, spot)?;
     match integer_of(octets) {
-        Some(number) if low <= number && number <= high => Ok((
-            Val {
-                node: Node::Int(number),
-            },
-            after,
-        )),
+        Some(number) if low <= number && number <= high => {
+            if scope.strict && !is_other_number(default, number) {
+                return Err(refusal(place, Kind::Form));
+            }
+            let node = Node::Int(number);
+            Ok((Val { node }, after))
+        }
         _ => Err(refusal(place, Kind::Content)),
     }
 }

@@ -24,6 +24,7 @@ fn add_part(
         name: Name::from_str(alloc, name)?,
         inner,
         optional,
+        default: None,
     })?;
     Ok(())
 }

@@ -70,6 +70,7 @@ pub enum CallRefusal {
     Ending(u32),
     BadProposal,
     WrongParity(u32),
+    Named(u32),
     Present(u32),
     Fixed(u32),
     InUse(u32),

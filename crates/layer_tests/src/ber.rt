@@ -1,7 +1,9 @@
 //! Worked rows: what octets are read as in BER and in DER, and what their value is written as.
 
-use asn1_types::{Part, Parts, RowRefusal, TextKind, TypeId, TypeRow, TypeTable};
-use ber_codec::{LIMIT, ReadFault, ber_octets, ber_read, ber_read_within, der_read};
+use ber_codec::{
+    Class, LIMIT, Part, Parts, ReadFault, RowRefusal, TextKind, TypeId, TypeRow, TypeTable,
+    ber_octets, ber_read, ber_read_within, der_read,
+};
 use osi_base::{Kind, Name, NoMemory, Octets};
 use std::alloc::Global;
 use std::test::*;
@@ -31,16 +33,32 @@ const IA5: u32 = 5;
 
 const ANY: u32 = 6;
 
+const COUNTED: u32 = 7;
+
+const NUMBER: u32 = 8;
+
+const TAGGED: u32 = 9;
+
+const SWITCHED: u32 = 10;
+
+/// A part with a default.
+fn with_default(alloc: Global, name: &str, inner: u32, default: i64) -> Result<Part, NoMemory> {
+    let mut part = part(alloc, name, inner)?;
+    part.default = Some(default);
+    Ok(part)
+}
+
 fn part(alloc: Global, name: &str, inner: u32) -> Result<Part, NoMemory> {
     Ok(Part {
         name: Name::from_str(alloc, name)?,
         inner: TypeId(inner),
         optional: false,
+        default: None,
     })
 }
 
 /// Octets of a type: what they are read as in BER and in DER, and how their value is written.
-const ROWS: [(u32, &'static [u8], Outcome, Outcome, &'static [u8]); 23] = [
+const ROWS: [(u32, &'static [u8], Outcome, Outcome, &'static [u8]); 34] = [
     (
         INTEGER,
         &[2, 2, 0, 5],
@@ -137,6 +155,13 @@ const ROWS: [(u32, &'static [u8], Outcome, Outcome, &'static [u8]); 23] = [
     ),
     (
         SET,
+        &[0x31, 6, 2, 1, 7, 0x22, 1, 5],
+        At(5, Kind::Tag),
+        At(5, Kind::Tag),
+        &[],
+    ),
+    (
+        SET,
         &[0x31, 3, 2, 1, 7],
         At(5, Kind::Missing),
         At(5, Kind::Missing),
@@ -172,6 +197,76 @@ const ROWS: [(u32, &'static [u8], Outcome, Outcome, &'static [u8]); 23] = [
         At(1, Kind::Length),
         &[],
     ),
+    (
+        COUNTED,
+        &[0x30, 3, 2, 1, 5],
+        Used(5),
+        Used(5),
+        &[0x30, 3, 2, 1, 5],
+    ),
+    (
+        COUNTED,
+        &[0x30, 6, 2, 1, 5, 2, 1, 7],
+        Used(8),
+        At(7, Kind::Form),
+        &[0x30, 3, 2, 1, 5],
+    ),
+    (
+        COUNTED,
+        &[0x30, 6, 2, 1, 5, 2, 1, 8],
+        Used(8),
+        Used(8),
+        &[0x30, 6, 2, 1, 5, 2, 1, 8],
+    ),
+    (
+        COUNTED,
+        &[0x30, 9, 2, 1, 5, 2, 1, 7, 2, 1, 7],
+        At(8, Kind::Extra),
+        At(7, Kind::Form),
+        &[],
+    ),
+    (
+        TAGGED,
+        &[0x30, 7, 0xA1, 5, 2, 1, 7, 5, 0],
+        At(7, Kind::Extra),
+        At(6, Kind::Form),
+        &[],
+    ),
+    (
+        TAGGED,
+        &[0x30, 5, 0xA1, 3, 2, 1, 7],
+        Used(7),
+        At(6, Kind::Form),
+        &[0x30, 0],
+    ),
+    (
+        SWITCHED,
+        &[0x31, 3, 1, 1, 5],
+        Used(5),
+        At(4, Kind::Form),
+        &[0x31, 0],
+    ),
+    (
+        SWITCHED,
+        &[0x31, 3, 1, 1, 0xFF],
+        Used(5),
+        At(4, Kind::Form),
+        &[0x31, 0],
+    ),
+    (
+        SWITCHED,
+        &[0x31, 3, 1, 1, 0],
+        Used(5),
+        Used(5),
+        &[0x31, 3, 1, 1, 0],
+    ),
+    (
+        SWITCHED,
+        &[0x31, 6, 1, 1, 5, 1, 1, 0],
+        At(5, Kind::Extra),
+        At(4, Kind::Form),
+        &[],
+    ),
 ];
 
 /// The parts `a` and another, an INTEGER and a BOOLEAN.
@@ -192,6 +287,7 @@ fn table(alloc: Global) -> Result<TypeTable, RowRefusal> {
     table.add(TypeRow::Boolean)?;
     table.add(TypeRow::Set(parts(alloc, "b")?))?;
     add_octets(&mut table)?;
+    add_defaults(alloc, &mut table)?;
     Ok(table)
 }
 
@@ -201,6 +297,28 @@ fn add_octets(table: &mut TypeTable) -> Result<(), RowRefusal> {
     table.add(TypeRow::OctetString { most: 262_144 })?;
     table.add(TypeRow::Text(TextKind::Ia5))?;
     table.add(TypeRow::Any)?;
+    Ok(())
+}
+
+/// SEQUENCE {a INTEGER, b INTEGER DEFAULT 7}, SEQUENCE {c [1] EXPLICIT INTEGER DEFAULT 7} and
+/// SET {d BOOLEAN DEFAULT TRUE}.
+fn add_defaults(alloc: Global, table: &mut TypeTable) -> Result<(), RowRefusal> {
+    let mut counted = Parts::new(alloc);
+    counted.push(part(alloc, "a", INTEGER)?)?;
+    counted.push(with_default(alloc, "b", INTEGER, 7)?)?;
+    table.add(TypeRow::Sequence(counted))?;
+    table.add(TypeRow::Tagged {
+        class: Class::Context,
+        number: 1,
+        explicit: true,
+        inner: TypeId(INTEGER),
+    })?;
+    let mut tagged = Parts::new(alloc);
+    tagged.push(with_default(alloc, "c", NUMBER, 7)?)?;
+    table.add(TypeRow::Sequence(tagged))?;
+    let mut switched = Parts::new(alloc);
+    switched.push(with_default(alloc, "d", BOOLEAN, 1)?)?;
+    table.add(TypeRow::Set(switched))?;
     Ok(())
 }
 
@@ -272,6 +390,70 @@ fn worked_rows(rt: HostRuntime) {
     for (of, octets, ber, der, written) in &ROWS {
         assert!(rt; is_ber(rt.alloc(), *of, octets, *ber, written));
         assert!(rt; is_der(rt.alloc(), *of, octets, *der));
+    }
+}
+
+/// Whether SEQUENCE {a T DEFAULT d} is refused for its default.
+fn is_bad(alloc: Global, inner: u32, default: i64, optional: bool) -> Result<bool, RowRefusal> {
+    let mut table = table(alloc)?;
+    let mut part = with_default(alloc, "a", inner, default)?;
+    part.optional = optional;
+    let mut parts = Parts::new(alloc);
+    parts.push(part)?;
+    Ok(matches!(
+        table.add(TypeRow::Sequence(parts)),
+        Err(RowRefusal::BadDefault)
+    ))
+}
+
+/// A default is of a BOOLEAN, an INTEGER or an ENUMERATED, and not of an optional part.
+#[test]
+fn defaults_that_fit_their_types(rt: HostRuntime) -> Result<(), Fail> {
+    assert!(rt; !is_bad(rt.alloc(), BOOLEAN, 0, false)?);
+    assert!(rt; is_bad(rt.alloc(), BOOLEAN, 2, false)?);
+    assert!(rt; !is_bad(rt.alloc(), NUMBER, -1, false)?);
+    assert!(rt; is_bad(rt.alloc(), NUMBER, -1, true)?);
+    assert!(rt; is_bad(rt.alloc(), OCTETS, 0, false)?);
+    Ok(())
+}
+
+/// How many octets are read in BER within a limit.
+fn used_within(
+    alloc: Global,
+    of: u32,
+    octets: &[u8],
+    most: u32,
+) -> Option<Result<usize, ReadFault>> {
+    let table = table(alloc).ok()?;
+    let of = TypeId(of);
+    if !table.has(of) {
+        return None;
+    }
+    Some(ber_read_within(alloc, &table, of, octets, most).map(|read| read.used))
+}
+
+/// Octets of a type within a limit: too long are they once one lies past it, or a complete length
+/// announces that one does.
+const LIMITED: [(u32, &'static [u8], u32, Outcome); 10] = [
+    (OCTETS, &[0x24, 0x80, 4, 1, 7], 5, Short),
+    (OCTETS, &[0x24, 0x80, 4, 1, 7, 0], 5, TooLong(5)),
+    (OCTETS, &[0x24, 0x80, 4, 1, 7, 0], 6, Short),
+    (OCTETS, &[0x24, 0x80, 4, 1, 7, 0, 0], 6, TooLong(5)),
+    (INTEGER, &[2, 0x82], 2, Short),
+    (INTEGER, &[2, 0x82, 0], 2, TooLong(1)),
+    (INTEGER, &[2, 1], 2, TooLong(1)),
+    (ANY, &[0x1F], 1, Short),
+    (ANY, &[0x1F, 0x81], 1, TooLong(0)),
+    (SET, &[0x31, 1, 1], 3, TooLong(3)),
+];
+
+#[test]
+fn octets_within_a_limit(rt: HostRuntime) {
+    for (of, octets, most, outcome) in &LIMITED {
+        match used_within(rt.alloc(), *of, octets, *most) {
+            Some(read) => assert!(rt; is_outcome(read, *outcome)),
+            None => assert!(rt; false),
+        }
     }
 }
 

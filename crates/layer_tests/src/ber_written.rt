@@ -1,7 +1,6 @@
 //! Values written into a room, and octet for octet as the standard spells them.
 
-use asn1_types::{Node, TypeId, TypeRow, TypeTable, Val};
-use ber_codec::{ber_len, ber_octets, ber_write};
+use ber_codec::{Node, TypeId, TypeRow, TypeTable, Val, ber_len, ber_octets, ber_write};
 use osi_base::Octets;
 use std::test::*;
 

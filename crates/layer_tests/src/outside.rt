@@ -104,25 +104,23 @@ fn files_in_memory_are_found_by_name_and_fail_where_they_are_to(
     rt: HostRuntime,
 ) -> Result<(), Fail> {
     let alloc = rt.alloc();
-    let mut files = MemFiles {
-        files: mem_files(alloc)?,
-        failing: FailingCalls::new(vec![in alloc; 1]?),
-    };
+    let failing = FailingCalls::new(vec![in alloc; 1]?);
+    let mut files = MemFiles::new(alloc, mem_files(alloc)?, failing);
     assert!(rt; gives(alloc, &mut files, "one", b"first"));
     assert!(rt; fault(alloc, &mut files, "one") == Some(FileFault::Failed));
     assert!(rt; fault(alloc, &mut files, "on") == Some(FileFault::Missing));
     assert!(rt; files.failing.faults == 1);
+    assert!(rt; files.asked.len() == 3);
     Ok(())
 }
 
 #[test]
 fn files_that_never_fail_are_found_by_name(rt: HostRuntime) -> Result<(), Fail> {
     let alloc = rt.alloc();
-    let mut files = SureFiles {
-        files: mem_files(alloc)?,
-    };
+    let mut files = SureFiles::new(alloc, mem_files(alloc)?);
     assert!(rt; gives(alloc, &mut files, "one", b"first"));
     assert!(rt; fault(alloc, &mut files, "on") == Some(FileFault::Missing));
+    assert!(rt; files.asked.len() == 2);
     Ok(())
 }
 

@@ -53,11 +53,16 @@ const INVOKE: u32 = 15;
 
 const APDU: u32 = 16;
 
+const COUNTED: u32 = 17;
+
+const SWITCHED: u32 = 18;
+
 fn part(alloc: Global, name: &str, inner: u32, optional: bool) -> Result<Part, RowRefusal> {
     Ok(Part {
         name: Name::from_str(alloc, name)?,
         inner: TypeId(inner),
         optional,
+        default: None,
     })
 }
 
@@ -68,6 +73,7 @@ fn table_of(alloc: Global) -> Result<TypeTable, RowRefusal> {
     add_listed(alloc, &mut table)?;
     add_made(alloc, &mut table)?;
     add_apdu(alloc, &mut table)?;
+    add_defaults(alloc, &mut table)?;
     Ok(table)
 }
 
@@ -134,6 +140,20 @@ fn add_apdu(alloc: Global, table: &mut TypeTable) -> Result<(), RowRefusal> {
     Ok(())
 }
 
+/// SEQUENCE {a INTEGER, b INTEGER DEFAULT 7} and SET {c BOOLEAN DEFAULT TRUE}.
+fn add_defaults(alloc: Global, table: &mut TypeTable) -> Result<(), RowRefusal> {
+    let a = part(alloc, "a", INTEGER, false)?;
+    let mut b = part(alloc, "b", INTEGER, false)?;
+    b.default = Some(7);
+    table.add(TypeRow::Sequence(two(alloc, a, b)?))?;
+    let mut c = part(alloc, "c", BOOLEAN, false)?;
+    c.default = Some(1);
+    let mut parts = Parts::new(alloc);
+    parts.push(c)?;
+    table.add(TypeRow::Set(parts))?;
+    Ok(())
+}
+
 fn invocation(alloc: Global) -> Result<Parts, RowRefusal> {
     let invoke = part(alloc, "invoke", INTEGER, false)?;
     let linked = part(alloc, "linked", TAGGED, true)?;
@@ -150,7 +170,7 @@ fn two(alloc: Global, first: Part, second: Part) -> Result<Parts, RowRefusal> {
     Ok(parts)
 }
 
-const ROWS: [(u32, &'static [u8], Outcome); 46] = [
+const ROWS: [(u32, &'static [u8], Outcome); 53] = [
     (BOOLEAN, &[0x01], Whole),
     (BOOLEAN, &[0x02], Content(0)),
     (BOOLEAN, &[], Short),
@@ -225,6 +245,13 @@ const ROWS: [(u32, &'static [u8], Outcome); 46] = [
         &[0x01, 0x01, 0x01, 0x00, 0x00, 0x01, 0x01, 0x01, 0x01, 0x05],
         Whole,
     ),
+    (COUNTED, &[0x01, 0x05, 0x00], Whole),
+    (COUNTED, &[0x01, 0x05, 0x01, 0x01, 0x08], Whole),
+    (COUNTED, &[0x01, 0x05, 0x01, 0x01, 0x07], Content(4)),
+    (COUNTED, &[0x01, 0x05, 0x02], Content(2)),
+    (SWITCHED, &[0x00], Whole),
+    (SWITCHED, &[0x01, 0x00], Whole),
+    (SWITCHED, &[0x01, 0x01], Content(1)),
 ];
 
 /// Whether reading fails so.
@@ -278,5 +305,9 @@ fn a_lower_limit(rt: HostRuntime) -> Result<(), Fail> {
     assert!(rt; whole.used == 6);
     let fault = packed_read_within(rt.alloc(), &table, of, &flags, 5);
     assert!(rt; matches!(&fault, Err(PackedFault::TooLong { place: 5 })));
+    let fault = packed_read_within(rt.alloc(), &table, TypeId(INTEGER), &[0x09], 5);
+    assert!(rt; matches!(&fault, Err(PackedFault::NotSpelled { place: 0, .. })));
+    let fault = packed_read_within(rt.alloc(), &table, TypeId(INTEGER), &[0x08], 5);
+    assert!(rt; matches!(&fault, Err(PackedFault::TooLong { place: 0 })));
     Ok(())
 }

@@ -3,7 +3,7 @@ use Rattle.std.proofs.Common.{Option, None, Some, ◌≤◌, ℕ, List, length, 
 use Rattle.std.specs.Option.{option_map}
 use Rattle.std.specs.Str.{bytes_eq}
 use Rattle.osi_base.specs.Memory.{contents_in}
-use Rattle.osi_base.specs.declared.files.TheConstants.{FILE_MOST}
+use Rattle.osi_base.specs.Limits.{file_most}
 use Rattle.osi_base.specs.declared.memory.MemFile.{MemFile}
 
 cut_short : (most : ℕ) (octets : List ℕ) → length (take most octets) ≤ most
@@ -11,10 +11,10 @@ cut_short most octets = rw length-take (omega arith)
 
 -- a cut content is short enough
 cut_bounded : (found : Option MemFile)
-    → IfSome (option_map (λ file. take FILE_MOST file.contents) found) (λ octets. length octets ≤ FILE_MOST)
+    → IfSome (option_map (λ file. take file_most file.contents) found) (λ octets. length octets ≤ file_most)
 cut_bounded None = tt
-cut_bounded (Some file) = cut_short FILE_MOST file.contents
+cut_bounded (Some file) = cut_short file_most file.contents
 
 pub contents_in_bounded : (files : List MemFile) (name : List ℕ)
-    → IfSome (contents_in files name) (λ octets. length octets ≤ FILE_MOST)
+    → IfSome (contents_in files name) (λ octets. length octets ≤ file_most)
 contents_in_bounded files name = cut_bounded (find (λ file. bytes_eq file.name name) files)

@@ -1,4 +1,10 @@
+pub mod BitString
+pub mod Bits
+pub mod Failing
+pub mod Limits
+pub mod Lines
 pub mod Memory
 pub mod Oid
 pub mod Outside
+pub mod PdvContent
 pub mod Syntax

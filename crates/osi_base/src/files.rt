@@ -1,13 +1,14 @@
 //! Files that are read by name.
 
-ghost use Rattle.std.specs.Prelude.{Option, ◌≡◌, ◌≤◌, ℕ, List, length, IfOk, IfSome, IsErrOf};
-ghost use Rattle.osi_base.specs.Outside.{Rose, FileMap, Lacks};
+ghost use Rattle.std.specs.Prelude.{Option, ◌≡◌, ◌≤◌, ℕ, List, length, IfOk, IfSome, OnOk, IsErrOf};
+ghost use Rattle.osi_base.specs.Limits.{file_most};
+ghost use Rattle.osi_base.specs.Outside.{Rose, FileMap, Lacks, logged};
 ghost use Rattle.osi_base.specs.declared.files.FileFault.TheVariants.{NoMemory};
 
 use crate::fault;
 use crate::name::Name;
 use crate::octets::Octets;
-use std::alloc::{AllocError, Global};
+use std::alloc::{AllocError, AllocFailed, Global};
 
 /// How many octets of a file are handed up at most: one more than any file that is read whole
 /// may have, so that a file which is too long is seen to be.
@@ -40,14 +41,27 @@ impl From<AllocError> for FileFault {
     }
 }
 
-/// Files that are read by name. An object may tell their contents. `Missing` comes only where it
-/// tells that there is no such file.
+impl<T: Drop> From<AllocFailed<T>> for FileFault {
+    ghost from_gives = { λ _ fault. fault ≡ NoMemory };
+
+    fn from(_error: AllocFailed<T>) -> FileFault {
+        FileFault::NoMemory
+    }
+}
+
+/// Files that are read by name. An object may tell their contents, and the names that it was
+/// asked for. `Missing` comes only where it tells that there is no such file. Only a call that
+/// answers `Failed` raises the count of faults.
 pub trait Files {
     // How often reading failed: a count that never falls, and stands still at its last value.
     ghost faults: { Self → ℕ };
 
     // The contents by name, where the object tells them.
     ghost told: { Self → Option FileMap };
+
+    // The names that were asked for but those for which an allocation was refused, the newest
+    // first, where the object tells them.
+    ghost asked: { Self → Option (List (List ℕ)) };
 
     /// The contents of the file of this name, or the first `FILE_MOST` octets of them.
     fn read(&mut self, alloc: Global, name: &Name) -> Result<Octets, FileFault>
@@ -56,11 +70,21 @@ pub trait Files {
 
         // What is handed up
         ensures contents { IfOk result (λ octets. IfSome (told self.old) (λ files. files name.now ≡ Some octets)) }
-        ensures bounded { IfOk result (λ octets. length octets ≤ FILE_MOST) }
-        ensures told_bounded { IfSome (told self.old) (λ files. IfSome (files name.now) (λ octets. length octets ≤ FILE_MOST)) }
+        ensures bounded { IfOk result (λ octets. length octets ≤ file_most) }
+        ensures told_bounded { IfSome (told self.old) (λ files. IfSome (files name.now) (λ octets. length octets ≤ file_most)) }
+        ensures ok { OnOk result (faults self.new ≡ faults self.old) }
+        ensures ok_asked { OnOk result (asked self.new ≡ logged name.now (asked self.old)) }
 
-        // Why nothing is
+        // Reading failed
         ensures failed { IsErrOf result FileFault.Failed → Rose (faults self.old) (faults self.new) }
+        ensures failed_asked { IsErrOf result FileFault.Failed → asked self.new ≡ logged name.now (asked self.old) }
+
+        // There is no such file
         ensures missing { IsErrOf result FileFault.Missing → Lacks (told self.old) name.now }
-        ensures no_memory { IsErrOf result FileFault.NoMemory → faults self.new ≡ faults self.old };
+        ensures missing_count { IsErrOf result FileFault.Missing → faults self.new ≡ faults self.old }
+        ensures missing_asked { IsErrOf result FileFault.Missing → asked self.new ≡ logged name.now (asked self.old) }
+
+        // An allocation was refused
+        ensures no_memory { IsErrOf result FileFault.NoMemory → faults self.new ≡ faults self.old }
+        ensures no_memory_asked { IsErrOf result FileFault.NoMemory → asked self.new ≡ asked self.old };
 }

@@ -2,6 +2,8 @@
 //! syntaxes, pairs, kinds of fault, and the traits of the outside.
 #![tactic(auto)]
 
+mod acse_word;
+mod bit_string;
 mod copied;
 mod failing;
 mod fault;
@@ -12,13 +14,17 @@ mod memory;
 mod name;
 mod octets;
 mod oid;
+mod presentation_word;
 mod real;
+mod rtse_word;
 mod session_word;
 mod sink;
 mod sure_line;
 mod syntax;
 mod words;
 
+pub use acse_word::{Acse, Diagnostic, External, Externals};
+pub use bit_string::BitString;
 pub use copied::Copied;
 pub use failing::FailingCalls;
 pub use fault::NoMemory;
@@ -29,7 +35,12 @@ pub use memory::{MemFile, MemFiles, MemSink, SureFiles, SureSink};
 pub use name::{Name, Words};
 pub use octets::Octets;
 pub use oid::{Oid, are_oid};
+pub use presentation_word::{
+    Pdv, PdvContent, Pdvs, Ppdu, PresentationAccept, PresentationConnect, PresentationReject,
+    PresentationWord,
+};
 pub use real::{DiskFiles, StdSink};
+pub use rtse_word::{ConnectionData, Rtse};
 pub use session_word::{SessionConnect, SessionWord, Spdu, Spdus};
 pub use sink::{Sink, SinkFault, write_all};
 pub use sure_line::SureLine;

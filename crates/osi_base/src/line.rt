@@ -71,6 +71,7 @@ pub enum LineCall {
 
 /// A line to one peer at a time: `open` and `accept` begin a new connection. An object may tell
 /// its log. It may stop telling it at a call of `shut`, which has no answer for want of memory.
+/// Only a call that answers `Failed` raises the count of faults.
 pub trait Line {
     // How often the line failed: a count that never falls, and stands still at its last value.
     ghost faults: { Self → ℕ };
@@ -87,6 +88,7 @@ pub trait Line {
     fn open(&mut self, alloc: Global, host: &Name, port: u16) -> Result<(), LineFault>
         ensures count { faults self.old ≤ faults self.new }
         ensures ok { OnOk result (told self.new ≡ logged (LineCall.Open host.now port Outcome.Done) (told self.old)) }
+        ensures ok_count { OnOk result (faults self.new ≡ faults self.old) }
         ensures begins { OnOk result (octets_read self.new ≡ 0) }
 
         // The line failed
@@ -103,6 +105,7 @@ pub trait Line {
     fn accept(&mut self, alloc: Global, port: u16) -> Result<(), LineFault>
         ensures count { faults self.old ≤ faults self.new }
         ensures ok { OnOk result (told self.new ≡ logged (LineCall.Accept port Outcome.Done) (told self.old)) }
+        ensures ok_count { OnOk result (faults self.new ≡ faults self.old) }
         ensures begins { OnOk result (octets_read self.new ≡ 0) }
 
         // The line failed
@@ -121,6 +124,7 @@ pub trait Line {
         ensures count { faults self.old ≤ faults self.new }
         ensures within { IfOk result (λ filled. filled ≤ length room.new) }
         ensures ok { IfOk result (λ filled. told self.new ≡ logged (LineCall.Read (take filled room.new) Outcome.Done) (told self.old)) }
+        ensures ok_count { OnOk result (faults self.new ≡ faults self.old) }
         ensures counts { IfOk result (λ filled. octets_read self.new ≡ counted (octets_read self.old) filled) }
         ensures err { OnErr result (octets_read self.new ≡ octets_read self.old) }
 
@@ -139,6 +143,7 @@ pub trait Line {
         ensures within { IfOk result (λ taken. taken ≤ length bytes.now) }
         ensures some { IfOk result (λ taken. 0 < length bytes.now → 0 < taken) }
         ensures ok { IfOk result (λ taken. told self.new ≡ logged (LineCall.Write (take taken bytes.now) Outcome.Done) (told self.old)) }
+        ensures ok_count { OnOk result (faults self.new ≡ faults self.old) }
         ensures read { octets_read self.new ≡ octets_read self.old }
 
         // The line failed
@@ -153,6 +158,7 @@ pub trait Line {
     fn shut(&mut self) -> Result<(), Failed>
         ensures count { faults self.old ≤ faults self.new }
         ensures ok { OnOk result (IfSome (told self.new) (λ log. Some log ≡ logged (LineCall.Shut Outcome.Done) (told self.old))) }
+        ensures ok_count { OnOk result (faults self.new ≡ faults self.old) }
         ensures read { octets_read self.new ≡ octets_read self.old }
         ensures failed { OnErr result (Rose (faults self.old) (faults self.new)) }
         ensures failed_log { OnErr result (IfSome (told self.new) (λ log. Some log ≡ logged (LineCall.Shut Outcome.Failed) (told self.old))) };

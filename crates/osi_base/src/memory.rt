@@ -1,10 +1,13 @@
 //! Files and sinks that are held in memory.
 
-ghost use Rattle.std.specs.Prelude.{[], ◌<◌, ◌≡◌, ◌≤◌, Some, None, IfOk, IfSome, IsErrOf, length, take, find};
+ghost use Rattle.std.specs.Prelude.{[], ◌∷◌, ◌++◌, ◌<◌, ◌≡◌, ◌≤◌, Some, None, IfOk, IfSome, OnOk, OnErr, IsErrOf, min, length, reverse, take, find};
 ghost use Rattle.std.specs.Option.{option_copied};
 ghost use Rattle.std.specs.Str.{bytes_eq};
+ghost use Rattle.osi_base.specs.Failing.{Passes, Fails};
+ghost use Rattle.osi_base.specs.Limits.{file_most};
 ghost use Rattle.osi_base.specs.Memory.{contents_in};
 
+use crate::copied::Copied;
 use crate::failing::FailingCalls;
 use crate::files::{FILE_MOST, FileFault, Files};
 use crate::list::ListOf;
@@ -20,17 +23,50 @@ pub struct MemFile {
     pub contents: Octets,
 }
 
-/// Files in memory, of which some calls fail.
+/// Files in memory, of which some calls fail. They tell the names that they were asked for.
 #[derive(Debug, Drop)]
 pub struct MemFiles {
     pub files: ListOf<MemFile>,
     pub failing: FailingCalls,
+    /// The names, the oldest first.
+    pub asked: Vec<Name>,
 }
 
-/// Files in memory, which are always read.
+/// Files in memory, which are always read. They tell the names that they were asked for.
 #[derive(Debug, Drop)]
 pub struct SureFiles {
     pub files: ListOf<MemFile>,
+    /// The names, the oldest first.
+    pub asked: Vec<Name>,
+}
+
+impl MemFiles {
+    /// These files, of which none was asked for. The calls of `read` with these numbers, counted
+    /// from 0, fail.
+    pub fn new(alloc: Global, files: ListOf<MemFile>, failing: FailingCalls) -> MemFiles
+        ensures files { result.files ≡ files }
+        ensures failing { result.failing ≡ failing }
+        ensures asked { result.asked.items ≡ [] }
+    {
+        MemFiles {
+            files,
+            failing,
+            asked: Vec::new(alloc),
+        }
+    }
+}
+
+impl SureFiles {
+    /// These files, of which none was asked for.
+    pub fn new(alloc: Global, files: ListOf<MemFile>) -> SureFiles
+        ensures files { result.files ≡ files }
+        ensures asked { result.asked.items ≡ [] }
+    {
+        SureFiles {
+            files,
+            asked: Vec::new(alloc),
+        }
+    }
 }
 
 /// The first file of this name.
@@ -45,7 +81,7 @@ fn find_file<'a>(files: &'a [MemFile], name: &Name) -> Option<&'a MemFile>
 /// As many octets as are handed up.
 #[tactic(auto, using(std::proofs::lemmas::List::take_min))]
 fn cut(contents: &[u8]) -> &[u8]
-    ensures { result.now ≡ take FILE_MOST contents.now }
+    ensures { result.now ≡ take file_most contents.now }
 {
     &contents[..FILE_MOST.min(contents.len())]
 }
@@ -54,7 +90,7 @@ fn cut(contents: &[u8]) -> &[u8]
 #[tactic(auto, using(crate::proofs::Contents::contents_in_bounded))]
 fn read_in(files: &[MemFile], alloc: Global, name: &Name) -> Result<Octets, FileFault>
     ensures contents { IfOk result (λ octets. contents_in files.now name.now ≡ Some octets) }
-    ensures bounded { IfSome (contents_in files.now name.now) (λ octets. length octets ≤ FILE_MOST) }
+    ensures bounded { IfSome (contents_in files.now name.now) (λ octets. length octets ≤ file_most) }
     ensures missing { IsErrOf result FileFault.Missing → contents_in files.now name.now ≡ None }
     ensures never_failed { ¬ (IsErrOf result FileFault.Failed) }
 {
@@ -70,11 +106,42 @@ impl Files for MemFiles {
 
     ghost told = { λ it. Some (contents_in it.files) };
 
-    fn read(&mut self, alloc: Global, name: &Name) -> Result<Octets, FileFault> {
+    ghost asked = { λ it. Some (reverse it.asked.items) };
+
+    fn read(&mut self, alloc: Global, name: &Name) -> Result<Octets, FileFault>
+        ensures count { self.old.failing.faults ≤ self.new.failing.faults }
+        ensures files { self.new.files ≡ self.old.files }
+        ensures asked { OnOk result (self.new.asked.items ≡ self.old.asked.items ++ name.now ∷ []) }
+        ensures contents { IfOk result (λ octets. contents_in self.old.files name.now ≡ Some octets) }
+        ensures bounded { IfOk result (λ octets. length octets ≤ file_most) }
+        ensures told_bounded { IfSome (contents_in self.old.files name.now) (λ octets. length octets ≤ file_most) }
+
+        // It fails exactly where it is to
+        ensures ok { OnOk result (Passes self.old.failing self.new.failing) }
+        ensures failed { IsErrOf result FileFault.Failed → Fails self.old.failing self.new.failing }
+        ensures failed_asked { IsErrOf result FileFault.Failed → self.new.asked.items ≡ self.old.asked.items ++ name.now ∷ [] }
+
+        // There is no such file
+        ensures missing { IsErrOf result FileFault.Missing → contents_in self.old.files name.now ≡ None }
+        ensures missing_passes { IsErrOf result FileFault.Missing → Passes self.old.failing self.new.failing }
+        ensures missing_asked { IsErrOf result FileFault.Missing → self.new.asked.items ≡ self.old.asked.items ++ name.now ∷ [] }
+
+        // An allocation was refused
+        ensures no_memory { IsErrOf result FileFault.NoMemory → self.new.failing.faults ≡ self.old.failing.faults }
+        ensures no_memory_asked { IsErrOf result FileFault.NoMemory → self.new.asked.items ≡ self.old.asked.items }
+    {
+        let title = name.copy(alloc)?;
+        self.asked.reserve(1)?;
         if self.failing.is_next() {
+            self.asked.push(title)?;
             return Err(FileFault::Failed);
         }
-        read_in(self.files.as_slice(), alloc, name)
+        let contents = read_in(self.files.as_slice(), alloc, name);
+        if let Err(FileFault::NoMemory) = contents {
+            return Err(FileFault::NoMemory);
+        }
+        self.asked.push(title)?;
+        contents
     }
 }
 
@@ -84,8 +151,17 @@ impl Files for SureFiles {
 
     ghost told = { λ it. Some (contents_in it.files) };
 
+    ghost asked = { λ it. Some (reverse it.asked.items) };
+
     fn read(&mut self, alloc: Global, name: &Name) -> Result<Octets, FileFault> {
-        read_in(self.files.as_slice(), alloc, name)
+        let title = name.copy(alloc)?;
+        self.asked.reserve(1)?;
+        let contents = read_in(self.files.as_slice(), alloc, name);
+        if let Err(FileFault::NoMemory) = contents {
+            return Err(FileFault::NoMemory);
+        }
+        self.asked.push(title)?;
+        contents
     }
 }
 
@@ -137,7 +213,18 @@ impl Sink for MemSink {
 
     ghost told = { λ it. Some it.written };
 
-    fn write(&mut self, bytes: &[u8]) -> Result<usize, SinkFault> {
+    fn write(&mut self, bytes: &[u8]) -> Result<usize, SinkFault>
+        ensures count { self.old.failing.faults ≤ self.new.failing.faults }
+        ensures ok { IfOk result (λ taken. self.new.written ≡ self.old.written ++ take taken bytes.now) }
+        ensures taken { IfOk result (λ taken. taken ≡ min self.old.most (length bytes.now)) }
+        ensures most { self.new.most ≡ self.old.most }
+        ensures err { OnErr result (self.new.written ≡ self.old.written) }
+
+        // It fails exactly where it is to
+        ensures passes { OnOk result (Passes self.old.failing self.new.failing) }
+        ensures failed { IsErrOf result SinkFault.Failed → Fails self.old.failing self.new.failing }
+        ensures no_memory { IsErrOf result SinkFault.NoMemory → self.new.failing.faults ≡ self.old.failing.faults }
+    {
         let taken = self.most.min(bytes.len());
         if self.failing.is_next() {
             return Err(SinkFault::Failed);

@@ -1,6 +1,7 @@
 //! The file system and the standard output, as files and a sink.
 
-ghost use Rattle.std.specs.Prelude.{◌≡◌, ◌<◌, ◌≤◌, None, IfOk, IfSome, IsErrOf, length};
+ghost use Rattle.std.specs.Prelude.{◌≡◌, ◌<◌, ◌≤◌, None, IfOk, IfSome, IsErrOf, length, take};
+ghost use Rattle.osi_base.specs.Limits.{file_most};
 ghost use Rattle.osi_base.specs.Outside.{Rose};
 
 use crate::files::{FILE_MOST, FileFault, Files};
@@ -12,7 +13,8 @@ use std::fs::File;
 use std::io::{ErrorKind, Read};
 use std::rt;
 
-/// The files of the file system. Their contents aren't told.
+/// The files of the file system. Neither their contents nor the names that were asked for are
+/// told.
 #[derive(Drop)]
 pub struct DiskFiles<R> {
     pub rt: R,
@@ -28,7 +30,8 @@ pub struct StdSink<R> {
 
 /// Reads a file to its end, or as many of its octets as are handed up.
 fn read_whole<T: Read>(alloc: Global, file: &mut T) -> Result<Octets, FileFault>
-    ensures bounded { IfOk result (λ octets. length octets ≤ FILE_MOST) }
+    ensures whole { IfOk result (λ octets. IfSome (T.remaining file.old) (λ contents. octets ≡ take file_most contents)) }
+    ensures bounded { IfOk result (λ octets. length octets ≤ file_most) }
     ensures found { ¬ (IsErrOf result FileFault.Missing) }
 {
     let mut contents = Octets::new(alloc);
@@ -49,6 +52,8 @@ impl<R: rt::Files> Files for DiskFiles<R> {
     ghost faults = { λ it. it.faults };
 
     ghost told = { λ _. None };
+
+    ghost asked = { λ _. None };
 
     fn read(&mut self, alloc: Global, name: &Name) -> Result<Octets, FileFault> {
         let contents = match File::open(&self.rt, name.as_str()) {

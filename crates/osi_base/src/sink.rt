@@ -33,6 +33,7 @@ impl From<AllocError> for SinkFault {
 }
 
 /// What octets are written to, in pieces. An object may tell the octets that were written so far.
+/// Only a call that answers `Failed` raises the count of faults.
 pub trait Sink {
     // How often writing failed: a count that never falls, and stands still at its last value.
     ghost faults: { Self → ℕ };
@@ -49,6 +50,7 @@ pub trait Sink {
         ensures within { IfOk result (λ taken. taken ≤ length bytes.now) }
         ensures some { IfOk result (λ taken. 0 < length bytes.now → 0 < taken) }
         ensures ok { IfOk result (λ taken. told self.new ≡ grown (told self.old) (take taken bytes.now)) }
+        ensures ok_count { OnOk result (faults self.new ≡ faults self.old) }
         ensures err { OnErr result (told self.new ≡ told self.old) }
 
         // Why nothing is
@@ -56,13 +58,16 @@ pub trait Sink {
         ensures no_memory { IsErrOf result SinkFault.NoMemory → faults self.new ≡ faults self.old };
 }
 
-/// Writes all of these octets. After an `Err` a beginning of them was written.
+/// Writes all of these octets. After an `Err` a beginning of them was written. A call of the sink
+/// that fails is the last one.
 #[tactic(auto, using(crate::proofs::Grown::grown_nil, crate::proofs::Grown::grown_grown))]
 pub fn write_all<O: Sink>(out: &mut O, bytes: &[u8]) -> Result<(), SinkFault>
     ensures count { O.faults out.old ≤ O.faults out.new }
     ensures ok { OnOk result (O.told out.new ≡ grown (O.told out.old) bytes.now) }
+    ensures ok_count { OnOk result (O.faults out.new ≡ O.faults out.old) }
     ensures err { OnErr result (GrewPart (O.told out.old) (O.told out.new) bytes.now) }
     ensures failed { IsErrOf result SinkFault.Failed → Rose (O.faults out.old) (O.faults out.new) }
+    ensures no_memory { IsErrOf result SinkFault.NoMemory → O.faults out.new ≡ O.faults out.old }
 {
     let mut written = 0;
     while written < bytes.len() {

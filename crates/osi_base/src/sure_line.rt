@@ -1,7 +1,8 @@
 //! A line that never fails and whose peers say nothing.
 
-ghost use Rattle.std.specs.Prelude.{◌≡◌, [], Some, OnOk, OnErr, IsErrOf};
+ghost use Rattle.std.specs.Prelude.{◌≡◌, [], Some, IfSome, IsOk, OnOk, OnErr, IsErrOf};
 ghost use Rattle.osi_base.specs.Outside.{logged};
+ghost use Rattle.osi_base.specs.Lines.{AwaitsShut};
 
 use crate::copied::Copied;
 use crate::line::{Failed, Line, LineCall, LineFault, Outcome};
@@ -10,7 +11,8 @@ use crate::octets::Octets;
 use std::alloc::Global;
 use std::marker::Model;
 
-/// A line that never fails. Its peers take all that is written, and end without a word.
+/// A line that never fails. Its peers take all that is written, and end without a word. It goes
+/// on telling its log through each `shut` that comes right after another call.
 #[derive(Debug, Drop)]
 pub struct SureLine {
     alloc: Global,
@@ -19,12 +21,16 @@ pub struct SureLine {
 }
 
 impl Model for SureLine {
-    ghost use Rattle.std.specs.Prelude.{Option, List, Some, None, reverse, if◌then◌else◌};
+    ghost use Rattle.std.specs.Prelude.{Option, List, Some, None, reverse, vec_len, vec_capacity, if◌then◌else◌};
     ghost use Rattle.osi_base.specs.declared.line.LineCall.{LineCall};
+    ghost use Rattle.osi_base.specs.Lines.{KeepsRoom};
 
     ghost Value = { Option (List LineCall) };
 
     ghost view = { λ line. (if line.is_told then Some (reverse line.calls.items) else None) };
+
+    // There is room for a call of `shut` after each other call.
+    ghost invariant = { λ line. KeepsRoom (reverse line.calls.items) (vec_len line.calls) (vec_capacity line.calls) };
 }
 
 impl SureLine {
@@ -79,7 +85,11 @@ impl Line for SureLine {
         Ok(bytes.len())
     }
 
-    fn shut(&mut self) -> Result<(), Failed> {
+    fn shut(&mut self) -> Result<(), Failed>
+        ensures done { IsOk result }
+        ensures log { IfSome self.new (λ log. Some log ≡ logged (LineCall.Shut Outcome.Done) self.old) }
+        ensures kept { AwaitsShut self.old → self.new ≡ logged (LineCall.Shut Outcome.Done) self.old }
+    {
         if self.is_told && self.calls.push(LineCall::Shut(Outcome::Done)).is_err() {
             self.is_told = false;
         }

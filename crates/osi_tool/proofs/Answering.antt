@@ -10,7 +10,7 @@ use Rattle.osi_tool.specs.declared.preparing.Prepared.{Prepared}
 use Rattle.osi_tool.specs.declared.preparing.Prepared.TheVariants.{Answered, Ready}
 use Rattle.osi_tool.specs.Known.{one_tables}
 use Rattle.osi_tool.specs.Commands.{command_of}
-use Rattle.osi_tool.specs.Answers.{done_answer, Ends}
+use Rattle.osi_tool.specs.Answers.{done_answer, KeepsCount, Ends}
 use Rattle.osi_tool.specs.Preparing.{Prepares}
 use Rattle.osi_tool.specs.Replaying.{Replayed}
 use Rattle.osi_tool.specs.TopCall.{IsAnswer, refuses, replays, Closes, answered, no_room}
@@ -35,9 +35,9 @@ module _ (told : Option FileMap) (old new : ℕ) (words : List (List ℕ)) where
       subst A (sym told_so) (replays schedule text (made_by tables known p (Ready schedule) is made) (subst R known run))
 
   pub closed : {E : Type 0} (sink_old sink_new : ℕ) (before after : Option (List ℕ)) (status : Status) (r : Result Answer E)
-      → IfOk r (λ answer. IsAnswer told old new words answer)
-      → MatchResult r (λ made. Ends sink_old sink_new before after made status) (λ _. (status ≡ NoMemory) × (after ≡ before))
+      → IfOk r (λ answer. IsAnswer told old new words answer) → IfOk r (λ answer. KeepsCount old new answer)
+      → MatchResult r (λ made. Ends sink_old sink_new before after made status) (λ _. (status ≡ NoMemory) × (sink_new ≡ sink_old) × (after ≡ before))
       → Closes told old new words sink_old sink_new before after status
-  closed sink_old sink_new before after status (Ok answer) is ends = answered answer status is ends
-  closed sink_old sink_new before after status (Err fault) is ends =
-      let C : Status → Type 0 = λ s. Closes told old new words sink_old sink_new before after s in subst C (sym ends.0) (no_room ends.1)
+  closed sink_old sink_new before after status (Ok answer) is counts ends = answered answer status is counts ends
+  closed sink_old sink_new before after status (Err fault) is counts ends =
+      let C : Status → Type 0 = λ s. Closes told old new words sink_old sink_new before after s in subst C (sym ends.0) (no_room ends.1 ends.2)

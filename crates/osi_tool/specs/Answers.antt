@@ -1,5 +1,5 @@
 -- What the program answers: a status, and the text that it writes.
-use Rattle.std.specs.Prelude.{ℕ, ◌≡◌, List, ◌++◌, Option, codes, decimal}
+use Rattle.std.specs.Prelude.{ℕ, ◌≡◌, Bool, true, false, List, ◌++◌, Option, codes, decimal}
 use Rattle.osi_base.specs.Outside.{Rose, grown, GrewPart}
 use Rattle.osi_base.specs.declared.words.Status.{Status}
 use Rattle.osi_base.specs.declared.words.Status.TheVariants.{Done, Usage, ReadFault, WriteFault, ModuleRefused, ScriptRefused, NoMemory}
@@ -41,9 +41,19 @@ script_answer number kind = record { status = ScriptRefused; text = line (codes 
 abbrev pub done_answer : List ℕ → Answer
 done_answer text = record { status = Done; text = text }
 
+abbrev pub is_read_fault : Status → Bool
+is_read_fault ReadFault = true
+is_read_fault _ = false
+
+-- The files' count is as it was, unless the answer is that a file isn't read: a file whose reading failed isn't
+-- read again.
+abbrev pub KeepsCount : ℕ → ℕ → Answer → Type 0
+KeepsCount old new answer = is_read_fault answer.status ≡ false → new ≡ old
+
 -- How a run ends that has this answer, by the sink's count of faults and what it tells, both before and after:
--- all is written, or a beginning of it, and writing failed or memory was refused.
+-- all is written, or a beginning of it, and writing failed or memory was refused. The count is as it was unless
+-- writing failed, so no write is tried again.
 pub data Ends (old new : ℕ) (before after : Option (List ℕ)) (answer : Answer) : Status → Type 0 where
-  whole : after ≡ grown before answer.text → Ends old new before after answer answer.status
+  whole : new ≡ old → after ≡ grown before answer.text → Ends old new before after answer answer.status
   failed : Rose old new → GrewPart before after answer.text → Ends old new before after answer WriteFault
-  no_memory : GrewPart before after answer.text → Ends old new before after answer NoMemory
+  no_memory : new ≡ old → GrewPart before after answer.text → Ends old new before after answer NoMemory

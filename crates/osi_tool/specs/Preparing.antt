@@ -1,7 +1,7 @@
 -- From the words to what is to be run.
 use Rattle.std.specs.Prelude.{ℕ, ◌≡◌, ◌≤◌, ◌⊎◌, List, length, Option, None, Some, Result, Ok, Err, IfSome, MatchBool, true, false}
-use Rattle.osi_base.specs.Outside.{Rose, FileMap, Lacks}
-use Rattle.osi_base.specs.declared.files.TheConstants.{FILE_MOST}
+use Rattle.osi_base.specs.Limits.{file_most}
+use Rattle.osi_base.specs.Outside.{Rose, FileMap, Lacks, logged}
 use Rattle.stub_tables.specs.declared.tables.Tables.{Tables}
 use Rattle.script_text.specs.declared.fault.ScriptFault.{ScriptFault}
 use Rattle.script_text.specs.declared.fault.ScriptFault.TheVariants.{At, NoMemory}
@@ -12,13 +12,39 @@ use Rattle.osi_tool.specs.declared.preparing.Prepared.{Prepared}
 use Rattle.osi_tool.specs.declared.preparing.Prepared.TheVariants.{Answered, Ready}
 use Rattle.osi_tool.specs.Commands.{Command}
 use Rattle.osi_tool.specs.Known.{is_one_module}
-use Rattle.osi_tool.specs.Answers.{usage_answer, unread_answer, module_answer, script_answer}
+use Rattle.osi_tool.specs.Answers.{usage_answer, unread_answer, module_answer, script_answer, KeepsCount}
 
 -- What came of reading the file of a name: octets, which are those of a told map; or nothing, since the
 -- count of faults rose or the told map lacks the name.
 abbrev pub WasRead : Option FileMap → ℕ → ℕ → List ℕ → Option (List ℕ) → Type 0
-WasRead told old new name (Some octets) = IfSome told (λ files. files name ≡ Some octets) × (length octets ≤ FILE_MOST)
+WasRead told old new name (Some octets) = IfSome told (λ files. files name ≡ Some octets) × (length octets ≤ file_most)
 WasRead told old new name None = Rose old new ⊎ Lacks told name
+
+-- The files' count is as it was, where octets were read.
+abbrev pub KeepsCountAt : ℕ → ℕ → Option (List ℕ) → Type 0
+KeepsCountAt old new None = Unit {0}
+KeepsCountAt old new (Some octets) = new ≡ old
+
+-- The files' count is as it was, unless what was prepared is the answer that a file isn't read.
+abbrev pub KeepsCountFor : ℕ → ℕ → Prepared → Type 0
+KeepsCountFor old new (Answered answer) = KeepsCount old new answer
+KeepsCountFor old new (Ready schedule) = new ≡ old
+
+-- The file of this name was asked for once more, or no file was: by the names that were asked for before and
+-- after, where they are told.
+abbrev pub MayAsk : List ℕ → Option (List (List ℕ)) → Option (List (List ℕ)) → Type 0
+MayAsk name before after = (after ≡ before) ⊎ (after ≡ logged name before)
+
+-- The module was read, and is the one that is known.
+abbrev pub IsKnownRead : Option FileMap → ℕ → ℕ → List ℕ → Type 0
+IsKnownRead told old new name = (text : List ℕ) × WasRead told old new name (Some text) × (is_one_module text ≡ true)
+
+-- Which files were asked for: none where the words are no command; else the module first, and the schedule only
+-- once the module was read and is the one that is known.
+abbrev pub Asks : Option FileMap → ℕ → ℕ → Option (List (List ℕ)) → Option (List (List ℕ)) → Option Command → Type 0
+Asks told old new before after None = after ≡ before
+Asks told old new before after (Some command) = MayAsk command.«module» before after
+    ⊎ (IsKnownRead told old new command.«module» × (after ≡ logged command.schedule (logged command.«module» before)))
 
 -- what a schedule's reading makes
 abbrev pub prepared_by : Result Schedule ScriptFault → Option Prepared

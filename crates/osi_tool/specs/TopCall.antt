@@ -12,7 +12,7 @@ use Rattle.osi_tool.specs.declared.answers.Answer.{Answer}
 use Rattle.osi_tool.specs.declared.preparing.Prepared.TheVariants.{Answered, Ready}
 use Rattle.osi_tool.specs.Known.{one_module, is_one_module, one_tables}
 use Rattle.osi_tool.specs.Commands.{Command, command_of}
-use Rattle.osi_tool.specs.Answers.{usage_answer, unread_answer, module_answer, script_answer, done_answer, Ends}
+use Rattle.osi_tool.specs.Answers.{usage_answer, unread_answer, module_answer, script_answer, done_answer, KeepsCount, Ends}
 use Rattle.osi_tool.specs.Preparing.{WasRead, Prepares}
 use Rattle.osi_tool.specs.Replaying.{Replayed}
 
@@ -30,9 +30,9 @@ pub data IsAnswer (told : Option FileMap) (old new : ℕ) (words : List (List �
 
 -- An answer is written, or a beginning of it; or memory was refused before there was one.
 pub data Closes (told : Option FileMap) (old new : ℕ) (words : List (List ℕ)) (sink_old sink_new : ℕ) (before after : Option (List ℕ)) : Status → Type 0 where
-  answered : (answer : Answer) (status : Status) → IsAnswer told old new words answer → Ends sink_old sink_new before after answer status
+  answered : (answer : Answer) (status : Status) → IsAnswer told old new words answer → KeepsCount old new answer → Ends sink_old sink_new before after answer status
       → Closes told old new words sink_old sink_new before after status
-  no_room : after ≡ before → Closes told old new words sink_old sink_new before after NoMemory
+  no_room : sink_new ≡ sink_old → after ≡ before → Closes told old new words sink_old sink_new before after NoMemory
 
 -- ---- what each status says
 
@@ -90,7 +90,18 @@ pub record IsBadScript (told : Option FileMap) (old new : ℕ) (words : List (Li
 pub record IsBegun (told : Option FileMap) (old new : ℕ) (words : List (List ℕ)) (before after : Option (List ℕ)) : Type 0 where
   pub answer : Answer
   pub is : IsAnswer told old new words answer
+  pub counts : KeepsCount old new answer
   pub part : GrewPart before after answer.text
+
+-- ---- what the counts say
+
+-- The files' count is as it was, unless a file wasn't read: that is told, or its telling wasn't written whole.
+abbrev pub CountsFiles : ℕ → ℕ → Status → Type 0
+CountsFiles old new status = (status ≡ ReadFault) ⊎ ((status ≡ WriteFault) ⊎ ((status ≡ NoMemory) ⊎ (new ≡ old)))
+
+-- The sink's count is as it was, unless the status is that of the sink.
+abbrev pub CountsWrites : ℕ → ℕ → Status → Type 0
+CountsWrites old new status = (status ≡ WriteFault) ⊎ (new ≡ old)
 
 -- ---- when each status comes
 

@@ -1,9 +1,9 @@
 //! From the words to what is to be run.
 
-ghost use Rattle.std.specs.Prelude.{◌≡◌, ◌≤◌, IfOk, Some, None, bytes_eq};
-ghost use Rattle.osi_base.specs.Outside.{Rose};
+ghost use Rattle.std.specs.Prelude.{◌≡◌, ◌≤◌, IfOk, OnOk, OnErr, Some, None, bytes_eq};
+ghost use Rattle.osi_base.specs.Outside.{Rose, logged};
 ghost use Rattle.osi_tool.specs.Commands.{command_of};
-ghost use Rattle.osi_tool.specs.Preparing.{WasRead, AfterModule, Prepares, PreparesModule, PreparesSchedule, prepared_by};
+ghost use Rattle.osi_tool.specs.Preparing.{WasRead, AfterModule, Prepares, PreparesModule, PreparesSchedule, prepared_by, KeepsCountAt, KeepsCountFor, MayAsk, Asks};
 ghost use Rattle.script_text.specs.Schedules.{schedule_of};
 
 use crate::answers::{Answer, cannot_read, module_refused, script_refused, usage};
@@ -30,6 +30,10 @@ pub fn read_file<F: Files>(
     ensures count { F.faults files.old ≤ F.faults files.new }
     ensures kept { F.told files.new ≡ F.told files.old }
     ensures read { IfOk result (λ octets. WasRead (F.told files.old) (F.faults files.old) (F.faults files.new) name.now octets) }
+    ensures ok_count { IfOk result (λ octets. KeepsCountAt (F.faults files.old) (F.faults files.new) octets) }
+    ensures ok_asked { OnOk result (F.asked files.new ≡ logged name.now (F.asked files.old)) }
+    ensures err_count { OnErr result (F.faults files.new ≡ F.faults files.old) }
+    ensures err_asked { OnErr result (F.asked files.new ≡ F.asked files.old) }
 {
     match files.read(alloc, name) {
         Ok(octets) => Ok(Some(octets)),
@@ -62,6 +66,8 @@ fn prepare_named_schedule<F: Files>(
     ensures count { F.faults files.old ≤ F.faults files.new }
     ensures kept { F.told files.new ≡ F.told files.old }
     ensures prepared { IfOk result (λ prepared. PreparesSchedule tables.now (F.told files.old) (F.faults files.old) (F.faults files.new) name.now prepared) }
+    ensures counts { IfOk result (λ prepared. KeepsCountFor (F.faults files.old) (F.faults files.new) prepared) }
+    ensures asked { MayAsk name.now (F.asked files.old) (F.asked files.new) }
 {
     match read_file(alloc, files, name)? {
         None => Ok(Prepared::Answered(cannot_read(alloc, name)?)),
@@ -80,6 +86,8 @@ fn prepare_module<F: Files>(
     ensures count { F.faults files.old ≤ F.faults files.new }
     ensures kept { F.told files.new ≡ F.told files.old }
     ensures prepared { IfOk result (λ prepared. PreparesModule tables.now (F.told files.old) (F.faults files.old) (F.faults files.new) (record { «module» = «module».now; schedule = schedule.now }) prepared) }
+    ensures counts { IfOk result (λ prepared. KeepsCountFor (F.faults files.old) (F.faults files.new) prepared) }
+    ensures asked { Asks (F.told files.old) (F.faults files.old) (F.faults files.new) (F.asked files.old) (F.asked files.new) (Some (record { «module» = «module».now; schedule = schedule.now })) }
 {
     let Some(text) = read_file(alloc, files, module)? else {
         return Ok(Prepared::Answered(cannot_read(alloc, module)?));
@@ -101,6 +109,8 @@ pub fn prepare<F: Files>(
     ensures count { F.faults files.old ≤ F.faults files.new }
     ensures kept { F.told files.new ≡ F.told files.old }
     ensures prepared { IfOk result (λ prepared. Prepares tables.now (F.told files.old) (F.faults files.old) (F.faults files.new) (command_of words.now) prepared) }
+    ensures counts { IfOk result (λ prepared. KeepsCountFor (F.faults files.old) (F.faults files.new) prepared) }
+    ensures asked { Asks (F.told files.old) (F.faults files.old) (F.faults files.new) (F.asked files.old) (F.asked files.new) (command_of words.now) }
 {
     match command(words) {
         None => Ok(Prepared::Answered(usage(alloc)?)),

@@ -26,10 +26,7 @@ fn files(alloc: Global, texts: &[(&str, &str)], numbers: Vec<u64>) -> Result<Mem
             contents: Octets::from_slice(alloc, contents.as_bytes())?,
         })?;
     }
-    Ok(MemFiles {
-        files,
-        failing: FailingCalls::new(numbers),
-    })
+    Ok(MemFiles::new(alloc, files, FailingCalls::new(numbers)))
 }
 
 /// The module `one`, a text `other` that is no module, and the schedules `bare` and `dance`.

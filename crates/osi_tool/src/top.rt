@@ -2,8 +2,10 @@
 
 ghost use Rattle.std.specs.Prelude.{◌≡◌, ◌≢◌, ◌≤◌, ◌⊎◌, None, IfOk, IfSome};
 ghost use Rattle.osi_base.specs.Outside.{Rose, IsCalm};
+ghost use Rattle.osi_tool.specs.Answers.{KeepsCount};
 ghost use Rattle.osi_tool.specs.Commands.{command_of};
-ghost use Rattle.osi_tool.specs.TopCall.{IsAnswer, Closes, IsDone, IsUsage, IsUnread, IsOtherModule, IsBadScript, IsBegun, IsUnless, IsSure, due_status};
+ghost use Rattle.osi_tool.specs.Preparing.{Asks};
+ghost use Rattle.osi_tool.specs.TopCall.{IsAnswer, Closes, IsDone, IsUsage, IsUnread, IsOtherModule, IsBadScript, IsBegun, IsUnless, IsSure, CountsFiles, CountsWrites, due_status};
 
 use crate::answers::{Answer, conclude, done};
 use crate::known::one_tables;
@@ -17,6 +19,8 @@ fn answer_words<F: Files>(alloc: Global, words: &Words, files: &mut F) -> Result
     ensures count { F.faults files.old ≤ F.faults files.new }
     ensures kept { F.told files.new ≡ F.told files.old }
     ensures answer { IfOk result (λ answer. IsAnswer (F.told files.old) (F.faults files.old) (F.faults files.new) words.now answer) }
+    ensures counts { IfOk result (λ answer. KeepsCount (F.faults files.old) (F.faults files.new) answer) }
+    ensures asked { Asks (F.told files.old) (F.faults files.old) (F.faults files.new) (F.asked files.old) (F.asked files.new) (command_of words.now) }
 {
     let tables = one_tables(alloc)?;
     match prepare(alloc, &tables, words, files)? {
@@ -30,6 +34,7 @@ fn run_words<F: Files, O: Sink>(alloc: Global, words: &Words, files: &mut F, out
     ensures files { F.faults files.old ≤ F.faults files.new }
     ensures contents { F.told files.new ≡ F.told files.old }
     ensures sink { O.faults out.old ≤ O.faults out.new }
+    ensures asked { Asks (F.told files.old) (F.faults files.old) (F.faults files.new) (F.asked files.old) (F.asked files.new) (command_of words.now) }
     ensures closes { Closes (F.told files.old) (F.faults files.old) (F.faults files.new) words.now (O.faults out.old) (O.faults out.new) (O.told out.old) (O.told out.new) result }
 {
     conclude(out, answer_words(alloc, words, files))
@@ -47,8 +52,9 @@ fn run_words<F: Files, O: Sink>(alloc: Global, words: &Words, files: &mut F, out
 /// - `WriteFault`: the sink failed; a beginning of the text was written.
 /// - `NoMemory`: an allocation was refused; a beginning of the text, or none of it, was written.
 ///
-/// The words come first, then the module, the schedule and the run: the first fault decides. The
-/// line isn't used by `replay`.
+/// The words come first, then the module, the schedule and the run: the first fault decides. A
+/// file that isn't due isn't asked for, and neither a read nor a write that failed is tried again.
+/// The line isn't used by `replay`.
 pub fn osi_run<F: Files, O: Sink, L: Line>(
     alloc: Global,
     words: &Words,
@@ -60,6 +66,12 @@ pub fn osi_run<F: Files, O: Sink, L: Line>(
     ensures contents { F.told files.new ≡ F.told files.old }
     ensures sink { O.faults out.old ≤ O.faults out.new }
     ensures line { line.new ≡ line.old }
+    ensures asked { Asks (F.told files.old) (F.faults files.old) (F.faults files.new) (F.asked files.old) (F.asked files.new) (command_of words.now) }
+    ensures files_count { CountsFiles (F.faults files.old) (F.faults files.new) result }
+    ensures sink_count { CountsWrites (O.faults out.old) (O.faults out.new) result }
+
+    // The whole of it, of which all that follows is said again in parts
+    ensures closes { Closes (F.told files.old) (F.faults files.old) (F.faults files.new) words.now (O.faults out.old) (O.faults out.new) (O.told out.old) (O.told out.new) result }
 
     // What each status says
     ensures done { result ≡ Status.Done → IsDone (F.told files.old) (F.faults files.old) (F.faults files.new) words.now (O.told out.old) (O.told out.new) }

@@ -6,7 +6,8 @@ use Rattle.std.specs.List.{list_all}
 use Rattle.osi_base.specs.Oid.{is_oid}
 use Rattle.asn1_types.specs.declared.row.Item.{Item}
 use Rattle.asn1_types.specs.declared.row.TextKind.{TextKind}
-use Rattle.asn1_types.specs.Fits.{is_number, has_32_bits, is_octet, is_item, is_text, integer_fits, enumerated_fits, octets_fit, text_fits, object_id_fits}
+use Rattle.asn1_types.specs.Defaults.{is_item}
+use Rattle.asn1_types.specs.Fits.{is_number, has_32_bits, is_octet, is_text, integer_fits, enumerated_fits, octets_fit, text_fits, object_id_fits}
 use Rattle.asn1_types.specs.Value.{Value, boolean, integer, null, octets, bits, object_id, text, parts, list, chosen, any}
 use Rattle.packed_codec.specs.Octets.{AreOctets}
 use Rattle.packed_codec.specs.Numbers.{is_size, integer_of, integer_octets}

@@ -8,6 +8,7 @@ use Rattle.asn1_types.specs.declared.row.TypeRow.{TypeRow}
 use Rattle.asn1_types.specs.declared.row.TypeRow.TheVariants as row
 use Rattle.asn1_types.specs.Rows.{of_row, along}
 use Rattle.asn1_types.specs.Value.{Value}
+use Rattle.asn1_types.specs.Defaults.{may_be_absent, is_default}
 use Rattle.packed_codec.specs.declared.fault.PackedFault.TheVariants as faults
 use Rattle.packed_codec.specs.Reading.{Spot, Reading, ◌>>=◌, within}
 use Rattle.packed_codec.specs.Fields.{announced_at, field_at, octet_at, count_at}
@@ -103,7 +104,7 @@ unfolding number_at
 number_grows rule = record {
   grows = λ limit s more.
       Grows-bind (with_spot more) (with_spot more) (octet_at limit s) (octet_at limit (grown more s)) _ _ (octet_grows limit s more) (λ n e.
-      sized_grows limit s.place is_size rule n.0 n.1 more);
+      Grows-cond (with_spot more) (is_size n.0) _ _ _ _ (sized_grows limit s.place is_size rule n.0 n.1 more) refl);
 }
 
 string_grows : (few : ℕ → Bool) (rule : List ℕ → Option Value) → GrowsRun (string_at few rule)
@@ -136,21 +137,22 @@ bits_grow = record {
 
 -- ---- rows that hold values
 
-present_grows : (r : Reader) → GrowsRun r → (limit : ℕ) (s : Spot) (more : List ℕ) → Grows (with_spot more) (present_at r limit s) (present_at r limit (grown more s))
+present_grows : (r : Reader) → GrowsRun r → (p : Part) (limit : ℕ) (s : Spot) (more : List ℕ) → Grows (with_spot more) (present_at r p limit s) (present_at r p limit (grown more s))
 unfolding present_at
-present_grows r h limit s more =
-    Grows-bind (with_spot more) (with_spot more) (r limit s) (r limit (grown more s)) _ _ (h.grows limit s more) (λ v e. refl)
+present_grows r h p limit s more =
+    Grows-bind (with_spot more) (with_spot more) (r limit s) (r limit (grown more s)) _ _ (h.grows limit s more) (λ v e.
+    Grows-cond (with_spot more) (is_default p.default v.0) _ _ _ _ refl refl)
 
-marked_grows : (r : Reader) → GrowsRun r → (limit place m : ℕ) (s : Spot) (more : List ℕ) → Grows (with_spot more) (marked_at r limit place (m, s)) (marked_at r limit place (m, grown more s))
-marked_grows r h limit place m s more =
-    Grows-cond (with_spot more) (nat_eq m 0) _ _ _ _ refl (Grows-cond (with_spot more) (nat_eq m 1) _ _ _ _ (present_grows r h limit s more) refl)
+marked_grows : (r : Reader) → GrowsRun r → (p : Part) (limit place m : ℕ) (s : Spot) (more : List ℕ) → Grows (with_spot more) (marked_at r p limit place (m, s)) (marked_at r p limit place (m, grown more s))
+marked_grows r h p limit place m s more =
+    Grows-cond (with_spot more) (nat_eq m 0) _ _ _ _ refl (Grows-cond (with_spot more) (nat_eq m 1) _ _ _ _ (present_grows r h p limit s more) refl)
 
 part_grows : (r : Reader) → GrowsRun r → (p : Part) (limit : ℕ) (s : Spot) (more : List ℕ) → Grows (with_spot more) (part_at r p limit s) (part_at r p limit (grown more s))
 unfolding part_at
 part_grows r h p limit s more =
-    Grows-cond (with_spot more) p.optional _ _ _ _
-    (Grows-bind (with_spot more) (with_spot more) (octet_at limit s) (octet_at limit (grown more s)) _ _ (octet_grows limit s more) (λ m e. marked_grows r h limit s.place m.0 m.1 more))
-    (present_grows r h limit s more)
+    Grows-cond (with_spot more) (may_be_absent p) _ _ _ _
+    (Grows-bind (with_spot more) (with_spot more) (octet_at limit s) (octet_at limit (grown more s)) _ _ (octet_grows limit s more) (λ m e. marked_grows r h p limit s.place m.0 m.1 more))
+    (present_grows r h p limit s more)
 
 items_grow : (r : Reader) → GrowsRun r → (n limit : ℕ) (s : Spot) (more : List ℕ) → Grows (with_spot more) (items_at r n limit s) (items_at r n limit (grown more s))
 unfolding items_at

@@ -9,6 +9,7 @@ use Rattle.asn1_types.specs.declared.row.TypeRow.{TypeRow}
 use Rattle.asn1_types.specs.declared.row.TypeRow.TheVariants as row
 use Rattle.asn1_types.specs.Rows.{of_row, along}
 use Rattle.asn1_types.specs.Value.{Value}
+use Rattle.asn1_types.specs.Defaults.{may_be_absent, is_default}
 use Rattle.packed_codec.specs.declared.fault.PackedFault.TheVariants as faults
 use Rattle.packed_codec.specs.Reading.{Spot, Reading, ◌>>=◌, within}
 use Rattle.packed_codec.specs.Fields.{moved, announced_at, field_at, octet_at, count_at}
@@ -97,7 +98,7 @@ unfolding number_at
 number_inside rule = record {
   each = λ limit s end e.
       then_inside second second end (octet_at limit s) _ (octet_inside limit s end e) (λ n d.
-      sized_inside limit s.place is_size rule n.0 n.1 end d (starts_inside s end e));
+      either_inside second end (is_size n.0) _ _ (sized_inside limit s.place is_size rule n.0 n.1 end d (starts_inside s end e)) (starts_inside s end e));
 }
 
 string_inside : (few : ℕ → Bool) (rule : List ℕ → Option Value) → StaysInside (string_at few rule)
@@ -130,17 +131,19 @@ bits_inside = record {
 
 -- ---- rows that hold values
 
-present_inside : (r : Reader) → StaysInside r → (limit : ℕ) (s : Spot) (end : ℕ) → end_of s ≡ end → Inside second end (present_at r limit s)
+present_inside : (r : Reader) → StaysInside r → (p : Part) (limit : ℕ) (s : Spot) (end : ℕ) → end_of s ≡ end → Inside second end (present_at r p limit s)
 unfolding present_at
-present_inside r h limit s end e = then_inside second second end (r limit s) _ (h.each limit s end e) (λ v d. d)
+present_inside r h p limit s end e =
+    then_inside second second end (r limit s) _ (h.each limit s end e) (λ v d.
+    either_inside second end (is_default p.default v.0) _ _ (let le : v.1.place ≤ end = starts_inside v.1 end d in omega arith) d)
 
 part_inside : (r : Reader) → StaysInside r → (p : Part) (limit : ℕ) (s : Spot) (end : ℕ) → end_of s ≡ end → Inside second end (part_at r p limit s)
 unfolding part_at
 part_inside r h p limit s end e =
-    either_inside second end p.optional _ _
+    either_inside second end (may_be_absent p) _ _
     (then_inside second second end (octet_at limit s) _ (octet_inside limit s end e) (λ m d.
-    either_inside second end (nat_eq m.0 0) _ _ d (either_inside second end (nat_eq m.0 1) _ _ (present_inside r h limit m.1 end d) (starts_inside s end e))))
-    (present_inside r h limit s end e)
+    either_inside second end (nat_eq m.0 0) _ _ d (either_inside second end (nat_eq m.0 1) _ _ (present_inside r h p limit m.1 end d) (starts_inside s end e))))
+    (present_inside r h p limit s end e)
 
 items_inside : (r : Reader) → StaysInside r → (n limit : ℕ) (s : Spot) (end : ℕ) → end_of s ≡ end → Inside second end (items_at r n limit s)
 unfolding items_at

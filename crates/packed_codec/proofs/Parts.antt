@@ -1,17 +1,18 @@
 -- Values that hold values: what is read is spelled so, and what is spelled so is read.
-use Rattle.std.proofs.Common.{◌≡◌, ℕ, zero, suc, ◌+◌, ◌≤◌, Bool, true, false, ◌&&◌, cond, List, [], ◌∷◌, ◌++◌, length, Option, Some, None, Ok, refl, sym, ap, ◌∙◌, subst, arith, length-append, append_assoc, inl, inr}
+use Rattle.std.proofs.Common.{◌≡◌, ℕ, zero, suc, ◌+◌, ◌-◌, ◌≤◌, Bool, true, false, not, ◌&&◌, cond, List, [], ◌∷◌, ◌++◌, length, Option, Some, None, Ok, refl, sym, ap, ◌∙◌, subst, arith, length-append, append_assoc, inl, inr}
 use Rattle.std.specs.Prelude.{nat_lt, nat_eq, slice_get}
 use Rattle.std.proofs.lemmas.Bool.{ltb-false, eqb-true}
 use Rattle.byteorder.specs.Endian.{big_bytes}
 use Rattle.asn1_types.specs.declared.row.Part.{Part}
+use Rattle.asn1_types.specs.Defaults.{may_be_absent, is_default}
 use Rattle.asn1_types.specs.Fits.{part_fits, parts_fit, sequence_fits, values_fit, list_fits, alternative_fits, choice_fits}
 use Rattle.asn1_types.specs.Value.{Value, parts, list, chosen, MaybeValues, no_parts, absent, present, Values, no_values, value}
 use Rattle.asn1_types.specs.ValueView.{parts_of, values_of}
 use Rattle.packed_codec.specs.declared.fault.PackedFault.TheVariants as faults
 use Rattle.packed_codec.specs.Octets.{AreOctets}
-use Rattle.packed_codec.specs.Reading.{Spot, ◌>>=◌}
+use Rattle.packed_codec.specs.Reading.{Spot, ◌>>=◌, refuse}
 use Rattle.packed_codec.specs.Fields.{octet_at, count_at}
-use Rattle.packed_codec.specs.Rules.{Reader, present_at, marked_at, part_at, parts_at, sequence_at, items_at, spent, list_at, alternative_at, choice_at}
+use Rattle.packed_codec.specs.Rules.{Reader, last_size, present_at, marked_at, part_at, parts_at, sequence_at, items_at, spent, list_at, alternative_at, choice_at}
 use Rattle.packed_codec.specs.Writing.{Writer, part_written, parts_written, sequence_written, how_many, values_written, list_written, alternative_written, choice_written, items, items_of_parts, items_of_values}
 use Rattle.packed_codec.proofs.Taking.{bind_ok, unless_ok, if_ok, chosen_ok, ok_is, octets_right, Took, took_octets, octet_found, count_found}
 use Rattle.packed_codec.proofs.Spelled.{ReadAs, Found}
@@ -69,28 +70,35 @@ values_list no_values = refl
 values_list (value v vs) = ap (value v) (values_list vs)
 
 module _ (test : ℕ → Value → Bool) (write : ℕ → Writer) (inner : ℕ → Reader) (h : (n : ℕ) → Found (test n) (write n) (inner n)) where
-  present_found : (n limit : ℕ) (s : Spot) (o : Option Value) (to : Spot) → AreOctets s.rest → s.place ≤ limit → present_at (inner n) limit s ≡ Ok (o, to)
-      → (v : Value) × (o ≡ Some v) × Read limit s (write n v) (items v) (test n v) to
+  abbrev fits_present : Part → Value → Bool
+  fits_present p v = not (is_default p.default v) && test p.inner.0 v
+
+  present_found : (p : Part) (limit : ℕ) (s : Spot) (o : Option Value) (to : Spot) → AreOctets s.rest → s.place ≤ limit → present_at (inner p.inner.0) p limit s ≡ Ok (o, to)
+      → (v : Value) × (o ≡ Some v) × Read limit s (write p.inner.0 v) (items v) (fits_present p v) to
   unfolding present_at
-  present_found n limit s o to are here e =
-      let b = bind_ok (inner n limit s) (λ v. Ok (Some v.0, v.1)) (o, to) e in
-      let same = ok_is {A = Option Value × Spot} (Some b.0.0, b.0.1) (o, to) b.2 in
+  present_found p limit s o to are here e =
+      let n : ℕ = p.inner.0 in
+      let b = bind_ok (inner n limit s) (λ v. cond (is_default p.default v.0) (refuse (v.1.place - last_size v.0)) (Ok (Some v.0, v.1))) (o, to) e in
+      let u = unless_ok (is_default p.default b.0.0) (faults.NotSpelled (b.0.1.place - last_size b.0.0) _) (Ok (Some b.0.0, b.0.1)) (o, to) b.2 in
+      let same = ok_is {A = Option Value × Spot} (Some b.0.0, b.0.1) (o, to) u.1 in
       let r = of_read (test n) (write n) limit s b.0.0 b.0.1 ((h n).found limit s b.0.0 b.0.1 are here b.1) in
-      (b.0.0, ap (λ (x : Option Value × Spot). x.0) (sym same), subst (λ (x : Option Value × Spot). Read limit s (write n b.0.0) (items b.0.0) (test n b.0.0) x.1) same r)
+      let fit : Read limit s (write n b.0.0) (items b.0.0) (fits_present p b.0.0) b.0.1 =
+      record { parts = r.parts; onward = r.onward; inside = r.inside; spent = r.spent; fits = both (not (is_default p.default b.0.0)) (test n b.0.0) (ap not u.0) r.fits } in
+      (b.0.0, ap (λ (x : Option Value × Spot). x.0) (sym same), subst (λ (x : Option Value × Spot). Read limit s (write n b.0.0) (items b.0.0) (fits_present p b.0.0) x.1) same fit)
 
   abbrev PartAs : Part → ℕ → Spot → Option Value → Spot → Type 0
   PartAs p limit s o to = Read limit s (part_written write p o) (items_of_part o) (part_fits test p o) to
 
   part_found : (p : Part) (limit : ℕ) (s : Spot) (o : Option Value) (to : Spot) → AreOctets s.rest → s.place ≤ limit → part_at (inner p.inner.0) p limit s ≡ Ok (o, to) → PartAs p limit s o to
   unfolding part_at
-  part_found p limit s o to are here e = by_mark p.optional refl e
+  part_found p limit s o to are here e = by_mark (may_be_absent p) refl e
     where
-      by_mark : (b : Bool) → p.optional ≡ b → cond b (octet_at limit s >>= λ m. marked_at (inner p.inner.0) limit s.place m) (present_at (inner p.inner.0) limit s) ≡ Ok (o, to) → PartAs p limit s o to
+      by_mark : (b : Bool) → may_be_absent p ≡ b → cond b (octet_at limit s >>= λ m. marked_at (inner p.inner.0) p limit s.place m) (present_at (inner p.inner.0) p limit s) ≡ Ok (o, to) → PartAs p limit s o to
       by_mark false t e =
-          let f = present_found p.inner.0 limit s o to are here e in
+          let f = present_found p limit s o to are here e in
           subst (λ (x : Option Value). PartAs p limit s x to) (sym f.1) (rw t f.2)
       by_mark true t e =
-          let b = bind_ok (octet_at limit s) (λ m. marked_at (inner p.inner.0) limit s.place m) (o, to) e in
+          let b = bind_ok (octet_at limit s) (λ m. marked_at (inner p.inner.0) p limit s.place m) (o, to) e in
           let m : ℕ = b.0.0 in
           let mid : Spot = b.0.1 in
           let k = octet_found limit s mid m b.1 in
@@ -102,12 +110,12 @@ module _ (test : ℕ → Value → Bool) (write : ℕ → Writer) (inner : ℕ �
                 subst (λ (y : Option Value × Spot). PartAs p limit s y.0 y.1) same
                 (rw t (subst (λ (j : ℕ). Read limit s (j ∷ []) 0 true mid) zero_is r))
             | inr u ↦
-                let w = if_ok (nat_eq m 1) (faults.NotSpelled s.place _) (present_at (inner p.inner.0) limit mid) (o, to) u.1 in
+                let w = if_ok (nat_eq m 1) (faults.NotSpelled s.place _) (present_at (inner p.inner.0) p limit mid) (o, to) u.1 in
                 let one_is : m ≡ 1 = eqb-true m 1 w.0 in
-                let f = present_found p.inner.0 limit mid o to (took_octets limit s mid (m ∷ []) k are) k.inside w.1 in
-                let r = read_then limit s mid to (m ∷ []) (write p.inner.0 f.0) 0 (items f.0) true (test p.inner.0 f.0) (of_took limit s (m ∷ []) mid k) f.2 in
+                let f = present_found p limit mid o to (took_octets limit s mid (m ∷ []) k are) k.inside w.1 in
+                let r = read_then limit s mid to (m ∷ []) (write p.inner.0 f.0) 0 (items f.0) true (fits_present p f.0) (of_took limit s (m ∷ []) mid k) f.2 in
                 subst (λ (x : Option Value). PartAs p limit s x to) (sym f.1)
-                (rw t (let z : 0 + items f.0 ≡ items f.0 = omega arith in subst (λ (j : ℕ). Read limit s (1 ∷ write p.inner.0 f.0) j (test p.inner.0 f.0) to) z (subst (λ (j : ℕ). Read limit s (j ∷ write p.inner.0 f.0) (0 + items f.0) (test p.inner.0 f.0) to) one_is r)))
+                (rw t (let z : 0 + items f.0 ≡ items f.0 = omega arith in subst (λ (j : ℕ). Read limit s (1 ∷ write p.inner.0 f.0) j (fits_present p f.0) to) z (subst (λ (j : ℕ). Read limit s (j ∷ write p.inner.0 f.0) (0 + items f.0) (fits_present p f.0) to) one_is r)))
           ]
 
   abbrev PartsAs : List Part → ℕ → Spot → List (Option Value) → Spot → Type 0
@@ -115,10 +123,10 @@ module _ (test : ℕ → Value → Bool) (write : ℕ → Writer) (inner : ℕ �
 
   parts_join : (p : Part) (ps : List Part) (limit : ℕ) (s mid to : Spot) (o : Option Value) (vs : List (Option Value)) → PartAs p limit s o mid → PartsAs ps limit mid vs to → PartsAs (p ∷ ps) limit s (o ∷ vs) to
   parts_join p ps limit s mid to None vs a b =
-      let r = read_then limit s mid to (part_written write p None) (parts_written write ps (parts_of vs)) 0 (items_of_parts (parts_of vs)) p.optional (parts_fit test ps (parts_of vs)) a b in
+      let r = read_then limit s mid to (part_written write p None) (parts_written write ps (parts_of vs)) 0 (items_of_parts (parts_of vs)) (may_be_absent p) (parts_fit test ps (parts_of vs)) a b in
       record { parts = r.parts; onward = r.onward; inside = r.inside; spent = omega (arith, r.spent); fits = r.fits }
   parts_join p ps limit s mid to (Some v) vs a b =
-      read_then limit s mid to (part_written write p (Some v)) (parts_written write ps (parts_of vs)) (items v) (items_of_parts (parts_of vs)) (test p.inner.0 v) (parts_fit test ps (parts_of vs)) a b
+      read_then limit s mid to (part_written write p (Some v)) (parts_written write ps (parts_of vs)) (items v) (items_of_parts (parts_of vs)) (fits_present p v) (parts_fit test ps (parts_of vs)) a b
 
   nothing_read : (limit : ℕ) (s : Spot) → s.place ≤ limit → Read limit s [] 0 true s
   nothing_read limit s here = record { parts = refl; onward = omega arith; inside = here; spent = omega arith; fits = refl }

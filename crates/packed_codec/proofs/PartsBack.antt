@@ -1,13 +1,15 @@
 -- Values that hold values: what is spelled so is read.
-use Rattle.std.proofs.Common.{◌≡◌, ℕ, ◌+◌, ◌-◌, ◌^◌, ◌≤◌, ◌<◌, Bool, true, false, List, [], ◌∷◌, ◌++◌, length, Option, Some, None, Ok, refl, sym, ap, ◌∙◌, arith, length-append, append_assoc}
+use Rattle.std.proofs.Common.{◌≡◌, ℕ, ◌+◌, ◌-◌, ◌^◌, ◌≤◌, ◌<◌, Bool, true, false, not, ◌&&◌, List, [], ◌∷◌, ◌++◌, length, Option, Some, None, Ok, refl, sym, ap, ◌∙◌, arith, length-append, append_assoc}
 use Rattle.std.specs.Prelude.{slice_get}
 use Rattle.std.proofs.lemmas.Bool.{le-ltb, and_parts}
 use Rattle.byteorder.specs.Endian.{big_bytes}
 use Rattle.asn1_types.specs.declared.row.Part.{Part}
+use Rattle.asn1_types.specs.Defaults.{may_be_absent, is_default}
 use Rattle.asn1_types.specs.Fits.{part_fits, parts_fit, sequence_fits, values_fit, list_fits, alternative_fits, choice_fits}
 use Rattle.asn1_types.specs.Value.{Value, boolean, integer, null, octets, bits, object_id, text, parts, list, chosen, any, MaybeValues, no_parts, absent, present, Values, no_values, value}
 use Rattle.packed_codec.specs.Reading.{Spot, Reading, ◌>>=◌}
-use Rattle.packed_codec.specs.Rules.{Reader, present_at, part_at, parts_at, sequence_at, items_at, list_at, choice_at, most_items}
+use Rattle.asn1_types.specs.Limits.{most_items}
+use Rattle.packed_codec.specs.Rules.{Reader, present_at, part_at, parts_at, sequence_at, items_at, list_at, choice_at}
 use Rattle.packed_codec.specs.Writing.{Writer, part_written, parts_written, sequence_written, how_many, values_written, list_written, alternative_written, choice_written, items, items_of_parts, items_of_values}
 use Rattle.packed_codec.proofs.Taking.{octet_again, count_again}
 use Rattle.packed_codec.proofs.Spelled.{at_spot, Only}
@@ -17,11 +19,17 @@ use Rattle.packed_codec.proofs.Parts.{items_of_part, list_of, parts_list, items_
 pub cut : (a b rest : List ℕ) → (a ++ b) ++ rest ≡ a ++ (b ++ rest)
 cut a b rest = append_assoc a b rest
 
+not_true : (b : Bool) → not b ≡ true → b ≡ false
+not_true true e = absurd cc
+not_true false e = refl
+
 module _ (test : ℕ → Value → Bool) (write : ℕ → Writer) (inner : ℕ → Reader) (h : (n : ℕ) → Only (test n) (write n) (inner n)) (limit : ℕ) (lt : limit < 2 ^ 32) where
-  present_back : (n place left : ℕ) (v : Value) (rest : List ℕ) → test n v ≡ true → place + length (write n v) ≤ limit → items v ≤ left → left ≤ most_items
-      → present_at (inner n) limit (at_spot place (write n v ++ rest) left) ≡ Ok (Some v, at_spot (place + length (write n v)) rest (left - items v))
+  present_back : (p : Part) (place left : ℕ) (v : Value) (rest : List ℕ) → (not (is_default p.default v) && test p.inner.0 v) ≡ true → place + length (write p.inner.0 v) ≤ limit → items v ≤ left → left ≤ most_items
+      → present_at (inner p.inner.0) p limit (at_spot place (write p.inner.0 v ++ rest) left) ≡ Ok (Some v, at_spot (place + length (write p.inner.0 v)) rest (left - items v))
   unfolding present_at
-  present_back n place left v rest f le few most = rw ((h n).only limit place left v rest f lt le few most) refl
+  present_back p place left v rest f le few most =
+      let t = and_parts (not (is_default p.default v)) (test p.inner.0 v) f in
+      rw ((h p.inner.0).only limit place left v rest t.1 lt le few most, not_true (is_default p.default v) t.0) refl
 
   part_back : (p : Part) (place left : ℕ) (o : Option Value) (rest : List ℕ) → part_fits test p o ≡ true → place + length (part_written write p o) ≤ limit → items_of_part o ≤ left → left ≤ most_items
       → part_at (inner p.inner.0) p limit (at_spot place (part_written write p o ++ rest) left) ≡ Ok (o, at_spot (place + length (part_written write p o)) rest (left - items_of_part o))
@@ -32,19 +40,19 @@ module _ (test : ℕ → Value → Bool) (write : ℕ → Writer) (inner : ℕ �
       let kept : left ≡ left - 0 = omega arith in
       let to : place + 1 ≡ place + length (part_written write p None) = omega arith in
       rw (text, f, octet_again limit place left 0 rest (omega arith)) (λ i. Ok (None, at_spot (place + 1) rest (kept i)))
-  part_back p place left (Some v) rest f le few most = by_mark p.optional refl
+  part_back p place left (Some v) rest f le few most = by_mark (may_be_absent p) refl
     where
-      by_mark : (b : Bool) → p.optional ≡ b → part_at (inner p.inner.0) p limit (at_spot place (part_written write p (Some v) ++ rest) left) ≡ Ok (Some v, at_spot (place + length (part_written write p (Some v))) rest (left - items v))
+      by_mark : (b : Bool) → may_be_absent p ≡ b → part_at (inner p.inner.0) p limit (at_spot place (part_written write p (Some v) ++ rest) left) ≡ Ok (Some v, at_spot (place + length (part_written write p (Some v))) rest (left - items v))
       by_mark false t =
           let text : part_written write p (Some v) ≡ write p.inner.0 v = rw t refl in
           let len = ap length text in
-          rw (text, t) (present_back p.inner.0 place left v rest f (omega arith) few most)
+          rw (text, t) (present_back p place left v rest f (omega arith) few most)
       by_mark true t =
           let text : part_written write p (Some v) ≡ 1 ∷ write p.inner.0 v = rw t refl in
           let len = ap length text in
           let to : place + 1 + length (write p.inner.0 v) ≡ place + length (1 ∷ write p.inner.0 v) = omega arith in
           rw (text, t, octet_again limit place left 1 (write p.inner.0 v ++ rest) (omega arith))
-          (present_back p.inner.0 (place + 1) left v rest f (omega arith) few most ∙ ap (λ (k : ℕ). Ok (Some v, at_spot k rest (left - items v))) to)
+          (present_back p (place + 1) left v rest f (omega arith) few most ∙ ap (λ (k : ℕ). Ok (Some v, at_spot k rest (left - items v))) to)
 
   -- one after the other
   step_back : {A : Type 0} (one : Spot → Reading (A × Spot)) (more : A × Spot → Reading (List A × Spot)) (place left m n : ℕ) (a b rest : List ℕ) (x : A) (xs : List A)
@@ -68,7 +76,7 @@ module _ (test : ℕ → Value → Bool) (write : ℕ → Writer) (inner : ℕ �
   parts_back [] place left (present v vs) rest f le few most = absurd cc
   parts_back (p ∷ ps) place left no_parts rest f le few most = absurd cc
   parts_back (p ∷ ps) place left (absent vs) rest f le few most =
-      let t = and_parts p.optional (parts_fit test ps vs) f in
+      let t = and_parts (may_be_absent p) (parts_fit test ps vs) f in
       let a : List ℕ = part_written write p None in
       let b : List ℕ = parts_written write ps vs in
       let len = length-append a b in
@@ -78,7 +86,7 @@ module _ (test : ℕ → Value → Bool) (write : ℕ → Writer) (inner : ℕ �
       step_back (part_at (inner p.inner.0) p limit) (λ x. parts_at inner limit x.1 ps >>= λ more. Ok (x.0 ∷ more.0, more.1)) place left 0 (items_of_parts vs) a b rest None (list_of vs) (omega arith) first (rw others refl)
       ∙ ap (λ (k : ℕ). Ok (None ∷ list_of vs, at_spot (place + length (a ++ b)) rest k)) none
   parts_back (p ∷ ps) place left (present v vs) rest f le few most =
-      let t = and_parts (test p.inner.0 v) (parts_fit test ps vs) f in
+      let t = and_parts (not (is_default p.default v) && test p.inner.0 v) (parts_fit test ps vs) f in
       let a : List ℕ = part_written write p (Some v) in
       let b : List ℕ = parts_written write ps vs in
       let len = length-append a b in

@@ -12,7 +12,8 @@ use Rattle.packed_codec.specs.Octets.{AreOctets}
 use Rattle.packed_codec.specs.Reading.{Spot}
 use Rattle.packed_codec.specs.Fields.{announced_at, octet_at, count_at}
 use Rattle.packed_codec.specs.Numbers.{is_size}
-use Rattle.packed_codec.specs.Rules.{Reader, judge, boolean_rule, boolean_at, null_at, sized_at, number_at, string_at, bits_at, bits_size, bits_rule, most_items}
+use Rattle.asn1_types.specs.Limits.{most_items}
+use Rattle.packed_codec.specs.Rules.{Reader, judge, boolean_rule, boolean_at, null_at, sized_at, number_at, string_at, bits_at, bits_size, bits_rule}
 use Rattle.packed_codec.specs.Writing.{Writer, counted, with_size, boolean_written, nothing_written, bits_written, items}
 use Rattle.packed_codec.proofs.Taking.{bind_ok, if_ok, ok_is, Took, took_octets, took_text, announced_found, announced_again, octet_found, octet_again, count_found, count_again}
 
@@ -202,7 +203,8 @@ number_found test write rule h = record {
   found = λ limit s v to are here e.
       let b = bind_ok (octet_at limit s) _ (v, to) e in
       let t = octet_found limit s b.0.1 b.0.0 b.1 in
-      let z = sized_found test write with_size is_size rule h limit s.place b.0.0 b.0.1 v to (took_octets limit s b.0.1 (b.0.0 ∷ []) t are) b.2 in
+      let w = if_ok (is_size b.0.0) (faults.NotSpelled s.place _) (sized_at limit s.place is_size rule b.0) (v, to) b.2 in
+      let z = sized_found test write with_size is_size rule h limit s.place b.0.0 b.0.1 v to (took_octets limit s b.0.1 (b.0.0 ∷ []) t are) w.1 in
       let whole = took_then limit s b.0.1 to (b.0.0 ∷ []) z.c t z.took in
       took_as test write limit s v to (with_size z.c) z.written z.fit z.none (subst (λ (k : ℕ). Took limit s (k ∷ z.c) to) (sym z.len) whole);
 }
@@ -216,7 +218,7 @@ number_only test write rule h = record {
       let len : length (write v) ≡ 1 + length c = ap length x.1 ∙ omega arith in
       let to : place + 1 + length c ≡ place + length (with_size c) = omega arith in
       fitted write with_size (number_at rule) limit place left (place + 1 + length c) c v rest x.1 x.4 to
-      (rw (octet_again limit place left (length c) (c ++ rest) (omega arith)) (sized_again is_size rule limit place (place + 1) left c v rest x.2 x.3 (omega arith)));
+      (rw (octet_again limit place left (length c) (c ++ rest) (omega arith), x.2) (sized_again is_size rule limit place (place + 1) left c v rest x.2 x.3 (omega arith)));
 }
 
 -- ---- BIT STRING: behind the number of unused bits a string

@@ -8,6 +8,7 @@ use Rattle.byteorder.specs.Endian.{big_bytes}
 use Rattle.asn1_types.specs.declared.row.Part.{Part}
 use Rattle.asn1_types.specs.Value.{Value, bits, list, chosen}
 use Rattle.asn1_types.specs.ValueView.{values_of}
+use Rattle.asn1_types.specs.Defaults.{may_be_absent}
 use Rattle.packed_codec.specs.Numbers.{unpadded, integer_octets}
 use Rattle.packed_codec.specs.ObjectIds.{base_128, arcs_octets}
 use Rattle.packed_codec.specs.Writing.{Writer, counted, with_size, bits_written, part_written, values_written, list_written, alternative_written, choice_written}
@@ -39,8 +40,8 @@ list_text f vs items n whole e d m =
     ∙ ap (λ (k : ℕ). big_bytes 4 k ++ values_written f (values_of vs)) (many_is vs ∙ sym m)
     ∙ ap (λ (x : List Value). big_bytes 4 n ++ values_written f (values_of x)) (sym d)
 
-pub plain_text : (f : ℕ → Writer) (p : Part) (o : Option Value) (v : Value) → p.optional ≡ false → o ≡ Some v → part_written f p o ≡ f p.inner.0 v
+pub plain_text : (f : ℕ → Writer) (p : Part) (o : Option Value) (v : Value) → may_be_absent p ≡ false → o ≡ Some v → part_written f p o ≡ f p.inner.0 v
 plain_text f p o v bare e = rw (e, bare) refl
 
-pub marked_text : (f : ℕ → Writer) (p : Part) (o : Option Value) (v : Value) → p.optional ≡ true → o ≡ Some v → part_written f p o ≡ (1 ∷ []) ++ f p.inner.0 v
+pub marked_text : (f : ℕ → Writer) (p : Part) (o : Option Value) (v : Value) → may_be_absent p ≡ true → o ≡ Some v → part_written f p o ≡ (1 ∷ []) ++ f p.inner.0 v
 marked_text f p o v marked e = rw (e, marked) refl

@@ -8,7 +8,8 @@ use Rattle.packed_codec.specs.declared.fault.PackedFault.TheVariants as faults
 use Rattle.packed_codec.specs.declared.public.Read.{Read}
 use Rattle.packed_codec.specs.Octets.{AreOctets}
 use Rattle.packed_codec.specs.Reading.{Spot, Reading, ◌>>=◌, Gives}
-use Rattle.packed_codec.specs.Rules.{reads, most_items, start, read_at}
+use Rattle.asn1_types.specs.Limits.{most_items}
+use Rattle.packed_codec.specs.Rules.{reads, start, read_at}
 use Rattle.packed_codec.specs.Writing.{packed, items}
 use Rattle.packed_codec.specs.Laws.{packs, Packed, IsRead, ReadIsSpelled, SpelledIsRead, NoneBegins, ReadStays, FaultStays, IsAt, FaultIsFirst, BeginsSpelled, OneHolds, OneOfThree, BeginningIsShort, WrittenIsRead}
 use Rattle.packed_codec.proofs.Growing.{Grows, Grows-bind, with_spot, along_grows}

@@ -11,6 +11,7 @@ use Rattle.asn1_types.specs.Value.{Value, boolean, integer, null, octets, bits, 
 use Rattle.asn1_types.specs.ValueView.{parts_of, values_of}
 use Rattle.asn1_types.proofs.Along.{settled}
 use Rattle.asn1_types.proofs.Sound.{is_down}
+use Rattle.asn1_types.specs.Defaults.{may_be_absent}
 use Rattle.packed_codec.specs.ObjectIds.{base_128}
 use Rattle.packed_codec.specs.Writing.{Writer, part_written, parts_written, sequence_written, values_written, list_written, alternative_written, choice_written, nothing_written, write_by, packed, how_many}
 
@@ -19,7 +20,7 @@ module _ (f g : ℕ → Writer) where
   parts_same [] h vs = refl
   parts_same (p ∷ ps) h no_parts = refl
   parts_same (p ∷ ps) h (absent vs) = ap (λ (x : List ℕ). part_written f p None ++ x) (parts_same ps h.1 vs)
-  parts_same (p ∷ ps) h (present v vs) = λ i. cond p.optional (1 ∷ h.0 i v) (h.0 i v) ++ parts_same ps h.1 vs i
+  parts_same (p ∷ ps) h (present v vs) = λ i. cond (may_be_absent p) (1 ∷ h.0 i v) (h.0 i v) ++ parts_same ps h.1 vs i
 
   sequence_same : (ps : List Part) → AllByRecursion (λ m. f m ≡ g m) (rows_of_parts ps) → (v : Value) → sequence_written f ps v ≡ sequence_written g ps v
   sequence_same ps h (parts vs) = parts_same ps h vs

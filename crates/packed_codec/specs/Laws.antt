@@ -9,7 +9,8 @@ use Rattle.packed_codec.specs.declared.fault.PackedFault.{PackedFault}
 use Rattle.packed_codec.specs.declared.fault.PackedFault.TheVariants.{NotSpelled, Short, TooLong, NoMemory}
 use Rattle.packed_codec.specs.declared.public.Read.{Read}
 use Rattle.packed_codec.specs.Octets.{AreOctets}
-use Rattle.packed_codec.specs.Rules.{most_items, read_at}
+use Rattle.asn1_types.specs.Limits.{most_items}
+use Rattle.packed_codec.specs.Rules.{read_at}
 use Rattle.packed_codec.specs.Writing.{packed, items}
 
 -- ---- spellings

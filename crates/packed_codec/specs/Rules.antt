@@ -5,12 +5,14 @@ use Rattle.asn1_types.specs.declared.row.TextKind.{TextKind}
 use Rattle.asn1_types.specs.declared.row.TypeRow.{TypeRow}
 use Rattle.asn1_types.specs.declared.row.TypeRow.TheVariants as row
 use Rattle.asn1_types.specs.Rows.{along}
-use Rattle.asn1_types.specs.Fits.{is_item, are_bits, is_text}
+use Rattle.asn1_types.specs.Limits.{most_items}
+use Rattle.asn1_types.specs.Defaults.{is_item, may_be_absent, is_default}
+use Rattle.asn1_types.specs.Fits.{are_bits, is_text}
 use Rattle.asn1_types.specs.Value.{Value, boolean, integer, null, octets, bits, object_id, text, parts, list, chosen}
 use Rattle.asn1_types.specs.ValueView.{parts_of, values_of}
 use Rattle.packed_codec.specs.Reading.{Spot, Reading, ◌>>=◌, refuse}
 use Rattle.packed_codec.specs.Fields.{announced_at, octet_at, count_at}
-use Rattle.packed_codec.specs.Numbers.{is_size, integer_of}
+use Rattle.packed_codec.specs.Numbers.{is_size, integer_of, integer_octets}
 use Rattle.packed_codec.specs.ObjectIds.{arcs_of}
 
 -- what stands at a spot, within a limit on the octets of the whole value
@@ -45,11 +47,11 @@ sized_at limit place few rule n = do
   v ← judge n.1.place (rule c.0)
   Ok (v, c.1)
 
--- a size of one octet, 1 to 8
+-- a size of one octet, 1 to 8; another announces nothing
 unfoldable pub number_at : (List ℕ → Option Value) → Reader
 number_at rule limit s = do
   n ← octet_at limit s
-  sized_at limit s.place is_size rule n
+  if is_size n.0 then sized_at limit s.place is_size rule n else refuse s.place
 
 unfoldable pub string_at : (ℕ → Bool) → (List ℕ → Option Value) → Reader
 string_at few rule limit s = do
@@ -96,22 +98,28 @@ bits_at limit s = do
 
 -- ---- values that hold values
 
-unfoldable pub present_at : Reader → ℕ → Spot → Reading (Option Value × Spot)
-present_at inner limit s = do
-  v ← inner limit s
-  Ok (Some v.0, v.1)
+-- how many octets the last field has of a value that a default may name: the octet of a BOOLEAN, the contents of a number
+abbrev pub last_size : Value → ℕ
+last_size (integer z) = length (integer_octets z)
+last_size v = 1
 
--- before an optional part 0 where it is absent, 1 where it is present
-abbrev pub marked_at : Reader → ℕ → ℕ → ℕ × Spot → Reading (Option Value × Spot)
-marked_at inner limit place m =
-    if nat_eq m.0 0 then Ok (None, m.1) else (if nat_eq m.0 1 then present_at inner limit m.1 else refuse place)
+-- the default's value is at fault, in its last field
+unfoldable pub present_at : Reader → Part → ℕ → Spot → Reading (Option Value × Spot)
+present_at inner p limit s = do
+  v ← inner limit s
+  if is_default p.default v.0 then refuse (v.1.place - last_size v.0) else Ok (Some v.0, v.1)
+
+-- before a part that may be absent 0 where it is, 1 where it is present
+abbrev pub marked_at : Reader → Part → ℕ → ℕ → ℕ × Spot → Reading (Option Value × Spot)
+marked_at inner p limit place m =
+    if nat_eq m.0 0 then Ok (None, m.1) else (if nat_eq m.0 1 then present_at inner p limit m.1 else refuse place)
 
 unfoldable pub part_at : Reader → Part → ℕ → Spot → Reading (Option Value × Spot)
 part_at inner p limit s =
-    if p.optional then (do
+    if may_be_absent p then (do
       m ← octet_at limit s
-      marked_at inner limit s.place m)
-    else present_at inner limit s
+      marked_at inner p limit s.place m)
+    else present_at inner p limit s
 
 -- the parts in the order of the notation
 unfoldable pub parts_at : (ℕ → Reader) → ℕ → Spot → List Part → Reading (List (Option Value) × Spot)
@@ -183,10 +191,6 @@ read_by inner row.Any = dead
 
 unfoldable pub reads : List TypeRow → ℕ → Reader
 reads rows n = along dead read_by rows (length rows) n
-
--- the lists of one value have together at most so many items
-abbrev pub most_items : ℕ
-most_items = 131072
 
 abbrev pub start : List ℕ → Spot
 start bytes = record { place = 0; rest = bytes; left = most_items }

@@ -5,6 +5,7 @@ use Rattle.asn1_types.specs.declared.row.Part.{Part}
 use Rattle.asn1_types.specs.declared.row.TypeRow.{TypeRow}
 use Rattle.asn1_types.specs.declared.row.TypeRow.TheVariants as row
 use Rattle.asn1_types.specs.Rows.{along}
+use Rattle.asn1_types.specs.Defaults.{may_be_absent}
 use Rattle.asn1_types.specs.Value.{Value, boolean, integer, null, octets, bits, object_id, text, parts, list, chosen, any, MaybeValues, no_parts, absent, present, Values, no_values, value}
 use Rattle.packed_codec.specs.Numbers.{integer_octets}
 use Rattle.packed_codec.specs.ObjectIds.{arcs_octets}
@@ -49,10 +50,10 @@ abbrev pub bits_written : Writer
 bits_written (bits os unused) = unused ∷ counted os
 bits_written v = []
 
--- before an optional part 0 where it is absent, 1 where it is present
+-- before a part that may be absent 0 where it is, 1 where it is present
 abbrev pub part_written : (ℕ → Writer) → Part → Option Value → List ℕ
-part_written inner p None = if p.optional then 0 ∷ [] else []
-part_written inner p (Some v) = if p.optional then 1 ∷ inner p.inner.0 v else inner p.inner.0 v
+part_written inner p None = if may_be_absent p then 0 ∷ [] else []
+part_written inner p (Some v) = if may_be_absent p then 1 ∷ inner p.inner.0 v else inner p.inner.0 v
 
 -- in the order of the notation
 abbrev pub parts_written : (ℕ → Writer) → List Part → MaybeValues → List ℕ

@@ -11,7 +11,7 @@ ghost use Rattle.packed_codec.specs.ObjectIds.{base_128, arcs_octets};
 ghost use Rattle.packed_codec.specs.Writing.{boolean_written, number_written, octets_written, text_written, object_id_written, bits_written, part_written, parts_written, sequence_written, values_written, list_written, choice_written, write_by, packed};
 
 use crate::octets::{digits_128, unpadded, without_zeros};
-use asn1_types::{Node, Part, Parts, TypeId, TypeRow, TypeTable, Val};
+use asn1_types::{Node, Part, Parts, TypeId, TypeRow, TypeTable, Val, may_be_absent};
 
 fn of_boolean(value: &Val) -> u64
     ensures { result ≡ min (length (boolean_written value.now)) last_count }
@@ -180,7 +180,7 @@ fn of_part(table: &TypeTable, of: TypeId, part: &Part, value: &Option<Val>) -> u
     requires below { part.now.inner.0 < of.0 }
     ensures { result ≡ min (length (part_written (packed table.now) part.now value.now)) last_count }
 {
-    let mark = if part.optional { 1 } else { 0 };
+    let mark = if may_be_absent(part) { 1 } else { 0 };
     match value {
         Some(value) => packed_len(table, part.inner, value).saturating_add(mark),
         None => mark,

@@ -1,6 +1,7 @@
 //! Reading whole values.
 
 ghost use Rattle.std.specs.Prelude.{◌≡◌, ℕ, ◌≤◌, ◌<◌, length, take, IfOk};
+ghost use Rattle.asn1_types.specs.Limits.{most_octets};
 ghost use Rattle.asn1_types.specs.Value as tree;
 ghost use Rattle.packed_codec.specs.Reading.{Gives};
 ghost use Rattle.packed_codec.specs.Rules.{read_at};
@@ -36,11 +37,11 @@ pub fn packed_read(
 ) -> Result<Read, PackedFault>
     requires { of.0 < length table.now }
     // What is read is spelled by the octets used.
-    ensures found { IfOk result (λ r. (r.used ≤ length bytes.now) × Packed table.now of.0 262144 r.value (take r.used bytes.now)) }
+    ensures found { IfOk result (λ r. (r.used ≤ length bytes.now) × Packed table.now of.0 most_octets r.value (take r.used bytes.now)) }
     // What the octets spell is read, unless memory is refused.
-    ensures only { (v : tree.Value) (n : ℕ) → n ≤ length bytes.now → Packed table.now of.0 262144 v (take n bytes.now) → IsRead result v n }
+    ensures only { (v : tree.Value) (n : ℕ) → n ≤ length bytes.now → Packed table.now of.0 most_octets v (take n bytes.now) → IsRead result v n }
     // The fault is the first from the left.
-    ensures exact { Gives (λ r. (r.value, r.used)) result (read_at table.now of.0 262144 bytes.now) }
+    ensures exact { Gives (λ r. (r.value, r.used)) result (read_at table.now of.0 most_octets bytes.now) }
 {
     read_whole(alloc, table, of, bytes, LIMIT)
 }

@@ -5,15 +5,19 @@ ghost use Rattle.std.specs.List.{AllByRecursion};
 ghost use Rattle.asn1_types.specs.Rows.{rows_of_parts};
 ghost use Rattle.asn1_types.specs.Table.{IsSound};
 ghost use Rattle.packed_codec.specs.Reading.{Gives, spot_of, GoesOn};
-ghost use Rattle.packed_codec.specs.Rules.{part_at, present_at, parts_at, sequence_at, items_at, list_at, choice_at, read_by, reads};
+ghost use Rattle.packed_codec.specs.Rules.{last_size, part_at, present_at, parts_at, sequence_at, items_at, list_at, choice_at, read_by, reads};
 
 use crate::fault::PackedFault;
 use crate::fields::{count, octet, refusal};
+use crate::octets::unpadded;
 use crate::spot::Spot;
 use crate::strings::{
     bit_string, boolean, enumerated, integer, null, object_id, octet_string, text,
 };
-use asn1_types::{MaybeVals, Node, Part, Parts, TypeId, TypeRow, TypeTable, Val, Vals};
+use asn1_types::{
+    MaybeVals, Node, Part, Parts, TypeId, TypeRow, TypeTable, Val, Vals, has_default_value,
+    may_be_absent,
+};
 use std::alloc::Global;
 
 /// What stands here, as a value of this row.
@@ -166,7 +170,20 @@ fn parts_of<'a>(
     Ok((found, spot))
 }
 
-/// One part of a SEQUENCE or SET. Before an optional one stands whether it is there.
+/// How many octets the last field has of a value that a default may name: the octet of a BOOLEAN,
+/// the contents of a number.
+#[tactic(auto, unfolding(crate::specs::Numbers::integer_octets))]
+fn last_size(value: &Val) -> usize
+    ensures { result ≡ last_size value.now }
+{
+    match &value.node {
+        Node::Int(number) => unpadded(&number.to_be_bytes()).len(),
+        _ => 1,
+    }
+}
+
+/// One part of a SEQUENCE or SET. Before one that may be absent stands whether it is there. The
+/// value of its default is at fault, in its last field.
 #[cycle(reading)]
 #[tactic(auto, unfolding(crate::specs::Rules::part_at, crate::specs::Rules::present_at))]
 fn part_of<'a>(
@@ -184,7 +201,7 @@ fn part_of<'a>(
     ensures stops { IfOk result (λ x. GoesOn spot.entry.place (length spot.entry.rest.now) x.1) }
 {
     let mut behind = spot;
-    if part.optional {
+    if may_be_absent(part) {
         let (mark, after) = octet(limit, spot)?;
         match mark {
             0 => return Ok((None, after)),
@@ -193,6 +210,9 @@ fn part_of<'a>(
         }
     }
     let (value, after) = value(alloc, table, part.inner, limit, behind)?;
+    if has_default_value(part, &value) {
+        return Err(refusal(after.place.saturating_sub(last_size(&value))));
+    }
     Ok((Some(value), after))
 }
 

@@ -1,7 +1,7 @@
 //! Values of one field, and values behind a size: numbers and strings.
 
 ghost use Rattle.std.specs.Prelude.{◌≡◌, ◌+◌, ◌≤◌, ◌<◌, ◌^◌, length, IfOk};
-ghost use Rattle.asn1_types.specs.Fits.{is_item};
+ghost use Rattle.asn1_types.specs.Defaults.{is_item};
 ghost use Rattle.packed_codec.specs.Reading.{Gives, spot_of, GoesOn};
 ghost use Rattle.packed_codec.specs.Rules.{boolean_at, null_at, number_at, string_at, number_rule, in_range, any_size, at_most, octets_rule, text_rule, object_id_rule, bits_at, bits_size, bits_rule};
 
@@ -57,6 +57,9 @@ pub(crate) fn integer<'a>(
     ensures stops { IfOk result (λ x. GoesOn spot.entry.place (length spot.entry.rest.now) x.1) }
 {
     let (size, behind) = octet(limit, spot)?;
+    if !is_size(size) {
+        return Err(refusal(spot.place));
+    }
     let (octets, after) = announced(limit, spot.place, is_size(size), size as u32, behind)?;
     match integer_of(octets) {
         Some(number) if low <= number && number <= high => Ok((
@@ -81,6 +84,9 @@ pub(crate) fn enumerated<'a>(
     ensures stops { IfOk result (λ x. GoesOn spot.entry.place (length spot.entry.rest.now) x.1) }
 {
     let (size, behind) = octet(limit, spot)?;
+    if !is_size(size) {
+        return Err(refusal(spot.place));
+    }
     let (octets, after) = announced(limit, spot.place, is_size(size), size as u32, behind)?;
     match integer_of(octets) {
         Some(number) if is_item(items, number) => Ok((

@@ -9,7 +9,7 @@ ghost use Rattle.packed_codec.specs.Writing.{part_written, parts_written, sequen
 
 use crate::octets::{put_count, put_octet};
 use crate::put::{put_bit_string, put_boolean, put_integer, put_octet_string, put_oid, put_text};
-use asn1_types::{Node, Part, Parts, TypeId, TypeRow, TypeTable, Val};
+use asn1_types::{Node, Part, Parts, TypeId, TypeRow, TypeTable, Val, may_be_absent};
 
 /// Puts a value of this row at a place of the room, and answers the place behind it. Of a value that doesn't fit the row, what
 /// doesn't fit is left out.
@@ -129,7 +129,7 @@ fn put_parts(
     behind
 }
 
-/// One part. Before an optional one stands whether it is there.
+/// One part. Before one that may be absent stands whether it is there.
 #[cycle(writing)]
 fn put_part(
     table: &TypeTable,
@@ -145,14 +145,14 @@ fn put_part(
 {
     match value {
         Some(value) => {
-            if !part.optional {
+            if !may_be_absent(part) {
                 return put_value(table, part.inner, value, out, at);
             }
             let behind = put_octet(1, out, at);
             put_value(table, part.inner, value, out, behind)
         }
         None => {
-            if part.optional {
+            if may_be_absent(part) {
                 put_octet(0, out, at)
             } else {
                 at

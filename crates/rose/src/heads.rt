@@ -1,6 +1,6 @@
 //! The fixed table of the heads of APDUs.
 
-ghost use Rattle.std.specs.Prelude.{slice_get, take, Some, ◌≡◌, IfOk, OnOk, ◌++◌, ◌∷◌, [], true, false, ℤ};
+ghost use Rattle.std.specs.Prelude.{slice_get, take, Some, None, ◌≡◌, IfOk, OnOk, ◌++◌, ◌∷◌, [], true, false, ℤ};
 ghost use Rattle.stub_tables.specs.Heads.{part, optional_part, any_row, head_rows};
 ghost use Rattle.asn1_types.specs.declared.row.TypeRow.TheVariants as row;
 ghost use Rattle.asn1_types.specs.declared.row.Class.TheVariants.{Context};
@@ -34,12 +34,13 @@ impl Model for Heads {
 }
 
 fn part(alloc: Global, name: &str, row: u32, optional: bool) -> Result<Part, NoMemory>
-    ensures { IfOk result (λ p. p ≡ record { name = name.now; inner = record { 0 = row }; optional = optional }) }
+    ensures { IfOk result (λ p. p ≡ record { name = name.now; inner = record { 0 = row }; optional = optional; default = None }) }
 {
     Ok(Part {
         name: Name::from_str(alloc, name)?,
         inner: TypeId(row),
         optional,
+        default: None,
     })
 }
 

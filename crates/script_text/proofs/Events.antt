@@ -5,7 +5,7 @@ use Rattle.dialogue.specs.declared.event.Event.{Event}
 use Rattle.script_text.specs.declared.fault.ScriptFault.{ScriptFault}
 use Rattle.script_text.specs.declared.fault.ScriptFault.TheVariants.{At}
 use Rattle.script_text.specs.declared.fault.ScriptKind.TheVariants.{UnknownWord, TooMany}
-use Rattle.script_text.specs.declared.schedule.TheConstants.{EVENT_MOST}
+use Rattle.osi_base.specs.Limits.{event_most}
 use Rattle.script_text.specs.Lines.{fields_of}
 use Rattle.script_text.specs.Schedules.{is_blank, is_mode_bare, event_of, onto, with_event, events_from, mode_and_events}
 
@@ -63,7 +63,7 @@ mode_unknown tables n line lines h e = rw (h, e) refl
 
 pub mode_bare : (tables : Tables) (n : ℕ) (line : List ℕ) (lines : List (List ℕ))
     → is_blank (fields_of line) ≡ false → is_mode_bare (fields_of line) ≡ true
-    → mode_and_events tables n (line ∷ lines) ≡ events_from tables (n + 1) EVENT_MOST lines
+    → mode_and_events tables n (line ∷ lines) ≡ events_from tables (n + 1) event_most lines
 mode_bare tables n line lines h e = rw (h, e) refl
 
 pub ruleset steps = (events_blank, events_unknown, events_full, events_more, mode_blank, mode_unknown, mode_bare)

@@ -127,6 +127,7 @@ refusal_text refusals.NoTurn = codes "NoTurn"
 refusal_text (refusals.Ending n) = codes "Ending " ++ decimal n
 refusal_text refusals.BadProposal = codes "BadProposal"
 refusal_text (refusals.WrongParity id) = codes "WrongParity " ++ decimal id
+refusal_text (refusals.Named id) = codes "Named " ++ decimal id
 refusal_text (refusals.Present id) = codes "Present " ++ decimal id
 refusal_text (refusals.Fixed id) = codes "Fixed " ++ decimal id
 refusal_text (refusals.InUse id) = codes "InUse " ++ decimal id

@@ -16,7 +16,7 @@ use Rattle.script_text.specs.declared.fault.ScriptFault.{ScriptFault}
 use Rattle.script_text.specs.declared.fault.ScriptFault.TheVariants.{At}
 use Rattle.script_text.specs.declared.fault.ScriptKind.TheVariants.{UnknownWord, TooMany}
 use Rattle.script_text.specs.declared.schedule.Schedule.{Schedule}
-use Rattle.script_text.specs.declared.schedule.TheConstants.{SCHEDULE_MOST, EVENT_MOST}
+use Rattle.osi_base.specs.Limits.{text_most, event_most}
 use Rattle.script_text.specs.Lines.{lines_of, fields_of}
 use Rattle.script_text.specs.Numbers.{number_of, identifier_of, integer_of, kept_below}
 
@@ -135,7 +135,7 @@ abbrev pub mode_and_events : Tables → ℕ → List (List ℕ) → Result (List
 mode_and_events tables number [] = Err (At 1 UnknownWord)
 mode_and_events tables number (line ∷ lines) =
     if is_blank (fields_of line) then mode_and_events tables (number + 1) lines
-    else if is_mode_bare (fields_of line) then events_from tables (number + 1) EVENT_MOST lines
+    else if is_mode_bare (fields_of line) then events_from tables (number + 1) event_most lines
     else Err (At number UnknownWord)
 
 abbrev pub with_setup : Result (List Event) ScriptFault → Result Schedule ScriptFault
@@ -145,5 +145,5 @@ with_setup (Err fault) = Err fault
 -- what a schedule says, or the first line at which it breaks the grammar, with the kind of the fault
 abbrev pub schedule_of : Tables → List ℕ → Result Schedule ScriptFault
 schedule_of tables text =
-    if nat_lt SCHEDULE_MOST (length text) then Err (At 1 TooMany)
+    if nat_lt text_most (length text) then Err (At 1 TooMany)
     else with_setup (mode_and_events tables 1 (lines_of text))

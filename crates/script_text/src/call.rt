@@ -245,6 +245,7 @@ fn put_refusal(text: &mut Text, refusal: CallRefusal) -> Result<(), NoMemory>
         CallRefusal::Ending(n) => put_named(text, "Ending ", n),
         CallRefusal::BadProposal => text.put("BadProposal"),
         CallRefusal::WrongParity(id) => put_named(text, "WrongParity ", id),
+        CallRefusal::Named(id) => put_named(text, "Named ", id),
         CallRefusal::Present(id) => put_named(text, "Present ", id),
         CallRefusal::Fixed(id) => put_named(text, "Fixed ", id),
         CallRefusal::InUse(id) => put_named(text, "InUse ", id),

@@ -2,6 +2,7 @@
 
 ghost use Rattle.std.specs.Prelude.{◌≡◌, ◌∷◌, ◌+◌, ◌<◌, ◌==◌, ℕ, [], Some, None, IfOk, IfErr, OnOk, ◌≢◌, length, bytes_eq, position};
 ghost use Rattle.script_text.specs.Schedules.{is_blank, is_mode_bare, side_of, amount_of, operation_named, carry_of, invoke_of, answer_of, call_of, event_of, starts_comment, bare_config, bare_setup, events_from, mode_and_events, schedule_of, with_setup};
+ghost use Rattle.osi_base.specs.Limits.{event_most};
 ghost use Rattle.script_text.specs.Lines.{fields_of, lines_of};
 ghost use Rattle.script_text.specs.declared.fault.ScriptFault.TheVariants.{NoMemory as no_room, At};
 
@@ -182,8 +183,8 @@ fn read_event(tables: &Tables, line: &[u8]) -> Option<Event>
 /// The events of the lines.
 #[tactic(auto, using(crate::proofs::Events::steps))]
 fn read_events(alloc: Global, tables: &Tables, lines: &mut Lines<'_>) -> Result<Events, ScriptFault>
-    ensures ok { IfOk result (λ events. events_from tables.now lines.old.number EVENT_MOST lines.old.lines ≡ Ok events) }
-    ensures err { IfErr result (λ fault. fault ≢ no_room → events_from tables.now lines.old.number EVENT_MOST lines.old.lines ≡ Err fault) }
+    ensures ok { IfOk result (λ events. events_from tables.now lines.old.number event_most lines.old.lines ≡ Ok events) }
+    ensures err { IfErr result (λ fault. fault ≢ no_room → events_from tables.now lines.old.number event_most lines.old.lines ≡ Err fault) }
 {
     let mut events = ListOf::new(alloc);
     'lines: loop {
@@ -214,7 +215,7 @@ fn at(line: u32, kind: ScriptKind) -> ScriptFault
 /// The mode, which the first line that says something has to name.
 #[tactic(auto, using(crate::proofs::Events::steps))]
 fn read_mode(tables: &Tables, lines: &mut Lines<'_>) -> Result<(), ScriptFault>
-    ensures ok { OnOk result (mode_and_events tables.now lines.old.number lines.old.lines ≡ events_from tables.now lines.new.number EVENT_MOST lines.new.lines) }
+    ensures ok { OnOk result (mode_and_events tables.now lines.old.number lines.old.lines ≡ events_from tables.now lines.new.number event_most lines.new.lines) }
     ensures err { IfErr result (λ fault. mode_and_events tables.now lines.old.number lines.old.lines ≡ Err fault) }
 {
     'lines: loop {

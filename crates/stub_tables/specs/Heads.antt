@@ -11,10 +11,10 @@ use Rattle.stub_tables.specs.declared.operation.Code.TheVariants.{Local, Global}
 use Rattle.stub_tables.specs.declared.apdu.Returned.{Returned}
 
 abbrev pub part : List ℕ → ℕ → Part
-part name row = record { name = name; inner = record { 0 = row }; optional = false }
+part name row = record { name = name; inner = record { 0 = row }; optional = false; default = None }
 
 abbrev pub optional_part : List ℕ → ℕ → Part
-optional_part name row = record { name = name; inner = record { 0 = row }; optional = true }
+optional_part name row = record { name = name; inner = record { 0 = row }; optional = true; default = None }
 
 -- the row of one whole value of any type, and the row of all APDUs
 abbrev pub any_row : ℕ

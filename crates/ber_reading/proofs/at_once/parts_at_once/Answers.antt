@@ -1,4 +1,4 @@
-use Rattle.std.proofs.Common.{◌<◌, ◌∙◌, ap, refl, arith, rules, length}
+use Rattle.std.proofs.Common.{◌≡◌, true, ◌<◌, ◌∙◌, sym, ap, refl, arith, rules, length}
 use Rattle.std.proofs.lemmas.Int.{to_z-of_z}
 use Rattle.std.proofs.lemmas.Option.{slice_get_within}
 use mir.Syntax.{w64}
@@ -9,11 +9,11 @@ use Rattle.asn1_types.specs.Value as tree
 use Rattle.asn1_types.specs.Rows.{begins}
 use Rattle.asn1_types.proofs.Sound.{each_part, choice_down}
 use Rattle.ber_spelling.specs.Reading.{spot_of}
-use Rattle.ber_spelling.specs.Rules.{reads}
+use Rattle.ber_spelling.specs.Rules.{reads, is_other}
 use Rattle.ber_spelling.proofs.Loops.{goes_then}
-use Rattle.ber_reading.proofs.AtOnce.{lower, part_is, choice_part}
+use Rattle.ber_reading.proofs.AtOnce.{lower, part_is, choice_part, no_choice}
 use Rattle.ber_reading.proofs.PartsFrom.{part_goes_on}
-use Rattle.ber_reading.proofs.at_once.parts_at_once.Goals.{in-Integer+in-Some, in-Choice+in-Some-first+in-Ok, in_default+else-not-is_absent}
+use Rattle.ber_reading.proofs.at_once.parts_at_once.Goals.{in-Integer+in-Some+else-not-is_other_number, in-Choice+in-Some-first+in-Ok, in_default+else-not-is_absent}
 use Rattle.ber_reading.proofs.at_once.parts_at_once.Goals as goal
 
 pub row-row-requires : goal.row-row-requires
@@ -27,12 +27,14 @@ first_ahead-first-requires-clause-below c =
 
 pub loop-part-preserved : goal.loop-part-preserved
 loop-part-preserved c = elim c.match-row.branch [
-  | in-Integer+in-Some w ↦
+  | in-Integer+in-Some+else-not-is_other_number w ↦
       let low : SFits w64 w.in-Integer.low = search rules in
       let high : SFits w64 w.in-Integer.high = search rules in
       let number : SFits w64 w.in-Some.number = search rules in
       let gives = simp to_z-of_z at w.in-Some.ensures.gives in
-      let read = part_is c.args.table.now c.row-row.ensures.sound c.part-item.result.inner.0 w.in-Integer.low w.in-Integer.high w.in-Some.number (c.row-row.ensures.value ∙ ap Some w.in-Integer.is) c.args.scope.now (spot_of c.loop-part.spot) (spot_of w.in-Some.next) w.in-Some.ensures.looks gives c.part-item.result refl in
+      let tested = simp to_z-of_z at w.is_other_number.ensures in
+      let other : is_other c.part-item.result.default (Some (tree.integer w.in-Some.number)) ≡ true = sym tested ∙ w.if-not-is_other_number.false in
+      let read = part_is c.args.table.now c.row-row.ensures.sound c.part-item.result.inner.0 w.in-Integer.low w.in-Integer.high w.in-Some.number (c.row-row.ensures.value ∙ ap Some w.in-Integer.is) c.args.scope.now (spot_of c.loop-part.spot) (spot_of w.in-Some.next) w.in-Some.ensures.looks gives c.part-item.result refl other in
       let items = simp to_z-of_z at w.push_reserved.ensures.items in
       record {
         onward = goes_then c.loop-part.invariant.onward (rw w.spot-is w.in-Some.ensures.stops);
@@ -43,7 +45,7 @@ loop-part-preserved c = elim c.match-row.branch [
   | in-Choice+in-Some-first+in-Ok w ↦
       let number : SFits w64 w.in-Some-first.number = search rules in
       let gives = rw w.as_slice.ensures at w.in-Some-first.ensures.gives in
-      let read = choice_part c.args.table.now c.row-row.ensures.sound c.part-item.result w.in-Choice.alternatives (c.row-row.ensures.value ∙ ap Some w.in-Choice.is) c.args.scope.now (spot_of c.loop-part.spot) (tree.chosen 0 (tree.integer w.in-Some-first.number)) (spot_of w.in-Some-first.next) w.in-Some-first.ensures.looks gives in
+      let read = choice_part c.args.table.now c.row-row.ensures.sound c.part-item.result w.in-Choice.alternatives (c.row-row.ensures.value ∙ ap Some w.in-Choice.is) c.args.scope.now (spot_of c.loop-part.spot) (tree.chosen 0 (tree.integer w.in-Some-first.number)) (spot_of w.in-Some-first.next) w.in-Some-first.ensures.looks gives (no_choice c.part-item.result.default 0 (tree.integer w.in-Some-first.number)) in
       let boxed = simp to_z-of_z at w.in-Ok.ensures.ok in
       record {
         onward = goes_then c.loop-part.invariant.onward (rw w.spot-is w.in-Some-first.ensures.stops);

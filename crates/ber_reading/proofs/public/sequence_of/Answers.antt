@@ -4,7 +4,7 @@ use Rattle.std.proofs.lemmas.Option.{slice_get_within}
 use Rattle.asn1_types.specs.declared.row.TypeRow.TheVariants.{Sequence, Tagged}
 use Rattle.asn1_types.proofs.Sound.{down_as}
 use Rattle.ber_spelling.specs.declared.spot.Tag as tags
-use Rattle.ber_spelling.specs.Rules.{Reader}
+use Rattle.ber_spelling.specs.Rules.{Reader, plain, under}
 use Rattle.ber_reading.proofs.Rows.{reads_at}
 use Rattle.ber_reading.proofs.public.sequence_of.Goals as goal
 
@@ -30,7 +30,7 @@ returns-in-Sequence-row-clause-is c =
     let implicit : c.in-Tagged.explicit ≡ false = search rules in
     let outer = reads_at c.args.table.now c.row.ensures.sound c.args.of.0 (Tagged c.in-Tagged.class c.in-Tagged.number false c.in-Tagged.inner) (c.row.ensures.value ∙ ap Some (c.in-Tagged.is ∙ ap (λ (b : Bool). Tagged c.in-Tagged.class c.in-Tagged.number b c.in-Tagged.inner) implicit)) in
     let inner = reads_at c.args.table.now c.row-in-Tagged.ensures.sound c.in-Tagged.inner.0 (Sequence c.in-Sequence-row.parts) (c.row-in-Tagged.ensures.value ∙ ap Some c.in-Sequence-row.is) in
-    ap (λ (r : Reader). r None) outer ∙ ap (λ (r : Reader). r (Some tag)) inner
+    ap (λ (r : Reader). r plain) outer ∙ ap (λ (r : Reader). r (under (Some tag) None)) inner
 
 pub returns-in-Sequence-clause-below : goal.returns-in-Sequence-clause-below
 returns-in-Sequence-clause-below c =
@@ -38,4 +38,4 @@ returns-in-Sequence-clause-below c =
 
 pub returns-in-Sequence-clause-is : goal.returns-in-Sequence-clause-is
 returns-in-Sequence-clause-is c =
-    ap (λ (r : Reader). r None) (reads_at c.args.table.now c.row.ensures.sound c.args.of.0 (Sequence c.in-Sequence.parts) (c.row.ensures.value ∙ ap Some c.in-Sequence.is))
+    ap (λ (r : Reader). r plain) (reads_at c.args.table.now c.row.ensures.sound c.args.of.0 (Sequence c.in-Sequence.parts) (c.row.ensures.value ∙ ap Some c.in-Sequence.is))

@@ -3,6 +3,7 @@ use Rattle.std.specs.Prelude.{List, Option, slice_set}
 use Rattle.std.proofs.lemmas.Option.{slice_get_within}
 use Rattle.std.proofs.lemmas.List.{take_rest, length-drop, drop-drop}
 use Rattle.asn1_types.specs.Value.{Value}
+use Rattle.osi_base.specs.declared.words.Kind.TheVariants.{Extra}
 use Rattle.ber_spelling.specs.Order.{rank}
 use Rattle.asn1_types.specs.declared.row.TypeRow.TheVariants.{Sequence, SequenceOf, Set, Choice, Tagged}
 use Rattle.asn1_types.specs.declared.row.Part.{Part}
@@ -10,8 +11,8 @@ use Rattle.asn1_types.specs.Rows.{begins}
 use Rattle.ber_reading.specs.Parts.{parts_from, parts_behind}
 use Rattle.asn1_types.proofs.Sound.{each_part, down_as, choice_few, later_parts}
 use Rattle.ber_spelling.specs.Reading.{opened_of, spot_of, ahead_of, LiesIn}
-use Rattle.ber_spelling.specs.Rules.{items_at, list_item_at, list_done, reads, slot_at, set_done, is_free, is_filled}
-use Rattle.ber_reading.proofs.Slots.{none_length, set_length, slot_taken, slot_fails, slot_gives, set_full, set_lacks, turns_lack}
+use Rattle.ber_spelling.specs.Rules.{items_at, list_item_at, list_done, reads, slot_at, set_done, is_free, is_filled, plain, bare}
+use Rattle.ber_reading.proofs.Slots.{none_length, set_length, slot_taken, slot_fails, slot_gives, set_full, set_lacks, turns_lack, late_fails}
 use Rattle.ber_reading.proofs.Rows.{reads_at}
 use Rattle.ber_reading.proofs.AtOnce.{reads_it, lower}
 use Rattle.ber_reading.specs.AtOnce.{integer_opened, behind}
@@ -20,6 +21,7 @@ use Rattle.std.proofs.lemmas.Int.{to_z-of_z}
 use mir.Syntax.{w64}
 use mir.Val.{SFits}
 use Rattle.asn1_types.specs.Value as tree
+use Rattle.asn1_types.specs.ValueView.{parts_of}
 use Rattle.ber_spelling.proofs.Loops.{goes_then}
 use Rattle.ber_reading.proofs.PartsFrom.{part_fails, part_goes_on, end_fails, end_gives, sequence_fails, sequence_gives}
 use Rattle.ber_spelling.proofs.Steps.{Fails-bind}
@@ -51,7 +53,7 @@ tagged_choice-choice-requires t c =
 
 pub value-returns-clause-gives : goal.value-returns-clause-gives
 value-returns-clause-gives t c =
-    rw (reads_at c.args.table.now c.row.ensures.sound c.args.of.0 c.row.result.now c.row.ensures.value) c.value_as.ensures.gives
+    rw (reads_at c.args.table.now c.row-row.ensures.sound c.args.of.0 c.row-row.result.now c.row-row.ensures.value) c.value_as.ensures.gives
 
 pub value_as-sequence-requires : goal.value_as-sequence-requires
 value_as-sequence-requires t c =
@@ -107,7 +109,7 @@ items-returns-in-Ended-clause-gives t c =
 pub items-returns-in_err-value-in-Begun-clause-gives : goal.items-returns-in_err-value-in-Begun-clause-gives
 items-returns-in_err-value-in-Begun-clause-gives t c =
     let h = step_fails (list_item_at (reads c.args.table.now c.args.inner.0)) list_done c.in_err-value-in-Begun.field-0.0 (length c.args.spot.rest.now + 1 - c.loop-turn._turn) c.loop-turn.found.items c.args.scope.now (spot_of c.loop-turn.spot) (opened_of c.in-Begun.opened) (spot_of c.in-Begun.after) _ (omega arith) c.loop-turn.invariant.so_far
-    (c.in_ok-after.ensures.gives ∙ ap (λ a. Ok (ahead_of a)) c.in-Begun.is) (Fails-bind c.in_err-value-in-Begun.field-0.0 (reads c.args.table.now c.args.inner.0 None c.args.scope.now (opened_of c.in-Begun.opened) (spot_of c.in-Begun.after)) _ c.in_err-value-in-Begun.ensures.gives) in
+    (c.in_ok-after.ensures.gives ∙ ap (λ a. Ok (ahead_of a)) c.in-Begun.is) (Fails-bind c.in_err-value-in-Begun.field-0.0 (reads c.args.table.now c.args.inner.0 plain c.args.scope.now (opened_of c.in-Begun.opened) (spot_of c.in-Begun.after)) _ c.in_err-value-in-Begun.ensures.gives) in
     search rules
 
 pub items-loop-turn-preserved : goal.items-loop-turn-preserved
@@ -117,7 +119,7 @@ items-loop-turn-preserved t c =
     let more = c.loop-turn.found.items ++ c.in_ok-value-in-Begun.value ∷ [] in
     let goes = step_goes (list_item_at (reads c.args.table.now c.args.inner.0)) list_done (length c.args.spot.rest.now + 1 - c.loop-turn._turn) c.loop-turn.found.items more c.args.scope.now (spot_of c.loop-turn.spot) (opened_of c.in-Begun.opened) (spot_of c.in-Begun.after) (spot_of c.in_ok-value-in-Begun.next) _ (omega arith) c.loop-turn.invariant.so_far
     (c.in_ok-after.ensures.gives ∙ ap (λ a. Ok (ahead_of a)) c.in-Begun.is)
-    (bind_is (reads c.args.table.now c.args.inner.0 None c.args.scope.now (opened_of c.in-Begun.opened) (spot_of c.in-Begun.after)) _ (c.in_ok-value-in-Begun.value, spot_of c.in_ok-value-in-Begun.next) c.in_ok-value-in-Begun.ensures.gives) in
+    (bind_is (reads c.args.table.now c.args.inner.0 plain c.args.scope.now (opened_of c.in-Begun.opened) (spot_of c.in-Begun.after)) _ (c.in_ok-value-in-Begun.value, spot_of c.in_ok-value-in-Begun.next) c.in_ok-value-in-Begun.ensures.gives) in
     record {
       onward = goes_then c.loop-turn.invariant.onward (goes_then opens.behind c.in_ok-value-in-Begun.ensures.stops);
       so_far = ap (λ found. items_at (list_item_at (reads c.args.table.now c.args.inner.0)) list_done (length c.args.spot.rest.now + 1 - (c.loop-turn._turn + 1)) found c.args.scope.now (spot_of c.in_ok-value-in-Begun.next)) c.in_ok-push-in-Begun.ensures.items
@@ -151,8 +153,8 @@ slot-returns-then-not-is_free-clause-gives t c =
     let b : begins c.args.table.now c.index-parts-which.result.inner.0 c.args.opened.now.class c.args.opened.now.number ≡ true = cc in
     let taken : is_free (Some c.index-found-which.result) ≡ false = cc in
     let more : c.loop-which.which < length c.args.found.now = omega (arith, c.requires.slots, c.loop-which-test.true) in
-    rw c.refusal.ensures (slot_taken (begins c.args.table.now) (reads c.args.table.now) c.args.parts.now c.loop-which.which c.index-parts-which.result c.index-found-which.result (record { found = c.args.found.now; least = c.args.least }) c.args.scope.now (opened_of c.args.opened.now) (spot_of c.args.spot) _
-    c.loop-which-test.true c.index-parts-which.is b more c.index-found-which.is taken c.loop-which.invariant)
+    late_fails c.late.result (reads c.args.table.now c.index-parts-which.result.inner.0 (bare c.index-parts-which.result.default)) Extra c.args.scope.now (opened_of c.args.opened.now) (spot_of c.args.spot) _ (slot_taken (begins c.args.table.now) (reads c.args.table.now) c.args.parts.now c.loop-which.which c.index-parts-which.result c.index-found-which.result (record { found = c.args.found.now; least = c.args.least }) c.args.scope.now (opened_of c.args.opened.now) (spot_of c.args.spot) _
+    c.loop-which-test.true c.index-parts-which.is b more c.index-found-which.is taken c.loop-which.invariant) c.late.ensures
 
 pub slot-returns-in_err-value-clause-gives : goal.slot-returns-in_err-value-clause-gives
 slot-returns-in_err-value-clause-gives t c =
@@ -191,7 +193,7 @@ slots-returns-then-is_filled-clause-gives t c =
     let full : is_filled c.args.parts.now c.deref.result.now ≡ true = cc in
     let full' : is_filled c.args.parts.now c.loop-turn.found.items ≡ true = rw c.deref.ensures.value at full in
     turns_end (slot_at (begins c.args.table.now) (reads c.args.table.now) 0 c.args.parts.now) (set_done c.args.parts.now) (record { found = c.loop-turn.found.items; least = c.loop-turn.least }) _ c.args.scope.now (spot_of c.loop-turn.spot) (length c.args.spot.rest.now + 1 - c.loop-turn._turn) c.in-Ended.place (spot_of c.in-Ended.after) _ (omega arith) c.loop-turn.invariant.so_far
-    (c.in_ok-place.ensures.gives ∙ ap (λ a. Ok (ahead_of a)) c.in-Ended.is) (set_full c.args.parts.now (record { found = c.loop-turn.found.items; least = c.loop-turn.least }) full')
+    (c.in_ok-place.ensures.gives ∙ ap (λ a. Ok (ahead_of a)) c.in-Ended.is) (set_full c.args.parts.now (record { found = c.loop-turn.found.items; least = c.loop-turn.least }) full' ∙ ap (λ os. Some (tree.parts (parts_of os))) (sym c.settle.ensures))
 
 pub slots-returns-in-Ended-clause-gives : goal.slots-returns-in-Ended-clause-gives
 slots-returns-in-Ended-clause-gives t c =
@@ -236,7 +238,7 @@ items-loop-turn-preserved-in-Some t c =
     let read = reads_it c.args.table.now c.row-row.ensures.sound c.args.inner.0 c.in-Integer.low c.in-Integer.high c.in-Some.number (c.row-row.ensures.value ∙ ap Some c.in-Integer.is) c.args.scope.now (spot_of c.loop-turn.spot) (spot_of c.in-Some.next) c.in-Some.ensures.looks gives in
     let goes = step_goes (list_item_at (reads c.args.table.now c.args.inner.0)) list_done (length c.args.spot.rest.now + 1 - c.loop-turn._turn) c.loop-turn.found.items more c.args.scope.now (spot_of c.loop-turn.spot) (integer_opened (spot_of c.loop-turn.spot)) (behind (spot_of c.loop-turn.spot)) (spot_of c.in-Some.next) _ (omega arith) c.loop-turn.invariant.so_far
     c.in-Some.ensures.looks
-    (bind_is (reads c.args.table.now c.args.inner.0 None c.args.scope.now (integer_opened (spot_of c.loop-turn.spot)) (behind (spot_of c.loop-turn.spot))) _ (tree.integer c.in-Some.number, spot_of c.in-Some.next) read) in
+    (bind_is (reads c.args.table.now c.args.inner.0 plain c.args.scope.now (integer_opened (spot_of c.loop-turn.spot)) (behind (spot_of c.loop-turn.spot))) _ (tree.integer c.in-Some.number, spot_of c.in-Some.next) read) in
     record {
       onward = goes_then c.loop-turn.invariant.onward c.in-Some.ensures.stops;
       so_far = ap (λ found. items_at (list_item_at (reads c.args.table.now c.args.inner.0)) list_done (length c.args.spot.rest.now + 1 - (c.loop-turn._turn + 1)) found c.args.scope.now (spot_of c.in-Some.next)) pushed
@@ -287,3 +289,22 @@ parts_of-returns-in_err-after-clause-gives t c =
 pub parts_of-returns-clause-gives : goal.parts_of-returns-clause-gives
 parts_of-returns-clause-gives t c =
     end_gives (begins c.args.table.now) (reads c.args.table.now) c.args.scope.now c.args.parts.now (vec_len c.loop-alloc.found) c.loop-alloc.found.items (spot_of c.loop-alloc.spot) _ (omega arith) c.loop-alloc.invariant.so_far (spot_of c.in_ok-after.after) c.in_ok-after.ensures.gives
+
+-- ---- values that a default may name
+
+pub value_as-returns-in-Boolean-clause-gives : goal.value_as-returns-in-Boolean-clause-gives
+value_as-returns-in-Boolean-clause-gives t c = rw (c.in-Boolean.is, ← c.tag_or-tag.ensures) c.boolean.ensures.gives
+
+pub value_as-returns-in-Enumerated-clause-gives : goal.value_as-returns-in-Enumerated-clause-gives
+value_as-returns-in-Enumerated-clause-gives t c = rw (c.in-Enumerated.is, ← c.tag_or-tag-in-Enumerated.ensures, ← c.as_slice.ensures) c.enumerated.ensures.gives
+
+pub value_as-returns-in-Integer-clause-gives : goal.value_as-returns-in-Integer-clause-gives
+value_as-returns-in-Integer-clause-gives t c =
+    let low : SFits w64 c.in-Integer.low = search rules in
+    let high : SFits w64 c.in-Integer.high = search rules in
+    rw (c.in-Integer.is, ← c.tag_or-tag-in-Integer.ensures) (simp to_z-of_z at c.integer.ensures.gives)
+
+pub slot-late-requires : goal.slot-late-requires
+slot-late-requires t c =
+    let lt : c.index-parts-which.result.inner.0 < c.args.of.0 = each_part (λ m. m < c.args.of.0) c.args.parts.now c.loop-which.which c.index-parts-which.result c.requires.below c.loop-which-test.true c.index-parts-which.is in
+    (omega arith, (lt, (c.requires.row, c.requires.whole)))

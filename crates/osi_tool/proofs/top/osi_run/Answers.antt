@@ -1,4 +1,4 @@
-use Rattle.osi_tool.proofs.Closing.{done_of, usage_of, unread_of, module_of, script_of, write_fault_of, no_memory_of, no_other_of, no_command_of, due_of, complete_of}
+use Rattle.osi_tool.proofs.Closing.{done_of, usage_of, unread_of, module_of, script_of, write_fault_of, no_memory_of, no_other_of, files_count_of, sink_count_of, no_command_of, due_of, complete_of}
 use Rattle.osi_tool.proofs.top.osi_run.Goals as goal
 
 pub returns-clause-done : goal.returns-clause-done
@@ -33,3 +33,9 @@ returns-clause-due g c = due_of _ _ _ _ _ _ _ _ _ c.run_words.ensures.closes
 
 pub returns-clause-complete : goal.returns-clause-complete
 returns-clause-complete g c = complete_of _ _ _ _ _ _ _ _ _ c.run_words.ensures.closes
+
+pub returns-clause-files_count : goal.returns-clause-files_count
+returns-clause-files_count g c = files_count_of _ _ _ _ _ _ _ _ _ c.run_words.ensures.closes
+
+pub returns-clause-sink_count : goal.returns-clause-sink_count
+returns-clause-sink_count g c = sink_count_of _ _ _ _ _ _ _ _ _ c.run_words.ensures.closes

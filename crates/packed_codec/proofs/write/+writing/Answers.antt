@@ -121,10 +121,10 @@ put_list-returns-in-List t c =
 
 pub put_part-put_value-requires : goal.put_part-put_value-requires
 put_part-put_value-requires t c =
-    let whole = plain_text (packed c.args.table.now) c.args.part.now c.args.value.now c.in-Some.value c.if-not-part.true c.in-Some.is in
+    let whole = plain_text (packed c.args.table.now) c.args.part.now c.args.value.now c.in-Some.value (sym c.may_be_absent.ensures ∙ c.if-not-may_be_absent.true) c.in-Some.is in
     (omega arith, rw (← whole) c.requires.room)
 
-pub put_part-returns-else-not-part : goal.put_part-returns-else-not-part
-put_part-returns-else-not-part t c =
-    let whole = marked_text (packed c.args.table.now) c.args.part.now c.args.value.now c.in-Some.value c.if-not-part.false c.in-Some.is in
+pub put_part-returns-else-not-may_be_absent : goal.put_part-returns-else-not-may_be_absent
+put_part-returns-else-not-may_be_absent t c =
+    let whole = marked_text (packed c.args.table.now) c.args.part.now c.args.value.now c.in-Some.value (sym c.may_be_absent.ensures ∙ c.if-not-may_be_absent.false) c.in-Some.is in
     both_as _ _ _ c.args.at c.put_octet-behind.result c.put_value-in-Some.result c.args.out.now c.put_octet-behind.new.out c.put_value-in-Some.new.out whole c.requires.room c.put_octet-behind.ensures c.put_value-in-Some.ensures

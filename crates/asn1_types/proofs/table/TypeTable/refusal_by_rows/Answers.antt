@@ -8,3 +8,6 @@ nesting-requires c = kept_names (length c.args.self.now) (names_of c.args.row.no
 
 pub has_clash-requires : goal.has_clash-requires
 has_clash-requires c = kept_names (length c.args.self.now) (names_of c.args.row.now) c.requires
+
+pub has_bad_default-requires : goal.has_bad_default-requires
+has_bad_default-requires c = kept_names (length c.args.self.now) (names_of c.args.row.now) c.requires

@@ -1,0 +1,4 @@
+pub mod Lists
+pub mod Forth
+pub mod Back
+pub mod Tries

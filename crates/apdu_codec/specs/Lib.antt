@@ -1,0 +1,4 @@
+pub mod Refusals
+pub mod Pieces
+pub mod Outcomes
+pub mod HeadsRead

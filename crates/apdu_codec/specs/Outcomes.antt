@@ -1,0 +1,6 @@
+-- What is returned, as the program keeps it.
+use Rattle.apdu_spelling.specs.Heads as heads
+use Rattle.apdu_codec.specs.declared.pieces.Returning.{Returning}
+
+abbrev pub outcome_of : Returning → heads.Outcome
+outcome_of r = record { code = r.code; octets = r.octets }

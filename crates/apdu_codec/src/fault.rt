@@ -1,0 +1,25 @@
+//! Why octets are no head of an APDU.
+
+ghost use Rattle.std.specs.Prelude.{◌≡◌};
+ghost use Rattle.apdu_codec.specs.declared.fault.HeadFault.TheVariants.{NoMemory as no_room};
+
+use osi_base::NoMemory;
+
+/// Why octets are no head of an APDU, as the general problem that a reject tells of it (X.880
+/// 9.4.2): 0 it is no APDU, 1 a field of it is wrong, 2 its lengths or its form are.
+#[derive(Clone, Copy, Debug, PartialEq, Eq)]
+pub enum HeadFault {
+    General(u8),
+    /// A faulty reject, which is never rejected.
+    BadReject,
+    /// Memory was refused.
+    NoMemory,
+}
+
+impl From<NoMemory> for HeadFault {
+    ghost from_gives = { λ _ e. e ≡ no_room };
+
+    fn from(_error: NoMemory) -> HeadFault {
+        HeadFault::NoMemory
+    }
+}

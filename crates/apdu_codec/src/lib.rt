@@ -1,0 +1,17 @@
+//! Reading the heads of APDUs of remote operations (X.882 9) and writing APDUs, in BER, DER and the
+//! packed syntax.
+#![tactic(auto)]
+
+mod fault;
+mod heads;
+mod packed_heads;
+mod pieces;
+mod reading;
+mod values;
+mod writing;
+
+pub use apdu_spelling::{ApduHead, ApduKind};
+pub use fault::HeadFault;
+pub use heads::Heads;
+pub use reading::read_apdu;
+pub use writing::write_apdu;

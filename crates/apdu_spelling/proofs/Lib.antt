@@ -1,0 +1,4 @@
+pub mod HeadsSound
+pub mod OneHead
+pub mod HeadFits
+pub mod Written

@@ -1,0 +1,198 @@
+-- The fixed table of heads, as rows of types. In BER and DER what is carried stands in a head as one whole value of
+-- any type, the last of its SEQUENCE (X.882 9). In the packed syntax it stands behind the head, which ends with a mark
+-- where it may lack.
+use Rattle.std.specs.Prelude.{ℕ, ◌+◌, pos, negsuc, true, false, List, [], ◌∷◌, None, codes}
+use Rattle.asn1_types.specs.declared.row.Part.{Part}
+use Rattle.asn1_types.specs.declared.row.Class.TheVariants.{Context}
+use Rattle.asn1_types.specs.declared.row.TypeRow.{TypeRow}
+use Rattle.asn1_types.specs.declared.row.TypeRow.TheVariants.{Integer, ObjectId, Null, Boolean, Sequence, Choice, Tagged, Any}
+
+abbrev pub part : List ℕ → ℕ → Part
+part name row = record { name = name; inner = record { 0 = row }; optional = false; default = None }
+
+abbrev pub optional_part : List ℕ → ℕ → Part
+optional_part name row = record { name = name; inner = record { 0 = row }; optional = true; default = None }
+
+-- a tag of the context class in the place of the row's own
+abbrev pub tagged : ℕ → ℕ → TypeRow
+tagged number row = Tagged Context number false (record { 0 = row })
+
+-- ---- which row is which: each stands behind the one named before it
+
+abbrev pub identifier_row : ℕ
+identifier_row = 0
+
+abbrev pub number_row : ℕ
+number_row = identifier_row + 1
+
+abbrev pub object_id_row : ℕ
+object_id_row = number_row + 1
+
+abbrev pub code_row : ℕ
+code_row = object_id_row + 1
+
+abbrev pub nothing_row : ℕ
+nothing_row = code_row + 1
+
+abbrev pub mark_row : ℕ
+mark_row = nothing_row + 1
+
+abbrev pub any_row : ℕ
+any_row = mark_row + 1
+
+abbrev pub linked_row : ℕ
+linked_row = any_row + 1
+
+abbrev pub general_row : ℕ
+general_row = linked_row + 1
+
+abbrev pub of_invoke_row : ℕ
+of_invoke_row = general_row + 1
+
+abbrev pub of_result_row : ℕ
+of_result_row = of_invoke_row + 1
+
+abbrev pub of_error_row : ℕ
+of_error_row = of_result_row + 1
+
+abbrev pub problem_row : ℕ
+problem_row = of_error_row + 1
+
+abbrev pub rejected_row : ℕ
+rejected_row = problem_row + 1
+
+abbrev pub reject_parts_row : ℕ
+reject_parts_row = rejected_row + 1
+
+abbrev pub reject_row : ℕ
+reject_row = reject_parts_row + 1
+
+abbrev pub invoke_parts_row : ℕ
+invoke_parts_row = reject_row + 1
+
+abbrev pub invoke_row : ℕ
+invoke_row = invoke_parts_row + 1
+
+abbrev pub returned_row : ℕ
+returned_row = invoke_row + 1
+
+abbrev pub result_parts_row : ℕ
+result_parts_row = returned_row + 1
+
+abbrev pub result_row : ℕ
+result_row = result_parts_row + 1
+
+abbrev pub error_parts_row : ℕ
+error_parts_row = result_row + 1
+
+abbrev pub error_row : ℕ
+error_row = error_parts_row + 1
+
+abbrev pub apdu_row : ℕ
+apdu_row = error_row + 1
+
+abbrev pub packed_invoke_parts_row : ℕ
+packed_invoke_parts_row = apdu_row + 1
+
+abbrev pub packed_invoke_row : ℕ
+packed_invoke_row = packed_invoke_parts_row + 1
+
+abbrev pub packed_result_parts_row : ℕ
+packed_result_parts_row = packed_invoke_row + 1
+
+abbrev pub packed_result_row : ℕ
+packed_result_row = packed_result_parts_row + 1
+
+abbrev pub packed_error_parts_row : ℕ
+packed_error_parts_row = packed_result_row + 1
+
+abbrev pub packed_error_row : ℕ
+packed_error_row = packed_error_parts_row + 1
+
+abbrev pub packed_apdu_row : ℕ
+packed_apdu_row = packed_error_row + 1
+
+-- ---- their parts
+
+abbrev pub code_kinds : List Part
+code_kinds = part (codes "local") number_row ∷ part (codes "global") object_id_row ∷ []
+
+-- what a problem speaks of
+abbrev pub problem_kinds : List Part
+problem_kinds = part (codes "general") general_row ∷ part (codes "invoke") of_invoke_row ∷ part (codes "returnResult") of_result_row ∷ part (codes "returnError") of_error_row ∷ []
+
+abbrev pub rejected_kinds : List Part
+rejected_kinds = part (codes "invokeId") identifier_row ∷ part (codes "absent") nothing_row ∷ []
+
+abbrev pub reject_parts : List Part
+reject_parts = part (codes "invokeId") rejected_row ∷ part (codes "problem") problem_row ∷ []
+
+abbrev pub invoke_parts : List Part
+invoke_parts = part (codes "invokeId") identifier_row ∷ optional_part (codes "linkedId") linked_row ∷ part (codes "opcode") code_row ∷ optional_part (codes "argument") any_row ∷ []
+
+abbrev pub returned_parts : List Part
+returned_parts = part (codes "opcode") code_row ∷ part (codes "result") any_row ∷ []
+
+abbrev pub result_parts : List Part
+result_parts = part (codes "invokeId") identifier_row ∷ optional_part (codes "result") returned_row ∷ []
+
+abbrev pub error_parts : List Part
+error_parts = part (codes "invokeId") identifier_row ∷ part (codes "errcode") code_row ∷ optional_part (codes "parameter") any_row ∷ []
+
+abbrev pub apdu_kinds : List Part
+apdu_kinds = part (codes "invoke") invoke_row ∷ part (codes "returnResult") result_row ∷ part (codes "returnError") error_row ∷ part (codes "reject") reject_row ∷ []
+
+abbrev pub packed_invoke_parts : List Part
+packed_invoke_parts = part (codes "invokeId") identifier_row ∷ optional_part (codes "linkedId") linked_row ∷ part (codes "opcode") code_row ∷ part (codes "argument") mark_row ∷ []
+
+abbrev pub packed_result_parts : List Part
+packed_result_parts = part (codes "invokeId") identifier_row ∷ optional_part (codes "opcode") code_row ∷ []
+
+abbrev pub packed_error_parts : List Part
+packed_error_parts = part (codes "invokeId") identifier_row ∷ part (codes "errcode") code_row ∷ part (codes "parameter") mark_row ∷ []
+
+-- the kind octet is 1 to 4; the alternative 0 is no APDU
+abbrev pub packed_apdu_kinds : List Part
+packed_apdu_kinds =
+    part (codes "none") nothing_row ∷ part (codes "invoke") packed_invoke_row ∷ part (codes "returnResult") packed_result_row ∷ part (codes "returnError") packed_error_row ∷ part (codes "reject") reject_row ∷ []
+
+-- ---- the table
+
+abbrev pub head_rows : List TypeRow
+head_rows =
+    -- identifiers have 32 bits
+    Integer (negsuc 2147483647) (pos 2147483647)
+    ∷ Integer (negsuc 9223372036854775807) (pos 9223372036854775807)
+    ∷ ObjectId
+    ∷ Choice code_kinds
+    ∷ Null
+    ∷ Boolean
+    ∷ Any
+    ∷ tagged 0 identifier_row
+    -- problems and rejects
+    ∷ tagged 0 number_row
+    ∷ tagged 1 number_row
+    ∷ tagged 2 number_row
+    ∷ tagged 3 number_row
+    ∷ Choice problem_kinds
+    ∷ Choice rejected_kinds
+    ∷ Sequence reject_parts
+    ∷ tagged 4 reject_parts_row
+    -- BER and DER
+    ∷ Sequence invoke_parts
+    ∷ tagged 1 invoke_parts_row
+    ∷ Sequence returned_parts
+    ∷ Sequence result_parts
+    ∷ tagged 2 result_parts_row
+    ∷ Sequence error_parts
+    ∷ tagged 3 error_parts_row
+    ∷ Choice apdu_kinds
+    -- the packed syntax
+    ∷ Sequence packed_invoke_parts
+    ∷ tagged 1 packed_invoke_parts_row
+    ∷ Sequence packed_result_parts
+    ∷ tagged 2 packed_result_parts_row
+    ∷ Sequence packed_error_parts
+    ∷ tagged 3 packed_error_parts_row
+    ∷ Choice packed_apdu_kinds
+    ∷ []

@@ -1,0 +1,7 @@
+use Rattle.std.proofs.Common.{◌≡◌, drop}
+use Rattle.std.specs.List.{list_any}
+use Rattle.asn1_types.specs.Defaults.{is_bad_part, takes_default}
+use Rattle.asn1_types.proofs.defaults.has_bad_part.Given as goal
+
+abbrev pub invariant-loop-part : goal.invariant-loop-part
+invariant-loop-part l = list_any (is_bad_part (takes_default l.table)) (drop l.part-index l.parts) ≡ list_any (is_bad_part (takes_default l.table)) l.parts

@@ -1,0 +1,10 @@
+//! One end as the model of agreement sees it: each request that an end sends and each message that it takes is the
+//! act or the taking of the model.
+#![tactic(auto)]
+
+mod rows;
+
+pub use rows::{
+    activities_sent, activities_taken, alterations_sent, association_taken, connections,
+    marks_sent, marks_taken, purged, restarts_taken, resumptions, transfers_sent, transfers_taken,
+};

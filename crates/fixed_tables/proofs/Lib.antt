@@ -1,0 +1,4 @@
+pub mod ListValues
+pub mod Numbers
+pub mod Sound
+pub mod WholeLaws

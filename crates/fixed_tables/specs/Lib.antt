@@ -1,0 +1,5 @@
+pub mod Faults
+pub mod Laws
+pub mod Rows
+pub mod Values
+pub mod Whole

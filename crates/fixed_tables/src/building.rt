@@ -1,0 +1,66 @@
+//! Fixed tables of types, row by row.
+
+ghost use Rattle.std.specs.Prelude.{◌≡◌, ◌++◌, ◌∷◌, [], None, true, IfOk, OnOk};
+ghost use Rattle.asn1_types.specs.Table.{refusal};
+ghost use Rattle.asn1_types.specs.declared.row.TypeRow.TheVariants.{Tagged};
+ghost use Rattle.fixed_tables.specs.Rows.{part, all_added};
+
+use asn1_types::{Class, Part, Parts, RowRefusal, TypeId, TypeRow, TypeTable};
+use osi_base::{ListOf, Name, NoMemory};
+use std::alloc::Global;
+
+/// A part of this name, whose type is this row.
+pub fn part(alloc: Global, name: &str, row: u32, optional: bool) -> Result<Part, NoMemory>
+    ensures { IfOk result (λ p. p ≡ part name.now row optional) }
+{
+    Ok(Part {
+        name: Name::from_str(alloc, name)?,
+        inner: TypeId(row),
+        optional,
+        default: None,
+    })
+}
+
+/// The parts of a vector, which is taken as it is.
+pub fn parts_of(parts: Vec<Part>) -> Parts
+    ensures { result ≡ parts.items }
+{
+    ListOf::from_vec(parts)
+}
+
+/// A tag around a row, or in the place of its own.
+pub fn tagged(class: Class, number: u32, explicit: bool, inner: u32) -> TypeRow
+    ensures { result ≡ Tagged class number explicit (record { 0 = inner }) }
+{
+    TypeRow::Tagged {
+        class,
+        number,
+        explicit,
+        inner: TypeId(inner),
+    }
+}
+
+/// Puts a row behind the others, of which it is known that it may stand there.
+fn add(table: &mut TypeTable, row: TypeRow) -> Result<(), NoMemory>
+    requires { refusal table.old row ≡ None }
+    ensures { OnOk result (table.new ≡ table.old ++ row ∷ []) }
+{
+    match table.add(row) {
+        Ok(_) => Ok(()),
+        Err(RowRefusal::NoMemory) => Err(NoMemory),
+        Err(_) => unreachable!(),
+    }
+}
+
+/// The table of these rows, each of which may stand behind those before it. So only want of memory
+/// can refuse it.
+pub fn table_of(alloc: Global, rows: Vec<TypeRow>) -> Result<TypeTable, NoMemory>
+    requires { all_added [] rows.items ≡ true }
+    ensures { IfOk result (λ table. table ≡ rows.items) }
+{
+    let mut table = TypeTable::new(alloc);
+    for row in rows {
+        add(&mut table, row)?;
+    }
+    Ok(table)
+}

@@ -1,0 +1,20 @@
+//! What the protocol data units of the upper layers share: fixed tables of types, and the fields of
+//! values read from them.
+#![tactic(auto)]
+
+mod building;
+mod laws;
+mod lists;
+mod making;
+mod pdu;
+mod values;
+
+pub use building::{part, parts_of, table_of, tagged};
+pub use laws::{spelled_is_whole, whole_is_spelled};
+pub use lists::{InValue, list_in, list_of};
+pub use making::{any, bits, chosen, integer, object_id, octets, present, sequence};
+pub use pdu::{PduFault, whole};
+pub use values::{
+    alternative, inside, maybe_bits, maybe_octets, maybe_oid, number, octet, octets_in, oid_in,
+    part_in, small,
+};

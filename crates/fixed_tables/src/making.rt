@@ -1,0 +1,86 @@
+//! Values made of their fields.
+
+ghost use Rattle.std.specs.Prelude.{◌≡◌, ◌++◌, ◌∷◌, [], IfOk, OnOk};
+ghost use Rattle.asn1_types.specs.Value as tree;
+ghost use Rattle.asn1_types.specs.ValueView.{parts_of};
+
+use asn1_types::{MaybeVals, Node, Val};
+use osi_base::{BitString, Copied, NoMemory, Octets, Oid};
+use std::alloc::Global;
+
+/// A value of INTEGER.
+pub fn integer(number: i64) -> Val
+    ensures { result ≡ tree.integer number }
+{
+    Val {
+        node: Node::Int(number),
+    }
+}
+
+/// A value of OCTET STRING with a copy of these octets.
+pub fn octets(alloc: Global, octets: &Octets) -> Result<Val, NoMemory>
+    ensures { IfOk result (λ v. v ≡ tree.octets octets.now) }
+{
+    Ok(Val {
+        node: Node::Octets(octets.copy(alloc)?),
+    })
+}
+
+/// One whole value, whose octets are a copy of these.
+pub fn any(alloc: Global, octets: &Octets) -> Result<Val, NoMemory>
+    ensures { IfOk result (λ v. v ≡ tree.any octets.now) }
+{
+    Ok(Val {
+        node: Node::Any(octets.copy(alloc)?),
+    })
+}
+
+/// A value of a CHOICE.
+pub fn chosen(alloc: Global, which: u32, value: Val) -> Result<Val, NoMemory>
+    ensures { IfOk result (λ v. v ≡ tree.chosen which value) }
+{
+    Ok(Val {
+        node: Node::Chosen {
+            which,
+            value: Box::new(alloc, value)?,
+        },
+    })
+}
+
+/// A value of a SEQUENCE or SET.
+pub fn sequence(parts: MaybeVals) -> Val
+    ensures { result ≡ tree.parts (parts_of parts.items) }
+{
+    Val {
+        node: Node::Parts(parts),
+    }
+}
+
+/// A part more.
+pub fn present(parts: &mut MaybeVals, value: Option<Val>) -> Result<(), NoMemory>
+    ensures { OnOk result (parts.new.items ≡ parts.old.items ++ value ∷ []) }
+{
+    parts.push(value)?;
+    Ok(())
+}
+
+/// A value of OBJECT IDENTIFIER.
+pub fn object_id(alloc: Global, oid: &Oid) -> Result<Val, NoMemory>
+    ensures { IfOk result (λ v. v ≡ tree.object_id oid.now) }
+{
+    Ok(Val {
+        node: Node::ObjectId(oid.copy(alloc)?),
+    })
+}
+
+/// A value of BIT STRING.
+pub fn bits(alloc: Global, string: &BitString) -> Result<Val, NoMemory>
+    ensures { IfOk result (λ v. v ≡ tree.bits string.now.octets string.now.unused) }
+{
+    Ok(Val {
+        node: Node::Bits {
+            octets: string.octets.copy(alloc)?,
+            unused: string.unused,
+        },
+    })
+}

@@ -1,0 +1,12 @@
+//! The open invocations of an association as a forest: linked invocations stand under the one that
+//! they are linked to (X.880 8.2.6).
+#![tactic(auto)]
+
+mod children;
+mod forest;
+mod key;
+mod rows;
+
+pub use children::Children;
+pub use forest::{Forest, Keys};
+pub use key::{ForestRefusal, Key};

@@ -1,0 +1,14 @@
+-- The limits that contracts of this crate and of those above it cite, as literals.
+use Rattle.std.specs.Prelude.{ℕ}
+
+-- how many octets of a file are handed up at most: one more than any file that is read whole may have
+abbrev pub file_most : ℕ
+file_most = 16777217
+
+-- how many octets a schedule, a script, a book or a recorded dialogue may have
+abbrev pub text_most : ℕ
+text_most = 16777216
+
+-- how many events a schedule or a script may have
+abbrev pub event_most : ℕ
+event_most = 20000

@@ -1,0 +1,257 @@
+//! The units of the presentation protocol (X.226 8.2), with the fields that are read or written.
+
+ghost use Rattle.std.specs.Prelude.{◌≡◌, IfOk};
+
+use crate::bit_string::BitString;
+use crate::copied::Copied;
+use crate::fault::NoMemory;
+use crate::list::ListOf;
+use crate::octets::Octets;
+use crate::oid::Oid;
+use crate::words::{AddAnswers, Answers, Ids, Proposals, RestoredList};
+use std::alloc::Global;
+
+/// The form in which a presentation data value stands (X.226 8.4.2).
+#[derive(Debug, Drop)]
+pub enum PdvContent {
+    /// `[0]`: one whole BER value of any type.
+    SingleAsn1Type(Octets),
+    /// `[1]`: octets of any kind.
+    OctetAligned(Octets),
+    /// `[2]`: bits of any kind.
+    Arbitrary(BitString),
+}
+
+impl PdvContent {
+    ghost use Rattle.std.specs.Prelude.{◌≡◌};
+    ghost use Rattle.osi_base.specs.PdvContent.{octets_of};
+
+    /// The octets of the value. Those of bits are without how many are unused.
+    pub fn octets(&self) -> &Octets
+        ensures { result.now ≡ octets_of self.now }
+    {
+        match self {
+            PdvContent::SingleAsn1Type(octets) => octets,
+            PdvContent::OctetAligned(octets) => octets,
+            PdvContent::Arbitrary(bits) => &bits.octets,
+        }
+    }
+}
+
+/// A presentation data value with its context (PDV-list of X.226 8.4.2).
+#[derive(Debug, Drop)]
+pub struct Pdv {
+    /// Transfer syntax name, where it is told.
+    pub transfer: Option<Oid>,
+    /// Presentation context identifier, 1 to 32,767.
+    pub id: u32,
+    /// Presentation data values.
+    pub content: PdvContent,
+}
+
+/// Presentation data values in their order, as user data. With none of them there is no user data.
+pub type Pdvs = ListOf<Pdv>;
+
+/// The fields of a CONNECT PRESENTATION unit, CP (X.226 8.2.1). One that isn't there is `None`; a
+/// list that isn't there has no items.
+#[derive(Debug, Drop)]
+pub struct PresentationConnect {
+    /// Protocol version, `[0]`.
+    pub version: Option<BitString>,
+    /// Calling presentation selector, `[1]`.
+    pub calling: Option<Octets>,
+    /// Called presentation selector, `[2]`.
+    pub called: Option<Octets>,
+    /// Presentation context definition list, `[4]`.
+    pub definitions: Proposals,
+    /// Default context name, `[6]`: one whole BER value.
+    pub default_context: Option<Octets>,
+    /// Presentation requirements, `[8]`: bit 0 context management, bit 1 context restoration.
+    pub requirements: Option<BitString>,
+    /// User session requirements, `[9]`.
+    pub session_requirements: Option<BitString>,
+    /// User data.
+    pub user: Pdvs,
+}
+
+/// The fields of a CONNECT PRESENTATION ACCEPT unit, CPA (X.226 8.2.2).
+#[derive(Debug, Drop)]
+pub struct PresentationAccept {
+    /// Protocol version, `[0]`.
+    pub version: Option<BitString>,
+    /// Responding presentation selector, `[3]`.
+    pub responding: Option<Octets>,
+    /// Presentation context definition result list, `[5]`.
+    pub results: AddAnswers,
+    /// Presentation requirements, `[8]`.
+    pub requirements: Option<BitString>,
+    /// User session requirements, `[9]`.
+    pub session_requirements: Option<BitString>,
+    /// User data.
+    pub user: Pdvs,
+}
+
+/// The fields of a CONNECT PRESENTATION REJECT unit, CPR (X.226 8.2.3).
+#[derive(Debug, Drop)]
+pub struct PresentationReject {
+    /// Protocol version, `[0]`.
+    pub version: Option<BitString>,
+    /// Responding presentation selector, `[3]`.
+    pub responding: Option<Octets>,
+    /// Presentation context definition result list, `[5]`.
+    pub results: AddAnswers,
+    /// Default context result, `[7]`, 0 to 2.
+    pub default_result: Option<u8>,
+    /// Provider reason, `[10]`.
+    pub reason: Option<i64>,
+    /// User data.
+    pub user: Pdvs,
+}
+
+/// One unit of the presentation protocol. A field that isn't there is `None`; a list that isn't
+/// there has no items, but in a restart, where a list that lacks tells nothing.
+#[derive(Debug, Drop)]
+pub enum PresentationWord {
+    /// CONNECT PRESENTATION, CP.
+    Connect(PresentationConnect),
+    /// CONNECT PRESENTATION ACCEPT, CPA.
+    Accept(PresentationAccept),
+    /// CONNECT PRESENTATION REJECT, CPR.
+    Reject(PresentationReject),
+    /// ALTER CONTEXT, AC: contexts to be defined, `[0]`, and to be deleted, `[1]`.
+    Alter {
+        add: Proposals,
+        delete: Ids,
+    },
+    /// ALTER CONTEXT ACKNOWLEDGE, ACA: one result for each definition, `[0]`, and for each deletion,
+    /// `[1]`.
+    AlterAck {
+        answers: Answers,
+    },
+    /// RESYNCHRONIZE, RS: the contexts that are restored, `[0]`.
+    Resynchronize {
+        restored: Option<RestoredList>,
+    },
+    /// RESYNCHRONIZE ACKNOWLEDGE, RSA: the contexts that are restored, `[0]`.
+    ResynchronizeAck {
+        restored: Option<RestoredList>,
+    },
+    /// ABNORMAL RELEASE USER, ARU: the contexts of the set, `[0]`, and user data.
+    UserAbort {
+        contexts: Option<RestoredList>,
+        user: Pdvs,
+    },
+    /// ABNORMAL RELEASE PROVIDER, ARP: the provider reason, `[0]`, and the event, `[1]`.
+    ProviderAbort {
+        reason: Option<i64>,
+        event: Option<i64>,
+    },
+    /// User data alone, as data, releases and pleas for the token carry it.
+    Data {
+        user: Pdvs,
+    },
+}
+
+/// A unit of the presentation protocol.
+pub type Ppdu = PresentationWord;
+
+impl Copied for PdvContent {
+    fn copy(&self, alloc: Global) -> Result<PdvContent, NoMemory> {
+        match self {
+            PdvContent::SingleAsn1Type(octets) => {
+                Ok(PdvContent::SingleAsn1Type(octets.copy(alloc)?))
+            }
+            PdvContent::OctetAligned(octets) => Ok(PdvContent::OctetAligned(octets.copy(alloc)?)),
+            PdvContent::Arbitrary(bits) => Ok(PdvContent::Arbitrary(bits.copy(alloc)?)),
+        }
+    }
+}
+
+impl Copied for Pdv {
+    fn copy(&self, alloc: Global) -> Result<Pdv, NoMemory> {
+        Ok(Pdv {
+            transfer: self.transfer.copy(alloc)?,
+            id: self.id,
+            content: self.content.copy(alloc)?,
+        })
+    }
+}
+
+impl Copied for PresentationConnect {
+    fn copy(&self, alloc: Global) -> Result<PresentationConnect, NoMemory> {
+        Ok(PresentationConnect {
+            version: self.version.copy(alloc)?,
+            calling: self.calling.copy(alloc)?,
+            called: self.called.copy(alloc)?,
+            definitions: self.definitions.copy(alloc)?,
+            default_context: self.default_context.copy(alloc)?,
+            requirements: self.requirements.copy(alloc)?,
+            session_requirements: self.session_requirements.copy(alloc)?,
+            user: self.user.copy(alloc)?,
+        })
+    }
+}
+
+impl Copied for PresentationAccept {
+    fn copy(&self, alloc: Global) -> Result<PresentationAccept, NoMemory> {
+        Ok(PresentationAccept {
+            version: self.version.copy(alloc)?,
+            responding: self.responding.copy(alloc)?,
+            results: self.results.copy(alloc)?,
+            requirements: self.requirements.copy(alloc)?,
+            session_requirements: self.session_requirements.copy(alloc)?,
+            user: self.user.copy(alloc)?,
+        })
+    }
+}
+
+impl Copied for PresentationReject {
+    fn copy(&self, alloc: Global) -> Result<PresentationReject, NoMemory> {
+        Ok(PresentationReject {
+            version: self.version.copy(alloc)?,
+            responding: self.responding.copy(alloc)?,
+            results: self.results.copy(alloc)?,
+            default_result: self.default_result,
+            reason: self.reason,
+            user: self.user.copy(alloc)?,
+        })
+    }
+}
+
+impl Copied for PresentationWord {
+    fn copy(&self, alloc: Global) -> Result<PresentationWord, NoMemory> {
+        match self {
+            PresentationWord::Connect(fields) => Ok(PresentationWord::Connect(fields.copy(alloc)?)),
+            PresentationWord::Accept(fields) => Ok(PresentationWord::Accept(fields.copy(alloc)?)),
+            PresentationWord::Reject(fields) => Ok(PresentationWord::Reject(fields.copy(alloc)?)),
+            PresentationWord::Alter { add, delete } => Ok(PresentationWord::Alter {
+                add: add.copy(alloc)?,
+                delete: delete.copy(alloc)?,
+            }),
+            PresentationWord::AlterAck { answers } => Ok(PresentationWord::AlterAck {
+                answers: answers.copy(alloc)?,
+            }),
+            PresentationWord::Resynchronize { restored } => Ok(PresentationWord::Resynchronize {
+                restored: restored.copy(alloc)?,
+            }),
+            PresentationWord::ResynchronizeAck { restored } => {
+                Ok(PresentationWord::ResynchronizeAck {
+                    restored: restored.copy(alloc)?,
+                })
+            }
+            PresentationWord::UserAbort { contexts, user } => Ok(PresentationWord::UserAbort {
+                contexts: contexts.copy(alloc)?,
+                user: user.copy(alloc)?,
+            }),
+            PresentationWord::ProviderAbort { reason, event } => {
+                Ok(PresentationWord::ProviderAbort {
+                    reason: *reason,
+                    event: *event,
+                })
+            }
+            PresentationWord::Data { user } => Ok(PresentationWord::Data {
+                user: user.copy(alloc)?,
+            }),
+        }
+    }
+}

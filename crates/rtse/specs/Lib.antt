@@ -1,0 +1,5 @@
+pub mod Faults
+pub mod Limits
+pub mod Sending
+pub mod Receiving
+pub mod Exchange

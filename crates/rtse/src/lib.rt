@@ -1,0 +1,12 @@
+//! Reliable transfers (X.228): the octets of one transfer cut into chunks with marks, and joined
+//! again at the other end, also after a break.
+#![tactic(auto)]
+
+mod fault;
+mod incoming;
+pub mod laws;
+mod outgoing;
+
+pub use fault::RtseFault;
+pub use incoming::{Ended, Incoming};
+pub use outgoing::{Outgoing, Step};

@@ -1,0 +1,5 @@
+use Rattle.rtse_apdus.proofs.RtseLaws as laws
+use Rattle.rtse_apdus.proofs.laws.written_rtse_is_read.Goals as goal
+
+pub returns : goal.returns
+returns c = laws.written_rtse_is_read

@@ -1,0 +1,5 @@
+pub mod Rows
+pub mod Words
+pub mod Reading
+pub mod Written
+pub mod Laws

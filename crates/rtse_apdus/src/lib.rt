@@ -1,0 +1,11 @@
+//! The APDUs of reliable transfer (X.228 9) as octets.
+#![tactic(auto)]
+
+mod codec;
+mod laws;
+mod table;
+mod words;
+
+pub use codec::{read_rtse, write_rtse};
+pub use laws::{rtse_is_spelled, spelled_rtse_is_read, written_rtse_is_read};
+pub use table::RtseTable;

@@ -1,0 +1,134 @@
+//! APDUs of reliable transfer out of values and into them.
+
+ghost use Rattle.std.specs.Prelude.{◌≡◌, IfOk};
+ghost use Rattle.std.specs.Option.{option_copied};
+ghost use Rattle.rtse_apdus.specs.Words.{data_in, request_in, accept_in, reason_in, said_by, said, data_value, reason_value, value_of};
+
+use asn1_types::Val;
+use fixed_tables::{
+    alternative, any, chosen, inside, integer, number, octets, octets_in, part_in, sequence, small,
+};
+use osi_base::{ConnectionData, NoMemory, Rtse};
+use std::alloc::Global;
+
+fn data_in(alloc: Global, value: Option<&Val>) -> Result<ConnectionData, NoMemory>
+    ensures { IfOk result (λ x. x ≡ data_in (option_copied value.entry)) }
+{
+    let inner = inside(value);
+    if alternative(value) == 0 {
+        return Ok(ConnectionData::Open(octets_in(alloc, inner)?));
+    }
+    Ok(ConnectionData::Recover {
+        reference: octets_in(alloc, part_in(0, inner))?,
+        common: octets_in(alloc, part_in(1, inner))?,
+    })
+}
+
+fn request_in(alloc: Global, value: Option<&Val>) -> Result<Rtse, NoMemory>
+    ensures { IfOk result (λ x. x ≡ request_in (option_copied value.entry)) }
+{
+    Ok(Rtse::OpenRequest {
+        checkpoint: small(part_in(0, value), 0),
+        window: small(part_in(1, value), 3),
+        mode: number(part_in(2, value), 0),
+        data: data_in(alloc, part_in(3, value))?,
+    })
+}
+
+fn accept_in(alloc: Global, value: Option<&Val>) -> Result<Rtse, NoMemory>
+    ensures { IfOk result (λ x. x ≡ accept_in (option_copied value.entry)) }
+{
+    Ok(Rtse::OpenAccept {
+        checkpoint: small(part_in(0, value), 0),
+        window: small(part_in(1, value), 3),
+        data: data_in(alloc, part_in(2, value))?,
+    })
+}
+
+fn reason_in(value: Option<&Val>) -> i64
+    ensures { result ≡ reason_in (option_copied value.entry) }
+{
+    number(part_in(0, value), 0)
+}
+
+/// The APDU that a value says.
+pub(crate) fn said(alloc: Global, value: &Val) -> Result<Rtse, NoMemory>
+    ensures { IfOk result (λ x. x ≡ said value.now) }
+{
+    let inner = inside(Some(value));
+    match alternative(Some(value)) {
+        0 => request_in(alloc, inner),
+        1 => accept_in(alloc, inner),
+        2 => Ok(Rtse::OpenReject {
+            reason: reason_in(inner),
+        }),
+        3 => Ok(Rtse::Abort {
+            reason: reason_in(inner),
+        }),
+        4 => Ok(Rtse::TurnPlease {
+            priority: small(inner, 0),
+        }),
+        _ => Ok(Rtse::Transfer {
+            octets: octets_in(alloc, inner)?,
+        }),
+    }
+}
+
+fn data_value(alloc: Global, carried: &ConnectionData) -> Result<Val, NoMemory>
+    ensures { IfOk result (λ v. v ≡ data_value carried.now) }
+{
+    match carried {
+        ConnectionData::Open(value) => chosen(alloc, 0, any(alloc, value)?),
+        ConnectionData::Recover { reference, common } => {
+            let parts = vec![in alloc;
+                Some(octets(alloc, reference)?),
+                Some(octets(alloc, common)?),
+            ]?;
+            chosen(alloc, 1, sequence(parts))
+        }
+    }
+}
+
+fn reason_value(alloc: Global, reason: i64) -> Result<Val, NoMemory>
+    ensures { IfOk result (λ v. v ≡ reason_value reason) }
+{
+    Ok(sequence(vec![in alloc; Some(integer(reason))]?))
+}
+
+/// The value that says an APDU.
+pub(crate) fn value_of(alloc: Global, apdu: &Rtse) -> Result<Val, NoMemory>
+    ensures { IfOk result (λ v. v ≡ value_of apdu.now) }
+{
+    match apdu {
+        Rtse::OpenRequest {
+            checkpoint,
+            window,
+            mode,
+            data,
+        } => {
+            let parts = vec![in alloc;
+                Some(integer(*checkpoint as i64)),
+                Some(integer(*window as i64)),
+                Some(integer(*mode)),
+                Some(data_value(alloc, data)?),
+            ]?;
+            chosen(alloc, 0, sequence(parts))
+        }
+        Rtse::OpenAccept {
+            checkpoint,
+            window,
+            data,
+        } => {
+            let parts = vec![in alloc;
+                Some(integer(*checkpoint as i64)),
+                Some(integer(*window as i64)),
+                Some(data_value(alloc, data)?),
+            ]?;
+            chosen(alloc, 1, sequence(parts))
+        }
+        Rtse::OpenReject { reason } => chosen(alloc, 2, reason_value(alloc, *reason)?),
+        Rtse::Abort { reason } => chosen(alloc, 3, reason_value(alloc, *reason)?),
+        Rtse::TurnPlease { priority } => chosen(alloc, 4, integer(*priority as i64)),
+        Rtse::Transfer { octets: part } => chosen(alloc, 5, octets(alloc, part)?),
+    }
+}

@@ -1,0 +1,19 @@
+//! The session machine: which units of the session protocol (X.225) an end may send and may take,
+//! from the connection of an association to its end.
+#![tactic(auto)]
+
+mod changes;
+mod fault;
+pub mod laws;
+mod refusals;
+mod session;
+mod state;
+mod taking;
+mod units;
+
+pub use fault::{SessionFault, SessionRefusal};
+pub use session::{Session, Taken};
+pub use state::{
+    Awaited, Owed, OwnActivity, PeerActivity, Progress, SessionPhase, SessionRole, SessionState,
+};
+pub use units::{FunctionalUnits, is_acceptable};

@@ -1,0 +1,149 @@
+//! Two machines, and the words between them.
+
+use osi_base::{Octets, SessionConnect, SessionWord};
+use session_subset::{Session, SessionFault, SessionRefusal, Taken};
+use std::alloc::Global;
+use std::process::Abort;
+
+/// What a CONNECT says beside its user data.
+pub fn connecting(alloc: Global, requirements: u16) -> SessionConnect {
+    SessionConnect {
+        calling_reference: None,
+        common_reference: None,
+        options: Some(0),
+        version: Some(2),
+        initial: None,
+        token_setting: None,
+        requirements: Some(requirements),
+        calling: None,
+        called: None,
+        user: Octets::new(alloc),
+    }
+}
+
+pub fn connect(alloc: Global, requirements: u16) -> SessionWord {
+    SessionWord::Connect(connecting(alloc, requirements))
+}
+
+pub fn accept(alloc: Global, requirements: u16) -> SessionWord {
+    SessionWord::Accept {
+        options: Some(0),
+        version: Some(2),
+        initial: None,
+        requirements: Some(requirements),
+        user: Octets::new(alloc),
+    }
+}
+
+pub fn some_data(alloc: Global) -> SessionWord {
+    SessionWord::Data {
+        user: Octets::new(alloc),
+    }
+}
+
+pub fn finish(alloc: Global) -> SessionWord {
+    SessionWord::Finish {
+        transport: Some(1),
+        user: Octets::new(alloc),
+    }
+}
+
+pub fn disconnect(alloc: Global) -> SessionWord {
+    SessionWord::Disconnect {
+        user: Octets::new(alloc),
+    }
+}
+
+pub fn restart(number: u32) -> SessionWord {
+    SessionWord::Resynchronize { number, user: None }
+}
+
+pub fn restarted(number: u32) -> SessionWord {
+    SessionWord::ResynchronizeAck { number, user: None }
+}
+
+pub fn abort() -> SessionWord {
+    SessionWord::Abort {
+        transport: Some(3),
+        user: None,
+    }
+}
+
+pub fn interrupt() -> SessionWord {
+    SessionWord::ActivityInterrupt { reason: Some(0) }
+}
+
+pub fn discard() -> SessionWord {
+    SessionWord::ActivityDiscard { reason: Some(0) }
+}
+
+/// The units that this end sends for a word.
+pub fn sent(rt: &impl Abort, from: &mut Session, word: SessionWord) -> Vec<SessionWord> {
+    assert!(rt; from.may_request(&word), "the conditions of {word:?} hold");
+    from.request(word).expect(rt, "the word is sent").into_vec()
+}
+
+/// Whether the units are taken, and not all passed over; none is out of place.
+pub fn is_taken(rt: &impl Abort, to: &mut Session, units: Vec<SessionWord>) -> bool {
+    let mut taken = false;
+    for unit in units {
+        match to.take(unit).expect(rt, "the unit is in place") {
+            Taken::Word(_) => taken = true,
+            Taken::Passed => {}
+        }
+    }
+    taken
+}
+
+/// Sends a word, which is taken.
+pub fn pass(rt: &impl Abort, from: &mut Session, to: &mut Session, word: SessionWord) {
+    let units = sent(rt, from, word);
+    assert!(rt; is_taken(rt, to, units), "the word is taken");
+}
+
+/// Whether a unit that comes is out of place.
+pub fn is_out_of_place(to: &mut Session, word: SessionWord) -> bool {
+    match to.take(word) {
+        Err(SessionFault::OutOfPlace) => true,
+        _ => false,
+    }
+}
+
+/// Whether a unit that comes is passed over.
+pub fn is_passed(to: &mut Session, word: SessionWord) -> bool {
+    match to.take(word) {
+        Ok(Taken::Passed) => true,
+        _ => false,
+    }
+}
+
+/// A request of this word is refused so, and changes nothing.
+pub fn refused(rt: &impl Abort, from: &mut Session, word: SessionWord, why: SessionRefusal) {
+    let before = from.state();
+    assert!(rt; from.may_request(&word), "the conditions of {word:?} hold");
+    assert_eq!(rt; from.refusal(&word), Some(why));
+    assert_eq!(rt; from.request(word).err(), Some(why));
+    assert_eq!(rt; from.state(), before);
+}
+
+/// Opens the association of two machines of which neither has sent anything on this connection.
+pub fn join(rt: &impl Abort, alloc: Global, requirements: u16, a: &mut Session, b: &mut Session) {
+    pass(rt, a, b, connect(alloc, requirements));
+    pass(rt, b, a, accept(alloc, requirements));
+}
+
+/// An initiator and a responder in direct mode, whose association stands.
+pub fn direct(rt: &impl Abort, alloc: Global) -> (Session, Session) {
+    let mut a = Session::new(alloc, true, false);
+    let mut b = Session::new(alloc, false, false);
+    join(rt, alloc, 0x042A, &mut a, &mut b);
+    (a, b)
+}
+
+/// The same in reliable mode.
+pub fn reliable(rt: &impl Abort, alloc: Global) -> (Session, Session) {
+    let mut a = Session::new(alloc, true, true);
+    let mut b = Session::new(alloc, false, true);
+    join(rt, alloc, 0x0449, &mut a, &mut b);
+    (a, b)
+}
