@@ -1,3 +1,5 @@
 pub mod Marks
 pub mod Transfers
 pub mod PurgedWords
+pub mod Restarts
+pub mod Resuming

@@ -1,5 +1,15 @@
 -- Each request that an end sends, and each message that it takes, is an act or a taking of the model.
-use Rattle.std.specs.Prelude.{◌≡◌, ℕ, suc, List, Bool, Option, Some}
+use Rattle.std.specs.Prelude.{◌≡◌, ℕ, suc, List, [], ◌∷◌, Bool, Option, Some}
+use Rattle.end_rules.specs.Messages.{Resume}
+use Rattle.end_rules.specs.State.{confirmed_of}
+use Rattle.end_rules.specs.TakesData.{part_in}
+use Rattle.agreement.specs.Messages.Act.{Resumes}
+use Rattle.agreement.specs.Messages.Message.{Resume as model_resume, Chunk as model_chunk}
+use Rattle.dialogue.specs.declared.config.Phase.TheVariants.{Opening, Recovering}
+use Rattle.end_rules.specs.TakesTransport.{after_transport}
+use Rattle.end_rules.specs.Faults.{over}
+use Rattle.end_rules.specs.Messages.{ConnectionConfirm, DisconnectRequest}
+use Rattle.agreement.specs.Messages.Act.{Connects, Recovers, Fails, Aborts, Withdraws}
 use Rattle.osi_base.specs.declared.words.RestoredItem.{RestoredItem}
 use Rattle.osi_base.specs.declared.presentation_word.PresentationReject.{PresentationReject}
 use Rattle.dialogue.specs.declared.config.Mode.{Mode}
@@ -117,3 +127,31 @@ pub record Purged : Type 0 where
   pub abort : (transport : Option ℕ) (user : AbortData) → PurgedAs (OfAssociation (Abort transport user)) model_abort
   pub interrupt_ack : PurgedAs (OfActivities InterruptAck) model_interrupt_answer
   pub discard_ack : PurgedAs (OfActivities DiscardAck) model_discard_answer
+
+-- Restarts and their answers, as they are taken in direct mode, where nothing is queued.
+pub record RestartsTaken : Type 0 where
+  pub restart : (number : ℕ) (list : Option (List RestoredItem)) (listed : List Listed) (free : Free) (base : Base) (body : Body) → body.sending.queue ≡ [] →
+      seen (at Direct base) (after_word (at Direct base) body (OfMarks (Restart number list))) ≡
+      taken (setup_seen free Direct base) (role_seen base.initiator) (seen (at Direct base) body) (model_restart number listed) Nothing
+  pub restart_ack : (number : ℕ) (list : Option (List RestoredItem)) (listed : List Listed) (free : Free) (base : Base) (body : Body) → body.sending.queue ≡ [] →
+      seen (at Direct base) (after_word (at Direct base) body (OfMarks (RestartAck number list))) ≡
+      taken (setup_seen free Direct base) (role_seen base.initiator) (seen (at Direct base) body) (model_restart_answer number listed) Nothing
+
+-- With its CC an initiator sends the CN that opens or recovers; a DR ends what it asked for; an own abort ends all.
+pub record Connections : Type 0 where
+  pub connects : (mode : Mode) (destination : ℕ) (size : Option ℕ) (free : Free) (base : Base) (body : Body) → body.link.phase ≡ Opening →
+      seen (at mode base) (after_transport (at mode base) body (ConnectionConfirm destination size)) ≡ acted (setup_seen free mode base) (seen (at mode base) body) Connects
+  pub recovers : (mode : Mode) (destination : ℕ) (size : Option ℕ) (free : Free) (base : Base) (body : Body) → body.link.phase ≡ Recovering →
+      seen (at mode base) (after_transport (at mode base) body (ConnectionConfirm destination size)) ≡ acted (setup_seen free mode base) (seen (at mode base) body) Recovers
+  pub fails : (mode : Mode) (destination : ℕ) (free : Free) (base : Base) (body : Body) →
+      seen (at mode base) (after_transport (at mode base) body (DisconnectRequest destination)) ≡ acted (setup_seen free mode base) (seen (at mode base) body) Fails
+  pub aborts : (mode : Mode) (free : Free) (base : Base) (body : Body) →
+      seen (at mode base) (over body) ≡ acted (setup_seen free mode base) (seen (at mode base) body) Aborts
+  pub withdraws : (mode : Mode) (free : Free) (base : Base) (body : Body) →
+      seen (at mode base) (over body) ≡ acted (setup_seen free mode base) (seen (at mode base) body) Withdraws
+
+-- Resumptions: of the own transfer as it is sent, of the peer's activity as it is taken, and a part of it.
+pub record Resumptions : Type 0 where
+  pub sent : SendsAs Reliable (λ body. Session (OfActivities (Resume body.sending.started (confirmed_of body.sending.current)))) (λ body. Resumes)
+  pub resumed : (activity : ℕ) (mark : ℕ) → TakesAs Reliable (OfActivities (Resume activity mark)) (model_resume activity mark) Nothing
+  pub part : (value : Value) → TakesAs Reliable (OfData (Values (value ∷ []))) (model_chunk (part_in value.content)) Nothing

@@ -5,6 +5,6 @@
 mod rows;
 
 pub use rows::{
-    activities_sent, activities_taken, alterations_sent, association_taken, marks_sent,
-    marks_taken, purged, transfers_sent, transfers_taken,
+    activities_sent, activities_taken, alterations_sent, association_taken, connections,
+    marks_sent, marks_taken, purged, restarts_taken, resumptions, transfers_sent, transfers_taken,
 };

@@ -1,6 +1,6 @@
 //! Each row is the contract of a function with an empty body.
 
-ghost use Rattle.end_model.specs.Rows.{AssociationTaken, MarksSent, MarksTaken, ActivitiesSent, ActivitiesTaken, TransfersSent, TransfersTaken, AlterationsSent, Purged};
+ghost use Rattle.end_model.specs.Rows.{AssociationTaken, MarksSent, MarksTaken, ActivitiesSent, ActivitiesTaken, TransfersSent, TransfersTaken, AlterationsSent, Purged, RestartsTaken, Connections, Resumptions};
 
 /// Marks, givings, pleas and restarts, as they are sent.
 pub fn marks_sent()
@@ -45,4 +45,19 @@ pub fn alterations_sent()
 /// What is passed over while an own request is unanswered.
 pub fn purged()
     ensures rows { Purged }
+{}
+
+/// Restarts and their answers, as they are taken.
+pub fn restarts_taken()
+    ensures rows { RestartsTaken }
+{}
+
+/// Openings, recoveries, refused connections and own aborts.
+pub fn connections()
+    ensures rows { Connections }
+{}
+
+/// Resumptions: of the own transfer, as it is sent, and of the peer's activity with a part, as they are taken.
+pub fn resumptions()
+    ensures rows { Resumptions }
 {}

@@ -1,6 +1,7 @@
 pub mod Made
 pub mod Causes
 pub mod Endings
+pub mod Exiting
 pub mod Replays
 pub mod OneTables
 pub mod Answering

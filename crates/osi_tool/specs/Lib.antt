@@ -5,4 +5,5 @@ pub mod Answers
 pub mod Preparing
 pub mod Replaying
 pub mod TopCall
+pub mod Process
 pub mod Laws

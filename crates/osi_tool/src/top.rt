@@ -70,6 +70,9 @@ pub fn osi_run<F: Files, O: Sink, L: Line>(
     ensures files_count { CountsFiles (F.faults files.old) (F.faults files.new) result }
     ensures sink_count { CountsWrites (O.faults out.old) (O.faults out.new) result }
 
+    // The whole of it, of which all that follows is said again in parts
+    ensures closes { Closes (F.told files.old) (F.faults files.old) (F.faults files.new) words.now (O.faults out.old) (O.faults out.new) (O.told out.old) (O.told out.new) result }
+
     // What each status says
     ensures done { result ≡ Status.Done → IsDone (F.told files.old) (F.faults files.old) (F.faults files.new) words.now (O.told out.old) (O.told out.new) }
     ensures usage { result ≡ Status.Usage → IsUsage words.now (O.told out.old) (O.told out.new) }

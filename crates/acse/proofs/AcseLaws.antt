@@ -1,0 +1,189 @@
+-- APDUs of association control and their octets stand for each other.
+use Rattle.std.proofs.Common.{◌≡◌, ℕ, ◌+◌, ◌^◌, ◌≤◌, ◌<◌, Bool, true, false, ◌&&◌, List, [], ◌∷◌, length, Option, Some, None, Result, Ok, Err, refl, sym, ap, ◌∙◌, arith}
+use Rattle.std.specs.Prelude.{ℤ, pos, nat_lt, map}
+use Rattle.std.specs.List.{list_all}
+use Rattle.std.proofs.lemmas.Bool.{and_parts, ltb-true, lt-ltb, le-ltb}
+use Rattle.osi_base.specs.declared.bit_string.BitString as strings
+use Rattle.osi_base.specs.declared.acse_word.External as externals
+use Rattle.osi_base.specs.declared.acse_word.Diagnostic as diagnostics
+use Rattle.osi_base.specs.declared.acse_word.Diagnostic.TheVariants as diagnostic
+use Rattle.osi_base.specs.declared.acse_word.Acse as apdus
+use Rattle.osi_base.specs.declared.acse_word.Acse.TheVariants as apdu
+use Rattle.asn1_types.specs.Rows.{along}
+use Rattle.asn1_types.specs.Fits.{fits, fits_by, nothing_fits, values_fit, is_number, integer_fits, bits_fit, object_id_fits}
+use Rattle.asn1_types.specs.Value.{Value, integer, bits, object_id}
+use Rattle.asn1_types.specs.ValueView.{values_of}
+use Rattle.asn1_types.specs.Whole.{is_whole}
+use Rattle.ber_spelling.specs.Octets.{AreOctets}
+use Rattle.ber_spelling.proofs.Wholes.{whole_is}
+use Rattle.ber_spelling.proofs.Written.{written_spelled}
+use Rattle.fixed_tables.specs.declared.pdu.PduFault as units
+use Rattle.fixed_tables.specs.Values.{natural_in, octet_of, values_list}
+use Rattle.fixed_tables.specs.Whole.{whole_at}
+use Rattle.fixed_tables.proofs.Numbers.{natural_fits, number_fits, range_fits}
+use Rattle.fixed_tables.proofs.WholeLaws.{whole_is_spelled, spelled_is_whole}
+use Rattle.acse.specs.Rows.{acse_row, acse_rows}
+use Rattle.acse.specs.Words.{external_in, external_value, said, value_of}
+use Rattle.acse.specs.Plain.{SpellsPlain, of_value, plain_at}
+use Rattle.acse.specs.Written.{is_id, can_carry, are_bits, diagnostic_number, can_write, written_acse, IsWritable}
+use Rattle.acse.specs.Laws.{PlainIsSpelled, SpelledPlainIsRead, WrittenAcseIsRead}
+use Rattle.acse.proofs.Added.{acse_sound}
+
+pub plain_is_spelled : PlainIsSpelled
+plain_is_spelled a octets are e = by_read (whole_at acse_rows acse_row 262144 octets) refl e
+  where
+    by_read : (r : Result Value units.PduFault) → whole_at acse_rows acse_row 262144 octets ≡ r → of_value r ≡ Ok a → SpellsPlain a octets
+    by_read (Ok v) h e = record {
+      value = v;
+      spelled = whole_is_spelled acse_rows acse_row 262144 octets v are h;
+      says = cc;
+    }
+    by_read (Err f) h e = absurd cc
+
+pub spelled_plain_is_read : SpelledPlainIsRead
+spelled_plain_is_read a octets p =
+    ap of_value (spelled_is_whole acse_rows acse_row 262144 octets p.value acse_sound p.spelled) ∙ ap (λ (x : apdus.Acse). Ok x) p.says
+
+-- ---- what may be written fits
+
+id_fits : (n : ℕ) → is_id n ≡ true → integer_fits (pos 1) (pos 32767) (integer (pos n)) ≡ true
+id_fits n h =
+    let p = and_parts (nat_lt 0 n) (nat_lt n 32768) h in
+    let low = ltb-true 0 n p.0 in
+    let high = ltb-true n 32768 p.1 in
+    range_fits 1 32767 n (omega arith) (omega arith) (omega arith)
+
+below_fits : (high n : ℕ) → high < 256 → nat_lt n (high + 1) ≡ true → integer_fits (pos 0) (pos high) (integer (pos n)) ≡ true
+below_fits high n small h = let lt = ltb-true n (high + 1) h in natural_fits high n (omega arith) (omega arith)
+
+-- items of user information, as far down the table as they stand in an APDU
+users_fit : (es : List externals.External) → list_all can_carry es ≡ true → values_fit (along nothing_fits fits_by acse_rows 26 9) (values_of (map external_value es)) ≡ true
+users_fit [] h = refl
+users_fit (e ∷ es) h =
+    let p = and_parts (can_carry e) (list_all can_carry es) h in
+    let q = and_parts (is_id e.id) (is_whole e.value) p.0 in
+    rw (id_fits e.id q.0, q.1, users_fit es p.1) refl
+
+pub writable_fits : (a : apdus.Acse) → can_write a ≡ true → fits acse_rows acse_row (value_of a) ≡ true
+unfolding fits
+writable_fits (apdu.AssociateRequest None context []) h =
+    let p = and_parts (true && object_id_fits (object_id context)) (list_all can_carry []) h in
+    let q = and_parts true (object_id_fits (object_id context)) p.0 in
+    rw (q.1) refl
+writable_fits (apdu.AssociateRequest None context (e ∷ es)) h =
+    let p = and_parts (true && object_id_fits (object_id context)) (list_all can_carry (e ∷ es)) h in
+    let q = and_parts true (object_id_fits (object_id context)) p.0 in
+    rw (q.1, users_fit (e ∷ es) p.1) refl
+writable_fits (apdu.AssociateRequest (Some string) context []) h =
+    let p = and_parts (bits_fit (bits string.octets string.unused) && object_id_fits (object_id context)) (list_all can_carry []) h in
+    let q = and_parts (bits_fit (bits string.octets string.unused)) (object_id_fits (object_id context)) p.0 in
+    rw (q.0, q.1) refl
+writable_fits (apdu.AssociateRequest (Some string) context (e ∷ es)) h =
+    let p = and_parts (bits_fit (bits string.octets string.unused) && object_id_fits (object_id context)) (list_all can_carry (e ∷ es)) h in
+    let q = and_parts (bits_fit (bits string.octets string.unused)) (object_id_fits (object_id context)) p.0 in
+    rw (q.0, q.1, users_fit (e ∷ es) p.1) refl
+writable_fits (apdu.AssociateResponse context result (diagnostic.User number) []) h =
+    let p = and_parts (object_id_fits (object_id context) && nat_lt result 3 && is_number number) (list_all can_carry []) h in
+    let q = and_parts (object_id_fits (object_id context) && nat_lt result 3) (is_number number) p.0 in
+    let r = and_parts (object_id_fits (object_id context)) (nat_lt result 3) q.0 in
+    rw (r.0, below_fits 2 result (omega arith) r.1, number_fits number q.1) refl
+writable_fits (apdu.AssociateResponse context result (diagnostic.User number) (e ∷ es)) h =
+    let p = and_parts (object_id_fits (object_id context) && nat_lt result 3 && is_number number) (list_all can_carry (e ∷ es)) h in
+    let q = and_parts (object_id_fits (object_id context) && nat_lt result 3) (is_number number) p.0 in
+    let r = and_parts (object_id_fits (object_id context)) (nat_lt result 3) q.0 in
+    rw (r.0, below_fits 2 result (omega arith) r.1, number_fits number q.1, users_fit (e ∷ es) p.1) refl
+writable_fits (apdu.AssociateResponse context result (diagnostic.Provider number) []) h =
+    let p = and_parts (object_id_fits (object_id context) && nat_lt result 3 && is_number number) (list_all can_carry []) h in
+    let q = and_parts (object_id_fits (object_id context) && nat_lt result 3) (is_number number) p.0 in
+    let r = and_parts (object_id_fits (object_id context)) (nat_lt result 3) q.0 in
+    rw (r.0, below_fits 2 result (omega arith) r.1, number_fits number q.1) refl
+writable_fits (apdu.AssociateResponse context result (diagnostic.Provider number) (e ∷ es)) h =
+    let p = and_parts (object_id_fits (object_id context) && nat_lt result 3 && is_number number) (list_all can_carry (e ∷ es)) h in
+    let q = and_parts (object_id_fits (object_id context) && nat_lt result 3) (is_number number) p.0 in
+    let r = and_parts (object_id_fits (object_id context)) (nat_lt result 3) q.0 in
+    rw (r.0, below_fits 2 result (omega arith) r.1, number_fits number q.1, users_fit (e ∷ es) p.1) refl
+writable_fits (apdu.ReleaseRequest reason) h = rw (number_fits reason h) refl
+writable_fits (apdu.ReleaseResponse reason) h = rw (number_fits reason h) refl
+writable_fits (apdu.Abort source []) h =
+    let p = and_parts (nat_lt source 2) (list_all can_carry []) h in
+    rw (below_fits 1 source (omega arith) p.0) refl
+writable_fits (apdu.Abort source (e ∷ es)) h =
+    let p = and_parts (nat_lt source 2) (list_all can_carry (e ∷ es)) h in
+    rw (below_fits 1 source (omega arith) p.0, users_fit (e ∷ es) p.1) refl
+
+-- ---- what is written says the APDU
+
+id_is : (n : ℕ) → is_id n ≡ true → natural_in (pos n) ≡ n
+id_is n h =
+    let p = and_parts (nat_lt 0 n) (nat_lt n 32768) h in
+    let lt = ltb-true n 32768 p.1 in
+    let small : n < 2 ^ 32 = omega arith in
+    rw (lt-ltb n (2 ^ 32) small) refl
+
+octet_is : (high n : ℕ) → high < 256 → nat_lt n high ≡ true → octet_of (pos n) ≡ n
+octet_is high n small h =
+    let lt = ltb-true n high h in
+    let here : n < 256 = omega arith in
+    rw (lt-ltb n 256 here) refl
+
+external_says : (e : externals.External) → can_carry e ≡ true → external_in (external_value e) ≡ e
+external_says e h =
+    let q = and_parts (is_id e.id) (is_whole e.value) h in
+    ap (λ (n : ℕ). let x : externals.External = record { id = n; value = e.value } in x) (id_is e.id q.0)
+
+users_say : (es : List externals.External) → list_all can_carry es ≡ true → map external_in (values_list (values_of (map external_value es))) ≡ es
+users_say [] h = refl
+users_say (e ∷ es) h =
+    let p = and_parts (can_carry e) (list_all can_carry es) h in
+    ap (λ (x : externals.External). x ∷ map external_in (values_list (values_of (map external_value es)))) (external_says e p.0) ∙ ap (λ (x : List externals.External). e ∷ x) (users_say es p.1)
+
+pub writable_says : (a : apdus.Acse) → can_write a ≡ true → said (value_of a) ≡ a
+writable_says (apdu.AssociateRequest None context []) h = refl
+writable_says (apdu.AssociateRequest None context (e ∷ es)) h =
+    let p = and_parts (true && object_id_fits (object_id context)) (list_all can_carry (e ∷ es)) h in
+    ap (λ (x : List externals.External). apdu.AssociateRequest None context x) (users_say (e ∷ es) p.1)
+writable_says (apdu.AssociateRequest (Some string) context []) h = refl
+writable_says (apdu.AssociateRequest (Some string) context (e ∷ es)) h =
+    let p = and_parts (bits_fit (bits string.octets string.unused) && object_id_fits (object_id context)) (list_all can_carry (e ∷ es)) h in
+    ap (λ (x : List externals.External). apdu.AssociateRequest (Some string) context x) (users_say (e ∷ es) p.1)
+writable_says (apdu.AssociateResponse context result (diagnostic.User number) []) h =
+    let p = and_parts (object_id_fits (object_id context) && nat_lt result 3 && is_number number) (list_all can_carry []) h in
+    let q = and_parts (object_id_fits (object_id context) && nat_lt result 3) (is_number number) p.0 in
+    let r = and_parts (object_id_fits (object_id context)) (nat_lt result 3) q.0 in
+    ap (λ (n : ℕ). apdu.AssociateResponse context n (diagnostic.User number) []) (octet_is 3 result (omega arith) r.1)
+writable_says (apdu.AssociateResponse context result (diagnostic.User number) (e ∷ es)) h =
+    let p = and_parts (object_id_fits (object_id context) && nat_lt result 3 && is_number number) (list_all can_carry (e ∷ es)) h in
+    let q = and_parts (object_id_fits (object_id context) && nat_lt result 3) (is_number number) p.0 in
+    let r = and_parts (object_id_fits (object_id context)) (nat_lt result 3) q.0 in
+    ap (λ (n : ℕ). apdu.AssociateResponse context n (diagnostic.User number) (map external_in (values_list (values_of (map external_value (e ∷ es)))))) (octet_is 3 result (omega arith) r.1)
+    ∙ ap (λ (x : List externals.External). apdu.AssociateResponse context result (diagnostic.User number) x) (users_say (e ∷ es) p.1)
+writable_says (apdu.AssociateResponse context result (diagnostic.Provider number) []) h =
+    let p = and_parts (object_id_fits (object_id context) && nat_lt result 3 && is_number number) (list_all can_carry []) h in
+    let q = and_parts (object_id_fits (object_id context) && nat_lt result 3) (is_number number) p.0 in
+    let r = and_parts (object_id_fits (object_id context)) (nat_lt result 3) q.0 in
+    ap (λ (n : ℕ). apdu.AssociateResponse context n (diagnostic.Provider number) []) (octet_is 3 result (omega arith) r.1)
+writable_says (apdu.AssociateResponse context result (diagnostic.Provider number) (e ∷ es)) h =
+    let p = and_parts (object_id_fits (object_id context) && nat_lt result 3 && is_number number) (list_all can_carry (e ∷ es)) h in
+    let q = and_parts (object_id_fits (object_id context) && nat_lt result 3) (is_number number) p.0 in
+    let r = and_parts (object_id_fits (object_id context)) (nat_lt result 3) q.0 in
+    ap (λ (n : ℕ). apdu.AssociateResponse context n (diagnostic.Provider number) (map external_in (values_list (values_of (map external_value (e ∷ es)))))) (octet_is 3 result (omega arith) r.1)
+    ∙ ap (λ (x : List externals.External). apdu.AssociateResponse context result (diagnostic.Provider number) x) (users_say (e ∷ es) p.1)
+writable_says (apdu.ReleaseRequest reason) h = refl
+writable_says (apdu.ReleaseResponse reason) h = refl
+writable_says (apdu.Abort source []) h =
+    let p = and_parts (nat_lt source 2) (list_all can_carry []) h in
+    ap (λ (n : ℕ). apdu.Abort n []) (octet_is 2 source (omega arith) p.0)
+writable_says (apdu.Abort source (e ∷ es)) h =
+    let p = and_parts (nat_lt source 2) (list_all can_carry (e ∷ es)) h in
+    ap (λ (n : ℕ). apdu.Abort n (map external_in (values_list (values_of (map external_value (e ∷ es)))))) (octet_is 2 source (omega arith) p.0)
+    ∙ ap (λ (x : List externals.External). apdu.Abort source x) (users_say (e ∷ es) p.1)
+
+pub written_acse_is_read : WrittenAcseIsRead
+written_acse_is_read a w =
+    let octets : List ℕ = written_acse a in
+    let spells : SpellsPlain a octets = record {
+      value = value_of a;
+      spelled = written_spelled whole_is acse_rows acse_sound acse_row (value_of a) (writable_fits a w.can) false 262144 (omega arith) w.within;
+      says = writable_says a w.can;
+    } in
+    (spells, spelled_plain_is_read a octets spells)

@@ -1,0 +1,5 @@
+pub mod Laws
+pub mod Plain
+pub mod Rows
+pub mod Words
+pub mod Written
