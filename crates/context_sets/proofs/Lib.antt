@@ -5,3 +5,5 @@ pub mod Rising
 pub mod Bounds
 pub mod Keeping
 pub mod Order
+pub mod Crossing
+pub mod Fitting

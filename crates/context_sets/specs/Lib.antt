@@ -7,3 +7,4 @@ pub mod Policy
 pub mod Results
 pub mod Places
 pub mod Met
+pub mod Laws

@@ -1,0 +1,6 @@
+use Rattle.std.proofs.Common.{◌≡◌, ℕ, ◌+◌, ◌-◌, ◌≤◌, ◌++◌, [], drop, length}
+use Rattle.context_restore.specs.Versions.{missing, ids, without, with_all, set_of}
+use Rattle.context_restore.proofs.differing.put_all.Given as goal
+
+abbrev pub invariant-loop-item : goal.invariant-loop-item
+invariant-loop-item l = with_all (drop l.item-index l.items) l.set.items ≡ with_all l.items l.initial.set.items

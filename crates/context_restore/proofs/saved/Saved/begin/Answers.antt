@@ -1,0 +1,6 @@
+use Rattle.context_restore.proofs.Sound.{sound_root}
+use Rattle.context_restore.proofs.saved.Saved.begin.Goals as goal
+
+pub invariant_of-self : goal.invariant_of-self
+invariant_of-self c =
+    sound_root c.in_ok-nodes.nodes c.in_ok-copy.field-0 c.in_ok-newest.newest _ c.in_ok-nodes.ensures.len c.in_ok-nodes.ensures.there c.in_ok-copy.ensures c.in_ok-newest.ensures.rises

@@ -1,0 +1,31 @@
+-- The laws of alterations, in the words of the standard.
+use Rattle.std.specs.Prelude.{◌≡◌, ℕ, Bool, false, List, [], ◌∷◌, None}
+use Rattle.osi_base.specs.declared.words.Answers.{Answers}
+use Rattle.context_sets.specs.declared.alteration.Alteration.{Alteration}
+use Rattle.context_sets.specs.declared.rules.Rules.{Rules}
+use Rattle.context_sets.specs.Sets.{ContextSet, IsRising}
+use Rattle.context_sets.specs.Alterations.{altered, identifiers, named_by, is_among}
+use Rattle.context_sets.specs.Policy.{policy}
+use Rattle.context_sets.specs.Results.{mismatch}
+
+-- none of these identifiers is among the others
+abbrev pub IsApartFrom : List ℕ → List ℕ → Type 0
+IsApartFrom [] others = Unit {0}
+IsApartFrom (id ∷ ids) others = (is_among id others ≡ false) × IsApartFrom ids others
+
+-- neither alteration adds what the other names, as with two ends' own additions of their own parities
+pub record AreApart (a b : Alteration) : Type 0 where
+  pub mine : IsApartFrom (identifiers a.added) (named_by b)
+  pub theirs : IsApartFrom (identifiers b.added) (named_by a)
+
+-- Two alterations that cross lead to one set, whichever is settled first.
+abbrev pub CrossingAgrees : Type 0
+CrossingAgrees =
+    (a b : Alteration) (p q : Answers) (set : ContextSet) → IsRising set → AreApart a b
+    → altered a p (altered b q set) ≡ altered b q (altered a p set)
+
+-- What the policy answers fits what was asked, so the end that asked finds no fault in it.
+abbrev pub AnswersFit : Type 0
+AnswersFit =
+    (rules : Rules) (set : ContextSet) (own : List Alteration) (used : List ℕ) (asked : Alteration)
+    → mismatch asked (policy rules set own used asked) ≡ None
