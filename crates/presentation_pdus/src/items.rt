@@ -1,0 +1,276 @@
+//! Items of lists out of values and into them.
+
+ghost use Rattle.std.specs.Prelude.{◌≡◌, IfOk, option_map};
+ghost use Rattle.std.specs.Option.{option_copied};
+ghost use Rattle.asn1_types.specs.Value as tree;
+ghost use Rattle.presentation_pdus.specs.Items as spec;
+ghost use Rattle.presentation_pdus.specs.Items.{number_value, number_in, octet_in, name_in, bits_value, bits_or_none, list_value, some_list, definition_value, definition_in, answer_value, answer_in, restored_value, restored_in, content_value, content_in, pdv_value, pdv_in};
+
+use asn1_types::Val;
+use fixed_tables::{
+    InValue, alternative, any, bits, chosen, inside, integer, list_in, list_of, maybe_bits,
+    maybe_oid, object_id, octet, octets, octets_in, oid_in, part_in, sequence, small,
+};
+use osi_base::{
+    AddAnswer, BitString, ListOf, NoMemory, Octets, Oid, Pdv, PdvContent, Proposal, RestoredItem,
+};
+use std::alloc::Global;
+
+/// Identifiers of contexts.
+pub(crate) struct Identifiers;
+
+impl InValue for Identifiers {
+    type Item = u32;
+
+    ghost said = { number_in };
+
+    ghost says = { number_value };
+
+    fn item(_alloc: Global, value: &Val) -> Result<u32, NoMemory> {
+        Ok(small(Some(value), 0))
+    }
+
+    fn val(_alloc: Global, item: &u32) -> Result<Val, NoMemory> {
+        Ok(integer(*item as i64))
+    }
+}
+
+/// Answers to deletions.
+pub(crate) struct Deletions;
+
+impl InValue for Deletions {
+    type Item = u8;
+
+    ghost said = { octet_in };
+
+    ghost says = { number_value };
+
+    fn item(_alloc: Global, value: &Val) -> Result<u8, NoMemory> {
+        Ok(octet(Some(value), 0))
+    }
+
+    fn val(_alloc: Global, item: &u8) -> Result<Val, NoMemory> {
+        Ok(integer(*item as i64))
+    }
+}
+
+/// Names of transfer syntaxes.
+pub(crate) struct Names;
+
+impl InValue for Names {
+    type Item = Oid;
+
+    ghost said = { name_in };
+
+    ghost says = { tree.object_id };
+
+    fn item(alloc: Global, value: &Val) -> Result<Oid, NoMemory> {
+        oid_in(alloc, Some(value))
+    }
+
+    fn val(alloc: Global, item: &Oid) -> Result<Val, NoMemory> {
+        object_id(alloc, item)
+    }
+}
+
+/// Definitions of contexts.
+pub(crate) struct Definitions;
+
+impl InValue for Definitions {
+    type Item = Proposal;
+
+    ghost said = { definition_in };
+
+    ghost says = { definition_value };
+
+    fn item(alloc: Global, value: &Val) -> Result<Proposal, NoMemory> {
+        Ok(Proposal {
+            id: small(part_in(0, Some(value)), 0),
+            abstract_name: oid_in(alloc, part_in(1, Some(value)))?,
+            transfers: list_in::<Names>(alloc, part_in(2, Some(value)))?,
+        })
+    }
+
+    fn val(alloc: Global, item: &Proposal) -> Result<Val, NoMemory> {
+        let parts = vec![in alloc;
+            Some(integer(item.id as i64)),
+            Some(object_id(alloc, &item.abstract_name)?),
+            Some(list_of::<Names>(alloc, item.transfers.as_slice())?),
+        ]?;
+        Ok(sequence(parts))
+    }
+}
+
+/// A name as a part.
+fn name_part(alloc: Global, name: &Option<Oid>) -> Result<Option<Val>, NoMemory>
+    ensures { IfOk result (λ part. part ≡ option_map tree.object_id name.now) }
+{
+    match name {
+        Some(name) => Ok(Some(object_id(alloc, name)?)),
+        None => Ok(None),
+    }
+}
+
+/// A small number as a part.
+pub(crate) fn octet_part(number: Option<u8>) -> Option<Val>
+    ensures { result ≡ option_map number_value number }
+{
+    match number {
+        Some(number) => Some(integer(number as i64)),
+        None => None,
+    }
+}
+
+/// The reason of a provider.
+fn why_in(value: Option<&Val>) -> Option<u8>
+    ensures { result ≡ option_map octet_in (option_copied value.entry) }
+{
+    match value {
+        Some(value) => Some(octet(Some(value), 0)),
+        None => None,
+    }
+}
+
+/// Results of definitions.
+pub(crate) struct Results;
+
+impl InValue for Results {
+    type Item = AddAnswer;
+
+    ghost said = { answer_in };
+
+    ghost says = { answer_value };
+
+    fn item(alloc: Global, value: &Val) -> Result<AddAnswer, NoMemory> {
+        Ok(AddAnswer {
+            result: octet(part_in(0, Some(value)), 0),
+            transfer: maybe_oid(alloc, part_in(1, Some(value)))?,
+            reason: why_in(part_in(2, Some(value))),
+        })
+    }
+
+    fn val(alloc: Global, item: &AddAnswer) -> Result<Val, NoMemory> {
+        let parts = vec![in alloc;
+            Some(integer(item.result as i64)),
+            name_part(alloc, &item.transfer)?,
+            octet_part(item.reason),
+        ]?;
+        Ok(sequence(parts))
+    }
+}
+
+/// Contexts that are restored.
+pub(crate) struct Restored;
+
+impl InValue for Restored {
+    type Item = RestoredItem;
+
+    ghost said = { restored_in };
+
+    ghost says = { restored_value };
+
+    fn item(alloc: Global, value: &Val) -> Result<RestoredItem, NoMemory> {
+        Ok(RestoredItem {
+            id: small(part_in(0, Some(value)), 0),
+            transfer: oid_in(alloc, part_in(1, Some(value)))?,
+        })
+    }
+
+    fn val(alloc: Global, item: &RestoredItem) -> Result<Val, NoMemory> {
+        let parts = vec![in alloc;
+            Some(integer(item.id as i64)),
+            Some(object_id(alloc, &item.transfer)?),
+        ]?;
+        Ok(sequence(parts))
+    }
+}
+
+fn bits_or_none(alloc: Global, string: Option<BitString>) -> BitString
+    ensures { result ≡ bits_or_none string }
+{
+    match string {
+        Some(string) => string,
+        None => BitString {
+            octets: Octets::new(alloc),
+            unused: 0,
+        },
+    }
+}
+
+fn content_in(alloc: Global, value: Option<&Val>) -> Result<PdvContent, NoMemory>
+    ensures { IfOk result (λ x. x ≡ content_in (option_copied value.entry)) }
+{
+    let inner = inside(value);
+    match alternative(value) {
+        0 => Ok(PdvContent::SingleAsn1Type(octets_in(alloc, inner)?)),
+        1 => Ok(PdvContent::OctetAligned(octets_in(alloc, inner)?)),
+        _ => {
+            let string = maybe_bits(alloc, inner)?;
+            Ok(PdvContent::Arbitrary(bits_or_none(alloc, string)))
+        }
+    }
+}
+
+fn content_value(alloc: Global, content: &PdvContent) -> Result<Val, NoMemory>
+    ensures { IfOk result (λ v. v ≡ content_value content.now) }
+{
+    match content {
+        PdvContent::SingleAsn1Type(value) => chosen(alloc, 0, any(alloc, value)?),
+        PdvContent::OctetAligned(value) => chosen(alloc, 1, octets(alloc, value)?),
+        PdvContent::Arbitrary(string) => chosen(alloc, 2, bits(alloc, string)?),
+    }
+}
+
+/// Presentation data values.
+pub(crate) struct DataValues;
+
+impl InValue for DataValues {
+    type Item = Pdv;
+
+    ghost said = { pdv_in };
+
+    ghost says = { pdv_value };
+
+    fn item(alloc: Global, value: &Val) -> Result<Pdv, NoMemory> {
+        Ok(Pdv {
+            transfer: maybe_oid(alloc, part_in(0, Some(value)))?,
+            id: small(part_in(1, Some(value)), 0),
+            content: content_in(alloc, part_in(2, Some(value)))?,
+        })
+    }
+
+    fn val(alloc: Global, item: &Pdv) -> Result<Val, NoMemory> {
+        let parts = vec![in alloc;
+            name_part(alloc, &item.transfer)?,
+            Some(integer(item.id as i64)),
+            Some(content_value(alloc, &item.content)?),
+        ]?;
+        Ok(sequence(parts))
+    }
+}
+
+/// A list as a part; one of no items doesn't stand.
+pub(crate) fn some_list<T: InValue>(
+    alloc: Global,
+    items: &[T::Item],
+) -> Result<Option<Val>, NoMemory>
+    ensures { IfOk result (λ part. part ≡ some_list T.says items.now) }
+{
+    match items {
+        [] => Ok(None),
+        items => Ok(Some(list_of::<T>(alloc, items)?)),
+    }
+}
+
+/// A list that may lack, as a part.
+pub(crate) fn maybe_list<T: InValue>(
+    alloc: Global,
+    list: &Option<ListOf<T::Item>>,
+) -> Result<Option<Val>, NoMemory>
+    ensures { IfOk result (λ part. part ≡ option_map (list_value T.says) list.now) }
+{
+    match list {
+        Some(list) => Ok(Some(list_of::<T>(alloc, list.as_slice())?)),
+        None => Ok(None),
+    }
+}
