@@ -1,0 +1,32 @@
+//! Marks a set of 64 contexts over and over, so that a clock outside can time it. Its words say how
+//! many marks an activity has, 0 to 65,536, and how many activities there are.
+#![tactic(auto)]
+
+mod rounds;
+mod stopped;
+
+use rounds::mark_rounds;
+use std::alloc::Global;
+use std::env;
+use std::env::Env;
+use std::process::ExitCode;
+use stopped::Stopped;
+
+fn run<R: Env + Print + Alloc<A = Global>>(rt: &R) -> Result<(), Stopped> {
+    let mut counts = Vec::new(rt.alloc());
+    for word in env::args(rt)?.skip(1) {
+        counts.push(word.parse::<u64>().unwrap_or(0))?;
+    }
+    let marks = counts.first().copied().unwrap_or(0);
+    let rounds = counts.get(1).copied().unwrap_or(0);
+    let nodes = mark_rounds(rt.alloc(), marks, rounds)?;
+    println!(rt; "{marks} marks, {rounds} times: {nodes} nodes")?;
+    Ok(())
+}
+
+fn main(rt: HostRuntime) -> ExitCode {
+    match run(&rt) {
+        Ok(()) => ExitCode::SUCCESS,
+        Err(Stopped) => ExitCode::from(1),
+    }
+}

@@ -1,0 +1,63 @@
+//! Marks of a set of 64 contexts, which doesn't change between them.
+
+use crate::stopped::Stopped;
+use context_restore::Saved;
+use context_sets::{Contexts, Rules};
+use osi_base::{ListOf, Oid, Oids, Proposal, Syntax};
+use std::alloc::Global;
+
+/// How many nodes the chains of so many activities have, each with so many marks.
+pub fn mark_rounds(alloc: Global, marks: u64, rounds: u64) -> Result<u64, Stopped> {
+    let set = full_set(alloc)?;
+    let mut nodes = 0u64;
+    for _ in 0..rounds {
+        nodes = nodes.wrapping_add(marked(alloc, &set, marks)? as u64);
+    }
+    Ok(nodes)
+}
+
+/// How many nodes the chain of one activity has after so many marks.
+fn marked(alloc: Global, set: &Contexts, marks: u64) -> Result<u32, Stopped> {
+    let mut saved = Saved::new(alloc);
+    saved.begin(set)?;
+    for _ in 0..marks.min(65_536) {
+        saved.mark(set)?;
+    }
+    Ok(saved.nodes())
+}
+
+/// The set of a responder that accepted 64 contexts.
+fn full_set(alloc: Global) -> Result<Contexts, Stopped> {
+    let mut asked = ListOf::new(alloc);
+    for place in 0..64u32 {
+        asked.push(Proposal {
+            id: 2 * place + 1,
+            abstract_name: module_name(alloc)?,
+            transfers: basic_rules(alloc)?,
+        })?;
+    }
+    let rules = Rules {
+        module: module_name(alloc)?,
+        connect: false,
+        reliable: false,
+        accepts: basic_rules(alloc)?,
+    };
+    let nothing = ListOf::new(alloc);
+    let mut set = Contexts::new(alloc, false);
+    set.answer(&asked, &nothing, &nothing, &rules)?;
+    if set.items().len() != 64 {
+        return Err(Stopped);
+    }
+    Ok(set)
+}
+
+fn module_name(alloc: Global) -> Result<Oid, Stopped> {
+    Oid::from_vec(Vec::from_slice(alloc, &[2, 999, 7, 1])?).ok_or(Stopped)
+}
+
+/// The basic encoding rules alone.
+fn basic_rules(alloc: Global) -> Result<Oids, Stopped> {
+    let mut transfers = ListOf::new(alloc);
+    transfers.push(Syntax::Ber.name(alloc)?)?;
+    Ok(transfers)
+}
