@@ -2,11 +2,13 @@
 use Rattle.std.proofs.Common.{◌≡◌, ℕ, List, [], true, false, refl, ap, ◌∙◌}
 use Rattle.std.specs.Prelude.{Bool, not, ◌||◌, Option, None}
 use Rattle.osi_base.specs.declared.session_word.SessionWord.TheVariants as units
+use Rattle.osi_base.specs.declared.session_word.SessionConnect.{SessionConnect}
+use Rattle.end_rules.specs.Messages.{Accepting}
 use Rattle.end_rules.specs.State.{Awaited, NoAnswer, RestartOf, InterruptOf, DiscardOf, ReleaseOf}
 use Rattle.end_rules.specs.Purging.{wins_against, is_purged}
-use Rattle.agreement.specs.Sets.{Item, Listed}
+use Rattle.agreement.specs.Sets.{Item, Listed, ContextSet, Result}
 use Rattle.agreement.specs.Messages.{Value}
-use Rattle.agreement.specs.Messages.Message.{Data as model_data, Alter as model_alter, Mark as model_mark, Restart as model_restart, RestartAnswer as model_restart_answer, Release as model_release, ReleaseAnswer as model_release_answer, UserAbort as model_abort, InterruptAnswer as model_interrupt_answer, DiscardAnswer as model_discard_answer}
+use Rattle.agreement.specs.Messages.Message.{Data as model_data, Alter as model_alter, Mark as model_mark, Restart as model_restart, RestartAnswer as model_restart_answer, Release as model_release, ReleaseAnswer as model_release_answer, UserAbort as model_abort, InterruptAnswer as model_interrupt_answer, DiscardAnswer as model_discard_answer, Chunk as model_chunk, AlterAnswer as model_alter_answer, MarkAnswer as model_mark_answer, Give as model_give, GiveAnswer as model_give_answer, Please as model_please, Start as model_start, Resume as model_resume, End as model_end, EndAnswer as model_end_answer, Interrupt as model_interrupt, Discard as model_discard, Connect as model_connect, Recover as model_recover, Accept as model_accept, Refuse as model_refuse}
 use Rattle.agreement.specs.Takings.{wins_against as model_wins, is_purged as model_purged}
 use Rattle.end_model.specs.Seen.{role_seen, awaited_seen}
 
@@ -87,3 +89,122 @@ discard_ack initiator (RestartOf own) = refl
 discard_ack initiator InterruptOf = refl
 discard_ack initiator DiscardOf = refl
 discard_ack initiator ReleaseOf = refl
+
+pub chunk : (octets : List ℕ) (initiator : Bool) (awaited : Awaited) → is_purged initiator awaited (units.Data []) ≡ model_purged (role_seen initiator) (awaited_seen awaited) (model_chunk octets)
+chunk octets initiator NoAnswer = refl
+chunk octets initiator (RestartOf own) = refl
+chunk octets initiator InterruptOf = refl
+chunk octets initiator DiscardOf = refl
+chunk octets initiator ReleaseOf = refl
+
+pub alter_ack : (results : List Result) (initiator : Bool) (awaited : Awaited) → is_purged initiator awaited (units.TypedData []) ≡ model_purged (role_seen initiator) (awaited_seen awaited) (model_alter_answer results)
+alter_ack results initiator NoAnswer = refl
+alter_ack results initiator (RestartOf own) = refl
+alter_ack results initiator InterruptOf = refl
+alter_ack results initiator DiscardOf = refl
+alter_ack results initiator ReleaseOf = refl
+
+pub mark_ack : (number : ℕ) (initiator : Bool) (awaited : Awaited) → is_purged initiator awaited (units.MarkAck number) ≡ model_purged (role_seen initiator) (awaited_seen awaited) (model_mark_answer number)
+mark_ack number initiator NoAnswer = refl
+mark_ack number initiator (RestartOf own) = refl
+mark_ack number initiator InterruptOf = refl
+mark_ack number initiator DiscardOf = refl
+mark_ack number initiator ReleaseOf = refl
+
+pub give : (tokens : Option ℕ) (initiator : Bool) (awaited : Awaited) → is_purged initiator awaited (units.GiveTokens tokens) ≡ model_purged (role_seen initiator) (awaited_seen awaited) (model_give)
+give tokens initiator NoAnswer = refl
+give tokens initiator (RestartOf own) = refl
+give tokens initiator InterruptOf = refl
+give tokens initiator DiscardOf = refl
+give tokens initiator ReleaseOf = refl
+
+pub give_all : (initiator : Bool) (awaited : Awaited) → is_purged initiator awaited (units.GiveTokensConfirm) ≡ model_purged (role_seen initiator) (awaited_seen awaited) (model_give)
+give_all initiator NoAnswer = refl
+give_all initiator (RestartOf own) = refl
+give_all initiator InterruptOf = refl
+give_all initiator DiscardOf = refl
+give_all initiator ReleaseOf = refl
+
+pub give_ack : (initiator : Bool) (awaited : Awaited) → is_purged initiator awaited (units.GiveTokensAck) ≡ model_purged (role_seen initiator) (awaited_seen awaited) (model_give_answer)
+give_ack initiator NoAnswer = refl
+give_ack initiator (RestartOf own) = refl
+give_ack initiator InterruptOf = refl
+give_ack initiator DiscardOf = refl
+give_ack initiator ReleaseOf = refl
+
+pub please : (tokens : Option ℕ) (priority : ℕ) (initiator : Bool) (awaited : Awaited) → is_purged initiator awaited (units.PleaseTokens tokens None) ≡ model_purged (role_seen initiator) (awaited_seen awaited) (model_please priority)
+please tokens priority initiator NoAnswer = refl
+please tokens priority initiator (RestartOf own) = refl
+please tokens priority initiator InterruptOf = refl
+please tokens priority initiator DiscardOf = refl
+please tokens priority initiator ReleaseOf = refl
+
+pub start : (activity : ℕ) (initiator : Bool) (awaited : Awaited) → is_purged initiator awaited (units.ActivityStart activity) ≡ model_purged (role_seen initiator) (awaited_seen awaited) (model_start activity)
+start activity initiator NoAnswer = refl
+start activity initiator (RestartOf own) = refl
+start activity initiator InterruptOf = refl
+start activity initiator DiscardOf = refl
+start activity initiator ReleaseOf = refl
+
+pub resume : (activity : ℕ) (number : ℕ) (initiator : Bool) (awaited : Awaited) → is_purged initiator awaited (units.ActivityResume activity number) ≡ model_purged (role_seen initiator) (awaited_seen awaited) (model_resume activity number)
+resume activity number initiator NoAnswer = refl
+resume activity number initiator (RestartOf own) = refl
+resume activity number initiator InterruptOf = refl
+resume activity number initiator DiscardOf = refl
+resume activity number initiator ReleaseOf = refl
+
+pub end : (number : ℕ) (initiator : Bool) (awaited : Awaited) → is_purged initiator awaited (units.ActivityEnd number) ≡ model_purged (role_seen initiator) (awaited_seen awaited) (model_end number)
+end number initiator NoAnswer = refl
+end number initiator (RestartOf own) = refl
+end number initiator InterruptOf = refl
+end number initiator DiscardOf = refl
+end number initiator ReleaseOf = refl
+
+pub end_ack : (number : ℕ) (initiator : Bool) (awaited : Awaited) → is_purged initiator awaited (units.ActivityEndAck number) ≡ model_purged (role_seen initiator) (awaited_seen awaited) (model_end_answer number)
+end_ack number initiator NoAnswer = refl
+end_ack number initiator (RestartOf own) = refl
+end_ack number initiator InterruptOf = refl
+end_ack number initiator DiscardOf = refl
+end_ack number initiator ReleaseOf = refl
+
+pub interrupt : (reason : Option ℕ) (initiator : Bool) (awaited : Awaited) → is_purged initiator awaited (units.ActivityInterrupt reason) ≡ model_purged (role_seen initiator) (awaited_seen awaited) (model_interrupt)
+interrupt reason initiator NoAnswer = refl
+interrupt reason initiator (RestartOf own) = refl
+interrupt reason initiator InterruptOf = refl
+interrupt reason initiator DiscardOf = refl
+interrupt reason initiator ReleaseOf = refl
+
+pub discard : (reason : Option ℕ) (initiator : Bool) (awaited : Awaited) → is_purged initiator awaited (units.ActivityDiscard reason) ≡ model_purged (role_seen initiator) (awaited_seen awaited) (model_discard)
+discard reason initiator NoAnswer = refl
+discard reason initiator (RestartOf own) = refl
+discard reason initiator InterruptOf = refl
+discard reason initiator DiscardOf = refl
+discard reason initiator ReleaseOf = refl
+
+pub connect : (session : SessionConnect) (initiator : Bool) (awaited : Awaited) → is_purged initiator awaited (units.Connect session) ≡ model_purged (role_seen initiator) (awaited_seen awaited) (model_connect)
+connect session initiator NoAnswer = refl
+connect session initiator (RestartOf own) = refl
+connect session initiator InterruptOf = refl
+connect session initiator DiscardOf = refl
+connect session initiator ReleaseOf = refl
+
+pub recover : (session : SessionConnect) (initiator : Bool) (awaited : Awaited) → is_purged initiator awaited (units.Connect session) ≡ model_purged (role_seen initiator) (awaited_seen awaited) (model_recover)
+recover session initiator NoAnswer = refl
+recover session initiator (RestartOf own) = refl
+recover session initiator InterruptOf = refl
+recover session initiator DiscardOf = refl
+recover session initiator ReleaseOf = refl
+
+pub accept : (session : Accepting) (set : ContextSet) (initiator : Bool) (awaited : Awaited) → is_purged initiator awaited (units.Accept session.options session.version session.initial session.requirements []) ≡ model_purged (role_seen initiator) (awaited_seen awaited) (model_accept set)
+accept session set initiator NoAnswer = refl
+accept session set initiator (RestartOf own) = refl
+accept session set initiator InterruptOf = refl
+accept session set initiator DiscardOf = refl
+accept session set initiator ReleaseOf = refl
+
+pub refuse : (transport : Option ℕ) (reason : Option ℕ) (initiator : Bool) (awaited : Awaited) → is_purged initiator awaited (units.Refuse transport reason None) ≡ model_purged (role_seen initiator) (awaited_seen awaited) (model_refuse)
+refuse transport reason initiator NoAnswer = refl
+refuse transport reason initiator (RestartOf own) = refl
+refuse transport reason initiator InterruptOf = refl
+refuse transport reason initiator DiscardOf = refl
+refuse transport reason initiator ReleaseOf = refl

@@ -1,16 +1,20 @@
 -- Each request that an end sends, and each message that it takes, is an act or a taking of the model.
-use Rattle.std.specs.Prelude.{◌≡◌, ℕ, suc, List, [], ◌∷◌, Bool, Option, Some}
+use Rattle.std.specs.Prelude.{◌≡◌, ℕ, suc, List, [], ◌∷◌, Bool, false, Option, Some}
 use Rattle.end_rules.specs.Messages.{Resume}
 use Rattle.end_rules.specs.State.{confirmed_of}
 use Rattle.end_rules.specs.TakesData.{part_in}
 use Rattle.agreement.specs.Messages.Act.{Resumes}
-use Rattle.agreement.specs.Messages.Message.{Resume as model_resume, Chunk as model_chunk}
+use Rattle.agreement.specs.Messages.Message.{Resume as model_resume, Chunk as model_chunk, AlterAnswer as model_alter_answer, End as model_end, Connect as model_connect, Recover as model_recover, Accept as model_accept}
 use Rattle.dialogue.specs.declared.config.Phase.TheVariants.{Opening, Recovering}
 use Rattle.end_rules.specs.TakesTransport.{after_transport}
 use Rattle.end_rules.specs.Faults.{over}
 use Rattle.end_rules.specs.Messages.{ConnectionConfirm, DisconnectRequest}
 use Rattle.agreement.specs.Messages.Act.{Connects, Recovers, Fails, Aborts, Withdraws}
 use Rattle.osi_base.specs.declared.words.RestoredItem.{RestoredItem}
+use Rattle.osi_base.specs.declared.words.Answers.{Answers}
+use Rattle.osi_base.specs.declared.session_word.SessionConnect.{SessionConnect}
+use Rattle.osi_base.specs.declared.presentation_word.PresentationConnect.{PresentationConnect}
+use Rattle.osi_base.specs.declared.presentation_word.PresentationAccept.{PresentationAccept}
 use Rattle.osi_base.specs.declared.presentation_word.PresentationReject.{PresentationReject}
 use Rattle.dialogue.specs.declared.config.Mode.{Mode}
 use Rattle.dialogue.specs.declared.config.Mode.TheVariants.{Direct, Reliable}
@@ -21,7 +25,7 @@ use Rattle.agreement.specs.Takings.{broken, broken_phase as model_broken_phase}
 use Rattle.end_model.specs.Seen.{mode_seen, phase_seen}
 use Rattle.end_rules.specs.Base.{Base}
 use Rattle.end_rules.specs.State.{Body}
-use Rattle.end_rules.specs.Messages.{Message, Session, Word, OfAssociation, OfData, OfMarks, OfActivities, Value, Values, AlterContext, MarkAck, RestartAck, End, InterruptAck, DiscardAck, unit_of, AbortData, Refuse, Finish, Disconnect, Abort, Mark, Restart, Give, Please, GiveConfirm, GiveAck, Start, EndAck, Interrupt, Discard}
+use Rattle.end_rules.specs.Messages.{Message, Session, Word, OfAssociation, OfData, OfMarks, OfActivities, Value, Values, AlterContext, AlterContextAck, Accepting, Connect, Accept, MarkAck, RestartAck, End, InterruptAck, DiscardAck, unit_of, AbortData, Refuse, Finish, Disconnect, Abort, Mark, Restart, Give, Please, GiveConfirm, GiveAck, Start, EndAck, Interrupt, Discard}
 use Rattle.end_rules.specs.Requesting.{after_sent}
 use Rattle.end_rules.specs.Reacting.{after_word}
 use Rattle.agreement.specs.Messages.{Act, Choice, Message as ModelMessage}
@@ -29,7 +33,7 @@ use Rattle.agreement.specs.Messages.Act.{Marks, Gives, Pleads, Restarts, Interru
 use Rattle.agreement.specs.Messages.Choice.{Nothing}
 use Rattle.agreement.specs.Messages.Message.{Mark as model_mark, Give as model_give, GiveAnswer as model_give_answer, Please as model_please, Start as model_start, EndAnswer as model_end_answer, Interrupt as model_interrupt, Discard as model_discard, Refuse as model_refuse, Release as model_release, ReleaseAnswer as model_release_answer, UserAbort as model_abort, MarkAnswer as model_mark_answer, InterruptAnswer as model_interrupt_answer, DiscardAnswer as model_discard_answer, Data as model_data, Alter as model_alter, Restart as model_restart, RestartAnswer as model_restart_answer}
 use Rattle.agreement.specs.Messages.{Value as ModelValue}
-use Rattle.agreement.specs.Sets.{Item, Listed}
+use Rattle.agreement.specs.Sets.{Item, Listed, ContextSet, Result}
 use Rattle.agreement.specs.Takings.{is_purged as model_purged}
 use Rattle.osi_base.specs.declared.words.Proposal.{Proposal}
 use Rattle.end_rules.specs.State.{Awaited, highest, pieces_of}
@@ -131,6 +135,36 @@ pub record Purged : Type 0 where
   pub abort : (transport : Option ℕ) (user : AbortData) → PurgedAs (OfAssociation (Abort transport user)) model_abort
   pub interrupt_ack : PurgedAs (OfActivities InterruptAck) model_interrupt_answer
   pub discard_ack : PurgedAs (OfActivities DiscardAck) model_discard_answer
+
+-- the other words, which settle nothing
+pub record PurgedOthers : Type 0 where
+  pub part : (values : List Value) (octets : List ℕ) → PurgedAs (OfData (Values values)) (model_chunk octets)
+  pub alter_ack : (answers : Answers) (results : List Result) → PurgedAs (OfData (AlterContextAck answers)) (model_alter_answer results)
+  pub mark_ack : (number : ℕ) → PurgedAs (OfMarks (MarkAck number)) (model_mark_answer number)
+  pub give : (tokens : Option ℕ) → PurgedAs (OfMarks (Give tokens)) model_give
+  pub give_all : PurgedAs (OfMarks GiveConfirm) model_give
+  pub give_ack : PurgedAs (OfMarks GiveAck) model_give_answer
+  pub please : (tokens : Option ℕ) (values : List Value) (priority : ℕ) → PurgedAs (OfMarks (Please tokens values)) (model_please priority)
+  pub start : (activity : ℕ) → PurgedAs (OfActivities (Start activity)) (model_start activity)
+  pub resume : (activity : ℕ) (mark : ℕ) → PurgedAs (OfActivities (Resume activity mark)) (model_resume activity mark)
+  pub end : (number : ℕ) → PurgedAs (OfActivities (End number)) (model_end number)
+  pub end_ack : (number : ℕ) → PurgedAs (OfActivities (EndAck number)) (model_end_answer number)
+  pub interrupt : (reason : Option ℕ) → PurgedAs (OfActivities (Interrupt reason)) model_interrupt
+  pub discard : (reason : Option ℕ) → PurgedAs (OfActivities (Discard reason)) model_discard
+  pub connect : (session : SessionConnect) (presentation : PresentationConnect) (values : List Value) →
+      PurgedAs (OfAssociation (Connect session presentation values)) model_connect
+  pub recover : (session : SessionConnect) (presentation : PresentationConnect) (values : List Value) →
+      PurgedAs (OfAssociation (Connect session presentation values)) model_recover
+  pub accept : (session : Accepting) (presentation : PresentationAccept) (values : List Value) (set : ContextSet) →
+      PurgedAs (OfAssociation (Accept session presentation values)) (model_accept set)
+  pub refuse : (transport : Option ℕ) (reason : Option ℕ) (presentation : Option PresentationReject) (values : List Value) →
+      PurgedAs (OfAssociation (Refuse transport reason presentation values)) model_refuse
+
+-- A giving in direct mode, where none is ever unanswered (only a GTC is confirmed, X.225 8.3.18).
+pub record GivingsTaken : Type 0 where
+  pub give : (tokens : ℕ) (free : Free) (base : Base) (body : Body) → body.link.gave ≡ false →
+      seen (at Direct base) (after_word (at Direct base) body (OfMarks (Give (Some tokens)))) ≡
+      taken (setup_seen free Direct base) (role_seen base.initiator) (seen (at Direct base) body) model_give Nothing
 
 -- Restarts and their answers, as they are taken in direct mode, where nothing is queued.
 pub record RestartsTaken : Type 0 where

@@ -6,5 +6,6 @@ mod rows;
 
 pub use rows::{
     activities_sent, activities_taken, alterations_sent, association_taken, breaks, connections,
-    marks_sent, marks_taken, purged, restarts_taken, resumptions, transfers_sent, transfers_taken,
+    givings_taken, marks_sent, marks_taken, purged, purged_others, restarts_taken, resumptions,
+    transfers_sent, transfers_taken,
 };

@@ -1,6 +1,6 @@
 //! Each row is the contract of a function with an empty body.
 
-ghost use Rattle.end_model.specs.Rows.{AssociationTaken, MarksSent, MarksTaken, ActivitiesSent, ActivitiesTaken, TransfersSent, TransfersTaken, AlterationsSent, Purged, RestartsTaken, Connections, Resumptions, Broke};
+ghost use Rattle.end_model.specs.Rows.{AssociationTaken, MarksSent, MarksTaken, ActivitiesSent, ActivitiesTaken, TransfersSent, TransfersTaken, AlterationsSent, Purged, PurgedOthers, GivingsTaken, RestartsTaken, Connections, Resumptions, Broke};
 
 /// Marks, givings, pleas and restarts, as they are sent.
 pub fn marks_sent()
@@ -45,6 +45,16 @@ pub fn alterations_sent()
 /// What is passed over while an own request is unanswered.
 pub fn purged()
     ensures rows { Purged }
+{}
+
+/// What is passed over then of the words that settle no request.
+pub fn purged_others()
+    ensures rows { PurgedOthers }
+{}
+
+/// Givings of the turn in direct mode, as they are taken.
+pub fn givings_taken()
+    ensures rows { GivingsTaken }
 {}
 
 /// Restarts and their answers, as they are taken.
