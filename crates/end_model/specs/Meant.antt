@@ -1,15 +1,18 @@
 -- Which message of the model a word is, for the words that mean the same whatever the contexts are.
-use Rattle.std.specs.Prelude.{◌≡◌, ℕ, List, [], ◌∷◌, map, Option, Some, None, unwrap_or}
+use Rattle.std.specs.Prelude.{◌≡◌, ℕ, suc, List, [], ◌∷◌, map, Option, Some, None, unwrap_or}
 use Rattle.osi_base.specs.declared.words.RestoredItem.{RestoredItem}
 use Rattle.dialogue.specs.declared.config.Mode.{Mode}
 use Rattle.dialogue.specs.declared.config.Mode.TheVariants.{Direct, Reliable}
 use Rattle.end_rules.specs.Base.{Base}
-use Rattle.end_rules.specs.State.{Body}
+use Rattle.end_rules.specs.State.{Body, highest, pieces_of, confirmed_of}
+use Rattle.end_rules.specs.Sets.{next_number, listed}
 use Rattle.end_rules.specs.Messages.{AssociationWord, MarkWord, ActivityWord, Message, Word, Session, Value, OfAssociation, OfMarks, OfActivities, Refuse, Finish, Disconnect, Abort, Mark, MarkAck, Restart, RestartAck, Give, Please, GiveConfirm, GiveAck, Start, Resume, End, EndAck, Interrupt, InterruptAck, Discard, DiscardAck}
-use Rattle.end_rules.specs.TakesMarks.{priority_in}
+use Rattle.end_rules.specs.TakesMarks.{priority_in, restored_set}
 use Rattle.end_rules.specs.Reacting.{answers_to_word}
 use Rattle.agreement.specs.Sets.{Listed}
-use Rattle.agreement.specs.Messages.{Message as ModelMessage}
+use Rattle.agreement.specs.Messages.{Act, Message as ModelMessage}
+use Rattle.agreement.specs.Messages.Act.{Marks, Gives, Restarts, Starts, Ends, Interrupts, Discards, Resumes, Releases}
+use Rattle.agreement.specs.Acts.{sent_by}
 use Rattle.agreement.specs.Messages.Choice.{Nothing}
 use Rattle.agreement.specs.Messages.Message.{Mark as model_mark, MarkAnswer as model_mark_answer, Restart as model_restart, RestartAnswer as model_restart_answer, Give as model_give, Please as model_please, GiveAnswer as model_give_answer, Start as model_start, Resume as model_resume, End as model_end, EndAnswer as model_end_answer, Interrupt as model_interrupt, InterruptAnswer as model_interrupt_answer, Discard as model_discard, DiscardAnswer as model_discard_answer, Refuse as model_refuse, Release as model_release, ReleaseAnswer as model_release_answer, UserAbort as model_user_abort}
 use Rattle.agreement.specs.Takings.{answer_to}
@@ -81,3 +84,27 @@ pub record Answered : Type 0 where
   pub discard_ack : AnswersAs Reliable (OfActivities DiscardAck) model_discard_answer
   pub finish : (mode : Mode) (transport : Option ℕ) (values : List Value) →
       AnswersAs mode (OfAssociation (Finish transport values)) model_release
+
+-- What is sent is what the model sends by the act.
+abbrev pub MeansWhat : Mode → (Body → Message) → (Body → Act) → Type 0
+MeansWhat mode message act =
+    (free : Free) (base : Base) (body : Body) →
+    message_meant (message body) ∷ [] ≡ map Some (sent_by (setup_seen free mode base) (seen (at mode base) body) (act body))
+
+pub record Sent : Type 0 where
+  pub mark : MeansWhat Direct (λ body. Session (OfMarks (Mark (next_number body.saved)))) (λ body. Marks)
+  pub mark_in_activity : MeansWhat Reliable (λ body. Session (OfMarks (Mark (suc (highest (pieces_of body.sending.current)))))) (λ body. Marks)
+  pub give : (mode : Mode) (tokens : Option ℕ) → MeansWhat mode (λ body. Session (OfMarks (Give tokens))) (λ body. Gives)
+  pub give_all : MeansWhat Reliable (λ body. Session (OfMarks GiveConfirm)) (λ body. Gives)
+  pub restart : (number : ℕ) → MeansWhat Direct (λ body. Session (OfMarks (Restart number (Some (listed (restored_set body number)))))) (λ body. Restarts number)
+  pub start : MeansWhat Reliable (λ body. Session (OfActivities (Start (suc body.sending.started)))) (λ body. Starts)
+  pub end : MeansWhat Reliable (λ body. Session (OfActivities (End (suc (highest (pieces_of body.sending.current)))))) (λ body. Ends)
+  pub interrupt : (reason : Option ℕ) → MeansWhat Reliable (λ body. Session (OfActivities (Interrupt reason))) (λ body. Interrupts)
+  pub discard : (reason : Option ℕ) → MeansWhat Reliable (λ body. Session (OfActivities (Discard reason))) (λ body. Discards)
+  pub resume : MeansWhat Reliable (λ body. Session (OfActivities (Resume body.sending.started (confirmed_of body.sending.current)))) (λ body. Resumes)
+  pub release : (mode : Mode) (transport : Option ℕ) (values : List Value) →
+      MeansWhat mode (λ body. Session (OfAssociation (Finish transport values))) (λ body. Releases)
+
+-- The answer to a restart is the model's.
+pub record RestartsAnswered : Type 0 where
+  pub restart : (number : ℕ) (list : Option (List RestoredItem)) (theirs : List Listed) → AnswersAs Direct (OfMarks (Restart number list)) (model_restart number theirs)
