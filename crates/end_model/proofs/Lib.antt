@@ -4,3 +4,4 @@ pub mod PurgedWords
 pub mod Restarts
 pub mod Resuming
 pub mod Breaking
+pub mod Sendings

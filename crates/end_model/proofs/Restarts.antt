@@ -22,13 +22,13 @@ pub if-map : {A B : Type 0} (f : A → B) (b : Bool) (x y : A) → f (if b then 
 if-map f true x y = refl
 if-map f false x y = refl
 
-below-seen : (n : ℕ) (saved : List Saved) → saved_seen (below n saved) ≡ model_below n (saved_seen saved)
+pub below-seen : (n : ℕ) (saved : List Saved) → saved_seen (below n saved) ≡ model_below n (saved_seen saved)
 below-seen n [] = refl
 below-seen n (mark ∷ marks) =
     if-map saved_seen (nat_lt mark.number n) (mark ∷ marks) (below n marks) ∙
     ap (λ rest. if nat_lt mark.number n then saved_seen (mark ∷ marks) else rest) (below-seen n marks)
 
-newest-seen : (saved : List Saved) → set_seen (newest saved) ≡ model_newest (saved_seen saved)
+pub newest-seen : (saved : List Saved) → set_seen (newest saved) ≡ model_newest (saved_seen saved)
 newest-seen [] = refl
 newest-seen (mark ∷ marks) = refl
 

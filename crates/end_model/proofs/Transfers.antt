@@ -26,7 +26,7 @@ on-current base change seen_change h started queue (Some t) =
     let put : model.Transfer → model.Outgoing = λ x. record { started = started; transfer = Some x; queue = map (queued_seen base) queue } in
     ap put (h t)
 
-highest-seen : (pieces : List Piece) → highest pieces ≡ model.highest (map piece_seen pieces)
+pub highest-seen : (pieces : List Piece) → highest pieces ≡ model.highest (map piece_seen pieces)
 highest-seen [] = refl
 highest-seen (Octets octets ∷ pieces) = highest-seen pieces
 highest-seen (Marked number set ∷ pieces) = refl

@@ -5,7 +5,7 @@
 mod rows;
 
 pub use rows::{
-    activities_sent, activities_taken, alterations_sent, association_taken, breaks, connections,
-    givings_taken, marks_sent, marks_taken, purged, purged_others, restarts_taken, resumptions,
-    transfers_sent, transfers_taken,
+    activities_sent, activities_taken, alterations_sent, answered, association_taken, breaks,
+    connections, givings_taken, marks_sent, marks_taken, purged, purged_others, restarts_answered,
+    restarts_taken, resumptions, sent, transfers_sent, transfers_taken,
 };

@@ -1,6 +1,7 @@
 //! Each row is the contract of a function with an empty body.
 
 ghost use Rattle.end_model.specs.Rows.{AssociationTaken, MarksSent, MarksTaken, ActivitiesSent, ActivitiesTaken, TransfersSent, TransfersTaken, AlterationsSent, Purged, PurgedOthers, GivingsTaken, RestartsTaken, Connections, Resumptions, Broke};
+ghost use Rattle.end_model.specs.Meant.{Answered, RestartsAnswered, Sent};
 
 /// Marks, givings, pleas and restarts, as they are sent.
 pub fn marks_sent()
@@ -75,4 +76,19 @@ pub fn resumptions()
 /// Breaks of the connection.
 pub fn breaks()
     ensures rows { Broke }
+{}
+
+/// What is answered at once to marks, givings, activities and a release.
+pub fn answered()
+    ensures rows { Answered }
+{}
+
+/// What is answered at once to a restart.
+pub fn restarts_answered()
+    ensures rows { RestartsAnswered }
+{}
+
+/// What is sent of marks, givings, restarts, activities and a release.
+pub fn sent()
+    ensures rows { Sent }
 {}
