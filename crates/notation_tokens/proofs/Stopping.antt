@@ -20,7 +20,6 @@ use Rattle.notation_tokens.specs.declared.faults.NotationKind.TheVariants.{BadCh
 use Rattle.notation_tokens.specs.Tokens.{Gap, outside, behind_all}
 use Rattle.notation_tokens.specs.Stops.{AreTokensTo, BeginsToken, BeginsNothing, StopsFor, Stops, IsLong, IsCuttingFault}
 use Rattle.notation_tokens.proofs.Gaps.{Fit, Passes, begins_outside, Passed_since, nothing_passed, more_passed}
-use Rattle.notation_tokens.specs.Lexing.{most_tokens}
 use Rattle.notation_tokens.proofs.Longest.{Longest, piece_longest, Stands, moves, slice_is, word_longest, number_longest, sign_longest, chosen_by}
 
 -- ---- what begins nothing

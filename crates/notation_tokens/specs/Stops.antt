@@ -1,5 +1,5 @@
 -- Why a text isn't cut to its end, by what stands where cutting stops. Nothing here says how a text is cut.
-use Rattle.std.specs.Prelude.{codes, ◌≡◌, ◌<◌, ◌≤◌, ◌⊎◌, ◌==◌, ℕ, Bool, true, false, List, [], ◌∷◌, length, take, drop, slice_range}
+use Rattle.std.specs.Prelude.{codes, ◌≡◌, ◌<◌, ◌≤◌, ◌⊎◌, ℕ, Bool, true, false, List, [], ◌∷◌, length, take, drop, slice_range}
 use Rattle.notation_tokens.specs.Forms.{has_form, is_blank}
 use Rattle.notation_tokens.specs.Lexing.{behind_octets, first_place, starts}
 use Rattle.notation_tokens.specs.Tokens.{IsToken, IsGap}
