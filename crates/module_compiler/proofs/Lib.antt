@@ -1,0 +1,4 @@
+pub mod Names
+pub mod Aliases
+pub mod OwnCodes
+pub mod Walks

@@ -1,0 +1,11 @@
+use Rattle.std.proofs.Common.{◌≡◌, true}
+use Rattle.std.proofs.lemmas.Grind.{common_steps}
+use Rattle.std.proofs.Common.{arith}
+use Rattle.stub_tables.specs.declared.operation.Operation.{Operation}
+use Rattle.module_compiler.proofs.OwnCodes.{done_step}
+use Rattle.module_compiler.proofs.own_codes.operations_have_own_codes.Goals as goal
+
+pub loop-operation-preserved : goal.loop-operation-preserved
+loop-operation-preserved c =
+    let yes : c.in_ok-see.field-0 ≡ true = grind (arith, common_steps) in
+    done_step (λ (o : Operation). o.code) c.args.operations.now c.loop-operation.operation-index c.operation-item.result c.loop-operation.seen c.see.new.self c.in_ok-see.field-0 c.loop-operation-test.true c.operation-item.is c.loop-operation.invariant c.in_ok-see.ensures.first yes c.in_ok-see.ensures.seen

@@ -1,0 +1,18 @@
+//! The compiler of modules in the notation of remote operations (X.880, in this project's profile):
+//! the tables of a module, or its first fault.
+#![tactic(auto)]
+
+mod codes;
+mod compiling;
+mod facts;
+mod fault;
+mod least;
+mod local_faults;
+mod numbering;
+mod own_codes;
+mod scope;
+mod survey;
+mod tabling;
+
+pub use compiling::compile;
+pub use fault::{TableFault, TableKind};
