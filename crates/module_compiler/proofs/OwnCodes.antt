@@ -82,6 +82,6 @@ lacks_of b false e h = refl
 -- one more of a list
 pub done_step : {X : Type 0} (code_of : X → Code) (xs : List X) (i : ℕ) (x : X) (old new : Seen) (is_new : Bool) → i < length xs → x ≡ get_or xs i x → Done code_of (take i xs) old → is_new ≡ not (has old (code_of x)) → is_new ≡ true
     → ((other : Code) → has new other ≡ (same_code (code_of x) other || has old other)) → Done code_of (take (i + 1) xs) new
-done_step {X = X} code_of xs i x old new is_new lt is d first yes more =
+done_step {X = X} code_of xs i x old new is_new lt is d first holds more =
     let grown : take (i + 1) xs ≡ take i xs ++ x ∷ [] = take_more xs i x lt ∙ ap (λ (z : X). take i xs ++ z ∷ []) (sym is) in
-    subst (λ (z : List X). Done code_of z new) (sym grown) (done_more code_of (take i xs) x old new d (lacks_of is_new (has old (code_of x)) first yes) more)
+    subst (λ (z : List X). Done code_of z new) (sym grown) (done_more code_of (take i xs) x old new d (lacks_of is_new (has old (code_of x)) first holds) more)

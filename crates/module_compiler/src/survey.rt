@@ -262,7 +262,9 @@ pub(crate) fn surveyed(alloc: Global, scope: &Scope<'_>) -> Result<Survey, Halt>
         order: Vec::new(alloc),
     };
     for place in 0..count {
-        let place = place as u32;
+        let Ok(place) = u32::try_from(place) else {
+            return Err(Halt::NoMemory);
+        };
         if search.mark(place).met == 0 {
             search.meet(place)?;
             for _ in 0..u64::MAX {

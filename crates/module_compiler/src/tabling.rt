@@ -111,10 +111,8 @@ fn numbers_of(
     ensures { IfOk result (λ of. numbers_of (sort_test sort) scope.now.assignments [] names.now ≡ Some of) }
 {
     let mut of = Indices::new(alloc);
-    let mut rest = names;
-    while let [name, more @ ..] = rest {
+    for name in names {
         of.push(number_of(scope, numbers, sort, name)?)?;
-        rest = more;
     }
     Ok(of)
 }

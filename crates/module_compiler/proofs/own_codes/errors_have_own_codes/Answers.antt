@@ -7,5 +7,5 @@ use Rattle.module_compiler.proofs.own_codes.errors_have_own_codes.Goals as goal
 
 pub loop-error-preserved : goal.loop-error-preserved
 loop-error-preserved c =
-    let yes : c.in_ok-see.field-0 ≡ true = grind (arith, common_steps) in
-    done_step (λ (e : ErrorRow). e.code) c.args.errors.now c.loop-error.error-index c.error-item.result c.loop-error.seen c.see.new.self c.in_ok-see.field-0 c.loop-error-test.true c.error-item.is c.loop-error.invariant c.in_ok-see.ensures.first yes c.in_ok-see.ensures.seen
+    let is_first : c.in_ok-see.field-0 ≡ true = grind (arith, common_steps) in
+    done_step (λ (e : ErrorRow). e.code) c.args.errors.now c.loop-error.error-index c.error-item.result c.loop-error.seen c.see.new.self c.in_ok-see.field-0 c.loop-error-test.true c.error-item.is c.loop-error.invariant c.in_ok-see.ensures.first is_first c.in_ok-see.ensures.seen

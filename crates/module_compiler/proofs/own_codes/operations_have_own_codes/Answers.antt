@@ -7,5 +7,5 @@ use Rattle.module_compiler.proofs.own_codes.operations_have_own_codes.Goals as g
 
 pub loop-operation-preserved : goal.loop-operation-preserved
 loop-operation-preserved c =
-    let yes : c.in_ok-see.field-0 ≡ true = grind (arith, common_steps) in
-    done_step (λ (o : Operation). o.code) c.args.operations.now c.loop-operation.operation-index c.operation-item.result c.loop-operation.seen c.see.new.self c.in_ok-see.field-0 c.loop-operation-test.true c.operation-item.is c.loop-operation.invariant c.in_ok-see.ensures.first yes c.in_ok-see.ensures.seen
+    let is_first : c.in_ok-see.field-0 ≡ true = grind (arith, common_steps) in
+    done_step (λ (o : Operation). o.code) c.args.operations.now c.loop-operation.operation-index c.operation-item.result c.loop-operation.seen c.see.new.self c.in_ok-see.field-0 c.loop-operation-test.true c.operation-item.is c.loop-operation.invariant c.in_ok-see.ensures.first is_first c.in_ok-see.ensures.seen

@@ -4,7 +4,7 @@ use Rattle.module_compiler.proofs.Names.{found_none, found_step}
 use Rattle.module_compiler.proofs.scope.name_places.Goals as goal
 
 pub loop-place-init : goal.loop-place-init
-loop-place-init c = found_none _ c.new-places.ensures.empty
+loop-place-init c = found_none c.new-places.result c.new-places.ensures.empty
 
 pub loop-place-preserved : goal.loop-place-preserved
 loop-place-preserved c =
