@@ -9,3 +9,5 @@ pub mod SpellingLaws
 pub mod PutLaws
 pub mod RoundLaws
 pub mod SizeLaws
+pub mod PlaceLoop
+pub mod PlaceLaws
