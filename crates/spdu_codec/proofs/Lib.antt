@@ -11,3 +11,4 @@ pub mod RoundLaws
 pub mod SizeLaws
 pub mod PlaceLoop
 pub mod PlaceLaws
+pub mod HoldLaws

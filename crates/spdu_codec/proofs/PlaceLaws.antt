@@ -29,10 +29,15 @@ among_found table (x ∷ ps) here end xs before e a =
     let there : end ≡ here + 1 + length len + length x.1 + length rest = omega (arith, size, e, length-append len (x.1 ++ rest), length-append x.1 rest) in
     let next = placed (row_of x.0 table) x.1 (here + 1 + length len) before in
     let same : among table end before xs ≡ among table end next rest =
-      ap (λ (l : List ℕ). among table end before l) whole ∙ goes_on table end before x.0 (len ++ (x.1 ++ rest)) (x.1, rest) (value_again end len x.1 rest a.2.1)
-      ∙ ap (λ (s : ℕ). among table end (placed (row_of x.0 table) x.1 s before) rest) start in
-    (len, rest, a.2.1, whole, subst (λ (o : Option ℕ). UserAmong table ps (here + 1 + length len + length x.1) rest next o) (sym same)
-      (among_found table ps (here + 1 + length len + length x.1) end rest next there a.3))
+    ap (λ (l : List ℕ). among table end before l) whole ∙ goes_on table end before x.0 (len ++ (x.1 ++ rest)) (x.1, rest) (value_again end len x.1 rest a.2.1)
+    ∙ ap (λ (s : ℕ). among table end (placed (row_of x.0 table) x.1 s before) rest) start in (
+      len,
+      rest,
+      a.2.1,
+      whole,
+      subst (λ (o : Option ℕ). UserAmong table ps (here + 1 + length len + length x.1) rest next o) (sym same)
+          (among_found table ps (here + 1 + length len + length x.1) end rest next there a.3),
+    )
 
 -- the head of a unit
 pub head_found : (table : List (ℕ × SpduKind)) (end : ℕ) (kind : SpduKind) (code : ℕ) (len value behind : List ℕ) → row_of code table ≡ Some kind → IsLength (length value) len

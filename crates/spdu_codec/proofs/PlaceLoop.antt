@@ -12,7 +12,6 @@ use Rattle.spdu_codec.proofs.ScanLoop.{value_less}
 abbrev pub among : List (ℕ × Slot) → ℕ → Option ℕ → List ℕ → Option ℕ
 among table end at xs = user_among table (length xs) end at xs
 
-
 same_value : (at : Option ℕ) (r : Result (List ℕ × List ℕ) Fault) (f g : List ℕ × List ℕ → Option ℕ) → ((v : List ℕ × List ℕ) → r ≡ Ok v → f v ≡ g v) → on_value at r f ≡ on_value at r g
 same_value at (Err e) f g h = refl
 same_value at (Ok v) f g h = h v refl

@@ -92,7 +92,11 @@ fn user_in(end: usize, unit: Head<'_>) -> Option<usize>
     requires fits { end < 2 ^ 63 }
     ensures { result ≡ user_in end (head unit.entry.kind unit.entry.value.now unit.entry.behind.now) }
 {
-    user_among(parameters_of(unit.kind), end - unit.behind.len(), unit.value)
+    user_among(
+        parameters_of(unit.kind),
+        end - unit.behind.len(),
+        unit.value,
+    )
 }
 
 fn user_of_last(end: usize, unit: Head<'_>) -> Option<usize>

@@ -14,9 +14,9 @@ pub loop-code-preserved : goal.loop-code-preserved
 loop-code-preserved c = record {
   within = omega (arith, c.loop-code.invariant.within, c.in-Ok.ensures.less, ap length c.in-Some.ensures);
   reads =
-    let e = c.placed-at.ensures ∙ ap (λ s. placed s c.in-Ok.value.now (c.args.end - length c.in-Ok.more.now - length c.in-Ok.value.now) c.loop-code.at) c.row_of.ensures in
-    subst (λ a. among c.args.table.now c.args.end a c.in-Ok.more.now ≡ among c.args.table.now c.args.end None c.args.octets.now) (sym e)
-    (loop_on c.args.table.now c.args.end c.loop-code.at c.loop-code.rest.now c.in-Some.code c.in-Some.after.now (c.in-Ok.value.now, c.in-Ok.more.now) _ c.in-Some.ensures c.in-Ok.ensures.read c.loop-code.invariant.reads);
+      let e = c.placed-at.ensures ∙ ap (λ s. placed s c.in-Ok.value.now (c.args.end - length c.in-Ok.more.now - length c.in-Ok.value.now) c.loop-code.at) c.row_of.ensures in
+      subst (λ a. among c.args.table.now c.args.end a c.in-Ok.more.now ≡ among c.args.table.now c.args.end None c.args.octets.now) (sym e)
+      (loop_on c.args.table.now c.args.end c.loop-code.at c.loop-code.rest.now c.in-Some.code c.in-Some.after.now (c.in-Ok.value.now, c.in-Ok.more.now) _ c.in-Some.ensures c.in-Ok.ensures.read c.loop-code.invariant.reads);
 }
 
 pub returns : goal.returns
