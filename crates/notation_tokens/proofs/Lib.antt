@@ -5,3 +5,4 @@ pub mod Spans
 pub mod Gaps
 pub mod Longest
 pub mod Climbing
+pub mod Stopping

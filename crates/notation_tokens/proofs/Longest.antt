@@ -161,16 +161,16 @@ module _ (rest : List ℕ) where
 
 -- ---- pieces
 
-abbrev Longest : List ℕ → Piece → Type 0
+abbrev pub Longest : List ℕ → Piece → Type 0
 Longest rest (Passed n) = Passes rest n
 Longest rest (Cut kind n) = (0 < n) × (n ≤ length rest) × IsTrue (has_form kind (take n rest)) × ((k : ℕ) → k ≤ length rest → IsTrue (has_form kind (take k rest)) → k ≤ n) × ((g : Gap) → Fit g rest → g ≡ outside)
 Longest rest Bad = Unit {0}
 
-chosen_by : (P : Piece → Type 0) (b : Bool) (p q : Piece) → (b ≡ true → P p) → (b ≡ false → P q) → P (if b then p else q)
+pub chosen_by : (P : Piece → Type 0) (b : Bool) (p q : Piece) → (b ≡ true → P p) → (b ≡ false → P q) → P (if b then p else q)
 chosen_by P true p q f g = f refl
 chosen_by P false p q f g = g refl
 
-piece_longest : (c : ℕ) (cs : List ℕ) → Longest (c ∷ cs) (piece_of (c ∷ cs))
+pub piece_longest : (c : ℕ) (cs : List ℕ) → Longest (c ∷ cs) (piece_of (c ∷ cs))
 unfolding piece_of
 piece_longest c cs =
     let rest = c ∷ cs in
@@ -191,17 +191,17 @@ take_add n m xs =
     sym (take-append-drop n (take (n + m) xs)) ∙ ap (λ (z : List ℕ). z ++ drop n (take (n + m) xs)) (take-take n (n + m) xs (omega arith)) ∙ ap (λ (z : List ℕ). take n xs ++ z) (drop-take n m xs)
 
 -- where cutting stands
-record Stands (source : List ℕ) (from : ℕ) (p : Place) (rest : List ℕ) : Type 0 where
-  left : rest ≡ drop from source
-  here : p ≡ behind_octets first_place (take from source)
+pub record Stands (source : List ℕ) (from : ℕ) (p : Place) (rest : List ℕ) : Type 0 where
+  pub left : rest ≡ drop from source
+  pub here : p ≡ behind_octets first_place (take from source)
 
-moves : (source : List ℕ) (from : ℕ) (p : Place) (rest : List ℕ) (n : ℕ) → Stands source from p rest → Stands source (from + n) (behind_octets p (take n rest)) (drop n rest)
+pub moves : (source : List ℕ) (from : ℕ) (p : Place) (rest : List ℕ) (n : ℕ) → Stands source from p rest → Stands source (from + n) (behind_octets p (take n rest)) (drop n rest)
 moves source from p rest n s = record {
   left = ap (drop n) s.left ∙ drop-drop n from source;
   here = ap (λ (q : Place). behind_octets q (take n rest)) s.here ∙ sym (behind_append first_place (take from source) (take n rest)) ∙ ap (behind_octets first_place) (ap (λ (z : List ℕ). take from source ++ take n z) s.left ∙ sym (take_add from n source));
 }
 
-slice_is : (source : List ℕ) (from : ℕ) (p : Place) (rest : List ℕ) (n : ℕ) → Stands source from p rest → slice_range source from (from + n) ≡ take n rest
+pub slice_is : (source : List ℕ) (from : ℕ) (p : Place) (rest : List ℕ) (n : ℕ) → Stands source from p rest → slice_range source from (from + n) ≡ take n rest
 slice_is source from p rest n s =
     let k : (from + n) - from ≡ n = omega arith in
     ap (λ (i : ℕ). take i (drop from source)) k ∙ ap (take n) (sym s.left)

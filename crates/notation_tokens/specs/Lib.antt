@@ -5,3 +5,4 @@ pub mod Lexing
 pub mod Tokens
 pub mod Texts
 pub mod Places
+pub mod Stops

@@ -4,6 +4,7 @@ use Rattle.std.specs.List.{list_any, list_all}
 use Rattle.std.specs.Char.{is_ascii_digit, is_ascii_uppercase, is_ascii_lowercase}
 use Rattle.std.specs.Str.Parse.{digits_value}
 use Rattle.notation_tokens.specs.Lexeme.{Lexeme, same}
+use Rattle.notation_tokens.specs.Forms.{is_word}
 use Rattle.notation_tokens.specs.declared.token.TokenKind.{TokenKind}
 use Rattle.notation_tokens.specs.declared.token.TokenKind.TheVariants.{Word, Number, Sign}
 use Rattle.notation_tokens.specs.declared.token.Located.{Located}
@@ -53,6 +54,13 @@ is_type_name kind text = (is_kind_word kind && begins_upper text) && (not (is_qu
 -- a word that begins with a lower-case letter
 unfoldable pub is_value_name : TokenKind → List ℕ → Bool
 is_value_name kind text = is_kind_word kind && begins_lower text
+
+-- octets that are a Name, and that are a name
+abbrev pub is_name_of_type : List ℕ → Bool
+is_name_of_type text = is_word text && is_type_name Word text
+
+abbrev pub is_name_of_value : List ℕ → Bool
+is_name_of_value text = is_word text && is_value_name Word text
 
 -- a Name
 unfoldable pub type_name_of : Lexeme → Option Located

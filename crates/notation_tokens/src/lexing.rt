@@ -1,8 +1,9 @@
 //! Lexing a text.
 
-ghost use Rattle.std.specs.Prelude.{◌≡◌, ◌≤◌, length, IfOk};
+ghost use Rattle.std.specs.Prelude.{◌≡◌, ◌≤◌, length, IfOk, IfErr};
 ghost use Rattle.notation_tokens.specs.Texts.{Answers, fault_at, tokens_of};
 ghost use Rattle.notation_tokens.specs.Tokens.{AreTokens};
+ghost use Rattle.notation_tokens.specs.Stops.{IsCuttingFault};
 
 use crate::faults::{NotationFault, NotationKind};
 use crate::lexer::{MOST_OCTETS, cut_text};
@@ -37,6 +38,9 @@ pub const TOO_LONG: NotationFault = NotationFault::At {
 pub fn lex(alloc: Global, text: &[u8]) -> Result<Tokens, NotationFault>
     // The tokens lie in order, each the longest of its kind, with its place.
     ensures tokens { IfOk result (λ tokens. AreTokens text.now 0 tokens) }
+    // Where there are none, the text is too long, or an octet that begins nothing or one token too
+    // many stands behind tokens.
+    ensures first { IfErr result (λ e. IsCuttingFault text.now e) }
     // Which tokens or fault it is.
     ensures exact { Answers result (tokens_of text.now) }
 {

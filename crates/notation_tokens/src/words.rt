@@ -1,10 +1,11 @@
 //! The words of the notation, and the numbers that tokens write.
 
-ghost use Rattle.std.specs.Prelude.{◌≡◌, ◌≤◌, IfSome};
+ghost use Rattle.std.specs.Prelude.{◌≡◌, ◌≤◌, IfSome, true};
 ghost use Rattle.std.specs.List.{list_any, list_all};
 ghost use Rattle.std.specs.Char.{is_ascii_digit};
 ghost use Rattle.notation_tokens.specs.Lexeme.{same};
-ghost use Rattle.notation_tokens.specs.Words.{is_quoted, is_unsupported, is_type_name, is_value_name, is_decimal, number, int, text_kind_word, root_name, end_word, bool_word};
+ghost use Rattle.notation_tokens.specs.Forms.{is_word, goes_on_well};
+ghost use Rattle.notation_tokens.specs.Words.{is_name_of_type, is_name_of_value, is_quoted, is_unsupported, is_type_name, is_value_name, is_decimal, number, int, text_kind_word, root_name, end_word, bool_word};
 
 use crate::token::TokenKind;
 
@@ -21,6 +22,55 @@ fn is_one_of(text: &[u8], words: &[&[u8]]) -> bool
     ensures { result ≡ list_any (λ word. same text.now word.now) words.now }
 {
     words.iter().any(|word| is_same(text, word))
+}
+
+/// Whether octets go on with a word behind its first letter, and end it: letters, digits and single
+/// hyphens inside.
+fn ends_word(text: &[u8]) -> bool
+    ensures { result ≡ goes_on_well true text.now }
+{
+    let mut is_bare = true;
+    let mut rest = text;
+    while let [octet, behind @ ..] = rest {
+        if *octet == b'-' {
+            if !is_bare {
+                return false;
+            }
+            is_bare = false;
+        } else {
+            if !octet.is_ascii_alphanumeric() {
+                return false;
+            }
+            is_bare = true;
+        }
+        rest = behind;
+    }
+    is_bare
+}
+
+/// Whether octets are a Word: an ASCII letter, and then letters, digits and single hyphens inside.
+pub fn is_word(text: &[u8]) -> bool
+    ensures { result ≡ is_word text.now }
+{
+    match text {
+        [first, rest @ ..] => first.is_ascii_alphabetic() && ends_word(rest),
+        _ => false,
+    }
+}
+
+/// Whether octets are a Name: a Word that begins with an upper-case letter, and that the grammar
+/// neither quotes nor leaves out.
+pub fn is_name_of_type(text: &[u8]) -> bool
+    ensures { result ≡ is_name_of_type text.now }
+{
+    is_word(text) && is_upper_name(TokenKind::Word, text)
+}
+
+/// Whether octets are a name: a Word that begins with a lower-case letter.
+pub fn is_name_of_value(text: &[u8]) -> bool
+    ensures { result ≡ is_name_of_value text.now }
+{
+    is_word(text) && is_lower_name(TokenKind::Word, text)
 }
 
 /// Whether the grammar quotes this word, so that it is no name.

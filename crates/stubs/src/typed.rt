@@ -1,0 +1,51 @@
+//! Values that fit what carries them.
+
+ghost use Rattle.std.specs.Prelude.{◌≡◌, IsTrue};
+ghost use Rattle.stubs.specs.Fitting.{fits_use};
+
+use asn1_types::{TypeTable, Val};
+use stub_tables::Use;
+
+/// A value, or its lack, that fits what carries it (X.880 8.2.2, 8.2.3, 8.3.2).
+#[derive(Drop)]
+pub struct TypedVal<'t> {
+    pub(crate) types: &'t TypeTable,
+    pub(crate) carried: Use,
+    pub(crate) value: Option<Val>,
+    ghost fit: { IsTrue (fits_use types.now carried value) },
+}
+
+/// A value, or its lack, that doesn't fit, given back.
+#[derive(Debug, Drop)]
+pub struct Unfit {
+    pub value: Option<Val>,
+}
+
+impl<'t> TypedVal<'t> {
+    /// The value, or its lack.
+    pub fn value(&self) -> &Option<Val>
+        ensures value { result.now ≡ self.now.value }
+        ensures fits { IsTrue (fits_use self.now.types.now self.now.carried self.now.value) }
+    {
+        &self.value
+    }
+
+    /// What carries the value.
+    pub fn carried(&self) -> Use
+        ensures { result ≡ self.now.carried }
+    {
+        self.carried
+    }
+
+    /// The value, or its lack, itself.
+    pub fn into_value(self) -> Option<Val>
+        ensures { result ≡ self.entry.value }
+    {
+        let TypedVal {
+            types: _,
+            carried: _,
+            value,
+        } = self;
+        value
+    }
+}
