@@ -29,6 +29,15 @@ parts_text inner first (p ∷ ps) (absent vs) = parts_text inner first ps vs
 parts_text inner first (p ∷ ps) (present v vs) = comma first ++ (p.name ++ (codes " " ++ (inner p.inner.0 v ++ parts_text inner false ps vs)))
 parts_text inner first ps vs = []
 
+-- one part, and whether what comes next is still the first
+abbrev pub slot_text : (ℕ → Value → List ℕ) → Bool → Part → Option Value → List ℕ
+slot_text inner first p None = []
+slot_text inner first p (Some v) = comma first ++ (p.name ++ (codes " " ++ inner p.inner.0 v))
+
+abbrev pub still_first : Bool → Option Value → Bool
+still_first first None = first
+still_first first (Some v) = false
+
 abbrev pub sequence_text : (ℕ → Value → List ℕ) → List Part → Value → List ℕ
 sequence_text inner ps (parts vs) = codes "{" ++ parts_text inner true ps vs ++ codes "}"
 sequence_text inner ps v = codes "?"

@@ -1,6 +1,6 @@
 //! Values as texts, by their types (the notation of X.680 for values).
 
-ghost use Rattle.std.specs.Prelude.{◌≡◌, ◌++◌, ◌<◌, Some, OnOk, slice_get, true, codes};
+ghost use Rattle.std.specs.Prelude.{◌≡◌, ◌++◌, ◌<◌, Some, OnOk, IfOk, slice_get, true, codes};
 ghost use Rattle.std.specs.List.{AllByRecursion};
 ghost use Rattle.asn1_types.specs.Rows.{rows_of_parts};
 ghost use Rattle.asn1_types.specs.Table.{IsSound};
@@ -10,6 +10,8 @@ ghost use Rattle.value_text.specs.Printed.{
   item_name,
   comma,
   parts_text,
+  slot_text,
+  still_first,
   sequence_text,
   items_text,
   list_text,
@@ -20,7 +22,7 @@ ghost use Rattle.value_text.specs.Printed.{
 
 use crate::text::Text;
 use crate::value::put_value;
-use asn1_types::{Item, MaybeVals, Node, Part, Parts, TypeId, TypeRow, TypeTable, Val, Vals};
+use asn1_types::{Item, Node, Part, Parts, TypeId, TypeRow, TypeTable, Val};
 use osi_base::NoMemory;
 
 /// Puts a value at the end as it is written by its type: the items of an ENUMERATED, the parts of a
@@ -137,21 +139,39 @@ fn put_parts(
     table: &TypeTable,
     of: TypeId,
     parts: &[Part],
-    values: &MaybeVals,
+    values: &[Option<Val>],
 ) -> Result<(), NoMemory>
     requires below { AllByRecursion (λ m. m < of.0) (rows_of_parts parts.now) }
-    ensures { OnOk result (text.new ≡ text.old ++ parts_text (printed table.now) true parts.now (parts_of values.items)) }
+    ensures { OnOk result (text.new ≡ text.old ++ parts_text (printed table.now) true parts.now (parts_of values.now)) }
 {
     let count = parts.len().min(values.len());
     let mut first = true;
     for index in 0..count {
-        if let Some(value) = &values[index] {
-            put_comma(text, first)?;
-            put_part(text, table, of, &parts[index], value)?;
-            first = false;
-        }
+        first = put_slot(text, table, of, &parts[index], &values[index], first)?;
     }
     Ok(())
+}
+
+/// A part if it is there, and whether what comes next is still the first.
+#[cycle(printing)]
+fn put_slot(
+    text: &mut Text,
+    table: &TypeTable,
+    of: TypeId,
+    part: &Part,
+    value: &Option<Val>,
+    first: bool,
+) -> Result<bool, NoMemory>
+    requires below { part.now.inner.0 < of.0 }
+    ensures text { OnOk result (text.new ≡ text.old ++ slot_text (printed table.now) first part.now value.now) }
+    ensures first { IfOk result (λ after. after ≡ still_first first value.now) }
+{
+    let Some(value) = value else {
+        return Ok(first);
+    };
+    put_comma(text, first)?;
+    put_part(text, table, of, part, value)?;
+    Ok(false)
 }
 
 /// A part, with its name before it.
@@ -199,10 +219,10 @@ fn put_items(
     table: &TypeTable,
     of: TypeId,
     inner: TypeId,
-    values: &Vals,
+    values: &[Val],
 ) -> Result<(), NoMemory>
     requires below { inner.0 < of.0 }
-    ensures { OnOk result (text.new ≡ text.old ++ items_text (printed table.now inner.0) true (values_of values.items)) }
+    ensures { OnOk result (text.new ≡ text.old ++ items_text (printed table.now inner.0) true (values_of values.now)) }
 {
     let mut first = true;
     for value in values {
