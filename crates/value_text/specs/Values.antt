@@ -1,9 +1,15 @@
 -- Values as texts, by their form (the notation of X.680 for values).
-use Rattle.std.specs.Prelude.{ℕ, ◌+◌, ◌-◌, ◌/◌, ◌%◌, ◌==◌, if◌then◌else◌, List, [], ◌∷◌, ◌++◌, take, Bool, true, false, Option, None, Some, codes, decimal, flat_map}
+use Rattle.std.specs.Prelude.{ℕ, ◌+◌, ◌-◌, ◌/◌, ◌%◌, ◌==◌, nat_lt, if◌then◌else◌, List, [], ◌∷◌, ◌++◌, take, Bool, true, false, Option, None, Some, codes, decimal, flat_map}
 use Rattle.std.specs.Fmt.{signed_decimal}
 use Rattle.asn1_types.specs.Value as tree
 use Rattle.asn1_types.specs.Value.{Value}
-use Rattle.script_text.specs.Words.{hex_octet}
+
+abbrev pub hex_digit : ℕ → ℕ
+hex_digit n = if nat_lt n 10 then 48 + n else 65 + (n - 10)
+
+-- two upper-case digits
+abbrev pub hex_octet : ℕ → List ℕ
+hex_octet octet = hex_digit (octet / 16) ∷ hex_digit (octet % 16) ∷ []
 
 abbrev pub after_space : ℕ → List ℕ
 after_space n = codes " " ++ decimal n

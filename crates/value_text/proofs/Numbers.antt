@@ -2,7 +2,7 @@
 use Rattle.std.proofs.Common.{◌≡◌, ℕ, ◌+◌, ◌-◌, ◌*◌, ◌^◌, ◌<◌, ◌≤◌, Bool, true, false, None, Some, List, [], ◌∷◌, length, drop, get_or, refl, arith, drop-cons, add-one, if◌then◌else◌}
 use Rattle.std.proofs.Math.ListN.{drop_of_length-le}
 use Rattle.std.proofs.lemmas.Bool.Decides.{nat_tests}
-use Rattle.script_text.specs.Numbers.{is_digit, digits_after, kept_below, below, lengthened}
+use Rattle.value_text.specs.Numbers.{is_digit, digits_after, kept_below, below, lengthened}
 
 past : (limit n : ℕ) → limit ≤ n → kept_below limit n ≡ None
 past limit n h = grind (arith, nat_tests)

@@ -2,7 +2,7 @@
 
 ghost use Rattle.std.specs.Prelude.{◌≡◌, ◌++◌, ◌∷◌, ◌<◌, ℕ, [], List, OnOk, decimal, flat_map};
 ghost use Rattle.std.specs.Fmt.{signed_decimal};
-ghost use Rattle.script_text.specs.Words.{hex_octet, hex_digit};
+ghost use Rattle.value_text.specs.Values.{hex_octet, hex_digit};
 
 use osi_base::{NoMemory, Octets};
 use std::alloc::Global;

@@ -1,8 +1,8 @@
 //! Values as texts, by their form (the notation of X.680 for values).
 
 ghost use Rattle.std.specs.Prelude.{◌≡◌, ◌++◌, ◌∷◌, ◌<◌, ◌≤◌, ◌+◌, ◌-◌, ◌*◌, ◌/◌, ◌%◌, ℕ, [], List, OnOk, decimal, flat_map, take, length};
-ghost use Rattle.script_text.specs.Values.{spaced, oid_text, boolean_text, octets_text, octet_bits, bits_of, bits_text, after_space, doubled, characters_text, value_text, value_field};
-ghost use Rattle.script_text.specs.Words.{hex_octet};
+ghost use Rattle.value_text.specs.Values.{spaced, oid_text, boolean_text, octets_text, octet_bits, bits_of, bits_text, after_space, doubled, characters_text, value_text, value_field};
+ghost use Rattle.value_text.specs.Values.{hex_octet};
 
 use crate::text::Text;
 use asn1_types::{Node, Val};

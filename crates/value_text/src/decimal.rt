@@ -2,7 +2,7 @@
 
 ghost use Rattle.std.specs.Prelude.{◌≡◌, ◌^◌, ◌+◌, ◌-◌, ◌<◌, ℕ, pos, negsuc, Some, None};
 ghost use Rattle.std.specs.Option.{option_map};
-ghost use Rattle.script_text.specs.Numbers.{leads_well, lengthened, below, natural_of, number_of, identifier_of, integer_of, negative};
+ghost use Rattle.value_text.specs.Numbers.{leads_well, lengthened, below, natural_of, number_of, identifier_of, integer_of, negative};
 
 /// Whether the text isn't empty and has no leading zero.
 fn leads_well(text: &[u8]) -> bool

@@ -1,7 +1,7 @@
 -- Lists that are printed one element after the other.
 use Rattle.std.proofs.Common.{◌≡◌, ℕ, ◌+◌, ◌-◌, ◌<◌, ◌≤◌, List, [], ◌∷◌, ◌++◌, length, take, drop, length-drop, get_or, refl, sym, append-nil, add-one, drop-cons, arith}
 use Rattle.std.proofs.Math.ListN.{drop_of_length-le}
-use Rattle.script_text.specs.Values.{octet_bits, bits_of}
+use Rattle.value_text.specs.Values.{octet_bits, bits_of}
 
 dropped : (octets : List ℕ) (i : ℕ) → i < length octets → drop i octets ≡ get_or octets i 0 ∷ drop (i + 1) octets
 dropped octets i h = rw (add-one, drop-cons octets i 0) refl
