@@ -5,3 +5,11 @@ pub mod Restarts
 pub mod Resuming
 pub mod Breaking
 pub mod Sendings
+pub mod Ladder
+pub mod Opens
+pub mod InvokeRungs
+pub mod Held
+pub mod Facts
+pub mod Handing
+pub mod HandingRows
+pub mod OutcomeRows

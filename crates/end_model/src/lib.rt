@@ -2,8 +2,10 @@
 //! act or the taking of the model.
 #![tactic(auto)]
 
+mod acting;
 mod rows;
 
+pub use acting::handed_in;
 pub use rows::{
     activities_sent, activities_taken, alterations_sent, answered, association_taken, breaks,
     connections, givings_taken, marks_sent, marks_taken, purged, purged_others, restarts_answered,
