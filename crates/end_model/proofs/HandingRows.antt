@@ -1,6 +1,6 @@
 -- The acts of Invoke, Answer and Refuse.
-use Rattle.std.proofs.Common.{◌≡◌, refl, true, false, ◌∙◌, sym, ap, subst, arith, ℕ, suc, List, [], ◌∷◌, ◌++◌, map}
-use Rattle.std.specs.Prelude.{ℤ, pos, negsuc, Bool, not, ◌&&◌, Option, Some, None, is_some, option_map, unwrap_or, Ok, if◌then◌else◌, nat_eq}
+use Rattle.std.proofs.Common.{◌≡◌, refl, true, false, ◌∙◌, sym, ap, subst, arith, ℕ, suc, ◌≤◌, List, [], ◌∷◌, ◌++◌, map}
+use Rattle.std.specs.Prelude.{ℤ, pos, negsuc, Bool, not, ◌&&◌, Option, Some, None, is_some, option_map, unwrap_or, Ok, if◌then◌else◌, nat_eq, nat_le}
 use Rattle.std.proofs.lemmas.Bool.Decides.{nat_tests}
 use Rattle.std.specs.Cmp.Lexicographic.{pointwise}
 use Rattle.osi_base.specs.declared.syntax.Syntax.TheVariants.{Der}
@@ -19,10 +19,10 @@ use Rattle.dialogue.specs.declared.config.Mode.TheVariants.{Bare, Direct, Reliab
 use Rattle.dialogue.specs.declared.call.Call.{Call}
 use Rattle.dialogue.specs.declared.call.Call.TheVariants as the_calls
 use Rattle.dialogue.specs.declared.call.CallRefusal.TheVariants as refusals
-use Rattle.end_rules.specs.Base.{Base, Item}
+use Rattle.end_rules.specs.Base.{Base, Item, last_invocation}
 use Rattle.end_rules.specs.Sets.{pair_of, is_deleted_in, same_name, may_send, carrier, lowest_with}
-use Rattle.end_rules.specs.State.{Body, OpenCall, Queued, is_up, is_free, is_none, is_empty, bare_set, opened_with}
-use Rattle.end_rules.specs.Messages.{Message, Remote}
+use Rattle.end_rules.specs.State.{Body, Sets, OpenCall, Queued, is_up, is_free, is_none, is_empty, bare_set, opened_with}
+use Rattle.end_rules.specs.Messages.{Message, Session, OfData, Values, Remote}
 use Rattle.end_rules.specs.Invoking.{invoke_apdu, result_apdu, error_apdu, is_too_long, is_stopped, next_id, carrier_in, lacks_carrier, can_invoke_operation, can_answer_open, can_refuse_open, operation_of}
 use Rattle.end_rules.specs.Hearing.{is_silent_at, head_of_apdu, value_on, data_on}
 use Rattle.end_rules.specs.Requesting.{after_call, due_of, after_invoke, due_invoke, invoking, after_outcome, due_outcome, answering, queueing}
@@ -35,15 +35,16 @@ use Rattle.agreement.specs.Calls.{MayHandIn, is_link_allowed, has_room, may_answ
 use Rattle.agreement.specs.Acts.{acted}
 use Rattle.end_model.specs.Seen.{Free, number_seen, pair_seen, apdu_seen, item_seen, queued_seen, calls_seen, opens_seen_on, is_outcome, allows_outcome, seen, setup_seen}
 use Rattle.end_model.specs.Rows.{at}
-use Rattle.end_model.specs.Opens.{IsNumber, IsProper, AreNumbered, fits_argument, fits_parameter, operation_of_code, error_of_code}
-use Rattle.end_model.specs.Words.{IsData}
-use Rattle.end_model.specs.Acting.{ActsAs, IsSound, ReadsBack, HandsIn, HandingIn}
+use Rattle.end_model.specs.Opens.{IsNumber, IsProper, IsReadBack, AreNumbered, Numbered, fits_argument, fits_parameter, operation_of_code, error_of_code}
+use Rattle.end_model.specs.Words.{IsData, AreOurs}
+use Rattle.end_model.specs.Acting.{ActsAs, HandsActs, SetsIn, IsSound, ReadsBack, HandsIn, HandingIn}
 use Rattle.end_model.proofs.Marks.{map-snoc}
 use Rattle.end_model.proofs.Facts.{up-seen, free-seen}
 use Rattle.end_model.proofs.Held.{found-pair, some-deletes}
 use Rattle.end_model.proofs.Ladder.{passed, called}
 use Rattle.end_model.proofs.InvokeRungs.{Invokable, invokable, Answerable, answerable, Refusable, refusable, Outgoing}
 use Rattle.end_model.proofs.Opens.{found-seen, answer-found, on_opened, on-some, found}
+use Rattle.end_model.proofs.Numbered.{more-made, own-fresh, numbered-opening}
 use Rattle.end_model.proofs.Handing.{number-next, next-is_number, id-is_number, has-pair, carrier-sends, linking, room, own-opening, peers-closed}
 
 -- ---- what is said, and what is queued
@@ -88,11 +89,20 @@ said free Direct base proposed body later item o up calm there kept writes may a
       means = (data-meant (at Direct base) body item there, tt);
     }
 
+pub our-data : (base : Base) (body : Body) (item : Item) → pair_of body.sets.held item.id ≡ Some item.pair → IsProper base item.apdu → IsReadBack base item.apdu → AreOurs base (data_on body item.id item.apdu ∷ []) (model_data (item_seen base item) ∷ [])
+our-data base body item e proper back =
+    (record { item = item; is_data = ap (λ p. Session (OfData (Values (record { id = item.id; pair = p; content = Remote item.apdu } ∷ [])))) e; is_its = refl; is_proper = proper; is_read_back = back }, tt)
+
+pub same-sets : (mode : Mode) (base : Base) (body later : Body) → later.sets ≡ body.sets → SetsIn mode base body → SetsIn mode base later
+same-sets Bare base body later e h = record { held = ap (λ (s : Sets). s.held) e ∙ h.held; own = ap (λ (s : Sets). s.own) e ∙ h.own }
+same-sets Direct base body later e h = tt
+same-sets Reliable base body later e h = tt
+
 pub queued : (free : Free) (base : Base) (proposed : List Proposal) (body later : Body) (context : ℕ) (apdu : Apdu) → is_up body.link.phase ≡ true → MayHandIn (setup_seen free Reliable base) (calls_seen body.calls) [] (apdu_seen (at Reliable base) apdu) → seen (at Reliable base) later ≡ acted (setup_seen free Reliable base) (seen (at Reliable base) body) (Queues context (apdu_seen (at Reliable base) apdu)) → ActsAs free Reliable base proposed body later [] (Queues context (apdu_seen (at Reliable base) apdu))
 queued free base proposed body later context apdu up may after =
     record { may = record { by_transfers = refl; is_up = up-seen body.link.stage body.link.phase up; may_hand_in = may }; after = after; means = tt }
 
-queue-seen : (base : Base) (body : Body) (context : ℕ) (apdu : Apdu) (calls : model.Calls) → record (seen base body) { calls = calls; outgoing = record (seen base body).outgoing { queue = map (queued_seen base) (body.sending.queue ++ record { context = context; apdu = apdu } ∷ []) } } ≡ record (seen base body) { calls = calls; outgoing = record (seen base body).outgoing { queue = map (queued_seen base) body.sending.queue ++ record { context = context; apdu = apdu_seen base apdu } ∷ [] } }
+pub queue-seen : (base : Base) (body : Body) (context : ℕ) (apdu : Apdu) (calls : model.Calls) → record (seen base body) { calls = calls; outgoing = record (seen base body).outgoing { queue = map (queued_seen base) (body.sending.queue ++ record { context = context; apdu = apdu } ∷ []) } } ≡ record (seen base body) { calls = calls; outgoing = record (seen base body).outgoing { queue = map (queued_seen base) body.sending.queue ++ record { context = context; apdu = apdu_seen base apdu } ∷ [] } }
 queue-seen base body context apdu calls =
     let put : List states.Handed → states.State = λ q. record (seen base body) { calls = calls; outgoing = record (seen base body).outgoing { queue = q } } in
     ap put (map-snoc (queued_seen base) body.sending.queue (record { context = context; apdu = apdu }))
@@ -129,10 +139,21 @@ opened-as base place context id linked body p e =
     ap (λ (q : ℕ). record (calls_seen body.calls) { own_open = (if is_silent_at base (Some q) then (calls_seen body.calls).own_open else record { number = number_seen id; operation = q; context = context } ∷ (calls_seen body.calls).own_open); made = suc body.calls.made }) (sym e)
 
 -- the answer that came, and the operation that was found
-invoke-steps : (free : Free) (mode : Mode) (base : Base) (proposed : List Proposal) (body : Body) (context place : ℕ) (argument : Option Val) (linked : Option ℤ) (operation : Operation) (answer : Option ℤ) (act : model.Act) → operation_at base.tables place ≡ Some operation → answer ≡ Some (next_id body) → ActsAs free mode base proposed body (after_invoke (at mode base) body context place (next_id body) linked (Some operation) argument) (due_invoke (at mode base) body context (next_id body) linked (Some operation) argument) act → ActsAs free mode base proposed body (after_call (at mode base) body (the_calls.Invoke context place argument linked) (Ok answer)) (due_of (at mode base) body (the_calls.Invoke context place argument linked) (Ok answer)) act
+invoke-steps : (free : Free) (mode : Mode) (base : Base) (proposed : List Proposal) (body : Body) (context place : ℕ) (argument : Option Val) (linked : Option ℤ) (operation : Operation) (answer : Option ℤ) (act : model.Act) → operation_at base.tables place ≡ Some operation → answer ≡ Some (next_id body) → HandsActs free mode base proposed body (after_invoke (at mode base) body context place (next_id body) linked (Some operation) argument) (due_invoke (at mode base) body context (next_id body) linked (Some operation) argument) act → HandsActs free mode base proposed body (after_call (at mode base) body (the_calls.Invoke context place argument linked) (Ok answer)) (due_of (at mode base) body (the_calls.Invoke context place argument linked) (Ok answer)) act
 invoke-steps free mode base proposed body context place argument linked operation answer act known next h =
-    let one = subst (λ o. ActsAs free mode base proposed body (after_invoke (at mode base) body context place (next_id body) linked o argument) (due_invoke (at mode base) body context (next_id body) linked o argument) act) (sym known) h in
-    subst (λ a. ActsAs free mode base proposed body (after_call (at mode base) body (the_calls.Invoke context place argument linked) (Ok a)) (due_of (at mode base) body (the_calls.Invoke context place argument linked) (Ok a)) act) (sym next) one
+    let one = subst (λ o. HandsActs free mode base proposed body (after_invoke (at mode base) body context place (next_id body) linked o argument) (due_invoke (at mode base) body context (next_id body) linked o argument) act) (sym known) h in
+    subst (λ a. HandsActs free mode base proposed body (after_call (at mode base) body (the_calls.Invoke context place argument linked) (Ok a)) (due_of (at mode base) body (the_calls.Invoke context place argument linked) (Ok a)) act) (sym next) one
+
+next-is : (body : Body) → nat_le last_invocation body.calls.made ≡ false → next_id body ≡ pos (suc body.calls.made)
+next-is body h = ap pos (number-next body h)
+
+invoked-sound : (mode : Mode) (base : Base) (body : Body) (context place : ℕ) (linked : Option ℤ) → nat_le last_invocation body.calls.made ≡ false → IsSound mode base body → Numbered (invoking (at mode base) context place (next_id body) linked body).calls
+invoked-sound mode base body context place linked room sound =
+    let o : OpenCall = record { own = true; id = next_id body; operation = place; context = context; parent = linked } in
+    let more : AreNumbered (suc body.calls.made) body.calls.opens = more-made body.calls.made (suc body.calls.made) body.calls.opens (omega arith) sound.numbered in
+    let within : number_seen (next_id body) ≤ suc body.calls.made = subst (λ n. n ≤ suc body.calls.made) (sym (number-next body room)) (omega arith) in
+    let fresh : is_some (opened_with true (next_id body) body.calls.opens) ≡ false = ap (λ i. is_some (opened_with true i body.calls.opens)) (next-is body room) ∙ own-fresh body.calls.made body.calls.opens sound.numbered in
+    numbered-opening (at mode base) o (record body.calls { made = suc body.calls.made }) more (record { is_number = next-is_number body; made_here = λ e. within }) fresh
 
 pub calm-at : (base : Base) (body : Body) → is_stopped (at Direct base) body ≡ false → is_free body.link.awaits ≡ true
 calm-at base body h = grind (arith)
@@ -153,8 +174,12 @@ invoke-in Bare context place argument linked free base proposed body answer writ
       act = Says (item_seen (at Bare base) item);
       hands = refl;
       acts = invoke-steps free Bare base proposed body context place argument linked i.operation answer (Says (item_seen (at Bare base) item)) i.is_it i.sends.next
-          (said free Bare base proposed body (invoking (at Bare base) context place (next_id body) linked body) item tt c.in_phase calm p.1 i.kept (writes (item_seen (at Bare base) item)) (r.may (map (queued_seen (at Bare base)) body.sending.queue))
-          (ap (λ (calls : model.Calls). record (seen (at Bare base) body) { calls = calls }) (opened-as (at Bare base) place context (next_id body) linked body (unwrap_or (operation_with base.tables i.operation.code) 0) r.same_place)));
+          (record {
+            acts = said free Bare base proposed body (invoking (at Bare base) context place (next_id body) linked body) item tt c.in_phase calm p.1 i.kept (writes (item_seen (at Bare base) item)) (r.may (map (queued_seen (at Bare base)) body.sending.queue))
+          (ap (λ (calls : model.Calls). record (seen (at Bare base) body) { calls = calls }) (opened-as (at Bare base) place context (next_id body) linked body (unwrap_or (operation_with base.tables i.operation.code) 0) r.same_place));
+            ours = our-data (at Bare base) body item p.1 r.proper tt;
+            sound = record { numbered = invoked-sound Bare base body context place linked i.sends.numbers sound; calm = sound.calm; sets = same-sets Bare base body (invoking (at Bare base) context place (next_id body) linked body) refl sound.sets; queues = sound.queues };
+          });
     }
 invoke-in Direct context place argument linked free base proposed body answer writes back sound h =
     let c = called (at Direct base) body (the_calls.Invoke context place argument linked) answer h in
@@ -170,8 +195,12 @@ invoke-in Direct context place argument linked free base proposed body answer wr
       act = Says (item_seen (at Direct base) item);
       hands = refl;
       acts = invoke-steps free Direct base proposed body context place argument linked i.operation answer (Says (item_seen (at Direct base) item)) i.is_it i.sends.next
-          (said free Direct base proposed body (invoking (at Direct base) context place (next_id body) linked body) item tt c.in_phase (calm-at base body s.holds) p.1 i.kept (writes (item_seen (at Direct base) item)) (r.may (map (queued_seen (at Direct base)) body.sending.queue))
-          (ap (λ (calls : model.Calls). record (seen (at Direct base) body) { calls = calls }) (opened-as (at Direct base) place context (next_id body) linked body (unwrap_or (operation_with base.tables i.operation.code) 0) r.same_place)));
+          (record {
+            acts = said free Direct base proposed body (invoking (at Direct base) context place (next_id body) linked body) item tt c.in_phase (calm-at base body s.holds) p.1 i.kept (writes (item_seen (at Direct base) item)) (r.may (map (queued_seen (at Direct base)) body.sending.queue))
+          (ap (λ (calls : model.Calls). record (seen (at Direct base) body) { calls = calls }) (opened-as (at Direct base) place context (next_id body) linked body (unwrap_or (operation_with base.tables i.operation.code) 0) r.same_place));
+            ours = our-data (at Direct base) body item p.1 r.proper tt;
+            sound = record { numbered = invoked-sound Direct base body context place linked i.sends.numbers sound; calm = sound.calm; sets = same-sets Direct base body (invoking (at Direct base) context place (next_id body) linked body) refl sound.sets; queues = sound.queues };
+          });
     }
 invoke-in Reliable context place argument linked free base proposed body answer writes back sound h =
     let c = called (at Reliable base) body (the_calls.Invoke context place argument linked) answer h in
@@ -186,18 +215,22 @@ invoke-in Reliable context place argument linked free base proposed body answer 
       act = Queues context (apdu_seen (at Reliable base) apdu);
       hands = refl;
       acts = invoke-steps free Reliable base proposed body context place argument linked i.operation answer (Queues context (apdu_seen (at Reliable base) apdu)) i.is_it i.sends.next
-          (queued free base proposed body (queueing context apdu (invoking (at Reliable base) context place (next_id body) linked body)) context apdu c.in_phase (r.may [])
+          (record {
+            acts = queued free base proposed body (queueing context apdu (invoking (at Reliable base) context place (next_id body) linked body)) context apdu c.in_phase (r.may [])
           (queue-seen (at Reliable base) body context apdu (calls_seen (invoking (at Reliable base) context place (next_id body) linked body).calls) ∙
-          ap (λ (calls : model.Calls). record (seen (at Reliable base) body) { calls = calls; outgoing = record (seen (at Reliable base) body).outgoing { queue = map (queued_seen (at Reliable base)) body.sending.queue ++ record { context = context; apdu = apdu_seen (at Reliable base) apdu } ∷ [] } }) (opened-as (at Reliable base) place context (next_id body) linked body (unwrap_or (operation_with base.tables i.operation.code) 0) r.same_place)));
+          ap (λ (calls : model.Calls). record (seen (at Reliable base) body) { calls = calls; outgoing = record (seen (at Reliable base) body).outgoing { queue = map (queued_seen (at Reliable base)) body.sending.queue ++ record { context = context; apdu = apdu_seen (at Reliable base) apdu } ∷ [] } }) (opened-as (at Reliable base) place context (next_id body) linked body (unwrap_or (operation_with base.tables i.operation.code) 0) r.same_place));
+            ours = tt;
+            sound = record { numbered = invoked-sound Reliable base body context place linked i.sends.numbers sound; calm = tt; sets = tt; queues = tt };
+          });
     }
 
 -- ---- outcomes
 
 -- an outcome as it is handed in
-record IsOutcome (base : Base) (body : Body) (id : ℤ) (o : OpenCall) (apdu : Apdu) : Type 0 where
-  opened : opened_with false id body.calls.opens ≡ Some o
-  seen_so : apdu_seen base apdu ≡ model_outcome (number_seen id) (base.spellings.apdu Der apdu)
-  allowed : is_outcome base o.operation (head_of_apdu apdu) ≡ true
+pub record IsOutcome (base : Base) (body : Body) (id : ℤ) (o : OpenCall) (apdu : Apdu) : Type 0 where
+  pub opened : opened_with false id body.calls.opens ≡ Some o
+  pub seen_so : apdu_seen base apdu ≡ model_outcome (number_seen id) (base.spellings.apdu Der apdu)
+  pub allowed : is_outcome base o.operation (head_of_apdu apdu) ≡ true
 
 may-answer : (free : Free) (mode : Mode) (base : Base) (body : Body) (id : ℤ) (o : OpenCall) (apdu : Apdu) → AreNumbered body.calls.made body.calls.opens → IsNumber id → IsOutcome (at mode base) body id o apdu → base.spellings.head Der (base.spellings.apdu Der apdu) ≡ head_of_apdu apdu → may_answer (setup_seen free mode base) (calls_seen body.calls).peer_open (number_seen id) (base.spellings.apdu Der apdu) ≡ true
 may-answer free mode base body (negsuc n) o apdu numbered i h back = absurd i
@@ -209,6 +242,6 @@ may-answer free mode base body (pos n) o apdu numbered i h back =
     on-some test (found test n []) o ∙
     ap (is_outcome base o.operation) back ∙ h.allowed
 
-handed-outcome : (free : Free) (mode : Mode) (base : Base) (body : Body) (id : ℤ) (o : OpenCall) (apdu : Apdu) → AreNumbered body.calls.made body.calls.opens → IsNumber id → IsOutcome (at mode base) body id o apdu → base.spellings.head Der (base.spellings.apdu Der apdu) ≡ head_of_apdu apdu → (queue : List states.Handed) → MayHandIn (setup_seen free mode base) (calls_seen body.calls) queue (apdu_seen (at mode base) apdu)
+pub handed-outcome : (free : Free) (mode : Mode) (base : Base) (body : Body) (id : ℤ) (o : OpenCall) (apdu : Apdu) → AreNumbered body.calls.made body.calls.opens → IsNumber id → IsOutcome (at mode base) body id o apdu → base.spellings.head Der (base.spellings.apdu Der apdu) ≡ head_of_apdu apdu → (queue : List states.Handed) → MayHandIn (setup_seen free mode base) (calls_seen body.calls) queue (apdu_seen (at mode base) apdu)
 handed-outcome free mode base body id o apdu numbered i h back queue =
     subst (MayHandIn (setup_seen free mode base) (calls_seen body.calls) queue) (sym h.seen_so) (may-answer free mode base body id o apdu numbered i h back)

@@ -7,9 +7,15 @@ pub mod Breaking
 pub mod Sendings
 pub mod Ladder
 pub mod Opens
+pub mod Numbered
 pub mod InvokeRungs
 pub mod Held
 pub mod Facts
 pub mod Handing
 pub mod HandingRows
 pub mod OutcomeRows
+pub mod Hears
+pub mod HeardRows
+pub mod Requests
+pub mod BareMachine
+pub mod BareTaking

@@ -24,12 +24,11 @@ joined-seen own newer (x ∷ os) o = joined-seen own (if is_whose own x then inv
 -- ---- which is open, and what holds of it
 
 -- the newest with this number passes the test
-pub found : (Invocation → Bool) → ℕ → List Invocation → Bool
+abbrev pub found : (Invocation → Bool) → ℕ → List Invocation → Bool
 found test n [] = false
 found test n (c ∷ cs) = if nat_eq c.number n then test c else found test n cs
 
 pub open-found : (n : ℕ) (cs : List Invocation) → is_open n cs ≡ found (λ c. true) n cs
-unfolding found
 open-found n [] = refl
 open-found n (c ∷ cs) = or-if (nat_eq c.number n) ∙ ap (λ b. if nat_eq c.number n then true else b) (open-found n cs)
   where
@@ -38,21 +37,18 @@ open-found n (c ∷ cs) = or-if (nat_eq c.number n) ∙ ap (λ b. if nat_eq c.nu
     or-if false = refl
 
 pub link-found : (setup : Setup) (operation parent : ℕ) (cs : List Invocation) → is_link_allowed setup cs operation (Some parent) ≡ found (λ c. setup.links c.operation operation) parent cs
-unfolding found
 link-found setup operation parent [] = refl
 link-found setup operation parent (c ∷ cs) = ap (λ b. if nat_eq c.number parent then setup.links c.operation operation else b) (link-found setup operation parent cs)
 
 pub answer-found : (setup : Setup) (number : ℕ) (content : List ℕ) (cs : List Invocation) → may_answer setup cs number content ≡ found (λ c. setup.allows c.operation content) number cs
-unfolding found
 answer-found setup number content [] = refl
 answer-found setup number content (c ∷ cs) = ap (λ b. if nat_eq c.number number then setup.allows c.operation content else b) (answer-found setup number content cs)
 
-pub on_opened : (Invocation → Bool) → Bool → Option OpenCall → Bool
+abbrev pub on_opened : (Invocation → Bool) → Bool → Option OpenCall → Bool
 on_opened test later None = later
 on_opened test later (Some o) = test (invocation_seen o)
 
 pub on-some : (test : Invocation → Bool) (later : Bool) (o : OpenCall) → on_opened test later (Some o) ≡ test (invocation_seen o)
-unfolding on_opened
 on-some test later o = refl
 
 whose-own : (own : Bool) (o : OpenCall) → is_whose own o ≡ true → o.own ≡ own
@@ -71,7 +67,6 @@ none-later own n o os e f h = is-none (opened_with own (pos n) os) (ap (λ i. is
     is-none (Some x) h = cc
 
 pub found-seen : (test : Invocation → Bool) (n : ℕ) (own : Bool) (newer : List Invocation) (made : ℕ) (os : List OpenCall) → AreNumbered made os → found test n (opens_seen_on own newer os) ≡ on_opened test (found test n newer) (opened_with own (pos n) os)
-unfolding found on_opened
 found-seen test n own newer made [] h = refl
 found-seen test n own newer made (o ∷ os) h =
     found-seen test n own (if is_whose own o then invocation_seen o ∷ newer else newer) made os h.2 ∙

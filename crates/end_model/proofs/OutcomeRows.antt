@@ -1,6 +1,7 @@
 -- The acts of Answer and Refuse.
 use Rattle.std.proofs.Common.{◌≡◌, refl, true, false, ◌∙◌, sym, ap, subst, arith, ℕ, suc, List, [], ◌∷◌, ◌++◌, map}
-use Rattle.std.specs.Prelude.{ℤ, pos, negsuc, Bool, not, ◌&&◌, Option, Some, None, is_some, option_map, unwrap_or, Ok, if◌then◌else◌, nat_eq, list_any}
+use Rattle.std.specs.Prelude.{ℤ, pos, negsuc, Bool, not, ◌&&◌, Option, Some, None, is_some, option_map, unwrap_or, Ok, if◌then◌else◌, nat_eq}
+use Rattle.std.specs.List.{list_any}
 use Rattle.std.proofs.lemmas.Bool.Decides.{nat_tests}
 use Rattle.std.specs.Cmp.Lexicographic.{pointwise}
 use Rattle.osi_base.specs.declared.syntax.Pair.{Pair}
@@ -36,17 +37,18 @@ use Rattle.agreement.specs.Worlds.Step.{Acts}
 use Rattle.agreement.specs.Laws.{handed_by}
 use Rattle.end_model.specs.Seen.{Free, number_seen, apdu_seen, item_seen, queued_seen, calls_seen, is_outcome, seen, setup_seen}
 use Rattle.end_model.specs.Rows.{at}
-use Rattle.end_model.specs.Opens.{IsNumber, IsProper, AreNumbered, FitsReturned, fits_result, fits_parameter, operation_of_code, error_of_code}
-use Rattle.end_model.specs.Acting.{ActsAs, IsSound, HasBareSet, ReadsBack, HandsIn, HandingIn}
+use Rattle.end_model.specs.Opens.{IsNumber, IsProper, IsReadBack, AreNumbered, FitsReturned, fits_result, fits_parameter, operation_of_code, error_of_code}
+use Rattle.end_model.specs.Acting.{HandsActs, IsSound, HasBareSet, ReadsBack, HandsIn, HandingIn}
 use Rattle.end_model.proofs.Held.{MaySend}
 use Rattle.end_model.proofs.Ladder.{passed, called}
 use Rattle.end_model.proofs.InvokeRungs.{Answerable, answerable, Refusable, refusable, Outgoing}
+use Rattle.end_model.proofs.Numbered.{numbered-closed}
 use Rattle.end_model.proofs.Handing.{id-is_number, carrier-sends, peers-closed}
-use Rattle.end_model.proofs.HandingRows.{AtOnce, said, queued, queue-seen, calm-at, IsOutcome, handed-outcome}
+use Rattle.end_model.proofs.HandingRows.{said, queued, our-data, same-sets, queue-seen, calm-at, IsOutcome, handed-outcome}
 
 -- ---- outcomes that are allowed
 
-right-carried : (base : Base) (use_ : Use) (value : Option Val) → is_right base use_ (carried_in value) ≡ is_carried base.tables.types use_ value
+pub right-carried : (base : Base) (use_ : Use) (value : Option Val) → is_right base use_ (carried_in value) ≡ is_carried base.tables.types use_ value
 right-carried base use_ None = refl
 right-carried base use_ (Some value) = refl
 
@@ -111,46 +113,59 @@ queued-after free base body id o context apdu numbered i h =
 pub record OutcomeActs (free : Free) (mode : Mode) (base : Base) (proposed : List Proposal) (body : Body) (id : ℤ) (o : OpenCall) (apdu : Apdu) : Type 0 where
   pub act : model.Act
   pub hands : handed_by (Acts act) ≡ apdu_seen (at mode base) apdu ∷ []
-  pub acts : ActsAs free mode base proposed body (after_outcome (at mode base) body id (Some o) (Some apdu)) (due_outcome (at mode base) body (Some o) (Some apdu)) act
+  pub acts : HandsActs free mode base proposed body (after_outcome (at mode base) body id (Some o) (Some apdu)) (due_outcome (at mode base) body (Some o) (Some apdu)) act
 
-on-bare : (free : Free) (base : Base) (proposed : List Proposal) (body : Body) (id : ℤ) (o : OpenCall) (apdu : Apdu) (k : ℕ) → ((value : model.Value) → free.codec.may_write value ≡ true) → base.spellings.head Der (base.spellings.apdu Der apdu) ≡ head_of_apdu apdu → AreNumbered body.calls.made body.calls.opens → is_up body.link.phase ≡ true → is_free body.link.awaits ≡ true → IsNumber id → IsOutcome (at Bare base) body id o apdu → carrier_in (at Bare base) body o.context ≡ Some k → OutcomeActs free Bare base proposed body id o apdu
-on-bare free base proposed body id o apdu k writes back numbered up calm i h e =
+on-bare : (free : Free) (base : Base) (proposed : List Proposal) (body : Body) (id : ℤ) (o : OpenCall) (apdu : Apdu) (k : ℕ) → ((value : model.Value) → free.codec.may_write value ≡ true) → base.spellings.head Der (base.spellings.apdu Der apdu) ≡ head_of_apdu apdu → AreNumbered body.calls.made body.calls.opens → is_up body.link.phase ≡ true → is_free body.link.awaits ≡ true → IsNumber id → IsOutcome (at Bare base) body id o apdu → IsProper (at Bare base) apdu → IsReadBack (at Bare base) apdu → IsSound Bare base body → carrier_in (at Bare base) body o.context ≡ Some k → OutcomeActs free Bare base proposed body id o apdu
+on-bare free base proposed body id o apdu k writes back numbered up calm i h proper read sound e =
     let m = carrier-sends base.tables.name_oid body.sets.held body.sets.own o.context k e in
     let item : Item = record { id = k; pair = m.pair; apdu = apdu } in
     record {
       act = Says (item_seen (at Bare base) item);
       hands = refl;
-      acts = subst (λ c. ActsAs free Bare base proposed body (answering id body) (sent_at_once Bare body c apdu) (Says (item_seen (at Bare base) item))) (sym e)
-          (said free Bare base proposed body (answering id body) item tt up calm m.there m.kept (writes (item_seen (at Bare base) item)) (handed-outcome free Bare base body id o apdu numbered i h back (map (queued_seen (at Bare base)) body.sending.queue)) (at-once-after free Bare base body id o item numbered i h));
+      acts = subst (λ c. HandsActs free Bare base proposed body (answering id body) (sent_at_once Bare body c apdu) (Says (item_seen (at Bare base) item))) (sym e)
+          (record {
+            acts = said free Bare base proposed body (answering id body) item tt up calm m.there m.kept (writes (item_seen (at Bare base) item)) (handed-outcome free Bare base body id o apdu numbered i h back (map (queued_seen (at Bare base)) body.sending.queue)) (at-once-after free Bare base body id o item numbered i h);
+            ours = our-data (at Bare base) body item m.there proper read;
+            sound = record { numbered = numbered-closed body.calls.made false id body.calls.opens sound.numbered; calm = sound.calm; sets = same-sets Bare base body (answering id body) refl sound.sets; queues = sound.queues };
+          });
     }
 
-on-direct : (free : Free) (base : Base) (proposed : List Proposal) (body : Body) (id : ℤ) (o : OpenCall) (apdu : Apdu) (k : ℕ) → ((value : model.Value) → free.codec.may_write value ≡ true) → base.spellings.head Der (base.spellings.apdu Der apdu) ≡ head_of_apdu apdu → AreNumbered body.calls.made body.calls.opens → is_up body.link.phase ≡ true → is_free body.link.awaits ≡ true → IsNumber id → IsOutcome (at Direct base) body id o apdu → carrier_in (at Direct base) body o.context ≡ Some k → OutcomeActs free Direct base proposed body id o apdu
-on-direct free base proposed body id o apdu k writes back numbered up calm i h e =
+on-direct : (free : Free) (base : Base) (proposed : List Proposal) (body : Body) (id : ℤ) (o : OpenCall) (apdu : Apdu) (k : ℕ) → ((value : model.Value) → free.codec.may_write value ≡ true) → base.spellings.head Der (base.spellings.apdu Der apdu) ≡ head_of_apdu apdu → AreNumbered body.calls.made body.calls.opens → is_up body.link.phase ≡ true → is_free body.link.awaits ≡ true → IsNumber id → IsOutcome (at Direct base) body id o apdu → IsProper (at Direct base) apdu → IsReadBack (at Direct base) apdu → IsSound Direct base body → carrier_in (at Direct base) body o.context ≡ Some k → OutcomeActs free Direct base proposed body id o apdu
+on-direct free base proposed body id o apdu k writes back numbered up calm i h proper read sound e =
     let m = carrier-sends base.tables.name_oid body.sets.held body.sets.own o.context k e in
     let item : Item = record { id = k; pair = m.pair; apdu = apdu } in
     record {
       act = Says (item_seen (at Direct base) item);
       hands = refl;
-      acts = subst (λ c. ActsAs free Direct base proposed body (answering id body) (sent_at_once Direct body c apdu) (Says (item_seen (at Direct base) item))) (sym e)
-          (said free Direct base proposed body (answering id body) item tt up calm m.there m.kept (writes (item_seen (at Direct base) item)) (handed-outcome free Direct base body id o apdu numbered i h back (map (queued_seen (at Direct base)) body.sending.queue)) (at-once-after free Direct base body id o item numbered i h));
+      acts = subst (λ c. HandsActs free Direct base proposed body (answering id body) (sent_at_once Direct body c apdu) (Says (item_seen (at Direct base) item))) (sym e)
+          (record {
+            acts = said free Direct base proposed body (answering id body) item tt up calm m.there m.kept (writes (item_seen (at Direct base) item)) (handed-outcome free Direct base body id o apdu numbered i h back (map (queued_seen (at Direct base)) body.sending.queue)) (at-once-after free Direct base body id o item numbered i h);
+            ours = our-data (at Direct base) body item m.there proper read;
+            sound = record { numbered = numbered-closed body.calls.made false id body.calls.opens sound.numbered; calm = sound.calm; sets = same-sets Direct base body (answering id body) refl sound.sets; queues = sound.queues };
+          });
     }
 
 has-carrier : (c : Option ℕ) → is_none c ≡ false → (k : ℕ) × (c ≡ Some k)
 has-carrier None h = cc
 has-carrier (Some k) h = (k, refl)
 
-pub outcome-acts : (free : Free) (mode : Mode) (base : Base) (proposed : List Proposal) (body : Body) (id : ℤ) (o : OpenCall) (apdu : Apdu) (answer : Option ℤ) → ((value : model.Value) → free.codec.may_write value ≡ true) → base.spellings.head Der (base.spellings.apdu Der apdu) ≡ head_of_apdu apdu → IsSound mode base body → is_up body.link.phase ≡ true → is_stopped (at mode base) body ≡ false → IsNumber id → IsOutcome (at mode base) body id o apdu → Outgoing (at mode base) body o apdu answer → OutcomeActs free mode base proposed body id o apdu
-outcome-acts free Bare base proposed body id o apdu answer writes back sound up goes i h out =
+pub outcome-acts : (free : Free) (mode : Mode) (base : Base) (proposed : List Proposal) (body : Body) (id : ℤ) (o : OpenCall) (apdu : Apdu) (answer : Option ℤ) → ((value : model.Value) → free.codec.may_write value ≡ true) → base.spellings.head Der (base.spellings.apdu Der apdu) ≡ head_of_apdu apdu → IsSound mode base body → is_up body.link.phase ≡ true → is_stopped (at mode base) body ≡ false → IsNumber id → IsOutcome (at mode base) body id o apdu → IsProper (at mode base) apdu → IsReadBack (at mode base) apdu → Outgoing (at mode base) body o apdu answer → OutcomeActs free mode base proposed body id o apdu
+outcome-acts free Bare base proposed body id o apdu answer writes back sound up goes i h proper read out =
     let k = bare-carrier base body o.context sound.sets in
-    on-bare free base proposed body id o apdu k.0 writes back sound.numbered up (ap is_free sound.calm) i h k.1
-outcome-acts free Direct base proposed body id o apdu answer writes back sound up goes i h out =
+    on-bare free base proposed body id o apdu k.0 writes back sound.numbered up (ap is_free sound.calm) i h proper read sound k.1
+outcome-acts free Direct base proposed body id o apdu answer writes back sound up goes i h proper read out =
     let k = has-carrier (carrier_in (at Direct base) body o.context) out.carrier in
-    on-direct free base proposed body id o apdu k.0 writes back sound.numbered up (calm-at base body goes) i h k.1
-outcome-acts free Reliable base proposed body id o apdu answer writes back sound up goes i h out =
+    on-direct free base proposed body id o apdu k.0 writes back sound.numbered up (calm-at base body goes) i h proper read sound k.1
+outcome-acts free Reliable base proposed body id o apdu answer writes back sound up goes i h proper read out =
     record {
       act = Queues o.context (apdu_seen (at Reliable base) apdu);
       hands = refl;
-      acts = queued free base proposed body (queueing o.context apdu (answering id body)) o.context apdu up (handed-outcome free Reliable base body id o apdu sound.numbered i h back []) (queued-after free base body id o o.context apdu sound.numbered i h);
+      acts =
+          record {
+            acts = queued free base proposed body (queueing o.context apdu (answering id body)) o.context apdu up (handed-outcome free Reliable base body id o apdu sound.numbered i h back []) (queued-after free base body id o o.context apdu sound.numbered i h);
+            ours = tt;
+            sound = record { numbered = numbered-closed body.calls.made false id body.calls.opens sound.numbered; calm = tt; sets = tt; queues = tt };
+          };
     }
 
 -- ---- Answer
@@ -171,15 +186,15 @@ answer-in mode id result free base proposed body answer writes back sound h =
     let apdu : Apdu = result_apdu x.operation id result in
     let proper : IsProper (at mode base) apdu = returned-fits (at mode base) x.invocation.operation x.operation id result known x.carried i in
     let out : IsOutcome (at mode base) body id x.invocation apdu = record { opened = x.is_its; seen_so = refl; allowed = result-allowed (at mode base) x.invocation.operation x.operation id result known x.returns x.carried } in
-    let a = outcome-acts free mode base proposed body id x.invocation apdu answer writes (back.reads apdu proper x.sends.short) sound c.in_phase s.holds i out x.sends in
-    let one = subst (λ p. ActsAs free mode base proposed body (after_outcome (at mode base) body id (Some x.invocation) (result_for id result p)) (due_outcome (at mode base) body (Some x.invocation) (result_for id result p)) a.act) (sym known) a.acts in
+    let a = outcome-acts free mode base proposed body id x.invocation apdu answer writes (back.reads apdu proper x.sends.short) sound c.in_phase s.holds i out proper (back.reads apdu proper x.sends.short) x.sends in
+    let one = subst (λ p. HandsActs free mode base proposed body (after_outcome (at mode base) body id (Some x.invocation) (result_for id result p)) (due_outcome (at mode base) body (Some x.invocation) (result_for id result p)) a.act) (sym known) a.acts in
     record {
       apdu = apdu;
       is_proper = proper;
       is_short = x.sends.short;
       act = a.act;
       hands = a.hands;
-      acts = subst (λ o. ActsAs free mode base proposed body (after_outcome (at mode base) body id o (result_for id result (operation_opened (at mode base) o))) (due_outcome (at mode base) body o (result_for id result (operation_opened (at mode base) o))) a.act) (sym x.is_its) one;
+      acts = subst (λ o. HandsActs free mode base proposed body (after_outcome (at mode base) body id o (result_for id result (operation_opened (at mode base) o))) (due_outcome (at mode base) body o (result_for id result (operation_opened (at mode base) o))) a.act) (sym x.is_its) one;
     }
 
 -- ---- Refuse
@@ -199,13 +214,13 @@ refuse-in mode id error parameter free base proposed body answer writes back sou
     let apdu : Apdu = error_apdu x.error id parameter in
     let proper : IsProper (at mode base) apdu = parameter-fits (at mode base) error x.error id parameter x.is_error x.carried i in
     let out : IsOutcome (at mode base) body id x.invocation apdu = record { opened = x.is_its; seen_so = refl; allowed = error-allowed (at mode base) x.invocation.operation x.operation error x.error id parameter known x.is_error x.allowed x.carried } in
-    let a = outcome-acts free mode base proposed body id x.invocation apdu answer writes (back.reads apdu proper x.sends.short) sound c.in_phase s.holds i out x.sends in
-    let one = subst (λ e. ActsAs free mode base proposed body (after_outcome (at mode base) body id (Some x.invocation) (error_for id parameter e)) (due_outcome (at mode base) body (Some x.invocation) (error_for id parameter e)) a.act) (sym x.is_error) a.acts in
+    let a = outcome-acts free mode base proposed body id x.invocation apdu answer writes (back.reads apdu proper x.sends.short) sound c.in_phase s.holds i out proper (back.reads apdu proper x.sends.short) x.sends in
+    let one = subst (λ e. HandsActs free mode base proposed body (after_outcome (at mode base) body id (Some x.invocation) (error_for id parameter e)) (due_outcome (at mode base) body (Some x.invocation) (error_for id parameter e)) a.act) (sym x.is_error) a.acts in
     record {
       apdu = apdu;
       is_proper = proper;
       is_short = x.sends.short;
       act = a.act;
       hands = a.hands;
-      acts = subst (λ o. ActsAs free mode base proposed body (after_outcome (at mode base) body id o (error_for id parameter (error_at base.tables error))) (due_outcome (at mode base) body o (error_for id parameter (error_at base.tables error))) a.act) (sym x.is_its) one;
+      acts = subst (λ o. HandsActs free mode base proposed body (after_outcome (at mode base) body id o (error_for id parameter (error_at base.tables error))) (due_outcome (at mode base) body o (error_for id parameter (error_at base.tables error))) a.act) (sym x.is_its) one;
     }

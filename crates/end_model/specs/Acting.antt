@@ -24,7 +24,7 @@ use Rattle.agreement.specs.Laws.{handed_by}
 use Rattle.end_model.specs.Seen.{Free, role_seen, apdu_seen, seen, setup_seen}
 use Rattle.end_model.specs.Rows.{at}
 use Rattle.end_model.specs.Opens.{Numbered, IsProper}
-use Rattle.end_model.specs.Words.{AreMeant}
+use Rattle.end_model.specs.Words.{AreMeant, AreOurs}
 
 -- What the end does is the act: it may be done, what it leaves is the model's state, and what is sent is meant.
 pub record ActsAs (free : Free) (mode : Mode) (base : Base) (proposed : List Proposal) (body later : Body) (sent : List Message) (act : Act) : Type 0 where
@@ -78,6 +78,12 @@ pub record ReadsBack (base : Base) : Type 0 where
 
 -- ---- invocations and outcomes
 
+-- What is handed in is an act; what goes at once is data of this product; the end stays sound.
+pub record HandsActs (free : Free) (mode : Mode) (base : Base) (proposed : List Proposal) (body later : Body) (sent : List Message) (act : Act) : Type 0 where
+  pub acts : ActsAs free mode base proposed body later sent act
+  pub ours : AreOurs (at mode base) sent (sent_by (setup_seen free mode base) (seen (at mode base) body) act)
+  pub sound : IsSound mode base later
+
 -- An accepted call hands this APDU in: out of reliable mode it goes at once, in reliable mode it is queued.
 pub record HandsIn (free : Free) (mode : Mode) (base : Base) (proposed : List Proposal) (body : Body) (call : Call) (answer : Option ℤ) : Type 0 where
   pub apdu : Apdu
@@ -85,7 +91,7 @@ pub record HandsIn (free : Free) (mode : Mode) (base : Base) (proposed : List Pr
   pub is_short : is_too_long (at mode base) apdu ≡ false
   pub act : Act
   pub hands : handed_by (Acts act) ≡ apdu_seen (at mode base) apdu ∷ []
-  pub acts : ActsAs free mode base proposed body (after_call (at mode base) body call (Ok answer)) (due_of (at mode base) body call (Ok answer)) act
+  pub acts : HandsActs free mode base proposed body (after_call (at mode base) body call (Ok answer)) (due_of (at mode base) body call (Ok answer)) act
 
 -- An accepted call of this kind does so at every sound end, where the codec may write all values.
 abbrev pub HandingIn : Mode → Call → Type 0

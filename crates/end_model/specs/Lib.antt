@@ -4,3 +4,6 @@ pub mod Meant
 pub mod Opens
 pub mod Words
 pub mod Acting
+pub mod Heard
+pub mod Requests
+pub mod Pairs

@@ -15,6 +15,8 @@ use Rattle.stub_tables.specs.Lookup.{operation_at, error_at, operation_with, err
 use Rattle.stub_tables.specs.Uses.{is_carried}
 use Rattle.end_rules.specs.Base.{Base, last_invocation}
 use Rattle.end_rules.specs.State.{OpenCall, Calls, opened_with}
+use Rattle.end_rules.specs.Hearing.{head_of_apdu}
+use Rattle.osi_base.specs.declared.syntax.Syntax.TheVariants.{Der}
 use Rattle.end_model.specs.Seen.{number_seen}
 
 abbrev pub IsNumber : ℤ → Type 0
@@ -81,3 +83,12 @@ IsProper base (apdus.Result id returned) = IsNumber id × FitsReturned base retu
 IsProper base (apdus.Error id code parameter) =
     IsNumber id × (fits_parameter base (error_of_code base (error_with base.tables code)) parameter ≡ true)
 IsProper base (apdus.Reject id problem) = IsNamed id × IsProblem id problem.kind problem.number
+
+-- what is written in DER of a result or an error is read back as what it says
+abbrev pub IsReadBack : Base → Apdu → Type 0
+IsReadBack base (apdus.Invoke id linked code argument) = Unit {0}
+IsReadBack base (apdus.Result id returned) =
+    base.spellings.head Der (base.spellings.apdu Der (apdus.Result id returned)) ≡ head_of_apdu (apdus.Result id returned)
+IsReadBack base (apdus.Error id code parameter) =
+    base.spellings.head Der (base.spellings.apdu Der (apdus.Error id code parameter)) ≡ head_of_apdu (apdus.Error id code parameter)
+IsReadBack base (apdus.Reject id problem) = Unit {0}

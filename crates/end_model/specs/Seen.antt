@@ -215,17 +215,15 @@ allows_outcome base place content = is_outcome base place (base.spellings.head D
 
 -- Why an invocation isn't accepted: its number is open (0), there is no room (3), the linked invocation isn't open (5), its
 -- operation has no links (6), or not this one (7). An outcome isn't where its invocation isn't open (0) (X.880 9).
-abbrev pub operation_in : List model.Invocation → ℕ → Option ℕ
-operation_in [] number = None
-operation_in (c ∷ cs) number = if nat_eq c.number number then Some c.operation else operation_in cs number
-
-abbrev pub linked_problem : Base → Option ℕ → ℕ
-linked_problem base None = 5
-linked_problem base (Some place) = if has_links (operation_at base.tables place) then 7 else 6
+abbrev pub on_open : (ℕ → Bool) → ℕ → List model.Invocation → Bool
+on_open test number [] = false
+on_open test number (c ∷ cs) = if nat_eq c.number number then test c.operation else on_open test number cs
 
 abbrev pub link_due : Base → List model.Invocation → Option ℕ → ℕ
 link_due base opens None = 1
-link_due base opens (Some parent) = linked_problem base (operation_in opens parent)
+link_due base opens (Some parent) =
+    if not (is_open parent opens) then 5
+    else (if on_open (λ place. has_links (operation_at base.tables place)) parent opens then 7 else 6)
 
 abbrev pub outcome_due : Head → model.Problem
 outcome_due (ErrorHead id code parameter) = of_error 0

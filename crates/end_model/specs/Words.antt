@@ -16,6 +16,7 @@ use Rattle.agreement.specs.Sets.Result.{Rejected, Accepted, AcceptedAs}
 use Rattle.agreement.specs.Messages.{Message as ModelMessage}
 use Rattle.agreement.specs.Messages.Message.{Connect as model_connect, Recover as model_recover, Accept as model_accept, Refuse as model_refuse, Release as model_release, ReleaseAnswer as model_release_answer, UserAbort as model_abort, Data as model_data, Chunk as model_chunk, Alter as model_alter, AlterAnswer as model_alter_answer}
 use Rattle.end_model.specs.Seen.{pair_seen, set_seen, item_seen, items_seen}
+use Rattle.end_model.specs.Opens.{IsProper, IsReadBack}
 use Rattle.end_model.specs.Meant.{mark_meant, activity_meant}
 
 -- ---- results
@@ -87,3 +88,26 @@ AreMeant proposed base [] [] = Unit {0}
 AreMeant proposed base [] (m ∷ ms) = ⊥
 AreMeant proposed base (Session word ∷ messages) [] = ⊥
 AreMeant proposed base (Session word ∷ messages) (m ∷ ms) = Means proposed base word m × AreMeant proposed base messages ms
+
+-- ---- data outside reliable mode
+
+-- data with one APDU under its pair
+abbrev pub value_of_item : Item → Value
+value_of_item item = record { id = item.id; pair = Some item.pair; content = Remote item.apdu }
+
+abbrev pub data_word : Item → Word
+data_word item = OfData (Values (value_of_item item ∷ []))
+
+-- data as an end of this product sends it: one APDU of the module, or a reject
+pub record IsOurs (base : Base) (message : Message) (meant : ModelMessage) : Type 0 where
+  pub item : Item
+  pub is_data : message ≡ Session (data_word item)
+  pub is_its : meant ≡ model_data (item_seen base item)
+  pub is_proper : IsProper base item.apdu
+  pub is_read_back : IsReadBack base item.apdu
+
+abbrev pub AreOurs : Base → List Message → List ModelMessage → Type 0
+AreOurs base [] [] = Unit {0}
+AreOurs base [] (m ∷ ms) = ⊥
+AreOurs base (message ∷ messages) [] = ⊥
+AreOurs base (message ∷ messages) (m ∷ ms) = IsOurs base message m × AreOurs base messages ms

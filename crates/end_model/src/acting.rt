@@ -2,8 +2,25 @@
 //! with an empty body.
 
 ghost use Rattle.end_model.specs.Acting.{HandedIn};
+ghost use Rattle.end_model.specs.Heard.{DataHeard};
+ghost use Rattle.end_model.specs.Requests.{CallsAct, CallsUnseen};
 
 /// Invocations, results and errors, as they are handed in: at once, or in reliable mode queued.
 pub fn handed_in()
     ensures rows { HandedIn }
+{}
+
+/// Data with one APDU, as it is taken in bare and in direct mode, with the reject that it brings.
+pub fn data_heard()
+    ensures rows { DataHeard }
+{}
+
+/// Marks, givings, pleas, restarts, interrupts, discards, resumptions and releases, as they are called.
+pub fn calls_act()
+    ensures rows { CallsAct }
+{}
+
+/// Openings and recoveries, which the model sees once the CN is sent.
+pub fn calls_unseen()
+    ensures rows { CallsUnseen }
 {}

@@ -3,9 +3,11 @@
 #![tactic(auto)]
 
 mod acting;
+mod pairs;
 mod rows;
 
-pub use acting::handed_in;
+pub use acting::{calls_act, calls_unseen, data_heard, handed_in};
+pub use pairs::bare_pairs_are_modelled;
 pub use rows::{
     activities_sent, activities_taken, alterations_sent, answered, association_taken, breaks,
     connections, givings_taken, marks_sent, marks_taken, purged, purged_others, restarts_answered,
