@@ -11,7 +11,7 @@ use Rattle.dialogue.specs.declared.call.Call.{Call}
 use Rattle.dialogue.specs.declared.indication.Indication.{Indication}
 use Rattle.end_rules.specs.Base.{Base, Spellings, Fault, Item}
 use Rattle.end_rules.specs.Messages.{Message, Session, Word, unit_of}
-use Rattle.end_rules.specs.State.{Body, Link, Awaited, NoAnswer, Unused, new_body}
+use Rattle.end_rules.specs.State.{Body, Link, passes_over, Awaited, NoAnswer, Unused, new_body}
 use Rattle.end_rules.specs.Purging.{is_purged}
 use Rattle.end_rules.specs.Faults.{or_fault, fault_if, session_fault}
 use Rattle.end_rules.specs.InPlace.{is_in_place}
@@ -78,7 +78,7 @@ reacts : (tables : Tables) (spellings : Spellings) (a b : Config) (role : Role) 
 reacts tables spellings a b role body word up fine =
     let base : Base = base_at role (bare_pair tables spellings a b) in
     let f : fault_above base body word ≡ None = no-fault (fault_if (not (is_in_place base body (unit_of word))) session_fault) (fault_above base body word) fine in
-    rw up (ap (on_word base body word) f)
+    ap (λ p. if passes_over p then Passes else on_word base body word (fault_above base body word)) up ∙ ap (on_word base body word) f
 
 append-nil : {X : Type 0} (xs : List X) → xs ++ [] ≡ xs
 append-nil [] = refl
@@ -99,39 +99,41 @@ record Half (free : Free) (common : Common) (world : World) (role : Role) (state
   others : SideOf free common world (other role) peer to_peer
 
 then-none : (free : Free) (tables : Tables) (spellings : Spellings) (a b : Config) (world : World) (role : Role) (state : states.State) (later : Body) (left : List Message) (peer : Body) (to_peer sent : List Message) (act : Option model.Act) → Half free (bare_pair tables spellings a b) world role state left peer to_peer → MayThen (setup_of free (bare_pair tables spellings a b)) role state act → seen (base_at role (bare_pair tables spellings a b)) later ≡ then_acted (setup_of free (bare_pair tables spellings a b)) state act → AreOurs (base_at role (bare_pair tables spellings a b)) sent (sent_then (setup_of free (bare_pair tables spellings a b)) state act) → IsSound Bare (base_at role (bare_pair tables spellings a b)) later → (later.link.phase ≡ Up) ⊎ (later.link.phase ≡ Over) → (world' : World) × Sides free (bare_pair tables spellings a b) world' role later left peer (to_peer ++ sent)
-then-none free tables spellings a b world role state later left peer to_peer [] None h may is ours sound phase =
-    (world,
-    record {
-      run = h.run;
-      own = record { state = h.now ∙ sym is; sound = sound; phase = phase; flight = h.flight };
-      others = rw append-nil h.others;
-    })
+then-none free tables spellings a b world role state later left peer to_peer [] None h may is ours sound phase = (
+  world,
+  record {
+    run = h.run;
+    own = record { state = h.now ∙ sym is; sound = sound; phase = phase; flight = h.flight };
+    others = rw append-nil h.others;
+  },
+)
 then-none free tables spellings a b world role state later left peer to_peer (m ∷ sent) None h may is ours sound phase = absurd ours
 then-none free tables spellings a b world role state later left peer to_peer sent (Some act) h may is ours sound phase =
     let common : Common = bare_pair tables spellings a b in
     let setup : model.Setup = setup_of free common in
     let base : Base = base_at role common in
-    let sent_now : AreOurs base sent (sent_by setup (state_of setup role world) act) = subst (λ x. AreOurs base sent (sent_by setup x act)) (sym h.now) ours in
-    (By role (Acts act) ∷ world,
-    record {
-      run = acts setup world role act h.run (subst (λ x. MayAct setup role x act) (sym h.now) may);
-      own =
-          record {
-            state = state-own setup world role (Acts act) ∙ ap (λ x. acted setup x act) h.now ∙ sym is;
-            sound = sound;
-            phase = phase;
-            flight = subst (AreComing (base_at Initiator common) left) (sym (flight-own setup world role (Acts act))) h.flight;
-          };
-      others =
-          record {
-            state = state-other setup world role (Acts act) ∙ h.others.state;
-            sound = h.others.sound;
-            phase = h.others.phase;
-            flight = subst (AreComing (base_at Initiator common) (to_peer ++ sent)) (sym (flight-other setup world role (Acts act)))
-                (coming-append (base_at Initiator common) to_peer sent (flight_to setup (other role) world) (sendings (shared_at setup world).set (sent_by setup (state_of setup role world) act)) h.others.flight
-                (ours-coming tables spellings a b role (shared_at setup world).set sent (sent_by setup (state_of setup role world) act) sent_now));
-          };
-    })
+    let sent_now : AreOurs base sent (sent_by setup (state_of setup role world) act) = subst (λ x. AreOurs base sent (sent_by setup x act)) (sym h.now) ours in (
+      By role (Acts act) ∷ world,
+      record {
+        run = acts setup world role act h.run (subst (λ x. MayAct setup role x act) (sym h.now) may);
+        own =
+            record {
+              state = state-own setup world role (Acts act) ∙ ap (λ x. acted setup x act) h.now ∙ sym is;
+              sound = sound;
+              phase = phase;
+              flight = subst (AreComing (base_at Initiator common) left) (sym (flight-own setup world role (Acts act))) h.flight;
+            };
+        others =
+            record {
+              state = state-other setup world role (Acts act) ∙ h.others.state;
+              sound = h.others.sound;
+              phase = h.others.phase;
+              flight = subst (AreComing (base_at Initiator common) (to_peer ++ sent)) (sym (flight-other setup world role (Acts act)))
+                  (coming-append (base_at Initiator common) to_peer sent (flight_to setup (other role) world) (sendings (shared_at setup world).set (sent_by setup (state_of setup role world) act)) h.others.flight
+                  (ours-coming tables spellings a b role (shared_at setup world).set sent (sent_by setup (state_of setup role world) act) sent_now));
+            };
+      },
+    )
 
 taking-up : (free : Free) (tables : Tables) (spellings : Spellings) (a b : Config) (role : Role) (two : Two) (message : Message) (left : List Message) → WritesAll free → ModelOf free (bare_pair tables spellings a b) two → coming_to role two ≡ message ∷ left → (body_at role two).link.phase ≡ Up → Taken free (bare_pair tables spellings a b) role two message left
 taking-up free tables spellings a b role two message left writes m comes up =
@@ -155,18 +157,18 @@ taking-up free tables spellings a b role two message left writes m comes up =
     let h = bare-heard free base body item writes s.sides.own.sound n.ours.is_proper n.ours.is_read_back (expected setup world role value (seen base body) t.run now) here may in
     let after_it : states.State = taken setup role (seen base body) (Data value) Nothing in
     let half : Half free common (By role (model_takes (Data value) Nothing) ∷ world) role after_it left (body_at (other role) two) (coming_to (other role) two) =
-        record {
-          run = t.run;
-          now = state-own setup world role (model_takes (Data value) Nothing) ∙ ap (λ x. taken setup role x (Data value) Nothing) now;
-          flight = subst (AreComing (base_at Initiator common) left) (sym (flight-own setup world role (model_takes (Data value) Nothing) ∙ ap without_first n.is_it)) n.later;
-          others =
-              record {
-                state = state-other setup world role (model_takes (Data value) Nothing) ∙ s.sides.others.state;
-                sound = s.sides.others.sound;
-                phase = s.sides.others.phase;
-                flight = subst (AreComing (base_at Initiator common) (coming_to (other role) two)) (sym (flight-other setup world role (model_takes (Data value) Nothing) ∙ append-nil (flight_to setup (other role) world))) s.sides.others.flight;
-              };
-        } in
+    record {
+      run = t.run;
+      now = state-own setup world role (model_takes (Data value) Nothing) ∙ ap (λ x. taken setup role x (Data value) Nothing) now;
+      flight = subst (AreComing (base_at Initiator common) left) (sym (flight-own setup world role (model_takes (Data value) Nothing) ∙ ap without_first n.is_it)) n.later;
+      others =
+          record {
+            state = state-other setup world role (model_takes (Data value) Nothing) ∙ s.sides.others.state;
+            sound = s.sides.others.sound;
+            phase = s.sides.others.phase;
+            flight = subst (AreComing (base_at Initiator common) (coming_to (other role) two)) (sym (flight-other setup world role (model_takes (Data value) Nothing) ∙ append-nil (flight_to setup (other role) world))) s.sides.others.flight;
+          };
+    } in
     let later : Body = after_word base body (data_word item) in
     let phase : later.link.phase ≡ Up = ap (λ (l : Link). l.phase) h.link ∙ up in
     let end = then-none free tables spellings a b (By role (model_takes (Data value) Nothing) ∷ world) role after_it later left (body_at (other role) two) (coming_to (other role) two) (answers_to_word base body (data_word item)) h.then_act half (subst (λ r. MayThen setup r after_it h.then_act) (role-back role) h.may) h.after h.means h.sound (inl phase) in

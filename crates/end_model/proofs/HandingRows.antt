@@ -126,10 +126,11 @@ ready free mode base body context place argument linked answer numbered i =
       known = i.is_it;
       same_place = same;
       proper = (next-is_number body, l.named, fits);
-      may = λ queue.
-          (number-next body i.sends.numbers,
-          subst (λ p. is_link_allowed (setup_seen free mode base) (calls_seen body.calls).peer_open p (option_map number_seen linked) ≡ true) (sym same) l.allowed,
-          subst (λ p. has_room (setup_seen free mode base) p (calls_seen body.calls).own_open ≡ true) (sym same) r);
+      may = λ queue. (
+        number-next body i.sends.numbers,
+        subst (λ p. is_link_allowed (setup_seen free mode base) (calls_seen body.calls).peer_open p (option_map number_seen linked) ≡ true) (sym same) l.allowed,
+        subst (λ p. has_room (setup_seen free mode base) p (calls_seen body.calls).own_open ≡ true) (sym same) r,
+      );
     }
 
 -- the open invocations, as the model has them after an own one
@@ -176,7 +177,7 @@ invoke-in Bare context place argument linked free base proposed body answer writ
       acts = invoke-steps free Bare base proposed body context place argument linked i.operation answer (Says (item_seen (at Bare base) item)) i.is_it i.sends.next
           (record {
             acts = said free Bare base proposed body (invoking (at Bare base) context place (next_id body) linked body) item tt c.in_phase calm p.1 i.kept (writes (item_seen (at Bare base) item)) (r.may (map (queued_seen (at Bare base)) body.sending.queue))
-          (ap (λ (calls : model.Calls). record (seen (at Bare base) body) { calls = calls }) (opened-as (at Bare base) place context (next_id body) linked body (unwrap_or (operation_with base.tables i.operation.code) 0) r.same_place));
+                (ap (λ (calls : model.Calls). record (seen (at Bare base) body) { calls = calls }) (opened-as (at Bare base) place context (next_id body) linked body (unwrap_or (operation_with base.tables i.operation.code) 0) r.same_place));
             ours = our-data (at Bare base) body item p.1 r.proper tt;
             sound = record { numbered = invoked-sound Bare base body context place linked i.sends.numbers sound; calm = sound.calm; sets = same-sets Bare base body (invoking (at Bare base) context place (next_id body) linked body) refl sound.sets; queues = sound.queues };
           });
@@ -197,7 +198,7 @@ invoke-in Direct context place argument linked free base proposed body answer wr
       acts = invoke-steps free Direct base proposed body context place argument linked i.operation answer (Says (item_seen (at Direct base) item)) i.is_it i.sends.next
           (record {
             acts = said free Direct base proposed body (invoking (at Direct base) context place (next_id body) linked body) item tt c.in_phase (calm-at base body s.holds) p.1 i.kept (writes (item_seen (at Direct base) item)) (r.may (map (queued_seen (at Direct base)) body.sending.queue))
-          (ap (λ (calls : model.Calls). record (seen (at Direct base) body) { calls = calls }) (opened-as (at Direct base) place context (next_id body) linked body (unwrap_or (operation_with base.tables i.operation.code) 0) r.same_place));
+                (ap (λ (calls : model.Calls). record (seen (at Direct base) body) { calls = calls }) (opened-as (at Direct base) place context (next_id body) linked body (unwrap_or (operation_with base.tables i.operation.code) 0) r.same_place));
             ours = our-data (at Direct base) body item p.1 r.proper tt;
             sound = record { numbered = invoked-sound Direct base body context place linked i.sends.numbers sound; calm = sound.calm; sets = same-sets Direct base body (invoking (at Direct base) context place (next_id body) linked body) refl sound.sets; queues = sound.queues };
           });
@@ -217,8 +218,8 @@ invoke-in Reliable context place argument linked free base proposed body answer 
       acts = invoke-steps free Reliable base proposed body context place argument linked i.operation answer (Queues context (apdu_seen (at Reliable base) apdu)) i.is_it i.sends.next
           (record {
             acts = queued free base proposed body (queueing context apdu (invoking (at Reliable base) context place (next_id body) linked body)) context apdu c.in_phase (r.may [])
-          (queue-seen (at Reliable base) body context apdu (calls_seen (invoking (at Reliable base) context place (next_id body) linked body).calls) ∙
-          ap (λ (calls : model.Calls). record (seen (at Reliable base) body) { calls = calls; outgoing = record (seen (at Reliable base) body).outgoing { queue = map (queued_seen (at Reliable base)) body.sending.queue ++ record { context = context; apdu = apdu_seen (at Reliable base) apdu } ∷ [] } }) (opened-as (at Reliable base) place context (next_id body) linked body (unwrap_or (operation_with base.tables i.operation.code) 0) r.same_place));
+                (queue-seen (at Reliable base) body context apdu (calls_seen (invoking (at Reliable base) context place (next_id body) linked body).calls) ∙
+                ap (λ (calls : model.Calls). record (seen (at Reliable base) body) { calls = calls; outgoing = record (seen (at Reliable base) body).outgoing { queue = map (queued_seen (at Reliable base)) body.sending.queue ++ record { context = context; apdu = apdu_seen (at Reliable base) apdu } ∷ [] } }) (opened-as (at Reliable base) place context (next_id body) linked body (unwrap_or (operation_with base.tables i.operation.code) 0) r.same_place));
             ours = tt;
             sound = record { numbered = invoked-sound Reliable base body context place linked i.sends.numbers sound; calm = tt; sets = tt; queues = tt };
           });

@@ -131,9 +131,9 @@ link-seen free mode base calls place None h i = record { allowed = refl; due = �
 link-seen free mode base calls place (Some (negsuc n)) h i = absurd i
 link-seen free mode base calls place (Some (pos n)) h i =
     let l = linked-by (at mode base) place (opened_with true (pos n) calls.opens) (is_open n (calls_seen calls).own_open) (on_open (λ p. has_links (operation_at base.tables p)) n (calls_seen calls).own_open) (is_link_allowed (setup_seen free mode base) (calls_seen calls).own_open place (Some n))
-        (open-seen true n calls.made calls.opens h)
-        (on-open (λ p. has_links (operation_at base.tables p)) n (opens_seen_on true [] calls.opens) ∙ seen-so (λ p. has_links (operation_at base.tables p)) n calls.made calls.opens h)
-        (link-found (setup_seen free mode base) place n (opens_seen_on true [] calls.opens) ∙ seen-so (λ p. is_linked_to (operation_at base.tables p) place) n calls.made calls.opens h) in
+    (open-seen true n calls.made calls.opens h)
+    (on-open (λ p. has_links (operation_at base.tables p)) n (opens_seen_on true [] calls.opens) ∙ seen-so (λ p. has_links (operation_at base.tables p)) n calls.made calls.opens h)
+    (link-found (setup_seen free mode base) place n (opens_seen_on true [] calls.opens) ∙ seen-so (λ p. is_linked_to (operation_at base.tables p) place) n calls.made calls.opens h) in
     record { allowed = l.is_allowed; due = l.is_due }
 
 -- ---- an invocation is judged
@@ -164,10 +164,10 @@ judged free mode base calls context place n linked argument octets h i fits =
     let b : Bool = nat_le most_open (length (opens_of false calls.opens)) in
     let s : Bool = is_silent_at base (Some place) in
     let j = judge (is_some (opened_with false (pos n) calls.opens)) b s (link_problem (at mode base) calls place linked) (is_open n (calls_seen calls).peer_open) (has_room (setup_seen free mode base) place (calls_seen calls).peer_open) (is_link_allowed (setup_seen free mode base) (calls_seen calls).own_open place (option_map number_seen linked)) (nat_le most_open (length (calls_seen calls).peer_open)) (link_due base (calls_seen calls).own_open (option_map number_seen linked))
-        (open-seen false n calls.made calls.opens h)
-        (ap (λ m. nat_le most_open m) len)
-        (ap (λ m. s || nat_lt m most_open) len ∙ ap (λ x. s || x) (other-way (length (opens_of false calls.opens))))
-        l.allowed l.due in
+    (open-seen false n calls.made calls.opens h)
+    (ap (λ m. nat_le most_open m) len)
+    (ap (λ m. s || nat_lt m most_open) len ∙ ap (λ x. s || x) (other-way (length (opens_of false calls.opens))))
+    l.allowed l.due in
     record { judgement = subst (λ x. Judgement (first_problem (problem_if (is_some (opened_with false (pos n) calls.opens)) 0) (first_problem (problem_if (b && not s) 3) (first_problem (link_problem (at mode base) calls place linked) x))) (is_accepted (setup_seen free mode base) (calls_seen calls) (model_invoke n place (option_map number_seen linked) octets)) (problem_due base (calls_seen calls) (model_invoke n place (option_map number_seen linked) octets))) (sym fits) j }
   where
     other-way : (m : ℕ) → nat_lt m most_open ≡ not (nat_le most_open m)

@@ -19,3 +19,10 @@ pub mod HeardRows
 pub mod Requests
 pub mod BareMachine
 pub mod BareTaking
+pub mod Altered
+pub mod Fitting
+pub mod Takes
+pub mod TakenRows
+pub mod Alters
+pub mod Openings
+pub mod TransferRows

@@ -127,9 +127,9 @@ numbered-closed made own i (o ∷ os) h = go (numbered-closed made own i os h.2)
     go later true e = rw e later
     go later false e =
         let none : is_some (opened_with (orphaned own i o).own (orphaned own i o).id (closed own i os)) ≡ false =
-            ap (λ w. is_some (opened_with w (orphaned own i o).id (closed own i os))) (same-own own i o) ∙
-            ap (λ j. is_some (opened_with o.own j (closed own i os))) (same-id own i o) ∙
-            opened-closed own o.own i o.id os h.1 in
+        ap (λ w. is_some (opened_with w (orphaned own i o).id (closed own i os))) (same-own own i o) ∙
+        ap (λ j. is_some (opened_with o.own j (closed own i os))) (same-id own i o) ∙
+        opened-closed own o.own i o.id os h.1 in
         rw e (numbered-root made own i o h.0, none, later)
 
 pub numbered-opening : (base : Base) (o : OpenCall) (calls : Calls) → AreNumbered calls.made calls.opens → IsNumbered calls.made o → is_some (opened_with o.own o.id calls.opens) ≡ false → Numbered (opening base o calls)

@@ -81,8 +81,8 @@ same-itself (x ∷ xs) = grind (arith, nat_tests, same-itself xs)
 bare-carrier : (base : Base) (body : Body) (context : ℕ) → HasBareSet base body → (k : ℕ) × (carrier_in (at Bare base) body context ≡ Some k)
 bare-carrier base body context h =
     let e : carrier_in (at Bare base) body context ≡ carrier base.tables.name_oid (bare_set base.tables) [] context =
-        ap (λ held. carrier base.tables.name_oid held body.sets.own context) h.held ∙
-        ap (λ own. carrier base.tables.name_oid (bare_set base.tables) own context) h.own in
+    ap (λ held. carrier base.tables.name_oid held body.sets.own context) h.held ∙
+    ap (λ own. carrier base.tables.name_oid (bare_set base.tables) own context) h.own in
     let k = on (may_send (bare_set base.tables) [] context) in
     (k.0, e ∙ k.1)
   where

@@ -6,4 +6,6 @@ pub mod Words
 pub mod Acting
 pub mod Heard
 pub mod Requests
+pub mod Takings
 pub mod Pairs
+pub mod Openings

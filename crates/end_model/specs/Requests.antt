@@ -11,8 +11,10 @@ use Rattle.end_rules.specs.Messages.{Message}
 use Rattle.end_rules.specs.Calling.{can_call}
 use Rattle.end_rules.specs.Requesting.{after_call, after_sent, due_of}
 use Rattle.agreement.specs.Messages.{Act}
-use Rattle.agreement.specs.Messages.Act.{Marks, Gives, Pleads, Restarts, Interrupts, Discards, Resumes, Releases}
-use Rattle.end_model.specs.Seen.{Free, seen}
+use Rattle.agreement.specs.Messages.Act.{Alters, Marks, Gives, Pleads, Restarts, Interrupts, Discards, Resumes, Releases}
+use Rattle.agreement.specs.Sets.{AreDistinct, named}
+use Rattle.end_rules.specs.TakesData.{alteration}
+use Rattle.end_model.specs.Seen.{Free, items_seen, seen}
 use Rattle.end_model.specs.Rows.{at}
 use Rattle.end_model.specs.Words.{AreMeant}
 use Rattle.end_model.specs.Acting.{ActsAs, IsSound}
@@ -56,3 +58,16 @@ CallUnseen mode call =
 pub record CallsUnseen : Type 0 where
   pub open_ : (mode : Mode) → CallUnseen mode the_calls.Open
   pub recover : (mode : Mode) → CallUnseen mode the_calls.Recover
+
+-- An accepted Alter is the act, where the own alterations that aren't answered name each identifier once, as they do in
+-- every run of the model.
+abbrev pub AlterActs : Mode → List Proposal → List ℕ → Type 0
+AlterActs mode add delete =
+    (free : Free) (base : Base) (proposed : List Proposal) (body : Body) (answer : Option ℤ) →
+    IsSound mode base body → AreDistinct (named (seen (at mode base) body).sets.own) → can_call (at mode base) body (the_calls.Alter add delete) ≡ Ok answer →
+    ActsAs free mode base proposed body (after_called mode base body (the_calls.Alter add delete) answer) (due_of (at mode base) body (the_calls.Alter add delete) (Ok answer))
+    (Alters (items_seen (alteration add delete)))
+
+pub record AltersAct : Type 0 where
+  pub direct : (add : List Proposal) (delete : List ℕ) → AlterActs Direct add delete
+  pub reliable : (add : List Proposal) (delete : List ℕ) → AlterActs Reliable add delete

@@ -3,7 +3,7 @@
 
 ghost use Rattle.end_model.specs.Acting.{HandedIn};
 ghost use Rattle.end_model.specs.Heard.{DataHeard};
-ghost use Rattle.end_model.specs.Requests.{CallsAct, CallsUnseen};
+ghost use Rattle.end_model.specs.Requests.{AltersAct, CallsAct, CallsUnseen};
 
 /// Invocations, results and errors, as they are handed in: at once, or in reliable mode queued.
 pub fn handed_in()
@@ -23,4 +23,9 @@ pub fn calls_act()
 /// Openings and recoveries, which the model sees once the CN is sent.
 pub fn calls_unseen()
     ensures rows { CallsUnseen }
+{}
+
+/// Alterations, as they are called.
+pub fn alters_act()
+    ensures rows { AltersAct }
 {}

@@ -5,11 +5,16 @@
 mod acting;
 mod pairs;
 mod rows;
+mod takings;
 
-pub use acting::{calls_act, calls_unseen, data_heard, handed_in};
+pub use acting::{alters_act, calls_act, calls_unseen, data_heard, handed_in};
 pub use pairs::bare_pairs_are_modelled;
 pub use rows::{
     activities_sent, activities_taken, alterations_sent, answered, association_taken, breaks,
     connections, givings_taken, marks_sent, marks_taken, purged, purged_others, restarts_answered,
     restarts_taken, resumptions, sent, transfers_sent, transfers_taken,
+};
+pub use takings::{
+    answers_taken, direct_taken, discards_taken, openings_taken, reliable_taken,
+    transfer_words_taken,
 };
