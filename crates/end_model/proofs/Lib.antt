@@ -26,3 +26,7 @@ pub mod TakenRows
 pub mod Alters
 pub mod Openings
 pub mod TransferRows
+pub mod Connecting
+pub mod Plain
+pub mod EndRows
+pub mod OwnActs

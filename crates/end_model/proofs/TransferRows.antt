@@ -33,7 +33,7 @@ use Rattle.end_model.proofs.Takes.{eq-true, le-true, up-now, is-responder, fine}
 
 -- ---- parts
 
-joined-seen : (pieces : List Piece) → states.joined (map piece_seen pieces) ≡ joined pieces
+pub joined-seen : (pieces : List Piece) → states.joined (map piece_seen pieces) ≡ joined pieces
 joined-seen [] = refl
 joined-seen (Octets octets ∷ pieces) = ap (λ (xs : List ℕ). xs ++ octets) (joined-seen pieces)
 joined-seen (Marked number set ∷ pieces) = joined-seen pieces

@@ -9,3 +9,5 @@ pub mod Requests
 pub mod Takings
 pub mod Pairs
 pub mod Openings
+pub mod Connections
+pub mod OwnActs

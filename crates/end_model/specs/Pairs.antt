@@ -119,6 +119,10 @@ bare_pair tables spellings a b = record { tables = tables; spellings = spellings
 abbrev pub WritesAll : Free → Type 0
 WritesAll free = (value : Value) → free.codec.may_write value ≡ true
 
+-- there is such a codec
+abbrev pub HasCodec : Type 0
+HasCodec = (free : Free) × WritesAll free
+
 -- Whatever two ends of bare mode reach, there is a model of it.
 abbrev pub BareModelled : Type 0
 BareModelled =

@@ -1,5 +1,5 @@
 -- What the model may take, the end takes: the word has no fault, and its taking is the model's.
-use Rattle.std.specs.Prelude.{◌≡◌, ℕ, List, [], ◌∷◌, true, false, Option, Some, None}
+use Rattle.std.specs.Prelude.{◌≡◌, ℕ, List, [], ◌∷◌, true, false, Option, Some, None, Ok}
 use Rattle.osi_base.specs.declared.syntax.Pair.{Pair}
 use Rattle.osi_base.specs.declared.words.Proposal.{Proposal}
 use Rattle.osi_base.specs.declared.words.Answers.{Answers}
@@ -7,8 +7,8 @@ use Rattle.osi_base.specs.declared.words.RestoredItem.{RestoredItem}
 use Rattle.osi_base.specs.declared.presentation_word.PresentationReject.{PresentationReject}
 use Rattle.dialogue.specs.declared.config.Mode.{Mode}
 use Rattle.dialogue.specs.declared.config.Mode.TheVariants.{Direct, Reliable}
-use Rattle.end_rules.specs.Base.{Base}
-use Rattle.end_rules.specs.State.{Body, Carrying, Transfer}
+use Rattle.end_rules.specs.Base.{Base, Item, Whole}
+use Rattle.end_rules.specs.State.{Body, Carrying, Transfer, joined}
 use Rattle.end_rules.specs.Units.{proposed_units}
 use Rattle.end_rules.specs.Sets.{Alteration, fit_alteration}
 use Rattle.end_rules.specs.Policy.{policy}
@@ -16,15 +16,16 @@ use Rattle.end_rules.specs.Connecting.{the_one}
 use Rattle.end_rules.specs.TakesAssociation.{is_release_request, is_release_response}
 use Rattle.end_rules.specs.TakesData.{alteration}
 use Rattle.end_rules.specs.TakesMarks.{priority_in}
-use Rattle.end_rules.specs.Messages.{AbortData, Word, Value, OfAssociation, OfData, OfMarks, OfActivities, Refuse, Finish, Disconnect, Abort, Values, AlterContext, AlterContextAck, Part, Mark, MarkAck, Restart, RestartAck, Give, Please, GiveConfirm, GiveAck, Start, Resume, EndAck, Interrupt, InterruptAck, Discard, DiscardAck}
+use Rattle.end_rules.specs.Messages.{AbortData, Word, Value, OfAssociation, OfData, OfMarks, OfActivities, Refuse, Finish, Disconnect, Abort, Values, AlterContext, AlterContextAck, Part, Mark, MarkAck, Restart, RestartAck, Give, Please, GiveConfirm, GiveAck, Start, Resume, End, EndAck, Interrupt, InterruptAck, Discard, DiscardAck}
 use Rattle.agreement.specs.Messages.{Choice, Message as ModelMessage}
 use Rattle.agreement.specs.Messages.Choice.{Nothing, Results}
-use Rattle.agreement.specs.Messages.Message.{Mark as model_mark, MarkAnswer as model_mark_answer, Restart as model_restart, RestartAnswer as model_restart_answer, Give as model_give, GiveAnswer as model_give_answer, Please as model_please, Start as model_start, Resume as model_resume, EndAnswer as model_end_answer, Interrupt as model_interrupt, InterruptAnswer as model_interrupt_answer, Discard as model_discard, DiscardAnswer as model_discard_answer, Chunk as model_chunk, Alter as model_alter, AlterAnswer as model_alter_answer, Refuse as model_refuse, Release as model_release, ReleaseAnswer as model_release_answer, UserAbort as model_abort}
+use Rattle.agreement.specs.Messages.Message.{Mark as model_mark, MarkAnswer as model_mark_answer, Restart as model_restart, RestartAnswer as model_restart_answer, Give as model_give, GiveAnswer as model_give_answer, Please as model_please, Start as model_start, Resume as model_resume, End as model_end, EndAnswer as model_end_answer, Interrupt as model_interrupt, InterruptAnswer as model_interrupt_answer, Discard as model_discard, DiscardAnswer as model_discard_answer, Chunk as model_chunk, Alter as model_alter, AlterAnswer as model_alter_answer, Refuse as model_refuse, Release as model_release, ReleaseAnswer as model_release_answer, UserAbort as model_abort}
 use Rattle.agreement.specs.Takings.{MayTake}
-use Rattle.end_model.specs.Seen.{Free, role_seen, items_seen, seen, setup_seen}
+use Rattle.end_model.specs.Seen.{Free, role_seen, set_seen, items_seen, item_seen, apdu_seen, calls_seen, seen, setup_seen}
 use Rattle.end_model.specs.Rows.{at}
 use Rattle.end_model.specs.Meant.{list_meant}
-use Rattle.end_model.specs.Opens.{IsProper}
+use Rattle.end_model.specs.Opens.{IsProper, IsReadBack}
+use Rattle.end_model.specs.Heard.{IsExpected}
 use Rattle.end_model.specs.Words.{results_seen}
 use Rattle.end_model.specs.Acting.{IsSound, TakenAs}
 
@@ -101,6 +102,19 @@ pub record DiscardsTaken : Type 0 where
       IsProperCurrent (at Reliable base) body.sending.current →
       MayTake (setup_seen free Reliable base) (role_seen base.initiator) (seen (at Reliable base) body) model_discard_answer →
       TakenAs free Reliable base proposed body (OfActivities DiscardAck) model_discard_answer Nothing
+
+-- The end of the peer's activity: what it brings is handed up once. What the end reads of its octets is what the codec reads.
+pub record EndsTaken : Type 0 where
+  pub again : (number : ℕ) (free : Free) (base : Base) (proposed : List Proposal) (body : Body) → body.receiving.was_handed ≡ true →
+      MayTake (setup_seen free Reliable base) (role_seen base.initiator) (seen (at Reliable base) body) (model_end number) →
+      TakenAs free Reliable base proposed body (OfActivities (End number)) (model_end number) Nothing
+  pub whole : (number : ℕ) (item : Item) (free : Free) (base : Base) (proposed : List Proposal) (body : Body) → IsSound Reliable base body →
+      body.receiving.was_handed ≡ false → base.spellings.arrived body.sets.held (joined body.receiving.pieces) ≡ Ok (Whole item) →
+      free.codec.read (set_seen body.sets.held) (joined body.receiving.pieces) ≡ Some (item_seen (at Reliable base) item) →
+      IsProper (at Reliable base) item.apdu → IsReadBack (at Reliable base) item.apdu →
+      IsExpected (setup_seen free Reliable base) (calls_seen body.calls) (apdu_seen (at Reliable base) item.apdu) →
+      MayTake (setup_seen free Reliable base) (role_seen base.initiator) (seen (at Reliable base) body) (model_end number) →
+      TakenAs free Reliable base proposed body (OfActivities (End number)) (model_end number) Nothing
 
 -- The answer to the oldest own alteration, which it fits, settles it.
 pub record AnswersTaken : Type 0 where

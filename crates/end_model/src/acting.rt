@@ -2,7 +2,9 @@
 //! with an empty body.
 
 ghost use Rattle.end_model.specs.Acting.{HandedIn};
+ghost use Rattle.end_model.specs.Connections.{ConnectionsAct};
 ghost use Rattle.end_model.specs.Heard.{DataHeard};
+ghost use Rattle.end_model.specs.OwnActs.{ByItselfActs};
 ghost use Rattle.end_model.specs.Requests.{AltersAct, CallsAct, CallsUnseen};
 
 /// Invocations, results and errors, as they are handed in: at once, or in reliable mode queued.
@@ -28,4 +30,14 @@ pub fn calls_unseen()
 /// Alterations, as they are called.
 pub fn alters_act()
     ensures rows { AltersAct }
+{}
+
+/// The CN that a CC brings, a refused connection, and own aborts.
+pub fn connections_act()
+    ensures rows { ConnectionsAct }
+{}
+
+/// What an end of reliable mode does by itself: it starts the next item, and encodes it.
+pub fn own_acts()
+    ensures rows { ByItselfActs }
 {}

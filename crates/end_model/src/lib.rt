@@ -7,7 +7,9 @@ mod pairs;
 mod rows;
 mod takings;
 
-pub use acting::{alters_act, calls_act, calls_unseen, data_heard, handed_in};
+pub use acting::{
+    alters_act, calls_act, calls_unseen, connections_act, data_heard, handed_in, own_acts,
+};
 pub use pairs::bare_pairs_are_modelled;
 pub use rows::{
     activities_sent, activities_taken, alterations_sent, answered, association_taken, breaks,
@@ -15,6 +17,6 @@ pub use rows::{
     restarts_taken, resumptions, sent, transfers_sent, transfers_taken,
 };
 pub use takings::{
-    answers_taken, direct_taken, discards_taken, openings_taken, reliable_taken,
+    answers_taken, direct_taken, discards_taken, ends_taken, openings_taken, reliable_taken,
     transfer_words_taken,
 };

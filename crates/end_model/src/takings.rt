@@ -1,7 +1,7 @@
 //! What the model may take, the end takes: each group of rows is the contract of a function with an empty body.
 
 ghost use Rattle.end_model.specs.Openings.{OpeningsTaken};
-ghost use Rattle.end_model.specs.Takings.{AnswersTaken, DirectTaken, DiscardsTaken, ReliableTaken, TransferWordsTaken};
+ghost use Rattle.end_model.specs.Takings.{AnswersTaken, DirectTaken, DiscardsTaken, EndsTaken, ReliableTaken, TransferWordsTaken};
 
 /// Marks, givings, pleas, restarts and their answers, alterations, releases and aborts, as they are taken in direct mode.
 pub fn direct_taken()
@@ -32,4 +32,9 @@ pub fn transfer_words_taken()
 /// The confirmation of an own discard, as it is taken.
 pub fn discards_taken()
     ensures rows { DiscardsTaken }
+{}
+
+/// The end of the peer's activity, as it is taken, with the APDU that it brings.
+pub fn ends_taken()
+    ensures rows { EndsTaken }
 {}
