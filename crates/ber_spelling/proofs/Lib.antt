@@ -36,6 +36,9 @@ pub mod WrittenSets
 pub mod Inside
 pub mod InsideRules
 pub mod FirstFaults
+pub mod Reach
+pub mod ReachRules
+pub mod Limits
 pub mod Around
 pub mod LastOctets
 pub mod UnusedBits

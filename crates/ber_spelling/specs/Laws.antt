@@ -55,6 +55,10 @@ FaultIsFirst = (rows : List TypeRow) (n : ℕ) (strict : Bool) (limit : ℕ) (by
     → read_at rows n strict limit bytes ≡ Err fault
     → (place : ℕ) × IsAt fault place × (place ≤ length bytes) × ((k : ℕ) → k < place → read_at rows n strict limit (take k bytes) ≡ Err Short)
 
+-- Octets that are too short are no more than the limit, and so is what is read.
+abbrev pub ShortIsWithin : Type 0
+ShortIsWithin = (rows : List TypeRow) (n : ℕ) (strict : Bool) (limit : ℕ) (bytes : List ℕ) → read_at rows n strict limit bytes ≡ Err Short → length bytes ≤ limit
+
 -- a proper beginning of a spelling is too short
 abbrev pub BeginningIsShort : Type 0
 BeginningIsShort = (rows : List TypeRow) (n : ℕ) (strict : Bool) (limit : ℕ) (v : Value) (front back : List ℕ) → IsSound rows → AreOctets (front ++ back)

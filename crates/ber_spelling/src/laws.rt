@@ -1,6 +1,6 @@
 //! The laws of reading, each the contract of a function that does nothing.
 
-ghost use Rattle.ber_spelling.specs.Laws.{ReadIsSpelled, SpelledIsRead, NoneBegins, ReadStays, FaultStays, FaultIsFirst, BeginningIsShort, WrittenIsSpelled, WrittenIsRead, DerIsBer, DerIsBerInForm, OneOfThree, DerIsWhole, SpelledFits, UnusedBitsAreZeros, UnusedBitsAreCleared};
+ghost use Rattle.ber_spelling.specs.Laws.{ReadIsSpelled, SpelledIsRead, NoneBegins, ReadStays, FaultStays, FaultIsFirst, ShortIsWithin, BeginningIsShort, WrittenIsSpelled, WrittenIsRead, DerIsBer, DerIsBerInForm, OneOfThree, DerIsWhole, SpelledFits, UnusedBitsAreZeros, UnusedBitsAreCleared};
 
 /// What is read is spelled by the octets used.
 pub fn read_is_spelled()
@@ -30,6 +30,11 @@ pub fn fault_stays()
 /// A fault but `Short` has a place inside the octets, and octets that end before it are `Short`.
 pub fn fault_is_first()
     ensures { FaultIsFirst }
+{}
+
+/// Octets that are `Short` are at most as many as the limit.
+pub fn short_is_within()
+    ensures { ShortIsWithin }
 {}
 
 /// A proper beginning of a spelling is `Short`.
