@@ -47,3 +47,6 @@ pub mod Fitting
 pub mod Strict
 pub mod StrictRules
 pub mod DerForms
+pub mod Wider
+pub mod WiderRules
+pub mod WiderLimits
