@@ -53,15 +53,21 @@ Wider-refl (Err (faults.TooDeep place)) = refl
 Wider-refl (Err (faults.TooLong place)) = tt
 Wider-refl (Err faults.NoMemory) = refl
 
+abbrev passed : Reading (Unit {0})
+passed = Ok tt
+
+test_wide : (m place until : ℕ) (t b : Bool) → (t ≡ false → nat_lt m until ≡ false)
+    → Wider {A = Unit {0}} same (cond t (Err (faults.TooLong place)) (cond b (refuse place Length) passed)) (cond (nat_lt m until) (Err (faults.TooLong place)) (cond b (refuse place Length) passed))
+test_wide m place until true b k = tt
+test_wide m place until false true k = rw (k refl) refl
+test_wide m place until false false k = rw (k refl) refl
+
+low_wide : (limit m until : ℕ) → limit ≤ m → nat_lt limit until ≡ false → nat_lt m until ≡ false
+low_wide limit m until le t = le-ltb m until (let low : until ≤ limit = ltb-false limit until t in omega arith)
+
 pub within_wide : (m : ℕ) (scope : Scope) (place until : ℕ) → scope.limit ≤ m → Wider same (within scope place until) (within (wide m scope) place until)
 unfolding within
-within_wide m scope place until le = by_test (nat_lt scope.limit until) (is_past scope.end until) (λ t. le-ltb m until (let low : until ≤ scope.limit = ltb-false scope.limit until t in omega arith))
-  where
-    by_test : (t b : Bool) → (t ≡ false → nat_lt m until ≡ false)
-        → Wider same (cond t (Err (faults.TooLong place)) (cond b (refuse place Length) (Ok tt))) (cond (nat_lt m until) (Err (faults.TooLong place)) (cond b (refuse place Length) (Ok tt)))
-    by_test true b k = tt
-    by_test false true k = rw (k refl) refl
-    by_test false false k = rw (k refl) refl
+within_wide m scope place until le = test_wide m place until (nat_lt scope.limit until) (is_past scope.end until) (low_wide scope.limit m until le)
 
 -- behind a field that stays within
 then_wide : {B : Type 0} (h : B → B) (m : ℕ) (scope : Scope) (place until : ℕ) (f k : Unit {0} → Reading B) → scope.limit ≤ m → Wider h (f tt) (k tt) → Wider h (within scope place until >>= f) (within (wide m scope) place until >>= k)
@@ -197,4 +203,3 @@ look_wide m scope place rest le =
     Wider-cond same scope.marked _ _ _ _
     (λ t. Wider-cond same (is_end scope.end place) _ _ _ _ (λ t. then_wide same m scope place (place + 1) _ _ le (refl)) (λ t. mark_wide m scope place rest le))
     (λ t. Wider-cond same (is_end scope.end place) _ _ _ _ (λ t. refl) (λ t. begin_wide m scope place rest le))
-

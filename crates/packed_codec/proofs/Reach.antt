@@ -168,7 +168,7 @@ list_bounded r h = record {
   each = λ limit s end e.
       then_bounded second second limit end (count_at limit s) _ (count_bounded limit s end e) (λ n d.
       either_bounded second limit end (nat_lt n.1.left n.0) _ _ tt
-      (then_bounded second second limit end (items_at r n.0 limit (spent n.0 n.1)) _ (items_bounded r h n.0 limit (spent n.0 n.1) end d) (λ y g. g)));
+      (then_bounded second second limit end (items_at r n.0 limit (spent n.0 n.1)) _ (items_bounded r h n.0 limit (spent n.0 n.1) end (record { ends = d.ends; short = d.short })) (λ y g. g)));
 }
 
 -- nothing is read

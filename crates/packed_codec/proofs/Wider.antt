@@ -43,13 +43,19 @@ either_wider : {A : Type 0} (b : Bool) (r s x y : Reading A) → Wider r x → W
 either_wider true r s x y h k = h
 either_wider false r s x y h k = k
 
+abbrev passed : Reading (Unit {0})
+passed = Ok tt
+
+test_wider : (more place until : ℕ) (t : Bool) → (t ≡ false → nat_lt more until ≡ false) → Wider {A = Unit {0}} (cond t (Err (faults.TooLong place)) passed) (cond (nat_lt more until) (Err (faults.TooLong place)) passed)
+test_wider more place until true k = tt
+test_wider more place until false k = rw (k refl) refl
+
+low_wider : (limit more until : ℕ) → limit ≤ more → nat_lt limit until ≡ false → nat_lt more until ≡ false
+low_wider limit more until le t = le-ltb more until (let low : until ≤ limit = ltb-false limit until t in omega arith)
+
 within_wider : (limit more place until : ℕ) → limit ≤ more → Wider (within limit place until) (within more place until)
 unfolding within
-within_wider limit more place until le = by_test (nat_lt limit until) (λ t. le-ltb more until (let low : until ≤ limit = ltb-false limit until t in omega arith))
-  where
-    by_test : (t : Bool) → (t ≡ false → nat_lt more until ≡ false) → Wider (cond t (Err (faults.TooLong place)) (Ok tt)) (cond (nat_lt more until) (Err (faults.TooLong place)) (Ok tt))
-    by_test true k = tt
-    by_test false k = rw (k refl) refl
+within_wider limit more place until le = test_wider more place until (nat_lt limit until) (low_wider limit more until le)
 
 -- ---- fields
 
