@@ -1,0 +1,4 @@
+pub mod Calls
+pub mod Heads
+pub mod Judging
+pub mod Hearing
