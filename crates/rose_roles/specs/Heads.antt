@@ -1,5 +1,5 @@
 -- What a head says, with what the octets of its value carry.
-use Rattle.std.specs.Prelude.{◌≡◌, ℕ, ℤ, Bool, true, false, List, Option, Some, None}
+use Rattle.std.specs.Prelude.{◌≡◌, ℕ, min, ℤ, Bool, true, false, List, Option, Some, None}
 use Rattle.std.specs.Option.{option_map}
 use Rattle.osi_base.specs.declared.syntax.Syntax.{Syntax}
 use Rattle.osi_base.specs.declared.syntax.Syntax.TheVariants.{Ber, Der, Packed}
@@ -9,6 +9,7 @@ use Rattle.asn1_types.specs.declared.table.TypeTable.{TypeTable}
 use Rattle.stub_tables.specs.declared.tables.Tables.{Tables}
 use Rattle.stub_tables.specs.declared.operation.Code.{Code}
 use Rattle.stub_tables.specs.declared.operation.Use.{Use}
+use Rattle.stub_tables.specs.Lookup.{error_at}
 use Rattle.stub_tables.specs.Apdus.{argument_of, result_of, parameter_of, operation_coded, error_coded}
 use Rattle.apdu_spelling.specs.declared.head.ApduHead.{ApduHead}
 use Rattle.apdu_spelling.specs.declared.head.ApduKind.{ApduKind}
@@ -20,7 +21,7 @@ use Rattle.end_rules.specs.Base.{Carried, Absent, Spelled, Unspelled, Head, BadR
 abbrev pub room_in : Syntax → ℕ → ℕ
 room_in Ber room = 262144
 room_in Der room = 262144
-room_in Packed room = room
+room_in Packed room = min room 262144
 
 -- The octets carry this: nothing, a value that they spell, or none that they spell.
 abbrev pub Carries : Syntax → TypeTable → ℕ → Option Use → Option (List ℕ) → Carried → Type 0
@@ -36,6 +37,14 @@ Carries syntax types room used (Some octets) Unspelled = (value : Val) → Carri
 abbrev pub coded : (Code → Option Use) → Option Code → Option Use
 coded used None = None
 coded used (Some code) = used code
+
+-- that of the error at this place
+abbrev pub parameter_at : Tables → ℕ → Option Use
+parameter_at tables place = option_map parameter_of (error_at tables place)
+
+abbrev pub parameter_placed : Tables → Option ℕ → Option Use
+parameter_placed tables None = None
+parameter_placed tables (Some place) = parameter_at tables place
 
 abbrev pub use_by : Tables → ApduKind → Option Code → Option Use
 use_by tables Invoke code = coded (λ c. option_map argument_of (operation_coded tables c)) code

@@ -5,10 +5,12 @@ use Rattle.asn1_types.specs.declared.table.TypeTable.{TypeTable}
 use Rattle.stub_tables.specs.declared.tables.Tables.{Tables}
 use Rattle.stub_tables.specs.declared.operation.Code.{Code}
 use Rattle.stub_tables.specs.declared.operation.Operation.{Operation}
+use Rattle.stub_tables.specs.declared.operation.ErrorRow.{ErrorRow}
 use Rattle.stub_tables.specs.declared.operation.Use.{Use}
 use Rattle.stub_tables.specs.Codes.{is_silent, is_error_of}
 use Rattle.stub_tables.specs.Lookup.{operation_at, error_at, operation_with}
 use Rattle.stub_tables.specs.Uses.{is_carried}
+use Rattle.stub_tables.specs.Apdus.{placed}
 use Rattle.end_rules.specs.Base.{Carried, Absent, Spelled, Unspelled}
 use Rattle.end_rules.specs.State.{is_empty}
 use Rattle.end_rules.specs.Invoking.{is_linked_to}
@@ -21,10 +23,6 @@ use Rattle.rose_roles.specs.Calls.{Kept, called}
 abbrev pub silent : Option Operation → Bool
 silent None = false
 silent (Some operation) = is_silent operation
-
-abbrev pub placed : Tables → Option ℕ → Option Operation
-placed tables None = None
-placed tables (Some place) = operation_at tables place
 
 abbrev pub operation_called : Tables → Option Called → Option Operation
 operation_called tables None = None
@@ -50,7 +48,7 @@ known_problem tables invoked linked (Some place) = linking_problem tables invoke
 abbrev pub early_problem : Tables → Kept → Kept → ℤ → Option ℤ → Option ℕ → Option ℕ
 early_problem tables invoked performed id linked place =
     first_problem (problem_if (is_some (called id performed)) 0)
-    (first_problem (problem_if (nat_le 4096 (length performed) && not (silent (placed tables place))) 3)
+    (first_problem (problem_if (nat_le 4096 (length performed) && not (silent (placed (operation_at tables) place))) 3)
     (known_problem tables invoked linked place))
 
 -- ---- values
@@ -70,6 +68,19 @@ abbrev pub IsJudged : Option ℕ → Option Val → judgeds.Judged → Type 0
 IsJudged problem value (judged.Right v) = (problem ≡ None) × (v ≡ value)
 IsJudged problem value (judged.Wrong number) = problem ≡ Some number
 
+abbrev pub operation_argument_problem : Tables → Option Operation → Carried → Option ℕ
+operation_argument_problem tables None argument = Some 2
+operation_argument_problem tables (Some operation) argument = problem_if (not (is_right tables.types operation.argument argument)) 2
+
+-- all problems of an invocation; the argument's is the last (2)
+abbrev pub argument_problem : Tables → Option ℕ → Carried → Option ℕ
+argument_problem tables None argument = Some 1
+argument_problem tables (Some place) argument = operation_argument_problem tables (operation_at tables place) argument
+
+abbrev pub invoke_problem : Tables → Kept → Kept → ℤ → Option ℤ → Option ℕ → Carried → Option ℕ
+invoke_problem tables invoked performed id linked place argument =
+    first_problem (early_problem tables invoked performed id linked place) (argument_problem tables place argument)
+
 -- a result without a code and a value, or one with the operation's code and a value of its type
 abbrev pub right_result : Tables → ℕ → Operation → Option Code → Carried → Bool
 right_result tables place operation None value = is_carried tables.types operation.result None
@@ -81,14 +92,14 @@ result_problem tables place None code value = Some 1
 result_problem tables place (Some operation) code value =
     first_problem (problem_if (not operation.returns) 1) (problem_if (not (right_result tables place operation code value)) 2)
 
+abbrev pub parameter_problem : Tables → Option ErrorRow → Carried → Option ℕ
+parameter_problem tables None parameter = Some 4
+parameter_problem tables (Some error) parameter = problem_if (not (is_right tables.types error.parameter parameter)) 4
+
 abbrev pub known_error_problem : Tables → Operation → Option ℕ → Carried → Option ℕ
 known_error_problem tables operation None parameter = Some 2
 known_error_problem tables operation (Some place) parameter =
-    first_problem (problem_if (not (is_error_of operation place)) 3) (parameter_problem (error_at tables place))
-  where
-    parameter_problem : Option _ → Option ℕ
-    parameter_problem None = Some 4
-    parameter_problem (Some error) = problem_if (not (is_right tables.types error.parameter parameter)) 4
+    first_problem (problem_if (not (is_error_of operation place)) 3) (parameter_problem tables (error_at tables place) parameter)
 
 abbrev pub error_problem : Tables → Option Operation → Option ℕ → Carried → Option ℕ
 error_problem tables None place parameter = Some 1

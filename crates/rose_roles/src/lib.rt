@@ -1,13 +1,16 @@
-// A library with one function.
+//! The two sides of remote operations (X.880 8, 9; X.882 9): the invoker, which takes outcomes and
+//! rejects, and the performer, which takes invocations.
 #![tactic(auto)]
 
-ghost use Rattle.std.specs.Prelude.{◌≡◌};
-ghost use Rattle.rose_roles.specs.Echo.{echo_of};
+mod called;
+mod invoker;
+mod judging;
+mod opening;
+mod performer;
+mod taken;
+mod values;
 
-// The `ensures` clause is the contract: what `echo` returns is `echo_of` of its argument, a definition
-// in `specs/Echo.antt`, which a caller's clause can cite too.
-pub fn echo(x: usize) -> usize
-    ensures { result ≡ echo_of x }
-{
-    x
-}
+pub use called::Called;
+pub use invoker::Invoker;
+pub use performer::Performer;
+pub use taken::{RoseTaken, refused};

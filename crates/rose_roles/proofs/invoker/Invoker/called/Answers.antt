@@ -1,0 +1,6 @@
+use Rattle.std.proofs.Common.{ap, sym, ◌∙◌}
+use Rattle.rose_roles.specs.Calls.{Invoking, called}
+use Rattle.rose_roles.proofs.invoker.Invoker.called.Goals as goal
+
+pub returns : goal.returns
+returns c = c.copied.ensures ∙ c.get.ensures.value

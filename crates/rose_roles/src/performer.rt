@@ -1,0 +1,244 @@
+//! The side that performs: what becomes of invocations.
+
+ghost use Rattle.std.specs.Prelude.{◌≡◌, ℕ, ℤ, [], length, None, Some, true, false, IfOk, OnOk, OnErr};
+ghost use Rattle.std.specs.Option.{option_map};
+ghost use Rattle.stub_tables.specs.Lookup.{operation_at};
+ghost use Rattle.stub_tables.specs.Apdus.{placed, argument_of};
+ghost use Rattle.linked_ops.specs.Entries.{is_open, is_open_or_none};
+ghost use Rattle.end_rules.specs.Base.{Base, Carried};
+ghost use Rattle.end_rules.specs.State.{close};
+ghost use Rattle.end_rules.specs.Hearing.{opening, invoked, value_in};
+ghost use Rattle.rose_roles.specs.Calls.{Invoking, called, key_of, AreOpen, calls_of};
+ghost use Rattle.rose_roles.specs.Heads.{is_invocation, Carries};
+ghost use Rattle.rose_roles.specs.Judging.{early_problem, invoke_problem, IsJudged};
+ghost use Rattle.rose_roles.specs.Hearing.{Hears, heard_with};
+
+use crate::called::Called;
+use crate::invoker::Invoker;
+use crate::judging::{Judged, is_silent_at, judge_argument, link_problem};
+use crate::opening::{enter, leave};
+use crate::taken::{RoseTaken, rejected};
+use apdu_spelling::ApduHead;
+use asn1_types::Val;
+use linked_ops::Forest;
+use osi_base::{NoMemory, Octets, ProblemKind, Syntax};
+use std::alloc::Global;
+use std::collections::BTreeMap;
+use std::marker::Model;
+use stub_tables::Tables;
+
+/// The open invocations of the peer, each with its operation and context, and the context on which
+/// the next APDU comes. Their keys stand in the forest.
+#[derive(Drop)]
+pub struct Performer {
+    alloc: Global,
+    kept: BTreeMap<i64, Called>,
+    context: u32,
+}
+
+impl Model for Performer {
+    ghost use Rattle.rose_roles.specs.Calls.{Performing};
+
+    ghost Value = { Performing };
+
+    ghost view = { λ p. record { kept = p.kept.entries; context = p.context } };
+}
+
+impl Performer {
+    /// No invocation of the peer is open, and APDUs come on context 0.
+    pub fn new(alloc: Global) -> Performer
+        ensures { result ≡ record { kept = []; context = 0 } }
+    {
+        Performer {
+            alloc,
+            kept: BTreeMap::new(alloc),
+            context: 0,
+        }
+    }
+
+    /// Says on which presentation context the next APDU comes.
+    pub fn set_context(&mut self, context: u32)
+        ensures { self.new ≡ record self.old { context = context } }
+    {
+        self.context = context;
+    }
+
+    /// What is called under an identifier of the peer, where it is open.
+    pub fn called(&self, id: i64) -> Option<Called>
+        ensures { result ≡ called id self.now.kept }
+    {
+        self.kept.get(&id).copied()
+    }
+
+    /// How many invocations of the peer are open.
+    pub fn open_count(&self) -> usize
+        ensures { result ≡ length self.now.kept }
+    {
+        self.kept.len()
+    }
+
+    /// Closes an invocation of the peer, if it is open: it was answered.
+    pub fn close(&mut self, forest: &mut Forest, id: i64)
+        requires { AreOpen false forest.old self.old.kept }
+        ensures closed { (invoked : Invoking) → calls_of forest.new invoked self.new.kept ≡ close false id (calls_of forest.old invoked self.old.kept) }
+        ensures context { self.new.context ≡ self.old.context }
+        ensures peer { AreOpen false forest.new self.new.kept }
+        ensures own { (invoked : Invoking) → AreOpen true forest.old invoked.kept → AreOpen true forest.new invoked.kept }
+    {
+        forest.is_forest();
+        leave(&mut self.kept, forest, false, id);
+    }
+
+    /// Forgets all open invocations of the peer; their keys are to be taken from the forest too.
+    pub fn clear(&mut self)
+        ensures { self.new ≡ record self.old { kept = [] } }
+    {
+        self.kept.clear();
+    }
+
+    /// The first problem of an invocation but that of its argument.
+    fn early_problem(
+        &self,
+        own: &Invoker,
+        tables: &Tables,
+        id: i64,
+        linked: Option<i64>,
+        place: Option<u32>,
+    ) -> Option<u8>
+        ensures { result ≡ early_problem tables.now own.now.kept self.now.kept id linked place }
+    {
+        if self.called(id).is_some() {
+            return Some(0);
+        }
+        if self.open_count() >= 4096 && !is_silent_at(tables, place) {
+            return Some(3);
+        }
+        let Some(place) = place else { return Some(1) };
+        let Some(linked) = linked else { return None };
+        link_problem(tables, own.called(linked), place)
+    }
+
+    /// The argument of an invocation, or its first problem.
+    fn judge(
+        &self,
+        own: &Invoker,
+        syntax: Syntax,
+        tables: &Tables,
+        id: i64,
+        linked: Option<i64>,
+        place: Option<u32>,
+        octets: &Option<Octets>,
+        room: u32,
+    ) -> Result<Judged, NoMemory>
+        ensures { IfOk result (λ judged. (carried : Carried) → Carries syntax tables.now.types room (option_map argument_of (placed (operation_at tables.now) place)) octets.now carried → IsJudged (invoke_problem tables.now own.now.kept self.now.kept id linked place carried) (value_in carried) judged) }
+    {
+        match self.early_problem(own, tables, id, linked, place) {
+            Some(number) => Ok(Judged::Wrong(number)),
+            None => judge_argument(self.alloc, syntax, tables, place, octets, room),
+        }
+    }
+
+    /// Opens an invocation of the operation at this place, unless it is silent. Want of memory
+    /// changes nothing.
+    fn admit(
+        &mut self,
+        forest: &mut Forest,
+        tables: &Tables,
+        id: i64,
+        place: u32,
+        linked: Option<i64>,
+    ) -> Result<(), NoMemory>
+        requires shut { called id self.old.kept ≡ None }
+        requires linked { is_open_or_none (option_map (key_of true) linked) forest.old ≡ true }
+        requires peer { AreOpen false forest.old self.old.kept }
+        ensures admitted { OnOk result ((base : Base) (own : Invoking) → base.tables ≡ tables.now → calls_of forest.new own self.new.kept ≡ opening base (record { own = false; id = id; operation = place; context = self.old.context; parent = linked }) (calls_of forest.old own self.old.kept)) }
+        ensures peer { AreOpen false forest.new self.new.kept }
+        ensures own { (own : Invoking) → AreOpen true forest.old own.kept → AreOpen true forest.new own.kept }
+        ensures err { OnErr result ((self.new ≡ self.old) × (forest.new ≡ forest.old)) }
+    {
+        if is_silent_at(tables, Some(place)) {
+            return Ok(());
+        }
+        let call = Called {
+            operation: place,
+            context: self.context,
+        };
+        enter(&mut self.kept, forest, false, id, call, linked)
+    }
+
+    /// What becomes of an invocation without a problem.
+    fn perform(
+        &mut self,
+        forest: &mut Forest,
+        tables: &Tables,
+        id: i64,
+        place: Option<u32>,
+        linked: Option<i64>,
+        argument: Option<Val>,
+    ) -> Result<RoseTaken, NoMemory>
+        requires shut { called id self.old.kept ≡ None }
+        requires linked { is_open_or_none (option_map (key_of true) linked) forest.old ≡ true }
+        requires peer { AreOpen false forest.old self.old.kept }
+        ensures performed { IfOk result (λ taken. (base : Base) (own : Invoking) (carried : Carried) → base.tables ≡ tables.now → argument ≡ value_in carried → heard_with (calls_of forest.new own self.new.kept) taken ≡ invoked base (calls_of forest.old own self.old.kept) self.old.context id linked place carried) }
+        ensures peer { AreOpen false forest.new self.new.kept }
+        ensures own { (own : Invoking) → AreOpen true forest.old own.kept → AreOpen true forest.new own.kept }
+        ensures err { OnErr result ((self.new ≡ self.old) × (forest.new ≡ forest.old)) }
+    {
+        let Some(operation) = place else {
+            return Ok(rejected(Some(id), ProblemKind::Invoke, 1));
+        };
+        self.admit(forest, tables, id, operation, linked)?;
+        Ok(RoseTaken::Invoked {
+            id,
+            operation,
+            linked,
+            argument,
+        })
+    }
+
+    /// What becomes of an invocation (X.880 9.1): the first problem that holds is the reject's, else
+    /// the user is told, and the invocation is open unless its operation is silent. The head was
+    /// read in this syntax; the own keys of the forest are the open invocations of `own`, the others
+    /// those of this side. Want of memory changes nothing.
+    pub fn take(
+        &mut self,
+        own: &Invoker,
+        forest: &mut Forest,
+        syntax: Syntax,
+        tables: &Tables,
+        head: ApduHead,
+    ) -> Result<RoseTaken, NoMemory>
+        requires kind { is_invocation head.kind ≡ true }
+        requires own { AreOpen true forest.old own.now.kept }
+        requires peer { AreOpen false forest.old self.old.kept }
+        ensures heard { IfOk result (λ taken. Hears tables.now syntax self.old.context head (calls_of forest.old own.now self.old.kept) (calls_of forest.new own.now self.new.kept) taken) }
+        ensures own { AreOpen true forest.new own.now.kept }
+        ensures peer { AreOpen false forest.new self.new.kept }
+        ensures err { OnErr result ((self.new ≡ self.old) × (forest.new ≡ forest.old)) }
+    {
+        forest.is_forest();
+        let _count = self.kept.len();
+        let Some(id) = head.id else {
+            return Ok(RoseTaken::BadReject);
+        };
+        let Some(code) = head.code else {
+            return Ok(RoseTaken::BadReject);
+        };
+        let place = tables.operation_with(&code);
+        match self.judge(
+            own,
+            syntax,
+            tables,
+            id,
+            head.linked,
+            place,
+            &head.rest,
+            head.room,
+        )? {
+            Judged::Wrong(number) => Ok(rejected(Some(id), ProblemKind::Invoke, number)),
+            Judged::Right(argument) => {
+                self.perform(forest, tables, id, place, head.linked, argument)
+            }
+        }
+    }
+}
