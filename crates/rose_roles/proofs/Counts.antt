@@ -1,6 +1,10 @@
 -- As many keys of one end stand in the forest as it keeps invocations.
 use Rattle.std.proofs.Common.{◌≡◌, ℕ, suc, ◌+◌, ℤ, Bool, true, false, not, ◌||◌, ◌&&◌, cond, List, [], ◌∷◌, length, map, filter, Option, Some, None, is_some, refl, sym, ap, subst, ◌∙◌, arith}
-use Rattle.std.specs.Ordering.{int_eq, int_cmp}
+use Rattle.std.specs.Ordering.{is_eq, int_eq, int_cmp}
+use Rattle.std.specs.declared.cmp.Ordering.TheVariants.{Less}
+use Rattle.std.specs.List.{AllByRecursion}
+use Rattle.std.specs.List.Sorted.{IsStrictlySortedBy}
+use Rattle.std.proofs.lemmas.Map.Keys.{sorted_head, sorted_tail}
 use Rattle.std.specs.Map.{lookup, remove_entry, keys_of}
 use Rattle.std.specs.BTreeMap.{is_at}
 use Rattle.linked_ops.specs.declared.key.Key.{Key}
@@ -122,3 +126,13 @@ module _ (own : Bool) where
       let w : length (ends.opens_of own (opens_in (e ∷ es) i p)) ≡ length (ends.opens_of own (opens_in es i p)) =
       ap (λ (c : Bool). length (cond c (open_call i p e ∷ ends.opens_of own (opens_in es i p)) (ends.opens_of own (opens_in es i p)))) (whose own e.0.own ∙ f) in
       w ∙ counts i p es kept a.1 o (skipped e es kept h f))
+
+-- ---- a map's keys rise
+
+past : (k : ℤ) (cs : Kept) → AllByRecursion (λ (y : ℤ). int_cmp k y ≡ Less) (keys_of cs) → called k cs ≡ None
+past k [] h = refl
+past k (c ∷ cs) h = called_past k c cs (ap is_eq h.0) ∙ past k cs h.1
+
+pub once_sorted : (kept : Kept) → IsStrictlySortedBy int_cmp (keys_of kept) → Once kept
+once_sorted [] h = tt
+once_sorted (c ∷ cs) h = (past c.0 cs (sorted_head int_cmp c.0 (keys_of cs) h), once_sorted cs (sorted_tail int_cmp c.0 (keys_of cs) h))

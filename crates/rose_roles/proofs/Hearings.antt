@@ -1,5 +1,5 @@
 -- What an end hears in a head, over what each end keeps.
-use Rattle.std.proofs.Common.{◌≡◌, ℕ, ℤ, Bool, true, false, not, ◌&&◌, nat_le, cond, List, [], length, Option, Some, None, is_some, refl, sym, ap, subst, ◌∙◌}
+use Rattle.std.proofs.Common.{◌≡◌, ℕ, ℤ, Bool, true, false, not, ◌&&◌, nat_le, cond, List, [], ◌∷◌, ◌++◌, length, Option, Some, None, is_some, refl, sym, ap, subst, ◌∙◌}
 use Rattle.std.specs.Option.{option_map}
 use Rattle.osi_base.specs.declared.words.Problem.{Problem}
 use Rattle.osi_base.specs.declared.words.ProblemKind.TheVariants as problems
@@ -59,7 +59,7 @@ operation_both base (Some o) None m = absurd m
 
 -- ---- problems
 
-right_is : (base : Base) (used : Use) (carried : Carried) → rules.is_right base used carried ≡ judging.is_right base.tables.types used carried
+pub right_is : (base : Base) (used : Use) (carried : Carried) → rules.is_right base used carried ≡ judging.is_right base.tables.types used carried
 right_is base used Absent = refl
 right_is base used (Spelled v) = refl
 right_is base used Unspelled = refl
@@ -138,17 +138,55 @@ no_some : (c : Option Called) → is_some c ≡ false → c ≡ None
 no_some None e = refl
 no_some (Some c) e = absurd cc
 
-pub is_free : (t : Tables) (i p : Kept) (id : ℤ) (linked : Option ℤ) (place : Option ℕ) (carried : Carried) → judging.invoke_problem t i p id linked place carried ≡ None → called id p ≡ None
-is_free t i p id linked place carried e = no_some _ (not_if _ 0 (none_of _ _ (none_of _ _ e).0).0)
+pub is_free : (t : Tables) (i p : Kept) (id : ℤ) (linked : Option ℤ) (place : Option ℕ) → judging.early_problem t i p id linked place ≡ None → called id p ≡ None
+is_free t i p id linked place e = no_some _ (not_if _ 0 (none_of _ _ e).0)
 
 not_not : (b : Bool) → not b ≡ false → b ≡ true
 not_not true e = refl
 not_not false e = absurd cc
 
-pub link_open : (t : Tables) (es : List Entry) (i p : Kept) (id : ℤ) (linked : Option ℤ) (place : Option ℕ) (carried : Carried) → AreOpen true es i
-    → judging.invoke_problem t i p id linked place carried ≡ None → is_open_or_none (option_map (key_of true) linked) es ≡ true
-link_open t es i p id None place carried mine e = refl
-link_open t es i p id (Some l) None carried mine e = let x = (none_of _ _ (none_of _ _ (none_of _ _ e).0).1).1 in absurd cc
-link_open t es i p id (Some l) (Some place) carried mine e =
-    let x = (none_of _ _ (none_of _ _ (none_of _ _ e).0).1).1 in
-    mine.each l ∙ not_not _ (not_if _ 5 (none_of _ _ x).0)
+pub link_open : (t : Tables) (es : List Entry) (i p : Kept) (id : ℤ) (linked : Option ℤ) (place : Option ℕ) → AreOpen true es i
+    → judging.early_problem t i p id linked place ≡ None → is_open_or_none (option_map (key_of true) linked) es ≡ true
+link_open t es i p id None place mine e = refl
+link_open t es i p id (Some l) None mine e =
+    let x : Some 1 ≡ None = (none_of _ _ (none_of _ _ e).1).1 in absurd cc
+link_open t es i p id (Some l) (Some place) mine e =
+    let x = (none_of _ _ (none_of _ _ e).1).1 in mine.each l ∙ not_not _ (not_if _ 5 (none_of _ _ x).0)
+
+-- ---- as the calls say it
+
+pub later : (C : Carried → Type 0) (early : Option ℕ) (p : Carried → Option ℕ) (j : judgeds.Judged) → early ≡ None
+    → ((c : Carried) → C c → judging.IsJudged (p c) (rules.value_in c) j) → (c : Carried) → C c → judging.IsJudged (rules.first_problem early (p c)) (rules.value_in c) j
+later C early p j e h c k = subst (λ (x : Option ℕ). judging.IsJudged (rules.first_problem x (p c)) (rules.value_in c) j) (sym e) (h c k)
+
+free_of : (early : Option ℕ) (j : judgeds.Judged) → early ≡ None → judging.IsFree early j
+free_of early (judged.Right v) e = e
+free_of early (judged.Wrong n) e = tt
+
+pub is_free_of : (early : Option ℕ) (j : judgeds.Judged) → early ≡ None → judging.IsFree early j
+is_free_of early j e = free_of early j e
+
+module _ (base : Base) (t : Tables) (same : base.tables ≡ t) (o : ends.OpenCall) (calls : ends.Calls) where
+  silent_same : (b : Bool) → judging.silent (placed (operation_at t) (Some o.operation)) ≡ b → rules.is_silent_at base (Some o.operation) ≡ b
+  silent_same b e = silent_is base (Some o.operation) ∙ ap (λ (x : Tables). judging.silent (placed (operation_at x) (Some o.operation))) same ∙ e
+
+  pub not_admitted : judging.silent (placed (operation_at t) (Some o.operation)) ≡ true → calls ≡ rules.opening base o calls
+  not_admitted e = sym (ap (λ (b : Bool). cond b calls (record calls { opens = calls.opens ++ o ∷ [] })) (silent_same true e))
+
+  pub admitted : judging.silent (placed (operation_at t) (Some o.operation)) ≡ false → record calls { opens = calls.opens ++ o ∷ [] } ≡ rules.opening base o calls
+  admitted e = sym (ap (λ (b : Bool). cond b calls (record calls { opens = calls.opens ++ o ∷ [] })) (silent_same false e))
+
+module _ (base : Base) (t : Tables) (same : base.tables ≡ t) (es : List Entry) (own : Invoking) (performed : Kept) (mine : AreOpen true es own.kept) (theirs : AreOpen false es performed) (apart : AreApart es) (once : Once performed)
+    (context : ℕ) (id : ℤ) (linked : Option ℤ) (code : Code) (place : Option ℕ) (is : place ≡ operation_with t code) (carried : Carried) where
+  at_base : (p : Option ℕ) → judging.invoke_problem t own.kept performed id linked place carried ≡ p → judging.invoke_problem base.tables own.kept performed id linked (operation_with base.tables code) carried ≡ p
+  at_base p e = (λ k. judging.invoke_problem (same k) own.kept performed id linked (operation_with (same k) code) carried) ∙ ap (λ (x : Option ℕ). judging.invoke_problem t own.kept performed id linked x carried) (sym is) ∙ e
+
+  pub heard_wrong : (number : ℕ) → judging.invoke_problem t own.kept performed id linked place carried ≡ Some number
+      → heard_with (calls_of es own performed) (taken.Reject (Some id) (rules.problem_with problems.Invoke number)) ≡ rules.hear base (calls_of es own performed) context (InvokeHead id linked code carried)
+  heard_wrong number e = wrong_invoke base es own performed mine theirs apart once context id linked code carried number (at_base (Some number) e)
+
+  pub heard_right : judging.invoke_problem t own.kept performed id linked place carried ≡ None
+      → rules.invoked base (calls_of es own performed) context id linked place carried ≡ rules.hear base (calls_of es own performed) context (InvokeHead id linked code carried)
+  heard_right e =
+      ap (λ (x : Option ℕ). rules.invoked base (calls_of es own performed) context id linked x carried) (is ∙ ap (λ (x : Tables). operation_with x code) (sym same))
+      ∙ right_invoke base es own performed mine theirs apart once context id linked code carried (at_base None e)

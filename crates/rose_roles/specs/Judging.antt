@@ -81,6 +81,11 @@ abbrev pub invoke_problem : Tables → Kept → Kept → ℤ → Option ℤ → 
 invoke_problem tables invoked performed id linked place argument =
     first_problem (early_problem tables invoked performed id linked place) (argument_problem tables place argument)
 
+-- what is right has no earlier problem
+abbrev pub IsFree : Option ℕ → judgeds.Judged → Type 0
+IsFree early (judged.Right v) = early ≡ None
+IsFree early (judged.Wrong number) = Unit {0}
+
 -- a result without a code and a value, or one with the operation's code and a value of its type
 abbrev pub right_result : Tables → ℕ → Operation → Option Code → Carried → Bool
 right_result tables place operation None value = is_carried tables.types operation.result None

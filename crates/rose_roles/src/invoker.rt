@@ -5,11 +5,12 @@ ghost use Rattle.std.specs.Option.{option_map};
 ghost use Rattle.std.specs.Ordering.{int_cmp};
 ghost use Rattle.linked_ops.specs.Entries.{IsForest, is_open, is_open_or_none};
 ghost use Rattle.apdu_spelling.specs.declared.head.ApduKind.TheVariants as kinds;
-ghost use Rattle.end_rules.specs.Base.{Base};
+ghost use Rattle.stub_tables.specs.Lookup.{error_with};
+ghost use Rattle.end_rules.specs.Base.{Base, ResultHead, ErrorHead, RejectHead};
 ghost use Rattle.end_rules.specs.State.{close};
-ghost use Rattle.end_rules.specs.Hearing.{hear};
-ghost use Rattle.rose_roles.specs.Heads.{is_invocation, reject_by};
-ghost use Rattle.rose_roles.specs.Hearing.{Hears, heard_with};
+ghost use Rattle.end_rules.specs.Hearing.{hear, is_of_invocation};
+ghost use Rattle.rose_roles.specs.Heads.{is_invocation, reject_by, Carries, use_by, parameter_placed};
+ghost use Rattle.rose_roles.specs.Hearing.{Hears, HearsHead, heard_with};
 ghost use Rattle.rose_roles.specs.Calls.{Kept, Invoking, called, key_of, AreOpen, calls_of, open_call};
 
 use crate::called::Called;
@@ -18,11 +19,11 @@ use crate::opening::{enter, leave};
 use crate::taken::{RoseTaken, error_taken, is_of_invocation, rejected, result_taken};
 use apdu_spelling::{ApduHead, ApduKind};
 use linked_ops::Forest;
-use osi_base::{NoMemory, Problem, ProblemKind, Syntax};
+use osi_base::{NoMemory, Octets, Problem, ProblemKind, Syntax};
 use std::alloc::Global;
 use std::collections::BTreeMap;
 use std::marker::Model;
-use stub_tables::Tables;
+use stub_tables::{Code, Tables};
 
 /// The own invocations of an end: those that are open, each with its operation and context, and how
 /// many were made. Their keys stand in the forest.
@@ -151,13 +152,35 @@ impl Invoker {
         ensures peer { (performed : Kept) → AreOpen false forest.old performed → AreOpen false forest.new performed }
         ensures err { OnErr result ((self.new ≡ self.old) × (forest.new ≡ forest.old)) }
     {
-        forest.is_forest();
         let Some(id) = head.id else {
             return Ok(RoseTaken::BadReject);
         };
-        let Some(call) = self.called(id) else {
-            return Ok(rejected(Some(id), ProblemKind::Result, 0));
-        };
+        match self.called(id) {
+            None => Ok(rejected(Some(id), ProblemKind::Result, 0)),
+            Some(call) => {
+                let taken = self.end_result(forest, syntax, tables, id, call, head)?;
+                Ok(taken)
+            }
+        }
+    }
+
+    /// A result of an open invocation.
+    fn end_result(
+        &mut self,
+        forest: &mut Forest,
+        syntax: Syntax,
+        tables: &Tables,
+        id: i64,
+        call: Called,
+        head: ApduHead,
+    ) -> Result<RoseTaken, NoMemory>
+        requires call { called id self.old.kept ≡ Some call }
+        requires own { AreOpen true forest.old self.old.kept }
+        ensures heard { IfOk result (λ taken. (performed : Kept) (context : ℕ) → HearsHead tables.now context (ResultHead id head.code) (Carries syntax tables.now.types head.room (use_by tables.now kinds.Result head.code) head.rest) (calls_of forest.old self.old performed) (calls_of forest.new self.new performed) taken) }
+        ensures own { AreOpen true forest.new self.new.kept }
+        ensures peer { (performed : Kept) → AreOpen false forest.old performed → AreOpen false forest.new performed }
+        ensures err { OnErr result ((self.new ≡ self.old) × (forest.new ≡ forest.old)) }
+    {
         let judged = judge_result(
             self.alloc,
             syntax,
@@ -186,25 +209,51 @@ impl Invoker {
         ensures peer { (performed : Kept) → AreOpen false forest.old performed → AreOpen false forest.new performed }
         ensures err { OnErr result ((self.new ≡ self.old) × (forest.new ≡ forest.old)) }
     {
-        forest.is_forest();
         let Some(id) = head.id else {
             return Ok(RoseTaken::BadReject);
         };
-        let Some(code) = head.code else {
+        let Some(code) = &head.code else {
             return Ok(RoseTaken::BadReject);
         };
-        let Some(call) = self.called(id) else {
-            return Ok(rejected(Some(id), ProblemKind::Error, 0));
-        };
-        let error = tables.error_with(&code);
+        match self.called(id) {
+            None => Ok(rejected(Some(id), ProblemKind::Error, 0)),
+            Some(call) => {
+                let rest = &head.rest;
+                let room = head.room;
+                let taken = self.end_error(forest, syntax, tables, id, call, code, rest, room)?;
+                Ok(taken)
+            }
+        }
+    }
+
+    /// An error of an open invocation.
+    fn end_error(
+        &mut self,
+        forest: &mut Forest,
+        syntax: Syntax,
+        tables: &Tables,
+        id: i64,
+        call: Called,
+        code: &Code,
+        octets: &Option<Octets>,
+        room: u32,
+    ) -> Result<RoseTaken, NoMemory>
+        requires call { called id self.old.kept ≡ Some call }
+        requires own { AreOpen true forest.old self.old.kept }
+        ensures heard { IfOk result (λ taken. (performed : Kept) (context : ℕ) → HearsHead tables.now context (ErrorHead id code.now) (Carries syntax tables.now.types room (parameter_placed tables.now (error_with tables.now code.now)) octets.now) (calls_of forest.old self.old performed) (calls_of forest.new self.new performed) taken) }
+        ensures own { AreOpen true forest.new self.new.kept }
+        ensures peer { (performed : Kept) → AreOpen false forest.old performed → AreOpen false forest.new performed }
+        ensures err { OnErr result ((self.new ≡ self.old) × (forest.new ≡ forest.old)) }
+    {
+        let error = tables.error_with(code);
         let judged = judge_error(
             self.alloc,
             syntax,
             tables,
             call.operation,
             error,
-            &head.rest,
-            head.room,
+            octets,
+            room,
         )?;
         self.close(forest, id);
         Ok(error_taken(id, error, judged))
@@ -222,18 +271,39 @@ impl Invoker {
         ensures own { AreOpen true forest.new self.new.kept }
         ensures peer { (performed : Kept) → AreOpen false forest.old performed → AreOpen false forest.new performed }
     {
-        forest.is_forest();
         let Some(problem) = problem else {
             return RoseTaken::BadReject;
         };
         let Some(named) = id else {
-            return RoseTaken::RejectTaken { id, problem };
+            return RoseTaken::RejectTaken { id: None, problem };
         };
-        if !is_of_invocation(problem.kind) || self.called(named).is_none() {
-            return RoseTaken::RejectTaken { id, problem };
+        if is_of_invocation(problem.kind) {
+            return self.end_rejected(forest, named, problem);
         }
-        self.close(forest, named);
-        RoseTaken::Rejected { id: named, problem }
+        RoseTaken::RejectTaken {
+            id: Some(named),
+            problem,
+        }
+    }
+
+    /// A reject of an invocation, which closes it if it is open.
+    fn end_rejected(&mut self, forest: &mut Forest, id: i64, problem: Problem) -> RoseTaken
+        requires kind { is_of_invocation problem.kind ≡ true }
+        requires own { AreOpen true forest.old self.old.kept }
+        ensures heard { (performed : Kept) (context : ℕ) (base : Base) → heard_with (calls_of forest.new self.new performed) result ≡ hear base (calls_of forest.old self.old performed) context (RejectHead (Some id) problem) }
+        ensures own { AreOpen true forest.new self.new.kept }
+        ensures peer { (performed : Kept) → AreOpen false forest.old performed → AreOpen false forest.new performed }
+    {
+        match self.called(id) {
+            None => RoseTaken::RejectTaken {
+                id: Some(id),
+                problem,
+            },
+            Some(_) => {
+                self.close(forest, id);
+                RoseTaken::Rejected { id, problem }
+            }
+        }
     }
 
     /// What becomes of a result, an error or a reject (X.880 9.2 to 9.4): the first problem that

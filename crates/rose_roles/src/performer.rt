@@ -1,16 +1,16 @@
 //! The side that performs: what becomes of invocations.
 
-ghost use Rattle.std.specs.Prelude.{◌≡◌, ℕ, ℤ, [], length, None, Some, true, false, IfOk, OnOk, OnErr};
+ghost use Rattle.std.specs.Prelude.{◌≡◌, ℕ, ℤ, not, ◌&&◌, nat_le, [], length, None, Some, true, false, IfOk, OnOk, OnErr};
 ghost use Rattle.std.specs.Option.{option_map};
 ghost use Rattle.stub_tables.specs.Lookup.{operation_at};
 ghost use Rattle.stub_tables.specs.Apdus.{placed, argument_of};
 ghost use Rattle.linked_ops.specs.Entries.{is_open, is_open_or_none};
 ghost use Rattle.end_rules.specs.Base.{Base, Carried};
 ghost use Rattle.end_rules.specs.State.{close};
-ghost use Rattle.end_rules.specs.Hearing.{opening, invoked, value_in};
+ghost use Rattle.end_rules.specs.Hearing.{opening, invoked, value_in, first_problem, problem_if};
 ghost use Rattle.rose_roles.specs.Calls.{Invoking, called, key_of, AreOpen, calls_of};
 ghost use Rattle.rose_roles.specs.Heads.{is_invocation, Carries};
-ghost use Rattle.rose_roles.specs.Judging.{early_problem, invoke_problem, IsJudged};
+ghost use Rattle.rose_roles.specs.Judging.{silent, known_problem, early_problem, invoke_problem, IsJudged, IsFree};
 ghost use Rattle.rose_roles.specs.Hearing.{Hears, heard_with};
 
 use crate::called::Called;
@@ -34,6 +34,39 @@ pub struct Performer {
     alloc: Global,
     kept: BTreeMap<i64, Called>,
     context: u32,
+}
+
+/// The first of two problems.
+fn first_problem(first: Option<u8>, later: Option<u8>) -> Option<u8>
+    ensures { result ≡ first_problem first later }
+{
+    match first {
+        Some(number) => Some(number),
+        None => later,
+    }
+}
+
+/// A problem where it holds.
+fn problem_if(holds: bool, number: u8) -> Option<u8>
+    ensures { result ≡ problem_if holds number }
+{
+    if holds { Some(number) } else { None }
+}
+
+/// The problem of an operation's place and of a link.
+fn known_problem(
+    own: &Invoker,
+    tables: &Tables,
+    linked: Option<i64>,
+    place: Option<u32>,
+) -> Option<u8>
+    ensures { result ≡ known_problem tables.now own.now.kept linked place }
+{
+    match (place, linked) {
+        (None, _) => Some(1),
+        (Some(_), None) => None,
+        (Some(place), Some(linked)) => link_problem(tables, own.called(linked), place),
+    }
 }
 
 impl Model for Performer {
@@ -96,6 +129,15 @@ impl Performer {
         self.kept.clear();
     }
 
+    /// Whether no more invocation is opened, and this is one that would be.
+    fn is_full(&self, tables: &Tables, place: Option<u32>) -> bool
+        ensures { result ≡ (nat_le 4096 (length self.now.kept) && not (silent (placed (operation_at tables.now) place))) }
+    {
+        let many = self.open_count() >= 4096;
+        let silent = is_silent_at(tables, place);
+        many && !silent
+    }
+
     /// The first problem of an invocation but that of its argument.
     fn early_problem(
         &self,
@@ -107,15 +149,10 @@ impl Performer {
     ) -> Option<u8>
         ensures { result ≡ early_problem tables.now own.now.kept self.now.kept id linked place }
     {
-        if self.called(id).is_some() {
-            return Some(0);
-        }
-        if self.open_count() >= 4096 && !is_silent_at(tables, place) {
-            return Some(3);
-        }
-        let Some(place) = place else { return Some(1) };
-        let Some(linked) = linked else { return None };
-        link_problem(tables, own.called(linked), place)
+        let duplicate = problem_if(self.called(id).is_some(), 0);
+        let full = problem_if(self.is_full(tables, place), 3);
+        let known = known_problem(own, tables, linked, place);
+        first_problem(duplicate, first_problem(full, known))
     }
 
     /// The argument of an invocation, or its first problem.
@@ -130,11 +167,15 @@ impl Performer {
         octets: &Option<Octets>,
         room: u32,
     ) -> Result<Judged, NoMemory>
-        ensures { IfOk result (λ judged. (carried : Carried) → Carries syntax tables.now.types room (option_map argument_of (placed (operation_at tables.now) place)) octets.now carried → IsJudged (invoke_problem tables.now own.now.kept self.now.kept id linked place carried) (value_in carried) judged) }
+        ensures judged { IfOk result (λ judged. (carried : Carried) → Carries syntax tables.now.types room (option_map argument_of (placed (operation_at tables.now) place)) octets.now carried → IsJudged (invoke_problem tables.now own.now.kept self.now.kept id linked place carried) (value_in carried) judged) }
+        ensures free { IfOk result (IsFree (early_problem tables.now own.now.kept self.now.kept id linked place)) }
     {
         match self.early_problem(own, tables, id, linked, place) {
             Some(number) => Ok(Judged::Wrong(number)),
-            None => judge_argument(self.alloc, syntax, tables, place, octets, room),
+            None => {
+                let judged = judge_argument(self.alloc, syntax, tables, place, octets, room)?;
+                Ok(judged)
+            }
         }
     }
 
@@ -163,7 +204,8 @@ impl Performer {
             operation: place,
             context: self.context,
         };
-        enter(&mut self.kept, forest, false, id, call, linked)
+        enter(&mut self.kept, forest, false, id, call, linked)?;
+        Ok(())
     }
 
     /// What becomes of an invocation without a problem.
@@ -184,16 +226,18 @@ impl Performer {
         ensures own { (own : Invoking) → AreOpen true forest.old own.kept → AreOpen true forest.new own.kept }
         ensures err { OnErr result ((self.new ≡ self.old) × (forest.new ≡ forest.old)) }
     {
-        let Some(operation) = place else {
-            return Ok(rejected(Some(id), ProblemKind::Invoke, 1));
-        };
-        self.admit(forest, tables, id, operation, linked)?;
-        Ok(RoseTaken::Invoked {
-            id,
-            operation,
-            linked,
-            argument,
-        })
+        match place {
+            None => Ok(rejected(Some(id), ProblemKind::Invoke, 1)),
+            Some(operation) => {
+                self.admit(forest, tables, id, operation, linked)?;
+                Ok(RoseTaken::Invoked {
+                    id,
+                    operation,
+                    linked,
+                    argument,
+                })
+            }
+        }
     }
 
     /// What becomes of an invocation (X.880 9.1): the first problem that holds is the reject's, else
@@ -221,10 +265,10 @@ impl Performer {
         let Some(id) = head.id else {
             return Ok(RoseTaken::BadReject);
         };
-        let Some(code) = head.code else {
+        let Some(code) = &head.code else {
             return Ok(RoseTaken::BadReject);
         };
-        let place = tables.operation_with(&code);
+        let place = tables.operation_with(code);
         match self.judge(
             own,
             syntax,
@@ -237,7 +281,8 @@ impl Performer {
         )? {
             Judged::Wrong(number) => Ok(rejected(Some(id), ProblemKind::Invoke, number)),
             Judged::Right(argument) => {
-                self.perform(forest, tables, id, place, head.linked, argument)
+                let taken = self.perform(forest, tables, id, place, head.linked, argument)?;
+                Ok(taken)
             }
         }
     }

@@ -4,4 +4,4 @@ use Rattle.rose_roles.proofs.Rows.{no_row}
 use Rattle.rose_roles.proofs.values.row_value.Goals as goal
 
 pub returns-else-has : goal.returns-else-has
-returns-else-has c = λ value p. absurd (no_row c.args.syntax c.args.types.now (room_in c.args.syntax c.args.room) c.args.of.0 value c.args.octets.now ? p)
+returns-else-has c = λ value p. absurd (no_row c.args.syntax c.args.types.now (room_in c.args.syntax c.args.room) c.args.of.0 value c.args.octets.now (omega arith) p)
