@@ -57,6 +57,7 @@ fn invocation(
     own: &Invoker,
     forest: &mut Forest,
     tables: &Tables,
+    syntax: Syntax,
     octets: &[u8],
 ) -> Result<RoseTaken, NoMemory>
     requires own { AreOpen true forest.old own.now.kept }
@@ -64,12 +65,12 @@ fn invocation(
     ensures own { AreOpen true forest.new own.now.kept }
     ensures peer { AreOpen false forest.new performer.new.kept }
 {
-    match read_apdu(alloc, Syntax::Ber, octets) {
+    match read_apdu(alloc, syntax, octets) {
         Ok(head) => {
             if head.kind != ApduKind::Invoke {
                 return Ok(RoseTaken::BadReject);
             }
-            performer.take(own, forest, Syntax::Ber, tables, head)
+            performer.take(own, forest, syntax, tables, head)
         }
         Err(fault) => refused(fault),
     }
@@ -148,6 +149,7 @@ fn an_invocation_is_taken_once(rt: HostRuntime) -> Result<(), Fail> {
         &own,
         &mut forest,
         &tables,
+        Syntax::Ber,
         &octets,
     )?;
     let told = match &first {
@@ -166,6 +168,7 @@ fn an_invocation_is_taken_once(rt: HostRuntime) -> Result<(), Fail> {
         &own,
         &mut forest,
         &tables,
+        Syntax::Ber,
         &octets,
     )?;
     assert!(rt; is_reject(&second, ProblemKind::Invoke, 0));
@@ -185,6 +188,7 @@ fn a_silent_invocation_is_never_open(rt: HostRuntime) -> Result<(), Fail> {
         &own,
         &mut forest,
         &tables,
+        Syntax::Ber,
         &octets,
     )?;
     assert!(rt; matches!(first, RoseTaken::Invoked { .. }));
@@ -205,6 +209,7 @@ fn what_may_not_be_invoked_is_rejected(rt: HostRuntime) -> Result<(), Fail> {
         &own,
         &mut forest,
         &tables,
+        Syntax::Ber,
         &unknown,
     )?;
     assert!(rt; is_reject(&taken, ProblemKind::Invoke, 1));
@@ -215,6 +220,7 @@ fn what_may_not_be_invoked_is_rejected(rt: HostRuntime) -> Result<(), Fail> {
         &own,
         &mut forest,
         &tables,
+        Syntax::Ber,
         &closed,
     )?;
     assert!(rt; is_reject(&taken, ProblemKind::Invoke, 5));
@@ -225,6 +231,7 @@ fn what_may_not_be_invoked_is_rejected(rt: HostRuntime) -> Result<(), Fail> {
         &own,
         &mut forest,
         &tables,
+        Syntax::Ber,
         &lacking,
     )?;
     assert!(rt; is_reject(&taken, ProblemKind::Invoke, 2));
@@ -249,16 +256,55 @@ fn links_follow_the_operation(rt: HostRuntime) -> Result<(), Fail> {
         &own,
         &mut forest,
         &tables,
+        Syntax::Ber,
         &note,
     )?;
     assert!(rt; is_reject(&taken, ProblemKind::Invoke, 7));
     let ask = [0xA1, 0x0C, 2, 1, 1, 0x80, 1, 1, 2, 1, 3, 2, 1, 7];
-    let taken = invocation(rt.alloc(), &mut performer, &own, &mut forest, &tables, &ask)?;
+    let taken = invocation(
+        rt.alloc(),
+        &mut performer,
+        &own,
+        &mut forest,
+        &tables,
+        Syntax::Ber,
+        &ask,
+    )?;
     assert!(rt; matches!(taken, RoseTaken::Invoked { .. }));
     assert!(rt;
         matches!(
             forest.parent(Key { own: false, id: 1 }),
             Some(Key { own: true, id: 1 })
+        )
+    );
+    Ok(())
+}
+
+#[test]
+fn a_packed_invocation_is_taken(rt: HostRuntime) -> Result<(), Fail> {
+    let tables = module(rt.alloc())?;
+    let mut forest = Forest::new(rt.alloc());
+    let own = Invoker::new(rt.alloc());
+    let mut performer = Performer::new(rt.alloc());
+    performer.set_context(7);
+    let octets = [1, 1, 1, 0, 0, 1, 1, 1, 1, 5];
+    let taken = invocation(
+        rt.alloc(),
+        &mut performer,
+        &own,
+        &mut forest,
+        &tables,
+        Syntax::Packed,
+        &octets,
+    )?;
+    assert!(rt; matches!(taken, RoseTaken::Invoked { .. }));
+    assert!(rt;
+        matches!(
+            performer.called(1),
+            Some(Called {
+                operation: 0,
+                context: 7
+            })
         )
     );
     Ok(())
