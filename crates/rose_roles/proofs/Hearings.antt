@@ -145,11 +145,14 @@ not_not : (b : Bool) → not b ≡ false → b ≡ true
 not_not true e = refl
 not_not false e = absurd cc
 
+one_none : rules.first_problem (Some 1) None ≡ None → ⊥
+one_none e = cc
+
 pub link_open : (t : Tables) (es : List Entry) (i p : Kept) (id : ℤ) (linked : Option ℤ) (place : Option ℕ) → AreOpen true es i
     → judging.early_problem t i p id linked place ≡ None → is_open_or_none (option_map (key_of true) linked) es ≡ true
 link_open t es i p id None place mine e = refl
 link_open t es i p id (Some l) None mine e =
-    let x : Some 1 ≡ None = (none_of _ _ (none_of _ _ e).1).1 in absurd cc
+    let x = (none_of _ _ (none_of _ _ e).1).1 in absurd (one_none x)
 link_open t es i p id (Some l) (Some place) mine e =
     let x = (none_of _ _ (none_of _ _ e).1).1 in mine.each l ∙ not_not _ (not_if _ 5 (none_of _ _ x).0)
 

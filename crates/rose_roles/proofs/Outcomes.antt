@@ -195,3 +195,8 @@ module _ (base : Base) (es : List Entry) (own : Invoking) (performed : Kept) (mi
   heard_of_shut problem e f =
       let n = none_open the_open (matches None f) in
       sym (λ k. cond (e k && is_some (n k)) (rules.told (ends.close true id calls) (indications.Rejected id problem)) (rules.told calls (indications.RejectTaken (Some id) problem)))
+
+pub heard_other : (base : Base) (es : List Entry) (own : Invoking) (performed : Kept) (mine : AreOpen true es own.kept) (context : ℕ) (id : Option ℤ) (problem : Problem) → rules.is_of_invocation problem.kind ≡ false
+    → heard_with (calls_of es own performed) (taken.RejectTaken id problem) ≡ rules.hear base (calls_of es own performed) context (RejectHead id problem)
+heard_other base es own performed mine context None problem e = refl
+heard_other base es own performed mine context (Some id) problem e = heard_of_other base es own performed mine context id problem e

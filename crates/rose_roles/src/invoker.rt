@@ -15,11 +15,13 @@ ghost use Rattle.rose_roles.specs.Calls.{Kept, Invoking, called, key_of, AreOpen
 
 use crate::called::Called;
 use crate::judging::{judge_error, judge_result};
-use crate::opening::{enter, leave};
-use crate::taken::{RoseTaken, error_taken, is_of_invocation, rejected, result_taken};
+use crate::opening::{called, enter, key_of, leave, own_key};
+use crate::taken::{
+    RoseTaken, error_taken, is_of_invocation, own_rejected, rejected, result_taken,
+};
 use apdu_spelling::{ApduHead, ApduKind};
 use linked_ops::Forest;
-use osi_base::{NoMemory, Octets, Problem, ProblemKind, Syntax};
+use osi_base::{NoMemory, Problem, ProblemKind, Syntax};
 use std::alloc::Global;
 use std::collections::BTreeMap;
 use std::marker::Model;
@@ -42,13 +44,6 @@ impl Model for Invoker {
     ghost view = { λ i. record { kept = i.kept.entries; made = i.made } };
 }
 
-/// A count as an identifier.
-fn number(count: u32) -> i64
-    ensures { result ≡ pos count }
-{
-    count as i64
-}
-
 impl Invoker {
     /// An end that has made no invocation yet.
     pub fn new(alloc: Global) -> Invoker
@@ -65,7 +60,7 @@ impl Invoker {
     pub fn called(&self, id: i64) -> Option<Called>
         ensures { result ≡ called id self.now.kept }
     {
-        self.kept.get(&id).copied()
+        called(&self.kept, &id)
     }
 
     /// How many own invocations are open.
@@ -103,10 +98,10 @@ impl Invoker {
         ensures err { OnErr result ((self.new ≡ self.old) × (forest.new ≡ forest.old)) }
     {
         let made = self.made + 1;
-        let id = number(made);
-        enter(&mut self.kept, forest, true, id, called, linked)?;
+        let key = own_key(made);
+        enter(&mut self.kept, forest, &key, called, linked)?;
         self.made = made;
-        Ok(id)
+        Ok(key.id)
     }
 
     /// Counts an invocation that is never open, and answers its identifier.
@@ -116,7 +111,7 @@ impl Invoker {
         ensures passed { self.new ≡ record self.old { made = self.old.made + 1 } }
     {
         self.made += 1;
-        number(self.made)
+        own_key(self.made).id
     }
 
     /// Forgets all open invocations; their keys are to be taken from the forest too.
@@ -126,15 +121,23 @@ impl Invoker {
         self.kept.clear();
     }
 
+    /// What is called under an identifier.
+    pub(crate) fn called_at(&self, id: &i64) -> Option<Called>
+        ensures { result ≡ called id.now self.now.kept }
+    {
+        called(&self.kept, id)
+    }
+
     /// Closes an own invocation, if it is open.
-    fn close(&mut self, forest: &mut Forest, id: i64)
+    fn close(&mut self, forest: &mut Forest, id: &i64)
         requires { AreOpen true forest.old self.old.kept }
-        ensures closed { (performed : Kept) → calls_of forest.new self.new performed ≡ close true id (calls_of forest.old self.old performed) }
+        ensures closed { (performed : Kept) → calls_of forest.new self.new performed ≡ close true id.now (calls_of forest.old self.old performed) }
         ensures own { AreOpen true forest.new self.new.kept }
         ensures peer { (performed : Kept) → AreOpen false forest.old performed → AreOpen false forest.new performed }
     {
         forest.is_forest();
-        leave(&mut self.kept, forest, true, id);
+        let key = key_of(true, id);
+        leave(&mut self.kept, forest, &key);
     }
 
     /// A result.
@@ -152,13 +155,13 @@ impl Invoker {
         ensures peer { (performed : Kept) → AreOpen false forest.old performed → AreOpen false forest.new performed }
         ensures err { OnErr result ((self.new ≡ self.old) × (forest.new ≡ forest.old)) }
     {
-        let Some(id) = head.id else {
+        let Some(id) = &head.id else {
             return Ok(RoseTaken::BadReject);
         };
-        match self.called(id) {
-            None => Ok(rejected(Some(id), ProblemKind::Result, 0)),
+        match self.called_at(id) {
+            None => Ok(rejected(head.id, ProblemKind::Result, 0)),
             Some(call) => {
-                let taken = self.end_result(forest, syntax, tables, id, call, head)?;
+                let taken = self.end_result(forest, syntax, tables, id, call, &head)?;
                 Ok(taken)
             }
         }
@@ -170,13 +173,13 @@ impl Invoker {
         forest: &mut Forest,
         syntax: Syntax,
         tables: &Tables,
-        id: i64,
+        id: &i64,
         call: Called,
-        head: ApduHead,
+        head: &ApduHead,
     ) -> Result<RoseTaken, NoMemory>
-        requires call { called id self.old.kept ≡ Some call }
+        requires call { called id.now self.old.kept ≡ Some call }
         requires own { AreOpen true forest.old self.old.kept }
-        ensures heard { IfOk result (λ taken. (performed : Kept) (context : ℕ) → HearsHead tables.now context (ResultHead id head.code) (Carries syntax tables.now.types head.room (use_by tables.now kinds.Result head.code) head.rest) (calls_of forest.old self.old performed) (calls_of forest.new self.new performed) taken) }
+        ensures heard { IfOk result (λ taken. (performed : Kept) (context : ℕ) → HearsHead tables.now context (ResultHead id.now head.now.code) (Carries syntax tables.now.types head.now.room (use_by tables.now kinds.Result head.now.code) head.now.rest) (calls_of forest.old self.old performed) (calls_of forest.new self.new performed) taken) }
         ensures own { AreOpen true forest.new self.new.kept }
         ensures peer { (performed : Kept) → AreOpen false forest.old performed → AreOpen false forest.new performed }
         ensures err { OnErr result ((self.new ≡ self.old) × (forest.new ≡ forest.old)) }
@@ -209,18 +212,16 @@ impl Invoker {
         ensures peer { (performed : Kept) → AreOpen false forest.old performed → AreOpen false forest.new performed }
         ensures err { OnErr result ((self.new ≡ self.old) × (forest.new ≡ forest.old)) }
     {
-        let Some(id) = head.id else {
+        let Some(id) = &head.id else {
             return Ok(RoseTaken::BadReject);
         };
         let Some(code) = &head.code else {
             return Ok(RoseTaken::BadReject);
         };
-        match self.called(id) {
-            None => Ok(rejected(Some(id), ProblemKind::Error, 0)),
+        match self.called_at(id) {
+            None => Ok(rejected(head.id, ProblemKind::Error, 0)),
             Some(call) => {
-                let rest = &head.rest;
-                let room = head.room;
-                let taken = self.end_error(forest, syntax, tables, id, call, code, rest, room)?;
+                let taken = self.end_error(forest, syntax, tables, id, call, code, &head)?;
                 Ok(taken)
             }
         }
@@ -232,15 +233,14 @@ impl Invoker {
         forest: &mut Forest,
         syntax: Syntax,
         tables: &Tables,
-        id: i64,
+        id: &i64,
         call: Called,
         code: &Code,
-        octets: &Option<Octets>,
-        room: u32,
+        head: &ApduHead,
     ) -> Result<RoseTaken, NoMemory>
-        requires call { called id self.old.kept ≡ Some call }
+        requires call { called id.now self.old.kept ≡ Some call }
         requires own { AreOpen true forest.old self.old.kept }
-        ensures heard { IfOk result (λ taken. (performed : Kept) (context : ℕ) → HearsHead tables.now context (ErrorHead id code.now) (Carries syntax tables.now.types room (parameter_placed tables.now (error_with tables.now code.now)) octets.now) (calls_of forest.old self.old performed) (calls_of forest.new self.new performed) taken) }
+        ensures heard { IfOk result (λ taken. (performed : Kept) (context : ℕ) → HearsHead tables.now context (ErrorHead id.now code.now) (Carries syntax tables.now.types head.now.room (parameter_placed tables.now (error_with tables.now code.now)) head.now.rest) (calls_of forest.old self.old performed) (calls_of forest.new self.new performed) taken) }
         ensures own { AreOpen true forest.new self.new.kept }
         ensures peer { (performed : Kept) → AreOpen false forest.old performed → AreOpen false forest.new performed }
         ensures err { OnErr result ((self.new ≡ self.old) × (forest.new ≡ forest.old)) }
@@ -252,8 +252,8 @@ impl Invoker {
             tables,
             call.operation,
             error,
-            octets,
-            room,
+            &head.rest,
+            head.room,
         )?;
         self.close(forest, id);
         Ok(error_taken(id, error, judged))
@@ -274,34 +274,28 @@ impl Invoker {
         let Some(problem) = problem else {
             return RoseTaken::BadReject;
         };
-        let Some(named) = id else {
-            return RoseTaken::RejectTaken { id: None, problem };
-        };
         if is_of_invocation(problem.kind) {
-            return self.end_rejected(forest, named, problem);
+            return self.end_rejected(forest, id, problem);
         }
-        RoseTaken::RejectTaken {
-            id: Some(named),
-            problem,
-        }
+        RoseTaken::RejectTaken { id, problem }
     }
 
-    /// A reject of an invocation, which closes it if it is open.
-    fn end_rejected(&mut self, forest: &mut Forest, id: i64, problem: Problem) -> RoseTaken
+    /// A reject of an invocation, which closes the one that it names, if it is open.
+    fn end_rejected(&mut self, forest: &mut Forest, id: Option<i64>, problem: Problem) -> RoseTaken
         requires kind { is_of_invocation problem.kind ≡ true }
         requires own { AreOpen true forest.old self.old.kept }
-        ensures heard { (performed : Kept) (context : ℕ) (base : Base) → heard_with (calls_of forest.new self.new performed) result ≡ hear base (calls_of forest.old self.old performed) context (RejectHead (Some id) problem) }
+        ensures heard { (performed : Kept) (context : ℕ) (base : Base) → heard_with (calls_of forest.new self.new performed) result ≡ hear base (calls_of forest.old self.old performed) context (RejectHead id problem) }
         ensures own { AreOpen true forest.new self.new.kept }
         ensures peer { (performed : Kept) → AreOpen false forest.old performed → AreOpen false forest.new performed }
     {
-        match self.called(id) {
-            None => RoseTaken::RejectTaken {
-                id: Some(id),
-                problem,
-            },
+        let Some(named) = &id else {
+            return RoseTaken::RejectTaken { id, problem };
+        };
+        match self.called_at(named) {
+            None => RoseTaken::RejectTaken { id, problem },
             Some(_) => {
-                self.close(forest, id);
-                RoseTaken::Rejected { id, problem }
+                self.close(forest, named);
+                own_rejected(named, problem)
             }
         }
     }

@@ -16,12 +16,12 @@ ghost use Rattle.rose_roles.specs.Hearing.{Hears, heard_with};
 use crate::called::Called;
 use crate::invoker::Invoker;
 use crate::judging::{Judged, is_silent_at, judge_argument, link_problem};
-use crate::opening::{enter, leave};
-use crate::taken::{RoseTaken, rejected};
+use crate::opening::{called, enter, key_of, leave};
+use crate::taken::{RoseTaken, invoke_rejected, invoked};
 use apdu_spelling::ApduHead;
 use asn1_types::Val;
 use linked_ops::Forest;
-use osi_base::{NoMemory, Octets, ProblemKind, Syntax};
+use osi_base::{NoMemory, Syntax};
 use std::alloc::Global;
 use std::collections::BTreeMap;
 use std::marker::Model;
@@ -57,15 +57,15 @@ fn problem_if(holds: bool, number: u8) -> Option<u8>
 fn known_problem(
     own: &Invoker,
     tables: &Tables,
-    linked: Option<i64>,
+    linked: &Option<i64>,
     place: Option<u32>,
 ) -> Option<u8>
-    ensures { result ≡ known_problem tables.now own.now.kept linked place }
+    ensures { result ≡ known_problem tables.now own.now.kept linked.now place }
 {
     match (place, linked) {
         (None, _) => Some(1),
         (Some(_), None) => None,
-        (Some(place), Some(linked)) => link_problem(tables, own.called(linked), place),
+        (Some(place), Some(linked)) => link_problem(tables, own.called_at(linked), place),
     }
 }
 
@@ -100,7 +100,7 @@ impl Performer {
     pub fn called(&self, id: i64) -> Option<Called>
         ensures { result ≡ called id self.now.kept }
     {
-        self.kept.get(&id).copied()
+        called(&self.kept, &id)
     }
 
     /// How many invocations of the peer are open.
@@ -119,7 +119,8 @@ impl Performer {
         ensures own { (invoked : Invoking) → AreOpen true forest.old invoked.kept → AreOpen true forest.new invoked.kept }
     {
         forest.is_forest();
-        leave(&mut self.kept, forest, false, id);
+        let key = key_of(false, &id);
+        leave(&mut self.kept, forest, &key);
     }
 
     /// Forgets all open invocations of the peer; their keys are to be taken from the forest too.
@@ -143,13 +144,13 @@ impl Performer {
         &self,
         own: &Invoker,
         tables: &Tables,
-        id: i64,
-        linked: Option<i64>,
+        id: &i64,
+        linked: &Option<i64>,
         place: Option<u32>,
     ) -> Option<u8>
-        ensures { result ≡ early_problem tables.now own.now.kept self.now.kept id linked place }
+        ensures { result ≡ early_problem tables.now own.now.kept self.now.kept id.now linked.now place }
     {
-        let duplicate = problem_if(self.called(id).is_some(), 0);
+        let duplicate = problem_if(called(&self.kept, id).is_some(), 0);
         let full = problem_if(self.is_full(tables, place), 3);
         let known = known_problem(own, tables, linked, place);
         first_problem(duplicate, first_problem(full, known))
@@ -161,19 +162,18 @@ impl Performer {
         own: &Invoker,
         syntax: Syntax,
         tables: &Tables,
-        id: i64,
-        linked: Option<i64>,
+        id: &i64,
         place: Option<u32>,
-        octets: &Option<Octets>,
-        room: u32,
+        head: &ApduHead,
     ) -> Result<Judged, NoMemory>
-        ensures judged { IfOk result (λ judged. (carried : Carried) → Carries syntax tables.now.types room (option_map argument_of (placed (operation_at tables.now) place)) octets.now carried → IsJudged (invoke_problem tables.now own.now.kept self.now.kept id linked place carried) (value_in carried) judged) }
-        ensures free { IfOk result (IsFree (early_problem tables.now own.now.kept self.now.kept id linked place)) }
+        ensures judged { IfOk result (λ judged. (carried : Carried) → Carries syntax tables.now.types head.now.room (option_map argument_of (placed (operation_at tables.now) place)) head.now.rest carried → IsJudged (invoke_problem tables.now own.now.kept self.now.kept id.now head.now.linked place carried) (value_in carried) judged) }
+        ensures free { IfOk result (IsFree (early_problem tables.now own.now.kept self.now.kept id.now head.now.linked place)) }
     {
-        match self.early_problem(own, tables, id, linked, place) {
+        match self.early_problem(own, tables, id, &head.linked, place) {
             Some(number) => Ok(Judged::Wrong(number)),
             None => {
-                let judged = judge_argument(self.alloc, syntax, tables, place, octets, room)?;
+                let rest = &head.rest;
+                let judged = judge_argument(self.alloc, syntax, tables, place, rest, head.room)?;
                 Ok(judged)
             }
         }
@@ -185,14 +185,14 @@ impl Performer {
         &mut self,
         forest: &mut Forest,
         tables: &Tables,
-        id: i64,
+        id: &i64,
         place: u32,
         linked: Option<i64>,
     ) -> Result<(), NoMemory>
-        requires shut { called id self.old.kept ≡ None }
+        requires shut { called id.now self.old.kept ≡ None }
         requires linked { is_open_or_none (option_map (key_of true) linked) forest.old ≡ true }
         requires peer { AreOpen false forest.old self.old.kept }
-        ensures admitted { OnOk result ((base : Base) (own : Invoking) → base.tables ≡ tables.now → calls_of forest.new own self.new.kept ≡ opening base (record { own = false; id = id; operation = place; context = self.old.context; parent = linked }) (calls_of forest.old own self.old.kept)) }
+        ensures admitted { OnOk result ((base : Base) (own : Invoking) → base.tables ≡ tables.now → calls_of forest.new own self.new.kept ≡ opening base (record { own = false; id = id.now; operation = place; context = self.old.context; parent = linked }) (calls_of forest.old own self.old.kept)) }
         ensures peer { AreOpen false forest.new self.new.kept }
         ensures own { (own : Invoking) → AreOpen true forest.old own.kept → AreOpen true forest.new own.kept }
         ensures err { OnErr result ((self.new ≡ self.old) × (forest.new ≡ forest.old)) }
@@ -204,7 +204,8 @@ impl Performer {
             operation: place,
             context: self.context,
         };
-        enter(&mut self.kept, forest, false, id, call, linked)?;
+        let key = key_of(false, id);
+        enter(&mut self.kept, forest, &key, call, linked)?;
         Ok(())
     }
 
@@ -213,29 +214,24 @@ impl Performer {
         &mut self,
         forest: &mut Forest,
         tables: &Tables,
-        id: i64,
+        id: &i64,
         place: Option<u32>,
         linked: Option<i64>,
         argument: Option<Val>,
     ) -> Result<RoseTaken, NoMemory>
-        requires shut { called id self.old.kept ≡ None }
+        requires shut { called id.now self.old.kept ≡ None }
         requires linked { is_open_or_none (option_map (key_of true) linked) forest.old ≡ true }
         requires peer { AreOpen false forest.old self.old.kept }
-        ensures performed { IfOk result (λ taken. (base : Base) (own : Invoking) (carried : Carried) → base.tables ≡ tables.now → argument ≡ value_in carried → heard_with (calls_of forest.new own self.new.kept) taken ≡ invoked base (calls_of forest.old own self.old.kept) self.old.context id linked place carried) }
+        ensures performed { IfOk result (λ taken. (base : Base) (own : Invoking) (carried : Carried) → base.tables ≡ tables.now → argument ≡ value_in carried → heard_with (calls_of forest.new own self.new.kept) taken ≡ invoked base (calls_of forest.old own self.old.kept) self.old.context id.now linked place carried) }
         ensures peer { AreOpen false forest.new self.new.kept }
         ensures own { (own : Invoking) → AreOpen true forest.old own.kept → AreOpen true forest.new own.kept }
         ensures err { OnErr result ((self.new ≡ self.old) × (forest.new ≡ forest.old)) }
     {
         match place {
-            None => Ok(rejected(Some(id), ProblemKind::Invoke, 1)),
+            None => Ok(invoke_rejected(id, 1)),
             Some(operation) => {
                 self.admit(forest, tables, id, operation, linked)?;
-                Ok(RoseTaken::Invoked {
-                    id,
-                    operation,
-                    linked,
-                    argument,
-                })
+                Ok(invoked(id, operation, linked, argument))
             }
         }
     }
@@ -262,24 +258,15 @@ impl Performer {
     {
         forest.is_forest();
         let _count = self.kept.len();
-        let Some(id) = head.id else {
+        let Some(id) = &head.id else {
             return Ok(RoseTaken::BadReject);
         };
         let Some(code) = &head.code else {
             return Ok(RoseTaken::BadReject);
         };
         let place = tables.operation_with(code);
-        match self.judge(
-            own,
-            syntax,
-            tables,
-            id,
-            head.linked,
-            place,
-            &head.rest,
-            head.room,
-        )? {
-            Judged::Wrong(number) => Ok(rejected(Some(id), ProblemKind::Invoke, number)),
+        match self.judge(own, syntax, tables, id, place, &head)? {
+            Judged::Wrong(number) => Ok(invoke_rejected(id, number)),
             Judged::Right(argument) => {
                 let taken = self.perform(forest, tables, id, place, head.linked, argument)?;
                 Ok(taken)

@@ -2,6 +2,7 @@
 
 ghost use Rattle.std.specs.Prelude.{◌≡◌, ℕ, Some, None};
 ghost use Rattle.end_rules.specs.Hearing.{problem_with, is_of_invocation};
+ghost use Rattle.osi_base.specs.declared.words.ProblemKind.TheVariants as kinds;
 ghost use Rattle.rose_roles.specs.declared.taken.RoseTaken.TheVariants as takens;
 ghost use Rattle.rose_roles.specs.Hearing.{refused_as, result_taken, error_taken};
 
@@ -87,26 +88,57 @@ pub(crate) fn is_of_invocation(kind: ProblemKind) -> bool
 }
 
 /// What a result tells once it was judged.
-pub(crate) fn result_taken(id: i64, judged: Judged) -> RoseTaken
-    ensures { result ≡ result_taken id judged }
+pub(crate) fn result_taken(id: &i64, judged: Judged) -> RoseTaken
+    ensures { result ≡ result_taken id.now judged }
 {
     match judged {
-        Judged::Right(value) => RoseTaken::Result { id, value },
-        Judged::Wrong(number) => rejected(Some(id), ProblemKind::Result, number),
+        Judged::Right(value) => RoseTaken::Result { id: *id, value },
+        Judged::Wrong(number) => rejected(Some(*id), ProblemKind::Result, number),
     }
 }
 
 /// What an error, as a place in the table of errors, tells once it was judged.
-pub(crate) fn error_taken(id: i64, error: Option<u32>, judged: Judged) -> RoseTaken
-    ensures { result ≡ error_taken id error judged }
+pub(crate) fn error_taken(id: &i64, error: Option<u32>, judged: Judged) -> RoseTaken
+    ensures { result ≡ error_taken id.now error judged }
 {
     match (judged, error) {
         (Judged::Right(parameter), Some(error)) => RoseTaken::Error {
-            id,
+            id: *id,
             error,
             parameter,
         },
-        (Judged::Right(_), None) => rejected(Some(id), ProblemKind::Error, 2),
-        (Judged::Wrong(number), _) => rejected(Some(id), ProblemKind::Error, number),
+        (Judged::Right(_), None) => rejected(Some(*id), ProblemKind::Error, 2),
+        (Judged::Wrong(number), _) => rejected(Some(*id), ProblemKind::Error, number),
     }
+}
+
+/// An own invocation that was rejected.
+pub(crate) fn own_rejected(id: &i64, problem: Problem) -> RoseTaken
+    ensures { result ≡ takens.Rejected id.now problem }
+{
+    RoseTaken::Rejected { id: *id, problem }
+}
+
+/// An invocation that came.
+pub(crate) fn invoked(
+    id: &i64,
+    operation: u32,
+    linked: Option<i64>,
+    argument: Option<Val>,
+) -> RoseTaken
+    ensures { result ≡ takens.Invoked id.now operation linked argument }
+{
+    RoseTaken::Invoked {
+        id: *id,
+        operation,
+        linked,
+        argument,
+    }
+}
+
+/// An invocation that is rejected.
+pub(crate) fn invoke_rejected(id: &i64, number: u8) -> RoseTaken
+    ensures { result ≡ takens.Reject (Some id.now) (problem_with kinds.Invoke number) }
+{
+    rejected(Some(*id), ProblemKind::Invoke, number)
 }

@@ -1,21 +1,24 @@
-use Rattle.std.proofs.Common.{◌≡◌, ℕ, true, false, Option, Some, None, refl, sym, ap, subst, ◌∙◌}
+use Rattle.std.proofs.Common.{◌≡◌, ℤ, ℕ, true, false, Option, Some, None, refl, sym, ap, subst, ◌∙◌}
 use Rattle.end_rules.specs.State as ends
 use Rattle.end_rules.specs.Base.{Head}
 use Rattle.end_rules.specs.Hearing as rules
 use Rattle.rose_roles.specs.Calls.{Kept, calls_of}
 use Rattle.rose_roles.specs.Hearing.{heard_with}
 use Rattle.stub_tables.specs.Lookup.{error_with}
+use Rattle.osi_base.specs.declared.words.ProblemKind.TheVariants as problems
+use Rattle.rose_roles.specs.declared.taken.RoseTaken.TheVariants as taken
 use Rattle.rose_roles.proofs.Outcomes.{no_error_id, no_error_code, said_error, shut_error, carries_parameter}
 use Rattle.rose_roles.proofs.invoker.Invoker.take_error.Goals as goal
 
 pub returns-in-None-clause-heard : goal.returns-in-None-clause-heard
 returns-in-None-clause-heard c = λ performed context base carried same k.
     ap (heard_with (calls_of c.args.forest.now c.args.self.now performed)) c.rejected.ensures
-    ∙ shut_error base c.args.forest.now c.args.self.now performed c.requires.own context c.in-Some.id carried c.in-Some-head.code.now (sym c.called.ensures ∙ c.in-None.is)
-    ∙ ap (rules.hear base (calls_of c.args.forest.now c.args.self.now performed) context) (said_error c.args.head carried c.in-Some.id c.in-Some-head.code.now c.requires.kind c.in-Some.is c.in-Some-head.is)
+    ∙ ap (λ (i : Option ℤ). heard_with (calls_of c.args.forest.now c.args.self.now performed) (taken.Reject i (rules.problem_with problems.Error 0))) c.in-Some.is
+    ∙ shut_error base c.args.forest.now c.args.self.now performed c.requires.own context c.in-Some.id.now carried c.in-Some-code.code.now (sym c.called.ensures ∙ c.in-None.is)
+    ∙ ap (rules.hear base (calls_of c.args.forest.now c.args.self.now performed) context) (said_error c.args.head carried c.in-Some.id.now c.in-Some-code.code.now c.requires.kind c.in-Some.is c.in-Some-code.is)
 
-pub returns-in-Some-called-clause-heard : goal.returns-in-Some-called-clause-heard
-returns-in-Some-called-clause-heard c = λ performed context base carried same k.
+pub returns-in-Some-clause-heard : goal.returns-in-Some-clause-heard
+returns-in-Some-clause-heard c = λ performed context base carried same k.
     c.in_ok-taken.ensures.heard performed context base carried same
-    (carries_parameter c.args.tables.now c.args.syntax c.args.head.room c.args.head.rest carried c.args.head.kind c.args.head.code c.in-Some-head.code.now (error_with c.args.tables.now c.in-Some-head.code.now) c.requires.kind c.in-Some-head.is refl k)
-    ∙ ap (rules.hear base (calls_of c.args.forest.now c.args.self.now performed) context) (said_error c.args.head carried c.in-Some.id c.in-Some-head.code.now c.requires.kind c.in-Some.is c.in-Some-head.is)
+    (carries_parameter c.args.tables.now c.args.syntax c.args.head.room c.args.head.rest carried c.args.head.kind c.args.head.code c.in-Some-code.code.now (error_with c.args.tables.now c.in-Some-code.code.now) c.requires.kind c.in-Some-code.is refl k)
+    ∙ ap (rules.hear base (calls_of c.args.forest.now c.args.self.now performed) context) (said_error c.args.head carried c.in-Some.id.now c.in-Some-code.code.now c.requires.kind c.in-Some.is c.in-Some-code.is)

@@ -1,20 +1,23 @@
-use Rattle.std.proofs.Common.{◌≡◌, ℕ, true, false, Option, Some, None, refl, sym, ap, subst, ◌∙◌}
+use Rattle.std.proofs.Common.{◌≡◌, ℤ, ℕ, true, false, Option, Some, None, refl, sym, ap, subst, ◌∙◌}
 use Rattle.end_rules.specs.State as ends
 use Rattle.end_rules.specs.Base.{Head}
 use Rattle.end_rules.specs.Hearing as rules
 use Rattle.rose_roles.specs.Calls.{Kept, calls_of}
 use Rattle.rose_roles.specs.Hearing.{heard_with}
 use Rattle.apdu_spelling.specs.declared.head.ApduKind.TheVariants as kinds
+use Rattle.osi_base.specs.declared.words.ProblemKind.TheVariants as problems
+use Rattle.rose_roles.specs.declared.taken.RoseTaken.TheVariants as taken
 use Rattle.rose_roles.proofs.Outcomes.{said_result, shut_result, carries_of}
 use Rattle.rose_roles.proofs.invoker.Invoker.take_result.Goals as goal
 
 pub returns-in-None-clause-heard : goal.returns-in-None-clause-heard
 returns-in-None-clause-heard c = λ performed context base carried same k.
     ap (heard_with (calls_of c.args.forest.now c.args.self.now performed)) c.rejected.ensures
-    ∙ shut_result base c.args.forest.now c.args.self.now performed c.requires.own context c.in-Some.id carried c.args.head.code (sym c.called.ensures ∙ c.in-None.is)
-    ∙ ap (rules.hear base (calls_of c.args.forest.now c.args.self.now performed) context) (said_result c.args.head carried c.in-Some.id c.requires.kind c.in-Some.is)
+    ∙ ap (λ (i : Option ℤ). heard_with (calls_of c.args.forest.now c.args.self.now performed) (taken.Reject i (rules.problem_with problems.Result 0))) c.in-Some.is
+    ∙ shut_result base c.args.forest.now c.args.self.now performed c.requires.own context c.in-Some.id.now carried c.args.head.code (sym c.called.ensures ∙ c.in-None.is)
+    ∙ ap (rules.hear base (calls_of c.args.forest.now c.args.self.now performed) context) (said_result c.args.head carried c.in-Some.id.now c.requires.kind c.in-Some.is)
 
-pub returns-in-Some-called-clause-heard : goal.returns-in-Some-called-clause-heard
-returns-in-Some-called-clause-heard c = λ performed context base carried same k.
+pub returns-in-Some-clause-heard : goal.returns-in-Some-clause-heard
+returns-in-Some-clause-heard c = λ performed context base carried same k.
     c.in_ok-taken.ensures.heard performed context base carried same (carries_of c.args.tables.now c.args.syntax c.args.head.room c.args.head.rest carried c.args.head.kind kinds.Result c.args.head.code c.requires.kind k)
-    ∙ ap (rules.hear base (calls_of c.args.forest.now c.args.self.now performed) context) (said_result c.args.head carried c.in-Some.id c.requires.kind c.in-Some.is)
+    ∙ ap (rules.hear base (calls_of c.args.forest.now c.args.self.now performed) context) (said_result c.args.head carried c.in-Some.id.now c.requires.kind c.in-Some.is)

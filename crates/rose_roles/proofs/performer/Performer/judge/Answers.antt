@@ -14,7 +14,7 @@ returns-in-Some-clause-judged c = λ carried k.
 
 pub returns-in-None-clause-judged : goal.returns-in-None-clause-judged
 returns-in-None-clause-judged c =
-    later (Carries c.args.syntax c.args.tables.now.types c.args.room (option_map argument_of (placed (operation_at c.args.tables.now) c.args.place)) c.args.octets.now) _ (argument_problem c.args.tables.now c.args.place) c.in_ok-judged.judged
+    later (Carries c.args.syntax c.args.tables.now.types c.args.head.now.room (option_map argument_of (placed (operation_at c.args.tables.now) c.args.place)) c.args.head.now.rest) _ (argument_problem c.args.tables.now c.args.place) c.in_ok-judged.judged
     (sym c.early_problem.ensures ∙ c.in-None.is) c.in_ok-judged.ensures
 
 pub returns-in-None-clause-free : goal.returns-in-None-clause-free

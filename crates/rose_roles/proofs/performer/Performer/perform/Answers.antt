@@ -7,11 +7,12 @@ use Rattle.rose_roles.proofs.performer.Performer.perform.Goals as goal
 
 pub returns-in-None-clause-performed : goal.returns-in-None-clause-performed
 returns-in-None-clause-performed c = λ base own carried same arg.
-    ap (heard_with (calls_of c.args.forest.now own c.args.self.now.kept)) c.rejected.ensures
-    ∙ (λ k. rules.invoked base (calls_of c.args.forest.now own c.args.self.now.kept) c.args.self.now.context c.args.id c.args.linked (sym c.in-None.is k) carried)
+    ap (heard_with (calls_of c.args.forest.now own c.args.self.now.kept)) c.invoke_rejected.ensures
+    ∙ (λ k. rules.invoked base (calls_of c.args.forest.now own c.args.self.now.kept) c.args.self.now.context c.args.id.now c.args.linked (sym c.in-None.is k) carried)
 
 pub returns-in-Some-clause-performed : goal.returns-in-Some-clause-performed
 returns-in-Some-clause-performed c = λ base own carried same arg.
     let a = c.in_ok-admit.ensures.admitted base own same in
-    (λ k. rules.told (a k) (indications.Invoked c.args.id c.in-Some.operation c.args.linked (arg k)))
-    ∙ (λ k. rules.invoked base (calls_of c.args.forest.now own c.args.self.now.kept) c.args.self.now.context c.args.id c.args.linked (sym c.in-Some.is k) carried)
+    ap (heard_with (calls_of c.admit.new.forest own c.admit.new.self.kept)) c.invoked.ensures
+    ∙ (λ k. rules.told (a k) (indications.Invoked c.args.id.now c.in-Some.operation c.args.linked (arg k)))
+    ∙ (λ k. rules.invoked base (calls_of c.args.forest.now own c.args.self.now.kept) c.args.self.now.context c.args.id.now c.args.linked (sym c.in-Some.is k) carried)
