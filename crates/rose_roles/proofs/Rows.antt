@@ -1,5 +1,5 @@
 -- Octets spell no value of a row that isn't there, and what they spell fits.
-use Rattle.std.proofs.Common.{◌≡◌, ℕ, ◌<◌, ◌≤◌, ◌&&◌, zero, suc, take, length, Bool, true, false, List, Option, Some, None, Result, Ok, Err, IfOk, refl, sym, ap, subst, ◌∙◌, arith}
+use Rattle.std.proofs.Common.{◌≡◌, ℕ, ◌<◌, ◌≤◌, ◌&&◌, zero, suc, take, length, Bool, true, false, IsTrue, ◌↔◌, List, Option, Some, None, Result, Ok, Err, IfOk, refl, sym, ap, subst, ◌∙◌, arith}
 use Rattle.std.proofs.lemmas.Option.{slice_get_past}
 use Rattle.std.proofs.Math.Seq.{take-length}
 use Rattle.std.specs.List.{slice_get}
@@ -8,6 +8,7 @@ use Rattle.osi_base.specs.declared.syntax.Syntax.TheVariants as syntax
 use Rattle.asn1_types.specs.declared.row.TypeRow.{TypeRow}
 use Rattle.asn1_types.specs.Rows.{along, of_row}
 use Rattle.asn1_types.specs.Fits.{nothing_fits, fits}
+use Rattle.asn1_types.proofs.FitLaws.{not_within}
 use Rattle.asn1_types.specs.Value.{Value}
 use Rattle.ber_spelling.specs.Spelling as ber
 use Rattle.ber_spelling.specs.Octets.{AreOctets}
@@ -54,3 +55,7 @@ weaker s types room of octets None h = λ v p. absurd (h v p)
 pub exactly : (s : Syntax) (types : List TypeRow) (room of : ℕ) (octets : List ℕ) (r : Result (Option Val) NoMemory) → IfOk r (IsReadExactly s types room of octets) → IfOk r (IsReadAs s types room of octets)
 exactly s types room of octets (Ok o) h = weaker s types room of octets o h
 exactly s types room of octets (Err e) h = tt
+
+pub not_there : (b : Bool) (n len : ℕ) → IsTrue b ↔ (n < len) → b ≡ false → len ≤ n
+not_there true n len h e = absurd cc
+not_there false n len h e = not_within len n (λ lt. let x : false ≡ true = h.1 lt in absurd cc)

@@ -4,6 +4,7 @@ ghost use Rattle.std.specs.Prelude.{◌≡◌, ℕ, ℤ, not, ◌&&◌, nat_le, 
 ghost use Rattle.std.specs.Option.{option_map};
 ghost use Rattle.stub_tables.specs.Lookup.{operation_at};
 ghost use Rattle.stub_tables.specs.Apdus.{placed, argument_of};
+ghost use Rattle.apdu_spelling.specs.declared.head.ApduKind.TheVariants as kinds;
 ghost use Rattle.linked_ops.specs.Entries.{is_open, is_open_or_none};
 ghost use Rattle.end_rules.specs.Base.{Base, Carried};
 ghost use Rattle.end_rules.specs.State.{close};
@@ -236,11 +237,8 @@ impl Performer {
         }
     }
 
-    /// What becomes of an invocation (X.880 9.1): the first problem that holds is the reject's, else
-    /// the user is told, and the invocation is open unless its operation is silent. The head was
-    /// read in this syntax; the own keys of the forest are the open invocations of `own`, the others
-    /// those of this side. Want of memory changes nothing.
-    pub fn take(
+    /// An invocation.
+    fn take_invocation(
         &mut self,
         own: &Invoker,
         forest: &mut Forest,
@@ -248,7 +246,7 @@ impl Performer {
         tables: &Tables,
         head: ApduHead,
     ) -> Result<RoseTaken, NoMemory>
-        requires kind { is_invocation head.kind ≡ true }
+        requires kind { head.kind ≡ kinds.Invoke }
         requires own { AreOpen true forest.old own.now.kept }
         requires peer { AreOpen false forest.old self.old.kept }
         ensures heard { IfOk result (λ taken. Hears tables.now syntax self.old.context head (calls_of forest.old own.now self.old.kept) (calls_of forest.new own.now self.new.kept) taken) }
@@ -272,5 +270,28 @@ impl Performer {
                 Ok(taken)
             }
         }
+    }
+
+    /// What becomes of an invocation (X.880 9.1): the first problem that holds is the reject's, else
+    /// the user is told, and the invocation is open unless its operation is silent. The head was
+    /// read in this syntax; the own keys of the forest are the open invocations of `own`, the others
+    /// those of this side. Want of memory changes nothing.
+    pub fn take(
+        &mut self,
+        own: &Invoker,
+        forest: &mut Forest,
+        syntax: Syntax,
+        tables: &Tables,
+        head: ApduHead,
+    ) -> Result<RoseTaken, NoMemory>
+        requires kind { is_invocation head.kind ≡ true }
+        requires own { AreOpen true forest.old own.now.kept }
+        requires peer { AreOpen false forest.old self.old.kept }
+        ensures heard { IfOk result (λ taken. Hears tables.now syntax self.old.context head (calls_of forest.old own.now self.old.kept) (calls_of forest.new own.now self.new.kept) taken) }
+        ensures own { AreOpen true forest.new own.now.kept }
+        ensures peer { AreOpen false forest.new self.new.kept }
+        ensures err { OnErr result ((self.new ≡ self.old) × (forest.new ≡ forest.old)) }
+    {
+        self.take_invocation(own, forest, syntax, tables, head)
     }
 }
