@@ -1,14 +1,13 @@
 -- What reading the octets of a value says of what they carry.
-use Rattle.std.proofs.Common.{◌≡◌, ℕ, ◌≤◌, min, Bool, true, false, not, List, Option, Some, None, refl, sym, ap, subst, ◌∙◌, arith}
+use Rattle.std.proofs.Common.{◌≡◌, ℕ, ◌≤◌, Bool, true, false, not, List, Option, Some, None, refl, sym, ap, subst, ◌∙◌, arith}
 use Rattle.osi_base.specs.declared.syntax.Syntax.{Syntax}
 use Rattle.osi_base.specs.declared.syntax.Syntax.TheVariants as syntax
 use Rattle.asn1_types.specs.declared.value.Val.{Val}
-use Rattle.asn1_types.specs.declared.row.TypeId.{TypeId}
 use Rattle.stub_tables.specs.declared.tables.Tables.{Tables}
 use Rattle.stub_tables.specs.declared.operation.Use.{Use}
 use Rattle.stub_tables.specs.Readable.{IsReadable}
 use Rattle.stub_tables.specs.Uses.{is_carried, may_lack}
-use Rattle.apdu_spelling.specs.Spellings.{TypedAs, CarriedAs}
+use Rattle.apdu_spelling.specs.Spellings.{CarriedAs}
 use Rattle.apdu_spelling.proofs.OneHead.{one_carried}
 use Rattle.end_rules.specs.Base.{Carried, Absent, Spelled, Unspelled}
 use Rattle.end_rules.specs.Hearing.{problem_if, value_in}

@@ -1,5 +1,5 @@
 -- Opening and closing an invocation, in the forest and among those of its end.
-use Rattle.std.proofs.Common.{◌≡◌, ℕ, ℤ, Bool, true, false, not, ◌||◌, ◌&&◌, cond, List, [], ◌∷◌, ◌++◌, Option, Some, None, Result, Ok, Err, is_some, refl, sym, ap, subst, ◌∙◌}
+use Rattle.std.proofs.Common.{◌≡◌, ℤ, Bool, true, false, not, ◌||◌, ◌&&◌, cond, List, [], ◌∷◌, ◌++◌, Option, Some, None, Err, is_some, refl, sym, ap, subst, ◌∙◌}
 use Rattle.std.specs.Option.{option_map}
 use Rattle.std.specs.declared.cmp.Ordering.{Ordering}
 use Rattle.std.specs.declared.cmp.Ordering.TheVariants.{Less, Equal, Greater}
@@ -14,9 +14,9 @@ use Rattle.linked_ops.specs.Keys.{same_bool, same_key}
 use Rattle.linked_ops.specs.Entries.{Entry, is_open, closed}
 use Rattle.end_rules.specs.State as ends
 use Rattle.rose_roles.specs.declared.called.Called.{Called}
-use Rattle.rose_roles.specs.Calls.{Kept, called, key_of, side, operation_or_none, context_or_none, parent_in, AreOpen, open_call, opens_in}
-use Rattle.rose_roles.proofs.Keys.{id_is, ids_are, key_is, keys_are, bool_cases, or_true, or_first, or_rest, AreApart, open_closed, shut_closed}
-use Rattle.rose_roles.proofs.Opens.{call_with, same_opens, snoc, closing}
+use Rattle.rose_roles.specs.Calls.{Kept, called, key_of, side, operation_or_none, context_or_none, parent_in, AreOpen, opens_in}
+use Rattle.rose_roles.proofs.Keys.{id_is, ids_are, key_is, keys_are, bool_cases, or_true, AreApart, open_closed, shut_closed}
+use Rattle.rose_roles.proofs.Opens.{same_opens, snoc, closing}
 
 -- ---- taking a key away again
 

@@ -1,19 +1,18 @@
 -- As many keys of one end stand in the forest as it keeps invocations.
-use Rattle.std.proofs.Common.{◌≡◌, ℕ, suc, ◌+◌, ℤ, Bool, true, false, not, ◌||◌, ◌&&◌, cond, List, [], ◌∷◌, length, map, filter, Option, Some, None, is_some, refl, sym, ap, subst, ◌∙◌, arith}
+use Rattle.std.proofs.Common.{◌≡◌, suc, ℤ, Bool, true, false, not, ◌||◌, ◌&&◌, cond, List, [], ◌∷◌, length, Option, Some, None, is_some, refl, sym, ap, subst, ◌∙◌}
 use Rattle.std.specs.Ordering.{is_eq, int_eq, int_cmp}
 use Rattle.std.specs.declared.cmp.Ordering.TheVariants.{Less}
 use Rattle.std.specs.List.{AllByRecursion}
 use Rattle.std.specs.List.Sorted.{IsStrictlySortedBy}
 use Rattle.std.proofs.lemmas.Map.Keys.{sorted_head, sorted_tail}
-use Rattle.std.specs.Map.{lookup, remove_entry, keys_of}
+use Rattle.std.specs.Map.{remove_entry, keys_of}
 use Rattle.std.specs.BTreeMap.{is_at}
-use Rattle.linked_ops.specs.declared.key.Key.{Key}
 use Rattle.linked_ops.specs.Keys.{same_bool, same_key}
 use Rattle.linked_ops.specs.Entries.{Entry, is_open}
 use Rattle.end_rules.specs.State as ends
 use Rattle.rose_roles.specs.declared.called.Called.{Called}
 use Rattle.rose_roles.specs.Calls.{Kept, called, key_of, AreOpen, open_call, opens_in}
-use Rattle.rose_roles.proofs.Keys.{id_is, ids_are, key_is, keys_are, bool_cases, or_rest, AreApart, bools_are}
+use Rattle.rose_roles.proofs.Keys.{id_is, ids_are, bool_cases, or_rest, AreApart, bools_are}
 
 -- each identifier stands once
 abbrev pub Once : Kept → Type 0

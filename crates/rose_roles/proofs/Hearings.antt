@@ -1,19 +1,15 @@
 -- What an end hears in a head, over what each end keeps.
 use Rattle.std.proofs.Common.{◌≡◌, ℕ, ℤ, Bool, true, false, not, ◌&&◌, nat_le, cond, List, [], ◌∷◌, ◌++◌, length, Option, Some, None, is_some, refl, sym, ap, subst, ◌∙◌}
 use Rattle.std.specs.Option.{option_map}
-use Rattle.osi_base.specs.declared.words.Problem.{Problem}
 use Rattle.osi_base.specs.declared.words.ProblemKind.TheVariants as problems
-use Rattle.asn1_types.specs.declared.value.Val.{Val}
 use Rattle.stub_tables.specs.declared.tables.Tables.{Tables}
 use Rattle.stub_tables.specs.declared.operation.Code.{Code}
 use Rattle.stub_tables.specs.declared.operation.Use.{Use}
 use Rattle.stub_tables.specs.declared.operation.Operation.{Operation}
-use Rattle.stub_tables.specs.declared.operation.ErrorRow.{ErrorRow}
-use Rattle.stub_tables.specs.Codes.{is_silent, is_error_of}
-use Rattle.stub_tables.specs.Lookup.{operation_at, operation_with, error_at, error_with}
+use Rattle.stub_tables.specs.Lookup.{operation_at, operation_with}
 use Rattle.stub_tables.specs.Apdus.{placed}
 use Rattle.linked_ops.specs.Entries.{Entry, is_open, is_open_or_none}
-use Rattle.end_rules.specs.Base.{Base, Carried, Absent, Spelled, Unspelled, InvokeHead, ResultHead, ErrorHead}
+use Rattle.end_rules.specs.Base.{Base, Carried, Absent, Spelled, Unspelled, InvokeHead}
 use Rattle.end_rules.specs.State as ends
 use Rattle.end_rules.specs.Invoking.{is_linked_to, operation_of}
 use Rattle.end_rules.specs.Hearing as rules
@@ -23,7 +19,7 @@ use Rattle.rose_roles.specs.declared.judging.Judged.TheVariants as judged
 use Rattle.rose_roles.specs.declared.taken.RoseTaken.TheVariants as taken
 use Rattle.rose_roles.specs.Calls.{Kept, Invoking, called, key_of, side, operation_or_none, AreOpen, opens_in, calls_of}
 use Rattle.rose_roles.specs.Judging as judging
-use Rattle.rose_roles.specs.Hearing.{heard_with, result_taken, error_placed, error_taken}
+use Rattle.rose_roles.specs.Hearing.{heard_with}
 use Rattle.rose_roles.proofs.Keys.{AreApart}
 use Rattle.rose_roles.proofs.Opens.{found, not_found}
 use Rattle.rose_roles.proofs.Counts.{Once, counts}

@@ -1,13 +1,11 @@
 -- Keys of open invocations, and forests without one.
-use Rattle.std.proofs.Common.{◌≡◌, ℤ, Bool, true, false, not, ◌||◌, ◌&&◌, cond, List, [], ◌∷◌, ◌++◌, map, Option, Some, None, refl, sym, ap, subst, ◌∙◌}
+use Rattle.std.proofs.Common.{◌≡◌, ℤ, Bool, true, false, ◌||◌, ◌&&◌, cond, List, [], ◌∷◌, ◌++◌, map, refl, sym, ap, subst, ◌∙◌}
 use Rattle.std.specs.Ordering.{int_eq}
 use Rattle.std.proofs.lemmas.Bool.{and_parts}
 use Rattle.std.proofs.lemmas.Bool.Decides.{Decides-int_eq}
-use Rattle.std.proofs.lemmas.List.{append-nil}
 use Rattle.linked_ops.specs.declared.key.Key.{Key}
-use Rattle.linked_ops.specs.Keys.{same_bool, same_key, is_under}
-use Rattle.linked_ops.specs.Entries.{Entry, is_open, is_open_or_none, orphaned, without, closed, AreBehind, IsForest}
-use Rattle.rose_roles.specs.Calls.{key_of}
+use Rattle.linked_ops.specs.Keys.{same_bool, same_key}
+use Rattle.linked_ops.specs.Entries.{Entry, is_open, orphaned, without, closed, AreBehind, IsForest}
 
 pub bools_are : (a b : Bool) → same_bool a b ≡ true → a ≡ b
 bools_are true true e = refl

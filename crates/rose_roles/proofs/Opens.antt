@@ -1,13 +1,13 @@
 -- The list of open invocations as keys are opened and closed.
-use Rattle.std.proofs.Common.{◌≡◌, ℕ, ℤ, Bool, true, false, not, ◌||◌, ◌&&◌, cond, List, [], ◌∷◌, ◌++◌, map, find, filter, Option, Some, None, refl, sym, ap, subst, ◌∙◌}
+use Rattle.std.proofs.Common.{◌≡◌, ℤ, Bool, true, false, not, ◌&&◌, cond, List, [], ◌∷◌, ◌++◌, map, filter, Option, Some, None, refl, sym, ap, subst, ◌∙◌}
 use Rattle.std.specs.Ordering.{int_eq}
 use Rattle.linked_ops.specs.declared.key.Key.{Key}
-use Rattle.linked_ops.specs.Keys.{same_bool, same_key, is_under}
+use Rattle.linked_ops.specs.Keys.{same_bool, same_key}
 use Rattle.linked_ops.specs.Entries.{Entry, is_open, orphaned, without, closed}
 use Rattle.end_rules.specs.State as ends
 use Rattle.rose_roles.specs.declared.called.Called.{Called}
-use Rattle.rose_roles.specs.Calls.{Kept, called, key_of, side, operation_or_none, context_or_none, differ, parent_in, open_call, opens_in}
-use Rattle.rose_roles.proofs.Keys.{id_is, key_is, keys_are, bool_cases, or_true, or_first, or_none, or_rest, AreApart}
+use Rattle.rose_roles.specs.Calls.{Kept, called, key_of, side, operation_or_none, context_or_none, parent_in, open_call, opens_in}
+use Rattle.rose_roles.proofs.Keys.{key_is, keys_are, bool_cases, or_true, or_first, or_none, or_rest, AreApart}
 
 abbrev pub call_with : Entry → Option Called → ends.OpenCall
 call_with e c = record { own = e.0.own; id = e.0.id; operation = operation_or_none c; context = context_or_none c; parent = parent_in e.0.own e.1 }

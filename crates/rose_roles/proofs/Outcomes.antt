@@ -10,25 +10,24 @@ use Rattle.stub_tables.specs.declared.operation.Code.{Code}
 use Rattle.stub_tables.specs.declared.operation.Use.{Use}
 use Rattle.stub_tables.specs.declared.operation.Operation.{Operation}
 use Rattle.stub_tables.specs.declared.operation.ErrorRow.{ErrorRow}
-use Rattle.stub_tables.specs.Codes.{is_error_of}
 use Rattle.stub_tables.specs.Lookup.{operation_at, operation_with, error_at, error_with}
 use Rattle.stub_tables.specs.Apdus.{placed, argument_of, parameter_of}
 use Rattle.apdu_spelling.specs.declared.head.ApduHead.{ApduHead}
 use Rattle.apdu_spelling.specs.declared.head.ApduKind.{ApduKind}
 use Rattle.apdu_spelling.specs.declared.head.ApduKind.TheVariants as kinds
 use Rattle.dialogue.specs.declared.indication.Indication.TheVariants as indications
-use Rattle.linked_ops.specs.Entries.{Entry, is_open}
-use Rattle.end_rules.specs.Base.{Base, Carried, Head, BadReject, InvokeHead, ResultHead, ErrorHead, RejectHead}
+use Rattle.linked_ops.specs.Entries.{Entry}
+use Rattle.end_rules.specs.Base.{Base, Carried, BadReject, InvokeHead, ResultHead, ErrorHead, RejectHead}
 use Rattle.end_rules.specs.State as ends
 use Rattle.end_rules.specs.Hearing as rules
 use Rattle.rose_roles.specs.declared.called.Called.{Called}
 use Rattle.rose_roles.specs.declared.judging.Judged as judgeds
 use Rattle.rose_roles.specs.declared.judging.Judged.TheVariants as judged
 use Rattle.rose_roles.specs.declared.taken.RoseTaken.TheVariants as taken
-use Rattle.rose_roles.specs.Calls.{Kept, Invoking, called, key_of, AreOpen, opens_in, calls_of}
+use Rattle.rose_roles.specs.Calls.{Kept, Invoking, called, AreOpen, calls_of}
 use Rattle.rose_roles.specs.Heads.{Carries, use_by, parameter_placed, invoke_by, result_by, error_by, reject_by, head_by, said_by, is_invocation}
 use Rattle.rose_roles.specs.Judging as judging
-use Rattle.rose_roles.specs.Hearing.{heard_with, result_taken, error_placed, error_taken}
+use Rattle.rose_roles.specs.Hearing.{heard_with, result_taken, error_taken}
 use Rattle.rose_roles.proofs.Hearings.{Matches, matching, right_is}
 
 -- ---- heads by their fields

@@ -1,5 +1,5 @@
 -- Octets spell no value of a row that isn't there, and what they spell fits.
-use Rattle.std.proofs.Common.{◌≡◌, ℕ, ◌<◌, ◌≤◌, ◌&&◌, zero, suc, take, length, Bool, true, false, IsTrue, ◌↔◌, List, Option, Some, None, Result, Ok, Err, IfOk, refl, sym, ap, subst, ◌∙◌, arith}
+use Rattle.std.proofs.Common.{◌≡◌, ℕ, ◌<◌, ◌≤◌, zero, suc, take, length, Bool, true, false, IsTrue, ◌↔◌, List, Option, Some, None, Result, Ok, Err, IfOk, refl, sym, ap, subst, ◌∙◌}
 use Rattle.std.proofs.lemmas.Option.{slice_get_past}
 use Rattle.std.proofs.Math.Seq.{take-length}
 use Rattle.std.specs.List.{slice_get}
@@ -13,7 +13,7 @@ use Rattle.asn1_types.specs.Value.{Value}
 use Rattle.ber_spelling.specs.Spelling as ber
 use Rattle.ber_spelling.specs.Octets.{AreOctets}
 use Rattle.ber_spelling.proofs.Fitting.{spelled_fits}
-use Rattle.packed_codec.specs.Laws.{packs, packs_by, Packed}
+use Rattle.packed_codec.specs.Laws.{packs, packs_by}
 use Rattle.osi_base.specs.declared.fault.NoMemory.{NoMemory}
 use Rattle.asn1_types.specs.declared.value.Val.{Val}
 use Rattle.apdu_spelling.specs.Spellings.{SpelledAs}

@@ -1,5 +1,5 @@
 -- What a head says, with what the octets of its value carry.
-use Rattle.std.specs.Prelude.{◌≡◌, ℕ, min, ℤ, Bool, true, false, List, Option, Some, None}
+use Rattle.std.specs.Prelude.{ℕ, min, ℤ, Bool, true, false, List, Option, Some, None}
 use Rattle.std.specs.Option.{option_map}
 use Rattle.osi_base.specs.declared.syntax.Syntax.{Syntax}
 use Rattle.osi_base.specs.declared.syntax.Syntax.TheVariants.{Ber, Der, Packed}

@@ -1,5 +1,5 @@
 -- What a side answers to an APDU: what the rules of one end hear in it.
-use Rattle.std.specs.Prelude.{◌≡◌, ℕ, ℤ, List, [], ◌∷◌, Option, Some, None, Result, Ok, Err}
+use Rattle.std.specs.Prelude.{◌≡◌, ℕ, ℤ, [], Option, Some, None, Result, Ok, Err}
 use Rattle.osi_base.specs.declared.syntax.Syntax.{Syntax}
 use Rattle.osi_base.specs.declared.fault.NoMemory.{NoMemory}
 use Rattle.osi_base.specs.declared.words.ProblemKind.TheVariants as kinds
@@ -9,7 +9,6 @@ use Rattle.apdu_spelling.specs.declared.head.ApduHead.{ApduHead}
 use Rattle.apdu_codec.specs.declared.fault.HeadFault as faults
 use Rattle.apdu_codec.specs.declared.fault.HeadFault.TheVariants as fault
 use Rattle.dialogue.specs.declared.indication.Indication.TheVariants as indications
-use Rattle.linked_ops.specs.Entries.{Entry}
 use Rattle.end_rules.specs.Base.{Base, Carried, Head}
 use Rattle.end_rules.specs.State as ends
 use Rattle.end_rules.specs.Hearing.{Heard, told, hear, problem_with}

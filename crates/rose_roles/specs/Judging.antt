@@ -14,7 +14,7 @@ use Rattle.stub_tables.specs.Apdus.{placed}
 use Rattle.end_rules.specs.Base.{Carried, Absent, Spelled, Unspelled}
 use Rattle.end_rules.specs.State.{is_empty}
 use Rattle.end_rules.specs.Invoking.{is_linked_to}
-use Rattle.end_rules.specs.Hearing.{first_problem, problem_if, has_links, is_place, value_in}
+use Rattle.end_rules.specs.Hearing.{first_problem, problem_if, has_links, is_place}
 use Rattle.rose_roles.specs.declared.called.Called.{Called}
 use Rattle.rose_roles.specs.declared.judging.Judged as judgeds
 use Rattle.rose_roles.specs.declared.judging.Judged.TheVariants as judged

@@ -1,4 +1,4 @@
-use Rattle.std.proofs.Common.{Option, Some, None, subst}
+use Rattle.std.proofs.Common.{Option, subst}
 use Rattle.asn1_types.specs.declared.value.Val.{Val}
 use Rattle.rose_roles.specs.Values.{IsAllowedIn}
 use Rattle.rose_roles.proofs.Allowed.{right_there, wrong_there}

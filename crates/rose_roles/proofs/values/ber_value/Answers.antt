@@ -1,4 +1,4 @@
-use Rattle.std.proofs.Common.{true, false, arith}
+use Rattle.std.proofs.Common.{false, arith}
 use Rattle.rose_roles.proofs.Rows.{ber_fits}
 use Rattle.rose_roles.proofs.values.ber_value.Goals as goal
 

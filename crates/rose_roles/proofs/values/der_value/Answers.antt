@@ -1,4 +1,4 @@
-use Rattle.std.proofs.Common.{true, false, arith}
+use Rattle.std.proofs.Common.{true, arith}
 use Rattle.rose_roles.proofs.Rows.{ber_fits}
 use Rattle.rose_roles.proofs.values.der_value.Goals as goal
 

@@ -1,4 +1,4 @@
-use Rattle.std.proofs.Common.{ℕ, cond, None, true, false, refl, sym, ap, subst, ◌∙◌, List}
+use Rattle.std.proofs.Common.{cond, None, true, false, refl, sym, ap, subst, ◌∙◌}
 use Rattle.std.specs.Ordering.{int_eq}
 use Rattle.linked_ops.specs.declared.key.Key.{Key}
 use Rattle.linked_ops.specs.Entries.{closed}

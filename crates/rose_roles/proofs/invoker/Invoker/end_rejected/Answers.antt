@@ -1,4 +1,4 @@
-use Rattle.std.proofs.Common.{◌≡◌, ℤ, ℕ, true, false, Option, Some, None, refl, sym, ap, subst, ◌∙◌}
+use Rattle.std.proofs.Common.{ℤ, true, Option, sym, ap, ◌∙◌}
 use Rattle.end_rules.specs.State as ends
 use Rattle.end_rules.specs.Base.{RejectHead}
 use Rattle.end_rules.specs.Hearing as rules

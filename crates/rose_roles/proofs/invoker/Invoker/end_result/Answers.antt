@@ -1,8 +1,6 @@
-use Rattle.std.proofs.Common.{◌≡◌, ℕ, true, false, Option, Some, None, refl, sym, ap, subst, ◌∙◌}
+use Rattle.std.proofs.Common.{true, ap, ◌∙◌}
 use Rattle.end_rules.specs.State as ends
-use Rattle.end_rules.specs.Base.{Head}
-use Rattle.end_rules.specs.Hearing as rules
-use Rattle.rose_roles.specs.Calls.{Kept, calls_of}
+use Rattle.rose_roles.specs.Calls.{calls_of}
 use Rattle.rose_roles.specs.Hearing.{heard_with}
 use Rattle.rose_roles.proofs.Outcomes.{heard_result}
 use Rattle.rose_roles.proofs.invoker.Invoker.end_result.Goals as goal

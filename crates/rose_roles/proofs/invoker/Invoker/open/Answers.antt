@@ -1,8 +1,8 @@
-use Rattle.std.proofs.Common.{◌≡◌, ℤ, pos, ◌+◌, ◌∷◌, ◌++◌, [], Some, cond, not, true, false, refl, sym, ap, subst, ◌∙◌}
+use Rattle.std.proofs.Common.{pos, ◌+◌, ◌∷◌, ◌++◌, [], Some, cond, not, true, refl, sym, ap, subst, ◌∙◌}
 use Rattle.std.specs.Option.{option_map}
 use Rattle.std.specs.Ordering.{int_eq}
 use Rattle.linked_ops.specs.declared.key.Key.{Key}
-use Rattle.linked_ops.specs.Entries.{Entry, is_open, is_open_or_none}
+use Rattle.linked_ops.specs.Entries.{is_open, is_open_or_none}
 use Rattle.rose_roles.specs.Calls.{Invoking, called, key_of, AreOpen, opens_in}
 use Rattle.rose_roles.proofs.Changes.{shut_by, opens_own, own_after, peer_after}
 use Rattle.rose_roles.proofs.invoker.Invoker.open.Goals as goal

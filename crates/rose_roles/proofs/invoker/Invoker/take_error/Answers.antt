@@ -1,13 +1,11 @@
-use Rattle.std.proofs.Common.{◌≡◌, ℤ, ℕ, true, false, Option, Some, None, refl, sym, ap, subst, ◌∙◌}
-use Rattle.end_rules.specs.State as ends
-use Rattle.end_rules.specs.Base.{Head}
+use Rattle.std.proofs.Common.{ℤ, Option, refl, sym, ap, ◌∙◌}
 use Rattle.end_rules.specs.Hearing as rules
-use Rattle.rose_roles.specs.Calls.{Kept, calls_of}
+use Rattle.rose_roles.specs.Calls.{calls_of}
 use Rattle.rose_roles.specs.Hearing.{heard_with}
 use Rattle.stub_tables.specs.Lookup.{error_with}
 use Rattle.osi_base.specs.declared.words.ProblemKind.TheVariants as problems
 use Rattle.rose_roles.specs.declared.taken.RoseTaken.TheVariants as taken
-use Rattle.rose_roles.proofs.Outcomes.{no_error_id, no_error_code, said_error, shut_error, carries_parameter}
+use Rattle.rose_roles.proofs.Outcomes.{said_error, shut_error, carries_parameter}
 use Rattle.rose_roles.proofs.invoker.Invoker.take_error.Goals as goal
 
 pub returns-in-None-clause-heard : goal.returns-in-None-clause-heard

@@ -1,10 +1,6 @@
-use Rattle.std.proofs.Common.{◌≡◌, ℤ, ℕ, true, false, Option, Some, None, refl, sym, ap, subst, ◌∙◌}
-use Rattle.end_rules.specs.State as ends
-use Rattle.end_rules.specs.Base.{RejectHead}
+use Rattle.std.proofs.Common.{sym, ◌∙◌}
 use Rattle.end_rules.specs.Hearing as rules
 use Rattle.rose_roles.specs.Calls.{calls_of}
-use Rattle.rose_roles.specs.Hearing.{heard_with}
-use Rattle.rose_roles.specs.declared.taken.RoseTaken.TheVariants as taken
 use Rattle.rose_roles.specs.Heads.{reject_by}
 use Rattle.rose_roles.proofs.Outcomes.{heard_other}
 use Rattle.rose_roles.proofs.invoker.Invoker.take_reject.Goals as goal

@@ -1,8 +1,6 @@
-use Rattle.std.proofs.Common.{◌≡◌, ℤ, ℕ, true, false, Option, Some, None, refl, sym, ap, subst, ◌∙◌}
-use Rattle.end_rules.specs.State as ends
-use Rattle.end_rules.specs.Base.{Head}
+use Rattle.std.proofs.Common.{ℤ, Option, sym, ap, ◌∙◌}
 use Rattle.end_rules.specs.Hearing as rules
-use Rattle.rose_roles.specs.Calls.{Kept, calls_of}
+use Rattle.rose_roles.specs.Calls.{calls_of}
 use Rattle.rose_roles.specs.Hearing.{heard_with}
 use Rattle.apdu_spelling.specs.declared.head.ApduKind.TheVariants as kinds
 use Rattle.osi_base.specs.declared.words.ProblemKind.TheVariants as problems

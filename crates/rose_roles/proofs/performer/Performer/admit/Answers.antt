@@ -1,4 +1,4 @@
-use Rattle.std.proofs.Common.{◌≡◌, ℕ, true, false, refl, sym, ap, subst, ◌∙◌, ◌∷◌, ◌++◌, [], Some, None, cond, not}
+use Rattle.std.proofs.Common.{false, sym, ap, subst, ◌∙◌, ◌∷◌, ◌++◌, [], Some, cond, not}
 use Rattle.std.specs.Option.{option_map}
 use Rattle.std.specs.Ordering.{int_eq}
 use Rattle.linked_ops.specs.declared.key.Key.{Key}

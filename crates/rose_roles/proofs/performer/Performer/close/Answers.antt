@@ -1,4 +1,4 @@
-use Rattle.std.proofs.Common.{◌≡◌, ℤ, ℕ, cond, None, true, false, refl, sym, ap, subst, ◌∙◌, List}
+use Rattle.std.proofs.Common.{cond, None, true, false, refl, sym, ap, subst, ◌∙◌}
 use Rattle.std.proofs.Math.Facts.{to_z-of_z}
 use Rattle.std.specs.Ordering.{int_eq}
 use Rattle.linked_ops.specs.declared.key.Key.{Key}

@@ -1,4 +1,4 @@
-use Rattle.std.proofs.Common.{◌≡◌, ℕ, Option, Some, None, refl, sym, ap, ◌∙◌}
+use Rattle.std.proofs.Common.{ℕ, Option, sym, ap, ◌∙◌}
 use Rattle.std.specs.Option.{option_map}
 use Rattle.stub_tables.specs.Lookup.{operation_at}
 use Rattle.stub_tables.specs.Apdus.{placed, argument_of}

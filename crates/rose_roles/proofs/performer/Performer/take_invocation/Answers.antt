@@ -1,4 +1,4 @@
-use Rattle.std.proofs.Common.{◌≡◌, ℕ, true, false, Option, Some, None, refl, sym, ap, subst, ◌∙◌}
+use Rattle.std.proofs.Common.{ap, subst, ◌∙◌}
 use Rattle.end_rules.specs.Hearing as rules
 use Rattle.rose_roles.specs.declared.judging.Judged.{Judged}
 use Rattle.rose_roles.specs.Calls.{Performing, calls_of}
