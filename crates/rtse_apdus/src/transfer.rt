@@ -4,6 +4,7 @@ ghost use Rattle.std.specs.Prelude.{◌≡◌, Some, IfOk, slice_get, option_map
 ghost use Rattle.std.specs.Option.{option_copied};
 ghost use Rattle.asn1_types.specs.Value as tree;
 ghost use Rattle.asn1_types.specs.declared.row.TypeRow.TheVariants as row;
+ghost use Rattle.fixed_tables.specs.Values.{maybe_bits};
 ghost use Rattle.fixed_tables.specs.Whole.{GivesWhole};
 ghost use Rattle.rtse_apdus.specs.TransferRows.{transfer_rows};
 ghost use Rattle.rtse_apdus.specs.Transfer.{bits_or_none, content_in, content_value, pdv_in, pdv_value, transfer_at, written_transfer};

@@ -29,12 +29,12 @@ digit_found d n e =
     elim (picked (nat_le 48 d && nat_le d 57) (d - 48) n _ e) [
       | inl f ↦ inl (grind (arith, nat_tests), grind (arith, nat_tests))
       | inr f ↦ elim (picked (nat_le 65 d && nat_le d 70) (d - 65 + 10) n _ f.1) [
-          | inl g ↦ inr (grind (arith, nat_tests), grind (arith, nat_tests), inl (grind (arith, nat_tests)))
-          | inr g ↦ elim (picked (nat_le 97 d && nat_le d 102) (d - 97 + 10) n _ g.1) [
-              | inl h ↦ inr (grind (arith, nat_tests), grind (arith, nat_tests), inr (grind (arith, nat_tests)))
-              | inr h ↦ absurd (let e : number n ≡ None = sym h.1 in cc)
-            ]
+        | inl g ↦ inr (grind (arith, nat_tests), grind (arith, nat_tests), inl (grind (arith, nat_tests)))
+        | inr g ↦ elim (picked (nat_le 97 d && nat_le d 102) (d - 97 + 10) n _ g.1) [
+          | inl h ↦ inr (grind (arith, nat_tests), grind (arith, nat_tests), inr (grind (arith, nat_tests)))
+          | inr h ↦ absurd (let e : number n ≡ None = sym h.1 in cc)
         ]
+      ]
     ]
 
 digit_again : (d n : ℕ) → Digit d n → digit_of d ≡ Some n

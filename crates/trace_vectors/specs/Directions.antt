@@ -17,26 +17,23 @@ PacketSaid tables packets.Disconnect result = result ≡ said.Line (codes "DR")
 PacketSaid tables packets.Problem result = result ≡ said.Line (codes "ER")
 PacketSaid tables (packets.Tsdu tsdu) result = TsduSaid tables tsdu result
 
-abbrev pub AllSaid : Tables → List Packet → List Said → Type 0
-AllSaid tables [] results = results ≡ []
-AllSaid tables (packet ∷ more) results = (first : Said) × (rest : List Said) × PacketSaid tables packet first × AllSaid tables more rest × (results ≡ first ∷ rest)
+abbrev pub stream_fault : TFault → List ℕ
+stream_fault fault = fault_text (codes "transport") fault.place fault.kind
 
--- where the stream leaves the grammar of packets
-abbrev pub stream_fault : Option TFault → List Said
-stream_fault None = []
-stream_fault (Some fault) = said.Fault (fault_text (codes "transport") fault.place fault.kind) ∷ []
+-- Behind a message that is said by a line more is shown; behind a fault nothing.
+abbrev pub ShownBehind : Said → (List (List ℕ) → Type 0) → List (List ℕ) → Type 0
+ShownBehind (said.Line text) Rest shown = (rest : List (List ℕ)) × Rest rest × (shown ≡ text ∷ rest)
+ShownBehind (said.Fault text) Rest shown = shown ≡ text ∷ []
 
--- the lines up to the first fault, which ends the direction
-abbrev pub shown_of : List Said → List (List ℕ)
-shown_of [] = []
-shown_of (said.Line text ∷ rest) = text ∷ shown_of rest
-shown_of (said.Fault text ∷ rest) = text ∷ []
+-- What is shown of packets, and behind them of the place where their stream leaves the grammar: a fault ends the direction.
+abbrev pub AllShown : Tables → List Packet → Option TFault → List (List ℕ) → Type 0
+AllShown tables [] None shown = shown ≡ []
+AllShown tables [] (Some fault) shown = shown ≡ stream_fault fault ∷ []
+AllShown tables (packet ∷ more) fault shown = (first : Said) × PacketSaid tables packet first × ShownBehind first (AllShown tables more fault) shown
 
--- all that is shown of a stream, of its packets and then of its fault
+-- all that is shown of a stream
 pub record Shows (tables : Tables) (stream : List ℕ) (shown : List (List ℕ)) : Type 0 where
   pub packets : List Packet
   pub fault : Option TFault
-  pub results : List Said
   pub reads : Reads stream packets fault
-  pub said : AllSaid tables packets results
-  pub is : shown ≡ shown_of (results ++ stream_fault fault)
+  pub are : AllShown tables packets fault shown

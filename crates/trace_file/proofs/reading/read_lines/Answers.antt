@@ -22,12 +22,12 @@ loop-line-preserved c =
     let n = length_push c.loop-line.yielded c.in-Some.line in
     let count = c.loop-line.invariant.counted in
     let next : lines_at (c.loop-line.number + 1) (put_behind c.in_ok-read_line.field-0 c.loop-line.told) (drop (length c.loop-line.yielded + 1) all) ≡ whole =
-      line_on c.loop-line.number c.loop-line.told c.in_ok-read_line.field-0 all (length c.loop-line.yielded) c.in-Some.line.now whole t c.in_ok-read_line.ensures c.loop-line.invariant.reads in
+    line_on c.loop-line.number c.loop-line.told c.in_ok-read_line.field-0 all (length c.loop-line.yielded) c.in-Some.line.now whole t c.in_ok-read_line.ensures c.loop-line.invariant.reads in
     record {
       counted = omega arith;
       reads =
-        subst (λ (m : ℕ). lines_at (c.loop-line.number + 1) c.keep.new.told (drop m all) ≡ whole) (sym n)
-        (subst (λ told. lines_at (c.loop-line.number + 1) told (drop (length c.loop-line.yielded + 1) all) ≡ whole) (sym c.in_ok-keep.ensures) next);
+          subst (λ (m : ℕ). lines_at (c.loop-line.number + 1) c.keep.new.told (drop m all) ≡ whole) (sym n)
+          (subst (λ told. lines_at (c.loop-line.number + 1) told (drop (length c.loop-line.yielded + 1) all) ≡ whole) (sym c.in_ok-keep.ensures) next);
     }
 
 pub returns : goal.returns
