@@ -1,4 +1,0 @@
-pub mod Names
-pub mod Units
-pub mod Directions
-pub mod Trace
