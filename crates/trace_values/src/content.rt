@@ -9,9 +9,9 @@ use crate::head::put_head;
 use apdu_codec::{HeadFault, Heads};
 use apdu_spelling::ApduHead;
 use osi_base::{NoMemory, Octets, PdvContent, Syntax};
-use script_text::Text;
 use std::alloc::Global;
 use stub_tables::Tables;
+use value_text::Text;
 
 /// A value of so many octets.
 fn put_count(text: &mut Text, octets: &Octets) -> Result<(), NoMemory>

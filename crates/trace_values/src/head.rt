@@ -8,8 +8,8 @@ ghost use Rattle.trace_values.specs.Heads.{operation_named, error_named, named_t
 
 use apdu_spelling::{ApduHead, ApduKind};
 use osi_base::{Name, NoMemory, Problem, ProblemKind};
-use script_text::Text;
 use stub_tables::{Code, Tables};
+use value_text::Text;
 
 /// An identifier, or `-` where there is none.
 fn put_id(text: &mut Text, id: Option<i64>) -> Result<(), NoMemory>

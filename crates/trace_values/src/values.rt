@@ -6,9 +6,9 @@ ghost use Rattle.trace_values.specs.Values.{ArePdvsText, IsPdvText, Puts};
 use crate::content::put_content;
 use apdu_codec::Heads;
 use osi_base::{NoMemory, Pdv};
-use script_text::Text;
 use std::alloc::Global;
 use stub_tables::Tables;
+use value_text::Text;
 
 /// A value behind a space and its context's identifier.
 fn put_pdv(
