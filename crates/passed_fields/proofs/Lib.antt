@@ -1,0 +1,6 @@
+pub mod Nones
+pub mod Tags
+pub mod FieldsFound
+pub mod FieldsOnly
+pub mod FieldsGrow
+pub mod FieldsInside
