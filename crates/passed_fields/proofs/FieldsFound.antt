@@ -1,13 +1,14 @@
 -- Fields: what is read is spelled so.
 use Rattle.std.proofs.Common.{◌≡◌, ℕ, zero, suc, ◌-◌, ◌+◌, ◌<◌, Bool, true, false, ◌&&◌, List, [], ◌∷◌, ◌++◌, length, take, drop, Option, Some, None, Ok, Err, refl, sym, ap, ◌∙◌, subst, arith, append_assoc, inl, inr}
-use Rattle.std.specs.Prelude.{nat_lt, nat_le, nat_eq}
+use Rattle.std.specs.Prelude.{nat_lt, nat_le, nat_eq, if◌then◌else◌}
 use Rattle.std.proofs.lemmas.Bool.{and_parts, ltb-true, eqb-true}
 use Rattle.osi_base.specs.declared.words.Kind.TheVariants.{Missing, Extra}
 use Rattle.asn1_types.specs.declared.row.Class.{Class}
 use Rattle.asn1_types.specs.declared.row.Class.TheVariants.{Context}
 use Rattle.asn1_types.specs.declared.row.TypeRow.{TypeRow}
 use Rattle.asn1_types.specs.Rows.{same_class}
-use Rattle.asn1_types.specs.Value.{Value, any, boolean, integer, null, octets, bits, object_id, text, parts, list, chosen}
+use Rattle.asn1_types.specs.Value.{Value, any, boolean, integer, null, octets, bits, object_id, parts, list, chosen}
+use Rattle.asn1_types.specs.Value as tree
 use Rattle.ber_spelling.specs.declared.fault.ReadFault.TheVariants as faults
 use Rattle.ber_spelling.specs.declared.spot.Scope.{Scope}
 use Rattle.ber_spelling.specs.declared.spot.Tag as tags
@@ -64,7 +65,7 @@ module _ (rows : List TypeRow) where
   any_some levels (octets x) t p = absurd p
   any_some levels (bits x y) t p = absurd p
   any_some levels (object_id x) t p = absurd p
-  any_some levels (text x) t p = absurd p
+  any_some levels (tree.text x) t p = absurd p
   any_some levels (parts x) t p = absurd p
   any_some levels (list x) t p = absurd p
   any_some levels (chosen x y) t p = absurd p
@@ -146,11 +147,11 @@ module _ (rows : List TypeRow) where
 
   passes_low : (ps : List over.Passed) (told : ℕ) (class : Class) (number after : ℕ) → passes ps told class number ≡ Some after → number < 31
   passes_low [] told class number after e = absurd cc
-  passes_low (p ∷ ps) told class number after e = by_test (is_over p class number) refl e
+  passes_low (p ∷ ps) told class number after e = by_test (is_over p class number) refl (λ k. passes_low ps told class number after k)
     where
-      by_test : (b : Bool) → is_over p class number ≡ b → or_else (told_by p told class number) (passes ps told class number) ≡ Some after → number < 31
-      by_test true t e = over_low p class number t
-      by_test false t e = passes_low ps told class number after (rw t at e)
+      by_test : (b : Bool) → is_over p class number ≡ b → (passes ps told class number ≡ Some after → number < 31) → number < 31
+      by_test true t ih = over_low p class number t
+      by_test false t ih = ih (let f : Bool → Option ℕ = λ b. or_else (if b then told_behind p.before told else None) (passes ps told class number) in sym (ap f t) ∙ e)
 
 module _ (rows : List TypeRow) (fields : List known.Field) (passed : List over.Passed) where
   pub field_found : (before : List (Option Value)) → Found (field_at rows fields passed before) (FieldStep rows fields passed before)

@@ -4,3 +4,4 @@ pub mod FieldsFound
 pub mod FieldsOnly
 pub mod FieldsGrow
 pub mod FieldsInside
+pub mod Fronts

@@ -1,5 +1,5 @@
 -- Fields that can be told apart, and rows that there are.
-use Rattle.std.specs.Prelude.{ℕ, ◌<◌, Bool, true, not, ◌&&◌, List, [], ◌∷◌, length}
+use Rattle.std.specs.Prelude.{ℕ, ◌<◌, Bool, true, not, ◌&&◌, Option, Some, None, List, [], ◌∷◌, length}
 use Rattle.asn1_types.specs.declared.row.Class.{Class}
 use Rattle.asn1_types.specs.declared.row.TypeRow.{TypeRow}
 use Rattle.asn1_types.specs.Rows.{is_no_tag}
@@ -32,3 +32,13 @@ has_other_tag f (g ∷ gs) = not (is_of f g.class g.number) && has_other_tag f g
 abbrev pub are_apart : List known.Field → List over.Passed → Bool
 are_apart [] passed = true
 are_apart (f ∷ fs) passed = has_other_tag f fs && is_kept passed f.class f.number && are_apart fs passed
+
+-- a field of a row, and context tags that are passed over anywhere, or before the known field of a place
+abbrev pub of_row : Class → ℕ → ℕ → Bool → known.Field
+of_row class number row optional = record { class = class; number = number; holds = holds.Row (record { 0 = row }); optional = optional }
+
+abbrev pub anywhere : ℕ → ℕ → over.Passed
+anywhere low high = record { low = low; high = high; before = None }
+
+abbrev pub until_place : ℕ → ℕ → ℕ → over.Passed
+until_place low high before = record { low = low; high = high; before = Some before }

@@ -1,3 +1,4 @@
+pub mod Front
 pub mod Known
 pub mod Passing
 pub mod Reading

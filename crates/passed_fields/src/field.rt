@@ -1,5 +1,8 @@
 //! What may stand in contents.
 
+ghost use Rattle.std.specs.Prelude.{◌≡◌};
+ghost use Rattle.passed_fields.specs.Known.{of_row, anywhere, until_place};
+
 use asn1_types::{Class, TypeId};
 
 /// What a known field holds.
@@ -38,4 +41,42 @@ pub struct Passed {
 pub struct Fields<'a> {
     pub known: &'a [Field],
     pub passed: &'a [Passed],
+}
+
+impl Field {
+    /// A field of a row.
+    pub fn of_row(class: Class, number: u32, row: u32, optional: bool) -> Field
+        ensures { result ≡ of_row class number row optional }
+    {
+        Field {
+            class,
+            number,
+            holds: Holds::Row(TypeId(row)),
+            optional,
+        }
+    }
+}
+
+impl Passed {
+    /// Tags that are passed over anywhere.
+    pub fn anywhere(low: u32, high: u32) -> Passed
+        ensures { result ≡ anywhere low high }
+    {
+        Passed {
+            low,
+            high,
+            before: None,
+        }
+    }
+
+    /// Tags that are passed over before the known field of this place.
+    pub fn until_place(low: u32, high: u32, before: usize) -> Passed
+        ensures { result ≡ until_place low high before }
+    {
+        Passed {
+            low,
+            high,
+            before: Some(before),
+        }
+    }
 }

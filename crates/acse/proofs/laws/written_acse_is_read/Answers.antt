@@ -1,5 +1,0 @@
-use Rattle.acse.proofs.AcseLaws as laws
-use Rattle.acse.proofs.laws.written_acse_is_read.Goals as goal
-
-pub returns : goal.returns
-returns c = laws.written_acse_is_read
