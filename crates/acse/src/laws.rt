@@ -1,6 +1,6 @@
 //! The laws of APDUs of association control, each the contract of a function that does nothing.
 
-ghost use Rattle.acse.specs.Laws.{AcseIsSpelled, SpelledAcseIsRead, AcseFaultIsFirst};
+ghost use Rattle.acse.specs.Laws.{AcseIsSpelled, SpelledAcseIsRead, AcseFaultIsFirst, PlainIsSpelled, WrittenAcseIsRead};
 
 /// What is read is spelled by the octets.
 pub fn acse_is_spelled()
@@ -15,4 +15,15 @@ pub fn spelled_acse_is_read()
 /// A fault is the first from the left.
 pub fn acse_fault_is_first()
     ensures { AcseFaultIsFirst }
+{}
+
+/// Octets that spell a value of the fixed table have no field that is passed over, and spell the
+/// APDU that the value says.
+pub fn plain_is_spelled()
+    ensures { PlainIsSpelled }
+{}
+
+/// What is written of an APDU that may be written is spelled so and read back.
+pub fn written_acse_is_read()
+    ensures { WrittenAcseIsRead }
 {}

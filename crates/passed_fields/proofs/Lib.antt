@@ -5,3 +5,5 @@ pub mod FieldsOnly
 pub mod FieldsGrow
 pub mod FieldsInside
 pub mod Fronts
+pub mod MoreTurns
+pub mod PlainFields

@@ -231,10 +231,10 @@ fn pass<'a>(
     ensures stops { IfOk result (λ x. GoesOn spot.entry.place (length spot.entry.rest.now) x.1) }
 {
     let mut found = found;
-    let after = whole_value(32, scope, opened, spot)?;
+    let end = whole_value(32, scope, opened, spot)?;
     let count = told.saturating_sub(found.len());
     add_nones(&mut found, count)?;
-    Ok((found, after))
+    Ok((found, end))
 }
 
 /// One field, behind those found before.

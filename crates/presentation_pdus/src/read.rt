@@ -109,10 +109,14 @@ fn half<'a>(
 fn both(alloc: Global, halves: Halves) -> Result<Option<Val>, NoMemory>
     ensures { IfOk result (λ value. value ≡ halves_done halves) }
 {
-    match halves {
-        (Some(mode), Some(under)) => Ok(Some(sequence(vec![in alloc; Some(mode), Some(under)]?))),
-        _ => Ok(None),
-    }
+    let (mode, under) = halves;
+    let Some(mode) = mode else {
+        return Ok(None);
+    };
+    let Some(under) = under else {
+        return Ok(None);
+    };
+    Ok(Some(sequence(vec![in alloc; Some(mode), Some(under)]?)))
 }
 
 /// The mode selector and the fields, up to the end of the contents.

@@ -8,7 +8,7 @@ use crate::items::{DataValues, Definitions, Deletions, Identifiers, Restored, Re
 use asn1_types::Val;
 use fixed_tables::{alternative, inside, list_in, maybe_bits, maybe_octets, number, part_in};
 use osi_base::{
-    Answers, NoMemory, PresentationAccept, PresentationConnect, PresentationReject,
+    Answers, NoMemory, Octets, PresentationAccept, PresentationConnect, PresentationReject,
     PresentationWord, RestoredList,
 };
 use std::alloc::Global;
@@ -87,7 +87,7 @@ fn said_by(alloc: Global, which: u32, v: Option<&Val>) -> Result<PresentationWor
         4 => Ok(PresentationWord::AlterAck {
             answers: Answers {
                 added: list_in::<Results>(alloc, part_in(0, v))?,
-                deleted: list_in::<Deletions>(alloc, part_in(1, v))?,
+                deleted: Octets::from_vec(list_in::<Deletions>(alloc, part_in(1, v))?.into_vec()),
             },
         }),
         5 => Ok(PresentationWord::Resynchronize {
