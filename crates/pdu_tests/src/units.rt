@@ -63,7 +63,9 @@ const PASSED: [(PpduPlace, &'static [u8], &'static [u8]); 6] = [
 ];
 
 /// Octets that are no units, with the place, the kind and the reason of their first fault.
-const FAULTS: [(PpduPlace, &'static [u8], usize, Kind, u8); 16] = [
+const FAULTS: [(PpduPlace, &'static [u8], usize, Kind, u8); 17] = [
+    // an abort by the provider without its reason
+    (PpduPlace::Ab, &[0x30, 3, 1, 1, 0], 2, Kind::Missing, 6),
     // no octet
     (PpduPlace::Dt, &[], 0, Kind::Missing, 6),
     // an unknown tag

@@ -74,6 +74,6 @@ restart_fields = of_row Context 0 57 true ∷ unread_user_field ∷ []
 abbrev pub user_abort_fields : List known.Field
 user_abort_fields = of_row Context 0 57 true ∷ user_field ∷ []
 
--- ARP: reason, event
+-- ARP: reason, which must stand, and event
 abbrev pub provider_abort_fields : List known.Field
-provider_abort_fields = of_row Context 0 61 true ∷ of_row Context 1 62 true ∷ []
+provider_abort_fields = of_row Context 0 61 false ∷ of_row Context 1 62 true ∷ []

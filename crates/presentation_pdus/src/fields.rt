@@ -120,5 +120,5 @@ pub(crate) fn user_abort_fields() -> [Field; 2]
 pub(crate) fn provider_abort_fields() -> [Field; 2]
     ensures { result ≡ provider_abort_fields }
 {
-    [of_row(0, 61), of_row(1, 62)]
+    [Field::of_row(Class::Context, 0, 61, false), of_row(1, 62)]
 }

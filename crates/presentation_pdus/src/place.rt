@@ -1,5 +1,7 @@
 //! Where units of the presentation protocol are carried, and what is wrong with octets that are none.
 
+ghost use Rattle.std.specs.Prelude.{◌≡◌};
+
 use osi_base::{Kind, NoMemory};
 
 /// The kind of session unit (X.225 8.3) that carries a unit of the presentation protocol.
