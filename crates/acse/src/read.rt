@@ -91,23 +91,68 @@ fn of_number<'a>(
 {
     if opened.number == 0 {
         let passed = [Passed::anywhere(2, 29)];
-        return apdu(alloc, table, 0, &request_fields(), &passed, scope, opened, spot);
+        return apdu(
+            alloc,
+            table,
+            0,
+            &request_fields(),
+            &passed,
+            scope,
+            opened,
+            spot,
+        );
     }
     if opened.number == 1 {
         let passed = [Passed::anywhere(0, 0), Passed::anywhere(4, 29)];
-        return apdu(alloc, table, 1, &response_fields(), &passed, scope, opened, spot);
+        return apdu(
+            alloc,
+            table,
+            1,
+            &response_fields(),
+            &passed,
+            scope,
+            opened,
+            spot,
+        );
     }
     if opened.number == 2 {
         let passed = [Passed::anywhere(1, 30)];
-        return apdu(alloc, table, 2, &release_fields(), &passed, scope, opened, spot);
+        return apdu(
+            alloc,
+            table,
+            2,
+            &release_fields(),
+            &passed,
+            scope,
+            opened,
+            spot,
+        );
     }
     if opened.number == 3 {
         let passed = [Passed::anywhere(1, 30)];
-        return apdu(alloc, table, 3, &release_fields(), &passed, scope, opened, spot);
+        return apdu(
+            alloc,
+            table,
+            3,
+            &release_fields(),
+            &passed,
+            scope,
+            opened,
+            spot,
+        );
     }
     if opened.number == 4 {
         let passed = [Passed::anywhere(1, 29)];
-        return apdu(alloc, table, 4, &abort_fields(), &passed, scope, opened, spot);
+        return apdu(
+            alloc,
+            table,
+            4,
+            &abort_fields(),
+            &passed,
+            scope,
+            opened,
+            spot,
+        );
     }
     Err(refusal(opened.start.place, Kind::Tag))
 }

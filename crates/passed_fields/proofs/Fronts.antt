@@ -202,10 +202,12 @@ module _ (run : Run) where
         by_read (Ok x) d = from (Ok x) d (by_end x (nat_eq x.1 end) (told (Ok x) d))
         by_read (Err (faults.NotSpelled p k)) d = from (Err (faults.NotSpelled p k)) d (at_place p place k kind (told (Err (faults.NotSpelled p k)) d))
         by_read (Err faults.Short) d =
-            let at : end ≡ place = at_place end place Missing kind (told (Err faults.Short) d) in
-            (omega (arith, at), λ k lt.
-            (let len : length (take k octets) ≡ k = omega (arith, at, length-take k octets) in
-            ap (of_whole (length (take k octets))) (still_short octets k d) ∙ ap (λ (n : ℕ). Err (unit.At n Missing)) len))
+            let at : end ≡ place = at_place end place Missing kind (told (Err faults.Short) d) in (
+              omega (arith, at),
+              λ k lt.
+                  (let len : length (take k octets) ≡ k = omega (arith, at, length-take k octets) in
+                  ap (of_whole (length (take k octets))) (still_short octets k d) ∙ ap (λ (n : ℕ). Err (unit.At n Missing)) len),
+            )
         by_read (Err (faults.TooDeep p)) d = from (Err (faults.TooDeep p)) d (at_place p place why.Tag kind (told (Err (faults.TooDeep p)) d))
         by_read (Err (faults.TooLong p)) d = from (Err (faults.TooLong p)) d (at_place p place why.Length kind (told (Err (faults.TooLong p)) d))
         by_read (Err faults.NoMemory) d = absurd (let i : Inside (Used end) end (Err faults.NoMemory) = subst (λ (r : Reading (Value × ℕ)). Inside (Used end) end r) d (front_inside octets) in i)

@@ -1,5 +1,5 @@
-//! Fields one after the other in constructed contents, of which some are known and others are passed
-//! over: checked where they stand, and left out.
+//! Fields one after the other in constructed contents, of which some are known and others are
+//! passed over: checked where they stand, and left out.
 #![tactic(auto)]
 
 mod field;

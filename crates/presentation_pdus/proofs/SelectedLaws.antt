@@ -74,13 +74,27 @@ module _ (mode fields : Run) (M F : Relation) where
   half_back m f before scope place w text rest (inl p) here =
       let r = m.only scope place p.0 text rest p.3 here in
       record {
-        opened = r.opened; spot = r.spot; first = r.first; others = r.others; begins = r.begins; some = r.some; opens = r.opens; allowed = tt;
+        opened = r.opened;
+        spot = r.spot;
+        first = r.first;
+        others = r.others;
+        begins = r.begins;
+        some = r.some;
+        opens = r.opens;
+        allowed = tt;
         reads = first_half before p.0 r.opened scope r.spot _ p.1 r.allowed r.reads ∙ ap (λ (y : Halves). Ok (y, record { place = place + length text; rest = rest })) (sym p.2);
       }
   half_back m f before scope place w text rest (inr p) here =
       let r = f.only scope place p.0 text rest p.3 here in
       record {
-        opened = r.opened; spot = r.spot; first = r.first; others = r.others; begins = r.begins; some = r.some; opens = r.opens; allowed = tt;
+        opened = r.opened;
+        spot = r.spot;
+        first = r.first;
+        others = r.others;
+        begins = r.begins;
+        some = r.some;
+        opens = r.opens;
+        allowed = tt;
         reads = second_half before p.0 r.opened scope r.spot _ p.1 r.allowed r.reads ∙ ap (λ (y : Halves). Ok (y, record { place = place + length text; rest = rest })) (sym p.2);
       }
 

@@ -68,7 +68,14 @@ unit_only which B run P h = record {
   only = λ scope place v text rest p here.
       let r = h.only scope place p.0 text rest p.2 here in
       record {
-        opened = r.opened; spot = r.spot; first = r.first; others = r.others; begins = r.begins; some = r.some; opens = r.opens; allowed = r.allowed;
+        opened = r.opened;
+        spot = r.spot;
+        first = r.first;
+        others = r.others;
+        begins = r.begins;
+        some = r.some;
+        opens = r.opens;
+        allowed = r.allowed;
         reads = rw r.reads (ap (λ (y : Value). Ok (y, record { place = place + length text; rest = rest })) (sym p.1));
       };
 }

@@ -19,12 +19,7 @@ use osi_base::{Kind, NoMemory, Octets, Ppdu};
 use std::alloc::Global;
 
 /// The value that all of the octets are.
-fn whole(
-    alloc: Global,
-    table: &TypeTable,
-    place: PpduPlace,
-    bytes: &[u8],
-) -> Result<Val, PduFault>
+fn whole(alloc: Global, table: &TypeTable, place: PpduPlace, bytes: &[u8]) -> Result<Val, PduFault>
     requires { table.now ≡ ppdu_rows }
     ensures { GivesWhole result (all_at (ppdu_run ppdu_rows place) 4294967295 bytes.now) }
 {
@@ -68,8 +63,8 @@ fn of_fault(fault: PduFault) -> PpduFault
 
 impl PpduTable {
     /// The unit that all of these octets are in BER (X.226 8), carried by a session unit of this
-    /// kind; or the first field that breaks the grammar. User data of AC, ACA, RS and RSA and fields
-    /// `[11]` to `[14]` of CP and CPA are checked where they stand, and left out.
+    /// kind; or the first field that breaks the grammar. User data of AC, ACA, RS and RSA and
+    /// fields `[11]` to `[14]` of CP and CPA are checked where they stand, and left out.
     pub fn read(&self, alloc: Global, place: PpduPlace, bytes: &[u8]) -> Result<Ppdu, PpduFault>
         ensures { GivesPpdu result (ppdu_at place bytes.now) }
     {

@@ -1,4 +1,5 @@
-//! Where units of the presentation protocol are carried, and what is wrong with octets that are none.
+//! Where units of the presentation protocol are carried, and what is wrong with octets that are
+//! none.
 
 ghost use Rattle.std.specs.Prelude.{◌≡◌};
 

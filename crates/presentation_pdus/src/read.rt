@@ -87,7 +87,16 @@ fn half<'a>(
     if has_context(opened, 0) {
         return match mode {
             None => {
-                let (mode, after) = value(alloc, table, TypeId(31), None, None, scope, opened, spot)?;
+                let (mode, after) = value(
+                    alloc,
+                    table,
+                    TypeId(31),
+                    None,
+                    None,
+                    scope,
+                    opened,
+                    spot,
+                )?;
                 Ok(((Some(mode), under), after))
             }
             Some(_) => Err(again(opened)),
@@ -96,7 +105,15 @@ fn half<'a>(
     if has_context(opened, 2) {
         return match under {
             None => {
-                let (under, after) = fields(alloc, table, shape, context_tag(2), scope, opened, spot)?;
+                let (under, after) = fields(
+                    alloc,
+                    table,
+                    shape,
+                    context_tag(2),
+                    scope,
+                    opened,
+                    spot,
+                )?;
                 Ok(((mode, Some(under)), after))
             }
             Some(_) => Err(again(opened)),
