@@ -99,7 +99,7 @@ of_which (suc zero) w octets p = under_tag 1 response_fields response_passed res
 of_which (suc (suc zero)) w octets p = under_tag 2 release_fields release_passed release_parts release_are w octets (row_is p.0 (part (codes "RLRQ") 25 false) w octets p.1 p.2)
 of_which (suc (suc (suc zero))) w octets p = under_tag 3 release_fields release_passed release_parts release_are w octets (row_is p.0 (part (codes "RLRE") 26 false) w octets p.1 p.2)
 of_which (suc (suc (suc (suc zero)))) w octets p = under_tag 4 abort_fields abort_passed abort_parts abort_are w octets (row_is p.0 (part (codes "ABRT") 29 false) w octets p.1 p.2)
-of_which (suc (suc (suc (suc (suc more))))) w octets p = absurd (let none : slice_get {A = Part} [] more ≡ Some p.0 = p.1 in cc)
+of_which (suc (suc (suc (suc (suc more))))) w octets p = absurd (let none = p.1 in cc)
 
 any_of : (v : Value) (octets : List ℕ) → SpelledBy acse_rows 31 30 plain false 32 v octets → AnyApdu false 32 v octets
 any_of (chosen which w) octets p = (which, w, refl, of_which which w octets p)

@@ -30,7 +30,7 @@ module _ (r : ℕ) where
   set_pair : (a b : Option Value) (which : ℕ) (p : Part) (o : Option Value) → slice_get set_parts which ≡ Some p → IsPair (slice_set (a ∷ b ∷ []) which o)
   set_pair a b zero p o e = record { first = o; second = b; are = refl }
   set_pair a b (suc zero) p o e = record { first = a; second = o; are = refl }
-  set_pair a b (suc (suc n)) p o e = absurd (let none : slice_get {A = Part} [] n ≡ Some p = e in cc)
+  set_pair a b (suc (suc n)) p o e = absurd cc
 
   pair_kept : (levels : ℕ) (steps : List (List ℕ × Filled)) (before last : Filled) (c : List ℕ) → IsPair before.found → Steps (Step levels) steps before last c → IsPair last.found
   pair_kept levels [] before last c two p = subst (λ (f : Filled). IsPair f.found) p.0 two
@@ -123,7 +123,7 @@ module _ (r : ℕ) where
             let spelled = subst (λ (x : Part). SpelledBy ppdu_rows 63 x.inner.0 (record { tag = None; default = x.default }) false levels v s.0) same h in
             let none : b ≡ None = none_is b free in
             subst (λ (x : Option Value). Back a x c) (sym none) (fields_step a v s.0 p.0 c spelled p.1 (ih a (Some v) after))
-        by_slot (suc (suc n)) t v e free h after ih = absurd (let no : slice_get {A = Part} [] n ≡ Some t = e in cc)
+        by_slot (suc (suc n)) t v e free h after ih = absurd cc
 
     halves_are : (c : List ℕ) → SetIs (SpelledBy ppdu_rows 63) set_parts false (parts (parts_of (Some m ∷ Some f ∷ []))) levels c → HalvesAre ModeIs F false levels (parts (parts_of (Some m ∷ Some g ∷ []))) c
     halves_are c p =

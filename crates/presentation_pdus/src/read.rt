@@ -9,7 +9,7 @@ ghost use Rattle.passed_fields.specs.Front.{front_at};
 ghost use Rattle.passed_fields.specs.Reading.{fielded_at};
 ghost use Rattle.presentation_pdus.specs.Fields.{context_tag, sequence_tag, user_tag, mode_row, connect_fields, connect_passed, accept_fields, accept_passed, reject_fields, alter_fields, alter_ack_fields, restart_fields, user_abort_fields, provider_abort_fields};
 ghost use Rattle.presentation_pdus.specs.Selected.{again_kind, has_context, half_at, both, halves_done, no_half, halves_at, selected_at};
-ghost use Rattle.presentation_pdus.specs.Units.{unit_at, alteration_at, abort_at, data_at, ppdu_run};
+ghost use Rattle.presentation_pdus.specs.Units.{unit_at, connect_at, accept_at, alteration_at, abort_at, data_at, ppdu_run};
 
 use crate::fields::{
     accept_fields, alter_ack_fields, alter_fields, connect_fields, provider_abort_fields,
@@ -304,8 +304,92 @@ fn abort<'a>(
     }
 }
 
+/// CP.
+#[tactic(auto, using(crate::proofs::Shapes::connect_rows))]
+fn connect<'a>(
+    alloc: Global,
+    table: &TypeTable,
+    scope: &Scope,
+    opened: &Opened<'a>,
+    spot: Spot<'a>,
+) -> Result<(Val, Spot<'a>), ReadFault>
+    requires all { length table.now ≡ 64 }
+    requires whole { spot.place + length spot.rest.now < 2 ^ 63 }
+    ensures gives { Gives (λ x. (x.0, spot_of x.1)) result (unit_at 0 (connect_at table.now) scope.now (opened_of opened.now) (spot_of spot.entry)) }
+    ensures stops { IfOk result (λ x. GoesOn spot.entry.place (length spot.entry.rest.now) x.1) }
+{
+    let known = connect_fields();
+    let passed = [Passed::until_place(11, 14, 7)];
+    with_mode(alloc, table, 0, &known, &passed, scope, opened, spot)
+}
+
+/// CPA.
+#[tactic(auto, using(crate::proofs::Shapes::accept_rows))]
+fn accept<'a>(
+    alloc: Global,
+    table: &TypeTable,
+    scope: &Scope,
+    opened: &Opened<'a>,
+    spot: Spot<'a>,
+) -> Result<(Val, Spot<'a>), ReadFault>
+    requires all { length table.now ≡ 64 }
+    requires whole { spot.place + length spot.rest.now < 2 ^ 63 }
+    ensures gives { Gives (λ x. (x.0, spot_of x.1)) result (unit_at 1 (accept_at table.now) scope.now (opened_of opened.now) (spot_of spot.entry)) }
+    ensures stops { IfOk result (λ x. GoesOn spot.entry.place (length spot.entry.rest.now) x.1) }
+{
+    let known = accept_fields();
+    let passed = [Passed::until_place(11, 14, 5)];
+    with_mode(alloc, table, 1, &known, &passed, scope, opened, spot)
+}
+
+/// CPR.
+#[tactic(auto, using(crate::proofs::Shapes::reject_rows))]
+fn reject<'a>(
+    alloc: Global,
+    table: &TypeTable,
+    scope: &Scope,
+    opened: &Opened<'a>,
+    spot: Spot<'a>,
+) -> Result<(Val, Spot<'a>), ReadFault>
+    requires all { length table.now ≡ 64 }
+    requires whole { spot.place + length spot.rest.now < 2 ^ 63 }
+    ensures gives { Gives (λ x. (x.0, spot_of x.1)) result (unit_at 2 (fielded_at table.now reject_fields [] sequence_tag) scope.now (opened_of opened.now) (spot_of spot.entry)) }
+    ensures stops { IfOk result (λ x. GoesOn spot.entry.place (length spot.entry.rest.now) x.1) }
+{
+    let known = reject_fields();
+    plain_unit(alloc, table, 2, &known, sequence_tag(), scope, opened, spot)
+}
+
+/// RS, 5, or RSA, 6.
+#[tactic(auto, using(crate::proofs::Shapes::restart_rows))]
+fn restart<'a>(
+    alloc: Global,
+    table: &TypeTable,
+    which: u32,
+    scope: &Scope,
+    opened: &Opened<'a>,
+    spot: Spot<'a>,
+) -> Result<(Val, Spot<'a>), ReadFault>
+    requires all { length table.now ≡ 64 }
+    requires whole { spot.place + length spot.rest.now < 2 ^ 63 }
+    ensures gives { Gives (λ x. (x.0, spot_of x.1)) result (unit_at which (fielded_at table.now restart_fields [] sequence_tag) scope.now (opened_of opened.now) (spot_of spot.entry)) }
+    ensures stops { IfOk result (λ x. GoesOn spot.entry.place (length spot.entry.rest.now) x.1) }
+{
+    let known = restart_fields();
+    plain_unit(
+        alloc,
+        table,
+        which,
+        &known,
+        sequence_tag(),
+        scope,
+        opened,
+        spot,
+    )
+}
+
 /// The unit that a session unit of this kind carries.
-#[tactic(auto, unfolding(crate::specs::Units::ppdu_run), using(crate::proofs::Shapes::connect_rows, crate::proofs::Shapes::accept_rows, crate::proofs::Shapes::reject_rows, crate::proofs::Shapes::restart_rows))]
+#[tactic(auto, unfolding(crate::specs::Units::ppdu_run))]
 fn unit<'a>(
     alloc: Global,
     table: &TypeTable,
@@ -320,34 +404,17 @@ fn unit<'a>(
     ensures stops { IfOk result (λ x. GoesOn spot.entry.place (length spot.entry.rest.now) x.1) }
 {
     match place {
-        PpduPlace::Cn => {
-            let known = connect_fields();
-            let passed = [Passed::until_place(11, 14, 7)];
-            with_mode(alloc, table, 0, &known, &passed, scope, opened, spot)
-        }
-        PpduPlace::Ac => {
-            let known = accept_fields();
-            let passed = [Passed::until_place(11, 14, 5)];
-            with_mode(alloc, table, 1, &known, &passed, scope, opened, spot)
-        }
-        PpduPlace::Rf => {
-            let known = reject_fields();
-            plain_unit(alloc, table, 2, &known, sequence_tag(), scope, opened, spot)
-        }
+        PpduPlace::Cn => connect(alloc, table, scope, opened, spot),
+        PpduPlace::Ac => accept(alloc, table, scope, opened, spot),
+        PpduPlace::Rf => reject(alloc, table, scope, opened, spot),
         PpduPlace::Fn => data(alloc, table, scope, opened, spot),
         PpduPlace::Dn => data(alloc, table, scope, opened, spot),
         PpduPlace::Ab => abort(alloc, table, scope, opened, spot),
         PpduPlace::Pt => data(alloc, table, scope, opened, spot),
         PpduPlace::Td => alteration(alloc, table, scope, opened, spot),
         PpduPlace::Dt => data(alloc, table, scope, opened, spot),
-        PpduPlace::Rs => {
-            let known = restart_fields();
-            plain_unit(alloc, table, 5, &known, sequence_tag(), scope, opened, spot)
-        }
-        PpduPlace::Ra => {
-            let known = restart_fields();
-            plain_unit(alloc, table, 6, &known, sequence_tag(), scope, opened, spot)
-        }
+        PpduPlace::Rs => restart(alloc, table, 5, scope, opened, spot),
+        PpduPlace::Ra => restart(alloc, table, 6, scope, opened, spot),
     }
 }
 
