@@ -2,8 +2,3 @@ pub mod Added
 pub mod Shapes
 pub mod SelectedLaws
 pub mod UnitLaws
-pub mod Aligned
-pub mod BackValues
-pub mod SaidBack
-pub mod SetBack
-pub mod UnitsBack

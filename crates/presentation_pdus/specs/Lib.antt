@@ -6,4 +6,3 @@ pub mod Said
 pub mod Selected
 pub mod Units
 pub mod Words
-pub mod Written
