@@ -1,4 +1,1 @@
 pub mod Added
-pub mod Shapes
-pub mod SelectedLaws
-pub mod UnitLaws
