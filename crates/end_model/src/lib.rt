@@ -1,5 +1,5 @@
-//! One end as the model of agreement sees it: each request that an end sends and each message that it takes is the
-//! act or the taking of the model.
+//! One end as the model of agreement sees it: each request that an end sends and each message that
+//! it takes is the act or the taking of the model.
 #![tactic(auto)]
 
 mod acting;

@@ -1,16 +1,18 @@
-//! What the model may take, the end takes: each group of rows is the contract of a function with an empty body.
+//! What the model may take, the end takes: each group of rows is the contract of a function with
+//! an empty body.
 
 ghost use Rattle.end_model.specs.Faultless.{AnswersMayBeTaken, DirectMayBeTaken, ReliableMayBeTaken};
 ghost use Rattle.end_model.specs.Openings.{OpeningsTaken};
 ghost use Rattle.end_model.specs.Takings.{AnswersTaken, DirectTaken, DiscardsTaken, EndsTaken, ReliableTaken, TransferWordsTaken};
 
-/// Marks, givings, pleas, restarts and their answers, alterations, releases and aborts, as they are taken in direct mode.
+/// Marks, givings, pleas, restarts and their answers, alterations, releases and aborts, as they
+/// are taken in direct mode.
 pub fn direct_taken()
     ensures rows { DirectTaken }
 {}
 
-/// Marks, givings, pleas, alterations, starts, interrupts, discards and the end of the association, as they are taken in
-/// reliable mode.
+/// Marks, givings, pleas, alterations, starts, interrupts, discards and the end of the
+/// association, as they are taken in reliable mode.
 pub fn reliable_taken()
     ensures rows { ReliableTaken }
 {}
