@@ -30,3 +30,5 @@ pub mod Connecting
 pub mod Plain
 pub mod EndRows
 pub mod OwnActs
+pub mod Faultless
+pub mod Machine

@@ -114,7 +114,7 @@ pub distinct-ids : (ks : List ℕ) → sets.AreDistinct ks → has_double ks ≡
 distinct-ids [] h = refl
 distinct-ids (k ∷ ks) h = rw (sym (among-seen k ks) ∙ h.0) (distinct-ids ks h.1)
 
-ids-seen : (add : List Proposal) (delete : List ℕ) → sets.identifiers (additions (map addition_seen add ++ map Deletion delete)) ≡ proposed_ids add
+pub ids-seen : (add : List Proposal) (delete : List ℕ) → sets.identifiers (additions (map addition_seen add ++ map Deletion delete)) ≡ proposed_ids add
 ids-seen [] delete = ap sets.identifiers (no-additions delete)
   where
     no-additions : (delete : List ℕ) → additions (map Deletion delete) ≡ []

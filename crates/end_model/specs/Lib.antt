@@ -11,3 +11,5 @@ pub mod Pairs
 pub mod Openings
 pub mod Connections
 pub mod OwnActs
+pub mod Faultless
+pub mod Steps

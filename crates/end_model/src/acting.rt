@@ -1,5 +1,5 @@
-//! What an end does is an act of the model, or a taking with what follows from it: each row is the contract of a function
-//! with an empty body.
+//! What an end does is an act of the model, or a taking with what follows from it: each row is the
+//! contract of a function with an empty body.
 
 ghost use Rattle.end_model.specs.Acting.{HandedIn};
 ghost use Rattle.end_model.specs.Connections.{ConnectionsAct};
@@ -17,7 +17,8 @@ pub fn data_heard()
     ensures rows { DataHeard }
 {}
 
-/// Marks, givings, pleas, restarts, interrupts, discards, resumptions and releases, as they are called.
+/// Marks, givings, pleas, restarts, interrupts, discards, resumptions and releases, as they are
+/// called.
 pub fn calls_act()
     ensures rows { CallsAct }
 {}
