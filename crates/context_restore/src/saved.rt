@@ -32,6 +32,7 @@ pub struct Saved {
 
 impl Model for Saved {
     ghost use Rattle.context_restore.specs.SavedSets.{SavedSets};
+    ghost use Rattle.context_sets.specs.Sets.{IsRising};
     ghost use Rattle.context_restore.specs.Chain.{versions, IsSound};
 
     ghost Value = { SavedSets };
@@ -42,7 +43,7 @@ impl Model for Saved {
       active = saved.active;
     } };
 
-    ghost invariant = { λ saved. IsSound saved.nodes saved.head saved.newest saved.active };
+    ghost invariant = { λ saved. IsSound saved.nodes saved.head saved.newest saved.active × IsRising saved.inter };
 }
 
 impl Saved {
@@ -87,7 +88,8 @@ impl Saved {
     {
         let newest = set.list()?;
         let nodes = rooted(self.alloc, newest.copy(self.alloc)?)?;
-        self.inter = set.list()?;
+        let inter = set.list()?;
+        self.inter = inter;
         self.nodes = nodes;
         self.head = Some(0);
         self.newest = newest;
@@ -139,6 +141,7 @@ impl Saved {
     pub fn set_below(&self, n: u32) -> Result<SetList, SaveRefusal>
         ensures refused { MatchResult result (λ _. restart_refusal self.now n ≡ None) (IsRefused (restart_refusal self.now n)) }
         ensures list { IfOk result (λ list. list ≡ set_of (below n self.now.nodes)) }
+        ensures rises { IfOk result (λ list. IsRising list) }
     {
         self.may_restart(n)?;
         self.oldest_set(n as usize)
@@ -149,6 +152,7 @@ impl Saved {
     pub fn restart(&mut self, n: u32) -> Result<SetList, SaveRefusal>
         ensures refused { MatchResult result (λ _. restart_refusal self.old n ≡ None) (IsRefused (restart_refusal self.old n)) }
         ensures list { IfOk result (λ list. list ≡ set_of (below n self.old.nodes)) }
+        ensures rises { IfOk result (λ list. IsRising list) }
         ensures ok { OnOk result (self.new ≡ record self.old { nodes = below n self.old.nodes }) }
         ensures err { OnErr result (self.new ≡ self.old) }
     {
@@ -162,6 +166,7 @@ impl Saved {
     pub fn resume(&mut self, n: u32, now: &Contexts) -> Result<SetList, SaveRefusal>
         ensures refused { MatchResult result (λ _. resume_refusal self.old n ≡ None) (IsRefused (resume_refusal self.old n)) }
         ensures list { IfOk result (λ list. list ≡ resumed_set self.old n now.now.set) }
+        ensures rises { IfOk result (λ list. IsRising list) }
         ensures ok { OnOk result (self.new ≡ record { nodes = resumed_nodes self.old n now.now.set; inter = now.now.set; active = true }) }
         ensures err { OnErr result (self.new ≡ self.old) }
     {
@@ -184,6 +189,7 @@ impl Saved {
     pub fn end(&mut self) -> Result<SetList, SaveRefusal>
         ensures refused { MatchResult result (λ _. leave_refusal self.old ≡ None) (IsRefused (leave_refusal self.old)) }
         ensures list { IfOk result (λ list. list ≡ self.old.inter) }
+        ensures rises { IfOk result (λ list. IsRising list) }
         ensures ok { OnOk result (self.new ≡ record self.old { active = false }) }
         ensures err { OnErr result (self.new ≡ self.old) }
     {
@@ -196,6 +202,7 @@ impl Saved {
     pub fn interrupt(&mut self) -> Result<SetList, SaveRefusal>
         ensures refused { MatchResult result (λ _. leave_refusal self.old ≡ None) (IsRefused (leave_refusal self.old)) }
         ensures list { IfOk result (λ list. list ≡ self.old.inter) }
+        ensures rises { IfOk result (λ list. IsRising list) }
         ensures ok { OnOk result (self.new ≡ record self.old { active = false }) }
         ensures err { OnErr result (self.new ≡ self.old) }
     {
@@ -206,6 +213,7 @@ impl Saved {
     pub fn discard(&mut self) -> Result<SetList, SaveRefusal>
         ensures refused { MatchResult result (λ _. leave_refusal self.old ≡ None) (IsRefused (leave_refusal self.old)) }
         ensures list { IfOk result (λ list. list ≡ self.old.inter) }
+        ensures rises { IfOk result (λ list. IsRising list) }
         ensures ok { OnOk result (self.new ≡ record self.old { nodes = []; active = false }) }
         ensures err { OnErr result (self.new ≡ self.old) }
     {
@@ -221,6 +229,7 @@ impl Saved {
     fn left_set(&self) -> Result<SetList, SaveRefusal>
         ensures refused { MatchResult result (λ _. leave_refusal self.now ≡ None) (IsRefused (leave_refusal self.now)) }
         ensures list { IfOk result (λ list. list ≡ self.now.inter) }
+        ensures rises { IfOk result (λ list. IsRising list) }
     {
         if !self.is_active() {
             return Err(SaveRefusal::NoActivity);
@@ -246,6 +255,7 @@ impl Saved {
     fn oldest_set(&self, count: usize) -> Result<SetList, SaveRefusal>
         requires { 0 < count }
         ensures list { IfOk result (λ list. list ≡ set_of (below count self.now.nodes)) }
+        ensures rises { IfOk result (λ list. IsRising list) }
         ensures memory { IfErr result (λ refusal. refusal ≡ no_room) }
     {
         let dropped = self.nodes.len().saturating_sub(count);
@@ -258,6 +268,7 @@ impl Saved {
     fn cut(&mut self, count: usize) -> Result<SetList, SaveRefusal>
         requires { 0 < count }
         ensures list { IfOk result (λ list. list ≡ set_of (below count self.old.nodes)) }
+        ensures rises { IfOk result (λ list. IsRising list) }
         ensures ok { OnOk result (self.new ≡ record self.old { nodes = below count self.old.nodes }) }
         ensures err { OnErr result (self.new ≡ self.old) }
         ensures memory { IfErr result (λ refusal. refusal ≡ no_room) }
