@@ -60,16 +60,39 @@ const PARTS_SHOWN: &str =
     column: 7, tag: Some(TagText { class: 1, number: 3, explicit: Some(false) }), plain: \
     Sequence([PartText { name: Located { text: Name { text: \"a\" }, line: 2, column: 42 }, of: \
     TypeText { line: 2, column: 44, tag: None, plain: Octets(Some(RangeText { line: 2, column: \
-    64, low: 0, high: 7 })) }, optional: true }, PartText { name: Located { text: Name { text: \
+    64, low: 0, high: 7 })) }, optional: true, dflt: None }, PartText { name: Located { text: Name { text: \
     \"b\" }, line: 2, column: 81 }, of: TypeText { line: 2, column: 83, tag: None, plain: \
     Choice([PartText { name: Located { text: Name { text: \"c\" }, line: 2, column: 91 }, of: \
     TypeText { line: 2, column: 93, tag: None, plain: Named(Located { text: Name { text: \"U\" \
-    }, line: 2, column: 93 }) }, optional: false }]) }, optional: false }]) }) }] } }";
+    }, line: 2, column: 93 }) }, optional: false, dflt: None }]) }, optional: false, dflt: None }]) }) }] } }";
+
+/// Parts with defaults of each form, and SET OF.
+const DEFAULTS: &[u8] = b"M {2 999} DEFINITIONS ::= BEGIN
+T ::= SET {a BOOLEAN DEFAULT TRUE, b INTEGER DEFAULT -7, c U DEFAULT red, d SET OF NULL}
+END
+";
+
+const DEFAULTS_SHOWN: &str =
+    "ModuleText { name: Located { text: Name { text: \"M\" }, line: 1, column: 1 }, name_oid: Oid \
+    { arcs: [2, 999] }, implicit: false, assignments: ListOf { items: [Assignment { name: \
+    Located { text: Name { text: \"T\" }, line: 2, column: 1 }, body: Typed(TypeText { line: 2, \
+    column: 7, tag: None, plain: Set([PartText { name: Located { text: Name { text: \"a\" }, \
+    line: 2, column: 12 }, of: TypeText { line: 2, column: 14, tag: None, plain: Boolean }, \
+    optional: false, dflt: Some(DfltText { line: 2, column: 30, value: Truth(true) }) }, PartText \
+    { name: Located { text: Name { text: \"b\" }, line: 2, column: 36 }, of: TypeText { line: 2, \
+    column: 38, tag: None, plain: Integer(None) }, optional: false, dflt: Some(DfltText { line: \
+    2, column: 54, value: Number(-7) }) }, PartText { name: Located { text: Name { text: \"c\" }, \
+    line: 2, column: 58 }, of: TypeText { line: 2, column: 60, tag: None, plain: Named(Located { \
+    text: Name { text: \"U\" }, line: 2, column: 60 }) }, optional: false, dflt: Some(DfltText { \
+    line: 2, column: 70, value: Item(Name { text: \"red\" }) }) }, PartText { name: Located { \
+    text: Name { text: \"d\" }, line: 2, column: 75 }, of: TypeText { line: 2, column: 77, tag: \
+    None, plain: SetOf(TypeText { line: 2, column: 84, tag: None, plain: Null }) }, optional: \
+    false, dflt: None }]) }) }] } }";
 
 /// A text with the place and kind of its first fault.
 type Row = (&'static [u8], u32, u32, NotationKind);
 
-const FAULTS: [Row; 25] = [
+const FAULTS: [Row; 28] = [
     (
         b"M {2 999 7 2} DEFINITIONS ::= BEGIN\na OPERATION ::= {RESULT REAL}\nEND\n",
         2,
@@ -90,10 +113,28 @@ const FAULTS: [Row; 25] = [
         NotationKind::UnexpectedToken,
     ),
     (
-        b"M {2 999} DEFINITIONS ::= BEGIN T ::= SET OF NULL END",
+        b"M {2 999} DEFINITIONS ::= BEGIN T ::= SET OF END",
+        1,
+        46,
+        NotationKind::UnexpectedToken,
+    ),
+    (
+        b"M {2 999} DEFINITIONS ::= BEGIN T ::= CHOICE {a NULL DEFAULT 1} END",
+        1,
+        54,
+        NotationKind::UnexpectedToken,
+    ),
+    (
+        b"M {2 999} DEFINITIONS ::= BEGIN T ::= SEQUENCE {a NULL OPTIONAL DEFAULT 1} END",
+        1,
+        65,
+        NotationKind::UnexpectedToken,
+    ),
+    (
+        b"M {2 999} DEFINITIONS ::= BEGIN T ::= DEFAULT END",
         1,
         39,
-        NotationKind::Unsupported,
+        NotationKind::UnexpectedToken,
     ),
     (
         b"M {2 999} DEFINITIONS ::= BEGIN T ::= B {} END",
@@ -140,8 +181,8 @@ const FAULTS: [Row; 25] = [
     (
         b"M {2 999} DEFINITIONS ::= BEGIN T ::= SEQUENCE {a NULL DEFAULT NULL} END",
         1,
-        56,
-        NotationKind::Unsupported,
+        64,
+        NotationKind::UnexpectedToken,
     ),
     (
         b"M {1 2 3 4 5 6 7 8 9 0 1 2 3 4 5 6 7 8 9 0 1 2 3 4 5 6 7 8 9 0 1 2 3}",
@@ -204,6 +245,14 @@ fn calc_has_its_five_assignments(rt: HostRuntime) -> Result<(), Fail> {
 fn a_type_has_its_tag_size_and_parts(rt: HostRuntime) -> Result<(), Fail> {
     let found = shown(rt.alloc(), PARTS)?;
     let wanted = format!(in rt.alloc(); "Ok({PARTS_SHOWN})")?;
+    assert_eq!(rt; found.as_str(), wanted.as_str());
+    Ok(())
+}
+
+#[test]
+fn parts_have_their_defaults(rt: HostRuntime) -> Result<(), Fail> {
+    let found = shown(rt.alloc(), DEFAULTS)?;
+    let wanted = format!(in rt.alloc(); "Ok({DEFAULTS_SHOWN})")?;
     assert_eq!(rt; found.as_str(), wanted.as_str());
     Ok(())
 }

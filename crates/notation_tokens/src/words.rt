@@ -43,6 +43,7 @@ pub fn is_quoted_word(text: &[u8]) -> bool
             b"ERROR",
             b"ARGUMENT",
             b"OPTIONAL",
+            b"DEFAULT",
             b"RESULT",
             b"RETURN",
             b"ERRORS",
@@ -107,7 +108,6 @@ pub fn is_unsupported_word(text: &[u8]) -> bool
             b"TYPE-IDENTIFIER",
             b"ABSENT",
             b"PRESENT",
-            b"DEFAULT",
             b"/*",
         ],
     )

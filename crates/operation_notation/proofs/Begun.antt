@@ -7,7 +7,7 @@ use Rattle.notation_tokens.specs.Forms.{has_form}
 use Rattle.notation_tokens.specs.Lexeme.{Lexeme, same, begins}
 use Rattle.notation_tokens.specs.Words.{place, word_of}
 use Rattle.notation_tokens.specs.Lexing.{first_place}
-use Rattle.operation_notation.specs.Reading.{◌>>=◌, give, here, place_of, Read, token_at, refuse_as, kind_at, is_set_of, word_at, many_at, all_at, behind, listed_at}
+use Rattle.operation_notation.specs.Reading.{◌>>=◌, give, here, place_of, Read, token_at, refuse_as, kind_at, word_at, many_at, all_at, behind, listed_at}
 use Rattle.operation_notation.specs.Faults.{IsFormed}
 use Rattle.operation_notation.specs.Grammar.{One, Then, Nothing, Either, Maybe, Many, The, Behind, Listed, Placed, StartsAt}
 use Rattle.notation_tokens.specs.declared.token.TokenKind.{TokenKind}
@@ -38,18 +38,17 @@ pub record Filled {A : Type 0} (r : List Lexeme → A → Type 0) : Type 0 where
   pub filler : AreFillers text
   pub spelled : r text value
 
--- these tokens and one more go on to a text of the rule, in which OF stands behind that one exactly where it does now
-pub record Goes {A : Type 0} (r : List Lexeme → A → Type 0) (front : List Lexeme) (t : Lexeme) (u : List Lexeme) : Type 0 where
+-- these tokens and one more go on to a text of the rule
+pub record Goes {A : Type 0} (r : List Lexeme → A → Type 0) (front : List Lexeme) (t : Lexeme) : Type 0 where
   pub back : List Lexeme
   pub value : A
   pub filler : AreFillers back
-  pub alike : (more : List Lexeme) → is_set_of (t ∷ u) ≡ is_set_of (t ∷ (back ++ more))
   pub spelled : r (front ++ t ∷ back) value
 
 -- The kind of a fault behind these tokens. Where it is asked, what isn't supported here but elsewhere goes on under the rule.
 abbrev pub KindOf : {A : Type 0} → Bool → (List Lexeme → A → Type 0) → List Lexeme → List Lexeme → NotationKind → Type 0
 KindOf s r front [] k = k ≡ UnexpectedToken
-KindOf s r front (t ∷ u) k = (k ≡ kind_at (t ∷ u)) ⊎ ((k ≡ Unsupported) × (s ≡ true → Goes r front t u))
+KindOf s r front (t ∷ u) k = (k ≡ kind_at (t ∷ u)) ⊎ ((k ≡ Unsupported) × (s ≡ true → Goes r front t))
 
 -- reading stopped in front of the rest: what stands before it goes on to a text of the rule
 pub record Halts {A : Type 0} (s : Bool) (r : List Lexeme → A → Type 0) (ts rest : List Lexeme) (k : NotationKind) : Type 0 where
@@ -77,21 +76,20 @@ pub now : {A : Type 0} (q : List Lexeme → A → Type 0) (ts : List Lexeme) (a 
 now q ts a d = record { tail = []; value = a; filler = tt; spelled = subst (λ (z : List Lexeme). q z a) (sym (append-nil ts)) d }
 
 module _ {A B : Type 0} (s : Bool) (r : List Lexeme → A → Type 0) (q : List Lexeme → B → Type 0) (front far : List Lexeme) (to : (more : List Lexeme) (a : A) → r (front ++ more) a → Longer q (far ++ more)) where
-  goes_map : (t : Lexeme) (u : List Lexeme) → Goes r front t u → Goes q far t u
-  goes_map t u g =
+  goes_map : (t : Lexeme) → Goes r front t → Goes q far t
+  goes_map t g =
       let x = to (t ∷ g.back) g.value g.spelled in
       record {
         back = g.back ++ x.tail;
         value = x.value;
         filler = fillers_append g.back x.tail g.filler x.filler;
-        alike = λ more. g.alike (x.tail ++ more) ∙ ap (λ (z : List Lexeme). is_set_of (t ∷ z)) (sym (append_assoc g.back x.tail more));
         spelled = subst (λ (z : List Lexeme). q z x.value) (append_assoc far (t ∷ g.back) x.tail) x.spelled;
       }
 
   pub kind_map : (rest : List Lexeme) (k : NotationKind) → KindOf s r front rest k → KindOf s q far rest k
   kind_map [] k e = e
   kind_map (t ∷ u) k (inl e) = inl e
-  kind_map (t ∷ u) k (inr p) = inr (p.0, λ st. goes_map t u (p.1 st))
+  kind_map (t ∷ u) k (inr p) = inr (p.0, λ st. goes_map t (p.1 st))
 
 -- ---- refusals
 
@@ -331,7 +329,7 @@ module _ {A : Type 0} {s : Bool} (r : Place → List Lexeme → A → Type 0) (g
   placed_kind ts [] k front e i = i
   placed_kind ts (t ∷ u) k front e (inl i) = inl i
   placed_kind ts (t ∷ u) k front e (inr i) =
-      inr (i.0, λ st. let x = i.1 st in record { back = x.back; value = x.value; filler = x.filler; alike = x.alike; spelled = record { at = place_of ts; starts = first_at ts t u x.back front e; spelled = x.spelled } })
+      inr (i.0, λ st. let x = i.1 st in record { back = x.back; value = x.value; filler = x.filler; spelled = record { at = place_of ts; starts = first_at ts t u x.back front e; spelled = x.spelled } })
 
   placed_in : (ts rest : List Lexeme) (k : NotationKind) (front back : List Lexeme) (a : A) → AreFillers back → ts ≡ front ++ rest → r (place_of ts) (front ++ back) a → KindOf s (Placed r) front rest k → Halts s (Placed r) ts rest k
   placed_in ts rest k [] back a filler whole spelled kind =

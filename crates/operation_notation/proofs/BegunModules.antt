@@ -14,25 +14,23 @@ use Rattle.notation_tokens.specs.declared.token.TokenKind.TheVariants.{Word, Sig
 use Rattle.notation_tokens.specs.declared.faults.NotationKind.TheVariants.{Unsupported}
 use Rattle.operation_notation.specs.declared.module.ModuleText.{ModuleText}
 use Rattle.operation_notation.proofs.Starts.{type_named, value_named}
-use Rattle.operation_notation.proofs.ModuleLaws.{FirstImported, fore_to, excludes_named}
-use Rattle.operation_notation.proofs.Clear.{not_set}
+use Rattle.operation_notation.proofs.ModuleLaws.{FirstImported, fore_to}
 use Rattle.operation_notation.proofs.Begun.{Goes, KindOf, Begun, begun_refuse, begun_give, bthen, bbehind, bwiden, alone, bsame, bpick, bmaybe, ball}
 use Rattle.operation_notation.proofs.BegunRules.{word, sign, b_type_name, b_value_name, b_flag, b_flag_or, b_named_list, b_passed_priority, b_manner, b_maybe_code, b_opens, b_maybe_oid, b_heading, b_ended}
 
 -- another name behind IMPORTS or a comma
-other_goes : (wide : Bool) (t : Lexeme) (u : List Lexeme) → type_named t || value_named t ≡ true → wide ≡ true → Goes (Where wide (One name_of)) [] t u
+other_goes : (wide : Bool) (t : Lexeme) (u : List Lexeme) → type_named t || value_named t ≡ true → wide ≡ true → Goes (Where wide (One name_of)) [] t
 other_goes true t u e st = record {
   back = [];
   value = place t;
   filler = tt;
-  alike = λ more. not_set t u more (excludes_named (codes "SET" ∷ []) refl refl t e);
   spelled = record { token = t; alone = refl; passes = rw e refl };
 }
 other_goes false t u e st = absurd cc
 
 module _ (ext : Extent) where
-  class_goes : (t : Lexeme) (u : List Lexeme) → type_named t || value_named t ≡ true → ext.wide ≡ true → Goes (Imported ext) [] t u
-  class_goes t u e st = let g = other_goes ext.wide t u e st in record { back = g.back; value = g.value; filler = g.filler; alike = g.alike; spelled = inr (inr g.spelled) }
+  class_goes : (t : Lexeme) (u : List Lexeme) → type_named t || value_named t ≡ true → ext.wide ≡ true → Goes (Imported ext) [] t
+  class_goes t u e st = let g = other_goes ext.wide t u e st in record { back = g.back; value = g.value; filler = g.filler; spelled = inr (inr g.spelled) }
 
   word_kind : (b : Bool) (t : Lexeme) (u : List Lexeme) → type_named t || value_named t ≡ b → KindOf ext.wide (Imported ext) [] (t ∷ u) (if b then Unsupported else kind_at (t ∷ u))
   word_kind true t u e = inr (refl, λ st. class_goes t u e st)

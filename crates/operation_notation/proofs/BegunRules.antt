@@ -5,11 +5,11 @@ use Rattle.std.proofs.lemmas.Bool.{le-leb}
 use Rattle.notation_tokens.specs.Forms.{has_form}
 use Rattle.notation_tokens.specs.Lexeme.{Lexeme, same, begins, goes_on}
 use Rattle.notation_tokens.specs.Words.{place, word_of, most_32, most_64, number, number_of, int, int_of, end_word, end_of, bool_word, bool_of, is_quoted, is_unsupported, is_type_name, is_value_name, type_name_of, value_name_of, arc_name_of, text_kind_word, text_kind_of, root_name}
-use Rattle.operation_notation.specs.Reading.{◌>>=◌, give, Read, refuse_as, kind_at, is_set_of, word_at, type_name_at, value_name_at, number_at, number_64_at, int_at, end_at, bool_at, maybe_at, many_at, behind, listed_at}
-use Rattle.operation_notation.specs.ReadingTypes.{starts_name, arc_name_at, bracketed_at, arc_at, alone_at, named_root_at, root_at, most_second, oid_at, range_at, size_at, item_at, items_at, class_at, explicit_at, tag_at, optional_at, part_at, parts_at, alternatives_at, text_kind, text_kind_at, named_at, text_or_name_at, integer_at, octets_at, leaf_at, sequence_at, set_at, choice_at, plain_at, type_text_at}
+use Rattle.operation_notation.specs.Reading.{◌>>=◌, give, Read, refuse_as, kind_at, word_at, type_name_at, value_name_at, number_at, number_64_at, int_at, end_at, bool_at, maybe_at, many_at, behind, listed_at}
+use Rattle.operation_notation.specs.ReadingTypes.{starts_name, arc_name_at, bracketed_at, arc_at, alone_at, named_root_at, root_at, most_second, oid_at, range_at, size_at, item_at, items_at, class_at, explicit_at, tag_at, dflt_at, absence_at, absent_at, part_at, parts_at, alternatives_at, text_kind, text_kind_at, named_at, text_or_name_at, integer_at, octets_at, leaf_at, sequence_at, set_at, choice_at, plain_at, type_text_at}
 use Rattle.operation_notation.specs.ReadingModules.{flag_at, flag_2_at, flag_or_at, passed_flag_at, names_at, named_list_at, priority_at, passed_priority_at, invoke_priority_at, local_at, global_at, code_value_at, code_at, maybe_code_at, manner_at, opens_at, maybe_oid_at, tagging_at, heading_at, ended_at}
 use Rattle.operation_notation.specs.Grammar.{One, Then, Nothing, Either, Where, Maybe, The, Behind, Listed, Placed}
-use Rattle.operation_notation.specs.GrammarTypes.{Extent, narrow, OidSpelled, Range, Number64, Size, Item, Items, Class, Explicit, Tag, Optional, Part, Parts, Alternatives, Integer, OctetString, Text, Named, Leaf, Sequence, Set, Choice, Plain, TypeBehind}
+use Rattle.operation_notation.specs.GrammarTypes.{Extent, narrow, OidSpelled, Range, Number64, Size, Item, Items, Class, Explicit, Tag, dflt_of, standing, optional, by_default, Absent, Part, Parts, Alternatives, Integer, OctetString, Text, Named, Leaf, Sequence, Set, Choice, Plain, TypeBehind}
 use Rattle.operation_notation.specs.GrammarModules.{Flag, FlagOr, Names, NamedList, Priority, Local, Global, Code, Manner, Opens, Tagging, HeadingSpelled}
 use Rattle.operation_notation.specs.Tree.{TypeTree, type_tree, PlainTree, named, text, set}
 use Rattle.operation_notation.specs.TreeView.{parts_of}
@@ -19,12 +19,12 @@ use Rattle.notation_tokens.specs.declared.faults.NotationKind.TheVariants.{Unsup
 use Rattle.notation_tokens.specs.declared.token.Place.{Place}
 use Rattle.notation_tokens.specs.declared.token.Located.{Located}
 use Rattle.operation_notation.specs.declared.module.ModuleText.{ModuleText}
+use Rattle.operation_notation.specs.declared.module.DfltValue.TheVariants as values
 use Rattle.operation_notation.proofs.Means.{Front}
 use Rattle.operation_notation.proofs.Starts.{Starts, starts_then}
 use Rattle.operation_notation.proofs.Local.{fault}
 use Rattle.operation_notation.proofs.TypeLaws.{any_token, starts_any, plain_words}
-use Rattle.operation_notation.proofs.Chains.{or_named, same_excludes}
-use Rattle.operation_notation.proofs.Clear.{not_set}
+use Rattle.operation_notation.proofs.Chains.{or_named}
 use Rattle.operation_notation.proofs.OidLaws.{Bracketed, ArcUpTo, NamedRoot, RootUpTo, FewArcs, ArcsUpTo, arcs_to, alone_found, root_found, root_step, root_plain, root_none, named_root_spelled}
 use Rattle.operation_notation.proofs.Begun.{Goes, KindOf, Halts, Begun, now, kind_map, kind_is, refused_at, begun_refuse, begun_one, begun_word, begun_give, bthen, bbehind, bwiden, bsame, bpick, bmaybe, begun_counted, blisted, bplaced}
 
@@ -221,12 +221,11 @@ word_is w t e = rw e refl
 abbrev NameEnd : Bool → Located → List Lexeme → PlainTree → Type 0
 NameEnd wide name = Either (Where wide (Then (The (codes "{")) (λ _. Nothing (named name)))) (Nothing (named name))
 
-brace_goes : (wide : Bool) (name : Located) (t : Lexeme) (u : List Lexeme) → same t.text (codes "{") ≡ true → wide ≡ true → Goes (NameEnd wide name) [] t u
+brace_goes : (wide : Bool) (name : Located) (t : Lexeme) (u : List Lexeme) → same t.text (codes "{") ≡ true → wide ≡ true → Goes (NameEnd wide name) [] t
 brace_goes true name t u e st = record {
   back = [];
   value = named name;
   filler = tt;
-  alike = λ more. not_set t u more (same_excludes (codes "{") (codes "SET" ∷ []) refl t e);
   spelled = inl (record { front = t ∷ []; back = []; value = place t; whole = refl; first = record { token = t; alone = refl; passes = word_is (codes "{") t e }; second = record { none = refl; same_value = refl } });
 }
 brace_goes false name t u e st = absurd cc
@@ -270,15 +269,23 @@ b_leaf ext = bpick (begins (codes "BOOLEAN")) (stands (codes "BOOLEAN") _ refl)
 
 -- ---- types that hold types
 
-b_optional : {s : Bool} (may : Bool) → Begun s (Optional may) (optional_at may)
-unfolding optional_at
-b_optional false = begun_give false
-b_optional true = bpick (begins (codes "OPTIONAL")) (stands (codes "OPTIONAL") true refl) (begun_give false)
+true_dflt : dflt_of (record { kind = Word; text = codes "TRUE"; line = 1; column = 1 }) ≡ Some (record { line = 1; column = 1; value = values.Truth true })
+unfolding dflt_of bool_word same
+true_dflt = refl
+
+b_dflt : {s : Bool} → Begun s (One dflt_of) dflt_at
+unfolding dflt_at
+b_dflt = begun_one dflt_of Word (codes "TRUE") (record { line = 1; column = 1; value = values.Truth true }) refl true_dflt
+
+b_absent : {s : Bool} (may : Bool) → Begun s (Absent may) (absent_at may)
+unfolding absent_at absence_at
+b_absent false = begun_give standing
+b_absent true = bpick (begins (codes "OPTIONAL")) (stands (codes "OPTIONAL") optional refl) (bpick (begins (codes "DEFAULT")) (bthen (word (codes "DEFAULT") refl) (λ _. bthen b_dflt (λ d. begun_give (by_default d)))) (begun_give standing))
 
 module _ {s : Bool} (Inner : List Lexeme → TypeTree → Type 0) (inner : List Lexeme → Read TypeTree) (b : Begun s Inner inner) where
   b_part : (may : Bool) → Begun s (Part may Inner) (part_at may inner)
   unfolding part_at
-  b_part may = bthen b_value_name (λ name. bthen b (λ of. bthen (b_optional may) (λ optional. begun_give _)))
+  b_part may = bthen b_value_name (λ name. bthen b (λ of. bthen (b_absent may) (λ absence. begun_give _)))
 
   b_listed_parts : (may : Bool) → Begun s (Listed (codes ",") (Part may Inner)) (listed_at (codes ",") (part_at may inner))
   b_listed_parts may = blisted Sign (codes ",") refl (b_part may)
@@ -295,12 +302,9 @@ module _ {s : Bool} (Inner : List Lexeme → TypeTree → Type 0) (inner : List 
   unfolding sequence_at
   b_sequence = bthen (word (codes "SEQUENCE") refl) (λ _. bpick (begins (codes "OF")) (bbehind Word (codes "OF") refl (bthen b (λ item. begun_give _))) (bthen b_parts (λ parts. begun_give _)))
 
-  b_set_parts : Begun s (Set Inner) (word_at (codes "SET") >>= λ _. parts_at inner >>= λ parts. give (set (parts_of parts)))
-  b_set_parts = bthen (word (codes "SET") refl) (λ _. bthen b_parts (λ parts. begun_give _))
-
   b_set : Begun s (Set Inner) (set_at inner)
   unfolding set_at
-  b_set = bsame is_set_of (begun_refuse kind_at b_set_parts.filled (kind_is s (Set Inner))) b_set_parts
+  b_set = bthen (word (codes "SET") refl) (λ _. bpick (begins (codes "OF")) (bbehind Word (codes "OF") refl (bthen b (λ item. begun_give _))) (bthen b_parts (λ parts. begun_give _)))
 
   b_choice : Begun s (Choice Inner) (choice_at inner)
   unfolding choice_at

@@ -10,13 +10,13 @@ use Rattle.notation_tokens.specs.Forms.{has_form}
 use Rattle.notation_tokens.specs.declared.token.TokenKind.{TokenKind}
 use Rattle.notation_tokens.specs.declared.token.TokenKind.TheVariants.{Word, Number, Sign}
 use Rattle.notation_tokens.specs.Lexing.{most_octets, lexed_of}
-use Rattle.operation_notation.specs.Reading.{Read, kind_at, is_set_of}
+use Rattle.operation_notation.specs.Reading.{Read, kind_at}
 use Rattle.operation_notation.specs.ReadingModules.{module_at, ended_at, whole_at}
 use Rattle.operation_notation.specs.GrammarTypes.{Extent, narrow, marked, wide, is_empty}
 use Rattle.operation_notation.specs.GrammarModules.{Module}
 use Rattle.notation_tokens.specs.Texts.{Answers, unless_stopped, too_long}
 use Rattle.operation_notation.specs.Modules.{Reads, module_of, verdict, refused}
-use Rattle.operation_notation.specs.Faults.{IsFormed, Begins, NoSetOf, IsUnsupported, IsKind, TooLong, TokenFault, EndFault, IsFirstFault}
+use Rattle.operation_notation.specs.Faults.{IsFormed, Begins, IsUnsupported, IsKind, TooLong, TokenFault, EndFault, IsFirstFault}
 use Rattle.notation_tokens.specs.declared.faults.NotationFault.{NotationFault}
 use Rattle.notation_tokens.specs.declared.faults.NotationFault.TheVariants as faults
 use Rattle.notation_tokens.specs.declared.faults.NotationKind.{NotationKind}
@@ -24,13 +24,12 @@ use Rattle.notation_tokens.specs.declared.faults.NotationKind.TheVariants.{TextT
 use Rattle.operation_notation.specs.declared.module.ModuleText.{ModuleText}
 use Rattle.operation_notation.proofs.Means.{ok_is, after_ok}
 use Rattle.operation_notation.proofs.Local.{fault, failed}
-use Rattle.operation_notation.proofs.LocalRules.{l_whole, none_goes_on}
-use Rattle.operation_notation.proofs.Clear.{left_by, clear_at}
+use Rattle.operation_notation.proofs.LocalRules.{none_goes_on}
 use Rattle.operation_notation.proofs.ModuleLaws.{whole_only, reads_only}
 use Rattle.operation_notation.proofs.Well.{Fine, fine_back, fine_lexemes}
 use Rattle.notation_tokens.proofs.Spans.{lexed_spans}
 use Rattle.operation_notation.proofs.Begun.{AreFillers, Goes, KindOf, Halts}
-use Rattle.operation_notation.proofs.TooDeep.{set_of_kind, marked_module, wide_module}
+use Rattle.operation_notation.proofs.TooDeep.{marked_module, wide_module}
 use Rattle.operation_notation.proofs.Wider.{wide_stops, mark_stops}
 
 formed : (ts : List Lexeme) → AreFillers ts → AllByRecursion IsFormed ts
@@ -98,37 +97,19 @@ end_fault text fits unread kind x l c k e =
       is = sym q.kind ∙ ap (λ (j : NotationKind). unwrap_or (lexed_of text).stop j) x.kind;
     }
 
--- ---- SET OF
-
--- no module holds SET OF
-pub module_clear : (ext : Extent) (ts : List Lexeme) (m : ModuleText) → Module ext ts m → NoSetOf ts []
-module_clear ext ts m d =
-    let cut = left_by (whole_at ext) (l_whole ext).clears ts (Ok (m, [])) (whole_only ext ts m d) in
-    subst (λ (z : List Lexeme). NoSetOf z []) (sym (cut.is ∙ append-nil cut.text)) cut.clear
-
-pub module_apart : (ext : Extent) (x : List Lexeme) (t : Lexeme) (y : List Lexeme) (m : ModuleText) → Module ext (x ++ t ∷ y) m → is_set_of (t ∷ y) ≡ false
-module_apart ext x t y m d = ap (λ (z : List Lexeme). is_set_of (t ∷ z)) (sym (append-nil y)) ∙ clear_at x t y [] (module_clear ext (x ++ t ∷ y) m d)
-
-none_with : (ext : Extent) (x : List Lexeme) (t : Lexeme) (u others : List Lexeme) (k : NotationKind) (m : ModuleText) → whole_at ext (x ++ t ∷ u) ≡ Err (fault (t ∷ u) k) → is_set_of (t ∷ u) ≡ false → Module ext (x ++ t ∷ others) m → ⊥
-none_with ext x t u others k m stops plain d = none_goes_on ext x t u others k m (plain ∙ sym (module_apart ext x t others m d)) stops d
-
 -- ---- the kind of a fault at a token, by the wide grammar
 
-unsupported_is : (front : List Lexeme) (t : Lexeme) (u : List Lexeme) → Goes (Module wide) front t u → Begins wide (front ++ t ∷ [])
+unsupported_is : (front : List Lexeme) (t : Lexeme) (u : List Lexeme) → Goes (Module wide) front t → Begins wide (front ++ t ∷ [])
 unsupported_is front t u g = record { back = g.back; whole = g.value; formed = formed g.back g.filler; spelled = subst (λ (z : List Lexeme). Module wide z g.value) (sym (append_assoc front (t ∷ []) g.back)) g.spelled }
-
-plain_set : (t : Lexeme) (u : List Lexeme) (b : Bool) → is_set_of (t ∷ u) ≡ b → kind_at (t ∷ u) ≡ UnexpectedToken → b ≡ false
-plain_set t u true e plain = let clash : Unsupported ≡ UnexpectedToken = sym (set_of_kind t u e) ∙ plain in absurd cc
-plain_set t u false e plain = refl
 
 unexpected_is : (front : List Lexeme) (t : Lexeme) (u : List Lexeme) → whole_at narrow (front ++ t ∷ u) ≡ Err (fault (t ∷ u) UnexpectedToken) → kind_at (t ∷ u) ≡ UnexpectedToken → IsUnsupported front t u → ⊥
 unexpected_is front t u stops plain (inl e) = let clash : UnexpectedToken ≡ Unsupported = sym plain ∙ e in absurd cc
 unexpected_is front t u stops plain (inr b) =
-    none_with wide front t u b.back UnexpectedToken b.whole (wide_stops front t u stops) (plain_set t u (is_set_of (t ∷ u)) refl plain) (subst (λ (z : List Lexeme). Module wide z b.whole) (append_assoc front (t ∷ []) b.back) b.spelled)
+    none_goes_on wide front t u b.back UnexpectedToken b.whole (wide_stops front t u stops) (subst (λ (z : List Lexeme). Module wide z b.whole) (append_assoc front (t ∷ []) b.back) b.spelled)
 
 either_kind : (t : Lexeme) (u : List Lexeme) → (kind_at (t ∷ u) ≡ Unsupported) ⊎ (kind_at (t ∷ u) ≡ UnexpectedToken)
 unfolding kind_at
-either_kind t u = go (is_unsupported t.text || is_set_of (t ∷ u))
+either_kind t u = go (is_unsupported t.text)
   where
     go : (b : Bool) → ((if b then Unsupported else UnexpectedToken) ≡ Unsupported) ⊎ ((if b then Unsupported else UnexpectedToken) ≡ UnexpectedToken)
     go true = inl refl
@@ -147,11 +128,6 @@ kind_of ts t u k front whole stops =
     let x = wide_module.halts ts (t ∷ u) k stops in
     let one : x.front ≡ front = append_cancel_right x.front front (t ∷ u) (sym x.whole ∙ whole) in
     kind_here front t u k (ap (whole_at narrow) (sym whole) ∙ stops) (subst (λ (z : List Lexeme). KindOf true (Module wide) z (t ∷ u) k) one x.kind)
-
-apart_of : (ts : List Lexeme) (t : Lexeme) (u : List Lexeme) (k : NotationKind) (front : List Lexeme) → ts ≡ front ++ t ∷ u → whole_at narrow ts ≡ Err (fault (t ∷ u) k) → NoSetOf front (t ∷ u)
-apart_of ts t u k front whole stops =
-    let cut = left_by (whole_at narrow) (l_whole narrow).clears ts (Err (fault (t ∷ u) k)) stops in
-    subst (λ (z : List Lexeme). NoSetOf z (t ∷ u)) (append_cancel_right cut.text front (t ∷ u) (sym cut.is ∙ whole)) cut.clear
 
 form_text : (kind : TokenKind) (text : List ℕ) → IsTrue (has_form kind text) → is_empty text ≡ false
 form_text Word [] h = absurd cc
@@ -176,8 +152,7 @@ token_fault text fits t u kind stops x l c k e =
       behind = u;
       whole = x.whole;
       start = start_of (tokens text) (t ∷ u) kind x;
-      apart = apart_of (tokens text) t u kind x.front x.whole stops;
-      past = λ plain others m d. none_with marked x.front t u others kind m (mark_stops (x.front ++ t ∷ u) t u kind (not_empty text t u x.front x.whole) (ap (whole_at narrow) (sym x.whole) ∙ stops)) plain d;
+      past = λ others m d. none_goes_on marked x.front t u others kind m (mark_stops (x.front ++ t ∷ u) t u kind (not_empty text t u x.front x.whole) (ap (whole_at narrow) (sym x.whole) ∙ stops)) d;
       at_line = q.line;
       at_column = q.column;
       is = subst (λ (j : NotationKind). IsKind x.front t u j) q.kind (kind_of (tokens text) t u kind x.front x.whole stops);

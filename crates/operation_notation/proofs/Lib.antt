@@ -9,7 +9,7 @@ pub mod OidLaws
 pub mod ModuleLaws
 pub mod Well
 pub mod Rises
-pub mod Clear
+pub mod Leaves
 pub mod Local
 pub mod LocalRules
 pub mod Begun

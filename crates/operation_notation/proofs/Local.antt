@@ -1,32 +1,26 @@
--- How far reading looks: a token that it doesn't take decides, with whether OF stands behind it, and nothing further does.
+-- How far reading looks: a token that it doesn't take decides, and nothing further does.
 use Rattle.std.proofs.Common.{◌≡◌, ℕ, zero, suc, ◌+◌, ◌<◌, ◌≤◌, Bool, true, false, List, [], ◌∷◌, ◌++◌, length, Option, Some, None, Ok, Err, refl, sym, ap, ◌∙◌, append_assoc, arith, inl, inr}
 use Rattle.std.specs.Prelude.{codes, ◌⊎◌, ◌||◌, if◌then◌else◌}
 use Rattle.std.proofs.lemmas.List.{length-append, append_cancel_right}
 use Rattle.notation_tokens.specs.Lexeme.{Lexeme, same, begins, goes_on}
 use Rattle.notation_tokens.specs.Words.{place, word_of, is_unsupported}
-use Rattle.operation_notation.specs.Reading.{◌>>=◌, after, give, here, place_of, Failure, Read, taken, token_at, refuse, refuse_as, kind_at, is_set_of, word_at, many_at, all_at, behind, listed_at, maybe_at}
+use Rattle.operation_notation.specs.Reading.{◌>>=◌, after, give, here, place_of, Failure, Read, taken, token_at, refuse, refuse_as, kind_at, word_at, many_at, all_at, behind, listed_at, maybe_at}
 use Rattle.notation_tokens.specs.declared.faults.NotationKind.{NotationKind}
 use Rattle.notation_tokens.specs.declared.faults.NotationKind.TheVariants.{Unsupported, UnexpectedToken}
 use Rattle.notation_tokens.specs.declared.token.Place.{Place}
 use Rattle.operation_notation.proofs.Means.{ok_is, after_ok, law_word}
-use Rattle.operation_notation.proofs.Starts.{among, apart}
-use Rattle.operation_notation.proofs.Chains.{same_excludes}
-use Rattle.operation_notation.proofs.Clear.{Clears, left_by, no_cut, clears_one, clears_then, clears_choice, clears_all}
-
--- a token and what stands behind it begin with SET OF in both, or in neither
-abbrev pub Alike : Lexeme → List Lexeme → List Lexeme → Type 0
-Alike t u v = is_set_of (t ∷ u) ≡ is_set_of (t ∷ v)
+use Rattle.operation_notation.proofs.Leaves.{Leaves, left_by, no_cut, leaves_one, leaves_then, leaves_choice, leaves_all}
 
 abbrev pub fault : List Lexeme → NotationKind → Failure
 fault rest kind = record { rest = rest; kind = kind }
 
 -- what stands behind a token that isn't taken doesn't matter
 pub record Looks {A : Type 0} (f : List Lexeme → Read A) : Type 0 where
-  pub ok : (x y : List Lexeme) (t : Lexeme) (u v : List Lexeme) (a : A) → Alike t u v → f (x ++ t ∷ u) ≡ Ok (a, y ++ t ∷ u) → f (x ++ t ∷ v) ≡ Ok (a, y ++ t ∷ v)
-  pub err : (x y : List Lexeme) (t : Lexeme) (u v : List Lexeme) (k : NotationKind) → Alike t u v → f (x ++ t ∷ u) ≡ Err (fault (y ++ t ∷ u) k) → f (x ++ t ∷ v) ≡ Err (fault (y ++ t ∷ v) k)
+  pub ok : (x y : List Lexeme) (t : Lexeme) (u v : List Lexeme) (a : A) → f (x ++ t ∷ u) ≡ Ok (a, y ++ t ∷ u) → f (x ++ t ∷ v) ≡ Ok (a, y ++ t ∷ v)
+  pub err : (x y : List Lexeme) (t : Lexeme) (u v : List Lexeme) (k : NotationKind) → f (x ++ t ∷ u) ≡ Err (fault (y ++ t ∷ u) k) → f (x ++ t ∷ v) ≡ Err (fault (y ++ t ∷ v) k)
 
 pub record Local {A : Type 0} (f : List Lexeme → Read A) : Type 0 where
-  pub clears : Clears f
+  pub leaves : Leaves f
   pub looks : Looks f
 
 abbrev pub failed : {A : Type 0} → Failure → Read A
@@ -37,27 +31,21 @@ fault_is d e h = cc
 
 -- ---- what is wrong with a token
 
-pub set_of_local : (x : List Lexeme) (t : Lexeme) (u v : List Lexeme) → Alike t u v → is_set_of (x ++ t ∷ u) ≡ is_set_of (x ++ t ∷ v)
-set_of_local [] t u v e = e
-set_of_local (s ∷ []) t u v e = refl
-set_of_local (s ∷ r ∷ x) t u v e = refl
-
-pub kind_local : (x : List Lexeme) (t : Lexeme) (u v : List Lexeme) → Alike t u v → kind_at (x ++ t ∷ u) ≡ kind_at (x ++ t ∷ v)
+pub kind_local : (x : List Lexeme) (t : Lexeme) (u v : List Lexeme) → kind_at (x ++ t ∷ u) ≡ kind_at (x ++ t ∷ v)
 unfolding kind_at
-kind_local [] t u v e = ap (λ (b : Bool). if is_unsupported t.text || b then Unsupported else UnexpectedToken) (set_of_local [] t u v e)
-kind_local (s ∷ []) t u v e = refl
-kind_local (s ∷ r ∷ x) t u v e = refl
+kind_local [] t u v = refl
+kind_local (s ∷ x) t u v = refl
 
 -- a refusal whose kind looks no further
-pub refuse_by : {A : Type 0} (kind : List Lexeme → NotationKind) → ((x : List Lexeme) (t : Lexeme) (u v : List Lexeme) → Alike t u v → kind (x ++ t ∷ u) ≡ kind (x ++ t ∷ v)) → Local {A = A} (λ ts. refuse_as (kind ts) ts)
+pub refuse_by : {A : Type 0} (kind : List Lexeme → NotationKind) → ((x : List Lexeme) (t : Lexeme) (u v : List Lexeme) → kind (x ++ t ∷ u) ≡ kind (x ++ t ∷ v)) → Local {A = A} (λ ts. refuse_as (kind ts) ts)
 refuse_by {A = A} kind same_kind = record {
-  clears = no_cut;
+  leaves = no_cut;
   looks = record {
-    ok = λ x y t u v a l e. absurd cc;
-    err = λ x y t u v k l e.
+    ok = λ x y t u v a e. absurd cc;
+    err = λ x y t u v k e.
         let d = fault_is (fault (x ++ t ∷ u) (kind (x ++ t ∷ u))) (fault (y ++ t ∷ u) k) e in
         let front : x ≡ y = append_cancel_right x y (t ∷ u) (ap (λ (z : Failure). z.rest) d) in
-        let kind_is : kind (x ++ t ∷ v) ≡ k = sym (same_kind x t u v l) ∙ ap (λ (z : Failure). z.kind) d in
+        let kind_is : kind (x ++ t ∷ v) ≡ k = sym (same_kind x t u v) ∙ ap (λ (z : Failure). z.kind) d in
         ap (λ (z : List Lexeme). failed (fault (z ++ t ∷ v) (kind (x ++ t ∷ v)))) front ∙ ap (λ (z : NotationKind). failed (fault (y ++ t ∷ v) z)) kind_is;
   };
 }
@@ -69,13 +57,13 @@ local_refuse = refuse_by kind_at kind_local
 
 pub local_give : {A : Type 0} (a : A) → Local (give a)
 local_give a = record {
-  clears = no_cut;
+  leaves = no_cut;
   looks = record {
-    ok = λ x y t u v b l e.
+    ok = λ x y t u v b e.
         let p = ok_is (a, x ++ t ∷ u) (b, y ++ t ∷ u) e in
         let front : x ≡ y = append_cancel_right x y (t ∷ u) (ap (λ (z : _ × List Lexeme). z.1) p) in
         ap (λ (z : List Lexeme). Ok (a, z ++ t ∷ v)) front ∙ ap (λ (c : _). Ok (c, y ++ t ∷ v)) (ap (λ (z : _ × List Lexeme). z.0) p);
-    err = λ x y t u v k l e. absurd cc;
+    err = λ x y t u v k e. absurd cc;
   };
 }
 
@@ -97,26 +85,25 @@ left_out (Some b) s ts d e = absurd cc
 left_out None s ts d e = (refl, e)
 
 module _ {A : Type 0} (test : Lexeme → Option A) where
-  one_ok : (x y : List Lexeme) (t : Lexeme) (u v : List Lexeme) (a : A) → Alike t u v → token_at test (x ++ t ∷ u) ≡ Ok (a, y ++ t ∷ u) → token_at test (x ++ t ∷ v) ≡ Ok (a, y ++ t ∷ v)
-  one_ok [] y t u v a l e = absurd (too_long y t u (took (test t) t u a (y ++ t ∷ u) e).left)
-  one_ok (s ∷ x) y t u v a l e =
+  one_ok : (x y : List Lexeme) (t : Lexeme) (u v : List Lexeme) (a : A) → token_at test (x ++ t ∷ u) ≡ Ok (a, y ++ t ∷ u) → token_at test (x ++ t ∷ v) ≡ Ok (a, y ++ t ∷ v)
+  one_ok [] y t u v a e = absurd (too_long y t u (took (test t) t u a (y ++ t ∷ u) e).left)
+  one_ok (s ∷ x) y t u v a e =
       let p = took (test s) s (x ++ t ∷ u) a (y ++ t ∷ u) e in
       ap (λ (o : Option A). taken o s (x ++ t ∷ v)) p.is ∙ ap (λ (z : List Lexeme). Ok (a, z ++ t ∷ v)) (append_cancel_right x y (t ∷ u) p.left)
 
-  one_err : (x y : List Lexeme) (t : Lexeme) (u v : List Lexeme) (k : NotationKind) → Alike t u v → token_at test (x ++ t ∷ u) ≡ Err (fault (y ++ t ∷ u) k) → token_at test (x ++ t ∷ v) ≡ Err (fault (y ++ t ∷ v) k)
-  one_err [] y t u v k l e =
+  one_err : (x y : List Lexeme) (t : Lexeme) (u v : List Lexeme) (k : NotationKind) → token_at test (x ++ t ∷ u) ≡ Err (fault (y ++ t ∷ u) k) → token_at test (x ++ t ∷ v) ≡ Err (fault (y ++ t ∷ v) k)
+  one_err [] y t u v k e =
       let p = left_out (test t) t u (fault (y ++ t ∷ u) k) e in
-      ap (λ (o : Option A). taken o t v) p.0 ∙ (local_refuse {A = A}).looks.err [] y t u v k l p.1
-  one_err (s ∷ x) y t u v k l e =
+      ap (λ (o : Option A). taken o t v) p.0 ∙ (local_refuse {A = A}).looks.err [] y t u v k p.1
+  one_err (s ∷ x) y t u v k e =
       let p = left_out (test s) s (x ++ t ∷ u) (fault (y ++ t ∷ u) k) e in
-      ap (λ (o : Option A). taken o s (x ++ t ∷ v)) p.0 ∙ (local_refuse {A = A}).looks.err (s ∷ x) y t u v k l p.1
+      ap (λ (o : Option A). taken o s (x ++ t ∷ v)) p.0 ∙ (local_refuse {A = A}).looks.err (s ∷ x) y t u v k p.1
 
   pub looks_one : Looks (token_at test)
   looks_one = record { ok = one_ok; err = one_err }
 
-  -- a test that SET doesn't pass
-  pub local_one : ((t : Lexeme) (a : A) → test t ≡ Some a → among (codes "SET" ∷ []) t ≡ false) → Local (token_at test)
-  local_one other = record { clears = clears_one test other; looks = looks_one }
+  pub local_one : Local (token_at test)
+  local_one = record { leaves = leaves_one test; looks = looks_one }
 
 -- ---- one behind the other
 
@@ -125,28 +112,28 @@ after_err (Ok p) k d e = inr (p, refl, e)
 after_err (Err c) k d e = inl (ap failed (sym (fault_is c d e)))
 
 module _ {A B : Type 0} (f : List Lexeme → Read A) (h : A → List Lexeme → Read B) (lf : Looks f) (lh : (a : A) → Local (h a)) where
-  then_ok : (x y : List Lexeme) (t : Lexeme) (u v : List Lexeme) (b : B) → Alike t u v → (f >>= h) (x ++ t ∷ u) ≡ Ok (b, y ++ t ∷ u) → (f >>= h) (x ++ t ∷ v) ≡ Ok (b, y ++ t ∷ v)
-  then_ok x y t u v b l e =
+  then_ok : (x y : List Lexeme) (t : Lexeme) (u v : List Lexeme) (b : B) → (f >>= h) (x ++ t ∷ u) ≡ Ok (b, y ++ t ∷ u) → (f >>= h) (x ++ t ∷ v) ≡ Ok (b, y ++ t ∷ v)
+  then_ok x y t u v b e =
       let p = after_ok (f (x ++ t ∷ u)) h b (y ++ t ∷ u) e in
-      let w = left_by (h p.value) (lh p.value).clears p.mid (Ok (b, y ++ t ∷ u)) p.behind in
+      let w = left_by (h p.value) (lh p.value).leaves p.mid (Ok (b, y ++ t ∷ u)) p.behind in
       let mid : p.mid ≡ (w.text ++ y) ++ t ∷ u = w.is ∙ sym (append_assoc w.text y (t ∷ u)) in
-      let one = lf.ok x (w.text ++ y) t u v p.value l (p.is ∙ ap (λ (z : List Lexeme). Ok (p.value, z)) mid) in
-      let two = (lh p.value).looks.ok (w.text ++ y) y t u v b l (ap (h p.value) (sym mid) ∙ p.behind) in
+      let one = lf.ok x (w.text ++ y) t u v p.value (p.is ∙ ap (λ (z : List Lexeme). Ok (p.value, z)) mid) in
+      let two = (lh p.value).looks.ok (w.text ++ y) y t u v b (ap (h p.value) (sym mid) ∙ p.behind) in
       ap (λ (z : Read A). after z h) one ∙ two
 
-  then_err_in : (x y : List Lexeme) (t : Lexeme) (u v : List Lexeme) (k : NotationKind) → Alike t u v → (p : A × List Lexeme) → f (x ++ t ∷ u) ≡ Ok p → h p.0 p.1 ≡ Err (fault (y ++ t ∷ u) k) → (f >>= h) (x ++ t ∷ v) ≡ Err (fault (y ++ t ∷ v) k)
-  then_err_in x y t u v k l p is e =
-      let w = left_by (h p.0) (lh p.0).clears p.1 (Err (fault (y ++ t ∷ u) k)) e in
+  then_err_in : (x y : List Lexeme) (t : Lexeme) (u v : List Lexeme) (k : NotationKind) → (p : A × List Lexeme) → f (x ++ t ∷ u) ≡ Ok p → h p.0 p.1 ≡ Err (fault (y ++ t ∷ u) k) → (f >>= h) (x ++ t ∷ v) ≡ Err (fault (y ++ t ∷ v) k)
+  then_err_in x y t u v k p is e =
+      let w = left_by (h p.0) (lh p.0).leaves p.1 (Err (fault (y ++ t ∷ u) k)) e in
       let mid : p.1 ≡ (w.text ++ y) ++ t ∷ u = w.is ∙ sym (append_assoc w.text y (t ∷ u)) in
-      let one = lf.ok x (w.text ++ y) t u v p.0 l (is ∙ ap (λ (z : List Lexeme). Ok (p.0, z)) mid) in
-      let two = (lh p.0).looks.err (w.text ++ y) y t u v k l (ap (h p.0) (sym mid) ∙ e) in
+      let one = lf.ok x (w.text ++ y) t u v p.0 (is ∙ ap (λ (z : List Lexeme). Ok (p.0, z)) mid) in
+      let two = (lh p.0).looks.err (w.text ++ y) y t u v k (ap (h p.0) (sym mid) ∙ e) in
       ap (λ (z : Read A). after z h) one ∙ two
 
-  then_err : (x y : List Lexeme) (t : Lexeme) (u v : List Lexeme) (k : NotationKind) → Alike t u v → (f >>= h) (x ++ t ∷ u) ≡ Err (fault (y ++ t ∷ u) k) → (f >>= h) (x ++ t ∷ v) ≡ Err (fault (y ++ t ∷ v) k)
-  then_err x y t u v k l e =
+  then_err : (x y : List Lexeme) (t : Lexeme) (u v : List Lexeme) (k : NotationKind) → (f >>= h) (x ++ t ∷ u) ≡ Err (fault (y ++ t ∷ u) k) → (f >>= h) (x ++ t ∷ v) ≡ Err (fault (y ++ t ∷ v) k)
+  then_err x y t u v k e =
       elim (after_err (f (x ++ t ∷ u)) h (fault (y ++ t ∷ u) k) e) [
-        | inl q ↦ ap (λ (z : Read A). after z h) (lf.err x y t u v k l (sym q))
-        | inr q ↦ then_err_in x y t u v k l q.0 q.1 q.2
+        | inl q ↦ ap (λ (z : Read A). after z h) (lf.err x y t u v k (sym q))
+        | inr q ↦ then_err_in x y t u v k q.0 q.1 q.2
       ]
 
   pub looks_then : Looks (f >>= h)
@@ -154,38 +141,38 @@ module _ {A B : Type 0} (f : List Lexeme → Read A) (h : A → List Lexeme → 
 
 -- ---- choices
 
-module _ {A : Type 0} (test : List Lexeme → Bool) (f g : List Lexeme → Read A) (far : (x : List Lexeme) (t : Lexeme) (u v : List Lexeme) → Alike t u v → test (x ++ t ∷ u) ≡ test (x ++ t ∷ v)) (lf : Looks f) (lg : Looks g) where
+module _ {A : Type 0} (test : List Lexeme → Bool) (f g : List Lexeme → Read A) (far : (x : List Lexeme) (t : Lexeme) (u v : List Lexeme) → test (x ++ t ∷ u) ≡ test (x ++ t ∷ v)) (lf : Looks f) (lg : Looks g) where
   abbrev chosen : Bool → List Lexeme → Read A
   chosen b ts = if b then f ts else g ts
 
-  chosen_ok : (b : Bool) (x y : List Lexeme) (t : Lexeme) (u v : List Lexeme) (a : A) → Alike t u v → chosen b (x ++ t ∷ u) ≡ Ok (a, y ++ t ∷ u) → chosen b (x ++ t ∷ v) ≡ Ok (a, y ++ t ∷ v)
+  chosen_ok : (b : Bool) (x y : List Lexeme) (t : Lexeme) (u v : List Lexeme) (a : A) → chosen b (x ++ t ∷ u) ≡ Ok (a, y ++ t ∷ u) → chosen b (x ++ t ∷ v) ≡ Ok (a, y ++ t ∷ v)
   chosen_ok true = lf.ok
   chosen_ok false = lg.ok
 
-  chosen_err : (b : Bool) (x y : List Lexeme) (t : Lexeme) (u v : List Lexeme) (k : NotationKind) → Alike t u v → chosen b (x ++ t ∷ u) ≡ Err (fault (y ++ t ∷ u) k) → chosen b (x ++ t ∷ v) ≡ Err (fault (y ++ t ∷ v) k)
+  chosen_err : (b : Bool) (x y : List Lexeme) (t : Lexeme) (u v : List Lexeme) (k : NotationKind) → chosen b (x ++ t ∷ u) ≡ Err (fault (y ++ t ∷ u) k) → chosen b (x ++ t ∷ v) ≡ Err (fault (y ++ t ∷ v) k)
   chosen_err true = lf.err
   chosen_err false = lg.err
 
   pub looks_choice : Looks (λ ts. if test ts then f ts else g ts)
   looks_choice = record {
-    ok = λ x y t u v a l e. ap (λ (b : Bool). chosen b (x ++ t ∷ v)) (sym (far x t u v l)) ∙ chosen_ok (test (x ++ t ∷ u)) x y t u v a l e;
-    err = λ x y t u v k l e. ap (λ (b : Bool). chosen b (x ++ t ∷ v)) (sym (far x t u v l)) ∙ chosen_err (test (x ++ t ∷ u)) x y t u v k l e;
+    ok = λ x y t u v a e. ap (λ (b : Bool). chosen b (x ++ t ∷ v)) (sym (far x t u v)) ∙ chosen_ok (test (x ++ t ∷ u)) x y t u v a e;
+    err = λ x y t u v k e. ap (λ (b : Bool). chosen b (x ++ t ∷ v)) (sym (far x t u v)) ∙ chosen_err (test (x ++ t ∷ u)) x y t u v k e;
   }
 
-pub local_choice : {A : Type 0} (test : List Lexeme → Bool) (f g : List Lexeme → Read A) → ((x : List Lexeme) (t : Lexeme) (u v : List Lexeme) → Alike t u v → test (x ++ t ∷ u) ≡ test (x ++ t ∷ v)) → Local f → Local g → Local (λ ts. if test ts then f ts else g ts)
-local_choice test f g far lf lg = record { clears = clears_choice test f g lf.clears (λ ts e. lg.clears ts); looks = looks_choice test f g far lf.looks lg.looks }
+pub local_choice : {A : Type 0} (test : List Lexeme → Bool) (f g : List Lexeme → Read A) → ((x : List Lexeme) (t : Lexeme) (u v : List Lexeme) → test (x ++ t ∷ u) ≡ test (x ++ t ∷ v)) → Local f → Local g → Local (λ ts. if test ts then f ts else g ts)
+local_choice test f g far lf lg = record { leaves = leaves_choice test f g lf.leaves lg.leaves; looks = looks_choice test f g far lf.looks lg.looks }
 
 -- ---- what is looked at and not taken
 
 pub local_peek : {A : Type 0} (q : List Lexeme → A) → ((x : List Lexeme) (t : Lexeme) (u v : List Lexeme) → q (x ++ t ∷ u) ≡ q (x ++ t ∷ v)) → Local (λ ts. Ok (q ts, ts))
 local_peek q far = record {
-  clears = no_cut;
+  leaves = no_cut;
   looks = record {
-    ok = λ x y t u v b l e.
+    ok = λ x y t u v b e.
         let p = ok_is (q (x ++ t ∷ u), x ++ t ∷ u) (b, y ++ t ∷ u) e in
         let front : x ≡ y = append_cancel_right x y (t ∷ u) (ap (λ (z : _ × List Lexeme). z.1) p) in
         ap (λ (z : List Lexeme). Ok (q (x ++ t ∷ v), z ++ t ∷ v)) front ∙ ap (λ (c : _). Ok (c, y ++ t ∷ v)) (sym (far x t u v) ∙ ap (λ (z : _ × List Lexeme). z.0) p);
-    err = λ x y t u v k l e. absurd cc;
+    err = λ x y t u v k e. absurd cc;
   };
 }
 
@@ -207,41 +194,29 @@ goes_on_far w (s ∷ x) t u v = refl
 -- ---- with less to write
 
 pub lthen : {A B : Type 0} {f : List Lexeme → Read A} {h : A → List Lexeme → Read B} → Local f → ((a : A) → Local (h a)) → Local (f >>= h)
-lthen {f = f} {h = h} lf lh = record { clears = clears_then f h lf.clears (λ a. (lh a).clears); looks = looks_then f h lf.looks lh }
+lthen {f = f} {h = h} lf lh = record { leaves = leaves_then f h lf.leaves (λ a. (lh a).leaves); looks = looks_then f h lf.looks lh }
 
 pub lpick : {A : Type 0} {f g : List Lexeme → Read A} (w : List ℕ) → Local f → Local g → Local (λ ts. if begins w ts then f ts else g ts)
-lpick {f = f} {g = g} w lf lg = local_choice (begins w) f g (λ x t u v l. begins_far w x t u v) lf lg
+lpick {f = f} {g = g} w lf lg = local_choice (begins w) f g (begins_far w) lf lg
 
 pub lmaybe : {A : Type 0} {f : List Lexeme → Read A} (w : List ℕ) → Local f → Local (maybe_at w f)
 lmaybe w lf = lpick w (lthen lf (λ a. local_give (Some a))) (local_give None)
 
--- a word that isn't SET
-abbrev pub Other : List ℕ → Type 0
-Other w = apart (w ∷ []) (codes "SET" ∷ []) ≡ true
-
-word_text : (w : List ℕ) (t : Lexeme) (a : Place) → word_of w t ≡ Some a → same t.text w ≡ true
-unfolding word_of
-word_text w t a e = go (same t.text w) refl e
-  where
-    go : (b : Bool) → same t.text w ≡ b → (if b then Some (place t) else None) ≡ Some a → b ≡ true
-    go true is h = refl
-    go false is h = absurd cc
-
-pub lword : (w : List ℕ) → Other w → Local (word_at w)
+pub lword : (w : List ℕ) → Local (word_at w)
 unfolding word_at
-lword w o = local_one (word_of w) (λ t a e. same_excludes w (codes "SET" ∷ []) o t (word_text w t a e))
+lword w = local_one (word_of w)
 
-pub lbehind : {A : Type 0} {f : List Lexeme → Read A} (w : List ℕ) → Other w → Local f → Local (behind w f)
-lbehind w o lf = lthen (lword w o) (λ p. lf)
+pub lbehind : {A : Type 0} {f : List Lexeme → Read A} (w : List ℕ) → Local f → Local (behind w f)
+lbehind w lf = lthen (lword w) (λ p. lf)
 
 -- ---- again and again
 
-local_many : {A : Type 0} (test : List Lexeme → Bool) (f : List Lexeme → Read A) → ((x : List Lexeme) (t : Lexeme) (u v : List Lexeme) → Alike t u v → test (x ++ t ∷ u) ≡ test (x ++ t ∷ v)) → Local f → (n : ℕ) → Local (many_at test f n)
+local_many : {A : Type 0} (test : List Lexeme → Bool) (f : List Lexeme → Read A) → ((x : List Lexeme) (t : Lexeme) (u v : List Lexeme) → test (x ++ t ∷ u) ≡ test (x ++ t ∷ v)) → Local f → (n : ℕ) → Local (many_at test f n)
 unfolding many_at
 local_many test f far lf zero = local_give []
 local_many test f far lf (suc n) = local_choice test _ _ far (lthen lf (λ a. lthen (local_many test f far lf n) (λ more. local_give (a ∷ more)))) (local_give [])
 
-pub local_counted : {A : Type 0} (test : List Lexeme → Bool) (f : List Lexeme → Read A) → ((x : List Lexeme) (t : Lexeme) (u v : List Lexeme) → Alike t u v → test (x ++ t ∷ u) ≡ test (x ++ t ∷ v)) → Local f → (n : ℕ) → Local (many_at test f n)
+pub local_counted : {A : Type 0} (test : List Lexeme → Bool) (f : List Lexeme → Read A) → ((x : List Lexeme) (t : Lexeme) (u v : List Lexeme) → test (x ++ t ∷ u) ≡ test (x ++ t ∷ v)) → Local f → (n : ℕ) → Local (many_at test f n)
 local_counted = local_many
 
 abbrev pub Takes : {A : Type 0} → (List Lexeme → Read A) → Type 0
@@ -263,18 +238,18 @@ enough test f none takes (suc n) (suc m) ts p q = ap (λ (r : Read (List _)). if
     (after_same (f ts) (λ a. many_at test f n >>= λ more. give (a ∷ more)) (λ a. many_at test f m >>= λ more. give (a ∷ more))
     (λ a rest e. let lt = takes ts a rest e in ap (λ (r : Read (List _)). after r (λ more. give (a ∷ more))) (enough test f none takes n m rest (omega arith) (omega arith))))
 
-pub local_all : {A : Type 0} (test : List Lexeme → Bool) (f : List Lexeme → Read A) → ((x : List Lexeme) (t : Lexeme) (u v : List Lexeme) → Alike t u v → test (x ++ t ∷ u) ≡ test (x ++ t ∷ v)) → test [] ≡ false → Takes f → Local f → Local (all_at test f)
+pub local_all : {A : Type 0} (test : List Lexeme → Bool) (f : List Lexeme → Read A) → ((x : List Lexeme) (t : Lexeme) (u v : List Lexeme) → test (x ++ t ∷ u) ≡ test (x ++ t ∷ v)) → test [] ≡ false → Takes f → Local f → Local (all_at test f)
 local_all test f far none takes lf = record {
-  clears = clears_all test f lf.clears;
+  leaves = leaves_all test f lf.leaves;
   looks = record {
-    ok = λ x y t u v l same_of e.
+    ok = λ x y t u v z e.
         let n = length (x ++ t ∷ u) + length (x ++ t ∷ v) in
         enough test f none takes (length (x ++ t ∷ v)) n (x ++ t ∷ v) (omega arith) (omega arith)
-        ∙ (local_many test f far lf n).looks.ok x y t u v l same_of (enough test f none takes n (length (x ++ t ∷ u)) (x ++ t ∷ u) (omega arith) (omega arith) ∙ e);
-    err = λ x y t u v k same_of e.
+        ∙ (local_many test f far lf n).looks.ok x y t u v z (enough test f none takes n (length (x ++ t ∷ u)) (x ++ t ∷ u) (omega arith) (omega arith) ∙ e);
+    err = λ x y t u v k e.
         let n = length (x ++ t ∷ u) + length (x ++ t ∷ v) in
         enough test f none takes (length (x ++ t ∷ v)) n (x ++ t ∷ v) (omega arith) (omega arith)
-        ∙ (local_many test f far lf n).looks.err x y t u v k same_of (enough test f none takes n (length (x ++ t ∷ u)) (x ++ t ∷ u) (omega arith) (omega arith) ∙ e);
+        ∙ (local_many test f far lf n).looks.err x y t u v k (enough test f none takes n (length (x ++ t ∷ u)) (x ++ t ∷ u) (omega arith) (omega arith) ∙ e);
   };
 }
 
@@ -282,11 +257,11 @@ behind_takes : {A : Type 0} (w : List ℕ) (f : List Lexeme → Read A) → Loca
 behind_takes w f lf ts a rest e =
     let p = after_ok (word_at w ts) (λ q. f) a rest e in
     let x = (law_word w).found ts p.value p.mid p.is in
-    let y = left_by f lf.clears p.mid (Ok (a, rest)) p.behind in
+    let y = left_by f lf.leaves p.mid (Ok (a, rest)) p.behind in
     omega (arith, ap length x.parts, length-append x.text p.mid, ap length x.spelled.alone, ap length y.is, length-append y.text rest)
 
-pub llisted : {A : Type 0} {f : List Lexeme → Read A} (w : List ℕ) → Other w → Local f → Local (listed_at w f)
-llisted {f = f} w o lf = lthen lf (λ first. lthen (local_all (begins w) (behind w f) (λ x t u v l. begins_far w x t u v) refl (behind_takes w f lf) (lbehind w o lf)) (λ others. local_give (first ∷ others)))
+pub llisted : {A : Type 0} {f : List Lexeme → Read A} (w : List ℕ) → Local f → Local (listed_at w f)
+llisted {f = f} w lf = lthen lf (λ first. lthen (local_all (begins w) (behind w f) (begins_far w) refl (behind_takes w f lf) (lbehind w lf)) (λ others. local_give (first ∷ others)))
 
-pub lmore : {A : Type 0} {f : List Lexeme → Read A} (w : List ℕ) → Other w → Local f → Local (all_at (begins w) (behind w f))
-lmore {f = f} w o lf = local_all (begins w) (behind w f) (λ x t u v l. begins_far w x t u v) refl (behind_takes w f lf) (lbehind w o lf)
+pub lmore : {A : Type 0} {f : List Lexeme → Read A} (w : List ℕ) → Local f → Local (all_at (begins w) (behind w f))
+lmore {f = f} w lf = local_all (begins w) (behind w f) (begins_far w) refl (behind_takes w f lf) (lbehind w lf)

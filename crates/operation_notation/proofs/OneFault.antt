@@ -6,20 +6,19 @@ use Rattle.notation_tokens.specs.Lexing.{most_octets, lexed_of}
 use Rattle.notation_tokens.specs.Texts.{unless_stopped, too_long}
 use Rattle.notation_tokens.specs.declared.lexer.Lexed.{Lexed}
 use Rattle.notation_tokens.specs.declared.token.Place.{Place}
-use Rattle.operation_notation.specs.Reading.{Read, is_set_of}
+use Rattle.operation_notation.specs.Reading.{Read}
 use Rattle.operation_notation.specs.GrammarTypes.{narrow, marked}
 use Rattle.operation_notation.specs.GrammarModules.{Module}
 use Rattle.operation_notation.specs.ReadingModules.{whole_at}
 use Rattle.operation_notation.specs.Modules.{Reads, module_of, verdict, refused}
-use Rattle.operation_notation.specs.Faults.{Begins, NoSetOf, IsKind, TokenFault, IsFirstFault, Faulty}
+use Rattle.operation_notation.specs.Faults.{Begins, IsKind, TokenFault, IsFirstFault, Faulty}
 use Rattle.notation_tokens.specs.declared.faults.NotationFault.{NotationFault}
 use Rattle.notation_tokens.specs.declared.faults.NotationFault.TheVariants as faults
 use Rattle.notation_tokens.specs.declared.faults.NotationKind.{NotationKind}
 use Rattle.operation_notation.specs.declared.module.ModuleText.{ModuleText}
-use Rattle.operation_notation.proofs.Clear.{clear_at}
 use Rattle.operation_notation.proofs.ModuleLaws.{whole_found, whole_only, reads_found}
 use Rattle.operation_notation.proofs.Wider.{mark_reads}
-use Rattle.operation_notation.proofs.FirstFaults.{module_apart, fault_first}
+use Rattle.operation_notation.proofs.FirstFaults.{fault_first}
 
 -- ---- two places in one list
 
@@ -56,28 +55,17 @@ order (b ∷ x) s u (c ∷ y) t v e = order_more b c x s u y t v (heads b c (x +
 
 -- ---- no two faults
 
--- no module begins with these tokens, unless the last is SET in front of OF
-abbrev Past : List Lexeme → Lexeme → List Lexeme → Type 0
-Past x s u = is_set_of (s ∷ u) ≡ false → (others : List Lexeme) (m : ModuleText) → Module marked (x ++ s ∷ others) m → ⊥
+-- no module begins with these tokens
+abbrev Past : List Lexeme → Lexeme → Type 0
+Past x s = (others : List Lexeme) (m : ModuleText) → Module marked (x ++ s ∷ others) m → ⊥
 
-and_false : (b : Bool) → b && false ≡ false
-and_false true = refl
-and_false false = refl
-
-set_of_less : (t : Lexeme) (u back : List Lexeme) → is_set_of (t ∷ (u ++ back)) ≡ false → is_set_of (t ∷ u) ≡ false
-set_of_less t [] back e = and_false (same t.text (codes "SET"))
-set_of_less t (c ∷ u) back e = e
-
-not_before : (x : List Lexeme) (s : Lexeme) (u y : List Lexeme) (t : Lexeme) (v : List Lexeme) → Past x s u → Begins marked y → NoSetOf y (t ∷ v) → Before x s u y t v → ⊥
-not_before x s u y t v past start apart b =
-    let plain : is_set_of (s ∷ (b.between ++ t ∷ v)) ≡ false = clear_at x s b.between (t ∷ v) (subst (λ (z : List Lexeme). NoSetOf z (t ∷ v)) b.is apart) in
-    past (ap (λ (z : List Lexeme). is_set_of (s ∷ z)) b.rest ∙ plain) (b.between ++ start.back) start.whole
+not_before : (x : List Lexeme) (s : Lexeme) (u y : List Lexeme) (t : Lexeme) (v : List Lexeme) → Past x s → Begins marked y → Before x s u y t v → ⊥
+not_before x s u y t v past start b = past (b.between ++ start.back) start.whole
     (subst (λ (z : List Lexeme). Module marked z start.whole) (ap (λ (z : List Lexeme). z ++ start.back) b.is ∙ append_assoc x (s ∷ b.between) start.back) start.spelled)
 
-not_past : (ts x : List Lexeme) (s : Lexeme) (u : List Lexeme) → ts ≡ x ++ s ∷ u → Past x s u → Begins marked ts → ⊥
-not_past ts x s u whole past start =
-    let spelled : Module marked (x ++ s ∷ (u ++ start.back)) start.whole = subst (λ (z : List Lexeme). Module marked z start.whole) (ap (λ (z : List Lexeme). z ++ start.back) whole ∙ append_assoc x (s ∷ u) start.back) start.spelled in
-    past (set_of_less s u start.back (module_apart marked x s (u ++ start.back) start.whole spelled)) (u ++ start.back) start.whole spelled
+not_past : (ts x : List Lexeme) (s : Lexeme) (u : List Lexeme) → ts ≡ x ++ s ∷ u → Past x s → Begins marked ts → ⊥
+not_past ts x s u whole past start = past (u ++ start.back) start.whole
+    (subst (λ (z : List Lexeme). Module marked z start.whole) (ap (λ (z : List Lexeme). z ++ start.back) whole ∙ append_assoc x (s ∷ u) start.back) start.spelled)
 
 one_kind : (x : List Lexeme) (s : Lexeme) (u : List Lexeme) (k j : NotationKind) → IsKind x s u k → IsKind x s u j → k ≡ j
 one_kind x s u k j (inl p) (inl q) = p.0 ∙ sym q.0
@@ -101,8 +89,8 @@ module _ (text : List ℕ) (l c : ℕ) (k : NotationKind) (m d : ℕ) (j : Notat
         column = sym f.at_column ∙ ap (λ (z : Lexeme). z.column) h.token ∙ g.at_column;
         kind = one_kind g.front g.token g.behind k j moved g.is;
       }
-  two_tokens f g (inr (inl b)) = absurd (not_before f.front f.token f.behind g.front g.token g.behind f.past g.start g.apart b)
-  two_tokens f g (inr (inr b)) = absurd (not_before g.front g.token g.behind f.front f.token f.behind g.past f.start f.apart b)
+  two_tokens f g (inr (inl b)) = absurd (not_before f.front f.token f.behind g.front g.token g.behind f.past g.start b)
+  two_tokens f g (inr (inr b)) = absurd (not_before g.front g.token g.behind f.front f.token f.behind g.past f.start b)
 
   two_faults : IsFirstFault text (faults.At l c k) → IsFirstFault text (faults.At m d j) → Same l c k m d j
   two_faults (inl f) (inl g) = record { line = f.at_line ∙ sym g.at_line; column = f.at_column ∙ sym g.at_column; kind = f.is ∙ sym g.is }
@@ -124,7 +112,7 @@ not_token : (text : List ℕ) (a : ModuleText) (l c : ℕ) (k : NotationKind) �
 not_token text a l c k r f =
     let spelled = whole_found marked (lexemes text (lexed_of text).tokens) a [] (mark_reads (lexemes text (lexed_of text).tokens) a [] (whole_only narrow (lexemes text (lexed_of text).tokens) a r.spelled)) in
     let there : Module marked (f.front ++ f.token ∷ f.behind) a = subst (λ (z : List Lexeme). Module marked z a) f.whole spelled in
-    f.past (module_apart marked f.front f.token f.behind a there) f.behind a there
+    f.past f.behind a there
 
 not_fault : (text : List ℕ) (a : ModuleText) (l c : ℕ) (k : NotationKind) → Reads text a → IsFirstFault text (faults.At l c k) → ⊥
 not_fault text a l c k r (inl f) = let p = f.long in let q = r.fits in absurd (omega (arith, p, q))

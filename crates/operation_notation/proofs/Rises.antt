@@ -7,7 +7,7 @@ use Rattle.notation_tokens.specs.Lexing.{first_place, lexed_of}
 use Rattle.operation_notation.specs.Modules.{Reads}
 use Rattle.notation_tokens.specs.Words.{place, word_of, type_name_of, value_name_of, is_type_name, is_value_name, located}
 use Rattle.operation_notation.specs.Grammar.{One, Then, Nothing, Either, Maybe, Many, The, Behind, Listed, Placed, StartsAt}
-use Rattle.operation_notation.specs.GrammarTypes.{Range, RangeBehind, Size, SizeBehind, Item, Items, Part, Parts, Alternatives, narrow, Leaf, Plain, TypeBehind, Type_of}
+use Rattle.operation_notation.specs.GrammarTypes.{Range, RangeBehind, Size, SizeBehind, Item, Items, dflt_value, dflt_text, dflt_of, Absent, Part, Parts, Alternatives, narrow, Leaf, Plain, TypeBehind, Type_of}
 use Rattle.operation_notation.specs.GrammarModules.{NamedList, Code, HeadingSpelled}
 use Rattle.operation_notation.proofs.Outermost.{Use, SignatureSpelled, Operation, Error, OperationBody, ErrorBody, Assign, Module, OuterType}
 use Rattle.operation_notation.specs.Tree.{TypeTree, type_tree}
@@ -25,6 +25,11 @@ use Rattle.operation_notation.specs.declared.module.ModuleText.{ModuleText}
 use Rattle.operation_notation.specs.declared.module.Body.TheVariants as bodies
 use Rattle.operation_notation.specs.declared.assignments.Heading.{Heading}
 use Rattle.operation_notation.specs.declared.bodies.Signature.{Signature}
+use Rattle.std.specs.Prelude.{option_map}
+use Rattle.operation_notation.specs.declared.module.DfltText.{DfltText}
+use Rattle.operation_notation.specs.declared.module.DfltValue.{DfltValue}
+use Rattle.operation_notation.specs.declared.structure.Absence.{Absence}
+use Rattle.operation_notation.specs.WellFormed.{dflt_places}
 
 -- ---- the order of places
 
@@ -190,7 +195,7 @@ concat_items [] = refl
 concat_items (i ∷ is) = ap (λ (l : List Place). name_place i.name ∷ l) (concat_items is)
 
 abbrev one_part : PartText → List Place
-one_part p = name_place p.name ∷ type_places p.of
+one_part p = (name_place p.name ∷ type_places p.of) ++ dflt_places p.dflt
 
 concat_parts : (ps : List PartText) → concat one_part ps ≡ part_places (parts_of ps)
 concat_parts [] = refl
@@ -244,9 +249,25 @@ cov_leaf =
     (cov_either (whole (cov_skip [] (λ kind. cov_nothing [] plain_places refl)))
     (whole (cov_bind [] one_name cov_type_name (λ name. cov_right (cov_nothing _ plain_places refl)))))))))))
 
+abbrev absence_places : Absence → List Place
+absence_places a = dflt_places a.dflt
+
+dflt_place : (t : Lexeme) (d : DfltText) → dflt_of t ≡ Some d → dflt_places (Some d) ≡ place t ∷ []
+unfolding dflt_of
+dflt_place t d e = go (dflt_value t) e
+  where
+    go : (o : Option DfltValue) → option_map (dflt_text t) o ≡ Some d → dflt_places (Some d) ≡ place t ∷ []
+    go (Some v) h = let same_text : dflt_text t v ≡ d = cc in subst (λ (z : DfltText). dflt_places (Some z) ≡ place t ∷ []) same_text refl
+    go None h = absurd cc
+
+cov_absent : (may : Bool) → Cov (Absent may) absence_places
+cov_absent true = cov_either (whole (cov_skip [] (λ _. cov_nothing [] absence_places refl)))
+    (cov_either (whole (cov_skip [] (λ _. cov_bind [] (λ d. dflt_places (Some d)) (one_covers dflt_of (λ d. dflt_places (Some d)) dflt_place) (λ d. cov_nothing _ absence_places refl)))) (whole (cov_nothing [] absence_places refl)))
+cov_absent false = whole (cov_nothing [] absence_places refl)
+
 module _ (Inner : List Lexeme → TypeTree → Type 0) (inner : Cov Inner type_places) where
   cov_part : (may : Bool) → Cov (Part may Inner) one_part
-  cov_part may = whole (cov_bind [] one_name cov_value_name (λ name. cov_bind _ type_places inner (λ of. cov_skip _ (λ o. cov_nothing _ one_part refl))))
+  cov_part may = whole (cov_bind [] one_name cov_value_name (λ name. cov_bind _ type_places inner (λ of. cov_bind _ absence_places (cov_absent may) (λ o. cov_nothing _ one_part refl))))
 
   cov_parts : Cov (Parts Inner) (concat one_part)
   cov_parts = whole (cov_skip [] (λ _. cov_bind [] (concat one_part) (cov_either (whole (cov_nothing [] (concat one_part) refl)) (cov_listed (codes ",") (Part true Inner) one_part (cov_part true))) (λ parts. cov_skip _ (λ _. cov_nothing _ (concat one_part) refl))))
@@ -257,7 +278,7 @@ module _ (Inner : List Lexeme → TypeTree → Type 0) (inner : Cov Inner type_p
   cov_plain : Cov (Plain narrow Inner) plain_places
   cov_plain =
       cov_either (cov_behind (codes "SEQUENCE") (cov_either (cov_behind (codes "OF") (whole (cov_bind [] type_places inner (λ item. cov_nothing _ plain_places refl)))) (whole (cov_bind [] (concat one_part) cov_parts (λ ps. cov_nothing _ plain_places (sym (concat_parts ps)))))))
-      (cov_either (cov_behind (codes "SET") (whole (cov_bind [] (concat one_part) cov_parts (λ ps. cov_nothing _ plain_places (sym (concat_parts ps))))))
+      (cov_either (cov_behind (codes "SET") (cov_either (cov_behind (codes "OF") (whole (cov_bind [] type_places inner (λ item. cov_nothing _ plain_places refl)))) (whole (cov_bind [] (concat one_part) cov_parts (λ ps. cov_nothing _ plain_places (sym (concat_parts ps)))))))
       (cov_either (cov_behind (codes "CHOICE") (whole (cov_bind [] (concat one_part) cov_alternatives (λ ps. cov_nothing _ plain_places (sym (concat_parts ps)))))) cov_leaf))
 
   abbrev inside_places : TypeTree → List Place

@@ -6,8 +6,8 @@ use Rattle.std.specs.List.{AllByRecursion}
 use Rattle.notation_tokens.specs.Lexeme.{Lexeme, same}
 use Rattle.notation_tokens.specs.Words.{place, located, word_of, number, int, is_unsupported, is_value_name, type_name_of, value_name_of, text_kind_word}
 use Rattle.notation_tokens.specs.Lexing.{first_place}
-use Rattle.operation_notation.specs.Reading.{Read, refuse_as, kind_at, is_set_of, word_at, number_at, int_at, value_name_at, many_at}
-use Rattle.operation_notation.specs.ReadingTypes.{item_at, items_at, class_at, explicit_at, tag_at, optional_at, part_at, parts_at, alternatives_at, integer_at, octets_at, text_kind_at, text_or_name_at, leaf_at, sequence_at, set_at, choice_at, plain_at, type_text_at, type_words, starts_type, deep_kind, type_at, outer_type_at}
+use Rattle.operation_notation.specs.Reading.{Read, refuse_as, kind_at, word_at, number_at, int_at, value_name_at, many_at}
+use Rattle.operation_notation.specs.ReadingTypes.{item_at, items_at, class_at, explicit_at, tag_at, absence_at, absent_at, part_at, parts_at, alternatives_at, integer_at, octets_at, text_kind_at, text_or_name_at, leaf_at, sequence_at, set_at, choice_at, plain_at, type_text_at, type_words, starts_type, deep_kind, type_at, outer_type_at}
 use Rattle.operation_notation.specs.Grammar.{Placed}
 use Rattle.operation_notation.specs.GrammarTypes.{Extent, narrow, marked, wide, Null, TypeBehind, Type_of, OuterType}
 use Rattle.operation_notation.specs.GrammarModules.{Module}
@@ -17,11 +17,9 @@ use Rattle.notation_tokens.specs.declared.token.TokenKind.{TokenKind}
 use Rattle.notation_tokens.specs.declared.token.TokenKind.TheVariants.{Word, Number, Sign}
 use Rattle.notation_tokens.specs.declared.faults.NotationKind.TheVariants.{Unsupported, UnexpectedToken}
 use Rattle.operation_notation.proofs.Starts.{among, among_all, type_named, excludes_type_name}
-use Rattle.operation_notation.proofs.Chains.{or_right}
 use Rattle.operation_notation.proofs.TypeLaws.{law_type, starts_type_behind}
 use Rattle.operation_notation.proofs.Begun.{AreFillers, Filled, Goes, KindOf, Begun, begun_refuse, word_passes}
 use Rattle.operation_notation.proofs.BegunRules.{b_type_text}
-use Rattle.operation_notation.proofs.Clear.{not_set}
 use Rattle.operation_notation.proofs.BegunModules.{b_whole}
 
 -- ---- a text for each token with which a type begins
@@ -34,78 +32,77 @@ record Sample (t : Lexeme) : Type 0 where
   back : List Lexeme
   value : TypeTree
   filler : AreFillers back
-  apart : (u more : List Lexeme) → is_set_of (t ∷ u) ≡ false → is_set_of (t ∷ (back ++ more)) ≡ false
   spelled : Type_of wide 2 (t ∷ back) value
 
 -- what is read so is spelled so
-read_so : (t : Lexeme) (back : List Lexeme) (value : TypeTree) → AreFillers back → ((u more : List Lexeme) → is_set_of (t ∷ u) ≡ false → is_set_of (t ∷ (back ++ more)) ≡ false) → type_at wide 2 (t ∷ back) ≡ Ok (value, []) → Sample t
-read_so t back value filler apart e =
+read_so : (t : Lexeme) (back : List Lexeme) (value : TypeTree) → AreFillers back → type_at wide 2 (t ∷ back) ≡ Ok (value, []) → Sample t
+read_so t back value filler e =
     let x = (law_type wide 2).found (t ∷ back) value [] e in
-    record { back = back; value = value; filler = filler; apart = apart; spelled = subst (λ (z : List Lexeme). Type_of wide 2 z value) (sym (x.parts ∙ append-nil x.text)) x.spelled }
+    record { back = back; value = value; filler = filler; spelled = subst (λ (z : List Lexeme). Type_of wide 2 z value) (sym (x.parts ∙ append-nil x.text)) x.spelled }
 
 sample_tagged : (kind : TokenKind) (line column : ℕ) → Sample (record { kind = kind; text = codes "["; line = line; column = column })
-unfolding same type_at type_text_at plain_at sequence_at set_at choice_at alternatives_at parts_at part_at optional_at leaf_at text_or_name_at integer_at octets_at items_at item_at tag_at class_at explicit_at word_at word_of number_at number int_at int value_name_at value_name_of is_value_name text_kind_at text_kind_word many_at
-sample_tagged kind line column = read_so _ (tok Number (codes "0") ∷ tok Sign (codes "]") ∷ tok Word (codes "NULL") ∷ []) _ (record { form = inl refl; at = refl }, (record { form = inl refl; at = refl }, (record { form = inl refl; at = refl }, tt))) (λ u more e. refl) refl
+unfolding same type_at type_text_at plain_at sequence_at set_at choice_at alternatives_at parts_at part_at absence_at absent_at leaf_at text_or_name_at integer_at octets_at items_at item_at tag_at class_at explicit_at word_at word_of number_at number int_at int value_name_at value_name_of is_value_name text_kind_at text_kind_word many_at
+sample_tagged kind line column = read_so _ (tok Number (codes "0") ∷ tok Sign (codes "]") ∷ tok Word (codes "NULL") ∷ []) _ (record { form = inl refl; at = refl }, (record { form = inl refl; at = refl }, (record { form = inl refl; at = refl }, tt))) refl
 
 sample_sequence : (kind : TokenKind) (line column : ℕ) → Sample (record { kind = kind; text = codes "SEQUENCE"; line = line; column = column })
-unfolding same type_at type_text_at plain_at sequence_at set_at choice_at alternatives_at parts_at part_at optional_at leaf_at text_or_name_at integer_at octets_at items_at item_at tag_at class_at explicit_at word_at word_of number_at number int_at int value_name_at value_name_of is_value_name text_kind_at text_kind_word many_at
-sample_sequence kind line column = read_so _ (tok Sign (codes "{") ∷ tok Sign (codes "}") ∷ []) _ (record { form = inl refl; at = refl }, (record { form = inl refl; at = refl }, tt)) (λ u more e. refl) refl
+unfolding same type_at type_text_at plain_at sequence_at set_at choice_at alternatives_at parts_at part_at absence_at absent_at leaf_at text_or_name_at integer_at octets_at items_at item_at tag_at class_at explicit_at word_at word_of number_at number int_at int value_name_at value_name_of is_value_name text_kind_at text_kind_word many_at
+sample_sequence kind line column = read_so _ (tok Sign (codes "{") ∷ tok Sign (codes "}") ∷ []) _ (record { form = inl refl; at = refl }, (record { form = inl refl; at = refl }, tt)) refl
 
 sample_set : (kind : TokenKind) (line column : ℕ) → Sample (record { kind = kind; text = codes "SET"; line = line; column = column })
-unfolding same type_at type_text_at plain_at sequence_at set_at choice_at alternatives_at parts_at part_at optional_at leaf_at text_or_name_at integer_at octets_at items_at item_at tag_at class_at explicit_at word_at word_of number_at number int_at int value_name_at value_name_of is_value_name text_kind_at text_kind_word many_at
-sample_set kind line column = read_so _ (tok Sign (codes "{") ∷ tok Sign (codes "}") ∷ []) _ (record { form = inl refl; at = refl }, (record { form = inl refl; at = refl }, tt)) (λ u more e. refl) refl
+unfolding same type_at type_text_at plain_at sequence_at set_at choice_at alternatives_at parts_at part_at absence_at absent_at leaf_at text_or_name_at integer_at octets_at items_at item_at tag_at class_at explicit_at word_at word_of number_at number int_at int value_name_at value_name_of is_value_name text_kind_at text_kind_word many_at
+sample_set kind line column = read_so _ (tok Sign (codes "{") ∷ tok Sign (codes "}") ∷ []) _ (record { form = inl refl; at = refl }, (record { form = inl refl; at = refl }, tt)) refl
 
 sample_choice : (kind : TokenKind) (line column : ℕ) → Sample (record { kind = kind; text = codes "CHOICE"; line = line; column = column })
-unfolding same type_at type_text_at plain_at sequence_at set_at choice_at alternatives_at parts_at part_at optional_at leaf_at text_or_name_at integer_at octets_at items_at item_at tag_at class_at explicit_at word_at word_of number_at number int_at int value_name_at value_name_of is_value_name text_kind_at text_kind_word many_at
-sample_choice kind line column = read_so _ (tok Sign (codes "{") ∷ tok Word (codes "a") ∷ tok Word (codes "NULL") ∷ tok Sign (codes "}") ∷ []) _ (record { form = inl refl; at = refl }, (record { form = inl refl; at = refl }, (record { form = inl refl; at = refl }, (record { form = inl refl; at = refl }, tt)))) (λ u more e. refl) refl
+unfolding same type_at type_text_at plain_at sequence_at set_at choice_at alternatives_at parts_at part_at absence_at absent_at leaf_at text_or_name_at integer_at octets_at items_at item_at tag_at class_at explicit_at word_at word_of number_at number int_at int value_name_at value_name_of is_value_name text_kind_at text_kind_word many_at
+sample_choice kind line column = read_so _ (tok Sign (codes "{") ∷ tok Word (codes "a") ∷ tok Word (codes "NULL") ∷ tok Sign (codes "}") ∷ []) _ (record { form = inl refl; at = refl }, (record { form = inl refl; at = refl }, (record { form = inl refl; at = refl }, (record { form = inl refl; at = refl }, tt)))) refl
 
 sample_boolean : (kind : TokenKind) (line column : ℕ) → Sample (record { kind = kind; text = codes "BOOLEAN"; line = line; column = column })
-unfolding same type_at type_text_at plain_at sequence_at set_at choice_at alternatives_at parts_at part_at optional_at leaf_at text_or_name_at integer_at octets_at items_at item_at tag_at class_at explicit_at word_at word_of number_at number int_at int value_name_at value_name_of is_value_name text_kind_at text_kind_word many_at
-sample_boolean kind line column = read_so _ ([]) _ tt (λ u more e. refl) refl
+unfolding same type_at type_text_at plain_at sequence_at set_at choice_at alternatives_at parts_at part_at absence_at absent_at leaf_at text_or_name_at integer_at octets_at items_at item_at tag_at class_at explicit_at word_at word_of number_at number int_at int value_name_at value_name_of is_value_name text_kind_at text_kind_word many_at
+sample_boolean kind line column = read_so _ ([]) _ tt refl
 
 sample_null : (kind : TokenKind) (line column : ℕ) → Sample (record { kind = kind; text = codes "NULL"; line = line; column = column })
-unfolding same type_at type_text_at plain_at sequence_at set_at choice_at alternatives_at parts_at part_at optional_at leaf_at text_or_name_at integer_at octets_at items_at item_at tag_at class_at explicit_at word_at word_of number_at number int_at int value_name_at value_name_of is_value_name text_kind_at text_kind_word many_at
-sample_null kind line column = read_so _ ([]) _ tt (λ u more e. refl) refl
+unfolding same type_at type_text_at plain_at sequence_at set_at choice_at alternatives_at parts_at part_at absence_at absent_at leaf_at text_or_name_at integer_at octets_at items_at item_at tag_at class_at explicit_at word_at word_of number_at number int_at int value_name_at value_name_of is_value_name text_kind_at text_kind_word many_at
+sample_null kind line column = read_so _ ([]) _ tt refl
 
 sample_integer : (kind : TokenKind) (line column : ℕ) → Sample (record { kind = kind; text = codes "INTEGER"; line = line; column = column })
-unfolding same type_at type_text_at plain_at sequence_at set_at choice_at alternatives_at parts_at part_at optional_at leaf_at text_or_name_at integer_at octets_at items_at item_at tag_at class_at explicit_at word_at word_of number_at number int_at int value_name_at value_name_of is_value_name text_kind_at text_kind_word many_at
-sample_integer kind line column = read_so _ ([]) _ tt (λ u more e. refl) refl
+unfolding same type_at type_text_at plain_at sequence_at set_at choice_at alternatives_at parts_at part_at absence_at absent_at leaf_at text_or_name_at integer_at octets_at items_at item_at tag_at class_at explicit_at word_at word_of number_at number int_at int value_name_at value_name_of is_value_name text_kind_at text_kind_word many_at
+sample_integer kind line column = read_so _ ([]) _ tt refl
 
 sample_enumerated : (kind : TokenKind) (line column : ℕ) → Sample (record { kind = kind; text = codes "ENUMERATED"; line = line; column = column })
-unfolding same type_at type_text_at plain_at sequence_at set_at choice_at alternatives_at parts_at part_at optional_at leaf_at text_or_name_at integer_at octets_at items_at item_at tag_at class_at explicit_at word_at word_of number_at number int_at int value_name_at value_name_of is_value_name text_kind_at text_kind_word many_at
-sample_enumerated kind line column = read_so _ (tok Sign (codes "{") ∷ tok Word (codes "a") ∷ tok Sign (codes "(") ∷ tok Number (codes "0") ∷ tok Sign (codes ")") ∷ tok Sign (codes "}") ∷ []) _ (record { form = inl refl; at = refl }, (record { form = inl refl; at = refl }, (record { form = inl refl; at = refl }, (record { form = inl refl; at = refl }, (record { form = inl refl; at = refl }, (record { form = inl refl; at = refl }, tt)))))) (λ u more e. refl) refl
+unfolding same type_at type_text_at plain_at sequence_at set_at choice_at alternatives_at parts_at part_at absence_at absent_at leaf_at text_or_name_at integer_at octets_at items_at item_at tag_at class_at explicit_at word_at word_of number_at number int_at int value_name_at value_name_of is_value_name text_kind_at text_kind_word many_at
+sample_enumerated kind line column = read_so _ (tok Sign (codes "{") ∷ tok Word (codes "a") ∷ tok Sign (codes "(") ∷ tok Number (codes "0") ∷ tok Sign (codes ")") ∷ tok Sign (codes "}") ∷ []) _ (record { form = inl refl; at = refl }, (record { form = inl refl; at = refl }, (record { form = inl refl; at = refl }, (record { form = inl refl; at = refl }, (record { form = inl refl; at = refl }, (record { form = inl refl; at = refl }, tt)))))) refl
 
 sample_octets : (kind : TokenKind) (line column : ℕ) → Sample (record { kind = kind; text = codes "OCTET"; line = line; column = column })
-unfolding same type_at type_text_at plain_at sequence_at set_at choice_at alternatives_at parts_at part_at optional_at leaf_at text_or_name_at integer_at octets_at items_at item_at tag_at class_at explicit_at word_at word_of number_at number int_at int value_name_at value_name_of is_value_name text_kind_at text_kind_word many_at
-sample_octets kind line column = read_so _ (tok Word (codes "STRING") ∷ []) _ (record { form = inl refl; at = refl }, tt) (λ u more e. refl) refl
+unfolding same type_at type_text_at plain_at sequence_at set_at choice_at alternatives_at parts_at part_at absence_at absent_at leaf_at text_or_name_at integer_at octets_at items_at item_at tag_at class_at explicit_at word_at word_of number_at number int_at int value_name_at value_name_of is_value_name text_kind_at text_kind_word many_at
+sample_octets kind line column = read_so _ (tok Word (codes "STRING") ∷ []) _ (record { form = inl refl; at = refl }, tt) refl
 
 sample_bits : (kind : TokenKind) (line column : ℕ) → Sample (record { kind = kind; text = codes "BIT"; line = line; column = column })
-unfolding same type_at type_text_at plain_at sequence_at set_at choice_at alternatives_at parts_at part_at optional_at leaf_at text_or_name_at integer_at octets_at items_at item_at tag_at class_at explicit_at word_at word_of number_at number int_at int value_name_at value_name_of is_value_name text_kind_at text_kind_word many_at
-sample_bits kind line column = read_so _ (tok Word (codes "STRING") ∷ []) _ (record { form = inl refl; at = refl }, tt) (λ u more e. refl) refl
+unfolding same type_at type_text_at plain_at sequence_at set_at choice_at alternatives_at parts_at part_at absence_at absent_at leaf_at text_or_name_at integer_at octets_at items_at item_at tag_at class_at explicit_at word_at word_of number_at number int_at int value_name_at value_name_of is_value_name text_kind_at text_kind_word many_at
+sample_bits kind line column = read_so _ (tok Word (codes "STRING") ∷ []) _ (record { form = inl refl; at = refl }, tt) refl
 
 sample_object : (kind : TokenKind) (line column : ℕ) → Sample (record { kind = kind; text = codes "OBJECT"; line = line; column = column })
-unfolding same type_at type_text_at plain_at sequence_at set_at choice_at alternatives_at parts_at part_at optional_at leaf_at text_or_name_at integer_at octets_at items_at item_at tag_at class_at explicit_at word_at word_of number_at number int_at int value_name_at value_name_of is_value_name text_kind_at text_kind_word many_at
-sample_object kind line column = read_so _ (tok Word (codes "IDENTIFIER") ∷ []) _ (record { form = inl refl; at = refl }, tt) (λ u more e. refl) refl
+unfolding same type_at type_text_at plain_at sequence_at set_at choice_at alternatives_at parts_at part_at absence_at absent_at leaf_at text_or_name_at integer_at octets_at items_at item_at tag_at class_at explicit_at word_at word_of number_at number int_at int value_name_at value_name_of is_value_name text_kind_at text_kind_word many_at
+sample_object kind line column = read_so _ (tok Word (codes "IDENTIFIER") ∷ []) _ (record { form = inl refl; at = refl }, tt) refl
 
 sample_text_0 : (kind : TokenKind) (line column : ℕ) → Sample (record { kind = kind; text = codes "UTF8String"; line = line; column = column })
-unfolding same type_at type_text_at plain_at sequence_at set_at choice_at alternatives_at parts_at part_at optional_at leaf_at text_or_name_at integer_at octets_at items_at item_at tag_at class_at explicit_at word_at word_of number_at number int_at int value_name_at value_name_of is_value_name text_kind_at text_kind_word many_at
-sample_text_0 kind line column = read_so _ ([]) _ tt (λ u more e. refl) refl
+unfolding same type_at type_text_at plain_at sequence_at set_at choice_at alternatives_at parts_at part_at absence_at absent_at leaf_at text_or_name_at integer_at octets_at items_at item_at tag_at class_at explicit_at word_at word_of number_at number int_at int value_name_at value_name_of is_value_name text_kind_at text_kind_word many_at
+sample_text_0 kind line column = read_so _ ([]) _ tt refl
 
 sample_text_1 : (kind : TokenKind) (line column : ℕ) → Sample (record { kind = kind; text = codes "IA5String"; line = line; column = column })
-unfolding same type_at type_text_at plain_at sequence_at set_at choice_at alternatives_at parts_at part_at optional_at leaf_at text_or_name_at integer_at octets_at items_at item_at tag_at class_at explicit_at word_at word_of number_at number int_at int value_name_at value_name_of is_value_name text_kind_at text_kind_word many_at
-sample_text_1 kind line column = read_so _ ([]) _ tt (λ u more e. refl) refl
+unfolding same type_at type_text_at plain_at sequence_at set_at choice_at alternatives_at parts_at part_at absence_at absent_at leaf_at text_or_name_at integer_at octets_at items_at item_at tag_at class_at explicit_at word_at word_of number_at number int_at int value_name_at value_name_of is_value_name text_kind_at text_kind_word many_at
+sample_text_1 kind line column = read_so _ ([]) _ tt refl
 
 sample_text_2 : (kind : TokenKind) (line column : ℕ) → Sample (record { kind = kind; text = codes "VisibleString"; line = line; column = column })
-unfolding same type_at type_text_at plain_at sequence_at set_at choice_at alternatives_at parts_at part_at optional_at leaf_at text_or_name_at integer_at octets_at items_at item_at tag_at class_at explicit_at word_at word_of number_at number int_at int value_name_at value_name_of is_value_name text_kind_at text_kind_word many_at
-sample_text_2 kind line column = read_so _ ([]) _ tt (λ u more e. refl) refl
+unfolding same type_at type_text_at plain_at sequence_at set_at choice_at alternatives_at parts_at part_at absence_at absent_at leaf_at text_or_name_at integer_at octets_at items_at item_at tag_at class_at explicit_at word_at word_of number_at number int_at int value_name_at value_name_of is_value_name text_kind_at text_kind_word many_at
+sample_text_2 kind line column = read_so _ ([]) _ tt refl
 
 sample_text_3 : (kind : TokenKind) (line column : ℕ) → Sample (record { kind = kind; text = codes "PrintableString"; line = line; column = column })
-unfolding same type_at type_text_at plain_at sequence_at set_at choice_at alternatives_at parts_at part_at optional_at leaf_at text_or_name_at integer_at octets_at items_at item_at tag_at class_at explicit_at word_at word_of number_at number int_at int value_name_at value_name_of is_value_name text_kind_at text_kind_word many_at
-sample_text_3 kind line column = read_so _ ([]) _ tt (λ u more e. refl) refl
+unfolding same type_at type_text_at plain_at sequence_at set_at choice_at alternatives_at parts_at part_at absence_at absent_at leaf_at text_or_name_at integer_at octets_at items_at item_at tag_at class_at explicit_at word_at word_of number_at number int_at int value_name_at value_name_of is_value_name text_kind_at text_kind_word many_at
+sample_text_3 kind line column = read_so _ ([]) _ tt refl
 
 sample_text_4 : (kind : TokenKind) (line column : ℕ) → Sample (record { kind = kind; text = codes "NumericString"; line = line; column = column })
-unfolding same type_at type_text_at plain_at sequence_at set_at choice_at alternatives_at parts_at part_at optional_at leaf_at text_or_name_at integer_at octets_at items_at item_at tag_at class_at explicit_at word_at word_of number_at number int_at int value_name_at value_name_of is_value_name text_kind_at text_kind_word many_at
-sample_text_4 kind line column = read_so _ ([]) _ tt (λ u more e. refl) refl
+unfolding same type_at type_text_at plain_at sequence_at set_at choice_at alternatives_at parts_at part_at absence_at absent_at leaf_at text_or_name_at integer_at octets_at items_at item_at tag_at class_at explicit_at word_at word_of number_at number int_at int value_name_at value_name_of is_value_name text_kind_at text_kind_word many_at
+sample_text_4 kind line column = read_so _ ([]) _ tt refl
 
 abbrev Sampled : List ℕ → Type 0
 Sampled w = (kind : TokenKind) (line column : ℕ) → Sample (record { kind = kind; text = w; line = line; column = column })
@@ -123,7 +120,6 @@ sample_name t e = record {
   back = [];
   value = type_tree t.line t.column None (named (located t));
   filler = tt;
-  apart = λ u more f. not_set t more u (excludes_type_name (codes "SET" ∷ []) refl t e) ∙ f;
   spelled = record {
     at = place t;
     starts = refl;
@@ -152,21 +148,13 @@ sample t u e =
       | inr h ↦ sample_name t h
     ]
 
-deep_goes : (t : Lexeme) (u : List Lexeme) → starts_type (t ∷ u) ≡ true → is_set_of (t ∷ u) ≡ false → Goes (Type_of wide 2) [] t u
-deep_goes t u e plain = let x = sample t u e in record { back = x.back; value = x.value; filler = x.filler; alike = λ more. plain ∙ sym (x.apart u more plain); spelled = x.spelled }
+deep_goes : (t : Lexeme) (u : List Lexeme) → starts_type (t ∷ u) ≡ true → Goes (Type_of wide 2) [] t
+deep_goes t u e = let x = sample t u e in record { back = x.back; value = x.value; filler = x.filler; spelled = x.spelled }
 
 -- ---- kinds
 
-pub set_of_kind : (t : Lexeme) (u : List Lexeme) → is_set_of (t ∷ u) ≡ true → kind_at (t ∷ u) ≡ Unsupported
-unfolding kind_at
-set_of_kind t u e = ap (λ (b : Bool). if b then Unsupported else UnexpectedToken) (or_right (is_unsupported t.text) (is_set_of (t ∷ u)) e)
-
-begins_kind : (t : Lexeme) (u : List Lexeme) → starts_type (t ∷ u) ≡ true → (b : Bool) → is_set_of (t ∷ u) ≡ b → KindOf true (Type_of wide 2) [] (t ∷ u) Unsupported
-begins_kind t u e true is = inl (sym (set_of_kind t u is))
-begins_kind t u e false is = inr (refl, λ st. deep_goes t u e is)
-
 wide_step : (t : Lexeme) (u : List Lexeme) (b : Bool) → starts_type (t ∷ u) ≡ b → KindOf true (Type_of wide 2) [] (t ∷ u) (if b then Unsupported else kind_at (t ∷ u))
-wide_step t u true e = begins_kind t u e (is_set_of (t ∷ u)) refl
+wide_step t u true e = inr (refl, λ st. deep_goes t u e)
 wide_step t u false e = inl refl
 
 wide_deep : (ts : List Lexeme) → KindOf true (Type_of wide 2) [] ts (deep_kind ts)

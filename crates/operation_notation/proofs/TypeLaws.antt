@@ -6,15 +6,16 @@ use Rattle.std.specs.Str.{bytes_eq}
 use Rattle.std.proofs.lemmas.Bool.{not-false, or_parts}
 use Rattle.notation_tokens.specs.Lexeme.{Lexeme, same, begins}
 use Rattle.notation_tokens.specs.Words.{number, number_of, most_32, most_64, end_of, int_of, type_name_of, value_name_of, text_kind_of, text_kind_word, located}
-use Rattle.operation_notation.specs.Reading.{◌>>=◌, give, Read, refuse, refuse_as, token_at, word_at, number_at, number_64_at, int_at, end_at, type_name_at, value_name_at, maybe_at, listed_at, is_set_of}
-use Rattle.operation_notation.specs.ReadingTypes.{range_at, size_at, item_at, items_at, class_at, explicit_at, tag_at, optional_at, part_at, parts_at, alternatives_at, integer_at, octets_at, text_kind, text_kind_at, text_or_name_at, named_at, leaf_at, sequence_at, set_at, choice_at, plain_at, type_text_at, deep_kind, starts_mark, type_at, outer_type_at}
+use Rattle.operation_notation.specs.Reading.{◌>>=◌, give, Read, refuse, refuse_as, token_at, word_at, number_at, number_64_at, int_at, end_at, type_name_at, value_name_at, maybe_at, listed_at}
+use Rattle.operation_notation.specs.ReadingTypes.{range_at, size_at, item_at, items_at, class_at, explicit_at, tag_at, dflt_at, absence_at, absent_at, part_at, parts_at, alternatives_at, integer_at, octets_at, text_kind, text_kind_at, text_or_name_at, named_at, leaf_at, sequence_at, set_at, choice_at, plain_at, type_text_at, deep_kind, starts_mark, type_at, outer_type_at}
 use Rattle.operation_notation.specs.Grammar.{One, Then, Nothing, Either, Where, The, Listed, Placed}
-use Rattle.operation_notation.specs.GrammarTypes.{Range, Number64, Size, Item, Items, Class, Explicit, Tag, Optional, Part, Parts, Alternatives, Integer, OctetString, Text, Named, Leaf, Sequence, Set, Choice, Plain, TypeBehind, Type_of, OuterType, Extent, is_empty, mark_of}
+use Rattle.operation_notation.specs.GrammarTypes.{Range, Number64, Size, Item, Items, Class, Explicit, Tag, dflt_of, standing, optional, by_default, Absent, Part, Parts, Alternatives, Integer, OctetString, Text, Named, Leaf, Sequence, Set, Choice, Plain, TypeBehind, Type_of, OuterType, Extent, is_empty, mark_of}
 use Rattle.operation_notation.specs.Tree.{TypeTree, type_tree, PlainTree, null, named, text, set}
 use Rattle.operation_notation.specs.TreeView.{parts_of}
 use Rattle.notation_tokens.specs.declared.faults.NotationKind.TheVariants.{Unsupported}
 use Rattle.notation_tokens.specs.declared.token.Place.{Place}
 use Rattle.notation_tokens.specs.declared.token.Located.{Located}
+use Rattle.operation_notation.specs.declared.structure.Absence.{Absence}
 use Rattle.operation_notation.proofs.Means.{Front, Law, never, law_one, law_word, law_nothing, law_choice}
 use Rattle.operation_notation.proofs.Starts.{Headed, Starts, starts_then, starts_one, starts_either, among, Excludes, excludes_among, excludes_type_name, excludes_value_name, type_named, value_named, begins_any, headed_not, fewer, fewer_one, starts_the, starts_word}
 use Rattle.operation_notation.proofs.Chains.{map_law, closes, closes_under, closed_by, excludes_text, MayStart, Picked, picks, weaker_headed, word_or_named, more_or_named, starts_maybe, or_left, or_right, or_named, excludes_or_named, next, law_any, law_behind, starts_behind, may_starts, may_then, may_nothing, may_either, behind_may, behind_starts, behind_word, same_excludes, law_placed, pick, pick_may, maybe_word, law_listed}
@@ -160,26 +161,43 @@ abbrev pub type_stops : List (List ℕ)
 type_stops = codes "(" ∷ codes "{" ∷ []
 
 abbrev pub part_stops : List (List ℕ)
-part_stops = codes "OPTIONAL" ∷ codes "(" ∷ codes "{" ∷ []
+part_stops = codes "OPTIONAL" ∷ codes "DEFAULT" ∷ codes "(" ∷ codes "{" ∷ []
 
-law_optional : (may : Bool) → Law (Optional may) (optional_at may) (begins_any part_stops)
-unfolding optional_at
-law_optional false = law_nothing false (begins_any part_stops)
-law_optional true =
-    pick_may (begins_any part_stops) (codes "OPTIONAL") (among []) (law_stands (codes "OPTIONAL") true) (law_nothing false (begins_any part_stops)) (starts_stands (codes "OPTIONAL") true) (may_nothing false (among []))
-    (excludes_among [] (codes "OPTIONAL" ∷ []) refl) (fewer_one (codes "OPTIONAL") part_stops refl) (λ rest st. refl) (λ rest st. st)
+abbrev Defaulted : List Lexeme → Absence → Type 0
+Defaulted = Then (The (codes "DEFAULT")) (λ _. Then (One dflt_of) (λ d. Nothing (by_default d)))
 
-may_optional : (may : Bool) → MayStart (Optional may) (among (codes "OPTIONAL" ∷ []))
-may_optional false = may_nothing false (among (codes "OPTIONAL" ∷ []))
-may_optional true = may_either (may_stands (codes "OPTIONAL") true (codes "OPTIONAL" ∷ []) refl) (may_nothing false (among (codes "OPTIONAL" ∷ [])))
+law_defaulted : Law Defaulted (word_at (codes "DEFAULT") >>= λ _. dflt_at >>= λ d. give (by_default d)) never
+unfolding dflt_at
+law_defaulted = next (law_word (codes "DEFAULT")) (λ _. map_law _ (law_one dflt_of))
+
+law_absence : Law (Absent true) absence_at (begins_any part_stops)
+unfolding absence_at
+law_absence =
+    pick_may (begins_any part_stops) (codes "OPTIONAL") (among (codes "DEFAULT" ∷ [])) (law_stands (codes "OPTIONAL") optional)
+    (pick_may (begins_any part_stops) (codes "DEFAULT") (among []) law_defaulted (law_nothing standing (begins_any part_stops)) (starts_then _ _ _ (starts_the (codes "DEFAULT"))) (may_nothing standing (among []))
+    (excludes_among [] (codes "DEFAULT" ∷ []) refl) (fewer_one (codes "DEFAULT") part_stops refl) (λ rest st. refl) (λ rest st. st))
+    (starts_stands (codes "OPTIONAL") optional) (may_either (may_starts (starts_then _ _ _ (starts_word (codes "DEFAULT") (codes "DEFAULT" ∷ []) refl))) (may_nothing standing (among (codes "DEFAULT" ∷ []))))
+    (excludes_among (codes "DEFAULT" ∷ []) (codes "OPTIONAL" ∷ []) refl) (fewer_one (codes "OPTIONAL") part_stops refl) (λ rest st. refl) (λ rest st. st)
+
+law_absent : (may : Bool) → Law (Absent may) (absent_at may) (begins_any part_stops)
+unfolding absent_at
+law_absent false = law_nothing standing (begins_any part_stops)
+law_absent true = law_absence
+
+abbrev absences : List (List ℕ)
+absences = codes "OPTIONAL" ∷ codes "DEFAULT" ∷ []
+
+may_absent : (may : Bool) → MayStart (Absent may) (among absences)
+may_absent false = may_nothing standing (among absences)
+may_absent true = may_either (may_stands (codes "OPTIONAL") optional absences refl) (may_either (may_starts (starts_then _ _ _ (starts_word (codes "DEFAULT") absences refl))) (may_nothing standing (among absences)))
 
 module _ (Inner : List Lexeme → TypeTree → Type 0) (inner : List Lexeme → Read TypeTree) (law : Law Inner inner (begins_any type_stops)) where
   law_part : (may : Bool) → Law (Part may Inner) (part_at may inner) (begins_any part_stops)
   unfolding part_at
-  law_part may = next law_value_name (λ name. behind_may type_stops part_stops (among (codes "OPTIONAL" ∷ [])) law
-      (λ of. map_law _ (law_optional may))
-      (λ of. may_then (may_optional may) (λ o. may_nothing _ (among (codes "OPTIONAL" ∷ []))))
-      (excludes_among (codes "OPTIONAL" ∷ []) type_stops refl) refl)
+  law_part may = next law_value_name (λ name. behind_may type_stops part_stops (among absences) law
+      (λ of. map_law _ (law_absent may))
+      (λ of. may_then (may_absent may) (λ o. may_nothing _ (among absences)))
+      (excludes_among absences type_stops refl) refl)
 
   law_listed_parts : (may : Bool) → Law (Listed (codes ",") (Part may Inner)) (listed_at (codes ",") (part_at may inner)) (begins_any (codes "," ∷ part_stops))
   law_listed_parts may = law_listed part_stops (codes "," ∷ part_stops) (codes ",") (law_part may) refl refl refl
@@ -298,13 +316,6 @@ law_leaf ext =
 abbrev pub plain_words : List (List ℕ)
 plain_words = codes "SEQUENCE" ∷ codes "SET" ∷ codes "CHOICE" ∷ leaf_words
 
-and_false : (b : Bool) → b && false ≡ false
-and_false true = refl
-and_false false = refl
-
-set_only : (text rest : List Lexeme) → Headed (λ t. same t.text (codes "{")) text → begins (codes "OF") (text ++ rest) ≡ false
-set_only x rest h = headed_not (λ t. same t.text (codes "{")) (codes "OF") x rest h (same_excludes (codes "{") (codes "OF" ∷ []) refl)
-
 module _ (ext : Extent) (Inner : List Lexeme → TypeTree → Type 0) (inner : List Lexeme → Read TypeTree) (law : Law Inner inner (begins_any type_stops)) where
   law_sequence : Law (Sequence Inner) (sequence_at inner) (begins_any type_stops)
   unfolding sequence_at
@@ -316,25 +327,11 @@ module _ (ext : Extent) (Inner : List Lexeme → TypeTree → Type 0) (inner : L
   unfolding choice_at
   law_choice_type = next (law_word (codes "CHOICE")) (λ _. law_any type_stops (map_law _ (law_alternatives Inner inner law)))
 
-  set_law : Law (Set Inner) (word_at (codes "SET") >>= λ _. parts_at inner >>= λ parts. give (set (parts_of parts))) (begins_any type_stops)
-  set_law = next (law_word (codes "SET")) (λ _. law_any type_stops (map_law _ (law_parts Inner inner law)))
-
-  set_found : (b : Bool) (ts : List Lexeme) (a : PlainTree) (rest : List Lexeme) → (if b then refuse ts else (word_at (codes "SET") >>= λ _. parts_at inner >>= λ parts. give (set (parts_of parts))) ts) ≡ Ok (a, rest) → Front (Set Inner) ts a rest
-  set_found true ts a rest e = absurd cc
-  set_found false ts a rest e = set_law.found ts a rest e
-
-  not_set_of : (text : List Lexeme) (a : PlainTree) (rest : List Lexeme) → Set Inner text a → is_set_of (text ++ rest) ≡ false
-  not_set_of x a rest d =
-      let whole : x ++ rest ≡ d.first.token ∷ (d.back ++ rest) = ap (λ (z : List Lexeme). z ++ rest) (d.whole ∙ ap (λ (z : List Lexeme). z ++ d.back) d.first.alone) in
-      let no_of : begins (codes "OF") (d.back ++ rest) ≡ false = set_only d.back rest (starts_then _ _ (λ t. same t.text (codes "{")) (starts_then _ _ (λ t. same t.text (codes "{")) (starts_the (codes "{"))) d.back a d.second) in
-      ap is_set_of whole ∙ ap (λ (b : Bool). same d.first.token.text (codes "SET") && b) no_of ∙ and_false (same d.first.token.text (codes "SET"))
-
   law_set : Law (Set Inner) (set_at inner) (begins_any type_stops)
   unfolding set_at
-  law_set = record {
-    found = λ ts a rest e. set_found (is_set_of ts) ts a rest e;
-    only = λ text a rest d st. ap (λ (b : Bool). if b then refuse (text ++ rest) else (word_at (codes "SET") >>= λ _. parts_at inner >>= λ parts. give (set (parts_of parts))) (text ++ rest)) (not_set_of text a rest d) ∙ set_law.only text a rest d st;
-  }
+  law_set = next (law_word (codes "SET")) (λ _. pick (begins_any type_stops) (codes "OF") (λ t. same t.text (codes "{"))
+      (law_behind (codes "OF") (map_law _ law)) (map_law _ (law_parts Inner inner law))
+      (starts_behind (codes "OF") _) (starts_then _ _ _ (starts_then _ _ _ (starts_the (codes "{")))) (same_excludes (codes "{") (codes "OF" ∷ []) refl) (λ rest st. st) (λ rest st. refl))
 
   law_plain : Picked (Plain ext Inner) (plain_at ext inner) plain_words (begins_any type_stops)
   unfolding plain_at

@@ -7,7 +7,7 @@ use Rattle.notation_tokens.specs.Forms.{has_form}
 use Rattle.notation_tokens.specs.Lexeme.{Lexeme, same, IsSpan, lexemes}
 use Rattle.notation_tokens.specs.Words.{is_type_name, is_value_name, is_kind_word, is_quoted, is_unsupported, begins_upper, begins_lower, type_name_of, value_name_of, text_kind_of, text_kind_word, located, number_of, most_32}
 use Rattle.operation_notation.specs.Grammar.{One, Then, Nothing, Either, Maybe, Many, Behind, Listed, Placed}
-use Rattle.operation_notation.specs.GrammarTypes.{Item, Items, Class, Tag, Optional, Part, Parts, Alternatives, narrow, Leaf, Plain, TypeBehind, Type_of}
+use Rattle.operation_notation.specs.GrammarTypes.{Item, Items, Class, Tag, dflt_value, dflt_text, dflt_of, Absent, Part, Parts, Alternatives, narrow, Leaf, Plain, TypeBehind, Type_of}
 use Rattle.operation_notation.specs.GrammarModules.{NamedList, Code, HeadingSpelled}
 use Rattle.operation_notation.proofs.Outermost.{Use, SignatureSpelled, Operation, Error, OperationBody, ErrorBody, Assign, Module, OuterType}
 use Rattle.operation_notation.specs.Tree.{TypeTree}
@@ -27,6 +27,15 @@ use Rattle.notation_tokens.proofs.Spans.{lexed_spans}
 use Rattle.operation_notation.proofs.Rises.{module_rises}
 use Rattle.notation_tokens.specs.declared.faults.NotationFault.{NotationFault}
 use Rattle.notation_tokens.proofs.Names.{lower_is_word, upper_is_word}
+use Rattle.std.specs.Prelude.{option_map, ℤ}
+use Rattle.std.specs.Option.{option_or}
+use Rattle.operation_notation.specs.declared.module.DfltText.{DfltText}
+use Rattle.operation_notation.specs.declared.module.DfltValue.{DfltValue}
+use Rattle.operation_notation.specs.declared.module.DfltValue.TheVariants as values
+use Rattle.operation_notation.specs.declared.structure.Absence.{Absence}
+use Rattle.notation_tokens.specs.Words.{bool_of, int_of}
+use Rattle.operation_notation.specs.GrammarTypes.{item_value}
+use Rattle.operation_notation.specs.WellFormed.{IsWellValue, MayLack}
 
 abbrev pub Good : Lexeme → Type 0
 Good t = IsTrue (has_form t.kind t.text)
@@ -144,12 +153,36 @@ well_number = well_one (number_of most_32) (λ n. n ≤ 4294967295) (λ t n g e.
 well_tag : Well Tag IsTag
 well_tag = well_skip (λ _. well_bind (λ c. c ≤ 3) well_class (λ class c. well_bind (λ n. n ≤ 4294967295) well_number (λ number n. well_skip (λ _. well_skip (λ explicit. well_nothing IsTag (record { class = c; number = n }))))))
 
-well_optional : (may : Bool) → Well (Optional may) (λ o. not may && o ≡ false)
-well_optional true = λ ts a f d. refl
-well_optional false = well_nothing (λ o. o ≡ false) refl
+value_well : (t : Lexeme) (v : DfltValue) → Good t → dflt_value t ≡ Some v → IsWellValue v
+unfolding value_name_of
+value_well t v g e = go (bool_of t) (int_of t) (is_value_name t.kind t.text) refl e
+  where
+    go : (b : Option Bool) (n : Option ℤ) (is : Bool) → is_value_name t.kind t.text ≡ is → option_or (option_map values.Truth b) (option_or (option_map values.Number n) (option_map item_value (if is then Some (located t) else None))) ≡ Some v → IsWellValue v
+    go (Some x) n is i h = let same_value : values.Truth x ≡ v = cc in subst IsWellValue same_value tt
+    go None (Some x) is i h = let same_value : values.Number x ≡ v = cc in subst IsWellValue same_value tt
+    go None None true i h = let same_value : values.Item t.text ≡ v = cc in subst IsWellValue same_value (lower_is_word t.kind t.text i g, value_lower t.kind t.text i)
+    go None None false i h = absurd cc
+
+dflt_well : (t : Lexeme) (d : DfltText) → Good t → dflt_of t ≡ Some d → IsWellValue d.value
+unfolding dflt_of
+dflt_well t d g e = go (dflt_value t) refl e
+  where
+    go : (o : Option DfltValue) → dflt_value t ≡ o → option_map (dflt_text t) o ≡ Some d → IsWellValue d.value
+    go (Some v) i h = let same_text : dflt_text t v ≡ d = cc in subst (λ (z : DfltText). IsWellValue z.value) same_text (value_well t v g i)
+    go None i h = absurd cc
+
+well_dflt : Well (One dflt_of) (λ d. IsWellValue d.value)
+well_dflt = well_one dflt_of (λ d. IsWellValue d.value) dflt_well
+
+abbrev WellAbsence : Bool → Absence → Type 0
+WellAbsence may a = MayLack may a.optional a.dflt
+
+well_absent : (may : Bool) → Well (Absent may) (WellAbsence may)
+well_absent true = well_either (well_skip (λ _. well_nothing (WellAbsence true) refl)) (well_either (well_skip (λ _. well_bind (λ d. IsWellValue d.value) well_dflt (λ d v. well_nothing (WellAbsence true) (refl, refl, v)))) (well_nothing (WellAbsence true) refl))
+well_absent false = well_nothing (WellAbsence false) refl
 
 abbrev WellPart : Bool → PartText → Type 0
-WellPart may p = IsValueName p.name × IsWellType p.of × (not may && p.optional ≡ false)
+WellPart may p = IsValueName p.name × IsWellType p.of × MayLack may p.optional p.dflt
 
 parts_well : (may : Bool) (ps : List PartText) → AllByRecursion (WellPart may) ps → AreWellParts may (parts_of ps)
 parts_well may [] all = tt
@@ -185,7 +218,7 @@ well_leaf =
 
 module _ (Inner : List Lexeme → TypeTree → Type 0) (inner : Well Inner IsWellType) where
   well_part : (may : Bool) → Well (Part may Inner) (WellPart may)
-  well_part may = well_bind IsValueName well_value_name (λ name n. well_bind IsWellType inner (λ of t. well_bind (λ o. not may && o ≡ false) (well_optional may) (λ optional o. well_nothing (WellPart may) (n, t, o))))
+  well_part may = well_bind IsValueName well_value_name (λ name n. well_bind IsWellType inner (λ of t. well_bind (WellAbsence may) (well_absent may) (λ absence o. well_nothing (WellPart may) (n, t, o))))
 
   well_parts : Well (Parts Inner) (AllByRecursion (WellPart true))
   well_parts = well_skip (λ _. well_bind (AllByRecursion (WellPart true))
@@ -198,7 +231,7 @@ module _ (Inner : List Lexeme → TypeTree → Type 0) (inner : Well Inner IsWel
   well_plain : Well (Plain narrow Inner) IsWellPlain
   well_plain =
       well_either (well_skip (λ _. well_either (well_skip (λ _. well_bind IsWellType inner (λ item t. well_nothing IsWellPlain t))) (well_bind (AllByRecursion (WellPart true)) well_parts (λ parts p. well_nothing IsWellPlain (parts_well true parts p)))))
-      (well_either (well_skip (λ _. well_bind (AllByRecursion (WellPart true)) well_parts (λ parts p. well_nothing IsWellPlain (parts_well true parts p))))
+      (well_either (well_skip (λ _. well_either (well_skip (λ _. well_bind IsWellType inner (λ item t. well_nothing IsWellPlain t))) (well_bind (AllByRecursion (WellPart true)) well_parts (λ parts p. well_nothing IsWellPlain (parts_well true parts p)))))
       (well_either (well_skip (λ _. well_bind (SomeAll (WellPart false)) well_alternatives (λ parts p. well_nothing IsWellPlain (has_part parts p.0, parts_well false parts p.1)))) well_leaf))
 
   well_type_behind : (at : Place) → Well (TypeBehind narrow Inner at) IsWellType

@@ -5,7 +5,7 @@ use Rattle.std.specs.Prelude.{◌⊎◌, ◌||◌, is_some, if◌then◌else◌}
 use Rattle.std.specs.List.{list_any}
 use Rattle.notation_tokens.specs.Lexeme.{Lexeme, same, begins, goes_on}
 use Rattle.notation_tokens.specs.Words.{is_type_name, type_name_of, text_kind_word}
-use Rattle.operation_notation.specs.Reading.{◌>>=◌, after, give, here, Failure, Read, refuse, kind_at, is_set_of, token_at, word_at, type_name_at, value_name_at, maybe_at, many_at, all_at, listed_at}
+use Rattle.operation_notation.specs.Reading.{◌>>=◌, after, give, here, Failure, Read, refuse, kind_at, token_at, word_at, type_name_at, value_name_at, maybe_at, many_at, all_at, listed_at}
 use Rattle.operation_notation.specs.ReadingTypes.{starts_name, tag_at, part_at, parts_at, alternatives_at, text_kind, text_kind_at, named_at, text_or_name_at, leaf_at, sequence_at, set_at, choice_at, plain_at, type_text_at, type_words, starts_type, deep_kind, starts_mark, type_at, outer_type_at}
 use Rattle.operation_notation.specs.ReadingModules.{use_at, maybe_use_at, signature_at, operation_at, error_at, typed_at, operation_body_at, error_body_at, body_at, valued_at, assignment_at, assignments_at, class_kind, imported_at, listed_imports_at, imports_at, maybe_imports_at, heading_at, module_at, whole_at}
 use Rattle.operation_notation.specs.GrammarTypes.{Extent, narrow, marked, wide, is_empty, mark_of}
@@ -110,7 +110,7 @@ module _ (E : Failure → Type 0) (ext : Extent) (a_named : (name : Located) →
 
   a_set : Agree E (set_at f) (set_at g)
   unfolding set_at
-  a_set = apick is_set_of (same_way refuse) (anext (word_at (codes "SET")) (λ _. athen a_parts (λ parts. same_way _)))
+  a_set = anext _ (λ _. apick (begins (codes "OF")) (anext _ (λ _. athen af (λ item. same_way _))) (athen a_parts (λ parts. same_way _)))
 
   a_choice : Agree E (choice_at f) (choice_at g)
   unfolding choice_at

@@ -4,7 +4,7 @@ use Rattle.std.specs.List.{AllByRecursion}
 use Rattle.notation_tokens.specs.Forms.{has_form}
 use Rattle.notation_tokens.specs.Lexeme.{Lexeme, lexemes}
 use Rattle.notation_tokens.specs.Lexing.{most_octets, lexed_of}
-use Rattle.operation_notation.specs.Reading.{kind_at, is_set_of}
+use Rattle.operation_notation.specs.Reading.{kind_at}
 use Rattle.operation_notation.specs.GrammarTypes.{Extent, marked, wide, is_empty}
 use Rattle.operation_notation.specs.GrammarModules.{Module}
 use Rattle.operation_notation.specs.Modules.{Reads}
@@ -25,13 +25,7 @@ pub record Begins (ext : Extent) (front : List Lexeme) : Type 0 where
   pub formed : AllByRecursion IsFormed back
   pub spelled : Module ext (front ++ back) whole
 
--- no SET with OF behind it begins in these tokens, in front of the rest
-abbrev pub NoSetOf : List Lexeme → List Lexeme → Type 0
-NoSetOf [] rest = Unit {0}
-NoSetOf (t ∷ ts) rest = (is_set_of (t ∷ (ts ++ rest)) ≡ false) × NoSetOf ts rest
-
--- What isn't supported: what is so wherever it stands (`kind_at`: a word or sign of the list, and SET with OF behind it), and that with
--- which the wide grammar goes on: a brace behind a Name, an import of another name, and the first token of a type one level too deep.
+-- What isn't supported: what is so wherever it stands (`kind_at`: a word or sign of the list), and that with which the wide grammar goes on: a brace behind a Name, an import of another name, and the first token of a type one level too deep.
 abbrev pub IsUnsupported : List Lexeme → Lexeme → List Lexeme → Type 0
 IsUnsupported front token behind = (kind_at (token ∷ behind) ≡ Unsupported) ⊎ Begins wide (front ++ token ∷ [])
 
@@ -46,8 +40,8 @@ pub record TooLong (text : List ℕ) (line column : ℕ) (kind : NotationKind) :
   pub at_column : column ≡ 1
   pub is : kind ≡ TextTooLong
 
--- The first token that can't stand where it stands. What stands before it begins a module, and no SET with OF behind it, which isn't
--- supported, begins there. No module begins with it too, whatever follows, or it is such a SET.
+-- The first token that can't stand where it stands. What stands before it begins a module, and no module begins with it too, whatever
+-- follows.
 pub record TokenFault (text : List ℕ) (line column : ℕ) (kind : NotationKind) : Type 0 where
   pub fits : length text ≤ most_octets
   pub front : List Lexeme
@@ -55,8 +49,7 @@ pub record TokenFault (text : List ℕ) (line column : ℕ) (kind : NotationKind
   pub behind : List Lexeme
   pub whole : lexemes text (lexed_of text).tokens ≡ front ++ token ∷ behind
   pub start : Begins marked front
-  pub apart : NoSetOf front (token ∷ behind)
-  pub past : is_set_of (token ∷ behind) ≡ false → (others : List Lexeme) (m : ModuleText) → Module marked (front ++ token ∷ others) m → ⊥
+  pub past : (others : List Lexeme) (m : ModuleText) → Module marked (front ++ token ∷ others) m → ⊥
   pub at_line : token.line ≡ line
   pub at_column : token.column ≡ column
   pub is : IsKind front token behind kind

@@ -1,15 +1,21 @@
 -- The grammar of object identifiers and types (X.680 17 to 31, X.680 32.3, in the profile of X.880 that is supported).
-use Rattle.std.specs.Prelude.{codes, ℕ, zero, suc, ◌+◌, ℤ, pos, Bool, true, false, List, [], ◌∷◌, Option, Some, None, if◌then◌else◌}
+use Rattle.std.specs.Prelude.{codes, ℕ, zero, suc, ◌+◌, ℤ, pos, Bool, true, false, List, [], ◌∷◌, Option, Some, None, option_map, if◌then◌else◌}
+use Rattle.std.specs.Option.{option_or}
 use Rattle.osi_base.specs.Oid.{IsOid}
 use Rattle.notation_tokens.specs.Lexeme.{Lexeme}
-use Rattle.notation_tokens.specs.Words.{most_32, most_64, number_of, int_of, end_of, text_kind_of, root_name, is_value_name, type_name_of, value_name_of, arc_name_of}
+use Rattle.notation_tokens.specs.Words.{most_32, most_64, number_of, int_of, end_of, text_kind_of, root_name, is_value_name, type_name_of, value_name_of, bool_of, arc_name_of}
 use Rattle.operation_notation.specs.Grammar.{◌>>=◌, One, Nothing, Either, Where, Maybe, Many, The, Behind, Listed, Placed}
-use Rattle.operation_notation.specs.Tree.{TypeTree, type_tree, PlainTree, boolean, null, integer, enumerated, octets, bits, object_id, text, sequence_of, sequence, set, choice, named}
+use Rattle.operation_notation.specs.Tree.{TypeTree, type_tree, PlainTree, boolean, null, integer, enumerated, octets, bits, object_id, text, sequence_of, set_of, sequence, set, choice, named}
 use Rattle.operation_notation.specs.TreeView.{parts_of}
 use Rattle.operation_notation.specs.declared.module.RangeText.{RangeText}
 use Rattle.operation_notation.specs.declared.module.TagText.{TagText}
 use Rattle.operation_notation.specs.declared.module.ItemText.{ItemText}
 use Rattle.operation_notation.specs.declared.module.PartText.{PartText}
+use Rattle.operation_notation.specs.declared.module.DfltText.{DfltText}
+use Rattle.operation_notation.specs.declared.module.DfltValue.{DfltValue}
+use Rattle.operation_notation.specs.declared.module.DfltValue.TheVariants as values
+use Rattle.operation_notation.specs.declared.structure.Absence.{Absence}
+use Rattle.notation_tokens.specs.declared.token.Located.{Located}
 use Rattle.notation_tokens.specs.declared.token.Place.{Place}
 
 -- How far a grammar goes: how many levels deep types may stand in one another; whether a mark may stand where a type would be one level
@@ -146,18 +152,41 @@ Tag = do
   explicit ← Explicit
   Nothing (record { class = class; number = number; explicit = explicit })
 
--- ["OPTIONAL"], where it may be written
-abbrev pub Optional : Bool → List Lexeme → Bool → Type 0
-Optional true = Either (The (codes "OPTIONAL") >>= λ _. Nothing true) (Nothing false)
-Optional false = Nothing false
+-- Dflt = "TRUE" | "FALSE" | int | name, with its place
+abbrev pub item_value : Located → DfltValue
+item_value name = values.Item name.text
 
--- Part = name Type ["OPTIONAL"], Alt = name Type
+abbrev pub dflt_value : Lexeme → Option DfltValue
+dflt_value t = option_or (option_map values.Truth (bool_of t)) (option_or (option_map values.Number (int_of t)) (option_map item_value (value_name_of t)))
+
+abbrev pub dflt_text : Lexeme → DfltValue → DfltText
+dflt_text t value = record { line = t.line; column = t.column; value = value }
+
+unfoldable pub dflt_of : Lexeme → Option DfltText
+dflt_of t = option_map (dflt_text t) (dflt_value t)
+
+-- a part that must stand, one that is optional, and one with a default
+abbrev pub standing : Absence
+standing = record { optional = false; dflt = None }
+
+abbrev pub optional : Absence
+optional = record { optional = true; dflt = None }
+
+abbrev pub by_default : DfltText → Absence
+by_default d = record { optional = false; dflt = Some d }
+
+-- ["OPTIONAL" | "DEFAULT" Dflt], where it may be written
+abbrev pub Absent : Bool → List Lexeme → Absence → Type 0
+Absent true = Either (The (codes "OPTIONAL") >>= λ _. Nothing optional) (Either (The (codes "DEFAULT") >>= λ _. One dflt_of >>= λ d. Nothing (by_default d)) (Nothing standing))
+Absent false = Nothing standing
+
+-- Part = name Type ["OPTIONAL" | "DEFAULT" Dflt], Alt = name Type
 abbrev pub Part : Bool → (List Lexeme → TypeTree → Type 0) → List Lexeme → PartText → Type 0
 Part may Inner = do
   name ← One value_name_of
   of ← Inner
-  optional ← Optional may
-  Nothing (record { name = name; of = of; optional = optional })
+  absence ← Absent may
+  Nothing (record { name = name; of = of; optional = absence.optional; dflt = absence.dflt })
 
 -- "{" [Part {"," Part}] "}"
 abbrev pub Parts : (List Lexeme → TypeTree → Type 0) → List Lexeme → List PartText → Type 0
@@ -229,8 +258,9 @@ Leaf ext = Either Boolean (Either Null (Either Integer (Either Enumerated (Eithe
 abbrev pub Sequence : (List Lexeme → TypeTree → Type 0) → List Lexeme → PlainTree → Type 0
 Sequence Inner = Behind (codes "SEQUENCE") (Either (Behind (codes "OF") (Inner >>= λ item. Nothing (sequence_of item))) (Parts Inner >>= λ parts. Nothing (sequence (parts_of parts))))
 
+-- "SET" "OF" Type | "SET" Parts
 abbrev pub Set : (List Lexeme → TypeTree → Type 0) → List Lexeme → PlainTree → Type 0
-Set Inner = Behind (codes "SET") (Parts Inner >>= λ parts. Nothing (set (parts_of parts)))
+Set Inner = Behind (codes "SET") (Either (Behind (codes "OF") (Inner >>= λ item. Nothing (set_of item))) (Parts Inner >>= λ parts. Nothing (set (parts_of parts))))
 
 abbrev pub Choice : (List Lexeme → TypeTree → Type 0) → List Lexeme → PlainTree → Type 0
 Choice Inner = Behind (codes "CHOICE") (Alternatives Inner >>= λ parts. Nothing (choice (parts_of parts)))

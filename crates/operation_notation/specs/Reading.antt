@@ -1,6 +1,6 @@
 -- Reading tokens from left to right, with the first fault that is met: the means.
-use Rattle.std.specs.Prelude.{◌≡◌, ℕ, zero, suc, ℤ, pos, codes, Bool, false, ◌&&◌, ◌||◌, List, [], ◌∷◌, length, Option, Some, None, Result, Ok, Err, if◌then◌else◌}
-use Rattle.notation_tokens.specs.Lexeme.{Lexeme, same, begins}
+use Rattle.std.specs.Prelude.{◌≡◌, ℕ, zero, suc, ℤ, pos, Bool, List, [], ◌∷◌, length, Option, Some, None, Result, Ok, Err, if◌then◌else◌}
+use Rattle.notation_tokens.specs.Lexeme.{Lexeme, begins}
 use Rattle.notation_tokens.specs.Words.{most_64, is_unsupported, place, word_of, type_name_of, value_name_of, number_of, int_of, end_of, bool_of}
 use Rattle.notation_tokens.specs.declared.faults.NotationKind.{NotationKind}
 use Rattle.notation_tokens.specs.declared.faults.NotationKind.TheVariants.{Unsupported, UnexpectedToken}
@@ -44,15 +44,10 @@ abbrev pub GivesAs : {A B : Type 0} → (A → B) → Result A Refusal → List 
 GivesAs view (Ok x) rest read = read ≡ Ok (view x, rest)
 GivesAs view (Err e) rest read = Fails e rest read
 
--- SET OF, which isn't supported
-abbrev pub is_set_of : List Lexeme → Bool
-is_set_of [] = false
-is_set_of (t ∷ ts) = same t.text (codes "SET") && begins (codes "OF") ts
-
 -- what is wrong with a first token that can't stand where it stands
 unfoldable pub kind_at : List Lexeme → NotationKind
 kind_at [] = UnexpectedToken
-kind_at (t ∷ ts) = if is_unsupported t.text || is_set_of (t ∷ ts) then Unsupported else UnexpectedToken
+kind_at (t ∷ ts) = if is_unsupported t.text then Unsupported else UnexpectedToken
 
 abbrev pub refuse : {A : Type 0} → List Lexeme → Read A
 refuse ts = Err (record { rest = ts; kind = kind_at ts })

@@ -3,16 +3,18 @@ use Rattle.std.specs.Prelude.{ℕ, zero, suc, codes, Bool, true, false, ◌&&◌
 use Rattle.std.specs.List.{list_any}
 use Rattle.notation_tokens.specs.Lexeme.{Lexeme, same, begins, goes_on}
 use Rattle.notation_tokens.specs.Words.{most_32, is_type_name, is_value_name, arc_name_of, root_name, text_kind_of}
-use Rattle.operation_notation.specs.Reading.{◌>>=◌, Read, give, here, refuse, refuse_as, kind_at, is_set_of, token_at, word_at, type_name_at, value_name_at, number_at, number_64_at, int_at, end_at, maybe_at, many_at, listed_at}
-use Rattle.operation_notation.specs.Tree.{TypeTree, type_tree, PlainTree, boolean, null, integer, enumerated, octets, bits, object_id, text, sequence_of, sequence, set, choice, named}
+use Rattle.operation_notation.specs.Reading.{◌>>=◌, Read, give, here, refuse, refuse_as, kind_at, token_at, word_at, type_name_at, value_name_at, number_at, number_64_at, int_at, end_at, maybe_at, many_at, listed_at}
+use Rattle.operation_notation.specs.Tree.{TypeTree, type_tree, PlainTree, boolean, null, integer, enumerated, octets, bits, object_id, text, sequence_of, set_of, sequence, set, choice, named}
 use Rattle.operation_notation.specs.TreeView.{parts_of}
-use Rattle.operation_notation.specs.GrammarTypes.{Extent, is_empty, mark_of}
+use Rattle.operation_notation.specs.GrammarTypes.{Extent, is_empty, mark_of, dflt_of, standing, optional, by_default}
 use Rattle.notation_tokens.specs.declared.faults.NotationKind.{NotationKind}
 use Rattle.notation_tokens.specs.declared.faults.NotationKind.TheVariants.{Unsupported}
 use Rattle.operation_notation.specs.declared.module.RangeText.{RangeText}
 use Rattle.operation_notation.specs.declared.module.TagText.{TagText}
 use Rattle.operation_notation.specs.declared.module.ItemText.{ItemText}
 use Rattle.operation_notation.specs.declared.module.PartText.{PartText}
+use Rattle.operation_notation.specs.declared.module.DfltText.{DfltText}
+use Rattle.operation_notation.specs.declared.structure.Absence.{Absence}
 use Rattle.notation_tokens.specs.declared.token.Place.{Place}
 use Rattle.notation_tokens.specs.declared.token.Located.{Located}
 
@@ -123,16 +125,25 @@ tag_at = do
   explicit ← explicit_at
   give (record { class = class; number = number; explicit = explicit })
 
--- whether a part is optional, where that may be written
-unfoldable pub optional_at : Bool → List Lexeme → Read Bool
-optional_at may ts = if may && begins (codes "OPTIONAL") ts then (word_at (codes "OPTIONAL") >>= λ _. give true) ts else Ok (false, ts)
+unfoldable pub dflt_at : List Lexeme → Read DfltText
+dflt_at = token_at dflt_of
+
+-- how a part may be absent
+unfoldable pub absence_at : List Lexeme → Read Absence
+absence_at ts =
+    if begins (codes "OPTIONAL") ts then (word_at (codes "OPTIONAL") >>= λ _. give optional) ts else
+    if begins (codes "DEFAULT") ts then (word_at (codes "DEFAULT") >>= λ _. dflt_at >>= λ d. give (by_default d)) ts else Ok (standing, ts)
+
+-- the same, where that may be written
+unfoldable pub absent_at : Bool → List Lexeme → Read Absence
+absent_at may ts = if may then absence_at ts else Ok (standing, ts)
 
 unfoldable pub part_at : Bool → (List Lexeme → Read TypeTree) → List Lexeme → Read PartText
 part_at may inner = do
   name ← value_name_at
   of ← inner
-  optional ← optional_at may
-  give (record { name = name; of = of; optional = optional })
+  absence ← absent_at may
+  give (record { name = name; of = of; optional = absence.optional; dflt = absence.dflt })
 
 -- parts of a SEQUENCE or SET, of which there may be none
 unfoldable pub parts_at : (List Lexeme → Read TypeTree) → List Lexeme → Read (List PartText)
@@ -199,7 +210,9 @@ sequence_at inner = word_at (codes "SEQUENCE") >>= λ _ ts.
     else (parts_at inner >>= λ parts. give (sequence (parts_of parts))) ts
 
 unfoldable pub set_at : (List Lexeme → Read TypeTree) → List Lexeme → Read PlainTree
-set_at inner ts = if is_set_of ts then refuse ts else (word_at (codes "SET") >>= λ _. parts_at inner >>= λ parts. give (set (parts_of parts))) ts
+set_at inner = word_at (codes "SET") >>= λ _ ts.
+    if begins (codes "OF") ts then (word_at (codes "OF") >>= λ _. inner >>= λ item. give (set_of item)) ts
+    else (parts_at inner >>= λ parts. give (set (parts_of parts))) ts
 
 unfoldable pub choice_at : (List Lexeme → Read TypeTree) → List Lexeme → Read PlainTree
 choice_at inner = do

@@ -4,6 +4,7 @@ use Rattle.notation_tokens.specs.declared.token.Located.{Located}
 use Rattle.operation_notation.specs.declared.module.TagText.{TagText}
 use Rattle.operation_notation.specs.declared.module.RangeText.{RangeText}
 use Rattle.operation_notation.specs.declared.module.ItemText.{ItemText}
+use Rattle.operation_notation.specs.declared.module.DfltText.{DfltText}
 
 mutual
   -- a type: line and column, tag, and what it is without it
@@ -20,15 +21,16 @@ mutual
     object_id : PlainTree
     text : ℕ → PlainTree
     sequence_of : TypeTree → PlainTree
+    set_of : TypeTree → PlainTree
     sequence : PartTrees → PlainTree
     set : PartTrees → PlainTree
     choice : PartTrees → PlainTree
     named : Located → PlainTree
 
-  -- parts: name, type, and whether it is optional
+  -- parts: name, type, whether it is optional, and its default
   pub data PartTrees : Type 0 where
     no_parts : PartTrees
-    part : Located → TypeTree → Bool → PartTrees → PartTrees
+    part : Located → TypeTree → Bool → Option DfltText → PartTrees → PartTrees
 
 -- how deep types stand in one another
 abbrev mutual
@@ -45,6 +47,7 @@ abbrev mutual
   depth_of_plain object_id = 0
   depth_of_plain (text kind) = 0
   depth_of_plain (sequence_of item) = depth item + 1
+  depth_of_plain (set_of item) = depth item + 1
   depth_of_plain (sequence ps) = depth_of_parts ps
   depth_of_plain (set ps) = depth_of_parts ps
   depth_of_plain (choice ps) = depth_of_parts ps
@@ -52,4 +55,4 @@ abbrev mutual
 
   pub depth_of_parts : PartTrees → ℕ
   depth_of_parts no_parts = 0
-  depth_of_parts (part name of optional ps) = max (depth of + 1) (depth_of_parts ps)
+  depth_of_parts (part name of optional dflt ps) = max (depth of + 1) (depth_of_parts ps)

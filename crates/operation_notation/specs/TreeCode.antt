@@ -6,7 +6,10 @@ use Rattle.notation_tokens.specs.declared.token.Located.{Located}
 use Rattle.operation_notation.specs.declared.module.TagText.{TagText}
 use Rattle.operation_notation.specs.declared.module.RangeText.{RangeText}
 use Rattle.operation_notation.specs.declared.module.ItemText.{ItemText}
-use Rattle.operation_notation.specs.Tree.{TypeTree, type_tree, PlainTree, boolean, null, integer, enumerated, octets, bits, object_id, text, sequence_of, sequence, set, choice, named, PartTrees, no_parts, part}
+use Rattle.operation_notation.specs.declared.module.DfltText.{DfltText}
+use Rattle.operation_notation.specs.declared.module.DfltValue.{DfltValue}
+use Rattle.operation_notation.specs.declared.module.DfltValue.TheVariants as values
+use Rattle.operation_notation.specs.Tree.{TypeTree, type_tree, PlainTree, boolean, null, integer, enumerated, octets, bits, object_id, text, sequence_of, set_of, sequence, set, choice, named, PartTrees, no_parts, part}
 
 abbrev pub left : Gv → Gv
 left gnil = gnil
@@ -120,6 +123,37 @@ pub items_back : (xs : List ItemText) → items_of (code_items xs) ≡ xs
 items_back [] = refl
 items_back (x ∷ xs) = λ i. record { name = located_back x.name i; number = int_back x.number i } ∷ items_back xs i
 
+abbrev pub code_value : DfltValue → Gv
+code_value (values.Truth b) = gcons (gnum 0) (code_bool b)
+code_value (values.Number n) = gcons (gnum 1) (code_int n)
+code_value (values.Item name) = gcons (gnum 2) (code_numbers name)
+
+abbrev pub value_by : ℕ → Gv → DfltValue
+value_by zero g = values.Truth (bool_of (num g))
+value_by (suc zero) g = values.Number (int_from g)
+value_by (suc (suc n)) g = values.Item (numbers_of g)
+
+abbrev pub value_of : Gv → DfltValue
+value_of g = value_by (num (left g)) (right g)
+
+pub value_back : (v : DfltValue) → value_of (code_value v) ≡ v
+value_back (values.Truth b) = ap values.Truth (bool_back b)
+value_back (values.Number n) = ap values.Number (int_back n)
+value_back (values.Item name) = ap values.Item (numbers_back name)
+
+abbrev pub code_dflt : Option DfltText → Gv
+code_dflt None = gnil
+code_dflt (Some d) = gcons (gcons (gnum d.line) (gnum d.column)) (code_value d.value)
+
+abbrev pub dflt_of : Gv → Option DfltText
+dflt_of gnil = None
+dflt_of (gnum n) = None
+dflt_of (gcons a b) = Some (record { line = num (left a); column = num (right a); value = value_of b })
+
+pub dflt_back : (d : Option DfltText) → dflt_of (code_dflt d) ≡ d
+dflt_back None = refl
+dflt_back (Some d) = λ i. Some (record { line = d.line; column = d.column; value = value_back d.value i })
+
 abbrev mutual
   pub code_of_type : TypeTree → Gv
   code_of_type (type_tree line column tag plain) = gcons (gcons (gcons (gnum line) (gnum column)) (code_tag tag)) (code_of_plain plain)
@@ -138,10 +172,11 @@ abbrev mutual
   code_of_plain (set ps) = gcons (gnum 10) (code_of_parts ps)
   code_of_plain (choice ps) = gcons (gnum 11) (code_of_parts ps)
   code_of_plain (named name) = gcons (gnum 12) (code_located name)
+  code_of_plain (set_of item) = gcons (gnum 13) (code_of_type item)
 
   pub code_of_parts : PartTrees → Gv
   code_of_parts no_parts = gnil
-  code_of_parts (part name of optional ps) = gcons (gcons (gcons (code_located name) (code_bool optional)) (code_of_type of)) (code_of_parts ps)
+  code_of_parts (part name of optional dflt ps) = gcons (gcons (gcons (code_located name) (gcons (code_bool optional) (code_dflt dflt))) (code_of_type of)) (code_of_parts ps)
 
 -- what a code is read as
 pub record Back : Type 0 where
@@ -164,7 +199,8 @@ by_number (suc (suc (suc (suc (suc (suc (suc (suc zero)))))))) g r = sequence_of
 by_number (suc (suc (suc (suc (suc (suc (suc (suc (suc zero))))))))) g r = sequence r.parts_back
 by_number (suc (suc (suc (suc (suc (suc (suc (suc (suc (suc zero)))))))))) g r = set r.parts_back
 by_number (suc (suc (suc (suc (suc (suc (suc (suc (suc (suc (suc zero))))))))))) g r = choice r.parts_back
-by_number (suc (suc (suc (suc (suc (suc (suc (suc (suc (suc (suc (suc n)))))))))))) g r = named (located_of g)
+by_number (suc (suc (suc (suc (suc (suc (suc (suc (suc (suc (suc (suc zero)))))))))))) g r = named (located_of g)
+by_number (suc (suc (suc (suc (suc (suc (suc (suc (suc (suc (suc (suc (suc n))))))))))))) g r = set_of r.type_back
 
 abbrev pub nothing : Back
 nothing = record { type_back = type_tree 0 0 None boolean; plain_back = boolean; parts_back = no_parts; inner_back = type_tree 0 0 None boolean }
@@ -175,7 +211,7 @@ back (gnum n) = nothing
 back (gcons a b) = record {
   type_back = type_tree (num (left (left a))) (num (right (left a))) (tag_of (right a)) (back b).plain_back;
   plain_back = by_number (num a) b (back b);
-  parts_back = part (located_of (left (left a))) (back a).inner_back (bool_of (num (right (left a)))) (back b).parts_back;
+  parts_back = part (located_of (left (left a))) (back a).inner_back (bool_of (num (left (right (left a))))) (dflt_of (right (right (left a)))) (back b).parts_back;
   inner_back = (back b).type_back;
 }
 
@@ -193,6 +229,7 @@ mutual
   plain_is_back object_id = refl
   plain_is_back (text kind) = refl
   plain_is_back (sequence_of item) = ap sequence_of (type_is_back item)
+  plain_is_back (set_of item) = ap set_of (type_is_back item)
   plain_is_back (sequence ps) = ap sequence (parts_are_back ps)
   plain_is_back (set ps) = ap set (parts_are_back ps)
   plain_is_back (choice ps) = ap choice (parts_are_back ps)
@@ -200,7 +237,7 @@ mutual
 
   pub parts_are_back : (ps : PartTrees) → (back (code_of_parts ps)).parts_back ≡ ps
   parts_are_back no_parts = refl
-  parts_are_back (part name of optional ps) = λ i. part (located_back name i) (type_is_back of i) (bool_back optional i) (parts_are_back ps i)
+  parts_are_back (part name of optional dflt ps) = λ i. part (located_back name i) (type_is_back of i) (bool_back optional i) (dflt_back dflt i) (parts_are_back ps i)
 
 abbrev pub coded_type : Coded TypeTree
 coded_type = record {

@@ -23,6 +23,7 @@ falls plain.Bits = omega arith
 falls plain.ObjectId = omega arith
 falls (plain.Text kind) = omega arith
 falls (plain.SequenceOf item) = omega arith
+falls (plain.SetOf item) = omega arith
 falls (plain.Sequence ps) = omega (arith, parts_fall ps.items)
 falls (plain.Set ps) = omega (arith, parts_fall ps.items)
 falls (plain.Choice ps) = omega (arith, parts_fall ps.items)

@@ -3,11 +3,14 @@ use Rattle.std.specs.Prelude.{◌≡◌, ◌≤◌, ◌<◌, Bool, true, false, 
 use Rattle.std.specs.List.{AllByRecursion}
 use Rattle.notation_tokens.specs.Forms.{is_word}
 use Rattle.notation_tokens.specs.Words.{is_quoted, is_unsupported, begins_upper, begins_lower}
-use Rattle.operation_notation.specs.Tree.{TypeTree, type_tree, PlainTree, boolean, null, integer, enumerated, octets, bits, object_id, text, sequence_of, sequence, set, choice, named, PartTrees, no_parts, part}
+use Rattle.operation_notation.specs.Tree.{TypeTree, type_tree, PlainTree, boolean, null, integer, enumerated, octets, bits, object_id, text, sequence_of, set_of, sequence, set, choice, named, PartTrees, no_parts, part}
 use Rattle.notation_tokens.specs.declared.token.Located.{Located}
 use Rattle.operation_notation.specs.declared.module.TagText.{TagText}
 use Rattle.operation_notation.specs.declared.module.ItemText.{ItemText}
 use Rattle.operation_notation.specs.declared.module.RangeText.{RangeText}
+use Rattle.operation_notation.specs.declared.module.DfltText.{DfltText}
+use Rattle.operation_notation.specs.declared.module.DfltValue.{DfltValue}
+use Rattle.operation_notation.specs.declared.module.DfltValue.TheVariants as values
 use Rattle.notation_tokens.specs.Places.{NeverFall}
 use Rattle.notation_tokens.specs.declared.token.Place.{Place}
 use Rattle.operation_notation.specs.declared.module.UseText.{UseText}
@@ -31,13 +34,24 @@ pub record IsValueName (n : Located) : Type 0 where
   pub word : IsTrue (is_word n.text)
   pub lower : IsTrue (begins_lower n.text)
 
+-- an item that is a default has a name's form
+abbrev pub IsWellValue : DfltValue → Type 0
+IsWellValue (values.Truth b) = Unit {0}
+IsWellValue (values.Number n) = Unit {0}
+IsWellValue (values.Item name) = IsTrue (is_word name) × IsTrue (begins_lower name)
+
+-- how a part may be absent: not both by a mark and by a default, and not at all where it must stand
+abbrev pub MayLack : Bool → Bool → Option DfltText → Type 0
+MayLack may optional None = not may && optional ≡ false
+MayLack may optional (Some d) = (may ≡ true) × (optional ≡ false) × IsWellValue d.value
+
 -- a tag's class is 0 to 3, and its number has 32 bits
 pub record IsTag (t : TagText) : Type 0 where
   pub class : t.class ≤ 3
   pub number : t.number ≤ 4294967295
 
 -- a type whose names have their forms, whose tags and kinds of text are in range, in which an ENUMERATED and a CHOICE have an item,
--- and no alternative of a CHOICE is optional
+-- no alternative of a CHOICE may be absent, and no part of a SEQUENCE or SET is both optional and has a default
 abbrev mutual
   pub IsWellType : TypeTree → Type 0
   IsWellType (type_tree line column tag plain) = IfSome tag IsTag × IsWellPlain plain
@@ -52,6 +66,7 @@ abbrev mutual
   IsWellPlain object_id = Unit {0}
   IsWellPlain (text kind) = kind ≤ 4
   IsWellPlain (sequence_of item) = IsWellType item
+  IsWellPlain (set_of item) = IsWellType item
   IsWellPlain (sequence ps) = AreWellParts true ps
   IsWellPlain (set ps) = AreWellParts true ps
   IsWellPlain (choice ps) = HasPart ps × AreWellParts false ps
@@ -59,11 +74,11 @@ abbrev mutual
 
   pub AreWellParts : Bool → PartTrees → Type 0
   AreWellParts may no_parts = Unit {0}
-  AreWellParts may (part name of optional ps) = IsValueName name × IsWellType of × (not may && optional ≡ false) × AreWellParts may ps
+  AreWellParts may (part name of optional dflt ps) = IsValueName name × IsWellType of × MayLack may optional dflt × AreWellParts may ps
 
   pub HasPart : PartTrees → Type 0
   HasPart no_parts = ⊥
-  HasPart (part name of optional ps) = Unit {0}
+  HasPart (part name of optional dflt ps) = Unit {0}
 
 abbrev pub IsWellUse : UseText → Type 0
 IsWellUse u = IsWellType u.of
@@ -109,6 +124,10 @@ abbrev pub range_places : Option RangeText → List Place
 range_places None = []
 range_places (Some r) = record { line = r.line; column = r.column } ∷ []
 
+abbrev pub dflt_places : Option DfltText → List Place
+dflt_places None = []
+dflt_places (Some d) = record { line = d.line; column = d.column } ∷ []
+
 abbrev mutual
   pub type_places : TypeTree → List Place
   type_places (type_tree line column tag plain) = record { line = line; column = column } ∷ plain_places plain
@@ -123,6 +142,7 @@ abbrev mutual
   plain_places object_id = []
   plain_places (text kind) = []
   plain_places (sequence_of item) = type_places item
+  plain_places (set_of item) = type_places item
   plain_places (sequence ps) = part_places ps
   plain_places (set ps) = part_places ps
   plain_places (choice ps) = part_places ps
@@ -130,7 +150,7 @@ abbrev mutual
 
   pub part_places : PartTrees → List Place
   part_places no_parts = []
-  part_places (part name of optional ps) = (name_place name ∷ type_places of) ++ part_places ps
+  part_places (part name of optional dflt ps) = ((name_place name ∷ type_places of) ++ dflt_places dflt) ++ part_places ps
 
 abbrev pub use_places : Option UseText → List Place
 use_places None = []

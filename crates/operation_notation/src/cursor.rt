@@ -6,10 +6,11 @@ ghost use Rattle.std.specs.List.{AllByRecursion, list_any};
 ghost use Rattle.notation_tokens.specs.Words.{type_name_of, value_name_of, number_of, int_of, end_of, bool_of, text_kind_of, arc_name_of, root_name};
 ghost use Rattle.notation_tokens.specs.Forms.{is_word};
 ghost use Rattle.operation_notation.specs.ReadingModules.{class_kind};
-ghost use Rattle.operation_notation.specs.Reading.{Gives, is_set_of, kind_at, word_at, type_name_at, value_name_at, number_at, number_64_at, int_at, end_at, bool_at, place_of};
-ghost use Rattle.operation_notation.specs.ReadingTypes.{type_words, starts_type, starts_name, root_word, text_kind, arc_name_at, text_kind_at};
+ghost use Rattle.operation_notation.specs.Reading.{Gives, kind_at, word_at, type_name_at, value_name_at, number_at, number_64_at, int_at, end_at, bool_at, place_of};
+ghost use Rattle.operation_notation.specs.ReadingTypes.{dflt_at, type_words, starts_type, starts_name, root_word, text_kind, arc_name_at, text_kind_at};
 
 use crate::fault::Refusal;
+use crate::module::{DfltText, DfltValue};
 use notation_tokens::words::{
     arc_word, integer, is_lower_name, is_same, is_unsupported_word, is_upper_name, natural,
     range_end, text_word, truth,
@@ -121,19 +122,6 @@ impl<'t> Cursor<'t> {
         self.tokens.is_empty()
     }
 
-    /// Whether the next two tokens are SET OF.
-    pub fn is_set_of(&self) -> bool
-        ensures { result ≡ is_set_of self.now }
-    {
-        match self.tokens {
-            [first, second, ..] => {
-                is_same(&self.source[first.from..first.to], b"SET")
-                    && is_same(&self.source[second.from..second.to], b"OF")
-            }
-            _ => false,
-        }
-    }
-
     /// The kind of fault that the next token is where it can't stand.
     #[tactic(auto, unfolding(crate::specs::Reading::kind_at))]
     pub fn kind(&self) -> NotationKind
@@ -142,7 +130,7 @@ impl<'t> Cursor<'t> {
         match self.tokens {
             [] => NotationKind::UnexpectedToken,
             [token, ..] => {
-                if is_unsupported_word(&self.source[token.from..token.to]) || self.is_set_of() {
+                if is_unsupported_word(&self.source[token.from..token.to]) {
                     NotationKind::Unsupported
                 } else {
                     NotationKind::UnexpectedToken
@@ -303,6 +291,41 @@ impl<'t> Cursor<'t> {
             return Ok(value);
         }
         Err(Refusal::Fault(self.kind()))
+    }
+
+    /// The default of a part: TRUE, FALSE, an integer or the name of an item.
+    #[tactic(auto, unfolding(crate::specs::ReadingTypes::dflt_at, crate::specs::GrammarTypes::dflt_of, crate::specs::Reading::value_name_at, notation_tokens::specs::Words::value_name_of))]
+    pub fn dflt(&mut self, alloc: Global) -> Result<DfltText, Refusal>
+        ensures gives { Gives result self.new (dflt_at self.old) }
+        ensures takes { OnOk result (length self.new < length self.old) }
+        ensures keeps { length self.new ≤ length self.old }
+    {
+        if let [token, rest @ ..] = self.tokens
+            && let Some(value) = truth(&self.source[token.from..token.to])
+        {
+            self.tokens = rest;
+            return Ok(DfltText {
+                line: token.line,
+                column: token.column,
+                value: DfltValue::Truth(value),
+            });
+        }
+        if let [token, rest @ ..] = self.tokens
+            && let Some(number) = integer(&self.source[token.from..token.to])
+        {
+            self.tokens = rest;
+            return Ok(DfltText {
+                line: token.line,
+                column: token.column,
+                value: DfltValue::Number(number),
+            });
+        }
+        let name = self.value_name(alloc)?;
+        Ok(DfltText {
+            line: name.line,
+            column: name.column,
+            value: DfltValue::Item(name.text),
+        })
     }
 
     /// The word of a kind of text.

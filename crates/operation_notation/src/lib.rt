@@ -13,10 +13,11 @@ mod parser;
 mod structure;
 mod types;
 
-pub use laws::{module_or_fault, no_set_of, one_fault, one_reading};
+pub use laws::{module_or_fault, one_fault, one_reading};
 pub use module::{
-    Assignment, Assignments, Body, CodeText, ErrText, ItemText, ItemTexts, Locateds, ModuleText,
-    OpText, PartText, PartTexts, PlainText, RangeText, TagText, TypeText, UseText,
+    Assignment, Assignments, Body, CodeText, DfltText, DfltValue, ErrText, ItemText, ItemTexts,
+    Locateds, ModuleText, OpText, PartText, PartTexts, PlainText, RangeText, TagText, TypeText,
+    UseText,
 };
 pub use notation_tokens::{Located, NotationFault, NotationKind, Token, TokenKind, Tokens, lex};
 pub use parser::parse_module;

@@ -1,7 +1,7 @@
 //! A module as it was read: each assignment with the places of its tokens.
 
 use notation_tokens::Located;
-use osi_base::{ListOf, Oid};
+use osi_base::{ListOf, Name, Oid};
 use std::marker::Model;
 
 /// A module: its name and object identifier, whether tags are implicit unless they say otherwise,
@@ -68,6 +68,7 @@ pub enum PlainText {
     /// A text: 0 UTF8, 1 IA5, 2 Visible, 3 Printable, 4 Numeric.
     Text(u8),
     SequenceOf(Box<TypeText>),
+    SetOf(Box<TypeText>),
     Sequence(PartTexts),
     Set(PartTexts),
     Choice(PartTexts),
@@ -94,13 +95,31 @@ pub struct ItemText {
 /// The items of an ENUMERATED in text order.
 pub type ItemTexts = Vec<ItemText>;
 
-/// A part of a SEQUENCE or SET, or an alternative of a CHOICE, which is never optional.
+/// A part of a SEQUENCE or SET, or an alternative of a CHOICE, which must stand. A part is never
+/// both optional and has a default.
 #[cycle(type_text)]
 #[derive(Debug, Drop)]
 pub struct PartText {
     pub name: Located,
     pub of: TypeText,
     pub optional: bool,
+    pub dflt: Option<DfltText>,
+}
+
+/// The default of a part, with the place of its token.
+#[derive(Debug, Drop)]
+pub struct DfltText {
+    pub line: u32,
+    pub column: u32,
+    pub value: DfltValue,
+}
+
+/// A default as it is written: TRUE or FALSE, a number, or the name of an item.
+#[derive(Debug, Drop)]
+pub enum DfltValue {
+    Truth(bool),
+    Number(i64),
+    Item(Name),
 }
 
 /// Parts in text order.

@@ -3,31 +3,67 @@
 ghost use Rattle.std.specs.Prelude.{◌≡◌, ◌≤◌, ◌<◌, codes, length, OnOk};
 ghost use Rattle.operation_notation.specs.GrammarTypes.{narrow};
 ghost use Rattle.operation_notation.specs.Reading.{Gives, GivesAs, behind, listed_at};
-ghost use Rattle.operation_notation.specs.ReadingTypes.{optional_at, part_at, parts_at, alternatives_at, sequence_at, set_at, choice_at, plain_at, type_text_at, type_at, outer_type_at, deep_kind};
+ghost use Rattle.operation_notation.specs.ReadingTypes.{absence_at, absent_at, part_at, parts_at, alternatives_at, sequence_at, set_at, choice_at, plain_at, type_text_at, type_at, outer_type_at, deep_kind};
 ghost use Rattle.operation_notation.specs.TreeView.{plain_of};
 
 use crate::cursor::Cursor;
 use crate::fault::Refusal;
-use crate::module::{PartText, PlainText, TypeText};
+use crate::module::{DfltText, PartText, PlainText, TypeText};
 use notation_tokens::NotationKind;
 use osi_base::ListOf;
 use std::alloc::Global;
+
+/// How a part may be absent.
+#[derive(Debug, Drop)]
+pub(crate) struct Absence {
+    pub optional: bool,
+    pub dflt: Option<DfltText>,
+}
 
 /// How many levels deep types may stand in one another.
 const MOST_LEVELS: u32 = 256;
 
 impl<'t> Cursor<'t> {
-    /// Whether a part is optional, where that may be written.
-    #[tactic(auto, unfolding(crate::specs::ReadingTypes::optional_at))]
-    fn optional(&mut self, may: bool) -> Result<bool, Refusal>
-        ensures gives { Gives result self.new (optional_at may self.old) }
+    /// How a part may be absent.
+    #[tactic(auto, unfolding(crate::specs::ReadingTypes::absence_at))]
+    fn absence(&mut self, alloc: Global) -> Result<Absence, Refusal>
+        ensures gives { Gives result self.new (absence_at self.old) }
         ensures keeps { length self.new ≤ length self.old }
     {
-        if may && self.is(b"OPTIONAL") {
+        if self.is(b"OPTIONAL") {
             self.expect(b"OPTIONAL")?;
-            Ok(true)
+            Ok(Absence {
+                optional: true,
+                dflt: None,
+            })
+        } else if self.is(b"DEFAULT") {
+            self.expect(b"DEFAULT")?;
+            let dflt = self.dflt(alloc)?;
+            Ok(Absence {
+                optional: false,
+                dflt: Some(dflt),
+            })
         } else {
-            Ok(false)
+            Ok(Absence {
+                optional: false,
+                dflt: None,
+            })
+        }
+    }
+
+    /// How a part may be absent, where that may be written.
+    #[tactic(auto, unfolding(crate::specs::ReadingTypes::absent_at))]
+    fn absent(&mut self, alloc: Global, may: bool) -> Result<Absence, Refusal>
+        ensures gives { Gives result self.new (absent_at may self.old) }
+        ensures keeps { length self.new ≤ length self.old }
+    {
+        if may {
+            self.absence(alloc)
+        } else {
+            Ok(Absence {
+                optional: false,
+                dflt: None,
+            })
         }
     }
 
@@ -41,8 +77,13 @@ impl<'t> Cursor<'t> {
     {
         let name = self.value_name(alloc)?;
         let of = self.type_text(alloc, levels)?;
-        let optional = self.optional(may)?;
-        Ok(PartText { name, of, optional })
+        let absence = self.absent(alloc, may)?;
+        Ok(PartText {
+            name,
+            of,
+            optional: absence.optional,
+            dflt: absence.dflt,
+        })
     }
 
     /// A part behind a comma.
@@ -128,7 +169,7 @@ impl<'t> Cursor<'t> {
         }
     }
 
-    /// A SET.
+    /// A SET or SET OF.
     #[cycle(types)]
     #[tactic(auto, unfolding(crate::specs::ReadingTypes::set_at))]
     fn set(&mut self, alloc: Global, levels: u32) -> Result<PlainText, Refusal>
@@ -136,12 +177,15 @@ impl<'t> Cursor<'t> {
         ensures takes { OnOk result (length self.new < length self.old) }
         ensures keeps { length self.new ≤ length self.old }
     {
-        if self.is_set_of() {
-            return Err(Refusal::Fault(self.kind()));
-        }
         self.expect(b"SET")?;
-        let parts = self.parts(alloc, levels)?;
-        Ok(PlainText::Set(parts.into_vec()))
+        if self.is(b"OF") {
+            self.expect(b"OF")?;
+            let item = self.type_text(alloc, levels)?;
+            Ok(PlainText::SetOf(Box::new(alloc, item)?))
+        } else {
+            let parts = self.parts(alloc, levels)?;
+            Ok(PlainText::Set(parts.into_vec()))
+        }
     }
 
     /// A CHOICE.
