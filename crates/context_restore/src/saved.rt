@@ -32,7 +32,6 @@ pub struct Saved {
 
 impl Model for Saved {
     ghost use Rattle.context_restore.specs.SavedSets.{SavedSets};
-    ghost use Rattle.context_sets.specs.Sets.{IsRising};
     ghost use Rattle.context_restore.specs.Chain.{versions, IsSound};
 
     ghost Value = { SavedSets };
@@ -43,7 +42,7 @@ impl Model for Saved {
       active = saved.active;
     } };
 
-    ghost invariant = { λ saved. IsSound saved.nodes saved.head saved.newest saved.active × IsRising saved.inter };
+    ghost invariant = { λ saved. IsSound saved.nodes saved.head saved.newest saved.active };
 }
 
 impl Saved {
@@ -189,7 +188,6 @@ impl Saved {
     pub fn end(&mut self) -> Result<SetList, SaveRefusal>
         ensures refused { MatchResult result (λ _. leave_refusal self.old ≡ None) (IsRefused (leave_refusal self.old)) }
         ensures list { IfOk result (λ list. list ≡ self.old.inter) }
-        ensures rises { IfOk result (λ list. IsRising list) }
         ensures ok { OnOk result (self.new ≡ record self.old { active = false }) }
         ensures err { OnErr result (self.new ≡ self.old) }
     {
@@ -202,7 +200,6 @@ impl Saved {
     pub fn interrupt(&mut self) -> Result<SetList, SaveRefusal>
         ensures refused { MatchResult result (λ _. leave_refusal self.old ≡ None) (IsRefused (leave_refusal self.old)) }
         ensures list { IfOk result (λ list. list ≡ self.old.inter) }
-        ensures rises { IfOk result (λ list. IsRising list) }
         ensures ok { OnOk result (self.new ≡ record self.old { active = false }) }
         ensures err { OnErr result (self.new ≡ self.old) }
     {
@@ -213,7 +210,6 @@ impl Saved {
     pub fn discard(&mut self) -> Result<SetList, SaveRefusal>
         ensures refused { MatchResult result (λ _. leave_refusal self.old ≡ None) (IsRefused (leave_refusal self.old)) }
         ensures list { IfOk result (λ list. list ≡ self.old.inter) }
-        ensures rises { IfOk result (λ list. IsRising list) }
         ensures ok { OnOk result (self.new ≡ record self.old { nodes = []; active = false }) }
         ensures err { OnErr result (self.new ≡ self.old) }
     {
@@ -229,7 +225,6 @@ impl Saved {
     fn left_set(&self) -> Result<SetList, SaveRefusal>
         ensures refused { MatchResult result (λ _. leave_refusal self.now ≡ None) (IsRefused (leave_refusal self.now)) }
         ensures list { IfOk result (λ list. list ≡ self.now.inter) }
-        ensures rises { IfOk result (λ list. IsRising list) }
     {
         if !self.is_active() {
             return Err(SaveRefusal::NoActivity);

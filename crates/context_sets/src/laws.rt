@@ -1,15 +1,6 @@
 //! The laws of alterations, each the contract of a function that does nothing.
 
-ghost use Rattle.std.specs.Prelude.{◌≡◌, not, [], None, OnOk, OnErr, MatchResult};
-ghost use Rattle.context_sets.specs.Held.{oldest};
-ghost use Rattle.context_sets.specs.Policy.{peer_fault, IsFault};
-ghost use Rattle.context_sets.specs.Laws.{CrossingAgrees, AnswersFit, AgreeAgain, Settles};
-
-use crate::alteration::Alteration;
-use crate::contexts::Contexts;
-use crate::fault::SetFault;
-use crate::rules::Rules;
-use osi_base::Ids;
+ghost use Rattle.context_sets.specs.Laws.{CrossingAgrees, AnswersFit, AgreeAgain};
 
 /// Two alterations that cross lead to one set, whichever is settled first.
 pub fn crossing_agrees()
@@ -26,24 +17,3 @@ pub fn answers_fit()
 pub fn agree_again()
     ensures { AgreeAgain }
 {}
-
-/// Has one end answer what the other asked for longest, while these identifiers are in use there, and
-/// hands its answers back. Two sets that agreed agree again. A fault is one of the alteration, or
-/// want of memory; after it neither set has changed.
-#[tactic(auto, using(crate::proofs::Fitting::answers_fit))]
-pub fn settle_between(
-    asking: &mut Contexts,
-    answering: &mut Contexts,
-    asked: &Alteration,
-    used: &Ids,
-    rules: &Rules,
-) -> Result<(), SetFault>
-    requires { oldest asking.old.own ≡ asked.now }
-    ensures faulty { let first = peer_fault (not answering.old.initiator) answering.old.set [] asked.now.added in MatchResult result (λ _. first ≡ None) (IsFault first) }
-    ensures settles { OnOk result (Settles rules.now used.now asking.old asking.new answering.old answering.new) }
-    ensures agree { OnOk result (asking.old.set ≡ answering.old.set → asking.new.set ≡ answering.new.set) }
-    ensures err { OnErr result ((asking.new.set ≡ asking.old.set) × (answering.new.set ≡ answering.old.set)) }
-{
-    let answers = answering.answer(&asked.added, &asked.deleted, used, rules)?;
-    asking.confirm(&answers)
-}

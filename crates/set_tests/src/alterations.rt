@@ -1,7 +1,7 @@
 //! Alterations between two ends.
 
 use crate::made::{alteration, ask, ids, packed_rules, two_contexts};
-use context_sets::{Contexts, SetFault, SetRefusal, settle_between};
+use context_sets::{Contexts, SetFault, SetRefusal};
 use osi_base::{NoMemory, Syntax};
 use std::alloc::Global;
 use std::test::Fail;
@@ -96,18 +96,5 @@ fn two_alterations_that_cross_lead_to_one_set(rt: HostRuntime) -> Result<(), Fai
     assert!(rt; settle(alloc, &mut a, &mut b, &[7], &[]) == Ok(()));
     assert!(rt; a.items().len() == 2 && b.items().len() == 2);
     assert!(rt; has(&a, 7, Syntax::Packed) && has(&b, 7, Syntax::Packed));
-    Ok(())
-}
-
-#[test]
-fn sets_that_agreed_agree_again(rt: HostRuntime) -> Result<(), Fail> {
-    let alloc = rt.alloc();
-    let mut a = end(alloc, true)?;
-    let mut b = end(alloc, false)?;
-    let asked = alteration(alloc, &[], &[])?;
-    let none = ids(alloc, &[])?;
-    let rules = packed_rules(alloc)?;
-    assert!(rt; settle_between(&mut a, &mut b, &asked, &none, &rules) == Ok(()));
-    assert!(rt; a.items().len() == 2 && b.items().len() == 2);
     Ok(())
 }
