@@ -1,8 +1,8 @@
 //! What no clause says: that calls with ample memory are done, and what the real outside gives.
 
 use osi_base::{
-    DiskFiles, FailingCalls, FileFault, Files, Line, ListOf, MemFile, MemFiles, MemSink, Name,
-    NoMemory, Octets, Sink, SinkFault, StdSink, SureFiles, SureLine, SureSink, write_all,
+    DiskFiles, FailingCalls, FileFault, Files, ListOf, MemFile, MemFiles, MemSink, Name, NoMemory,
+    Octets, Sink, SinkFault, StdSink, SureFiles, SureSink, write_all,
 };
 use std::alloc::Global;
 use std::io::{Error, ErrorKind};
@@ -91,8 +91,9 @@ fn disk_files_hand_up_a_file_and_count_one_that_is_not_there(rt: HostRuntime) ->
     let id = std::process::id(rt.process());
     let path = format!(in rt.alloc(); "/tmp/osi_base_{id}")?;
     let mut files = DiskFiles { rt, faults: 0 };
-    let octets = read_of_disk(rt, &mut files, path.as_str(), "first\nsecond\n")?;
-    assert!(rt; octets.as_slice() == b"first\nsecond\n".as_slice());
+    let text = "first\nsecond\n".repeat(rt.alloc(), 1_000)?;
+    let octets = read_of_disk(rt, &mut files, path.as_str(), text.as_str())?;
+    assert!(rt; octets.as_slice() == text.as_bytes());
     assert!(rt; files.faults == 0);
     assert!(rt; fault(rt.alloc(), &mut files, path.as_str()) == Some(FileFault::Failed));
     assert!(rt; files.faults == 1);
@@ -141,20 +142,6 @@ fn a_sink_that_never_fails_keeps_all(rt: HostRuntime) {
     let mut out = SureSink::new(rt.alloc());
     assert!(rt; write_all(&mut out, b"abc") == Ok(()));
     assert!(rt; out.written.as_slice() == b"abc".as_slice());
-}
-
-#[test]
-fn a_line_that_never_fails_takes_all_and_gives_the_end(rt: HostRuntime) -> Result<(), Fail> {
-    let alloc = rt.alloc();
-    let host = Name::from_str(alloc, "localhost")?;
-    let mut line = SureLine::new(alloc);
-    let mut room = [0; 8];
-    assert!(rt; line.open(alloc, &host, 102) == Ok(()));
-    assert!(rt; line.write(b"abc") == Ok(3));
-    assert!(rt; line.read(&mut room) == Ok(0));
-    assert!(rt; line.shut() == Ok(()));
-    assert!(rt; line.accept(alloc, 102) == Ok(()));
-    Ok(())
 }
 
 #[test]
