@@ -1,6 +1,6 @@
 -- What a reading of the codecs says of heads.
-use Rattle.std.proofs.Common.{◌≡◌, ◌≢◌, ℕ, ◌<◌, ◌≤◌, ◌^◌, Bool, true, false, List, [], ◌++◌, length, take, drop, Option, Some, None, Result, Ok, Err, refl, sym, ap, subst, ◌∙◌, arith, option_map}
-use Rattle.std.proofs.lemmas.List.{append-nil, take-append-drop}
+use Rattle.std.proofs.Common.{◌≡◌, ◌≢◌, ℕ, ◌<◌, ◌≤◌, ◌-◌, ◌^◌, Bool, true, false, List, [], ◌++◌, length, take, drop, Option, Some, None, Result, Ok, Err, refl, sym, ap, subst, ◌∙◌, arith, option_map}
+use Rattle.std.proofs.lemmas.List.{append-nil, take-append-drop, length-take-le}
 use Rattle.std.proofs.Math.Seq.{take-length, drop-append_seam}
 use Rattle.osi_base.specs.declared.syntax.Syntax.TheVariants as syntax
 use Rattle.asn1_types.specs.declared.row.TypeRow.{TypeRow}
@@ -16,12 +16,13 @@ use Rattle.packed_codec.specs.declared.fault.PackedFault.TheVariants as packed_f
 use Rattle.packed_codec.specs.Reading as packed_reading
 use Rattle.packed_codec.specs.Rules as packed_rules
 use Rattle.packed_codec.specs.Laws.{Packed}
-use Rattle.packed_codec.proofs.WholeValues as packed
+use Rattle.packed_codec.specs.Writing.{packed}
+use Rattle.packed_codec.proofs.WholeValues as packeds_read
 use Rattle.apdu_spelling.specs.declared.head.ApduHead.{ApduHead}
-use Rattle.apdu_spelling.specs.Heads.{Head, fields_of, carried}
+use Rattle.apdu_spelling.specs.Heads.{Head, invoke, result, error, reject, fields_of, carried}
 use Rattle.apdu_spelling.specs.Rows.{head_rows, apdu_row, packed_apdu_row}
 use Rattle.apdu_spelling.specs.Values.{ber_value, packed_value}
-use Rattle.apdu_spelling.specs.Spellings.{PacksHead}
+use Rattle.apdu_spelling.specs.Spellings.{PacksHead, fields_in}
 use Rattle.apdu_spelling.proofs.HeadsSound.{heads_sound}
 use Rattle.apdu_codec.specs.Pieces.{ber_head, packed_head}
 use Rattle.apdu_codec.specs.Refusals.{number_of_ber, number_of_packed, ber_told, packed_told}
@@ -36,6 +37,23 @@ some_fields f (Some h) e = let x : f ≡ fields_of h = cc in (h, refl, x)
 no_fields : (o : Option Head) → None ≡ option_map fields_of o → o ≡ None
 no_fields None e = refl
 no_fields (Some h) e = absurd cc
+
+in_ber : (h : Head) → fields_of h ≡ fields_in syntax.Ber h
+in_ber (invoke id linked code argument) = refl
+in_ber (result id None) = refl
+in_ber (result id (Some outcome)) = refl
+in_ber (error id code parameter) = refl
+in_ber (reject id problem) = refl
+
+in_der : (h : Head) → fields_of h ≡ fields_in syntax.Der h
+in_der (invoke id linked code argument) = refl
+in_der (result id None) = refl
+in_der (result id (Some outcome)) = refl
+in_der (error id code parameter) = refl
+in_der (reject id problem) = refl
+
+in_packed : (f : ApduHead) (h : Head) (used : ℕ) → f ≡ fields_of h → used ≡ length (packed head_rows packed_apdu_row (packed_value h)) → record f { room = 262144 - used } ≡ fields_in syntax.Packed h
+in_packed f h used e n = λ i. record (e i) { room = 262144 - n i }
 
 abbrev done : Value × ℕ → Result (Value × ℕ) bers.ReadFault
 done x = Ok x
@@ -92,21 +110,23 @@ of_packed x y e = cc
 module _ (text : List ℕ) where
   front_read : (h : Head) (p : PacksHead h text) → packed_rules.read_at head_rows packed_apdu_row 262144 text ≡ packed_done (packed_value h, length p.front)
   front_read h p =
-      ap (packed_rules.read_at head_rows packed_apdu_row 262144) p.are ∙ packed.spelled_is_read head_rows packed_apdu_row 262144 (packed_value h) p.front (carried h) (omega arith) p.packs
+      ap (packed_rules.read_at head_rows packed_apdu_row 262144) p.are ∙ packeds_read.spelled_is_read head_rows packed_apdu_row 262144 (packed_value h) p.front (carried h) (omega arith) p.packs
 
-  pub packed_found : (v : Value) (f : ApduHead) (used : ℕ) → Some f ≡ option_map fields_of (packed_head v (drop used text)) → Packed head_rows packed_apdu_row 262144 v (take used text)
-      → (h : Head) × PacksHead h text × (f ≡ fields_of h)
-  packed_found v f used e p =
+  pub packed_found : (v : Value) (f : ApduHead) (used : ℕ) → Some f ≡ option_map fields_of (packed_head v (drop used text)) → used ≤ length text → Packed head_rows packed_apdu_row 262144 v (take used text)
+      → (h : Head) × PacksHead h text × (record f { room = 262144 - used } ≡ fields_in syntax.Packed h)
+  packed_found v f used e le p =
       let s = some_fields f (packed_head v (drop used text)) e in
       let h : Head = s.0 in
-      let b = packed_back v (drop used text) h s.1 in (
+      let b = packed_back v (drop used text) h s.1 in
+      let n : used ≡ length (packed head_rows packed_apdu_row (packed_value h)) =
+      sym (length-take-le used text le) ∙ ap length p.are ∙ ap (λ (w : Value). length (packed head_rows packed_apdu_row w)) b.0 in (
         h,
         record {
           front = take used text;
           packs = subst (λ (w : Value). Packed head_rows packed_apdu_row 262144 w (take used text)) b.0 p;
           are = sym (take-append-drop used text) ∙ ap (λ (x : List ℕ). take used text ++ x) b.1;
         },
-        s.2,
+        in_packed f h used s.2 n,
       )
 
   pub packed_other : (v : Value) (used : ℕ) → packed_rules.read_at head_rows packed_apdu_row 262144 text ≡ packed_done (v, used) → None ≡ option_map fields_of (packed_head v (drop used text)) → (h : Head) → PacksHead h text → ⊥
@@ -152,10 +172,10 @@ module _ (rows : List TypeRow) (same : rows ≡ head_rows) (text : List ℕ) whe
     found v f used e n p = ber_found strict text v f used e n (subst (λ (x : List TypeRow). ber.Spells x apdu_row strict 262144 v (take used text)) same p.1)
 
   pub found_ber : (v : Value) (f : ApduHead) (used : ℕ) → Some f ≡ option_map fields_of (ber_head v) → used ≡ length text → (used ≤ length text) × ber.Spells rows apdu_row false 262144 v (take used text) → HasFields syntax.Ber text f
-  found_ber v f used e n p = let x = found false v f used e n p in record { head = x.0; spells = x.1; are = x.2 }
+  found_ber v f used e n p = let x = found false v f used e n p in record { head = x.0; spells = x.1; are = x.2 ∙ in_ber x.0 }
 
   pub found_der : (v : Value) (f : ApduHead) (used : ℕ) → Some f ≡ option_map fields_of (ber_head v) → used ≡ length text → (used ≤ length text) × ber.Spells rows apdu_row true 262144 v (take used text) → HasFields syntax.Der text f
-  found_der v f used e n p = let x = found true v f used e n p in record { head = x.0; spells = x.1; are = x.2 }
+  found_der v f used e n p = let x = found true v f used e n p in record { head = x.0; spells = x.1; are = x.2 ∙ in_der x.0 }
 
   abbrev packed_fixed : Result (Value × ℕ) packeds.PackedFault
   packed_fixed = packed_rules.read_at head_rows packed_apdu_row 262144 text
@@ -175,7 +195,7 @@ module _ (rows : List TypeRow) (same : rows ≡ head_rows) (text : List ℕ) whe
   told_packed (packed_faults.TooLong place) e n is = faulty_packed (packed_faults.TooLong place) e n cc
   told_packed packed_faults.NoMemory e n is = absurd cc
 
-  pub found_packed : (v : Value) (f : ApduHead) (used : ℕ) (rest : List ℕ) → rest ≡ drop used text → Some f ≡ option_map fields_of (packed_head v rest) → (used ≤ length text) × Packed rows packed_apdu_row 262144 v (take used text) → HasFields syntax.Packed text f
+  pub found_packed : (v : Value) (f : ApduHead) (used : ℕ) (rest : List ℕ) → rest ≡ drop used text → Some f ≡ option_map fields_of (packed_head v rest) → (used ≤ length text) × Packed rows packed_apdu_row 262144 v (take used text) → HasFields syntax.Packed text (record f { room = 262144 - used })
   found_packed v f used rest is e p =
-      let x = packed_found text v f used (subst (λ (r : List ℕ). Some f ≡ option_map fields_of (packed_head v r)) is e) (subst (λ (y : List TypeRow). Packed y packed_apdu_row 262144 v (take used text)) same p.1) in
+      let x = packed_found text v f used (subst (λ (r : List ℕ). Some f ≡ option_map fields_of (packed_head v r)) is e) p.0 (subst (λ (y : List TypeRow). Packed y packed_apdu_row 262144 v (take used text)) same p.1) in
       record { head = x.0; spells = x.1; are = x.2 }

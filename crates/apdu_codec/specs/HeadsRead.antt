@@ -2,8 +2,8 @@
 use Rattle.std.specs.Prelude.{◌≡◌, ℕ, List, Result, Ok, Err}
 use Rattle.osi_base.specs.declared.syntax.Syntax.{Syntax}
 use Rattle.apdu_spelling.specs.declared.head.ApduHead.{ApduHead}
-use Rattle.apdu_spelling.specs.Heads.{Head, fields_of}
-use Rattle.apdu_spelling.specs.Spellings.{SpellsHead}
+use Rattle.apdu_spelling.specs.Heads.{Head}
+use Rattle.apdu_spelling.specs.Spellings.{SpellsHead, fields_in}
 use Rattle.apdu_codec.specs.declared.fault.HeadFault.{HeadFault}
 use Rattle.apdu_codec.specs.declared.fault.HeadFault.TheVariants.{General, BadReject, NoMemory}
 use Rattle.apdu_codec.specs.declared.reading.Tried as trieds
@@ -14,7 +14,7 @@ use Rattle.apdu_codec.specs.Refusals.{number_of, refusal_of}
 pub record HasFields (syntax : Syntax) (text : List ℕ) (fields : ApduHead) : Type 0 where
   pub head : Head
   pub spells : SpellsHead syntax head text
-  pub are : fields ≡ fields_of head
+  pub are : fields ≡ fields_in syntax head
 
 -- the octets spell no head
 abbrev pub HasNone : Syntax → List ℕ → Type 0

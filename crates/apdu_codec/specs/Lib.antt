@@ -2,3 +2,4 @@ pub mod Refusals
 pub mod Pieces
 pub mod Outcomes
 pub mod HeadsRead
+pub mod Laws

@@ -4,6 +4,7 @@
 
 mod fault;
 mod heads;
+mod laws;
 mod packed_heads;
 mod pieces;
 mod reading;
@@ -13,5 +14,6 @@ mod writing;
 pub use apdu_spelling::{ApduHead, ApduKind};
 pub use fault::HeadFault;
 pub use heads::Heads;
+pub use laws::written_apdu_is_read;
 pub use reading::read_apdu;
 pub use writing::write_apdu;

@@ -6,7 +6,9 @@ ghost use Rattle.apdu_spelling.specs.Heads.{fields_of};
 ghost use Rattle.apdu_codec.specs.Outcomes.{outcome_of};
 ghost use Rattle.apdu_codec.specs.Pieces.{integer_in, linked_in, code_in, none_behind, marked_in, outcome_in, invoke_by, result_by, error_by, reject_pieces, packed_invoke_pieces, packed_result_pieces, packed_error_pieces, packed_pieces, packed_head};
 
-use crate::pieces::{Returning, code_in, integer_in, linked_in, reject_pieces, result_head};
+use crate::pieces::{
+    MOST_OCTETS, Returning, code_in, integer_in, linked_in, reject_pieces, result_head,
+};
 use apdu_spelling::{ApduHead, ApduKind};
 use asn1_types::{Node, Val};
 use osi_base::{NoMemory, Octets};
@@ -83,6 +85,7 @@ fn invoke_by(
         code: Some(code),
         problem: None,
         rest,
+        room: MOST_OCTETS,
     }))
 }
 
@@ -127,6 +130,7 @@ fn error_by(
         code: Some(code),
         problem: None,
         rest,
+        room: MOST_OCTETS,
     }))
 }
 

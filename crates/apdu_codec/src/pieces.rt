@@ -13,6 +13,9 @@ use osi_base::{Copied, NoMemory, Octets, Problem, ProblemKind};
 use std::alloc::Global;
 use stub_tables::Code;
 
+/// How many octets an APDU has at most.
+pub(crate) const MOST_OCTETS: u32 = 262_144;
+
 /// The number of an INTEGER that is there.
 pub(crate) fn integer_in(part: &Option<Val>) -> Option<i64>
     ensures { result ≡ integer_in part.now }
@@ -217,6 +220,7 @@ fn invoke_by(
         code: Some(code),
         problem: None,
         rest: copied(alloc, argument)?,
+        room: MOST_OCTETS,
     }))
 }
 
@@ -250,6 +254,7 @@ pub(crate) fn result_head(id: Option<i64>, returned: Option<Returning>) -> ApduH
         code,
         problem: None,
         rest,
+        room: MOST_OCTETS,
     }
 }
 
@@ -276,6 +281,7 @@ fn error_by(
         code: Some(code),
         problem: None,
         rest: copied(alloc, parameter)?,
+        room: MOST_OCTETS,
     }))
 }
 
@@ -291,6 +297,7 @@ fn reject_by(id: &Option<Val>, problem: &Option<Val>) -> Option<ApduHead>
             code: None,
             problem: Some(problem),
             rest: None,
+            room: MOST_OCTETS,
         }),
         _ => None,
     }

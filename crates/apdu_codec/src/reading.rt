@@ -1,6 +1,6 @@
 //! Reading heads.
 
-ghost use Rattle.std.specs.Prelude.{◌≡◌, ◌≤◌, ℕ, IfOk, Ok, Err, length, true, false};
+ghost use Rattle.std.specs.Prelude.{◌≡◌, ◌≤◌, ◌-◌, ℕ, IfOk, Ok, Err, length, true, false};
 ghost use Rattle.osi_base.specs.declared.syntax.Syntax.TheVariants as syntaxes;
 ghost use Rattle.apdu_spelling.specs.Rows.{head_rows};
 ghost use Rattle.apdu_codec.specs.Refusals.{opens, opens_reject, number_of_kind, ber_told, packed_told, refusal_of, number_of};
@@ -10,7 +10,7 @@ ghost use Rattle.apdu_codec.specs.declared.fault.HeadFault.TheVariants as faults
 use crate::fault::HeadFault;
 use crate::heads::{APDU, Heads, PACKED_APDU};
 use crate::packed_heads::packed_head;
-use crate::pieces::ber_head;
+use crate::pieces::{MOST_OCTETS, ber_head};
 use apdu_spelling::ApduHead;
 use asn1_types::TypeTable;
 use ber_reading::{ReadFault, ber_read, der_read};
@@ -104,6 +104,14 @@ fn try_der(alloc: Global, rows: &TypeTable, bytes: &[u8]) -> Result<Tried, NoMem
     }
 }
 
+/// The head before whose value so many octets stand.
+fn behind(head: ApduHead, used: usize) -> ApduHead
+    ensures { result ≡ record head { room = 262144 - used } }
+{
+    let room = (MOST_OCTETS as usize).saturating_sub(used) as u32;
+    ApduHead { room, ..head }
+}
+
 /// As `Heads::read`, in the packed syntax.
 fn try_packed(alloc: Global, rows: &TypeTable, bytes: &[u8]) -> Result<Tried, NoMemory>
     requires { rows.now ≡ head_rows }
@@ -111,7 +119,7 @@ fn try_packed(alloc: Global, rows: &TypeTable, bytes: &[u8]) -> Result<Tried, No
 {
     match packed_read(alloc, rows, PACKED_APDU, bytes) {
         Ok(read) => match packed_head(alloc, &read.value, &bytes[read.used..])? {
-            Some(head) => Ok(Tried::Head(head)),
+            Some(head) => Ok(Tried::Head(behind(head, read.used))),
             None => Ok(Tried::Fault(1)),
         },
         Err(fault) => match packed_told(fault) {

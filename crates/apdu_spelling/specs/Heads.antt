@@ -32,10 +32,10 @@ carried (result id (Some outcome)) = outcome.octets
 carried (error id code parameter) = or_none parameter
 carried (reject id problem) = []
 
--- the fields of a head, as the program keeps them
+-- the fields of a head, as the program keeps them before it knows how many octets the head has
 abbrev pub fields_of : Head → ApduHead
-fields_of (invoke id linked code argument) = record { kind = kind.Invoke; id = Some id; linked = linked; code = Some code; problem = None; rest = argument }
-fields_of (result id None) = record { kind = kind.Result; id = Some id; linked = None; code = None; problem = None; rest = None }
-fields_of (result id (Some outcome)) = record { kind = kind.Result; id = Some id; linked = None; code = Some outcome.code; problem = None; rest = Some outcome.octets }
-fields_of (error id code parameter) = record { kind = kind.Error; id = Some id; linked = None; code = Some code; problem = None; rest = parameter }
-fields_of (reject id problem) = record { kind = kind.Reject; id = id; linked = None; code = None; problem = Some problem; rest = None }
+fields_of (invoke id linked code argument) = record { kind = kind.Invoke; id = Some id; linked = linked; code = Some code; problem = None; rest = argument; room = 262144 }
+fields_of (result id None) = record { kind = kind.Result; id = Some id; linked = None; code = None; problem = None; rest = None; room = 262144 }
+fields_of (result id (Some outcome)) = record { kind = kind.Result; id = Some id; linked = None; code = Some outcome.code; problem = None; rest = Some outcome.octets; room = 262144 }
+fields_of (error id code parameter) = record { kind = kind.Error; id = Some id; linked = None; code = Some code; problem = None; rest = parameter; room = 262144 }
+fields_of (reject id problem) = record { kind = kind.Reject; id = id; linked = None; code = None; problem = Some problem; rest = None; room = 262144 }

@@ -17,7 +17,8 @@ use Rattle.stub_tables.specs.declared.apdu.Apdu.TheVariants.{Invoke, Result, Err
 use Rattle.stub_tables.specs.declared.apdu.Returned.{Returned}
 use Rattle.stub_tables.specs.Uses.{may_lack}
 use Rattle.stub_tables.specs.Apdus.{argument_of, result_of, parameter_of, operation_coded, error_coded}
-use Rattle.apdu_spelling.specs.Heads.{Outcome, Head, invoke, result, error, reject, carried}
+use Rattle.apdu_spelling.specs.declared.head.ApduHead.{ApduHead}
+use Rattle.apdu_spelling.specs.Heads.{Outcome, Head, invoke, result, error, reject, carried, fields_of}
 use Rattle.apdu_spelling.specs.Rows.{head_rows, apdu_row, packed_apdu_row}
 use Rattle.apdu_spelling.specs.Values.{ber_value, packed_value}
 
@@ -50,6 +51,10 @@ abbrev pub room_behind : Syntax → Head → ℕ
 room_behind syntax.Ber h = most_octets
 room_behind syntax.Der h = most_octets
 room_behind syntax.Packed h = most_octets - length (packed head_rows packed_apdu_row (packed_value h))
+
+-- the fields of a head that was read
+abbrev pub fields_in : Syntax → Head → ApduHead
+fields_in syntax h = record (fields_of h) { room = room_behind syntax h }
 
 abbrev pub TypedAs : Syntax → TypeTable → ℕ → Option TypeId → Val → List ℕ → Type 0
 TypedAs syntax types limit None value octets = ⊥

@@ -36,6 +36,9 @@ pub mod WrittenSets
 pub mod Inside
 pub mod InsideRules
 pub mod FirstFaults
+pub mod Reach
+pub mod ReachRules
+pub mod Limits
 pub mod Around
 pub mod LastOctets
 pub mod UnusedBits
@@ -44,3 +47,6 @@ pub mod Fitting
 pub mod Strict
 pub mod StrictRules
 pub mod DerForms
+pub mod Wider
+pub mod WiderRules
+pub mod WiderLimits

@@ -1,3 +1,4 @@
 pub mod Changes
 pub mod Links
+pub mod Merging
 pub mod Sound

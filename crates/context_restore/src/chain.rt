@@ -1,73 +1,52 @@
 //! The functions that follow links: from a node to its parent, and so on to the root.
 
-ghost use Rattle.std.specs.Prelude.{◌≡◌, ◌≤◌, ◌+◌, [], ◌∷◌, drop, length, Some, None, IfOk, OnOk, OnErr};
+ghost use Rattle.std.specs.Prelude.{◌≡◌, ◌≤◌, ◌+◌, ℕ, List, [], ◌∷◌, drop, length, Some, None, IfOk, OnOk, OnErr, OnSome};
 ghost use Rattle.slab.specs.Slab.{get, slab_len, Updates};
-ghost use Rattle.context_restore.specs.Versions.{applied, root, set_of};
-ghost use Rattle.context_restore.specs.Chain.{parent_of, keys_from, version_at, versions_at, versions, first_of, root_node, IsLinked};
+ghost use Rattle.context_restore.specs.Versions.{applied, root};
+ghost use Rattle.context_restore.specs.Chain.{parent_of, back_of, set_back, versions, root_node, IsLinked, IsCut};
 
-use crate::differing::apply;
+use crate::differing::undo;
 use crate::node::VersionNode;
 use osi_base::{ListOf, NoMemory, SetItem, SetList};
 use slab::Slab;
 use std::alloc::Global;
 
-fn parent_of(nodes: &Slab<VersionNode>, key: u32) -> Option<u32>
-    ensures { result ≡ parent_of (get nodes.now key) }
-{
-    match nodes.get(key as usize) {
-        None => None,
-        Some(node) => node.parent,
-    }
-}
-
-/// The keys of all nodes from the newest to the root.
-pub(crate) fn keys_of(
-    alloc: Global,
-    nodes: &Slab<VersionNode>,
-    head: Option<u32>,
-) -> Result<Vec<u32>, NoMemory>
-    ensures { IfOk result (λ keys. keys.items ≡ keys_from nodes.now (slab_len nodes.now) head) }
-{
-    let mut keys = Vec::new(alloc);
-    let mut at = head;
-    for count in 0..nodes.len() {
-        let Some(key) = at else {
-            return Ok(keys);
-        };
-        keys.push(key)?;
-        at = parent_of(nodes, key);
-    }
-    Ok(keys)
-}
-
-/// Changes a set by the version under a key.
-fn apply_at(
+/// Leads a set back by the node under a key, and answers the key of its parent.
+fn undo_at(
     alloc: Global,
     set: &mut Vec<SetItem>,
     nodes: &Slab<VersionNode>,
     key: u32,
-) -> Result<(), NoMemory>
-    ensures { OnOk result (set.new.items ≡ applied (version_at (get nodes.now key)) set.old.items) }
+) -> Result<Option<u32>, NoMemory>
+    ensures set { OnOk result (set.new.items ≡ applied (back_of (get nodes.now key)) set.old.items) }
+    ensures parent { IfOk result (λ parent. parent ≡ parent_of (get nodes.now key)) }
 {
     match nodes.get(key as usize) {
-        None => Ok(()),
-        Some(node) => apply(alloc, set, node),
+        None => Ok(None),
+        Some(node) => {
+            undo(alloc, set, node)?;
+            Ok(node.parent)
+        }
     }
 }
 
-/// The set to which the versions under these keys, of which the newest is first, lead.
-pub(crate) fn set_along(
+/// The set to which so many links lead back from the newest one.
+pub(crate) fn set_back(
     alloc: Global,
     nodes: &Slab<VersionNode>,
-    keys: &[u32],
+    head: Option<u32>,
+    newest: SetList,
+    count: usize,
 ) -> Result<Vec<SetItem>, NoMemory>
-    ensures { IfOk result (λ set. set.items ≡ set_of (versions_at nodes.now keys.now)) }
+    ensures { IfOk result (λ set. set.items ≡ set_back nodes.now count head newest) }
 {
-    let mut set = Vec::new(alloc);
-    let mut place = keys.len();
-    while place > 0 {
-        place -= 1;
-        apply_at(alloc, &mut set, nodes, keys[place])?;
+    let mut set = newest.into_vec();
+    let mut at = head;
+    for step in 0..count {
+        let Some(key) = at else {
+            return Ok(set);
+        };
+        at = undo_at(alloc, &mut set, nodes, key)?;
     }
     Ok(set)
 }
@@ -82,19 +61,9 @@ pub(crate) fn rooted(alloc: Global, set: SetList) -> Result<Slab<VersionNode>, N
     nodes.insert(VersionNode {
         parent: None,
         added: set,
-        removed: ListOf::new(alloc),
+        lost: ListOf::new(alloc),
     })?;
     Ok(nodes)
-}
-
-/// The first of these keys.
-pub(crate) fn first_of(keys: &[u32]) -> Option<u32>
-    ensures { result ≡ first_of keys.now }
-{
-    match keys {
-        [] => None,
-        [key, ..] => Some(*key),
-    }
 }
 
 /// Puts a node into a slab, and answers its key. Keys are counted from 0, and those that are free
@@ -112,15 +81,32 @@ pub(crate) fn insert_node(nodes: &mut Slab<VersionNode>, node: VersionNode) -> R
     Ok(key)
 }
 
-/// Takes out so many of the newest nodes of a chain, which these keys lead through.
-pub(crate) fn drop_newest(nodes: &mut Slab<VersionNode>, keys: &[u32], count: usize)
-    requires linked { IsLinked nodes.old (first_of keys.now) keys.now }
-    requires within { count ≤ length keys.now }
-    ensures linked { IsLinked nodes.new (first_of (drop count keys.now)) (drop count keys.now) }
-    ensures versions { versions_at nodes.new (drop count keys.now) ≡ versions_at nodes.old (drop count keys.now) }
-    ensures len { slab_len nodes.new + count ≡ slab_len nodes.old }
+/// Takes the node under a key out, and answers the key of its parent.
+fn take_out(nodes: &mut Slab<VersionNode>, key: u32) -> Option<u32>
+    ensures parent { result ≡ parent_of (get nodes.old key) }
+    ensures updates { Updates nodes.old nodes.new key None }
+    ensures len { OnSome (get nodes.old key) (slab_len nodes.new + 1 ≡ slab_len nodes.old) }
 {
-    for place in 0..count {
-        nodes.try_remove(keys[place] as usize);
+    match nodes.try_remove(key as usize) {
+        None => None,
+        Some(node) => node.parent,
     }
+}
+
+/// Takes out so many of the newest nodes of a chain, and answers the key of the one behind them.
+pub(crate) fn drop_newest(
+    nodes: &mut Slab<VersionNode>,
+    head: Option<u32>,
+    count: usize,
+) -> Option<u32>
+    ensures { (keys : List ℕ) → IsLinked nodes.old head keys → count ≤ length keys → IsCut nodes.old nodes.new result (drop count keys) count }
+{
+    let mut at = head;
+    for place in 0..count {
+        let Some(key) = at else {
+            return None;
+        };
+        at = take_out(nodes, key);
+    }
+    at
 }

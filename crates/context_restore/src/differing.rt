@@ -1,13 +1,13 @@
 //! What one set has and another hasn't.
 
-ghost use Rattle.std.specs.Prelude.{◌≡◌, IfOk, OnOk};
-ghost use Rattle.std.specs.Option.{option_copied};
-ghost use Rattle.context_restore.specs.Versions.{same_syntax, same_pair, is_pair, has, missing, ids, without, with_all, applied};
-ghost use Rattle.context_restore.specs.Chain.{version_of};
+ghost use Rattle.std.specs.Prelude.{◌≡◌, ◌≤◌, ◌++◌, ◌∷◌, [], if◌then◌else◌, Some, IfOk, OnOk, length, drop};
+ghost use Rattle.context_sets.specs.Sets.{IsRising};
+ghost use Rattle.context_restore.specs.Versions.{same_syntax, same_pair, missing, ids, without, with_all, applied};
+ghost use Rattle.context_restore.specs.Chain.{from_id, begins_with, back_of};
 
 use crate::node::VersionNode;
-use context_sets::{pair_of, put, remove};
-use osi_base::{Copied, Ids, ListOf, NoMemory, Pair, SetItem, SetList, Syntax};
+use context_sets::{put, remove};
+use osi_base::{Copied, ListOf, NoMemory, Pair, SetItem, SetList, Syntax};
 use std::alloc::Global;
 
 fn same_syntax(a: Syntax, b: Syntax) -> bool
@@ -27,64 +27,71 @@ fn same_pair(a: &Pair, b: &Pair) -> bool
     a.abstract_name.arcs() == b.abstract_name.arcs() && same_syntax(a.transfer, b.transfer)
 }
 
-fn is_pair(other: Option<&Pair>, pair: &Pair) -> bool
-    ensures { result ≡ is_pair (option_copied other.entry) pair.now }
+/// The first place from this one on whose identifier isn't below `id`.
+fn first_from(set: &[SetItem], from: usize, id: u32) -> usize
+    requires { from ≤ length set.now }
+    ensures within { result ≤ length set.now }
+    ensures skips { drop result set.now ≡ from_id id (drop from set.now) }
 {
-    match other {
+    let mut place = from;
+    while place < set.len() && set[place].id < id {
+        place += 1;
+    }
+    place
+}
+
+/// Whether the set has this very context at this place.
+fn has_at(set: &[SetItem], place: usize, item: &SetItem) -> bool
+    requires { place ≤ length set.now }
+    ensures { result ≡ begins_with (drop place set.now) item.now }
+{
+    match set.get(place) {
         None => false,
-        Some(other) => same_pair(other, pair),
+        Some(first) => first.id == item.id && same_pair(&first.pair, &item.pair),
     }
 }
 
-/// Whether the set has this very context.
-fn has(set: &[SetItem], item: &SetItem) -> bool
-    ensures { result ≡ has set.now item.now }
+/// Puts a copy of a context at the end of a list, where the other set hasn't it.
+fn push_missing(
+    alloc: Global,
+    list: &mut SetList,
+    item: &SetItem,
+    is_there: bool,
+) -> Result<(), NoMemory>
+    ensures { OnOk result (list.new ≡ list.old ++ (if is_there then [] else item.now ∷ [])) }
 {
-    is_pair(pair_of(set, item.id), &item.pair)
+    if is_there {
+        return Ok(());
+    }
+    list.push(item.copy(alloc)?)
 }
 
-/// The contexts of a set that the other hasn't, or has with another pair.
+/// The contexts of a set that the other hasn't, or has with another pair. Both sets are gone through
+/// once, side by side.
 pub(crate) fn missing(
     alloc: Global,
     other: &[SetItem],
     set: &[SetItem],
 ) -> Result<SetList, NoMemory>
+    requires other { IsRising other.now }
+    requires rises { IsRising set.now }
     ensures { IfOk result (λ list. list ≡ missing other.now set.now) }
 {
     let mut list = ListOf::new(alloc);
+    let mut place = 0;
     for item in set {
-        if !has(other, item) {
-            list.push(item.copy(alloc)?)?;
-        }
+        place = first_from(other, place, item.id);
+        push_missing(alloc, &mut list, item, has_at(other, place, item))?;
     }
     Ok(list)
 }
 
-/// The identifiers of these contexts.
-fn ids(alloc: Global, set: &[SetItem]) -> Result<Ids, NoMemory>
-    ensures { IfOk result (λ list. list ≡ ids set.now) }
+/// Takes the identifiers of these contexts out of a set.
+fn remove_all(set: &mut Vec<SetItem>, items: &[SetItem])
+    ensures { set.new.items ≡ without (ids items.now) set.old.items }
 {
-    let mut list = ListOf::new(alloc);
-    for item in set {
-        list.push(item.id)?;
-    }
-    Ok(list)
-}
-
-/// The identifiers of the contexts of a set that a later one hasn't, or has with another pair.
-pub(crate) fn lost(alloc: Global, set: &[SetItem], later: &[SetItem]) -> Result<Ids, NoMemory>
-    ensures { IfOk result (λ list. list ≡ ids (missing later.now set.now)) }
-{
-    let gone = missing(alloc, later, set)?;
-    ids(alloc, gone.as_slice())
-}
-
-/// Takes these identifiers out of a set.
-fn remove_all(set: &mut Vec<SetItem>, ids: &[u32])
-    ensures { set.new.items ≡ without ids.now set.old.items }
-{
-    for id in ids {
-        remove(set, *id);
+    for item in items {
+        remove(set, item.id);
     }
 }
 
@@ -99,14 +106,14 @@ fn put_all(alloc: Global, set: &mut Vec<SetItem>, items: &[SetItem]) -> Result<(
     Ok(())
 }
 
-/// Changes a set by a version.
-pub(crate) fn apply(
+/// Leads the set of a version back to that of its parent.
+pub(crate) fn undo(
     alloc: Global,
     set: &mut Vec<SetItem>,
     node: &VersionNode,
 ) -> Result<(), NoMemory>
-    ensures { OnOk result (set.new.items ≡ applied (version_of node.now) set.old.items) }
+    ensures { OnOk result (set.new.items ≡ applied (back_of (Some node.now)) set.old.items) }
 {
-    remove_all(set, node.removed.as_slice());
-    put_all(alloc, set, node.added.as_slice())
+    remove_all(set, node.added.as_slice());
+    put_all(alloc, set, node.lost.as_slice())
 }

@@ -1,12 +1,13 @@
 //! Nodes of a chain of versions.
 
-use osi_base::{Ids, SetList};
+use osi_base::SetList;
 
-/// A version of a set: what it adds to its parent's set, and what it removes of it. A context whose
-/// pair changes is in both. The root has no parent, and adds its whole set.
+/// A version of a set: the contexts that it adds to its parent's set, and those that it takes out of
+/// it. A context whose pair changes is in both. The root has no parent, and adds its whole set. What
+/// is taken out is kept whole, so that a node leads back to its parent's set too.
 #[derive(Debug, Drop)]
 pub struct VersionNode {
     pub parent: Option<u32>,
     pub added: SetList,
-    pub removed: Ids,
+    pub lost: SetList,
 }

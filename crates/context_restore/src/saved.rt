@@ -6,8 +6,8 @@ ghost use Rattle.context_restore.specs.Versions.{version, root, set_of, below};
 ghost use Rattle.context_restore.specs.declared.refusal.SaveRefusal.TheVariants.{NoMemory as no_room};
 ghost use Rattle.context_restore.specs.SavedSets.{marks_of, next_number, mark_refusal, restart_refusal, resume_refusal, leave_refusal, resumed_set, resumed_nodes, IsRefused};
 
-use crate::chain::{drop_newest, first_of, insert_node, keys_of, rooted, set_along};
-use crate::differing::{lost, missing};
+use crate::chain::{drop_newest, insert_node, rooted, set_back};
+use crate::differing::missing;
 use crate::node::VersionNode;
 use crate::refusal::SaveRefusal;
 use context_sets::Contexts;
@@ -87,7 +87,8 @@ impl Saved {
     {
         let newest = set.list()?;
         let nodes = rooted(self.alloc, newest.copy(self.alloc)?)?;
-        self.inter = set.list()?;
+        let inter = set.list()?;
+        self.inter = inter;
         self.nodes = nodes;
         self.head = Some(0);
         self.newest = newest;
@@ -126,7 +127,7 @@ impl Saved {
         let node = VersionNode {
             parent: self.head,
             added: missing(self.alloc, self.newest.as_slice(), set.items())?,
-            removed: lost(self.alloc, self.newest.as_slice(), set.items())?,
+            lost: missing(self.alloc, set.items(), self.newest.as_slice())?,
         };
         let newest = set.list()?;
         let key = insert_node(&mut self.nodes, node)?;
@@ -139,6 +140,7 @@ impl Saved {
     pub fn set_below(&self, n: u32) -> Result<SetList, SaveRefusal>
         ensures refused { MatchResult result (λ _. restart_refusal self.now n ≡ None) (IsRefused (restart_refusal self.now n)) }
         ensures list { IfOk result (λ list. list ≡ set_of (below n self.now.nodes)) }
+        ensures rises { IfOk result (λ list. IsRising list) }
     {
         self.may_restart(n)?;
         self.oldest_set(n as usize)
@@ -149,6 +151,7 @@ impl Saved {
     pub fn restart(&mut self, n: u32) -> Result<SetList, SaveRefusal>
         ensures refused { MatchResult result (λ _. restart_refusal self.old n ≡ None) (IsRefused (restart_refusal self.old n)) }
         ensures list { IfOk result (λ list. list ≡ set_of (below n self.old.nodes)) }
+        ensures rises { IfOk result (λ list. IsRising list) }
         ensures ok { OnOk result (self.new ≡ record self.old { nodes = below n self.old.nodes }) }
         ensures err { OnErr result (self.new ≡ self.old) }
     {
@@ -162,6 +165,7 @@ impl Saved {
     pub fn resume(&mut self, n: u32, now: &Contexts) -> Result<SetList, SaveRefusal>
         ensures refused { MatchResult result (λ _. resume_refusal self.old n ≡ None) (IsRefused (resume_refusal self.old n)) }
         ensures list { IfOk result (λ list. list ≡ resumed_set self.old n now.now.set) }
+        ensures rises { IfOk result (λ list. IsRising list) }
         ensures ok { OnOk result (self.new ≡ record { nodes = resumed_nodes self.old n now.now.set; inter = now.now.set; active = true }) }
         ensures err { OnErr result (self.new ≡ self.old) }
     {
@@ -241,14 +245,17 @@ impl Saved {
         Ok(())
     }
 
-    /// The set to which the oldest versions lead, of which there are so many.
+    /// The set to which the oldest versions lead, of which there are so many: the newest one, led back
+    /// by the others.
     fn oldest_set(&self, count: usize) -> Result<SetList, SaveRefusal>
+        requires { 0 < count }
         ensures list { IfOk result (λ list. list ≡ set_of (below count self.now.nodes)) }
+        ensures rises { IfOk result (λ list. IsRising list) }
         ensures memory { IfErr result (λ refusal. refusal ≡ no_room) }
     {
-        let keys = keys_of(self.alloc, &self.nodes, self.head)?;
-        let dropped = keys.len().saturating_sub(count);
-        let set = set_along(self.alloc, &self.nodes, &keys[dropped..])?;
+        let dropped = self.nodes.len().saturating_sub(count);
+        let newest = self.newest.copy(self.alloc)?;
+        let set = set_back(self.alloc, &self.nodes, self.head, newest, dropped)?;
         Ok(ListOf::from_vec(set))
     }
 
@@ -256,17 +263,15 @@ impl Saved {
     fn cut(&mut self, count: usize) -> Result<SetList, SaveRefusal>
         requires { 0 < count }
         ensures list { IfOk result (λ list. list ≡ set_of (below count self.old.nodes)) }
+        ensures rises { IfOk result (λ list. IsRising list) }
         ensures ok { OnOk result (self.new ≡ record self.old { nodes = below count self.old.nodes }) }
         ensures err { OnErr result (self.new ≡ self.old) }
         ensures memory { IfErr result (λ refusal. refusal ≡ no_room) }
     {
-        let keys = keys_of(self.alloc, &self.nodes, self.head)?;
-        let dropped = keys.len().saturating_sub(count);
-        let set = set_along(self.alloc, &self.nodes, &keys[dropped..])?;
-        let newest = ListOf::from_vec(set);
+        let newest = self.oldest_set(count)?;
         let list = newest.copy(self.alloc)?;
-        drop_newest(&mut self.nodes, &keys, dropped);
-        self.head = first_of(&keys[dropped..]);
+        let dropped = self.nodes.len().saturating_sub(count);
+        self.head = drop_newest(&mut self.nodes, self.head, dropped);
         self.newest = newest;
         Ok(list)
     }

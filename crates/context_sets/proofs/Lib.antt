@@ -2,6 +2,7 @@ pub mod Placing
 pub mod Meeting
 pub mod TooFew
 pub mod Rising
+pub mod Agreeing
 pub mod Bounds
 pub mod Keeping
 pub mod Order

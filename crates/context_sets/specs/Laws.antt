@@ -7,6 +7,7 @@ use Rattle.context_sets.specs.Sets.{ContextSet, IsRising}
 use Rattle.context_sets.specs.Alterations.{altered, identifiers, named_by, is_among}
 use Rattle.context_sets.specs.Policy.{policy}
 use Rattle.context_sets.specs.Results.{mismatch}
+use Rattle.context_sets.specs.Held.{Held, oldest}
 
 -- none of these identifiers is among the others
 abbrev pub IsApartFrom : List ℕ → List ℕ → Type 0
@@ -29,3 +30,18 @@ abbrev pub AnswersFit : Type 0
 AnswersFit =
     (rules : Rules) (set : ContextSet) (own : List Alteration) (used : List ℕ) (asked : Alteration)
     → mismatch asked (policy rules set own used asked) ≡ None
+
+-- An end answered what the other asked for longest, and the other took its answers. Both were so before, and are
+-- so after.
+pub record Settles (rules : Rules) (used : List ℕ) (asking asking_after answering answering_after : Held) : Type 0 where
+  pub answers : Answers
+  pub by_policy : answers ≡ policy rules answering.set answering.own used (oldest asking.own)
+  pub answered : answering_after.set ≡ altered (oldest asking.own) answers answering.set
+  pub confirmed : asking_after.set ≡ altered (oldest asking.own) answers asking.set
+
+-- Two sets that agreed agree again after an answer and its confirmation.
+abbrev pub AgreeAgain : Type 0
+AgreeAgain =
+    (rules : Rules) (used : List ℕ) (asking asking_after answering answering_after : Held)
+    → Settles rules used asking asking_after answering answering_after
+    → asking.set ≡ answering.set → asking_after.set ≡ answering_after.set

@@ -1,6 +1,6 @@
 //! The laws of alterations, each the contract of a function that does nothing.
 
-ghost use Rattle.context_sets.specs.Laws.{CrossingAgrees, AnswersFit};
+ghost use Rattle.context_sets.specs.Laws.{CrossingAgrees, AnswersFit, AgreeAgain};
 
 /// Two alterations that cross lead to one set, whichever is settled first.
 pub fn crossing_agrees()
@@ -11,4 +11,9 @@ pub fn crossing_agrees()
 /// set then changes as that of the end that answered.
 pub fn answers_fit()
     ensures { AnswersFit }
+{}
+
+/// Two sets that agreed agree again after an answer and its confirmation.
+pub fn agree_again()
+    ensures { AgreeAgain }
 {}

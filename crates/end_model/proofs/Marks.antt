@@ -19,7 +19,7 @@ pub mark-sent : SendsAs Direct (λ body. Session (OfMarks (Mark (next_number bod
 mark-sent free base body =
     ap (λ n. record (seen (at Direct base) body) { saved = record { number = n; set = set_seen body.sets.held } ∷ saved_seen body.saved }) (next-seen body.saved)
 
-map-snoc : {A B : Type 0} (f : A → B) (xs : List A) (y : A) → map f (xs ++ y ∷ []) ≡ map f xs ++ f y ∷ []
+pub map-snoc : {A B : Type 0} (f : A → B) (xs : List A) (y : A) → map f (xs ++ y ∷ []) ≡ map f xs ++ f y ∷ []
 map-snoc f [] y = refl
 map-snoc f (x ∷ xs) y = ap (λ ys. f x ∷ ys) (map-snoc f xs y)
 

@@ -32,7 +32,7 @@ pub newest-seen : (saved : List Saved) → set_seen (newest saved) ≡ model_new
 newest-seen [] = refl
 newest-seen (mark ∷ marks) = refl
 
-role-is : (initiator : Bool) → initiator ≡ is_initiator (role_seen initiator)
+pub role-is : (initiator : Bool) → initiator ≡ is_initiator (role_seen initiator)
 role-is true = refl
 role-is false = refl
 

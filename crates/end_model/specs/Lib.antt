@@ -1,3 +1,15 @@
 pub mod Seen
 pub mod Rows
 pub mod Meant
+pub mod Opens
+pub mod Words
+pub mod Acting
+pub mod Heard
+pub mod Requests
+pub mod Takings
+pub mod Pairs
+pub mod Openings
+pub mod Connections
+pub mod OwnActs
+pub mod Faultless
+pub mod Steps

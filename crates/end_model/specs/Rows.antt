@@ -160,11 +160,9 @@ pub record PurgedOthers : Type 0 where
   pub refuse : (transport : Option ℕ) (reason : Option ℕ) (presentation : Option PresentationReject) (values : List Value) →
       PurgedAs (OfAssociation (Refuse transport reason presentation values)) model_refuse
 
--- A giving in direct mode, where none is ever unanswered (only a GTC is confirmed, X.225 8.3.18).
+-- A giving in direct mode (only a GTC is confirmed, X.225 8.3.18).
 pub record GivingsTaken : Type 0 where
-  pub give : (tokens : ℕ) (free : Free) (base : Base) (body : Body) → body.link.gave ≡ false →
-      seen (at Direct base) (after_word (at Direct base) body (OfMarks (Give (Some tokens)))) ≡
-      taken (setup_seen free Direct base) (role_seen base.initiator) (seen (at Direct base) body) model_give Nothing
+  pub give : (tokens : ℕ) → TakesAs Direct (OfMarks (Give (Some tokens))) model_give Nothing
 
 -- Restarts and their answers, as they are taken in direct mode, where nothing is queued.
 pub record RestartsTaken : Type 0 where

@@ -1,5 +1,5 @@
 -- What the model of agreement sees of one end: its state as a function of the end's body.
-use Rattle.std.specs.Prelude.{ℕ, ℤ, pos, negsuc, List, [], ◌∷◌, ◌++◌, map, Bool, true, false, if◌then◌else◌, Option, Some, None, option_map, unwrap_or, is_some}
+use Rattle.std.specs.Prelude.{ℕ, ℤ, pos, negsuc, List, [], ◌∷◌, ◌++◌, map, length, Bool, true, false, not, ◌&&◌, nat_eq, nat_le, if◌then◌else◌, Option, Some, None, option_map, unwrap_or, is_some}
 use Rattle.osi_base.specs.Syntax.{name_of}
 use Rattle.osi_base.specs.declared.syntax.Pair.{Pair}
 use Rattle.osi_base.specs.declared.syntax.Syntax.TheVariants.{Der}
@@ -11,20 +11,21 @@ use Rattle.osi_base.specs.declared.words.ProblemKind.{ProblemKind}
 use Rattle.osi_base.specs.declared.words.ProblemKind.TheVariants as problems
 use Rattle.stub_tables.specs.declared.apdu.Apdu.{Apdu}
 use Rattle.stub_tables.specs.declared.apdu.Apdu.TheVariants as apdus
-use Rattle.stub_tables.specs.Lookup.{operation_at, operation_with}
+use Rattle.stub_tables.specs.Lookup.{operation_at, operation_with, error_with}
 use Rattle.dialogue.specs.declared.config.Mode.{Mode}
 use Rattle.dialogue.specs.declared.config.Mode.TheVariants.{Bare, Direct, Reliable}
 use Rattle.dialogue.specs.declared.config.Phase.{Phase}
 use Rattle.dialogue.specs.declared.config.Phase.TheVariants as phases
-use Rattle.end_rules.specs.Base.{Base, Item, most_marks, most_transferred, most_open}
+use Rattle.end_rules.specs.Base.{Base, Head, ResultHead, ErrorHead, Item, most_marks, most_transferred, most_open}
 use Rattle.end_rules.specs.Sets.{Alteration, Saved, syntax_named}
-use Rattle.end_rules.specs.State.{Stage, Unused, Asked, Joined, Carrying, Awaited, NoAnswer, RestartOf, InterruptOf, DiscardOf, ReleaseOf, OpenCall, Calls, Queued, Piece, Octets, Marked, Progress, Running, Ending, Suspended, Encoded, Transfer, Sending, Receiving, Body}
+use Rattle.end_rules.specs.State.{Stage, Unused, Asked, Joined, Carrying, Awaited, NoAnswer, RestartOf, InterruptOf, DiscardOf, ReleaseOf, OpenCall, is_whose, is_none, Calls, Queued, Piece, Octets, Marked, Progress, Running, Ending, Suspended, Encoded, Transfer, Sending, Receiving, Body}
 use Rattle.end_rules.specs.Invoking.{is_linked_to}
-use Rattle.end_rules.specs.Hearing.{is_silent_at}
+use Rattle.end_rules.specs.Hearing.{is_silent_at, has_links, result_problem, error_problem}
 use Rattle.agreement.specs.Sets as model_sets
 use Rattle.agreement.specs.Sets.Role.{Initiator, Responder}
 use Rattle.agreement.specs.Sets.Item.{Addition, Deletion}
 use Rattle.agreement.specs.Messages as model
+use Rattle.agreement.specs.Calls.{is_open}
 use Rattle.agreement.specs.Messages.Mode.{Bare as model_bare, Direct as model_direct, Reliable as model_reliable}
 use Rattle.agreement.specs.Messages.Apdu.{Invoke as model_invoke, Outcome as model_outcome, Reject as model_reject}
 use Rattle.agreement.specs.Messages.Problem.{General as of_general, OfInvocation as of_invocation, OfResult as of_result, OfError as of_error}
@@ -135,8 +136,7 @@ invocation_seen o = record { number = number_seen o.id; operation = o.operation;
 -- the open invocations of this end (own), or of its peer, put before those
 abbrev pub opens_seen_on : Bool → List model.Invocation → List OpenCall → List model.Invocation
 opens_seen_on own newer [] = newer
-opens_seen_on true newer (o ∷ os) = opens_seen_on true (if o.own then invocation_seen o ∷ newer else newer) os
-opens_seen_on false newer (o ∷ os) = opens_seen_on false (if o.own then newer else invocation_seen o ∷ newer) os
+opens_seen_on own newer (o ∷ os) = opens_seen_on own (if is_whose own o then invocation_seen o ∷ newer else newer) os
 
 abbrev pub calls_seen : Calls → model.Calls
 calls_seen calls =
@@ -197,13 +197,45 @@ seen base body =
       calls = calls_seen body.calls;
     }
 
--- ---- what two ends have in common; how values stand in octets, which outcomes an operation has and for which
--- problem an APDU is rejected is left free here
+-- ---- what two ends have in common
 
+-- How values stand in octets is left free: it is a codec of the model.
 pub record Free : Type 0 where
   pub codec : model.Codec
-  pub allows : ℕ → List ℕ → Bool
-  pub problem : model.Calls → model.Apdu → model.Problem
+
+-- what the octets say is an outcome that the operation at this place has, with a value of its type (X.880 8)
+abbrev pub is_outcome : Base → ℕ → Head → Bool
+is_outcome base place (ResultHead id code value) = is_none (result_problem base place (operation_at base.tables place) code value)
+is_outcome base place (ErrorHead id code parameter) =
+    is_none (error_problem base (operation_at base.tables place) (error_with base.tables code) parameter)
+is_outcome base place head = false
+
+abbrev pub allows_outcome : Base → ℕ → List ℕ → Bool
+allows_outcome base place content = is_outcome base place (base.spellings.head Der content)
+
+-- Why an invocation isn't accepted: its number is open (0), there is no room (3), the linked invocation isn't open (5), its
+-- operation has no links (6), or not this one (7). An outcome isn't where its invocation isn't open (0) (X.880 9).
+abbrev pub on_open : (ℕ → Bool) → ℕ → List model.Invocation → Bool
+on_open test number [] = false
+on_open test number (c ∷ cs) = if nat_eq c.number number then test c.operation else on_open test number cs
+
+abbrev pub link_due : Base → List model.Invocation → Option ℕ → ℕ
+link_due base opens None = 1
+link_due base opens (Some parent) =
+    if not (is_open parent opens) then 5
+    else (if on_open (λ place. has_links (operation_at base.tables place)) parent opens then 7 else 6)
+
+abbrev pub outcome_due : Head → model.Problem
+outcome_due (ErrorHead id code parameter) = of_error 0
+outcome_due head = of_result 0
+
+abbrev pub problem_due : Base → model.Calls → model.Apdu → model.Problem
+problem_due base calls (model_invoke number operation link argument) =
+    if is_open number calls.peer_open then of_invocation 0
+    else (if nat_le most_open (length calls.peer_open) && not (is_silent_at base (Some operation)) then of_invocation 3
+    else of_invocation (link_due base calls.own_open link))
+problem_due base calls (model_outcome number content) = outcome_due (base.spellings.head Der content)
+problem_due base calls (model_reject number problem) = problem
 
 abbrev pub setup_seen : Free → Mode → Base → model.Setup
 setup_seen free mode base =
@@ -213,8 +245,8 @@ setup_seen free mode base =
       knows = λ name. is_some (syntax_named name);
       silent = λ operation. is_silent_at base (Some operation);
       links = λ parent child. is_linked_to (operation_at base.tables parent) child;
-      allows = free.allows;
-      problem = free.problem;
+      allows = allows_outcome base;
+      problem = problem_due base;
       bare_context = record { identifier = 0; pair = record { abstract_syntax = base.tables.name_oid; transfer_syntax = 2 ∷ 1 ∷ 1 ∷ [] } };
       most_marks = most_marks;
       most_octets = most_transferred;

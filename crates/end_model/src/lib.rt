@@ -1,11 +1,22 @@
-//! One end as the model of agreement sees it: each request that an end sends and each message that it takes is the
-//! act or the taking of the model.
+//! One end as the model of agreement sees it: each request that an end sends and each message that
+//! it takes is the act or the taking of the model.
 #![tactic(auto)]
 
+mod acting;
+mod pairs;
 mod rows;
+mod takings;
 
+pub use acting::{
+    alters_act, calls_act, calls_unseen, connections_act, data_heard, handed_in, own_acts,
+};
+pub use pairs::{bare_pairs_are_modelled, steps_keep_the_run};
 pub use rows::{
     activities_sent, activities_taken, alterations_sent, answered, association_taken, breaks,
     connections, givings_taken, marks_sent, marks_taken, purged, purged_others, restarts_answered,
     restarts_taken, resumptions, sent, transfers_sent, transfers_taken,
+};
+pub use takings::{
+    answers_may_be_taken, answers_taken, direct_may_be_taken, direct_taken, discards_taken,
+    ends_taken, openings_taken, reliable_may_be_taken, reliable_taken, transfer_words_taken,
 };

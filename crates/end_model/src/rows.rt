@@ -18,7 +18,8 @@ pub fn activities_sent()
     ensures rows { ActivitiesSent }
 {}
 
-/// Starts, ends, interrupts and discards of the peer's activity, and the confirmation of an own end, as they are taken.
+/// Starts, ends, interrupts and discards of the peer's activity, and the confirmation of an own
+/// end, as they are taken.
 pub fn activities_taken()
     ensures rows { ActivitiesTaken }
 {}
@@ -28,7 +29,8 @@ pub fn association_taken()
     ensures rows { AssociationTaken }
 {}
 
-/// Parts, marks and the end of the own transfer, the start of the next, and its discard, as they are sent.
+/// Parts, marks and the end of the own transfer, the start of the next, and its discard, as they
+/// are sent.
 pub fn transfers_sent()
     ensures rows { TransfersSent }
 {}
@@ -68,7 +70,8 @@ pub fn connections()
     ensures rows { Connections }
 {}
 
-/// Resumptions: of the own transfer, as it is sent, and of the peer's activity with a part, as they are taken.
+/// Resumptions: of the own transfer, as it is sent, and of the peer's activity with a part, as
+/// they are taken.
 pub fn resumptions()
     ensures rows { Resumptions }
 {}

@@ -222,6 +222,13 @@ marked_twice = opening ++ CallsA the_calls.Mark ∷ TakesB ∷ CallsA the_calls.
 abbrev pub crossing_restarts : List Event
 crossing_restarts = marked_twice ++ CallsA (the_calls.Resync 3) ∷ CallsB (the_calls.Resync 2) ∷ TakesB ∷ TakesA ∷ TakesB ∷ []
 
+-- context 7 is added, the set is marked, and a restart to that mark brings back the set before
+abbrev pub added_and_marked : List Event
+added_and_marked = opening ++ CallsA (adds 7 ber_name) ∷ TakesB ∷ TakesA ∷ CallsA the_calls.Mark ∷ TakesB ∷ []
+
+abbrev pub restored : List Event
+restored = added_and_marked ++ CallsB (the_calls.Resync 1) ∷ TakesA ∷ TakesB ∷ []
+
 -- four additions in flight, and a restart of the other end
 abbrev pub four_lost : List Event
 four_lost =
@@ -280,3 +287,6 @@ acse_alone = record { id = 1; pair = in_ber acse_name } ∷ []
 
 abbrev pub with_five : List SetItem
 with_five = record { id = 1; pair = in_ber acse_name } ∷ record { id = 5; pair = in_ber module_name } ∷ []
+
+abbrev pub with_seven : List SetItem
+with_seven = record { id = 1; pair = in_ber acse_name } ∷ record { id = 5; pair = in_ber module_name } ∷ record { id = 7; pair = in_ber module_name } ∷ []

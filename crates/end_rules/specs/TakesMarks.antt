@@ -64,11 +64,11 @@ restarted base n body =
 abbrev pub shown_restarted : Body → ℕ → List Indication
 shown_restarted body n = losses body ++ cuts body ++ indications.Restarted n ∷ []
 
--- ---- tokens
+-- ---- tokens: who takes a giving has none of its own unconfirmed
 
 abbrev pub with_turn : Option ℕ → Body → Body
 with_turn None body = body
-with_turn (Some tokens) body = record body { link = record body.link { turn = true } }
+with_turn (Some tokens) body = record body { link = record body.link { turn = true; gave = false } }
 
 abbrev pub shown_turn : Option ℕ → List Indication
 shown_turn None = []

@@ -12,7 +12,7 @@ ghost use Rattle.dialogue.specs.declared.indication.Indication.TheVariants as in
 ghost use Rattle.end_rules.specs.Sets.{next_number};
 ghost use Rattle.end_rules.specs.State.{highest, NoAnswer};
 ghost use Rattle.end_rules.specs.Calling.{can_call};
-ghost use Rattle.end_rules.specs.Cases.{played, base_for, opening, collision, deletes, crossing_restarts, four_lost, transfer, resumption, linked, result_twice, unasked, acse_alone, with_five};
+ghost use Rattle.end_rules.specs.Cases.{played, base_for, opening, collision, deletes, crossing_restarts, added_and_marked, restored, four_lost, transfer, resumption, linked, result_twice, unasked, acse_alone, with_five, with_seven};
 
 /// An opening in direct mode: both ends are up with contexts 1 and 5, the initiator has the token, the set is
 /// saved under 0, and context management is selected.
@@ -45,6 +45,14 @@ pub fn lower_restart_wins()
     ensures marks { let two = played Direct crossing_restarts in
         (next_number two.a.saved ≡ 2) × (next_number two.b.saved ≡ 2)
         × (two.a.link.awaits ≡ NoAnswer) × (two.b.link.awaits ≡ NoAnswer) }
+{}
+
+/// A restart to a mark brings back the set of the mark before, at both ends, and not the newest.
+pub fn restart_brings_back_the_set()
+    ensures before { let two = played Direct added_and_marked in
+        (two.a.sets.held ≡ with_seven) × (two.b.sets.held ≡ with_seven) × (next_number two.b.saved ≡ 2) }
+    ensures after { let two = played Direct restored in
+        (two.a.sets.held ≡ with_five) × (two.b.sets.held ≡ with_five) × (next_number two.a.saved ≡ 1) }
 {}
 
 /// Four additions are in flight, a fifth is refused, and a restart of the other end loses all four.

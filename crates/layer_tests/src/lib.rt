@@ -8,8 +8,6 @@ mod ber;
 #[cfg(test)]
 mod ber_written;
 #[cfg(test)]
-mod outside;
-#[cfg(test)]
 mod packed;
 #[cfg(test)]
 mod packets;

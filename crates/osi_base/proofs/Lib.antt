@@ -1,3 +1,4 @@
 pub mod Contents
 pub mod Grown
+pub mod Shuts
 pub mod Whole

@@ -3,6 +3,7 @@ pub mod Bits
 pub mod Failing
 pub mod Limits
 pub mod Lines
+pub mod MemLines
 pub mod Memory
 pub mod Oid
 pub mod Outside

@@ -1,22 +1,21 @@
--- The log of a line, and the room that is kept for its next call of `shut`.
-use Rattle.std.specs.Prelude.{ℕ, ◌≡◌, ◌<◌, Bool, true, false, List, [], ◌∷◌, Option, None, Some, IsTrue}
+-- The log of a line, in which calls of `shut` that were done are only counted at its end.
+use Rattle.std.specs.Prelude.{ℕ, ◌+◌, List, [], ◌∷◌, Option, None, Some, suc, zero}
 use Rattle.osi_base.specs.declared.line.LineCall.{LineCall}
 use Rattle.osi_base.specs.declared.line.LineCall.TheVariants.{Shut}
+use Rattle.osi_base.specs.declared.line.Outcome.TheVariants.{Done}
 
--- the newest call of a log is one that a call of `shut` may follow: any other
-abbrev pub is_open : List LineCall → Bool
-is_open [] = false
-is_open (Shut outcome ∷ log) = false
-is_open (call ∷ log) = true
+-- a log, the newest call first, once the connection was shut so many times more
+abbrev pub shut_after : ℕ → List LineCall → List LineCall
+shut_after zero log = log
+shut_after (suc count) log = Shut Done ∷ shut_after count log
 
-abbrev pub awaits_shut : Option (List LineCall) → Bool
-awaits_shut None = false
-awaits_shut (Some log) = is_open log
+-- how many calls of `shut` that were done stand in a row as the newest of a log
+abbrev pub newest_shuts : List LineCall → ℕ
+newest_shuts [] = 0
+newest_shuts (Shut Done ∷ log) = newest_shuts log + 1
+newest_shuts (call ∷ log) = 0
 
--- a log is told, and its newest call isn't one of `shut`
-abbrev pub AwaitsShut : Option (List LineCall) → Type 0
-AwaitsShut told = IsTrue (awaits_shut told)
-
--- where a call of `shut` may follow, there is room for it
-abbrev pub KeepsRoom : List LineCall → ℕ → ℕ → Type 0
-KeepsRoom log length capacity = is_open log ≡ true → length < capacity
+-- the same of a log that may be told
+abbrev pub shuts_told : Option (List LineCall) → ℕ
+shuts_told None = 0
+shuts_told (Some log) = newest_shuts log

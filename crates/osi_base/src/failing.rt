@@ -3,6 +3,8 @@
 ghost use Rattle.std.specs.Prelude.{◌≡◌, ◌↔◌, ◌+◌, ◌≤◌, min, IsTrue, Contains, if◌then◌else◌};
 ghost use Rattle.osi_base.specs.Outside.{last_count};
 
+use crate::line::Outcome;
+
 /// Which calls of an object in memory are to fail, how many calls there were and how many failed.
 #[derive(Debug, Drop)]
 pub struct FailingCalls {
@@ -20,6 +22,17 @@ impl FailingCalls {
             numbers,
             made: 0,
             faults: 0,
+        }
+    }
+
+    /// What the next call will come to. No call counts as made.
+    pub fn next_outcome(&self) -> Outcome
+        ensures failed { (result ≡ Outcome.Failed) ↔ Contains self.now.numbers.items self.now.made }
+    {
+        if self.numbers.contains(&self.made) {
+            Outcome::Failed
+        } else {
+            Outcome::Done
         }
     }
 

@@ -4,12 +4,15 @@
 
 mod acse_word;
 mod bit_string;
+mod call_log;
 mod copied;
 mod failing;
 mod fault;
 mod files;
 mod line;
 mod list;
+mod mem_calls;
+mod mem_line;
 mod memory;
 mod name;
 mod octets;
@@ -21,6 +24,7 @@ mod session_word;
 mod sink;
 mod sure_line;
 mod syntax;
+mod tcp_line;
 mod words;
 
 pub use acse_word::{Acse, Diagnostic, External, Externals};
@@ -31,6 +35,7 @@ pub use fault::NoMemory;
 pub use files::{FILE_MOST, FileFault, Files};
 pub use line::{Failed, Line, LineCall, LineFault, Outcome};
 pub use list::ListOf;
+pub use mem_line::MemLine;
 pub use memory::{MemFile, MemFiles, MemSink, SureFiles, SureSink};
 pub use name::{Name, Words};
 pub use octets::Octets;
@@ -45,6 +50,7 @@ pub use session_word::{SessionConnect, SessionWord, Spdu, Spdus};
 pub use sink::{Sink, SinkFault, write_all};
 pub use sure_line::SureLine;
 pub use syntax::{Pair, Syntax};
+pub use tcp_line::TcpLine;
 pub use words::{
     AddAnswer, AddAnswers, Answers, Ids, Indices, Kind, Layer, Oids, Problem, ProblemKind,
     Proposal, Proposals, RestoredItem, RestoredList, SetItem, SetList, Side, Status,

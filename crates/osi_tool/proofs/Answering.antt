@@ -1,5 +1,5 @@
 -- From what is prepared to an answer, and from an answer to the end of the top call.
-use Rattle.std.proofs.Common.{ℕ, ◌≡◌, List, Option, Result, Ok, Err, IfOk, MatchResult, sym, subst}
+use Rattle.std.proofs.Common.{ℕ, ◌≡◌, List, Option, Result, Ok, Err, IfOk, OnErr, MatchResult, sym, subst}
 use Rattle.osi_base.specs.Outside.{FileMap}
 use Rattle.osi_base.specs.declared.words.Status.{Status}
 use Rattle.osi_base.specs.declared.words.Status.TheVariants.{NoMemory}
@@ -35,9 +35,9 @@ module _ (told : Option FileMap) (old new : ℕ) (words : List (List ℕ)) where
       subst A (sym told_so) (replays schedule text (made_by tables known p (Ready schedule) is made) (subst R known run))
 
   pub closed : {E : Type 0} (sink_old sink_new : ℕ) (before after : Option (List ℕ)) (status : Status) (r : Result Answer E)
-      → IfOk r (λ answer. IsAnswer told old new words answer) → IfOk r (λ answer. KeepsCount old new answer)
+      → IfOk r (λ answer. IsAnswer told old new words answer) → IfOk r (λ answer. KeepsCount old new answer) → OnErr r (new ≡ old)
       → MatchResult r (λ made. Ends sink_old sink_new before after made status) (λ _. (status ≡ NoMemory) × (sink_new ≡ sink_old) × (after ≡ before))
       → Closes told old new words sink_old sink_new before after status
-  closed sink_old sink_new before after status (Ok answer) is counts ends = answered answer status is counts ends
-  closed sink_old sink_new before after status (Err fault) is counts ends =
-      let C : Status → Type 0 = λ s. Closes told old new words sink_old sink_new before after s in subst C (sym ends.0) (no_room ends.1 ends.2)
+  closed sink_old sink_new before after status (Ok answer) is counts kept ends = answered answer status is counts ends
+  closed sink_old sink_new before after status (Err fault) is counts kept ends =
+      let C : Status → Type 0 = λ s. Closes told old new words sink_old sink_new before after s in subst C (sym ends.0) (no_room kept ends.1 ends.2)

@@ -43,7 +43,7 @@ module _ (told : Option FileMap) (old new : ℕ) (words : List (List ℕ)) (sink
   pub done_of : (status : Status) → Closes told old new words sink_old sink_new before after status → status ≡ Done → IsDone told old new words before after
   done_of status (answered answer _ is counts ends) h =
       let w = whole_if sink_old sink_new before after answer status ends Done h refl in done_by answer is w.0 w.1
-  done_of _ (no_room calm same) h = cc
+  done_of _ (no_room kept calm same) h = cc
 
   usage_by : (answer : Answer) → IsAnswer told old new words answer → answer.status ≡ Usage → after ≡ grown before answer.text → IsUsage words before after
   usage_by answer (refuses _ made) h written =
@@ -53,7 +53,7 @@ module _ (told : Option FileMap) (old new : ℕ) (words : List (List ℕ)) (sink
   pub usage_of : (status : Status) → Closes told old new words sink_old sink_new before after status → status ≡ Usage → IsUsage words before after
   usage_of status (answered answer _ is counts ends) h =
       let w = whole_if sink_old sink_new before after answer status ends Usage h refl in usage_by answer is w.0 w.1
-  usage_of _ (no_room calm same) h = cc
+  usage_of _ (no_room kept calm same) h = cc
 
   unread_by : (answer : Answer) → IsAnswer told old new words answer → answer.status ≡ ReadFault → after ≡ grown before answer.text → IsUnread told old new words before after
   unread_by answer (refuses _ made) h written =
@@ -63,7 +63,7 @@ module _ (told : Option FileMap) (old new : ℕ) (words : List (List ℕ)) (sink
   pub unread_of : (status : Status) → Closes told old new words sink_old sink_new before after status → status ≡ ReadFault → IsUnread told old new words before after
   unread_of status (answered answer _ is counts ends) h =
       let w = whole_if sink_old sink_new before after answer status ends ReadFault h refl in unread_by answer is w.0 w.1
-  unread_of _ (no_room calm same) h = cc
+  unread_of _ (no_room kept calm same) h = cc
 
   module_by : (answer : Answer) → IsAnswer told old new words answer → answer.status ≡ ModuleRefused → after ≡ grown before answer.text → IsOtherModule told old new words before after
   module_by answer (refuses _ made) h written =
@@ -73,7 +73,7 @@ module _ (told : Option FileMap) (old new : ℕ) (words : List (List ℕ)) (sink
   pub module_of : (status : Status) → Closes told old new words sink_old sink_new before after status → status ≡ ModuleRefused → IsOtherModule told old new words before after
   module_of status (answered answer _ is counts ends) h =
       let w = whole_if sink_old sink_new before after answer status ends ModuleRefused h refl in module_by answer is w.0 w.1
-  module_of _ (no_room calm same) h = cc
+  module_of _ (no_room kept calm same) h = cc
 
   script_by : (answer : Answer) → IsAnswer told old new words answer → answer.status ≡ ScriptRefused → after ≡ grown before answer.text → IsBadScript told old new words before after
   script_by answer (refuses _ made) h written =
@@ -83,20 +83,20 @@ module _ (told : Option FileMap) (old new : ℕ) (words : List (List ℕ)) (sink
   pub script_of : (status : Status) → Closes told old new words sink_old sink_new before after status → status ≡ ScriptRefused → IsBadScript told old new words before after
   script_of status (answered answer _ is counts ends) h =
       let w = whole_if sink_old sink_new before after answer status ends ScriptRefused h refl in script_by answer is w.0 w.1
-  script_of _ (no_room calm same) h = cc
+  script_of _ (no_room kept calm same) h = cc
 
   pub write_fault_of : (status : Status) → Closes told old new words sink_old sink_new before after status → status ≡ WriteFault
       → Rose sink_old sink_new × IsBegun told old new words before after
   write_fault_of status (answered answer _ is counts ends) h =
       let w = part_if_failed sink_old sink_new before after answer status ends h (foreign answer is WriteFault refl) in
       (w.0, record { answer = answer; is = is; counts = counts; part = w.1 })
-  write_fault_of _ (no_room calm same) h = cc
+  write_fault_of _ (no_room kept calm same) h = cc
 
   pub no_memory_of : (status : Status) → Closes told old new words sink_old sink_new before after status → status ≡ NoMemory
       → (after ≡ before) ⊎ IsBegun told old new words before after
   no_memory_of status (answered answer _ is counts ends) h =
       inr (record { answer = answer; is = is; counts = counts; part = part_if_no_memory sink_old sink_new before after answer status ends h (foreign answer is NoMemory refl) })
-  no_memory_of _ (no_room calm same) h = inl same
+  no_memory_of _ (no_room kept calm same) h = inl same
 
   pub no_other_of : (status : Status) → Closes told old new words sink_old sink_new before after status
       → (status ≡ LineFault → ⊥) × (status ≡ Ended → ⊥) × (status ≡ Spent → ⊥)
@@ -105,17 +105,17 @@ module _ (told : Option FileMap) (old new : ℕ) (words : List (List ℕ)) (sink
     (λ h. foreign answer is Ended refl (whole_if sink_old sink_new before after answer status ends Ended h refl).0),
     (λ h. foreign answer is Spent refl (whole_if sink_old sink_new before after answer status ends Spent h refl).0),
   )
-  no_other_of _ (no_room calm same) = ((λ h. cc), (λ h. cc), (λ h. cc))
+  no_other_of _ (no_room kept calm same) = ((λ h. cc), (λ h. cc), (λ h. cc))
 
   -- ---- what the counts say
 
-  pub files_count_of : (status : Status) → Closes told old new words sink_old sink_new before after status → CountsFiles old new status
-  files_count_of status (answered answer _ is counts ends) = counts_files sink_old sink_new before after answer status ends old new counts
-  files_count_of _ (no_room calm same) = inr (inr (inl refl))
+  pub files_count_of : (status : Status) → Closes told old new words sink_old sink_new before after status → CountsFiles told old new words before after status
+  files_count_of status (answered answer _ is counts ends) = counts_files told old new words before after answer is sink_old sink_new status ends counts
+  files_count_of _ (no_room kept calm same) = inl kept
 
   pub sink_count_of : (status : Status) → Closes told old new words sink_old sink_new before after status → CountsWrites sink_old sink_new status
   sink_count_of status (answered answer _ is counts ends) = counts_writes sink_old sink_new before after answer status ends
-  sink_count_of _ (no_room calm same) = inr calm
+  sink_count_of _ (no_room kept calm same) = inr calm
 
   -- ---- when each status comes
 
@@ -126,7 +126,7 @@ module _ (told : Option FileMap) (old new : ℕ) (words : List (List ℕ)) (sink
   pub no_command_of : (status : Status) → Closes told old new words sink_old sink_new before after status → command_of words ≡ None
       → IsUnless sink_old sink_new Usage status
   no_command_of status (answered answer _ is counts ends) none = unless sink_old sink_new before after answer status ends Usage (usage_due answer is none)
-  no_command_of _ (no_room calm same) none = inr (inr refl)
+  no_command_of _ (no_room kept calm same) none = inr (inr refl)
 
 due_by : (map : FileMap) (old new : ℕ) (words : List (List ℕ)) → IsCalm old new → (answer : Answer) → IsAnswer (Some map) old new words answer
     → answer.status ≡ due_status map (command_of words)
@@ -139,7 +139,7 @@ pub due_of : (told : Option FileMap) (old new : ℕ) (words : List (List ℕ)) (
 due_of None old new words sink_old sink_new before after status closes = tt
 due_of (Some map) old new words sink_old sink_new before after status (answered answer _ is counts ends) =
     λ calm. unless sink_old sink_new before after answer status ends (due_status map (command_of words)) (due_by map old new words calm answer is)
-due_of (Some map) old new words sink_old sink_new before after _ (no_room calm same) = λ calm. inr (inr refl)
+due_of (Some map) old new words sink_old sink_new before after _ (no_room kept calm same) = λ calm. inr (inr refl)
 
 -- a map that has the known module and a schedule that reads is due the end of a run
 sure_due : (map : FileMap) (old new : ℕ) (words : List (List ℕ)) (sink_old sink_new : ℕ) → IsSure (Some map) old new words sink_old sink_new

@@ -1,11 +1,11 @@
 -- What the end of a run says of its answer and of the sink.
-use Rattle.std.proofs.Common.{ℕ, ◌≡◌, List, Option, Bool, true, false, refl, ap, inl, inr, ◌∙◌}
-use Rattle.osi_base.specs.Outside.{Rose, grown, GrewPart}
+use Rattle.std.proofs.Common.{ℕ, ◌≡◌, ◌⊎◌, List, Option, Bool, true, false, refl, ap, inl, inr, ◌∙◌}
+use Rattle.osi_base.specs.Outside.{Rose, FileMap, grown, GrewPart}
 use Rattle.osi_base.specs.declared.words.Status.{Status}
 use Rattle.osi_base.specs.declared.words.Status.TheVariants.{Done, Usage, ReadFault, WriteFault, LineFault, ModuleRefused, ScriptRefused, Ended, Spent, NoMemory}
 use Rattle.osi_tool.specs.declared.answers.Answer.{Answer}
 use Rattle.osi_tool.specs.Answers.{is_read_fault, KeepsCount, Ends, whole, failed, no_memory}
-use Rattle.osi_tool.specs.TopCall.{IsUnless, CountsFiles, CountsWrites}
+use Rattle.osi_tool.specs.TopCall.{IsAnswer, IsUnless, IsUnreadBegun, CountsFiles, CountsWrites}
 
 -- the statuses of a write that isn't whole
 abbrev pub is_writes : Status → Bool
@@ -40,25 +40,34 @@ counts_writes old new before after answer _ (whole same written) = inr same
 counts_writes old new before after answer _ (failed rose part) = inl refl
 counts_writes old new before after answer _ (no_memory same part) = inr same
 
--- The files' count is as it was, unless the answer is that a file isn't read, or isn't written whole.
-kept_by : (files_old files_new : ℕ) (answer : Answer) (status : Status) → answer.status ≡ status → KeepsCount files_old files_new answer
-    → CountsFiles files_old files_new status
-kept_by files_old files_new answer ReadFault is counts = inl refl
-kept_by files_old files_new answer WriteFault is counts = inr (inl refl)
-kept_by files_old files_new answer NoMemory is counts = inr (inr (inl refl))
-kept_by files_old files_new answer Done is counts = inr (inr (inr (counts (ap is_read_fault is))))
-kept_by files_old files_new answer Usage is counts = inr (inr (inr (counts (ap is_read_fault is))))
-kept_by files_old files_new answer LineFault is counts = inr (inr (inr (counts (ap is_read_fault is))))
-kept_by files_old files_new answer ModuleRefused is counts = inr (inr (inr (counts (ap is_read_fault is))))
-kept_by files_old files_new answer ScriptRefused is counts = inr (inr (inr (counts (ap is_read_fault is))))
-kept_by files_old files_new answer Ended is counts = inr (inr (inr (counts (ap is_read_fault is))))
-kept_by files_old files_new answer Spent is counts = inr (inr (inr (counts (ap is_read_fault is))))
+-- The files' count is as it was, unless the answer is that a file isn't read.
+same_or_unread : (old new : ℕ) (answer : Answer) (status : Status) → answer.status ≡ status → KeepsCount old new answer → (new ≡ old) ⊎ (answer.status ≡ ReadFault)
+same_or_unread old new answer ReadFault is counts = inr is
+same_or_unread old new answer WriteFault is counts = inl (counts (ap is_read_fault is))
+same_or_unread old new answer NoMemory is counts = inl (counts (ap is_read_fault is))
+same_or_unread old new answer Done is counts = inl (counts (ap is_read_fault is))
+same_or_unread old new answer Usage is counts = inl (counts (ap is_read_fault is))
+same_or_unread old new answer LineFault is counts = inl (counts (ap is_read_fault is))
+same_or_unread old new answer ModuleRefused is counts = inl (counts (ap is_read_fault is))
+same_or_unread old new answer ScriptRefused is counts = inl (counts (ap is_read_fault is))
+same_or_unread old new answer Ended is counts = inl (counts (ap is_read_fault is))
+same_or_unread old new answer Spent is counts = inl (counts (ap is_read_fault is))
 
-pub counts_files : (old new : ℕ) (before after : Option (List ℕ)) (answer : Answer) (status : Status) → Ends old new before after answer status
-    → (files_old files_new : ℕ) → KeepsCount files_old files_new answer → CountsFiles files_old files_new status
-counts_files old new before after answer _ (whole same written) files_old files_new counts = kept_by files_old files_new answer answer.status refl counts
-counts_files old new before after answer _ (failed rose part) files_old files_new counts = inr (inl refl)
-counts_files old new before after answer _ (no_memory same part) files_old files_new counts = inr (inr (inl refl))
+module _ (told : Option FileMap) (old new : ℕ) (words : List (List ℕ)) (before after : Option (List ℕ)) (answer : Answer) (is : IsAnswer told old new words answer) where
+  if_whole : (new ≡ old) ⊎ (answer.status ≡ ReadFault) → CountsFiles told old new words before after answer.status
+  if_whole (inl same) = inl same
+  if_whole (inr unread) = inr (inl unread)
+
+  if_begun : (status : Status) → (status ≡ WriteFault) ⊎ (status ≡ NoMemory) → GrewPart before after answer.text
+      → (new ≡ old) ⊎ (answer.status ≡ ReadFault) → CountsFiles told old new words before after status
+  if_begun status cause part (inl same) = inl same
+  if_begun status cause part (inr unread) = inr (inr (cause, record { answer = answer; is = is; unread = unread; part = part }))
+
+  pub counts_files : (sink_old sink_new : ℕ) (status : Status) → Ends sink_old sink_new before after answer status → KeepsCount old new answer
+      → CountsFiles told old new words before after status
+  counts_files sink_old sink_new _ (whole same written) counts = if_whole (same_or_unread old new answer answer.status refl counts)
+  counts_files sink_old sink_new _ (failed rose part) counts = if_begun WriteFault (inl refl) part (same_or_unread old new answer answer.status refl counts)
+  counts_files sink_old sink_new _ (no_memory same part) counts = if_begun NoMemory (inr refl) part (same_or_unread old new answer answer.status refl counts)
 
 -- The status is the answer's, unless writing failed or memory was refused.
 pub unless : (old new : ℕ) (before after : Option (List ℕ)) (answer : Answer) (status : Status) → Ends old new before after answer status

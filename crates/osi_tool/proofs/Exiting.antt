@@ -9,4 +9,4 @@ use Rattle.osi_tool.specs.TopCall.{no_room}
 -- memory was refused for the words
 pub exits_unread : (told : Option FileMap) (old : ℕ) (given : List (List ℕ)) (sink_old : ℕ) (before : Option (List ℕ)) (code : ℕ)
     → code ≡ exit_code NoMemory → Exits told old old given sink_old sink_old before before code
-exits_unread told old given sink_old before code is = record { status = NoMemory; closes = no_room refl refl; code_is = is }
+exits_unread told old given sink_old before code is = record { status = NoMemory; closes = no_room refl refl refl; code_is = is }

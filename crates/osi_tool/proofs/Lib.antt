@@ -7,3 +7,4 @@ pub mod OneTables
 pub mod Answering
 pub mod Closing
 pub mod Only
+pub mod Asked

@@ -2,6 +2,8 @@
 use Rattle.std.specs.Prelude.{ℕ, ◌≡◌, ◌≤◌, ◌⊎◌, List, length, Option, None, Some, Result, Ok, Err, IfSome, MatchBool, true, false}
 use Rattle.osi_base.specs.Limits.{file_most}
 use Rattle.osi_base.specs.Outside.{Rose, FileMap, Lacks, logged}
+use Rattle.osi_base.specs.declared.words.Status.{Status}
+use Rattle.osi_base.specs.declared.words.Status.TheVariants.{Done, ReadFault, ModuleRefused, ScriptRefused}
 use Rattle.stub_tables.specs.declared.tables.Tables.{Tables}
 use Rattle.script_text.specs.declared.fault.ScriptFault.{ScriptFault}
 use Rattle.script_text.specs.declared.fault.ScriptFault.TheVariants.{At, NoMemory}
@@ -45,6 +47,21 @@ abbrev pub Asks : Option FileMap → ℕ → ℕ → Option (List (List ℕ)) �
 Asks told old new before after None = after ≡ before
 Asks told old new before after (Some command) = MayAsk command.«module» before after
     ⊎ (IsKnownRead told old new command.«module» × (after ≡ logged command.schedule (logged command.«module» before)))
+
+-- Which files were asked for, by the status of what is answered: none where the words are no command, the module
+-- alone, or behind it the schedule. Of other statuses, which aren't those of an answer to a command, nothing is said.
+abbrev pub AskedBy : Option Command → Option (List (List ℕ)) → Option (List (List ℕ)) → Status → Type 0
+AskedBy None before after status = after ≡ before
+AskedBy (Some command) before after ReadFault = (after ≡ logged command.«module» before) ⊎ (after ≡ logged command.schedule (logged command.«module» before))
+AskedBy (Some command) before after ModuleRefused = after ≡ logged command.«module» before
+AskedBy (Some command) before after ScriptRefused = after ≡ logged command.schedule (logged command.«module» before)
+AskedBy (Some command) before after Done = after ≡ logged command.schedule (logged command.«module» before)
+AskedBy (Some command) before after status = Unit {0}
+
+-- the same of what was prepared, where a schedule that is ready is on its way to be done
+abbrev pub AskedFor : Option Command → Option (List (List ℕ)) → Option (List (List ℕ)) → Prepared → Type 0
+AskedFor command before after (Answered answer) = AskedBy command before after answer.status
+AskedFor command before after (Ready schedule) = AskedBy command before after Done
 
 -- what a schedule's reading makes
 abbrev pub prepared_by : Result Schedule ScriptFault → Option Prepared

@@ -28,11 +28,11 @@ pub data IsAnswer (told : Option FileMap) (old new : ℕ) (words : List (List �
   replays : (schedule : Schedule) (text : List ℕ) → Prepares one_tables told old new (command_of words) (Ready schedule)
       → Replayed one_tables schedule text → IsAnswer told old new words (done_answer text)
 
--- An answer is written, or a beginning of it; or memory was refused before there was one.
+-- An answer is written, or a beginning of it; or memory was refused before there was one, and no file had failed.
 pub data Closes (told : Option FileMap) (old new : ℕ) (words : List (List ℕ)) (sink_old sink_new : ℕ) (before after : Option (List ℕ)) : Status → Type 0 where
   answered : (answer : Answer) (status : Status) → IsAnswer told old new words answer → KeepsCount old new answer → Ends sink_old sink_new before after answer status
       → Closes told old new words sink_old sink_new before after status
-  no_room : sink_new ≡ sink_old → after ≡ before → Closes told old new words sink_old sink_new before after NoMemory
+  no_room : new ≡ old → sink_new ≡ sink_old → after ≡ before → Closes told old new words sink_old sink_new before after NoMemory
 
 -- ---- what each status says
 
@@ -95,9 +95,18 @@ pub record IsBegun (told : Option FileMap) (old new : ℕ) (words : List (List �
 
 -- ---- what the counts say
 
--- The files' count is as it was, unless a file wasn't read: that is told, or its telling wasn't written whole.
-abbrev pub CountsFiles : ℕ → ℕ → Status → Type 0
-CountsFiles old new status = (status ≡ ReadFault) ⊎ ((status ≡ WriteFault) ⊎ ((status ≡ NoMemory) ⊎ (new ≡ old)))
+-- The answer is that a file isn't read, and a beginning of it was written.
+pub record IsUnreadBegun (told : Option FileMap) (old new : ℕ) (words : List (List ℕ)) (before after : Option (List ℕ)) : Type 0 where
+  pub answer : Answer
+  pub is : IsAnswer told old new words answer
+  pub unread : answer.status ≡ ReadFault
+  pub part : GrewPart before after answer.text
+
+-- The files' count is as it was, unless a file wasn't read: that is told, or the sink failed or was refused memory
+-- as it was being told.
+abbrev pub CountsFiles : Option FileMap → ℕ → ℕ → List (List ℕ) → Option (List ℕ) → Option (List ℕ) → Status → Type 0
+CountsFiles told old new words before after status =
+    (new ≡ old) ⊎ ((status ≡ ReadFault) ⊎ (((status ≡ WriteFault) ⊎ (status ≡ NoMemory)) × IsUnreadBegun told old new words before after))
 
 -- The sink's count is as it was, unless the status is that of the sink.
 abbrev pub CountsWrites : ℕ → ℕ → Status → Type 0

@@ -5,8 +5,9 @@ ghost use Rattle.osi_tool.specs.Answers.{usage_answer, unread_answer, module_ans
 ghost use Rattle.osi_base.specs.declared.words.Status.TheVariants.{NoMemory as no_room};
 
 use osi_base::{Name, NoMemory, Octets, Sink, SinkFault, Status, write_all};
-use script_text::{ScriptKind, Text};
+use script_text::ScriptKind;
 use std::alloc::Global;
+use value_text::Text;
 
 /// What the program answers: its status, and the text that it writes.
 #[derive(Debug, Drop)]

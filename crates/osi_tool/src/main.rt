@@ -13,7 +13,7 @@ mod statuses;
 mod tests;
 mod top;
 
-use osi_base::{DiskFiles, StdSink, SureLine};
+use osi_base::{DiskFiles, StdSink, TcpLine};
 use process::{Arguments, run_process};
 use std::alloc::Global;
 use std::env;
@@ -37,7 +37,7 @@ fn main(rt: HostRuntime) -> ExitCode {
     let alloc = rt.alloc();
     let mut files = DiskFiles { rt: &rt, faults: 0 };
     let mut out = StdSink { rt: &rt, faults: 0 };
-    let mut line = SureLine::new(alloc);
+    let mut line = TcpLine::new(&rt);
     let code = run_process(alloc, read_arguments(&rt), &mut files, &mut out, &mut line);
     ExitCode::from(code)
 }

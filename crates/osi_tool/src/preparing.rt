@@ -3,7 +3,7 @@
 ghost use Rattle.std.specs.Prelude.{◌≡◌, ◌≤◌, IfOk, OnOk, OnErr, Some, None, bytes_eq};
 ghost use Rattle.osi_base.specs.Outside.{Rose, logged};
 ghost use Rattle.osi_tool.specs.Commands.{command_of};
-ghost use Rattle.osi_tool.specs.Preparing.{WasRead, AfterModule, Prepares, PreparesModule, PreparesSchedule, prepared_by, KeepsCountAt, KeepsCountFor, MayAsk, Asks};
+ghost use Rattle.osi_tool.specs.Preparing.{WasRead, AfterModule, Prepares, PreparesModule, PreparesSchedule, prepared_by, KeepsCountAt, KeepsCountFor, MayAsk, Asks, AskedFor};
 ghost use Rattle.script_text.specs.Schedules.{schedule_of};
 
 use crate::answers::{Answer, cannot_read, module_refused, script_refused, usage};
@@ -56,7 +56,8 @@ fn prepare_schedule(alloc: Global, tables: &Tables, text: &[u8]) -> Result<Prepa
     }
 }
 
-/// Reads the schedule of this name.
+/// Reads the schedule of this name. What tells that it isn't read is made before it is asked for,
+/// so that no want of memory stands between a file that failed and its telling.
 fn prepare_named_schedule<F: Files>(
     alloc: Global,
     tables: &Tables,
@@ -67,15 +68,19 @@ fn prepare_named_schedule<F: Files>(
     ensures kept { F.told files.new ≡ F.told files.old }
     ensures prepared { IfOk result (λ prepared. PreparesSchedule tables.now (F.told files.old) (F.faults files.old) (F.faults files.new) name.now prepared) }
     ensures counts { IfOk result (λ prepared. KeepsCountFor (F.faults files.old) (F.faults files.new) prepared) }
+    ensures err_count { OnErr result (F.faults files.new ≡ F.faults files.old) }
     ensures asked { MayAsk name.now (F.asked files.old) (F.asked files.new) }
+    ensures ok_asked { OnOk result (F.asked files.new ≡ logged name.now (F.asked files.old)) }
 {
+    let unread = cannot_read(alloc, name)?;
     match read_file(alloc, files, name)? {
-        None => Ok(Prepared::Answered(cannot_read(alloc, name)?)),
+        None => Ok(Prepared::Answered(unread)),
         Some(text) => prepare_schedule(alloc, tables, text.as_slice()),
     }
 }
 
-/// Reads the module of this name, and then the schedule.
+/// Reads the module of this name, and then the schedule. What tells that the module isn't read is
+/// made before it is asked for.
 fn prepare_module<F: Files>(
     alloc: Global,
     tables: &Tables,
@@ -87,10 +92,13 @@ fn prepare_module<F: Files>(
     ensures kept { F.told files.new ≡ F.told files.old }
     ensures prepared { IfOk result (λ prepared. PreparesModule tables.now (F.told files.old) (F.faults files.old) (F.faults files.new) (record { «module» = «module».now; schedule = schedule.now }) prepared) }
     ensures counts { IfOk result (λ prepared. KeepsCountFor (F.faults files.old) (F.faults files.new) prepared) }
+    ensures err_count { OnErr result (F.faults files.new ≡ F.faults files.old) }
     ensures asked { Asks (F.told files.old) (F.faults files.old) (F.faults files.new) (F.asked files.old) (F.asked files.new) (Some (record { «module» = «module».now; schedule = schedule.now })) }
+    ensures asked_for { IfOk result (λ prepared. AskedFor (Some (record { «module» = «module».now; schedule = schedule.now })) (F.asked files.old) (F.asked files.new) prepared) }
 {
+    let unread = cannot_read(alloc, module)?;
     let Some(text) = read_file(alloc, files, module)? else {
-        return Ok(Prepared::Answered(cannot_read(alloc, module)?));
+        return Ok(Prepared::Answered(unread));
     };
     if !is_one_module(text.as_slice()) {
         return Ok(Prepared::Answered(module_refused(alloc)?));
@@ -110,7 +118,9 @@ pub fn prepare<F: Files>(
     ensures kept { F.told files.new ≡ F.told files.old }
     ensures prepared { IfOk result (λ prepared. Prepares tables.now (F.told files.old) (F.faults files.old) (F.faults files.new) (command_of words.now) prepared) }
     ensures counts { IfOk result (λ prepared. KeepsCountFor (F.faults files.old) (F.faults files.new) prepared) }
+    ensures err_count { OnErr result (F.faults files.new ≡ F.faults files.old) }
     ensures asked { Asks (F.told files.old) (F.faults files.old) (F.faults files.new) (F.asked files.old) (F.asked files.new) (command_of words.now) }
+    ensures asked_for { IfOk result (λ prepared. AskedFor (command_of words.now) (F.asked files.old) (F.asked files.new) prepared) }
 {
     match command(words) {
         None => Ok(Prepared::Answered(usage(alloc)?)),

@@ -1,10 +1,10 @@
 //! The program's top call.
 
-ghost use Rattle.std.specs.Prelude.{◌≡◌, ◌≢◌, ◌≤◌, ◌⊎◌, None, IfOk, IfSome};
+ghost use Rattle.std.specs.Prelude.{◌≡◌, ◌≢◌, ◌≤◌, ◌⊎◌, None, IfOk, IfSome, OnErr};
 ghost use Rattle.osi_base.specs.Outside.{Rose, IsCalm};
 ghost use Rattle.osi_tool.specs.Answers.{KeepsCount};
 ghost use Rattle.osi_tool.specs.Commands.{command_of};
-ghost use Rattle.osi_tool.specs.Preparing.{Asks};
+ghost use Rattle.osi_tool.specs.Preparing.{Asks, AskedBy};
 ghost use Rattle.osi_tool.specs.TopCall.{IsAnswer, Closes, IsDone, IsUsage, IsUnread, IsOtherModule, IsBadScript, IsBegun, IsUnless, IsSure, CountsFiles, CountsWrites, due_status};
 
 use crate::answers::{Answer, conclude, done};
@@ -20,7 +20,9 @@ fn answer_words<F: Files>(alloc: Global, words: &Words, files: &mut F) -> Result
     ensures kept { F.told files.new ≡ F.told files.old }
     ensures answer { IfOk result (λ answer. IsAnswer (F.told files.old) (F.faults files.old) (F.faults files.new) words.now answer) }
     ensures counts { IfOk result (λ answer. KeepsCount (F.faults files.old) (F.faults files.new) answer) }
+    ensures err_count { OnErr result (F.faults files.new ≡ F.faults files.old) }
     ensures asked { Asks (F.told files.old) (F.faults files.old) (F.faults files.new) (F.asked files.old) (F.asked files.new) (command_of words.now) }
+    ensures asked_for { IfOk result (λ answer. AskedBy (command_of words.now) (F.asked files.old) (F.asked files.new) answer.status) }
 {
     let tables = one_tables(alloc)?;
     match prepare(alloc, &tables, words, files)? {
@@ -35,6 +37,7 @@ fn run_words<F: Files, O: Sink>(alloc: Global, words: &Words, files: &mut F, out
     ensures contents { F.told files.new ≡ F.told files.old }
     ensures sink { O.faults out.old ≤ O.faults out.new }
     ensures asked { Asks (F.told files.old) (F.faults files.old) (F.faults files.new) (F.asked files.old) (F.asked files.new) (command_of words.now) }
+    ensures asked_for { AskedBy (command_of words.now) (F.asked files.old) (F.asked files.new) result }
     ensures closes { Closes (F.told files.old) (F.faults files.old) (F.faults files.new) words.now (O.faults out.old) (O.faults out.new) (O.told out.old) (O.told out.new) result }
 {
     conclude(out, answer_words(alloc, words, files))
@@ -67,7 +70,8 @@ pub fn osi_run<F: Files, O: Sink, L: Line>(
     ensures sink { O.faults out.old ≤ O.faults out.new }
     ensures line { line.new ≡ line.old }
     ensures asked { Asks (F.told files.old) (F.faults files.old) (F.faults files.new) (F.asked files.old) (F.asked files.new) (command_of words.now) }
-    ensures files_count { CountsFiles (F.faults files.old) (F.faults files.new) result }
+    ensures asked_for { AskedBy (command_of words.now) (F.asked files.old) (F.asked files.new) result }
+    ensures files_count { CountsFiles (F.told files.old) (F.faults files.old) (F.faults files.new) words.now (O.told out.old) (O.told out.new) result }
     ensures sink_count { CountsWrites (O.faults out.old) (O.faults out.new) result }
 
     // The whole of it, of which all that follows is said again in parts

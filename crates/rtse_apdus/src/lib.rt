@@ -4,8 +4,10 @@
 mod codec;
 mod laws;
 mod table;
+mod transfer;
 mod words;
 
 pub use codec::{read_rtse, write_rtse};
-pub use laws::{rtse_is_spelled, spelled_rtse_is_read, written_rtse_is_read};
+pub use laws::{rtse_is_spelled, spelled_rtse_is_read, transfers, written_rtse_is_read};
 pub use table::RtseTable;
+pub use transfer::{TransferTable, read_transfer, write_transfer};

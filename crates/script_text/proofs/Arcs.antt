@@ -8,7 +8,7 @@ use Rattle.osi_base.specs.Syntax.{name_of}
 use Rattle.osi_base.specs.declared.syntax.Syntax.{Syntax}
 use Rattle.osi_base.specs.declared.syntax.Syntax.TheVariants.{Ber, Der, Packed}
 use Rattle.stub_tables.specs.declared.tables.Tables.{Tables}
-use Rattle.script_text.specs.Values.{oid_text}
+use Rattle.value_text.specs.Values.{oid_text}
 use Rattle.script_text.specs.Calls.{syntax_text, as_field}
 
 false_of : {P : Type 0} (b : Bool) → Decides b P → (P → ⊥) → b ≡ false

@@ -17,7 +17,7 @@ use Rattle.dialogue.specs.declared.call.CallRefusal.TheVariants as refusals
 use Rattle.dialogue.specs.declared.event.Event.{Event}
 use Rattle.dialogue.specs.declared.event.Event.TheVariants as events
 use Rattle.script_text.specs.Words.{side_word}
-use Rattle.script_text.specs.Values.{oid_text, value_field}
+use Rattle.value_text.specs.Values.{oid_text, value_field}
 
 abbrev pub operation_text : Option Operation → List ℕ
 operation_text None = codes "?"

@@ -9,7 +9,7 @@ use Rattle.stub_tables.specs.declared.tables.Tables.{Tables}
 use Rattle.dialogue.specs.declared.indication.Indication.{Indication}
 use Rattle.dialogue.specs.declared.indication.Indication.TheVariants as shown
 use Rattle.script_text.specs.Words.{layer_word, problem_word}
-use Rattle.script_text.specs.Values.{value_field}
+use Rattle.value_text.specs.Values.{value_field}
 use Rattle.script_text.specs.Calls.{operation_name, error_name, linked_field, number_field}
 
 -- an identifier, or `-` where it is absent

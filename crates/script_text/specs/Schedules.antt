@@ -18,7 +18,7 @@ use Rattle.script_text.specs.declared.fault.ScriptKind.TheVariants.{UnknownWord,
 use Rattle.script_text.specs.declared.schedule.Schedule.{Schedule}
 use Rattle.osi_base.specs.Limits.{text_most, event_most}
 use Rattle.script_text.specs.Lines.{lines_of, fields_of}
-use Rattle.script_text.specs.Numbers.{number_of, identifier_of, integer_of, kept_below}
+use Rattle.value_text.specs.Numbers.{number_of, identifier_of, integer_of, kept_below}
 
 -- both values, where both are there
 abbrev pub both : {X Y Z : Type 0} → (X → Y → Z) → Option X → Option Y → Option Z

@@ -9,7 +9,8 @@ use Rattle.dialogue.specs.declared.event.Entry.TheVariants as entries
 use Rattle.dialogue.specs.declared.event.Event.TheVariants as events
 use Rattle.dialogue.specs.declared.event.Transcript.{Transcript}
 use Rattle.dialogue.specs.declared.indication.Indication.{Indication}
-use Rattle.script_text.specs.Words.{hex_octet, side_word, peer_of, mode_word, phase_word}
+use Rattle.value_text.specs.Values.{hex_octet}
+use Rattle.script_text.specs.Words.{side_word, peer_of, mode_word, phase_word}
 use Rattle.script_text.specs.Calls.{event_text, answer_text}
 use Rattle.script_text.specs.Indications.{indication_text}
 

@@ -6,12 +6,11 @@ ghost use Rattle.script_text.specs.Calls.{operation_name, error_name, linked_fie
 ghost use Rattle.script_text.specs.Words.{side_word};
 ghost use Rattle.dialogue.specs.declared.event.Event.TheVariants as events;
 
-use crate::text::Text;
-use crate::value::{put_oid, put_value_field};
 use crate::words::side_word;
 use dialogue::{Call, CallRefusal, Event};
 use osi_base::{NoMemory, Oid, Proposal, Side, Syntax};
 use stub_tables::Tables;
+use value_text::{Text, put_oid, put_value_field};
 
 /// The name of the operation at this place, or `?` where there is none.
 pub fn put_operation(text: &mut Text, tables: &Tables, place: u32) -> Result<(), NoMemory>

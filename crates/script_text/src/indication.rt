@@ -5,12 +5,11 @@ ghost use Rattle.std.specs.Option.{option_copied};
 ghost use Rattle.script_text.specs.Indications.{id_text, problem_text, answered, added_field, deleted_field, added_text, deleted_text, altered_text, own_text, cause_text, aborted_text, indication_text};
 
 use crate::call::{put_error, put_linked, put_named, put_number_field, put_operation};
-use crate::text::Text;
-use crate::value::put_value_field;
 use crate::words::{layer_word, problem_word};
 use dialogue::Indication;
 use osi_base::{AddAnswer, Answers, Ids, Layer, NoMemory, Problem};
 use stub_tables::Tables;
+use value_text::{Text, put_value_field};
 
 /// An identifier, or `-` where it is absent.
 fn put_id(text: &mut Text, id: Option<i64>) -> Result<(), NoMemory>

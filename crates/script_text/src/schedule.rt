@@ -9,12 +9,12 @@ ghost use Rattle.script_text.specs.declared.fault.ScriptFault.TheVariants.{NoMem
 use crate::fault::{ScriptFault, ScriptKind};
 use crate::fields::{Fields, is_word};
 use crate::lines::Lines;
-use crate::number::{identifier, integer, number};
 use asn1_types::{Node, Val};
 use dialogue::{Call, Config, Event, Events, Mode, Setup};
 use osi_base::{ListOf, NoMemory, Octets, Side};
 use std::alloc::Global;
 use stub_tables::{Operation, Tables};
+use value_text::{identifier, integer, number};
 
 /// How many octets a schedule may have.
 pub const SCHEDULE_MOST: usize = 16_777_216;

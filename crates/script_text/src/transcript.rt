@@ -6,12 +6,12 @@ ghost use Rattle.script_text.specs.Words.{peer_of, mode_word};
 
 use crate::call::{put_answer, put_call_event, put_carry_event};
 use crate::indication::put_indication;
-use crate::text::Text;
 use crate::words::{mode_word, peer_of, phase_word, side_word};
 use dialogue::{Entry, Indication, Mode, Phase, Transcript};
 use osi_base::{NoMemory, Octets, Side};
 use std::alloc::Global;
 use stub_tables::Tables;
+use value_text::Text;
 
 /// The line of the octets that a carry from this side moved.
 fn put_octets_line(text: &mut Text, side: Side, octets: &[u8]) -> Result<(), NoMemory>

@@ -1,5 +1,6 @@
-//! Marks a set of 64 contexts over and over, so that a clock outside can time it. Its words say how
-//! many marks an activity has, 0 to 65,536, and how many activities there are.
+//! Marks a set of 64 contexts over and over, and goes back over marks, so that a clock outside can
+//! time it. Its words say how many marks an activity has, 0 to 65,536, how many activities there are,
+//! and how often each goes back over its newest mark and makes it anew.
 #![tactic(auto)]
 
 mod rounds;
@@ -19,8 +20,9 @@ fn run<R: Env + Print + Alloc<A = Global>>(rt: &R) -> Result<(), Stopped> {
     }
     let marks = counts.first().copied().unwrap_or(0);
     let rounds = counts.get(1).copied().unwrap_or(0);
-    let nodes = mark_rounds(rt.alloc(), marks, rounds)?;
-    println!(rt; "{marks} marks, {rounds} times: {nodes} nodes")?;
+    let restarts = counts.get(2).copied().unwrap_or(0);
+    let nodes = mark_rounds(rt.alloc(), marks, rounds, restarts)?;
+    println!(rt; "{marks} marks and {restarts} restarts, {rounds} times: {nodes} nodes")?;
     Ok(())
 }
 

@@ -1,4 +1,4 @@
-//! Marks of a set of 64 contexts, which doesn't change between them.
+//! Marks of a set of 64 contexts, which doesn't change between them, and restarts over the newest.
 
 use crate::stopped::Stopped;
 use context_restore::Saved;
@@ -6,24 +6,34 @@ use context_sets::{Contexts, Rules};
 use osi_base::{ListOf, Oid, Oids, Proposal, Syntax};
 use std::alloc::Global;
 
-/// How many nodes the chains of so many activities have, each with so many marks.
-pub fn mark_rounds(alloc: Global, marks: u64, rounds: u64) -> Result<u64, Stopped> {
+/// How many nodes the chains of so many activities have, each with so many marks and restarts.
+pub fn mark_rounds(alloc: Global, marks: u64, rounds: u64, restarts: u64) -> Result<u64, Stopped> {
     let set = full_set(alloc)?;
     let mut nodes = 0u64;
     for _ in 0..rounds {
-        nodes = nodes.wrapping_add(marked(alloc, &set, marks)? as u64);
+        nodes = nodes.wrapping_add(marked(alloc, &set, marks, restarts)? as u64);
     }
     Ok(nodes)
 }
 
-/// How many nodes the chain of one activity has after so many marks.
-fn marked(alloc: Global, set: &Contexts, marks: u64) -> Result<u32, Stopped> {
+/// How many nodes the chain of one activity has after so many marks and restarts.
+fn marked(alloc: Global, set: &Contexts, marks: u64, restarts: u64) -> Result<u32, Stopped> {
     let mut saved = Saved::new(alloc);
     saved.begin(set)?;
     for _ in 0..marks.min(65_536) {
         saved.mark(set)?;
     }
+    go_back(&mut saved, set, restarts)?;
     Ok(saved.nodes())
+}
+
+/// Goes back over the newest mark and makes it anew, so often.
+fn go_back(saved: &mut Saved, set: &Contexts, restarts: u64) -> Result<(), Stopped> {
+    for _ in 0..restarts {
+        saved.restart(saved.nodes().saturating_sub(1))?;
+        saved.mark(set)?;
+    }
+    Ok(())
 }
 
 /// The set of a responder that accepted 64 contexts.

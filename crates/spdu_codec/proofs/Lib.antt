@@ -9,3 +9,6 @@ pub mod SpellingLaws
 pub mod PutLaws
 pub mod RoundLaws
 pub mod SizeLaws
+pub mod PlaceLoop
+pub mod PlaceLaws
+pub mod HoldLaws

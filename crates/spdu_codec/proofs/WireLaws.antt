@@ -325,7 +325,7 @@ no_lead kinds.GiveTokens e = absurd cc
 no_lead kinds.PleaseTokens e = absurd cc
 no_lead _ e = refl
 
-last_some : (word : SessionWord) (xs : List ℕ) → IsLast second_units word xs → (length xs == 0) ≡ false
+pub last_some : (word : SessionWord) (xs : List ℕ) → IsLast second_units word xs → (length xs == 0) ≡ false
 last_some word xs l =
     let n = ap length l.parts in
     let m = ap length l.is.coded.2 in

@@ -6,3 +6,4 @@ pub mod Reading
 pub mod Wire
 pub mod Faults
 pub mod Written
+pub mod Places

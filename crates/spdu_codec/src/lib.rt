@@ -5,6 +5,7 @@ mod fault;
 mod kind;
 pub mod laws;
 mod parameters;
+mod places;
 mod reading;
 mod scan;
 mod spelling;
@@ -13,5 +14,6 @@ mod words;
 mod writing;
 
 pub use fault::SFault;
+pub use places::{UserPlaces, user_places};
 pub use reading::read_spdus;
 pub use writing::write_spdus;

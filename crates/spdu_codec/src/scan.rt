@@ -1,7 +1,7 @@
 //! Reads lengths, values and parameters from the front of octets (X.225 8.2). The octets end at a
 //! place of the transport unit, `end`, from which the places of fields are counted back.
 
-ghost use Rattle.std.specs.Prelude.{◌≡◌, ◌+◌, ◌-◌, ◌<◌, ◌≤◌, [], ◌∷◌, length, IfOk, MatchOption, Ok};
+ghost use Rattle.std.specs.Prelude.{◌≡◌, ◌≢◌, ◌+◌, ◌-◌, ◌<◌, ◌≤◌, [], ◌∷◌, length, IfOk, IfErr, MatchOption, Ok};
 ghost use Rattle.spdu_codec.specs.Parameters.{none_yet};
 ghost use Rattle.spdu_codec.specs.Reading.{Gives, GivesBy, front, length_at, value_at, checked_free, put_at, item_taken, items_at, group_inside, parameter_taken, parameters_at};
 
@@ -15,6 +15,7 @@ use std::alloc::Global;
 fn length_at(place: usize, octets: &[u8]) -> Result<(usize, &[u8]), SFault>
     ensures less { IfOk result (λ x. length x.1.now < length octets.now) }
     ensures read { GivesBy (λ x. (x.0, x.1.now)) result (length_at place octets.now) }
+    ensures at { IfErr result (λ e. e ≢ SFault.NoMemory) }
 {
     match octets {
         [255, high, low, rest @ ..] => Ok((*high as usize * 256 + *low as usize, rest)),
@@ -29,6 +30,8 @@ pub(crate) fn value_at(end: usize, octets: &[u8]) -> Result<(&[u8], &[u8]), SFau
     requires { length octets.now ≤ end }
     ensures less { IfOk result (λ x. length x.0.now + length x.1.now < length octets.now) }
     ensures read { GivesBy (λ x. (x.0.now, x.1.now)) result (value_at end octets.now) }
+    // It takes no memory.
+    ensures at { IfErr result (λ e. e ≢ SFault.NoMemory) }
 {
     let place = end - octets.len();
     let (len, rest) = length_at(place, octets)?;

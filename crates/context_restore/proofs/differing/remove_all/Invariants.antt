@@ -1,6 +1,6 @@
-use Rattle.std.proofs.Common.{◌≡◌, ℕ, ◌+◌, ◌-◌, ◌≤◌, ◌++◌, [], drop, length}
-use Rattle.context_restore.specs.Versions.{missing, ids, without, with_all, set_of}
+use Rattle.std.proofs.Common.{◌≡◌, drop}
+use Rattle.context_restore.specs.Versions.{ids, without}
 use Rattle.context_restore.proofs.differing.remove_all.Given as goal
 
-abbrev pub invariant-loop-id : goal.invariant-loop-id
-invariant-loop-id l = without (drop l.id-index l.ids) l.set.items ≡ without l.ids l.initial.set.items
+abbrev pub invariant-loop-item : goal.invariant-loop-item
+invariant-loop-item l = without (ids (drop l.item-index l.items)) l.set.items ≡ without (ids l.items) l.initial.set.items

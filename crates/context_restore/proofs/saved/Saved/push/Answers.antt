@@ -1,10 +1,16 @@
-use Rattle.std.proofs.Common.{◌≡◌, ◌∙◌, ℕ, ◌≤◌, ◌∷◌, List, ap, ap₂, sym, arith, length}
+use Rattle.std.proofs.Common.{◌≡◌, ◌∙◌, ℕ, ◌≤◌, ◌∷◌, List, ap, ap₂, sym, subst, arith, length}
 use Rattle.slab.specs.Slab.{slab_len}
-use Rattle.context_sets.specs.Sets.{ContextSet}
-use Rattle.context_restore.specs.Versions.{Version, missing, ids, version, set_of}
+use Rattle.context_sets.specs.Sets.{ContextSet, IsRising}
+use Rattle.context_restore.specs.Versions.{Version, missing, version, set_of}
 use Rattle.context_restore.specs.SavedSets.{SavedSets}
-use Rattle.context_restore.proofs.Sound.{sound_same, sound_more, versions-more, length-versions}
+use Rattle.context_restore.proofs.Sound.{sound_same, sound_more, versions-more, length-versions, rising_newest}
 use Rattle.context_restore.proofs.saved.Saved.push.Goals as goal
+
+pub missing-requires-clause-other : goal.missing-requires-clause-other
+missing-requires-clause-other c = subst IsRising (sym c.as_slice.ensures) (rising_newest c.self.inside.nodes c.self.inside.head c.self.inside.newest c.self.inside.active c.self.invariant)
+
+pub missing-requires-2-clause-rises : goal.missing-requires-2-clause-rises
+missing-requires-2-clause-rises c = subst IsRising (sym c.as_slice-2.ensures) (rising_newest c.self.inside.nodes c.self.inside.head c.self.inside.newest c.self.inside.active c.self.invariant)
 
 pub invariant_of-self : goal.invariant_of-self
 invariant_of-self c = sound_same c.self.inside.nodes c.insert_node.new.nodes _ _ _ c.in_err-key.ensures.err c.self.invariant
@@ -14,17 +20,17 @@ invariant_of-self-2 c =
     let len = length-versions c.self.inside.nodes c.self.inside.head c.self.inside.newest c.self.inside.active c.self.invariant in
     let same = ap (λ (x : SavedSets). length x.nodes) c.self.view_is in
     let few : slab_len c.self.inside.nodes ≤ 65536 = omega arith in
-    sound_more c.self.inside.nodes c.insert_node.new.nodes c.self.inside.newest c.self.inside.active c.in_ok-key.key (record { parent = c.self.inside.head; added = c.in_ok-missing.field-0; removed = c.in_ok-lost.field-0 }) c.in_ok-newest.newest c.self.invariant few c.in_ok-key.ensures.was_vacant c.in_ok-key.ensures.updates c.in_ok-key.ensures.len
+    sound_more c.self.inside.nodes c.insert_node.new.nodes c.self.inside.newest c.self.inside.active c.in_ok-key.key (record { parent = c.self.inside.head; added = c.in_ok-missing.field-0; lost = c.in_ok-missing-2.field-0 }) c.in_ok-newest.newest c.self.invariant few c.in_ok-key.ensures.was_vacant c.in_ok-key.ensures.updates c.in_ok-key.ensures.len
     (c.in_ok-missing.ensures ∙ ap₂ missing c.as_slice.ensures (c.items.ensures.value ∙ sym c.in_ok-newest.ensures.value))
-    (c.in_ok-lost.ensures ∙ ap₂ (λ (x y : ContextSet). ids (missing x y)) (c.items-2.ensures.value ∙ sym c.in_ok-newest.ensures.value) c.as_slice-2.ensures)
+    (c.in_ok-missing-2.ensures ∙ ap₂ missing (c.items-2.ensures.value ∙ sym c.in_ok-newest.ensures.value) c.as_slice-2.ensures)
     c.in_ok-newest.ensures.rises
 
 pub returns-clause-ok : goal.returns-clause-ok
 returns-clause-ok c =
     let nodes =
-    versions-more c.self.inside.nodes c.insert_node.new.nodes c.self.inside.newest c.self.inside.active c.in_ok-key.key (record { parent = c.self.inside.head; added = c.in_ok-missing.field-0; removed = c.in_ok-lost.field-0 }) c.in_ok-newest.newest c.self.invariant c.in_ok-key.ensures.was_vacant c.in_ok-key.ensures.updates c.in_ok-key.ensures.len
+    versions-more c.self.inside.nodes c.insert_node.new.nodes c.self.inside.newest c.self.inside.active c.in_ok-key.key (record { parent = c.self.inside.head; added = c.in_ok-missing.field-0; lost = c.in_ok-missing-2.field-0 }) c.in_ok-newest.newest c.self.invariant c.in_ok-key.ensures.was_vacant c.in_ok-key.ensures.updates c.in_ok-key.ensures.len
     (c.in_ok-missing.ensures ∙ ap₂ missing c.as_slice.ensures (c.items.ensures.value ∙ sym c.in_ok-newest.ensures.value))
-    (c.in_ok-lost.ensures ∙ ap₂ (λ (x y : ContextSet). ids (missing x y)) (c.items-2.ensures.value ∙ sym c.in_ok-newest.ensures.value) c.as_slice-2.ensures)
+    (c.in_ok-missing-2.ensures ∙ ap₂ missing (c.items-2.ensures.value ∙ sym c.in_ok-newest.ensures.value) c.as_slice-2.ensures)
     ∙ ap (λ (x : SavedSets). version (set_of x.nodes) c.in_ok-newest.newest ∷ x.nodes) c.self.view_is
     ∙ ap (λ (y : ContextSet). version (set_of c.args.self.now.nodes) y ∷ c.args.self.now.nodes) c.in_ok-newest.ensures.value
     in

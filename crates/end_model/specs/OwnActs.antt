@@ -1,0 +1,22 @@
+-- What an end of reliable mode does by itself, as acts of the model: it starts the next item, and encodes it.
+use Rattle.std.specs.Prelude.{◌≡◌, ℕ, suc, List, [], ◌∷◌, true, Some, None}
+use Rattle.osi_base.specs.declared.words.Proposal.{Proposal}
+use Rattle.dialogue.specs.declared.config.Mode.TheVariants.{Reliable}
+use Rattle.end_rules.specs.Base.{Base}
+use Rattle.end_rules.specs.State.{Body}
+use Rattle.end_rules.specs.Messages.{Session, OfActivities, Start}
+use Rattle.end_rules.specs.Requesting.{after_sent}
+use Rattle.end_rules.specs.ByItself.{SendsNow, EncodesOn, next_own, encoding}
+use Rattle.agreement.specs.Messages.{Value}
+use Rattle.agreement.specs.Messages.Act.{Starts, Encodes}
+use Rattle.end_model.specs.Seen.{Free}
+use Rattle.end_model.specs.Rows.{at}
+use Rattle.end_model.specs.Acting.{ActsAs}
+
+pub record ByItselfActs : Type 0 where
+  pub starts : (activity : ℕ) (free : Free) (base : Base) (proposed : List Proposal) (body : Body) →
+      next_own (at Reliable base) body ≡ Some (SendsNow (Session (OfActivities (Start activity)))) →
+      ActsAs free Reliable base proposed body (after_sent Reliable body (Session (OfActivities (Start activity)))) (Session (OfActivities (Start activity)) ∷ []) Starts
+  pub encodes : (context : ℕ) (free : Free) (base : Base) (proposed : List Proposal) (body : Body) → ((value : Value) → free.codec.may_write value ≡ true) →
+      next_own (at Reliable base) body ≡ Some (EncodesOn context) →
+      ActsAs free Reliable base proposed body (encoding (at Reliable base) context body) [] (Encodes context)

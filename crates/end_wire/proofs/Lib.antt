@@ -1,0 +1,5 @@
+pub mod HeadLaws
+pub mod ValueLaws
+pub mod ContentLaws
+pub mod FirstLaws
+pub mod WireLaws

@@ -1,0 +1,6 @@
+pub mod Heads
+pub mod Values
+pub mod Bare
+pub mod Line
+pub mod Feeding
+pub mod Laws

@@ -1,0 +1,9 @@
+//! How messages of an end stand in octets, and an end with its octets, as definitions with their
+//! laws.
+#![tactic(auto)]
+
+mod laws;
+
+pub use laws::{
+    beginning_is_short, content_says, one_content, one_message, wire_is_first, written_is_first,
+};

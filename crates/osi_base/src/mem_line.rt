@@ -1,0 +1,56 @@
+//! A line that is held in memory.
+
+ghost use Rattle.std.specs.Prelude.{◌≡◌, ◌<◌, ◌≤◌, [], Some, length};
+
+use crate::call_log::CallLog;
+use crate::failing::FailingCalls;
+use crate::octets::Octets;
+use std::alloc::Global;
+use std::collections::VecDeque;
+
+/// A line in memory, of which some calls fail. What its peers say stands in it; they take all
+/// that is written. A call reads or writes `most` octets at most. It tells its log.
+#[derive(Debug, Drop)]
+pub struct MemLine {
+    pub(crate) alloc: Global,
+    /// What each peer says of the connections to come. After the last, peers say nothing.
+    pub peers: VecDeque<Octets>,
+    /// What the present peer says and said.
+    pub said: Octets,
+    /// How many octets of it were read.
+    pub octets_read: usize,
+    pub most: usize,
+    pub failing: FailingCalls,
+    /// The calls so far.
+    pub log: CallLog,
+    ghost takes_some: { 0 < most },
+    ghost reads_what_is_said: { octets_read ≤ length said },
+}
+
+impl MemLine {
+    /// A line to these peers, of which no call was made. The calls with these numbers, counted
+    /// from 0, fail, and the others read or write `most` octets at most.
+    pub fn new(
+        alloc: Global,
+        peers: VecDeque<Octets>,
+        most: usize,
+        failing: FailingCalls,
+    ) -> MemLine
+        requires { 0 < most }
+        ensures peers { result.peers ≡ peers }
+        ensures silent { result.said ≡ [] }
+        ensures most { result.most ≡ most }
+        ensures failing { result.failing ≡ failing }
+        ensures log { result.log ≡ Some [] }
+    {
+        MemLine {
+            alloc,
+            peers,
+            said: Octets::new(alloc),
+            octets_read: 0,
+            most,
+            failing,
+            log: CallLog::new(alloc),
+        }
+    }
+}

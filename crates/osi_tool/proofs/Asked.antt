@@ -1,0 +1,71 @@
+-- Which files were asked for.
+use Rattle.std.proofs.Common.{ℕ, ◌≡◌, List, Option, None, Some, Result, Ok, Err, MatchResult, IfOk, refl, sym, subst, inl, inr}
+use Rattle.osi_base.specs.Outside.{FileMap, logged}
+use Rattle.osi_base.specs.declared.words.Status.{Status}
+use Rattle.osi_base.specs.declared.words.Status.TheVariants.{Done, ReadFault, WriteFault, ModuleRefused, ScriptRefused, NoMemory}
+use Rattle.stub_tables.specs.declared.tables.Tables.{Tables}
+use Rattle.script_text.specs.declared.fault.ScriptFault.{ScriptFault}
+use Rattle.script_text.specs.declared.fault.ScriptFault.TheVariants.{At, NoMemory as no_room}
+use Rattle.script_text.specs.declared.schedule.Schedule.{Schedule}
+use Rattle.script_text.specs.Schedules.{schedule_of}
+use Rattle.osi_tool.specs.declared.answers.Answer.{Answer}
+use Rattle.osi_tool.specs.declared.preparing.Prepared.{Prepared}
+use Rattle.osi_tool.specs.declared.preparing.Prepared.TheVariants.{Answered, Ready}
+use Rattle.osi_tool.specs.Commands.{Command}
+use Rattle.osi_tool.specs.Answers.{unread_answer, script_answer, Ends, whole, failed, no_memory}
+use Rattle.osi_tool.specs.Preparing.{prepared_by, after_schedule, PreparesSchedule, Asks, AskedBy, AskedFor}
+
+module _ (command : Command) (before after : Option (List (List ℕ))) where
+  by_reading : (r : Result Schedule ScriptFault) (prepared : Prepared) → prepared_by r ≡ Some prepared
+      → after ≡ logged command.schedule (logged command.«module» before) → AskedFor (Some command) before after prepared
+  by_reading (Ok schedule) prepared made both =
+      let e : Ready schedule ≡ prepared = cc in
+      let P : Prepared → Type 0 = λ p. AskedFor (Some command) before after p in subst P e both
+  by_reading (Err (At number kind)) prepared made both =
+      let e : Answered (script_answer number kind) ≡ prepared = cc in
+      let P : Prepared → Type 0 = λ p. AskedFor (Some command) before after p in subst P e both
+  by_reading (Err no_room) prepared made both = cc
+
+  by_script : (tables : Tables) (schedule : Option (List ℕ)) (prepared : Prepared) → after_schedule tables command.schedule schedule ≡ Some prepared
+      → after ≡ logged command.schedule (logged command.«module» before) → AskedFor (Some command) before after prepared
+  by_script tables None prepared made both =
+      let e : Answered (unread_answer command.schedule) ≡ prepared = cc in
+      let P : Prepared → Type 0 = λ p. AskedFor (Some command) before after p in subst P e (inr both)
+  by_script tables (Some text) prepared made both = by_reading (schedule_of tables text) prepared made both
+
+-- both files were asked for, and the schedule decides
+pub both_asked : {E : Type 0} (command : Command) (before middle after : Option (List (List ℕ))) (tables : Tables) (r : Result Prepared E)
+    → IfOk r (λ prepared. (schedule : Option (List ℕ)) × (after_schedule tables command.schedule schedule ≡ Some prepared))
+    → middle ≡ logged command.«module» before → IfOk r (λ prepared. after ≡ logged command.schedule middle)
+    → IfOk r (λ prepared. AskedFor (Some command) before after prepared)
+both_asked command before middle after tables (Ok prepared) made first second =
+    by_script command before after tables made.0 prepared made.1 (rw (first) at second)
+both_asked command before middle after tables (Err fault) made first second = tt
+
+-- a status that isn't the answer's says nothing of the files of a command
+cut_off : (command : Option Command) (before after : Option (List (List ℕ))) (answer : Status) → AskedBy command before after answer
+    → AskedBy command before after WriteFault × AskedBy command before after NoMemory
+cut_off None before after answer asked = (asked, asked)
+cut_off (Some command) before after answer asked = (tt, tt)
+
+by_end : (command : Option Command) (first last : Option (List (List ℕ))) (old new : ℕ) (before after : Option (List ℕ)) (answer : Answer) (status : Status)
+    → Ends old new before after answer status → AskedBy command first last answer.status → AskedBy command first last status
+by_end command first last old new before after answer _ (whole same written) asked = asked
+by_end command first last old new before after answer _ (failed rose part) asked = (cut_off command first last answer.status asked).0
+by_end command first last old new before after answer _ (no_memory same part) asked = (cut_off command first last answer.status asked).1
+
+-- where memory was refused, none but for words that are a command
+none_asked : (told : Option FileMap) (old new : ℕ) (command : Option Command) (before after : Option (List (List ℕ))) → Asks told old new before after command
+    → AskedBy command before after NoMemory
+none_asked told old new None before after asked = asked
+none_asked told old new (Some command) before after asked = tt
+
+module _ {E : Type 0} (command : Option Command) (first last : Option (List (List ℕ))) (old new : ℕ) (before after : Option (List ℕ)) (status : Status) where
+  -- what was asked for at the end, where the answer was made or memory was refused for it
+  pub asked_at_end : (told : Option FileMap) (files_old files_new : ℕ) (r : Result Answer E) → IfOk r (λ answer. AskedBy command first last answer.status)
+      → Asks told files_old files_new first last command
+      → MatchResult r (λ made. Ends old new before after made status) (λ _. (status ≡ NoMemory) × (new ≡ old) × (after ≡ before))
+      → AskedBy command first last status
+  asked_at_end told files_old files_new (Ok answer) asked all ends = by_end command first last old new before after answer status ends asked
+  asked_at_end told files_old files_new (Err fault) asked all ends =
+      let P : Status → Type 0 = λ s. AskedBy command first last s in subst P (sym ends.0) (none_asked told files_old files_new command first last all)

@@ -1,0 +1,13 @@
+//! Tests of the outside: of the objects in memory, and of the trusted edge, where the real files,
+//! output and connections begin. They would notice a count that rises without a fault, and a part of
+//! a write that is told as the whole.
+#![tactic(auto)]
+
+#[cfg(test)]
+mod broken_stream;
+#[cfg(test)]
+mod lines;
+#[cfg(test)]
+mod memory;
+#[cfg(test)]
+mod tcp;

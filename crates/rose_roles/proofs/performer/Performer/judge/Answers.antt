@@ -1,0 +1,21 @@
+use Rattle.std.proofs.Common.{ℕ, Option, sym, ap, ◌∙◌}
+use Rattle.std.specs.Option.{option_map}
+use Rattle.stub_tables.specs.Lookup.{operation_at}
+use Rattle.stub_tables.specs.Apdus.{placed, argument_of}
+use Rattle.end_rules.specs.Hearing.{first_problem}
+use Rattle.rose_roles.specs.Heads.{Carries}
+use Rattle.rose_roles.specs.Judging.{argument_problem}
+use Rattle.rose_roles.proofs.Hearings.{later, is_free_of}
+use Rattle.rose_roles.proofs.performer.Performer.judge.Goals as goal
+
+pub returns-in-Some-clause-judged : goal.returns-in-Some-clause-judged
+returns-in-Some-clause-judged c = λ carried k.
+    ap (λ (e : Option ℕ). first_problem e (argument_problem c.args.tables.now c.args.place carried)) (sym c.early_problem.ensures ∙ c.in-Some.is)
+
+pub returns-in_ok-judged-in-None-clause-judged : goal.returns-in_ok-judged-in-None-clause-judged
+returns-in_ok-judged-in-None-clause-judged c =
+    later (Carries c.args.syntax c.args.tables.now.types c.args.head.now.room (option_map argument_of (placed (operation_at c.args.tables.now) c.args.place)) c.args.head.now.rest) _ (argument_problem c.args.tables.now c.args.place) c.in_ok-judged-in-None.judged
+    (sym c.early_problem.ensures ∙ c.in-None.is) c.in_ok-judged-in-None.ensures
+
+pub returns-in_ok-judged-in-None-clause-free : goal.returns-in_ok-judged-in-None-clause-free
+returns-in_ok-judged-in-None-clause-free c = is_free_of _ c.in_ok-judged-in-None.judged (sym c.early_problem.ensures ∙ c.in-None.is)

@@ -1,0 +1,57 @@
+-- What a side answers to an APDU: what the rules of one end hear in it.
+use Rattle.std.specs.Prelude.{◌≡◌, ℕ, ℤ, [], Option, Some, None, Result, Ok, Err}
+use Rattle.osi_base.specs.declared.syntax.Syntax.{Syntax}
+use Rattle.osi_base.specs.declared.fault.NoMemory.{NoMemory}
+use Rattle.osi_base.specs.declared.words.ProblemKind.TheVariants as kinds
+use Rattle.stub_tables.specs.declared.tables.Tables.{Tables}
+use Rattle.asn1_types.specs.declared.value.Val.{Val}
+use Rattle.apdu_spelling.specs.declared.head.ApduHead.{ApduHead}
+use Rattle.apdu_codec.specs.declared.fault.HeadFault as faults
+use Rattle.apdu_codec.specs.declared.fault.HeadFault.TheVariants as fault
+use Rattle.dialogue.specs.declared.indication.Indication.TheVariants as indications
+use Rattle.end_rules.specs.Base.{Base, Carried, Head}
+use Rattle.end_rules.specs.State as ends
+use Rattle.end_rules.specs.Hearing.{Heard, told, hear, problem_with}
+use Rattle.rose_roles.specs.declared.taken.RoseTaken as takens
+use Rattle.rose_roles.specs.declared.taken.RoseTaken.TheVariants as taken
+use Rattle.rose_roles.specs.declared.judging.Judged as judgeds
+use Rattle.rose_roles.specs.declared.judging.Judged.TheVariants as judged
+use Rattle.rose_roles.specs.Heads.{HeadCarries, said_by}
+
+-- an answer as an indication, or as the reject that is due
+abbrev pub heard_with : ends.Calls → takens.RoseTaken → Heard
+heard_with calls (taken.Invoked id operation linked argument) = told calls (indications.Invoked id operation linked argument)
+heard_with calls (taken.Result id value) = told calls (indications.Result id value)
+heard_with calls (taken.Error id error parameter) = told calls (indications.Error id error parameter)
+heard_with calls (taken.Rejected id problem) = told calls (indications.Rejected id problem)
+heard_with calls (taken.RejectTaken id problem) = told calls (indications.RejectTaken id problem)
+heard_with calls taken.BadReject = told calls indications.BadReject
+heard_with calls (taken.Reject id problem) = record { calls = calls; shown = []; reject = Some (record { id = id; problem = problem }) }
+
+-- The answer, with the open invocations afterwards, is what an end with these tables hears in a head that carries this.
+abbrev pub HearsHead : Tables → ℕ → (Carried → Head) → (Carried → Type 0) → ends.Calls → ends.Calls → takens.RoseTaken → Type 0
+HearsHead tables context head Carrying before after answer =
+    (base : Base) (carried : Carried) → base.tables ≡ tables → Carrying carried → heard_with after answer ≡ hear base before context (head carried)
+
+-- It is what an end hears in the head and in what its octets carry.
+abbrev pub Hears : Tables → Syntax → ℕ → ApduHead → ends.Calls → ends.Calls → takens.RoseTaken → Type 0
+Hears tables syntax context head before after answer = HearsHead tables context (said_by head) (HeadCarries tables syntax head) before after answer
+
+-- what an outcome tells once it was judged
+abbrev pub result_taken : ℤ → judgeds.Judged → takens.RoseTaken
+result_taken id (judged.Right value) = taken.Result id value
+result_taken id (judged.Wrong number) = taken.Reject (Some id) (problem_with kinds.Result number)
+
+abbrev pub error_placed : ℤ → Option ℕ → Option Val → takens.RoseTaken
+error_placed id None parameter = taken.Reject (Some id) (problem_with kinds.Error 2)
+error_placed id (Some error) parameter = taken.Error id error parameter
+
+abbrev pub error_taken : ℤ → Option ℕ → judgeds.Judged → takens.RoseTaken
+error_taken id error (judged.Right parameter) = error_placed id error parameter
+error_taken id error (judged.Wrong number) = taken.Reject (Some id) (problem_with kinds.Error number)
+
+-- octets that are no head
+abbrev pub refused_as : faults.HeadFault → Result takens.RoseTaken NoMemory
+refused_as (fault.General number) = Ok (taken.Reject None (problem_with kinds.General number))
+refused_as fault.BadReject = Ok taken.BadReject
+refused_as fault.NoMemory = Err (record {})

@@ -1,0 +1,5 @@
+pub mod Calls
+pub mod Heads
+pub mod Values
+pub mod Judging
+pub mod Hearing

@@ -1,0 +1,16 @@
+//! The two sides of remote operations (X.880 8, 9; X.882 9): the invoker, which takes outcomes and
+//! rejects, and the performer, which takes invocations.
+#![tactic(auto)]
+
+mod called;
+mod invoker;
+mod judging;
+mod opening;
+mod performer;
+mod taken;
+mod values;
+
+pub use called::Called;
+pub use invoker::Invoker;
+pub use performer::Performer;
+pub use taken::{RoseTaken, refused};

@@ -1,0 +1,151 @@
+//! Reading what an APDU carries.
+
+ghost use Rattle.std.specs.Prelude.{◌≡◌, ◌<◌, length, IfOk, Some, true, false};
+ghost use Rattle.osi_base.specs.declared.syntax.Syntax.TheVariants as syntaxes;
+ghost use Rattle.rose_roles.specs.Values.{IsReadExactly, IsReadAs, IsAllowedIn};
+
+use asn1_types::{TypeId, TypeTable, Val, fits};
+use ber_reading::{ReadFault, ber_read, der_read};
+use osi_base::{NoMemory, Octets, Syntax};
+use packed_codec::{PackedFault, packed_read_within};
+use std::alloc::Global;
+use stub_tables::Use;
+
+/// The value that all of these octets spell in BER.
+fn ber_value(
+    alloc: Global,
+    types: &TypeTable,
+    of: TypeId,
+    octets: &[u8],
+    room: u32,
+) -> Result<Option<Val>, NoMemory>
+    requires { of.0 < length types.now }
+    ensures { IfOk result (IsReadExactly syntaxes.Ber types.now room of.0 octets.now) }
+{
+    match ber_read(alloc, types, of, octets) {
+        Ok(read) => {
+            if read.used == octets.len() {
+                Ok(Some(read.value))
+            } else {
+                Ok(None)
+            }
+        }
+        Err(ReadFault::NoMemory) => Err(NoMemory),
+        Err(_) => Ok(None),
+    }
+}
+
+/// The value that all of these octets spell in DER.
+fn der_value(
+    alloc: Global,
+    types: &TypeTable,
+    of: TypeId,
+    octets: &[u8],
+    room: u32,
+) -> Result<Option<Val>, NoMemory>
+    requires { of.0 < length types.now }
+    ensures { IfOk result (IsReadExactly syntaxes.Der types.now room of.0 octets.now) }
+{
+    match der_read(alloc, types, of, octets) {
+        Ok(read) => {
+            if read.used == octets.len() {
+                Ok(Some(read.value))
+            } else {
+                Ok(None)
+            }
+        }
+        Err(ReadFault::NoMemory) => Err(NoMemory),
+        Err(_) => Ok(None),
+    }
+}
+
+/// The value that all of these octets spell in the packed syntax.
+fn packed_value(
+    alloc: Global,
+    types: &TypeTable,
+    of: TypeId,
+    octets: &[u8],
+    room: u32,
+) -> Result<Option<Val>, NoMemory>
+    requires { of.0 < length types.now }
+    ensures { IfOk result (IsReadAs syntaxes.Packed types.now room of.0 octets.now) }
+{
+    match packed_read_within(alloc, types, of, octets, room.min(262_144)) {
+        Ok(read) => {
+            if read.used == octets.len() && fits(types, of, &read.value) {
+                Ok(Some(read.value))
+            } else {
+                Ok(None)
+            }
+        }
+        Err(PackedFault::NoMemory) => Err(NoMemory),
+        Err(_) => Ok(None),
+    }
+}
+
+/// The value of this type that all of these octets spell; in the packed syntax they have a limit.
+fn value_of(
+    alloc: Global,
+    syntax: Syntax,
+    types: &TypeTable,
+    of: TypeId,
+    octets: &[u8],
+    room: u32,
+) -> Result<Option<Val>, NoMemory>
+    requires { of.0 < length types.now }
+    ensures { IfOk result (IsReadAs syntax types.now room of.0 octets.now) }
+{
+    match syntax {
+        Syntax::Ber => ber_value(alloc, types, of, octets, room),
+        Syntax::Der => der_value(alloc, types, of, octets, room),
+        Syntax::Packed => packed_value(alloc, types, of, octets, room),
+    }
+}
+
+/// The value of the row, where there is such a row.
+fn row_value(
+    alloc: Global,
+    syntax: Syntax,
+    types: &TypeTable,
+    of: TypeId,
+    octets: &[u8],
+    room: u32,
+) -> Result<Option<Val>, NoMemory>
+    ensures { IfOk result (IsReadAs syntax types.now room of.0 octets.now) }
+{
+    if types.has(of) {
+        value_of(alloc, syntax, types, of, octets, room)
+    } else {
+        Ok(None)
+    }
+}
+
+/// The value that is carried, or its lack; `None` where neither is one that is carried there.
+pub(crate) fn allowed(
+    alloc: Global,
+    syntax: Syntax,
+    types: &TypeTable,
+    used: &Use,
+    octets: &Option<Octets>,
+    room: u32,
+) -> Result<Option<Option<Val>>, NoMemory>
+    ensures { IfOk result (IsAllowedIn syntax types.now room used.now octets.now) }
+{
+    match (used.inner, octets) {
+        (None, None) => Ok(Some(None)),
+        (None, Some(_)) => Ok(None),
+        (Some(_), None) => {
+            if used.optional {
+                Ok(Some(None))
+            } else {
+                Ok(None)
+            }
+        }
+        (Some(of), Some(octets)) => {
+            match row_value(alloc, syntax, types, of, octets.as_slice(), room)? {
+                Some(value) => Ok(Some(Some(value))),
+                None => Ok(None),
+            }
+        }
+    }
+}

@@ -1,0 +1,192 @@
+//! The octets of a transfer: one presentation data value with its context.
+
+ghost use Rattle.std.specs.Prelude.{◌≡◌, Some, IfOk, slice_get, option_map};
+ghost use Rattle.std.specs.Option.{option_copied};
+ghost use Rattle.asn1_types.specs.Value as tree;
+ghost use Rattle.asn1_types.specs.declared.row.TypeRow.TheVariants as row;
+ghost use Rattle.fixed_tables.specs.Values.{maybe_bits};
+ghost use Rattle.fixed_tables.specs.Whole.{GivesWhole};
+ghost use Rattle.rtse_apdus.specs.TransferRows.{transfer_rows};
+ghost use Rattle.rtse_apdus.specs.Transfer.{bits_or_none, content_in, content_value, pdv_in, pdv_value, transfer_at, written_transfer};
+
+use asn1_types::{Class, Parts, TypeId, TypeRow, TypeTable, Val};
+use ber_writing::ber_octets;
+use fixed_tables::{
+    PduFault, alternative, any, bits, chosen, inside, integer, maybe_bits, maybe_oid, object_id,
+    octets, octets_in, part, part_in, parts_of, sequence, small, table_of, tagged, whole,
+};
+use osi_base::{BitString, NoMemory, Octets, Oid, Pdv, PdvContent};
+use std::alloc::Global;
+use std::marker::Model;
+
+/// The row of a value with its context.
+const TRANSFER: TypeId = TypeId(9);
+
+/// How many octets a transfer may have.
+const MOST: u32 = 262_400;
+
+/// The fixed table of the octets of a transfer (X.226 8.4.2).
+#[derive(Drop)]
+pub struct TransferTable {
+    types: TypeTable,
+}
+
+impl Model for TransferTable {
+    ghost use Rattle.std.specs.Prelude.{◌≡◌};
+    ghost use Rattle.rtse_apdus.specs.TransferRows.{transfer_rows};
+
+    ghost Value = { Unit {0} };
+
+    ghost view = { λ table. tt };
+
+    ghost invariant = { λ table. table.types ≡ transfer_rows };
+}
+
+/// The forms of a value.
+fn form_parts(alloc: Global) -> Result<Parts, NoMemory>
+    ensures { IfOk result (λ parts. slice_get transfer_rows 8 ≡ Some (row.Choice parts)) }
+{
+    Ok(parts_of(vec![in alloc;
+        part(alloc, "single", 5, false)?,
+        part(alloc, "aligned", 6, false)?,
+        part(alloc, "arbitrary", 7, false)?,
+    ]?))
+}
+
+/// A value with its context.
+fn value_parts(alloc: Global) -> Result<Parts, NoMemory>
+    ensures { IfOk result (λ parts. slice_get transfer_rows 9 ≡ Some (row.Sequence parts)) }
+{
+    Ok(parts_of(vec![in alloc;
+        part(alloc, "transfer", 1, true)?,
+        part(alloc, "identifier", 0, false)?,
+        part(alloc, "values", 8, false)?,
+    ]?))
+}
+
+/// All rows.
+fn rows(alloc: Global) -> Result<Vec<TypeRow>, NoMemory>
+    ensures { IfOk result (λ rows. rows.items ≡ transfer_rows) }
+{
+    Ok(vec![in alloc;
+        TypeRow::Integer {
+            low: 1,
+            high: 32_767
+        },
+        TypeRow::ObjectId,
+        TypeRow::OctetString { most: u32::MAX },
+        TypeRow::BitString,
+        TypeRow::Any,
+        tagged(Class::Context, 0, true, 4),
+        tagged(Class::Context, 1, false, 2),
+        tagged(Class::Context, 2, false, 3),
+        TypeRow::Choice(form_parts(alloc)?),
+        TypeRow::Sequence(value_parts(alloc)?),
+    ]?)
+}
+
+fn bits_in(alloc: Global, value: Option<&Val>) -> Result<BitString, NoMemory>
+    ensures { IfOk result (λ x. x ≡ bits_or_none (maybe_bits (option_copied value.entry))) }
+{
+    match maybe_bits(alloc, value)? {
+        Some(string) => Ok(string),
+        None => Ok(BitString {
+            octets: Octets::new(alloc),
+            unused: 0,
+        }),
+    }
+}
+
+fn content_in(alloc: Global, value: Option<&Val>) -> Result<PdvContent, NoMemory>
+    ensures { IfOk result (λ x. x ≡ content_in (option_copied value.entry)) }
+{
+    let inner = inside(value);
+    match alternative(value) {
+        0 => Ok(PdvContent::SingleAsn1Type(octets_in(alloc, inner)?)),
+        1 => Ok(PdvContent::OctetAligned(octets_in(alloc, inner)?)),
+        _ => Ok(PdvContent::Arbitrary(bits_in(alloc, inner)?)),
+    }
+}
+
+/// What a value says.
+fn pdv_in(alloc: Global, value: &Val) -> Result<Pdv, NoMemory>
+    ensures { IfOk result (λ x. x ≡ pdv_in value.now) }
+{
+    Ok(Pdv {
+        transfer: maybe_oid(alloc, part_in(0, Some(value)))?,
+        id: small(part_in(1, Some(value)), 0),
+        content: content_in(alloc, part_in(2, Some(value)))?,
+    })
+}
+
+fn content_value(alloc: Global, content: &PdvContent) -> Result<Val, NoMemory>
+    ensures { IfOk result (λ v. v ≡ content_value content.now) }
+{
+    match content {
+        PdvContent::SingleAsn1Type(value) => chosen(alloc, 0, any(alloc, value)?),
+        PdvContent::OctetAligned(value) => chosen(alloc, 1, octets(alloc, value)?),
+        PdvContent::Arbitrary(string) => chosen(alloc, 2, bits(alloc, string)?),
+    }
+}
+
+fn name_part(alloc: Global, name: &Option<Oid>) -> Result<Option<Val>, NoMemory>
+    ensures { IfOk result (λ part. part ≡ option_map tree.object_id name.now) }
+{
+    match name {
+        Some(oid) => Ok(Some(object_id(alloc, oid)?)),
+        None => Ok(None),
+    }
+}
+
+/// The value that says a presentation data value with its context.
+fn pdv_value(alloc: Global, pdv: &Pdv) -> Result<Val, NoMemory>
+    ensures { IfOk result (λ v. v ≡ pdv_value pdv.now) }
+{
+    let parts = vec![in alloc;
+        name_part(alloc, &pdv.transfer)?,
+        Some(integer(pdv.id as i64)),
+        Some(content_value(alloc, &pdv.content)?),
+    ]?;
+    Ok(sequence(parts))
+}
+
+impl TransferTable {
+    /// The fixed table, which only want of memory can refuse.
+    #[tactic(auto, using(crate::proofs::TransferLaws::transfer_rows_added))]
+    pub fn new(alloc: Global) -> Result<TransferTable, NoMemory> {
+        Ok(TransferTable {
+            types: table_of(alloc, rows(alloc)?)?,
+        })
+    }
+
+    /// The one presentation data value with its context that all of these octets spell in BER (X.226
+    /// 8.4.2), or the first field that breaks the grammar. A transfer has at most 262,400 octets.
+    pub fn read(&self, alloc: Global, bytes: &[u8]) -> Result<Pdv, PduFault>
+        ensures { GivesWhole result (transfer_at bytes.now) }
+    {
+        let value = whole(alloc, &self.types, TRANSFER, bytes, MOST)?;
+        Ok(pdv_in(alloc, &value)?)
+    }
+
+    /// The octets of a transfer of this value, in their one spelling.
+    pub fn write(&self, alloc: Global, pdv: &Pdv) -> Result<Octets, NoMemory>
+        ensures { IfOk result (λ octets. octets ≡ written_transfer pdv.now) }
+    {
+        let value = pdv_value(alloc, pdv)?;
+        ber_octets(alloc, &self.types, TRANSFER, &value)
+    }
+}
+
+/// As `TransferTable::read`, with a table of its own.
+pub fn read_transfer(alloc: Global, bytes: &[u8]) -> Result<Pdv, PduFault>
+    ensures { GivesWhole result (transfer_at bytes.now) }
+{
+    TransferTable::new(alloc)?.read(alloc, bytes)
+}
+
+/// As `TransferTable::write`, with a table of its own.
+pub fn write_transfer(alloc: Global, pdv: &Pdv) -> Result<Octets, NoMemory>
+    ensures { IfOk result (λ octets. octets ≡ written_transfer pdv.now) }
+{
+    TransferTable::new(alloc)?.write(alloc, pdv)
+}

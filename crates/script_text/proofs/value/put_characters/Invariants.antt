@@ -1,7 +1,0 @@
-use Rattle.std.proofs.Common.{◌≡◌, ◌++◌, take}
-use Rattle.std.specs.List.{flat_map}
-use Rattle.script_text.specs.Values.{doubled}
-use Rattle.script_text.proofs.value.put_characters.Given as goal
-
-abbrev pub invariant-loop-octet : goal.invariant-loop-octet
-invariant-loop-octet l = l.text ≡ l.initial.text ++ flat_map doubled (take l.octet-index l.characters)

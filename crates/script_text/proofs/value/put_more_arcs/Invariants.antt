@@ -1,7 +1,0 @@
-use Rattle.std.proofs.Common.{◌≡◌, ◌++◌, take}
-use Rattle.std.specs.List.{flat_map}
-use Rattle.script_text.specs.Values.{after_space}
-use Rattle.script_text.proofs.value.put_more_arcs.Given as goal
-
-abbrev pub invariant-loop-arc : goal.invariant-loop-arc
-invariant-loop-arc l = l.text ≡ l.initial.text ++ flat_map after_space (take l.arc-index l.arcs)

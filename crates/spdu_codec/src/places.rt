@@ -1,0 +1,157 @@
+//! Where the user data of session units begin in their transport unit.
+
+ghost use Rattle.std.specs.Prelude.{◌≡◌, ◌+◌, ◌<◌, ◌≤◌, ◌^◌, List, length, IfSome, None};
+ghost use Rattle.std.specs.Option.{option_map, ForSome};
+ghost use Rattle.osi_base.specs.declared.session_word.SessionWord.{SessionWord};
+ghost use Rattle.spdu_codec.specs.Wire.{AreUnits};
+ghost use Rattle.spdu_codec.specs.Places.{behind_code, placed, user_among, head, head_at, user_in, user_of_last, last_of, user_places, ArePlaced, HoldUser};
+
+use crate::kind::{SpduKind, first_units, parameters_of, row_of, second_units};
+use crate::parameters::Slot;
+use crate::scan::{first_of, value_at};
+use crate::words::{has_information, leads};
+
+/// Where the user data of the first and of the second unit begin, counted from the transport
+/// unit's first octet; `None` for a unit that isn't there or has none.
+#[derive(Clone, Copy, Debug, PartialEq, Eq)]
+pub struct UserPlaces {
+    pub first: Option<usize>,
+    pub second: Option<usize>,
+}
+
+/// A unit's kind, the octets of its parameters, and those behind it.
+#[derive(Clone, Copy)]
+struct Head<'a> {
+    kind: SpduKind,
+    value: &'a [u8],
+    behind: &'a [u8],
+}
+
+fn behind_code(value: &[u8], start: usize) -> Option<usize>
+    requires { start < 2 ^ 63 }
+    ensures { result ≡ behind_code value.now start }
+{
+    match value {
+        [2, _, ..] => Some(start + 1),
+        _ => None,
+    }
+}
+
+/// Where user data begin, once a parameter was looked at whose value begins at `start`.
+fn placed(slot: Option<Slot>, value: &[u8], start: usize, before: Option<usize>) -> Option<usize>
+    requires { start < 2 ^ 63 }
+    ensures { result ≡ placed slot value.now start before }
+{
+    match slot {
+        Some(Slot::ConnectData | Slot::ExtendedData | Slot::UserData) => Some(start),
+        Some(Slot::RefuseReason) => behind_code(value, start),
+        _ => before,
+    }
+}
+
+/// Where user data begin among parameters that end at this place.
+fn user_among(table: &[(u8, Slot)], end: usize, octets: &[u8]) -> Option<usize>
+    requires within { length octets.now ≤ end }
+    requires fits { end < 2 ^ 63 }
+    ensures { result ≡ user_among table.now (length octets.now) end None octets.now }
+{
+    let mut at = None;
+    let mut rest = octets;
+    while let Some((code, after)) = first_of(rest) {
+        let Ok((value, more)) = value_at(end, after) else {
+            return at;
+        };
+        let start = end - more.len() - value.len();
+        at = placed(row_of(code, table), value, start, at);
+        rest = more;
+    }
+    at
+}
+
+/// A unit that stands in the table.
+#[tactic(auto, unfolding(crate::specs::Places::head_at))]
+fn head_at<'a>(table: &[(u8, SpduKind)], end: usize, octets: &'a [u8]) -> Option<Head<'a>>
+    requires { length octets.now ≤ end }
+    ensures within { IfSome result (λ u. length u.value.now + length u.behind.now < length octets.now) }
+    ensures read { option_map (λ u. head u.kind u.value.now u.behind.now) result ≡ head_at table.now end octets.now }
+{
+    let (code, rest) = first_of(octets)?;
+    let kind = row_of(code, table)?;
+    let Ok((value, behind)) = value_at(end, rest) else {
+        return None;
+    };
+    Some(Head {
+        kind,
+        value,
+        behind,
+    })
+}
+
+fn user_in(end: usize, unit: Head<'_>) -> Option<usize>
+    requires within { length unit.value.now + length unit.behind.now ≤ end }
+    requires fits { end < 2 ^ 63 }
+    ensures { result ≡ user_in end (head unit.entry.kind unit.entry.value.now unit.entry.behind.now) }
+{
+    user_among(
+        parameters_of(unit.kind),
+        end - unit.behind.len(),
+        unit.value,
+    )
+}
+
+fn user_of_last(end: usize, unit: Head<'_>) -> Option<usize>
+    requires within { length unit.value.now + length unit.behind.now ≤ end }
+    requires fits { end < 2 ^ 63 }
+    ensures { result ≡ user_of_last end (head unit.entry.kind unit.entry.value.now unit.entry.behind.now) }
+{
+    if has_information(unit.kind) {
+        return Some(end - unit.behind.len());
+    }
+    user_in(end, unit)
+}
+
+fn last_of(end: usize, unit: Option<Head<'_>>) -> Option<usize>
+    requires within { ForSome unit (λ u. length u.value.now + length u.behind.now ≤ end) }
+    requires fits { end < 2 ^ 63 }
+    ensures { result ≡ last_of end (option_map (λ u. head u.kind u.value.now u.behind.now) unit.entry) }
+{
+    user_of_last(end, unit?)
+}
+
+#[tactic(auto, unfolding(crate::specs::Places::user_places))]
+fn places_of(tsdu: &[u8]) -> UserPlaces
+    ensures { result ≡ user_places tsdu.now }
+{
+    let end = tsdu.len();
+    let Some(unit) = head_at(first_units(), end, tsdu) else {
+        return UserPlaces {
+            first: None,
+            second: None,
+        };
+    };
+    if leads(unit.kind) && !unit.behind.is_empty() {
+        return UserPlaces {
+            first: user_in(end, unit),
+            second: last_of(end, head_at(second_units(), end, unit.behind)),
+        };
+    }
+    UserPlaces {
+        first: user_of_last(end, unit),
+        second: None,
+    }
+}
+
+/// Where the user data of each unit begin that `read_spdus` reads: those of DT and TD behind the
+/// unit, those of RF behind the reason's code, all others at the value of their parameter. Of
+/// octets that are no units it says nothing. It takes no memory, and looks at each parameter once.
+pub fn user_places(tsdu: &[u8]) -> UserPlaces
+    // The places are those that the grammar of the units gives.
+    ensures placed { (words : List SessionWord) → AreUnits words tsdu.now
+        → ArePlaced words tsdu.now result }
+    // There stand the user data of each word.
+    ensures holds { (words : List SessionWord) → AreUnits words tsdu.now
+        → HoldUser words tsdu.now result }
+    ensures exact { result ≡ user_places tsdu.now }
+{
+    places_of(tsdu)
+}

@@ -1,0 +1,10 @@
+//! Files of recorded dialogues: lines of octets, each with the direction in which they went.
+#![tactic(auto)]
+
+mod fault;
+mod hexadecimal;
+pub mod laws;
+mod reading;
+
+pub use fault::{RecordingFault, RecordingKind};
+pub use reading::{Recorded, Recording, read_recording};

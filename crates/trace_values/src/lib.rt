@@ -1,0 +1,9 @@
+//! What a trace says of presentation data values: which APDU of remote operations each is, or how
+//! many octets it has.
+#![tactic(auto)]
+
+mod content;
+mod head;
+mod values;
+
+pub use values::put_pdvs;

@@ -1,0 +1,7 @@
+use Rattle.std.proofs.Common.{◌≡◌, ◌++◌, take}
+use Rattle.std.specs.List.{flat_map}
+use Rattle.value_text.specs.Values.{doubled}
+use Rattle.value_text.proofs.value.put_characters.Given as goal
+
+abbrev pub invariant-loop-octet : goal.invariant-loop-octet
+invariant-loop-octet l = l.text ≡ l.initial.text ++ flat_map doubled (take l.octet-index l.characters)
