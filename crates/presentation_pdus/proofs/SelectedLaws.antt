@@ -61,13 +61,33 @@ module _ (mode fields : Run) (M F : Relation) where
 
   -- ---- what is spelled so is read
 
-  first_half : (before : Halves) (v : Value) (o : Opened) (scope : Scope) (s to : Spot) → before.0 ≡ None → (o.class ≡ Context) × (o.number ≡ 0) → mode scope o s ≡ Ok (v, to) → half_at mode fields before scope o s ≡ Ok ((Some v, before.1), to)
+  once_none : (run : Run) (put : Value → Halves) (v : Value) (o : Opened) (scope : Scope) (s to : Spot) → run scope o s ≡ Ok (v, to) → once_at None run put scope o s ≡ Ok (put v, to)
+  once_none run put v o scope s to e = rw e refl
+
+  picks_mode : (before : Halves) (o : Opened) (scope : Scope) (s : Spot) → has_context o 0 ≡ true → half_at mode fields before scope o s ≡ once_at before.0 mode (λ v. (Some v, before.1)) scope o s
   unfolding half_at
-  first_half before v o scope s to none t e = rw (t.0, t.1, none, e) refl
+  picks_mode before o scope s h = rw h refl
+
+  picks_fields : (before : Halves) (o : Opened) (scope : Scope) (s : Spot) → has_context o 0 ≡ false → has_context o 2 ≡ true → half_at mode fields before scope o s ≡ once_at before.1 fields (λ v. (before.0, Some v)) scope o s
+  unfolding half_at
+  picks_fields before o scope s n h = rw (n, h) refl
+
+  of_mode : (o : Opened) → (o.class ≡ Context) × (o.number ≡ 0) → has_context o 0 ≡ true
+  of_mode o t = rw (t.0, t.1) refl
+
+  not_mode : (o : Opened) → (o.class ≡ Context) × (o.number ≡ 2) → has_context o 0 ≡ false
+  not_mode o t = rw (t.0, t.1) refl
+
+  of_fields : (o : Opened) → (o.class ≡ Context) × (o.number ≡ 2) → has_context o 2 ≡ true
+  of_fields o t = rw (t.0, t.1) refl
+
+  first_half : (before : Halves) (v : Value) (o : Opened) (scope : Scope) (s to : Spot) → before.0 ≡ None → (o.class ≡ Context) × (o.number ≡ 0) → mode scope o s ≡ Ok (v, to) → half_at mode fields before scope o s ≡ Ok ((Some v, before.1), to)
+  first_half before v o scope s to none t e =
+      picks_mode before o scope s (of_mode o t) ∙ ap (λ (x : Option Value). once_at x mode (λ w. (Some w, before.1)) scope o s) none ∙ once_none mode (λ w. (Some w, before.1)) v o scope s to e
 
   second_half : (before : Halves) (v : Value) (o : Opened) (scope : Scope) (s to : Spot) → before.1 ≡ None → (o.class ≡ Context) × (o.number ≡ 2) → fields scope o s ≡ Ok (v, to) → half_at mode fields before scope o s ≡ Ok ((before.0, Some v), to)
-  unfolding half_at
-  second_half before v o scope s to none t e = rw (t.0, t.1, none, e) refl
+  second_half before v o scope s to none t e =
+      picks_fields before o scope s (not_mode o t) (of_fields o t) ∙ ap (λ (x : Option Value). once_at x fields (λ w. (before.0, Some w)) scope o s) none ∙ once_none fields (λ w. (before.0, Some w)) v o scope s to e
 
   half_back : Only (OfTag (context_tag 0)) mode M → Only (OfTag (context_tag 2)) fields F → (before : Halves) (scope : Scope) (place : ℕ) (w : Halves) (text rest : List ℕ) → HalfStep M F before scope.strict scope.levels w text → IsIn scope (place + length text)
       → ReadBack Whatever (half_at mode fields before) scope place text rest w

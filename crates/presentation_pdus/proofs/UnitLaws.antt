@@ -315,6 +315,6 @@ ppdu_fault_is_first carrier octets at kind reason e =
     let first = all_first (ppdu_run ppdu_rows carrier) (ppdu_grows carrier) (ppdu_inside carrier) 4294967295 octets at kind f.is in
     (first.0, f.why, λ k lt. ap of_value (first.1 k lt) ∙ ap (λ (n : ℕ). Err (fault.At k why.Missing n)) (six k (nat_eq k 0)))
   where
-    six : (k : ℕ) (b : Bool) → (if (b && false) then 1 else 6) ≡ 6
+    six : (k : ℕ) (b : Bool) → ◌≡◌ {A = ℕ} (if (b && false) then 1 else 6) 6
     six k true = refl
     six k false = refl
