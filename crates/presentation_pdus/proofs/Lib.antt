@@ -1,1 +1,4 @@
 pub mod Added
+pub mod Shapes
+pub mod SelectedLaws
+pub mod UnitLaws
