@@ -36,6 +36,7 @@ pub mod WrittenSets
 pub mod Inside
 pub mod InsideRules
 pub mod FirstFaults
+pub mod Reach
 pub mod Around
 pub mod LastOctets
 pub mod UnusedBits
