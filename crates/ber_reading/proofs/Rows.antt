@@ -5,18 +5,19 @@ use Rattle.std.specs.List.{AllByRecursion}
 use Rattle.asn1_types.specs.declared.row.Class.{Class}
 use Rattle.asn1_types.specs.declared.row.Part.{Part}
 use Rattle.asn1_types.specs.declared.row.TypeRow.{TypeRow}
-use Rattle.asn1_types.specs.declared.row.TypeRow.TheVariants.{Boolean, Integer, Enumerated, Null, OctetString, BitString, ObjectId, Text, Sequence, Set, SequenceOf, Choice, Tagged, Any}
+use Rattle.asn1_types.specs.declared.row.TypeRow.TheVariants.{Boolean, Integer, Enumerated, Null, OctetString, BitString, ObjectId, Text, Sequence, Set, SequenceOf, SetOf, Choice, Tagged, Any}
 use Rattle.asn1_types.specs.Rows.{names_of, rows_of_parts, begins}
 use Rattle.asn1_types.specs.Table.{IsSound}
 use Rattle.asn1_types.proofs.Along.{settled}
 use Rattle.asn1_types.proofs.Sound.{is_down}
 use Rattle.ber_spelling.specs.declared.spot.Scope.{Scope}
 use Rattle.ber_spelling.specs.Reading.{Spot, Ahead, Reading, ◌>>=◌}
-use Rattle.ber_spelling.specs.Rules.{Reader, part_at, parts_at, sequence_at, choice_at, list_at, constructed_at, all_items_at, fill_at, slot_at, set_done, nothing_filled, or_explicit, tagged_at, expect_at, tag_or, dead, read_by, reads, bare, plain}
+use Rattle.ber_spelling.specs.Rules.{Reader, part_at, parts_at, sequence_at, choice_at, list_at, constructed_at, all_items_at, fill_at, slot_at, set_done, nothing_filled, or_explicit, tagged_at, expect_at, dead, read_by, reads, bare, plain}
 use Rattle.ber_spelling.specs.Fields.{extent_at, look_at}
 use Rattle.asn1_types.specs.Value.{Value, chosen, parts}
 use Rattle.asn1_types.specs.ValueView.{parts_of}
 use Rattle.asn1_types.specs.declared.row.Class.TheVariants.{Universal}
+use Rattle.asn1_types.specs.Tags.{tag_or}
 
 module _ (begins : ℕ → Class → ℕ → Bool) (f g : ℕ → Reader) where
   parts_cong : (ps : List Part) → AllByRecursion (λ m. f m ≡ g m) (rows_of_parts ps) → ◌≡◌ {A = Scope → Ahead → Reading (List (Option Value) × Spot)} (λ scope ahead. parts_at begins f scope ahead ps) (λ scope ahead. parts_at begins g scope ahead ps)

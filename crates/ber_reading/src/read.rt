@@ -7,9 +7,9 @@ ghost use Rattle.asn1_types.specs.Defaults.{may_be_absent, kept};
 ghost use Rattle.asn1_types.specs.Table.{IsSound};
 ghost use Rattle.asn1_types.specs.Value as tree;
 ghost use Rattle.asn1_types.specs.ValueView.{values_of, parts_of};
+ghost use Rattle.asn1_types.specs.Tags.{rank};
 ghost use Rattle.ber_spelling.specs.Reading.{begun, Opens, Gives, Fails, spot_of, opened_of, GoesOn};
 ghost use Rattle.ber_spelling.specs.Rules.{open_at, close_at, all_items_at, list_item_at, list_done, list_at, sequence_at, choice_at, any_at, explicit_at, or_explicit, tagged_at, read_by, reads, no_parts_of, nothing_filled, is_free, stands, is_filled, kept_of, settled, set_done, bare, under, late_kind, late_at, ordered_at, fill_at, slot_at, set_at};
-ghost use Rattle.ber_spelling.specs.Order.{rank};
 ghost use Rattle.ber_reading.specs.Parts.{absent_at, found_at, part_from, parts_from};
 
 use crate::at_once::{integer_ahead, parts_at_once, reach};

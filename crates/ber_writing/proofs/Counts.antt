@@ -6,7 +6,7 @@ use Rattle.std.proofs.lemmas.Bool.{cases_lt}
 use Rattle.asn1_types.specs.declared.row.Part.{Part}
 use Rattle.asn1_types.specs.Value.{Value}
 use Rattle.asn1_types.specs.ValueView.{parts_of, values_of}
-use Rattle.ber_spelling.specs.Writing.{Writer, high_digits, base_128, digits_256, base_256, natural_octets, part_contents, parts_contents, values_contents}
+use Rattle.asn1_types.specs.Writing.{Writer, high_digits, base_128, digits_256, base_256, natural_octets, part_contents, parts_contents, values_contents}
 use Rattle.ber_spelling.proofs.Digits.{high_step, high_append, low_step, low_append, nat_step, nat_append, nat_last}
 use Rattle.ber_spelling.proofs.WriteLaws.{parts_before, parts_none, values_before}
 

@@ -6,10 +6,9 @@ use Rattle.asn1_types.specs.declared.row.Class.{Class}
 use Rattle.asn1_types.specs.declared.row.Class.TheVariants.{Universal, Application, Context, Private}
 use Rattle.asn1_types.specs.declared.row.Part.{Part}
 use Rattle.asn1_types.specs.Value.{Value, boolean, integer, null, octets, bits, object_id, text, parts, list, chosen, any, MaybeValues, no_parts, absent, present}
-use Rattle.ber_spelling.specs.declared.spot.Tag as tags
-use Rattle.ber_spelling.specs.Fields.{class_of}
-use Rattle.ber_spelling.specs.Order.{rank, ranks, front_number, front_rank}
-use Rattle.ber_spelling.specs.Writing.{Writer, parts_contents, sequence_contents, of_rank, risen_parts, set_parts, identifier, length_octets, definite}
+use Rattle.asn1_types.specs.declared.row.Tag as tags
+use Rattle.asn1_types.specs.Writing.{Writer, parts_contents, sequence_contents, of_rank, risen_parts, set_parts, identifier, length_octets, definite}
+use Rattle.asn1_types.specs.Tags.{class_of, rank, ranks, front_number, front_rank}
 use Rattle.ber_spelling.proofs.WriteLaws.{risen_next}
 
 -- ---- each rank is one

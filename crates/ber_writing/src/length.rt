@@ -5,8 +5,7 @@ ghost use Rattle.std.specs.List.{AllByRecursion, flat_map};
 ghost use Rattle.asn1_types.specs.Rows.{rows_of_parts};
 ghost use Rattle.asn1_types.specs.Table.{IsSound};
 ghost use Rattle.asn1_types.specs.ValueView.{parts_of, values_of};
-ghost use Rattle.ber_spelling.specs.Spelling.{subidentifiers};
-ghost use Rattle.ber_spelling.specs.Writing.{saturated, base_128, base_256, natural_octets, integer_octets, identifier, length_octets, definite, boolean_contents, integer_contents, octets_contents, text_contents, bits_contents, object_id_contents, values_contents, list_contents, part_contents, parts_contents, sequence_contents, alternative_written, choice_written, any_written, under, write_by, writes, written};
+ghost use Rattle.asn1_types.specs.Writing.{saturated, base_128, base_256, natural_octets, integer_octets, identifier, length_octets, definite, boolean_contents, integer_contents, octets_contents, text_contents, bits_contents, object_id_contents, values_contents, list_contents, part_contents, parts_contents, sequence_contents, alternative_written, choice_written, any_written, under, write_by, writes, written, subidentifiers};
 
 use asn1_types::{Class, Node, Part, Parts, TypeId, TypeRow, TypeTable, Val, text_number};
 use ber_spelling::{Tag, tag_or};
@@ -51,7 +50,7 @@ fn natural_len(number: u64) -> u64
 }
 
 /// The length of an INTEGER's contents (X.690 8.3).
-#[tactic(auto, unfolding(ber_spelling::specs::Writing::integer_octets))]
+#[tactic(auto, unfolding(asn1_types::specs::Writing::integer_octets))]
 fn integer_len(number: i64) -> u64
     ensures { result ≡ length (integer_octets number) }
 {
@@ -353,7 +352,7 @@ fn part_len(table: &TypeTable, of: TypeId, part: &Part, value: &Option<Val>) -> 
 
 /// The length of the DER spelling of a value, as `ber_write` writes it. One of 2 ^ 64 or more octets
 /// gives 2 ^ 64 - 1.
-#[tactic(auto, unfolding(ber_spelling::specs::Writing::written))]
+#[tactic(auto, unfolding(asn1_types::specs::Writing::written))]
 pub fn ber_len(table: &TypeTable, of: TypeId, value: &Val) -> u64
     ensures { result ≡ min (length (written table.now of.0 value.now)) (2 ^ 64 - 1) }
 {

@@ -6,9 +6,8 @@ ghost use Rattle.std.specs.List.{AllByRecursion, flat_map};
 ghost use Rattle.asn1_types.specs.Rows.{rows_of_parts};
 ghost use Rattle.asn1_types.specs.Table.{IsSound};
 ghost use Rattle.asn1_types.specs.ValueView.{parts_of, values_of};
-ghost use Rattle.ber_spelling.specs.Spelling.{leading, subidentifiers};
-ghost use Rattle.ber_spelling.specs.Writing.{base_128, base_256, natural_octets, integer_octets, identifier, length_octets, definite, boolean_contents, integer_contents, octets_contents, text_contents, bits_contents, object_id_contents, values_contents, list_contents, part_contents, parts_contents, sequence_contents, alternative_written, choice_written, any_written, under, write_by, writes, written, of_rank, set_parts};
-ghost use Rattle.ber_spelling.specs.Order.{rank};
+ghost use Rattle.asn1_types.specs.Writing.{base_128, base_256, natural_octets, integer_octets, identifier, length_octets, definite, boolean_contents, integer_contents, octets_contents, text_contents, bits_contents, object_id_contents, values_contents, list_contents, part_contents, parts_contents, sequence_contents, alternative_written, choice_written, any_written, under, write_by, writes, written, of_rank, set_parts, subidentifiers};
+ghost use Rattle.asn1_types.specs.Tags.{leading, rank};
 
 use crate::length::ber_len;
 use asn1_types::{Class, Node, Part, Parts, TypeId, TypeRow, TypeTable, Val, text_number};
@@ -71,7 +70,7 @@ fn put_base_256(number: u64, room: &mut [u8], end: usize) -> usize
 }
 
 /// An INTEGER's contents (X.690 8.3). Below 0 they are those of -1 less the number, with each bit turned.
-#[tactic(auto, unfolding(ber_spelling::specs::Writing::integer_octets))]
+#[tactic(auto, unfolding(asn1_types::specs::Writing::integer_octets))]
 fn put_integer(number: i64, room: &mut [u8], end: usize) -> usize
     requires room { length (integer_octets number) ≤ end }
     requires end { end ≤ length room.old }

@@ -4,7 +4,6 @@ use Rattle.std.proofs.lemmas.Option.{slice_get_within}
 use Rattle.std.proofs.lemmas.List.{take_rest, length-drop, drop-drop}
 use Rattle.asn1_types.specs.Value.{Value}
 use Rattle.osi_base.specs.declared.words.Kind.TheVariants.{Extra}
-use Rattle.ber_spelling.specs.Order.{rank}
 use Rattle.asn1_types.specs.declared.row.TypeRow.TheVariants.{Sequence, SequenceOf, Set, Choice, Tagged}
 use Rattle.asn1_types.specs.declared.row.Part.{Part}
 use Rattle.asn1_types.specs.Rows.{begins}
@@ -22,6 +21,7 @@ use mir.Syntax.{w64}
 use mir.Val.{SFits}
 use Rattle.asn1_types.specs.Value as tree
 use Rattle.asn1_types.specs.ValueView.{parts_of}
+use Rattle.asn1_types.specs.Tags.{rank}
 use Rattle.ber_spelling.proofs.Loops.{goes_then}
 use Rattle.ber_reading.proofs.PartsFrom.{part_fails, part_goes_on, end_fails, end_gives, sequence_fails, sequence_gives}
 use Rattle.ber_spelling.proofs.Steps.{Fails-bind}

@@ -4,7 +4,7 @@ use Rattle.std.specs.Option.{option_copied}
 use Rattle.asn1_types.specs.declared.row.TypeRow.TheVariants.{Sequence, SequenceOf, Set, Choice, Tagged}
 use Rattle.asn1_types.proofs.Sound.{each_part, down_as}
 use Rattle.asn1_types.proofs.FitLaws.{not_within, false_not, each_slot}
-use Rattle.ber_spelling.specs.Writing.{saturated, writes}
+use Rattle.asn1_types.specs.Writing.{saturated, writes}
 use Rattle.ber_writing.proofs.SetCounts.{as_sequence}
 use Rattle.ber_spelling.proofs.WriteLaws.{parts_past, writes_at, writes_past}
 use Rattle.ber_writing.proofs.length.+measuring.Goals as goal

@@ -7,8 +7,8 @@ use Rattle.asn1_types.specs.declared.row.TypeRow.TheVariants.{Sequence, Sequence
 use Rattle.asn1_types.proofs.Sound.{each_part, down_as}
 use Rattle.asn1_types.proofs.FitLaws.{not_within, false_not, each_slot}
 use Rattle.asn1_types.specs.ValueView.{parts_of}
-use Rattle.ber_spelling.specs.Order.{ranks}
-use Rattle.ber_spelling.specs.Writing.{Writer, of_rank, parts_contents, risen_parts, writes}
+use Rattle.asn1_types.specs.Writing.{Writer, of_rank, parts_contents, risen_parts, writes}
+use Rattle.asn1_types.specs.Tags.{ranks}
 use Rattle.ber_writing.proofs.Counts.{parts_room, values_room}
 use Rattle.ber_writing.proofs.SetCounts.{risen_room}
 use Rattle.ber_spelling.proofs.WriteLaws.{parts_past, risen_begin, risen_next, risen_end, writes_at, writes_past}

@@ -1,7 +1,7 @@
 use Rattle.std.proofs.Common.{◌≡◌, ◌<◌, length, sym, ap, ◌∙◌, arith, Some}
 use Rattle.std.specs.Prelude.{slice_get}
 use Rattle.std.specs.Option.{option_copied}
-use Rattle.asn1_types.specs.declared.row.TypeRow.TheVariants.{Sequence, Set, SequenceOf, Choice, Tagged}
+use Rattle.asn1_types.specs.declared.row.TypeRow.TheVariants.{Sequence, Set, SequenceOf, SetOf, Choice, Tagged}
 use Rattle.asn1_types.proofs.Sound.{each_part, down_as}
 use Rattle.asn1_types.proofs.FitLaws.{each_slot, not_within, false_not}
 use Rattle.packed_codec.specs.Writing.{packed}

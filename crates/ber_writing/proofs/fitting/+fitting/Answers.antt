@@ -4,11 +4,11 @@ use Rattle.std.specs.Option.{option_copied}
 use Rattle.asn1_types.specs.Value.{chosen}
 use Rattle.asn1_types.specs.ValueView.{value_of}
 use Rattle.std.proofs.lemmas.Option.{slice_get_within}
-use Rattle.asn1_types.specs.declared.row.TypeRow.TheVariants.{Sequence, Set, SequenceOf, Choice, Tagged}
+use Rattle.asn1_types.specs.declared.row.TypeRow.TheVariants.{Sequence, Set, SequenceOf, SetOf, Choice, Tagged}
 use Rattle.asn1_types.specs.Fits.{alternative_fits, choice_fits, fits}
 use Rattle.asn1_types.proofs.Sound.{each_part, down_as}
 use Rattle.asn1_types.proofs.FitLaws.{not_within, false_not, fits_at, fits_past, parts_short, each_slot}
-use Rattle.asn1_types.proofs.fitting.+fitting.Goals as goal
+use Rattle.ber_writing.proofs.fitting.+fitting.Goals as goal
 
 pub fits-returns-then-has : goal.fits-returns-then-has
 fits-returns-then-has t c =
