@@ -6,8 +6,8 @@ use Rattle.std.proofs.lemmas.Bool.{ltb-true, eqb-true, and_parts, or_cases, le-l
 use Rattle.std.proofs.lemmas.Bool.Decides.{nat_tests}
 use Rattle.asn1_types.specs.Value.{Value, Values, no_values, value}
 use Rattle.asn1_types.specs.ValueView.{values_of}
-use Rattle.asn1_types.specs.Rising.{is_less, follows, any_length, stand_so, rise_behind, rise, placed, sorted}
-use Rattle.ber_spelling.specs.Rules.{behind_last}
+use Rattle.asn1_types.specs.Rising.{is_less, follows, any_length, stand_so, rise_behind, rise, placed, sorted, behind_last}
+
 
 not_less : (x y : ℕ) → x ≤ y → nat_lt y x ≡ false
 not_less x y le = le-ltb y x le
@@ -58,6 +58,18 @@ module _ (spell : Value → List ℕ) where
   pub go_on : (before : List Value) (v : Value) (vs : Values) → UpFrom v vs → GoOn (before ++ v ∷ []) vs
   go_on before v no_values h = tt
   go_on before v (value w ws) h = (last_is before v w ∙ h.0, h.1)
+
+  pub up_after : (before : List Value) (v : Value) (vs : Values) → GoOn (before ++ v ∷ []) vs → UpFrom v vs
+  up_after before v no_values h = tt
+  up_after before v (value w ws) h = (sym (last_is before v w) ∙ h.0, h.1)
+
+  up_rises_from : (v : Value) (vs : Values) → UpFrom v vs → rise_behind any_length spell v vs ≡ true
+  up_rises_from v no_values h = refl
+  up_rises_from v (value w ws) h = rw h.0 (up_rises_from w ws h.1)
+
+  pub goes_rise : (vs : Values) → GoOn [] vs → rise any_length spell vs ≡ true
+  goes_rise no_values h = refl
+  goes_rise (value v vs) h = up_rises_from v vs h.1
 
   up_from : (short : ℕ → Bool) (v : Value) (vs : Values) → rise_behind short spell v vs ≡ true → UpFrom v vs
   up_from short v no_values e = tt
@@ -116,7 +128,7 @@ module _ (spell : Value → List ℕ) where
     where
       by_test : (t : Bool) → is_less (spell w) (spell v) ≡ t → (follows spell w v ≡ true → Behind w (placed spell v ws)) → Behind u (cond t (w ∷ placed spell v ws) (v ∷ w ∷ ws))
       by_test true e next = (h.0, next (one_way v w e))
-      by_test false e next = (f, rw e refl, h.1)
+      by_test false e next = (f, (rw e refl, h.1))
 
   placed_up : (v : Value) (ws : List Value) → Up ws → Up (placed spell v ws)
   placed_up v [] h = tt

@@ -3,6 +3,7 @@ use Rattle.std.proofs.Common.{◌≡◌, ℕ, zero, suc, ◌+◌, Bool, true, fa
 use Rattle.asn1_types.specs.declared.row.Class.{Class}
 use Rattle.asn1_types.specs.Rows.{is_no_tag}
 use Rattle.asn1_types.specs.Value.{Value}
+use Rattle.asn1_types.specs.Rising.{behind_last}
 use Rattle.ber_spelling.specs.declared.spot.Scope.{Scope}
 use Rattle.asn1_types.specs.declared.row.Tag as tags
 use Rattle.ber_spelling.specs.declared.spot.StringKind.{StringKind}
@@ -10,7 +11,7 @@ use Rattle.ber_spelling.specs.declared.spot.StringKind.TheVariants.{OfOctets, Of
 use Rattle.ber_spelling.specs.declared.spot.Gathered.{Gathered}
 use Rattle.ber_spelling.specs.Reading.{Spot, Opened, ◌>>=◌}
 use Rattle.ber_spelling.specs.Fields.{extent_at, contents_at}
-use Rattle.ber_spelling.specs.Rules.{Reader, expect_at, judge, form_at, primitive_at, always, constructed_at, all_items_at, segment_tag, nothing, segment_rule, segment_at, segmented_at, string_rule, string_at, list_item_at, list_done, list_at, plain, set_item_at, set_of_done, set_of_at, behind_last}
+use Rattle.ber_spelling.specs.Rules.{Reader, expect_at, judge, form_at, primitive_at, always, constructed_at, all_items_at, segment_tag, nothing, segment_rule, segment_at, segmented_at, string_rule, string_at, list_item_at, list_done, list_at, plain, set_item_at, set_of_done, set_of_at}
 use Rattle.ber_spelling.specs.Spelling.{Spelled, IsConstructed, ItemsAre, SegmentIs, StringIs, ListStep, ListIs, SetItemStep, SetOfIs}
 use Rattle.ber_spelling.proofs.Identifiers.{bind_ok, chosen_ok, ok_is}
 use Rattle.ber_spelling.proofs.Steady.{RunOf, RelationOf, ReadAs, Found, ReadBack, Only, OfTag, opened_as, judge_is, form_lax, form_passes, prim_found, prim_only, form_ok}

@@ -17,7 +17,7 @@ use Rattle.asn1_types.specs.Limits.{most_levels}
 use Rattle.asn1_types.specs.Defaults.{is_item, may_be_absent, is_default, kept}
 use Rattle.asn1_types.specs.Fits.{is_text, are_bits}
 use Rattle.asn1_types.specs.Writing.{written}
-use Rattle.asn1_types.specs.Rising.{follows, sorted}
+use Rattle.asn1_types.specs.Rising.{behind_last, sorted}
 use Rattle.ber_spelling.specs.declared.fault.ReadFault.TheVariants.{NotSpelled, Short}
 use Rattle.ber_spelling.specs.declared.spot.Scope.{Scope}
 use Rattle.asn1_types.specs.declared.row.Tag as tags
@@ -258,12 +258,6 @@ abbrev pub list_at : Reader → tags.Tag → Scope → Opened → Spot → Readi
 list_at inner tag = constructed_at (all_items_at (list_item_at inner) list_done []) tag
 
 -- ---- SET OF (X.690 8.12)
-
--- the last item may stand before this value
-abbrev pub behind_last : (Value → List ℕ) → List Value → Value → Bool
-behind_last spell [] v = true
-behind_last spell (w ∷ []) v = follows spell w v
-behind_last spell (w ∷ x ∷ ws) v = behind_last spell (x ∷ ws) v
 
 -- in DER the items rise (X.690 11.6); one is judged once it is whole
 abbrev pub set_item_at : (Value → List ℕ) → Reader → List Value → Scope → Opened → Spot → Reading (List Value × Spot)

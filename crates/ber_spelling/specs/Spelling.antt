@@ -15,12 +15,13 @@ use Rattle.asn1_types.specs.Defaults.{is_item, may_be_absent, is_default, kept}
 use Rattle.asn1_types.specs.Value.{Value, boolean, integer, null, object_id, parts, chosen, any, MaybeValues, no_parts, absent, present}
 use Rattle.asn1_types.specs.declared.row.Tag as tags
 use Rattle.asn1_types.specs.Tags.{tag_or, front_rank, leading}
+use Rattle.asn1_types.specs.Rising.{behind_last}
 use Rattle.ber_spelling.specs.Fields.{number_from}
 use Rattle.ber_spelling.specs.Primitives.{is_padded, signed_of}
 use Rattle.ber_spelling.specs.declared.spot.StringKind.{StringKind}
 use Rattle.ber_spelling.specs.declared.spot.StringKind.TheVariants.{OfOctets, OfBits}
 use Rattle.ber_spelling.specs.declared.spot.Gathered.{Gathered}
-use Rattle.ber_spelling.specs.Rules.{Guise, bare, plain, under, always, segment_tag, nothing, segment_rule, string_rule, whole_octets, whole_text, whole_bits, has_zero_bits, list_done, behind_last, set_of_done, nothing_filled, set_done}
+use Rattle.ber_spelling.specs.Rules.{Guise, bare, plain, under, always, segment_tag, nothing, segment_rule, string_rule, whole_octets, whole_text, whole_bits, has_zero_bits, list_done, set_of_done, nothing_filled, set_done}
 use Rattle.asn1_types.specs.Writing.{written, subidentifiers}
 use Rattle.ber_spelling.specs.Order.{Filled}
 

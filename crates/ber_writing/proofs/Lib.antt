@@ -1,3 +1,4 @@
+pub mod MergeLaws
 pub mod Counts
 pub mod SetCounts
 pub mod WrittenLoops

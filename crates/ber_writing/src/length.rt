@@ -11,7 +11,7 @@ use asn1_types::{Class, Node, Part, Parts, TypeId, TypeRow, TypeTable, Val, text
 use ber_spelling::{Tag, tag_or};
 
 /// The length of a number in base 128.
-fn base_128_len(number: u64) -> u64
+pub(crate) fn base_128_len(number: u64) -> u64
     ensures { result ≡ length (base_128 number) }
 {
     let mut count = 1;
@@ -51,7 +51,7 @@ fn natural_len(number: u64) -> u64
 
 /// The length of an INTEGER's contents (X.690 8.3).
 #[tactic(auto, unfolding(asn1_types::specs::Writing::integer_octets))]
-fn integer_len(number: i64) -> u64
+pub(crate) fn integer_len(number: i64) -> u64
     ensures { result ≡ length (integer_octets number) }
 {
     if number < 0 {
@@ -61,9 +61,9 @@ fn integer_len(number: i64) -> u64
     }
 }
 
-fn identifier_len(tag: Tag) -> u64
+pub(crate) fn identifier_len(tag: Tag) -> u64
     ensures length { result ≡ length (identifier tag.class false tag.number) }
-    ensures few { result ≤ 2 ^ 32 }
+    ensures few { result ≤ 6 }
 {
     if tag.number < 31 {
         return 1;
@@ -71,7 +71,7 @@ fn identifier_len(tag: Tag) -> u64
     1 + base_128_len(tag.number as u64)
 }
 
-fn length_len(count: u64) -> u64
+pub(crate) fn length_len(count: u64) -> u64
     ensures length { result ≡ length (length_octets count) }
     ensures few { result ≤ 9 }
 {
@@ -141,7 +141,7 @@ fn bits_len(tag: Tag, value: &Val) -> u64
 
 /// The length of an OBJECT IDENTIFIER's arcs (X.690 8.19), of which the first two are one
 /// subidentifier.
-fn arcs_len(arcs: &[u32]) -> u64
+pub(crate) fn arcs_len(arcs: &[u32]) -> u64
     ensures { result ≡ saturated (length (flat_map base_128 (subidentifiers arcs.now))) }
 {
     match arcs {
@@ -191,7 +191,7 @@ fn any_len(tag: Option<Tag>, value: &Val) -> u64
 
 /// The length of what is written of a value of this row, under another tag if one is given.
 #[cycle(measuring)]
-fn value_len(table: &TypeTable, of: TypeId, tag: Option<Tag>, value: &Val) -> u64
+pub(crate) fn value_len(table: &TypeTable, of: TypeId, tag: Option<Tag>, value: &Val) -> u64
     ensures { result ≡ saturated (length (writes table.now of.0 tag value.now)) }
 {
     if table.has(of) {
@@ -216,6 +216,10 @@ fn row_len(table: &TypeTable, of: TypeId, row: &TypeRow, tag: Option<Tag>, value
         TypeRow::Text(kind) => text_len(tag_or(tag, Class::Universal, text_number(*kind)), value),
         TypeRow::SequenceOf(inner) => {
             let tag = tag_or(tag, Class::Universal, 16);
+            list_len(table, of, *inner, tag, value)
+        }
+        TypeRow::SetOf(inner) => {
+            let tag = tag_or(tag, Class::Universal, 17);
             list_len(table, of, *inner, tag, value)
         }
         TypeRow::Null => definite_len(tag_or(tag, Class::Universal, 5), 0),
@@ -259,7 +263,7 @@ fn list_len(table: &TypeTable, of: TypeId, inner: TypeId, tag: Tag, value: &Val)
 }
 
 #[cycle(measuring)]
-fn values_len(table: &TypeTable, of: TypeId, inner: TypeId, values: &[Val]) -> u64
+pub(crate) fn values_len(table: &TypeTable, of: TypeId, inner: TypeId, values: &[Val]) -> u64
     requires below { inner.0 < of.0 }
     ensures { result ≡ saturated (length (values_contents (writes table.now inner.0) (values_of values.now))) }
 {
@@ -300,7 +304,7 @@ fn choice_len(
 }
 
 #[cycle(measuring)]
-fn alternative_len(table: &TypeTable, of: TypeId, alternatives: &Parts, value: &Val) -> u64
+pub(crate) fn alternative_len(table: &TypeTable, of: TypeId, alternatives: &Parts, value: &Val) -> u64
     requires below { AllByRecursion (λ m. m < of.0) (rows_of_parts alternatives.now) }
     ensures { result ≡ saturated (length (choice_written (λ which. alternative_written (writes table.now) (slice_get alternatives.now which)) value.now)) }
 {
@@ -326,7 +330,7 @@ fn sequence_len(table: &TypeTable, of: TypeId, parts: &[Part], tag: Tag, value: 
 }
 
 #[cycle(measuring)]
-fn parts_len(table: &TypeTable, of: TypeId, parts: &[Part], values: &[Option<Val>]) -> u64
+pub(crate) fn parts_len(table: &TypeTable, of: TypeId, parts: &[Part], values: &[Option<Val>]) -> u64
     requires below { AllByRecursion (λ m. m < of.0) (rows_of_parts parts.now) }
     ensures { result ≡ saturated (length (parts_contents (writes table.now) parts.now (parts_of values.now))) }
 {
@@ -340,7 +344,7 @@ fn parts_len(table: &TypeTable, of: TypeId, parts: &[Part], values: &[Option<Val
 }
 
 #[cycle(measuring)]
-fn part_len(table: &TypeTable, of: TypeId, part: &Part, value: &Option<Val>) -> u64
+pub(crate) fn part_len(table: &TypeTable, of: TypeId, part: &Part, value: &Option<Val>) -> u64
     requires below { part.now.inner.0 < of.0 }
     ensures { result ≡ saturated (length (part_contents (writes table.now) part.now value.now)) }
 {

@@ -65,6 +65,7 @@ write_cong (Text kind) f g h = refl
 write_cong (Sequence ps) f g h = λ i v. sequence_same f g ps h v i
 write_cong (Set ps) f g h = λ i v. sequence_same f g ps h v i
 write_cong (SequenceOf inner) f g h = ap list_written h.0
+write_cong (SetOf inner) f g h = ap list_written h.0
 write_cong (Choice ps) f g h = λ i v. choice_same f g ps h v i
 write_cong (Tagged class number explicit inner) f g h = h.0
 write_cong Any f g h = refl

@@ -33,6 +33,13 @@ fits_row-list_fits-requires t c =
     let below : c.in-SequenceOf.inner.0 < c.args.of.0 = down.0 in
     (omega arith, (below, omega arith))
 
+pub fits_row-list_fits-requires-in-SetOf : goal.fits_row-list_fits-requires-in-SetOf
+fits_row-list_fits-requires-in-SetOf t c =
+    let lt = slice_get_within c.args.table.now c.args.of.0 c.args.row.now c.requires.row in
+    let down = down_as c.args.table.now c.args.of.0 c.args.row.now (SetOf c.in-SetOf.inner) c.requires.sound c.requires.row c.in-SetOf.is in
+    let below : c.in-SetOf.inner.0 < c.args.of.0 = down.0 in
+    (omega arith, (below, omega arith))
+
 pub fits_row-choice_fits-requires : goal.fits_row-choice_fits-requires
 fits_row-choice_fits-requires t c =
     let lt = slice_get_within c.args.table.now c.args.of.0 c.args.row.now c.requires.row in

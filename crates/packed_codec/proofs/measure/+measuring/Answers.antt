@@ -33,6 +33,12 @@ of_row-of_list-requires t c =
     let below : c.in-SequenceOf.inner.0 < c.args.of.0 = down.0 in
     (omega arith, below)
 
+pub of_row-of_list-requires-in-SetOf : goal.of_row-of_list-requires-in-SetOf
+of_row-of_list-requires-in-SetOf t c =
+    let down = down_as c.args.table.now c.args.of.0 c.args.row.now (SetOf c.in-SetOf.inner) c.requires.sound c.requires.row c.in-SetOf.is in
+    let below : c.in-SetOf.inner.0 < c.args.of.0 = down.0 in
+    (omega arith, below)
+
 pub of_row-of_choice-requires : goal.of_row-of_choice-requires
 of_row-of_choice-requires t c =
     let down = down_as c.args.table.now c.args.of.0 c.args.row.now (Choice c.in-Choice.alternatives) c.requires.sound c.requires.row c.in-Choice.is in

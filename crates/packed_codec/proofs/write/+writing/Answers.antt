@@ -43,6 +43,12 @@ put_row-put_list-requires t c =
     let below : c.in-SequenceOf.inner.0 < c.args.of.0 = down.0 in
     (omega arith, (below, room_as c.args.table.now c.args.at (length c.args.out.now) c.args.value.now c.args.row.now (SequenceOf c.in-SequenceOf.inner) c.in-SequenceOf.is c.requires.room))
 
+pub put_row-put_list-requires-in-SetOf : goal.put_row-put_list-requires-in-SetOf
+put_row-put_list-requires-in-SetOf t c =
+    let down = down_as c.args.table.now c.args.of.0 c.args.row.now (SetOf c.in-SetOf.inner) c.requires.sound c.requires.row c.in-SetOf.is in
+    let below : c.in-SetOf.inner.0 < c.args.of.0 = down.0 in
+    (omega arith, (below, room_as c.args.table.now c.args.at (length c.args.out.now) c.args.value.now c.args.row.now (SetOf c.in-SetOf.inner) c.in-SetOf.is c.requires.room))
+
 pub put_row-put_choice-requires : goal.put_row-put_choice-requires
 put_row-put_choice-requires t c =
     let down = down_as c.args.table.now c.args.of.0 c.args.row.now (Choice c.in-Choice.alternatives) c.requires.sound c.requires.row c.in-Choice.is in
