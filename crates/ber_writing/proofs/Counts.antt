@@ -132,7 +132,10 @@ nat_next x k some h m lt =
 nat_low : (m : ℕ) → m < 128 → length (natural_octets m m []) ≤ 1
 nat_low m lt = omega (arith, nat_one m lt)
 
-pub natural_eight : (m : ℕ) → m < 9223372036854775808 → length (natural_octets m m []) ≤ 8
+natural_eight : (m : ℕ) → m < 9223372036854775808 → length (natural_octets m m []) ≤ 8
 natural_eight =
     nat_next 36028797018963968 7 (omega arith) (nat_next 140737488355328 6 (omega arith) (nat_next 549755813888 5 (omega arith) (nat_next 2147483648 4 (omega arith)
     (nat_next 8388608 3 (omega arith) (nat_next 32768 2 (omega arith) (nat_next 128 1 (omega arith) nat_low))))))
+
+pub natural_nine : (m : ℕ) → m < 2 ^ 64 → length (natural_octets m m []) ≤ 9
+natural_nine m lt = nat_next 9223372036854775808 8 (omega arith) natural_eight m (omega arith)

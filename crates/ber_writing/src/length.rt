@@ -38,7 +38,8 @@ fn base_256_len(number: u64) -> u64
 
 /// The length of a number from 0 on, in as few octets as hold it with bit 8 of the first clear.
 fn natural_len(number: u64) -> u64
-    ensures { result ≡ length (natural_octets number number []) }
+    ensures length { result ≡ length (natural_octets number number []) }
+    ensures few { result ≤ 9 }
 {
     let mut count = 1;
     let mut high = number;
@@ -52,7 +53,8 @@ fn natural_len(number: u64) -> u64
 /// The length of an INTEGER's contents (X.690 8.3).
 #[tactic(auto, unfolding(asn1_types::specs::Writing::integer_octets))]
 pub(crate) fn integer_len(number: i64) -> u64
-    ensures { result ≡ length (integer_octets number) }
+    ensures length { result ≡ length (integer_octets number) }
+    ensures few { result ≤ 9 }
 {
     if number < 0 {
         natural_len((-1 - number) as u64)

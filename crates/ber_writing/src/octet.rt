@@ -52,17 +52,17 @@ fn integer_octet(tag: Tag, value: &Val, at: u64) -> u8
     match head_or_place(tag, false, count, at) {
         Ok(octet) => octet,
         Err(place) => match &value.node {
-            Node::Int(number) => number_octet(*number, count, place),
+            Node::Int(number) => number_octet(*number, place),
             _ => 0,
         },
     }
 }
 
 /// The octet at a place of a number's contents.
-fn number_octet(number: i64, count: u64, at: u64) -> u8
-    requires { count ≡ length (integer_octets number) }
+fn number_octet(number: i64, at: u64) -> u8
     ensures { result ≡ slice_index (integer_octets number) at }
 {
+    let count = integer_len(number);
     let mut room = [0; 9];
     put_integer(number, &mut room, count as usize);
     if at < count { octet_in(&room, at) } else { 0 }
