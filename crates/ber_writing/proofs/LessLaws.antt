@@ -1,7 +1,7 @@
 -- Octets compared one after the other.
 use Rattle.std.proofs.Common.{◌≡◌, ◌≢◌, ℕ, zero, suc, ◌+◌, ◌<◌, ◌≤◌, Bool, true, false, ◌&&◌, ◌||◌, cond, List, [], ◌∷◌, length, drop, get_or, min, refl, sym, ap, ◌∙◌, arith}
 use Rattle.std.specs.Prelude.{nat_lt, nat_eq}
-use Rattle.std.proofs.lemmas.Bool.{ne_eqb, eq-eqb, le-ltb}
+use Rattle.std.proofs.lemmas.Bool.{ne_eqb, eq-eqb, le-ltb, lt-ltb}
 use Rattle.asn1_types.specs.Rising.{is_less}
 
 or_false : (b : Bool) → (b || false) ≡ b
@@ -22,7 +22,7 @@ less_same (x ∷ xs) (y ∷ ys) (suc i) j a up lt more e d = rw up (less_same xs
 
 pub less_ends : (xs ys : List ℕ) (i : ℕ) → i ≤ length xs → i ≤ length ys → min (length xs) (length ys) ≤ i → is_less (drop i xs) (drop i ys) ≡ nat_lt (length xs) (length ys)
 less_ends [] [] zero le more end = refl
-less_ends [] (y ∷ ys) zero le more end = refl
+less_ends [] (y ∷ ys) zero le more end = sym (lt-ltb 0 (suc (length ys)) (omega arith))
 less_ends (x ∷ xs) [] zero le more end = sym (le-ltb (suc (length xs)) 0 (omega arith))
 less_ends (x ∷ xs) (y ∷ ys) zero le more end = absurd (omega arith)
 less_ends [] ys (suc i) le more end = absurd (omega arith)

@@ -1,11 +1,14 @@
 -- The octets of a text in two parts.
-use Rattle.std.proofs.Common.{◌≡◌, ℕ, zero, suc, ◌+◌, ◌-◌, ◌<◌, ◌≤◌, List, [], ◌∷◌, ◌++◌, length, drop, get_or, Option, Some, None, refl, sym, ap, ◌∙◌, append_assoc, length-append, arith}
+use Rattle.std.proofs.Common.{Bool, true, false, cond, ◌≡◌, ℕ, zero, suc, ◌+◌, ◌-◌, ◌<◌, ◌≤◌, List, [], ◌∷◌, ◌++◌, length, drop, get_or, Option, Some, None, refl, sym, ap, ◌∙◌, append_assoc, length-append, arith}
 use Rattle.std.specs.List.{flat_map}
 use Rattle.std.proofs.lemmas.List.{get_or_append_left, get_or-append_right, get_or_past}
+use Rattle.std.specs.Prelude.{nat_eq}
 use Rattle.asn1_types.specs.declared.row.Part.{Part}
+use Rattle.asn1_types.specs.declared.row.Tag as tags
+use Rattle.asn1_types.specs.Tags.{front_rank}
 use Rattle.asn1_types.specs.Value.{Value, MaybeValues}
 use Rattle.asn1_types.specs.ValueView.{parts_of, values_of}
-use Rattle.asn1_types.specs.Writing.{Writer, of_rank, part_contents, parts_contents, values_contents, risen_parts, set_parts}
+use Rattle.asn1_types.specs.Writing.{identifier, length_octets, definite, Writer, of_rank, part_contents, parts_contents, values_contents, risen_parts, set_parts}
 use Rattle.ber_spelling.proofs.WriteLaws.{parts_before, values_before, risen_next}
 
 pub front_octet : (a b whole : List ℕ) (at : ℕ) → whole ≡ a ++ b → at < length a → get_or whole at 0 ≡ get_or a at 0
@@ -27,6 +30,33 @@ drop_none [] zero le = refl
 drop_none [] (suc i) le = refl
 drop_none (x ∷ xs) zero le = absurd (omega arith)
 drop_none (x ∷ xs) (suc i) le = drop_none xs i (omega arith)
+
+pub behind_one : (x : ℕ) (l : List ℕ) (at : ℕ) → 0 < at → get_or (x ∷ l) at 0 ≡ get_or l (at - 1) 0
+behind_one x l zero lt = absurd (omega arith)
+behind_one x l (suc at) lt = let e : suc at - 1 ≡ at = omega arith in ap (λ (k : ℕ). get_or l k 0) (sym e)
+
+pub within_definite : (constructed : Bool) (tag : tags.Tag) (contents : List ℕ) → length contents ≤ length (definite constructed tag contents)
+within_definite constructed tag contents =
+    let a = length-append (identifier tag.class constructed tag.number) (length_octets (length contents) ++ contents) in
+    let b = length-append (length_octets (length contents)) contents in
+    omega arith
+
+-- ---- one part
+
+pub part_short : (f : ℕ → Writer) (ps : List Part) (vs : List (Option Value)) (i most : ℕ) (p : Part) (o : Option Value) → i < length ps → i < length vs → p ≡ get_or ps i p → o ≡ get_or vs i o
+    → length (parts_contents f (drop i ps) (parts_of (drop i vs))) ≤ most → length (part_contents f p o) ≤ most
+part_short f ps vs i most p o lt more e g le =
+    let both = ap length (parts_before f ps vs i p o lt more e g) ∙ length-append (part_contents f p o) (parts_contents f (drop (suc i) ps) (parts_of (drop (suc i) vs))) in
+    omega arith
+
+-- what has octets of a rank has that rank
+pub ranked_same : (f : ℕ → Writer) (r : ℕ) (p : Part) (o : Option Value) → 0 < length (part_contents (of_rank r f) p o) → part_contents (of_rank r f) p o ≡ part_contents f p o
+ranked_same f r p None lt = refl
+ranked_same f r p (Some v) lt = by_test (nat_eq (front_rank (f p.inner.0 None v)) r) (f p.inner.0 None v) lt
+  where
+    by_test : (b : Bool) (l : List ℕ) → 0 < length (cond b l []) → cond b l [] ≡ l
+    by_test true l lt = refl
+    by_test false l lt = absurd (omega arith)
 
 -- ---- parts of a SET by rank
 

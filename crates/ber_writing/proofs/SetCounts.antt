@@ -104,11 +104,11 @@ module _ (f : ℕ → Writer) where
       let d = length-append l (parts_contents f ps vs) in
       omega arith
 
-  set_length : (ps : List Part) (vs : MaybeValues) → length (set_parts f ps vs) ≡ length (parts_contents f ps vs)
+  pub set_length : (ps : List Part) (vs : MaybeValues) → length (set_parts f ps vs) ≡ length (parts_contents f ps vs)
   unfolding set_parts
   set_length ps vs = risen_length ranks front_below ps vs
 
-  contents_length : (ps : List Part) (v : Value) → length (sequence_contents (set_parts f ps) v) ≡ length (sequence_contents (parts_contents f ps) v)
+  pub contents_length : (ps : List Part) (v : Value) → length (sequence_contents (set_parts f ps) v) ≡ length (sequence_contents (parts_contents f ps) v)
   contents_length ps (parts vs) = set_length ps vs
   contents_length ps null = refl
   contents_length ps (boolean b) = refl
