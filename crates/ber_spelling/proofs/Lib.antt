@@ -38,6 +38,8 @@ pub mod Inside
 pub mod InsideRules
 pub mod FirstFaults
 pub mod Reach
+pub mod ReachRules
+pub mod Limits
 pub mod Around
 pub mod LastOctets
 pub mod UnusedBits
@@ -46,3 +48,6 @@ pub mod Fitting
 pub mod Strict
 pub mod StrictRules
 pub mod DerForms
+pub mod Wider
+pub mod WiderRules
+pub mod WiderLimits

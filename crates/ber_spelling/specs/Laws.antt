@@ -55,6 +55,20 @@ FaultIsFirst = (rows : List TypeRow) (n : ℕ) (strict : Bool) (limit : ℕ) (by
     → read_at rows n strict limit bytes ≡ Err fault
     → (place : ℕ) × IsAt fault place × (place ≤ length bytes) × ((k : ℕ) → k < place → read_at rows n strict limit (take k bytes) ≡ Err Short)
 
+-- Octets that are too short are no more than the limit, and so is what is read.
+abbrev pub ShortIsWithin : Type 0
+ShortIsWithin = (rows : List TypeRow) (n : ℕ) (strict : Bool) (limit : ℕ) (bytes : List ℕ) → read_at rows n strict limit bytes ≡ Err Short → length bytes ≤ limit
+
+-- Under a larger limit every answer but TooLong stays.
+abbrev pub WiderStays : Type 0
+WiderStays = (rows : List TypeRow) (n : ℕ) (strict : Bool) (limit more : ℕ) (bytes : List ℕ) → limit ≤ more → ((place : ℕ) → read_at rows n strict limit bytes ≢ Err (TooLong place))
+    → read_at rows n strict more bytes ≡ read_at rows n strict limit bytes
+
+-- And what is read with more octets than the smaller limit is TooLong there.
+abbrev pub WiderIsLong : Type 0
+WiderIsLong = (rows : List TypeRow) (n : ℕ) (strict : Bool) (limit more : ℕ) (bytes : List ℕ) (v : Value) (used : ℕ) → limit ≤ more → read_at rows n strict more bytes ≡ Ok (v, used) → limit < used
+    → (place : ℕ) × (read_at rows n strict limit bytes ≡ Err (TooLong place))
+
 -- a proper beginning of a spelling is too short
 abbrev pub BeginningIsShort : Type 0
 BeginningIsShort = (rows : List TypeRow) (n : ℕ) (strict : Bool) (limit : ℕ) (v : Value) (front back : List ℕ) → IsSound rows → AreOctets (front ++ back)

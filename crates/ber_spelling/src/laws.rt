@@ -1,6 +1,6 @@
 //! The laws of reading, each the contract of a function that does nothing.
 
-ghost use Rattle.ber_spelling.specs.Laws.{ReadIsSpelled, SpelledIsRead, NoneBegins, ReadStays, FaultStays, FaultIsFirst, BeginningIsShort, WrittenIsSpelled, WrittenIsRead, DerIsBer, DerIsBerInForm, OneOfThree, DerIsWhole, SpelledFits, UnusedBitsAreZeros, UnusedBitsAreCleared};
+ghost use Rattle.ber_spelling.specs.Laws.{ReadIsSpelled, SpelledIsRead, NoneBegins, ReadStays, FaultStays, FaultIsFirst, WiderStays, WiderIsLong, ShortIsWithin, BeginningIsShort, WrittenIsSpelled, WrittenIsRead, DerIsBer, DerIsBerInForm, OneOfThree, DerIsWhole, SpelledFits, UnusedBitsAreZeros, UnusedBitsAreCleared};
 
 /// What is read is spelled by the octets used.
 pub fn read_is_spelled()
@@ -30,6 +30,21 @@ pub fn fault_stays()
 /// A fault but `Short` has a place inside the octets, and octets that end before it are `Short`.
 pub fn fault_is_first()
     ensures { FaultIsFirst }
+{}
+
+/// Under a larger limit every answer but `TooLong` stays.
+pub fn wider_stays()
+    ensures { WiderStays }
+{}
+
+/// What is read under a larger limit with more octets than a smaller one is `TooLong` under that.
+pub fn wider_is_long()
+    ensures { WiderIsLong }
+{}
+
+/// Octets that are `Short` are at most as many as the limit.
+pub fn short_is_within()
+    ensures { ShortIsWithin }
 {}
 
 /// A proper beginning of a spelling is `Short`.
@@ -65,7 +80,9 @@ pub fn spelled_fits()
 {}
 
 /// In BER unused bits of any values spell the BIT STRING in which they are zeros (X.690 8.6.2.3),
-/// in whatever form it stands: with lengths of either form, in segments, under tags.
+/// in whatever form it stands: with lengths of either form, in segments, under tags. This is of a
+/// value that is a BIT STRING; of one inside another value `spelled_fits` says that its unused bits
+/// are zeros.
 pub fn unused_bits_are_zeros()
     ensures { UnusedBitsAreZeros }
 {}

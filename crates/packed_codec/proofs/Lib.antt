@@ -4,6 +4,8 @@ pub mod Loops
 pub mod Rows
 pub mod Growing
 pub mod Inside
+pub mod Reach
+pub mod Wider
 pub mod Taking
 pub mod Spelled
 pub mod Parts

@@ -97,6 +97,19 @@ OneHolds rows n limit bytes =
 abbrev pub OneOfThree : Type 0
 OneOfThree = (rows : List TypeRow) (n limit : ℕ) (bytes : List ℕ) → limit < 2 ^ 32 → AreOctets bytes → OneHolds rows n limit bytes
 
+-- octets that are too short are no more than the limit
+abbrev pub ShortIsWithin : Type 0
+ShortIsWithin = (rows : List TypeRow) (n limit : ℕ) (bytes : List ℕ) → read_at rows n limit bytes ≡ Err Short → length bytes ≤ limit
+
+-- under a larger limit every answer but TooLong stays
+abbrev pub WiderStays : Type 0
+WiderStays = (rows : List TypeRow) (n limit more : ℕ) (bytes : List ℕ) → limit ≤ more → ((place : ℕ) → read_at rows n limit bytes ≢ Err (TooLong place)) → read_at rows n more bytes ≡ read_at rows n limit bytes
+
+-- and what is read with more octets than the smaller limit is TooLong there
+abbrev pub WiderIsLong : Type 0
+WiderIsLong = (rows : List TypeRow) (n limit more : ℕ) (bytes : List ℕ) (v : Value) (used : ℕ) → limit ≤ more → read_at rows n more bytes ≡ Ok (v, used) → limit < used
+    → (place : ℕ) × (read_at rows n limit bytes ≡ Err (TooLong place))
+
 -- a proper beginning of a spelling is too short
 abbrev pub BeginningIsShort : Type 0
 BeginningIsShort = (rows : List TypeRow) (n limit : ℕ) (v : Value) (front back : List ℕ) → limit < 2 ^ 32 → AreOctets (front ++ back)

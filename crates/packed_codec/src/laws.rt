@@ -1,6 +1,6 @@
 //! The laws of the packed syntax, each the contract of a function that does nothing.
 
-ghost use Rattle.packed_codec.specs.Laws.{ReadIsSpelled, SpelledIsRead, OneSpelling, NoneBegins, ReadStays, FaultStays, FaultIsFirst, OneOfThree, BeginningIsShort, WrittenIsRead, FittingPacks};
+ghost use Rattle.packed_codec.specs.Laws.{ReadIsSpelled, SpelledIsRead, OneSpelling, NoneBegins, ReadStays, FaultStays, FaultIsFirst, OneOfThree, WiderStays, WiderIsLong, ShortIsWithin, BeginningIsShort, WrittenIsRead, FittingPacks};
 
 /// What is read is spelled by the octets used.
 pub fn read_is_spelled()
@@ -41,6 +41,21 @@ pub fn fault_is_first()
 /// they are too short.
 pub fn one_of_three()
     ensures { OneOfThree }
+{}
+
+/// Under a larger limit every answer but `TooLong` stays.
+pub fn wider_stays()
+    ensures { WiderStays }
+{}
+
+/// What is read under a larger limit with more octets than a smaller one is `TooLong` under that.
+pub fn wider_is_long()
+    ensures { WiderIsLong }
+{}
+
+/// Octets that are `Short` are at most as many as the limit.
+pub fn short_is_within()
+    ensures { ShortIsWithin }
 {}
 
 /// A proper beginning of a spelling is `Short`.

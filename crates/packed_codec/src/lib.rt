@@ -19,7 +19,8 @@ mod write;
 pub use fault::PackedFault;
 pub use laws::{
     beginning_is_short, fault_is_first, fault_stays, fitting_packs, none_begins, one_of_three,
-    one_spelling, read_is_spelled, read_stays, spelled_is_read, written_is_read,
+    one_spelling, read_is_spelled, read_stays, short_is_within, spelled_is_read, wider_is_long,
+    wider_stays, written_is_read,
 };
 pub use measure::packed_len;
 pub use public::{LIMIT, Read, packed_read, packed_read_within};
