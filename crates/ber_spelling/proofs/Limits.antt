@@ -1,5 +1,5 @@
 -- The limit on octets.
-use Rattle.std.proofs.Common.{◌≡◌, ℕ, ◌+◌, ◌≤◌, Bool, List, length, Ok, Err, refl, subst, arith}
+use Rattle.std.proofs.Common.{ℕ, ◌≤◌, Bool, List, length, Ok, Err, refl, subst, arith}
 use Rattle.asn1_types.specs.declared.row.TypeRow.{TypeRow}
 use Rattle.asn1_types.specs.Value.{Value}
 use Rattle.ber_spelling.specs.declared.fault.ReadFault.TheVariants as faults

@@ -1,5 +1,5 @@
 -- Values that end too early have no octet past the limit, and what is read of a value is within it.
-use Rattle.std.proofs.Common.{◌≡◌, cond, Ok, Err, ℕ, zero, suc, ◌+◌, ◌≤◌, ◌<◌, refl, arith, Bool, true, false, not, ◌&&◌, List, [], ◌∷◌, length, Option, Some, None}
+use Rattle.std.proofs.Common.{◌≡◌, cond, Ok, Err, ℕ, zero, suc, ◌+◌, ◌≤◌, ◌<◌, arith, Bool, true, false, not, ◌&&◌, List, [], ◌∷◌, length, Option, Some, None}
 use Rattle.std.specs.Prelude.{slice_get, nat_lt}
 use Rattle.asn1_types.specs.declared.row.Class.{Class}
 use Rattle.asn1_types.specs.declared.row.Class.TheVariants.{Universal}

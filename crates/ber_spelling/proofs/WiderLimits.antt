@@ -1,9 +1,9 @@
 -- Under a larger limit every answer but `TooLong` stays.
-use Rattle.std.proofs.Common.{◌≡◌, ◌≢◌, ℕ, ◌+◌, ◌≤◌, ◌<◌, Bool, List, length, Ok, Err, refl, sym, ap, ◌∙◌, subst, arith}
+use Rattle.std.proofs.Common.{◌≡◌, ◌≢◌, ℕ, ◌≤◌, ◌<◌, Bool, List, length, Ok, Err, refl, sym, ap, ◌∙◌, arith}
 use Rattle.asn1_types.specs.declared.row.TypeRow.{TypeRow}
 use Rattle.asn1_types.specs.Value.{Value}
 use Rattle.ber_spelling.specs.declared.fault.ReadFault.TheVariants as faults
-use Rattle.ber_spelling.specs.Reading.{Spot, Reading}
+use Rattle.ber_spelling.specs.Reading.{Reading}
 use Rattle.ber_spelling.specs.Fields.{identifier_at}
 use Rattle.ber_spelling.specs.Rules.{reads, value_at, read_at, outermost, plain}
 use Rattle.ber_spelling.specs.Laws.{WiderStays, WiderIsLong}
