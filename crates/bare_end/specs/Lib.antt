@@ -1,0 +1,6 @@
+pub mod View
+pub mod Heads
+pub mod Messages
+pub mod Told
+pub mod First
+pub mod Feed

@@ -1,0 +1,9 @@
+//! Which configurations an end refuses, in any mode.
+#![tactic(auto)]
+
+mod checking;
+mod connecting;
+mod laws;
+
+pub use checking::check_config;
+pub use laws::connect_is_of_rules;
