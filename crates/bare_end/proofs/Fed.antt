@@ -76,7 +76,7 @@ reads_on_more old now next before shown then h one =
       goes_on = λ more later r.
           let moved : Reads (base now) (seen next) more later = subst (λ (b : Base). Reads b (seen next) more later) (same_base now next steps one.steps) r in
           let here : Reads (base now) (after_all (base now) (seen now) steps) more later = subst (λ (e : End). Reads (base now) e more later) one.steps.end moved in
-          let taken : Reads (base now) (seen now) (steps ++ more) (one.told ++ later) = takes one.used one.content one.body one.answers one.told h.up one.first one.is one.reacts here in
+          let taken : Reads (base now) (seen now) (steps ++ more) (one.told ++ later) = takes one.used one.content one.left one.answers one.told h.up one.first one.is one.reacts here in
           subst (λ (xs : List Step). Reads (base old) (seen old) xs ((h.told ++ one.told) ++ later)) (sym (append_assoc h.steps steps more))
           (subst (λ (ts : List Indication). Reads (base old) (seen old) (h.steps ++ (steps ++ more)) ts) (sym (append_assoc h.told one.told later))
           (h.goes_on (steps ++ more) (one.told ++ later) taken));
@@ -134,3 +134,16 @@ fed_over old new octets over e =
       made = made;
       stands = stands_on old new (fed octets ∷ feed_end ∷ []) made;
     }
+
+-- ---- want of memory
+
+pub kept_none : (old new : EndView) → Keeps old new → KeepsDue old new
+kept_none old new k = record { tables = k.tables; config = k.config; more = []; waiting = k.waiting ∙ sym (append-nil old.waiting) }
+
+pub kept_from : (old middle new : EndView) (rest : List ℕ) → middle ≡ record old { rest = rest } → KeepsDue middle new → KeepsDue old new
+kept_from old middle new rest is k = record {
+  tables = k.tables ∙ ap (λ (e : EndView). e.tables) is;
+  config = k.config ∙ ap (λ (e : EndView). e.config) is;
+  more = k.more;
+  waiting = k.waiting ∙ ap (λ (e : EndView). e.waiting ++ k.more) is;
+}

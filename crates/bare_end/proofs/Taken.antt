@@ -145,7 +145,7 @@ module _ (old : EndView) (used : ℕ) (readable : IsReadable old.tables) (up : p
         record {
           used = used;
           content = content;
-          body = bare_body (base old) old.phase heard.calls;
+          left = bare_body (base old) old.phase heard.calls;
           answers = answers_by old t;
           told = told_by t;
           first = first;

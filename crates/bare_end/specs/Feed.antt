@@ -18,12 +18,12 @@ use Rattle.bare_end.specs.View.{EndView, base, body, seen, Stepped, StandsFor}
 pub record TookOne (old new : EndView) (before after : List Indication) : Type 0 where
   pub used : ℕ
   pub content : Content
-  pub body : Body
+  pub left : Body
   pub answers : List Message
   pub told : List Indication
   pub first : first_at old.rest ≡ Whole used
   pub is : IsContent old.tables Ber (front (Whole used) old.rest) content
-  pub reacts : react (base old) (body old) (bare_message (bare_set old.tables) content) ≡ Takes body answers told
+  pub reacts : react (base old) (body old) (bare_message (bare_set old.tables) content) ≡ Takes left answers told
   pub steps : Stepped old new (taking (bare_message (bare_set old.tables) content) answers)
   pub phase_stays : new.phase ≡ old.phase
   pub some : 0 < used

@@ -4,3 +4,4 @@ pub mod Messages
 pub mod Told
 pub mod First
 pub mod Feed
+pub mod Refusing

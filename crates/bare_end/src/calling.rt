@@ -1,6 +1,6 @@
 //! The calls of an end.
 
-ghost use Rattle.std.specs.Prelude.{◌≡◌, ℕ, ◌+◌, ◌≤◌, ◌<◌, ◌++◌, [], ◌∷◌, true, false, not, ◌&&◌, Some, None, pos, IfOk, OnOk, OnErr, if◌then◌else◌, suc};
+ghost use Rattle.std.specs.Prelude.{◌≡◌, length, ℕ, ◌+◌, ◌≤◌, ◌<◌, ◌++◌, [], ◌∷◌, true, false, not, ◌&&◌, Some, None, pos, IfOk, OnOk, OnErr, if◌then◌else◌, suc};
 ghost use Rattle.std.specs.Bool.{MatchBool, OnFalse};
 ghost use Rattle.osi_base.specs.declared.syntax.Syntax.TheVariants as syntaxes;
 ghost use Rattle.stub_tables.specs.Lookup.{operation_at, error_at};
@@ -10,11 +10,12 @@ ghost use Rattle.dialogue.specs.declared.call.Call.TheVariants as the_calls;
 ghost use Rattle.end_rules.specs.State.{opened_with, close};
 ghost use Rattle.end_rules.specs.Sets.{has_abstract};
 ghost use Rattle.end_rules.specs.Hearing.{opening};
-ghost use Rattle.end_rules.specs.Invoking.{next_id, is_too_long, is_too_long_in, is_on_module, linking_refusal, invoke_apdu, result_apdu, error_apdu, can_send_invoke, can_invoke_operation, can_invoke, can_answer, can_refuse};
+ghost use Rattle.end_rules.specs.Invoking.{next_id, is_too_long, is_too_long_in, is_on_module, linking_refusal, invoke_apdu, result_apdu, error_apdu, can_send_invoke, can_invoke_operation, can_invoke, can_answer_open, can_answer, can_refuse};
 ghost use Rattle.end_rules.specs.Calling.{can_call, is_dead, is_initiators, is_phase_for};
 ghost use Rattle.end_rules.specs.History.{History, call_steps};
 ghost use Rattle.end_wire.specs.Line.{going_on, end_of};
 ghost use Rattle.bare_end.specs.View.{base, body, calls, with_calls, with_waiting, Answers, Answered, Died, Keeps, is_memory, StandsFor};
+ghost use Rattle.bare_end.specs.Refusing.{can_refuse_with};
 
 use crate::end::End;
 use crate::gate::{is_dead, is_initiators, is_phase_for};
@@ -46,15 +47,23 @@ impl<'t> End<'t> {
         Ok(self.text(syntax, apdu)?.len() > MOST_OCTETS)
     }
 
+    /// Whether a spelling of an APDU, which has so many octets in BER, has too many.
+    fn is_too_long(&self, len: usize, apdu: &Apdu) -> Result<bool, NoMemory>
+        requires { len ≡ length (written_apdu self.now.tables syntaxes.Ber apdu.now) }
+        ensures { IfOk result (λ long. long ≡ is_too_long (base self.now) apdu.now) }
+    {
+        let ber = len > MOST_OCTETS;
+        let der = self.is_too_long_in(Syntax::Der, apdu)?;
+        let packed = self.is_too_long_in(Syntax::Packed, apdu)?;
+        Ok(ber || der || packed)
+    }
+
     /// The octets of an APDU in BER, unless a spelling in one of the three syntaxes has too many.
     fn short_text(&self, apdu: &Apdu) -> Result<Option<Octets>, NoMemory>
         ensures none { IfOk result (λ text. text ≡ (if is_too_long (base self.now) apdu.now then None else Some (written_apdu self.now.tables syntaxes.Ber apdu.now))) }
     {
         let text = self.text(Syntax::Ber, apdu)?;
-        if text.len() > MOST_OCTETS
-            || self.is_too_long_in(Syntax::Der, apdu)?
-            || self.is_too_long_in(Syntax::Packed, apdu)?
-        {
+        if self.is_too_long(text.len(), apdu)? {
             return Ok(None);
         }
         Ok(Some(text))
@@ -252,22 +261,23 @@ impl<'t> End<'t> {
         })
     }
 
-    /// Answers an invocation of the peer by its result.
+    /// Answers an open invocation of an operation by its result.
     #[tactic(auto, using(crate::proofs::Sent::answered))]
-    fn answer(&mut self, id: i64, value: &Option<Val>) -> Result<Option<i64>, CallRefusal>
-        ensures { Answers (can_answer (base self.old) (body self.old) id value.now) self.old self.new (the_calls.Answer id value.now) result }
+    fn answer_open(
+        &mut self,
+        id: i64,
+        opened: &OpenCall,
+        operation: &Operation,
+        value: &Option<Val>,
+    ) -> Result<Option<i64>, CallRefusal>
+        requires found { opened_with false id self.old.opens ≡ Some opened.now }
+        requires there { operation_at self.old.tables opened.now.operation ≡ Some operation.now }
+        ensures { Answers (can_answer_open (base self.old) (body self.old) id (Some opened.now) (Some operation.now) value.now) self.old self.new (the_calls.Answer id value.now) result }
     {
-        let tables = self.tables;
-        let Some(opened) = self.opens.find(false, id) else {
-            return Err(CallRefusal::NoInvocation(id));
-        };
-        let Some(operation) = tables.operation(opened.operation) else {
-            return Err(CallRefusal::NoInvocation(id));
-        };
         if !operation.returns {
             return Err(CallRefusal::NotAllowed);
         }
-        if !operation.result.carries(&tables.types, value) {
+        if !operation.result.carries(&self.tables.types, value) {
             return Err(CallRefusal::NotTyped);
         }
         let apdu = self.result_apdu(operation, id, value)?;
@@ -278,8 +288,46 @@ impl<'t> End<'t> {
         Ok(None)
     }
 
-    /// Answers an invocation of the peer by an error.
+    /// Answers an invocation of the peer by its result.
+    fn answer(&mut self, id: i64, value: &Option<Val>) -> Result<Option<i64>, CallRefusal>
+        ensures { Answers (can_answer (base self.old) (body self.old) id value.now) self.old self.new (the_calls.Answer id value.now) result }
+    {
+        let tables = self.tables;
+        let Some(opened) = self.opens.find(false, id) else {
+            return Err(CallRefusal::NoInvocation(id));
+        };
+        let Some(operation) = tables.operation(opened.operation) else {
+            return Err(CallRefusal::NoInvocation(id));
+        };
+        self.answer_open(id, &opened, operation, value)
+    }
+
+    /// Answers an open invocation of an operation by an error.
     #[tactic(auto, using(crate::proofs::Sent::refused))]
+    fn refuse_open(
+        &mut self,
+        id: i64,
+        opened: &OpenCall,
+        place: u32,
+        error: &ErrorRow,
+        parameter: &Option<Val>,
+    ) -> Result<Option<i64>, CallRefusal>
+        requires found { opened_with false id self.old.opens ≡ Some opened.now }
+        requires there { error_at self.old.tables place ≡ Some error.now }
+        ensures { Answers (can_refuse_with (base self.old) (body self.old) id opened.now error.now parameter.now) self.old self.new (the_calls.Refuse id place parameter.now) result }
+    {
+        if !error.parameter.carries(&self.tables.types, parameter) {
+            return Err(CallRefusal::NotTyped);
+        }
+        let apdu = self.error_apdu(error, id, parameter)?;
+        let Some(text) = self.short_text(&apdu)? else {
+            return Err(CallRefusal::TooLong);
+        };
+        self.end_invocation(id, text.as_slice())?;
+        Ok(None)
+    }
+
+    /// Answers an invocation of the peer by an error.
     fn refuse(
         &mut self,
         id: i64,
@@ -301,15 +349,7 @@ impl<'t> End<'t> {
         if !operation.has_error(place) {
             return Err(CallRefusal::NotAllowed);
         }
-        if !error.parameter.carries(&tables.types, parameter) {
-            return Err(CallRefusal::NotTyped);
-        }
-        let apdu = self.error_apdu(error, id, parameter)?;
-        let Some(text) = self.short_text(&apdu)? else {
-            return Err(CallRefusal::TooLong);
-        };
-        self.end_invocation(id, text.as_slice())?;
-        Ok(None)
+        self.refuse_open(id, &opened, place, error, parameter)
     }
 
     /// Makes a call of remote operations in its phase; there are no others in bare mode.

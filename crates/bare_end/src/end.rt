@@ -126,6 +126,7 @@ impl<'t> End<'t> {
     pub fn give_out(&mut self, out: &mut [u8]) -> usize
         ensures count { result ≡ min (length out.old) (length self.old.waiting) }
         ensures given { out.new ≡ take result self.old.waiting ++ drop result out.old }
+        ensures end { self.new ≡ record self.old { waiting = drop result self.old.waiting } }
         ensures steps { Stepped self.old self.new (gave result ∷ []) }
         ensures history { (h : History) → StandsFor self.old h → StandsFor self.new (gave result ∷ h) }
     {

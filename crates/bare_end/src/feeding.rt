@@ -124,6 +124,7 @@ impl<'t> End<'t> {
     }
 
     /// Reads what came, message by message.
+    #[tactic(auto, using(crate::proofs::Fed::reads_on_kept))]
     fn read_all(&mut self, shown: &mut Indications) -> Result<(), NoMemory>
         requires { passes_over self.old.phase ≡ false }
         ensures ok { OnOk result (ReadAll self.old self.new shown.old shown.new) }
@@ -168,6 +169,7 @@ impl<'t> End<'t> {
     }
 
     /// Takes octets, unless memory is refused.
+    #[tactic(auto, using(crate::proofs::Fed::kept_none, crate::proofs::Fed::kept_from))]
     fn feed_now(&mut self, bytes: &[u8]) -> Result<Indications, NoMemory>
         ensures { MatchResult result (λ shown. Fed self.old self.new bytes.now shown) (λ _. KeepsDue self.old self.new) }
     {
