@@ -1,2 +1,1 @@
-pub mod Connecting
 pub mod Refusing

@@ -1,9 +1,6 @@
-//! Which configurations an end refuses, in any mode.
+//! Which configurations an end refuses in any mode for their values.
 #![tactic(auto)]
 
 mod checking;
-mod connecting;
-mod laws;
 
-pub use checking::check_config;
-pub use laws::connect_is_of_rules;
+pub use checking::check_values;

@@ -1,5 +1,5 @@
 use Rattle.end_config.proofs.Contexts.{Passed}
 use Rattle.end_config.proofs.checking.bad_context.Given as goal
 
-abbrev pub invariant-loop-context : goal.invariant-loop-context
-invariant-loop-context l = Passed l.mode l.contexts l.i
+abbrev pub invariant-loop-i : goal.invariant-loop-i
+invariant-loop-i l = Passed l.mode l.contexts l.i
