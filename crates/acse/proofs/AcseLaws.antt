@@ -19,30 +19,42 @@ use Rattle.ber_spelling.proofs.Wholes.{whole_is}
 use Rattle.ber_spelling.proofs.Written.{written_spelled}
 use Rattle.fixed_tables.specs.declared.pdu.PduFault as units
 use Rattle.fixed_tables.specs.Values.{natural_in, octet_of, values_list}
-use Rattle.fixed_tables.specs.Whole.{whole_at}
+use Rattle.fixed_tables.specs.declared.pdu.PduFault.TheVariants as unit
 use Rattle.fixed_tables.proofs.Numbers.{natural_fits, number_fits, range_fits}
-use Rattle.fixed_tables.proofs.WholeLaws.{whole_is_spelled, spelled_is_whole}
+use Rattle.passed_fields.specs.Front.{all_at}
+use Rattle.passed_fields.proofs.Fronts.{all_found, all_only, all_first}
 use Rattle.acse.specs.Rows.{acse_row, acse_rows}
 use Rattle.acse.specs.Words.{external_in, external_value, said, value_of}
-use Rattle.acse.specs.Plain.{SpellsPlain, of_value, plain_at}
+use Rattle.acse.specs.Plain.{SpellsPlain, of_value}
+use Rattle.acse.specs.Fields.{any_apdu_at, AnyApdu, acse_at, SpellsAcse}
 use Rattle.acse.specs.Written.{is_id, can_carry, are_bits, diagnostic_number, can_write, written_acse, IsWritable}
-use Rattle.acse.specs.Laws.{PlainIsSpelled, SpelledPlainIsRead, WrittenAcseIsRead}
+use Rattle.acse.specs.Laws.{AcseIsSpelled, SpelledAcseIsRead, AcseFaultIsFirst}
 use Rattle.acse.proofs.Added.{acse_sound}
+use Rattle.acse.proofs.Shapes.{Whatever, any_apdu_found, any_apdu_only, any_apdu_grows, any_apdu_inside}
 
-pub plain_is_spelled : PlainIsSpelled
-plain_is_spelled a octets are e = by_read (whole_at acse_rows acse_row 262144 octets) refl e
-  where
-    by_read : (r : Result Value units.PduFault) → whole_at acse_rows acse_row 262144 octets ≡ r → of_value r ≡ Ok a → SpellsPlain a octets
-    by_read (Ok v) h e = record {
-      value = v;
-      spelled = whole_is_spelled acse_rows acse_row 262144 octets v are h;
-      says = cc;
-    }
-    by_read (Err f) h e = absurd cc
+-- what is read of a value
+said_of : (r : Result Value units.PduFault) (a : apdus.Acse) → of_value r ≡ Ok a → (v : Value) × (r ≡ Ok v) × (said v ≡ a)
+said_of (Ok v) a e = (v, refl, (let same : said v ≡ a = cc in same))
+said_of (Err f) a e = absurd cc
 
-pub spelled_plain_is_read : SpelledPlainIsRead
-spelled_plain_is_read a octets p =
-    ap of_value (spelled_is_whole acse_rows acse_row 262144 octets p.value acse_sound p.spelled) ∙ ap (λ (x : apdus.Acse). Ok x) p.says
+faulty : (r : Result Value units.PduFault) (f : units.PduFault) → of_value r ≡ Err f → r ≡ Err f
+faulty (Ok v) f e = absurd cc
+faulty (Err g) f e = let same : g ≡ f = cc in ap (λ (x : units.PduFault). Err x) same
+
+pub acse_is_spelled : AcseIsSpelled
+acse_is_spelled a octets are e =
+    let r = said_of (all_at (any_apdu_at acse_rows) 262144 octets) a e in
+    let p = all_found (any_apdu_at acse_rows) AnyApdu any_apdu_found 262144 octets r.0 are r.1 in
+    record { value = r.0; spelled = p.0; within = p.1; says = r.2 }
+
+pub spelled_acse_is_read : SpelledAcseIsRead
+spelled_acse_is_read a octets p =
+    ap of_value (all_only (any_apdu_at acse_rows) Whatever AnyApdu any_apdu_only 262144 octets p.value p.spelled p.within) ∙ ap (λ (x : apdus.Acse). Ok x) p.says
+
+pub acse_fault_is_first : AcseFaultIsFirst
+acse_fault_is_first octets place kind e =
+    let first = all_first (any_apdu_at acse_rows) any_apdu_grows any_apdu_inside 262144 octets place kind (faulty (all_at (any_apdu_at acse_rows) 262144 octets) (unit.At place kind) e) in
+    (first.0, λ k lt. ap of_value (first.1 k lt))
 
 -- ---- what may be written fits
 
@@ -177,13 +189,3 @@ writable_says (apdu.Abort source (e ∷ es)) h =
     let p = and_parts (nat_lt source 2) (list_all can_carry (e ∷ es)) h in
     ap (λ (n : ℕ). apdu.Abort n (map external_in (values_list (values_of (map external_value (e ∷ es)))))) (octet_is 2 source (omega arith) p.0)
     ∙ ap (λ (x : List externals.External). apdu.Abort source x) (users_say (e ∷ es) p.1)
-
-pub written_acse_is_read : WrittenAcseIsRead
-written_acse_is_read a w =
-    let octets : List ℕ = written_acse a in
-    let spells : SpellsPlain a octets = record {
-      value = value_of a;
-      spelled = written_spelled whole_is acse_rows acse_sound acse_row (value_of a) (writable_fits a w.can) false 262144 (omega arith) w.within;
-      says = writable_says a w.can;
-    } in
-    (spells, spelled_plain_is_read a octets spells)

@@ -1,2 +1,4 @@
 pub mod Added
 pub mod AcseLaws
+pub mod Shapes
+pub mod PlainLaws

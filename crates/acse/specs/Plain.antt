@@ -1,10 +1,9 @@
--- The APDUs of association control as octets, where no field is passed over (X.227 9).
+-- The APDUs of association control as values of one table, where no field is passed over (X.227 9).
 use Rattle.std.specs.Prelude.{◌≡◌, ℕ, false, List, Result, Ok, Err}
 use Rattle.osi_base.specs.declared.acse_word.Acse as apdus
 use Rattle.asn1_types.specs.Value.{Value}
 use Rattle.ber_spelling.specs.Spelling.{Spells}
 use Rattle.fixed_tables.specs.declared.pdu.PduFault as units
-use Rattle.fixed_tables.specs.Whole.{whole_at}
 use Rattle.acse.specs.Rows.{acse_row, acse_rows}
 use Rattle.acse.specs.Words.{said}
 
@@ -17,7 +16,3 @@ pub record SpellsPlain (apdu : apdus.Acse) (octets : List ℕ) : Type 0 where
 abbrev pub of_value : Result Value units.PduFault → Result apdus.Acse units.PduFault
 of_value (Ok v) = Ok (said v)
 of_value (Err e) = Err e
-
--- the APDU that all of these octets spell so, or their first fault
-abbrev pub plain_at : List ℕ → Result apdus.Acse units.PduFault
-plain_at octets = of_value (whole_at acse_rows acse_row 262144 octets)

@@ -1,24 +1,48 @@
 //! APDUs of association control read and written.
 
 ghost use Rattle.std.specs.Prelude.{◌≡◌, IfOk};
-ghost use Rattle.fixed_tables.specs.Whole.{GivesWhole};
-ghost use Rattle.acse.specs.Plain.{plain_at};
+ghost use Rattle.fixed_tables.specs.Whole.{GivesWhole, of_whole};
+ghost use Rattle.passed_fields.specs.Front.{all_at};
+ghost use Rattle.acse.specs.Rows.{acse_rows};
+ghost use Rattle.acse.specs.Fields.{any_apdu_at, acse_at};
 ghost use Rattle.acse.specs.Written.{written_acse};
 
+use crate::read::front;
 use crate::table::{APDU, AcseTable};
 use crate::words::{said, value_of};
+use asn1_types::{TypeTable, Val};
 use ber_writing::ber_octets;
-use fixed_tables::{PduFault, whole};
-use osi_base::{Acse, NoMemory, Octets};
+use fixed_tables::{PduFault, fault_of};
+use osi_base::{Acse, Kind, NoMemory, Octets};
 use std::alloc::Global;
 
+/// The value that all of the octets are.
+fn whole(alloc: Global, table: &TypeTable, bytes: &[u8]) -> Result<Val, PduFault>
+    requires { table.now ≡ acse_rows }
+    ensures { GivesWhole result (all_at (any_apdu_at acse_rows) 262144 bytes.now) }
+{
+    match front(alloc, table, bytes) {
+        Ok((value, used)) => {
+            if used == bytes.len() {
+                return Ok(value);
+            }
+            Err(PduFault::At {
+                place: used,
+                kind: Kind::Extra,
+            })
+        }
+        Err(fault) => Err(fault_of(bytes.len(), fault)),
+    }
+}
+
 impl AcseTable {
-    /// The APDU that all of these octets, at most 262,144, spell without a field that is passed
-    /// over (X.227 9), or the first field that breaks that grammar.
-    pub fn read_plain(&self, alloc: Global, bytes: &[u8]) -> Result<Acse, PduFault>
-        ensures { GivesWhole result (plain_at bytes.now) }
+    /// The APDU that all of these octets, at most 262,144, are in BER (X.227 9), or the first field
+    /// that breaks the grammar. Fields with other context tags below 31 than the known ones are
+    /// checked where they stand, and left out.
+    pub fn read(&self, alloc: Global, bytes: &[u8]) -> Result<Acse, PduFault>
+        ensures { GivesWhole result (acse_at bytes.now) }
     {
-        let value = whole(alloc, &self.types, APDU, bytes, 262_144)?;
+        let value = whole(alloc, &self.types, bytes)?;
         Ok(said(alloc, &value)?)
     }
 
@@ -30,6 +54,13 @@ impl AcseTable {
         let value = value_of(alloc, apdu)?;
         ber_octets(alloc, &self.types, APDU, &value)
     }
+}
+
+/// As `AcseTable::read`, with a table of its own.
+pub fn read_acse(alloc: Global, bytes: &[u8]) -> Result<Acse, PduFault>
+    ensures { GivesWhole result (acse_at bytes.now) }
+{
+    AcseTable::new(alloc)?.read(alloc, bytes)
 }
 
 /// As `AcseTable::write`, with a table of its own.

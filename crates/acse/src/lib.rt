@@ -3,9 +3,14 @@
 
 mod codec;
 mod laws;
+mod read;
 mod table;
 mod words;
 
-pub use codec::write_acse;
-pub use laws::{plain_is_spelled, spelled_plain_is_read, written_acse_is_read};
+pub use codec::{read_acse, write_acse};
+pub use fixed_tables::PduFault as AcseFault;
+pub use laws::{
+    acse_fault_is_first, acse_is_spelled, plain_is_spelled, spelled_acse_is_read,
+    written_acse_is_read,
+};
 pub use table::AcseTable;

@@ -58,7 +58,7 @@ pub fn whole(
 }
 
 /// The fault of reading, in octets that end here.
-fn fault_of(end: usize, fault: ReadFault) -> PduFault
+pub fn fault_of(end: usize, fault: ReadFault) -> PduFault
     ensures { result ≡ fault_in end fault }
 {
     match fault {

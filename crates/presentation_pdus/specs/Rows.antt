@@ -114,5 +114,5 @@ ppdu_rows =
     ∷ implicit 0 59
     ∷ implicit 0 5
     ∷ implicit 1 5
-    ∷ Sequence (part (codes "reason") 61 true ∷ part (codes "event") 62 true ∷ [])
+    ∷ Sequence (part (codes "reason") 61 false ∷ part (codes "event") 62 true ∷ [])
     ∷ []

@@ -122,7 +122,7 @@ pub(crate) fn octet_part(number: Option<u8>) -> Option<Val>
 }
 
 /// The reason of a provider.
-fn why_in(value: Option<&Val>) -> Option<u8>
+pub(crate) fn why_in(value: Option<&Val>) -> Option<u8>
     ensures { result ≡ option_map octet_in (option_copied value.entry) }
 {
     match value {

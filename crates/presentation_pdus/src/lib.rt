@@ -2,9 +2,16 @@
 #![tactic(auto)]
 
 mod codec;
+mod fields;
 mod items;
+mod laws;
+mod place;
+mod read;
+mod said;
 mod table;
 mod words;
 
-pub use codec::write_ppdu;
+pub use codec::{read_ppdu, write_ppdu};
+pub use laws::{ppdu_fault_is_first, ppdu_is_spelled, spelled_ppdu_is_read, written_ppdu_is_read};
+pub use place::{PpduFault, PpduPlace};
 pub use table::PpduTable;

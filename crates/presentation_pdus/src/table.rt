@@ -185,7 +185,7 @@ fn provider_abort_parts(alloc: Global) -> Result<Parts, NoMemory>
     ensures { IfOk result (λ parts. slice_get ppdu_rows 63 ≡ Some (row.Sequence parts)) }
 {
     Ok(parts_of(vec![in alloc;
-        part(alloc, "reason", 61, true)?,
+        part(alloc, "reason", 61, false)?,
         part(alloc, "event", 62, true)?,
     ]?))
 }

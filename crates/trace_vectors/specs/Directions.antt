@@ -5,10 +5,10 @@ use Rattle.tpkt.specs.declared.packet.Packet.{Packet}
 use Rattle.tpkt.specs.declared.packet.Packet.TheVariants as packets
 use Rattle.tpkt.specs.declared.packet.TFault.{TFault}
 use Rattle.tpkt.specs.Stream.{Reads}
-use Rattle.trace_vectors.specs.declared.said.Said.{Said}
-use Rattle.trace_vectors.specs.declared.said.Said.TheVariants as said
-use Rattle.trace_vectors.specs.Names.{fault_text}
-use Rattle.trace_vectors.specs.Units.{TsduSaid}
+use Rattle.trace_units.specs.declared.said.Said.{Said}
+use Rattle.trace_units.specs.declared.said.Said.TheVariants as said
+use Rattle.trace_units.specs.Names.{fault_text}
+use Rattle.trace_units.specs.Units.{TsduSaid}
 
 abbrev pub PacketSaid : Tables → Packet → Said → Type 0
 PacketSaid tables (packets.Connect ends) result = result ≡ said.Line (codes "CR")

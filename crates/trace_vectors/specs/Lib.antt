@@ -1,4 +1,2 @@
-pub mod Names
-pub mod Units
 pub mod Directions
 pub mod Trace

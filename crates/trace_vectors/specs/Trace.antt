@@ -4,7 +4,7 @@ use Rattle.osi_base.specs.declared.words.Side.{Side}
 use Rattle.osi_base.specs.declared.words.Side.TheVariants.{A, B}
 use Rattle.stub_tables.specs.declared.tables.Tables.{Tables}
 use Rattle.trace_file.specs.declared.reading.Recorded.{Recorded}
-use Rattle.trace_vectors.specs.Names.{direction_word}
+use Rattle.trace_units.specs.Names.{direction_word}
 use Rattle.trace_vectors.specs.Directions.{Shows}
 
 -- what each end sent so far

@@ -1,4 +1,4 @@
-use Rattle.acse.proofs.AcseLaws as laws
+use Rattle.acse.proofs.PlainLaws as laws
 use Rattle.acse.proofs.laws.plain_is_spelled.Goals as goal
 
 pub returns : goal.returns

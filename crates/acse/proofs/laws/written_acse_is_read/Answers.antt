@@ -1,4 +1,4 @@
-use Rattle.acse.proofs.AcseLaws as laws
+use Rattle.acse.proofs.PlainLaws as laws
 use Rattle.acse.proofs.laws.written_acse_is_read.Goals as goal
 
 pub returns : goal.returns

@@ -1,12 +1,12 @@
 //! The names of units, layers and kinds of fault.
 
 ghost use Rattle.std.specs.Prelude.{◌≡◌};
-ghost use Rattle.trace_vectors.specs.Names.{direction_word, kind_word, spdu_name, ppdu_name};
+ghost use Rattle.trace_units.specs.Names.{direction_word, kind_word, spdu_name, ppdu_name};
 
 use osi_base::{Kind, PresentationWord, SessionWord, Side};
 
 /// The direction of what this end sent.
-pub(crate) fn direction_word(from: Side) -> &'static str
+pub fn direction_word(from: Side) -> &'static str
     ensures { result.now ≡ direction_word from }
 {
     match from {

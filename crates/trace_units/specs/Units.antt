@@ -1,5 +1,5 @@
 -- What a trace says of a transport unit: its session units, and the units of the presentation protocol with their values that these carry.
-use Rattle.std.specs.Prelude.{◌≡◌, ℕ, ◌+◌, List, [], ◌∷◌, ◌++◌, Option, Some, None, Result, Ok, Err, codes}
+use Rattle.std.specs.Prelude.{◌≡◌, ℕ, ◌+◌, ◌-◌, ◌^◌, min, List, [], ◌∷◌, ◌++◌, Option, Some, None, Result, Ok, Err, codes}
 use Rattle.osi_base.specs.declared.session_word.SessionWord.{SessionWord}
 use Rattle.osi_base.specs.declared.session_word.SessionWord.TheVariants as words
 use Rattle.osi_base.specs.declared.presentation_word.Pdv.{Pdv}
@@ -15,9 +15,9 @@ use Rattle.presentation_pdus.specs.declared.place.PpduFault.TheVariants as fault
 use Rattle.presentation_pdus.specs.Units.{ppdu_at}
 use Rattle.stub_tables.specs.declared.tables.Tables.{Tables}
 use Rattle.trace_values.specs.Values.{ArePdvsText}
-use Rattle.trace_vectors.specs.declared.said.Said.{Said}
-use Rattle.trace_vectors.specs.declared.said.Said.TheVariants as said
-use Rattle.trace_vectors.specs.Names.{fault_text, spdu_name, ppdu_name}
+use Rattle.trace_units.specs.declared.said.Said.{Said}
+use Rattle.trace_units.specs.declared.said.Said.TheVariants as said
+use Rattle.trace_units.specs.Names.{fault_text, spdu_name, ppdu_name}
 
 -- the kind of a session unit that may carry a unit of the presentation protocol
 abbrev pub carrier_of : SessionWord → Option PpduPlace
@@ -43,12 +43,21 @@ values_of (unit.UserAbort contexts user) = user
 values_of (unit.Data user) = user
 values_of _ = []
 
--- What is said of user data that begin at this place of the transport unit: the unit's name and its values (Ok), or the
--- first fault, whose place counts in the transport unit (Err).
+-- what is said of a unit of the presentation protocol: its name and its values
+abbrev pub IsUnitText : Tables → units.PresentationWord → List ℕ → Type 0
+IsUnitText tables word text = (values : List ℕ) × ArePdvsText tables (values_of word) values × (text ≡ ppdu_name word ++ values)
+
+-- a place in user data that begin at another; it stands still at the end of its type
+abbrev pub on : ℕ → ℕ → ℕ
+on place at = min (place + at) (2 ^ 64 - 1)
+
+-- What is said of user data that begin at this place of the transport unit: the unit (Ok), or the first fault, whose place
+-- counts in the transport unit (Err).
 abbrev pub UnitSaid : Tables → ℕ → Result units.PresentationWord faults.PpduFault → Result (List ℕ) (List ℕ) → Type 0
-UnitSaid tables place (Ok word) (Ok text) = (values : List ℕ) × ArePdvsText tables (values_of word) values × (text ≡ ppdu_name word ++ values)
-UnitSaid tables place (Err (fault.At at kind reason)) (Err text) = text ≡ fault_text (codes "presentation") (place + at) kind
-UnitSaid tables place _ _ = ⊥
+UnitSaid tables place (Ok word) (Ok text) = IsUnitText tables word text
+UnitSaid tables place (Err (fault.At at kind reason)) (Err text) = text ≡ fault_text (codes "presentation") (on place at) kind
+UnitSaid tables place (Ok word) (Err text) = ⊥
+UnitSaid tables place (Err e) _ = ⊥
 
 abbrev pub place_in : Option ℕ → ℕ
 place_in None = 0
@@ -68,17 +77,30 @@ abbrev pub closed : List ℕ → Result (List ℕ) (List ℕ) → Said
 closed before (Ok text) = said.Line (before ++ text)
 closed before (Err text) = said.Fault text
 
--- behind what was said of the first unit, what is said of the second
+-- what is said of a unit alone, behind these names
+abbrev pub ClosedSaid : Tables → List ℕ → SessionWord → Option ℕ → Said → Type 0
+ClosedSaid tables names word place result = (text : Result (List ℕ) (List ℕ)) × WordSaid tables word place text × (result ≡ closed names text)
+
+abbrev pub OneSaid : Tables → SessionWord → Option ℕ → Said → Type 0
+OneSaid tables word place result = ClosedSaid tables (spdu_name word) word place result
+
+-- behind what is said of the first unit, what is said of the second
 abbrev pub SecondSaid : Tables → List ℕ → SessionWord → Option ℕ → Result (List ℕ) (List ℕ) → Said → Type 0
-SecondSaid tables names word place (Ok text) result = (more : Result (List ℕ) (List ℕ)) × WordSaid tables word place more × (result ≡ closed (names ++ text) more)
+SecondSaid tables names word place (Ok text) result = ClosedSaid tables (names ++ text) word place result
 SecondSaid tables names word place (Err text) result = result ≡ said.Fault text
+
+abbrev pub two_names : SessionWord → SessionWord → List ℕ
+two_names first second = spdu_name first ++ codes "+" ++ spdu_name second
+
+abbrev pub TwoSaid : Tables → SessionWord → SessionWord → UserPlaces → Said → Type 0
+TwoSaid tables first second places result =
+    (text : Result (List ℕ) (List ℕ)) × WordSaid tables first places.first text × SecondSaid tables (two_names first second) second places.second text result
 
 -- one unit, or two whose names are joined
 abbrev pub WordsSaid : Tables → List SessionWord → UserPlaces → Said → Type 0
 WordsSaid tables [] places result = ⊥
-WordsSaid tables (word ∷ []) places result = (text : Result (List ℕ) (List ℕ)) × WordSaid tables word places.first text × (result ≡ closed (spdu_name word) text)
-WordsSaid tables (first ∷ second ∷ []) places result =
-    (text : Result (List ℕ) (List ℕ)) × WordSaid tables first places.first text × SecondSaid tables (spdu_name first ++ codes "+" ++ spdu_name second) second places.second text result
+WordsSaid tables (word ∷ []) places result = OneSaid tables word places.first result
+WordsSaid tables (first ∷ second ∷ []) places result = TwoSaid tables first second places result
 WordsSaid tables (first ∷ second ∷ third ∷ more) places result = ⊥
 
 abbrev pub ReadSaid : Tables → UserPlaces → Result (List SessionWord) Fault → Said → Type 0
@@ -93,3 +115,10 @@ TsduSaid tables tsdu result = ReadSaid tables (user_places tsdu) (units_at tsdu)
 abbrev pub WasPut : (Result (List ℕ) (List ℕ) → Type 0) → List ℕ → List ℕ → Option (List ℕ) → Type 0
 WasPut IsSaid before after None = (text : List ℕ) × IsSaid (Ok text) × (after ≡ before ++ text)
 WasPut IsSaid before after (Some fault) = IsSaid (Err fault)
+
+-- one word, or two
+abbrev pub IsOneOrTwo : List SessionWord → Type 0
+IsOneOrTwo [] = ⊥
+IsOneOrTwo (word ∷ []) = Unit {0}
+IsOneOrTwo (first ∷ second ∷ []) = Unit {0}
+IsOneOrTwo (first ∷ second ∷ third ∷ more) = ⊥

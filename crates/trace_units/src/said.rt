@@ -1,7 +1,7 @@
 //! What is said of a message.
 
 ghost use Rattle.std.specs.Prelude.{◌≡◌, ◌++◌, IfOk};
-ghost use Rattle.trace_vectors.specs.Names.{fault_text};
+ghost use Rattle.trace_units.specs.Names.{fault_text};
 
 use crate::names::kind_word;
 use osi_base::{Kind, NoMemory, Octets};
@@ -10,13 +10,13 @@ use std::alloc::Global;
 
 /// What is said of a message: a line, or a fault, which ends its direction.
 #[derive(Debug, Drop)]
-pub(crate) enum Said {
+pub enum Said {
     Line(Octets),
     Fault(Octets),
 }
 
-/// A field that breaks the grammar of its layer.
-pub(crate) fn fault_text(
+/// What is said of a field that breaks the grammar of its layer, with its place counted from 0.
+pub fn fault_text(
     alloc: Global,
     layer: &str,
     place: u64,

@@ -1,5 +1,0 @@
-use Rattle.acse.proofs.AcseLaws as laws
-use Rattle.acse.proofs.laws.spelled_plain_is_read.Goals as goal
-
-pub returns : goal.returns
-returns c = laws.spelled_plain_is_read

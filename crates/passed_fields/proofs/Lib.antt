@@ -1,0 +1,9 @@
+pub mod Nones
+pub mod Tags
+pub mod FieldsFound
+pub mod FieldsOnly
+pub mod FieldsGrow
+pub mod FieldsInside
+pub mod Fronts
+pub mod MoreTurns
+pub mod PlainFields

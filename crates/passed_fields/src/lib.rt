@@ -1,0 +1,9 @@
+//! Fields one after the other in constructed contents, of which some are known and others are
+//! passed over: checked where they stand, and left out.
+#![tactic(auto)]
+
+mod field;
+mod read;
+
+pub use field::{Field, Fields, Holds, Passed};
+pub use read::{fields, some_values};

@@ -1,0 +1,58 @@
+//! Where units of the presentation protocol are carried, and what is wrong with octets that are
+//! none.
+
+ghost use Rattle.std.specs.Prelude.{◌≡◌};
+
+use osi_base::{Kind, NoMemory};
+
+/// The kind of session unit (X.225 8.3) that carries a unit of the presentation protocol.
+#[derive(Clone, Copy, Debug, PartialEq, Eq)]
+pub enum PpduPlace {
+    /// CONNECT: CP.
+    Cn,
+    /// ACCEPT: CPA.
+    Ac,
+    /// REFUSE: CPR.
+    Rf,
+    /// FINISH: user data.
+    Fn,
+    /// DISCONNECT: user data.
+    Dn,
+    /// ABORT: ARU or ARP.
+    Ab,
+    /// PLEASE TOKENS: user data.
+    Pt,
+    /// TYPED DATA: AC or ACA.
+    Td,
+    /// DATA TRANSFER: user data.
+    Dt,
+    /// RESYNCHRONIZE: RS.
+    Rs,
+    /// RESYNCHRONIZE ACK: RSA.
+    Ra,
+}
+
+/// Why octets aren't one unit of the presentation protocol.
+#[derive(Clone, Copy, Debug, PartialEq, Eq)]
+pub enum PpduFault {
+    /// The first field from the left that breaks the grammar stands at this place, counted from 0;
+    /// with the provider's reason for an abort (X.226 8.3): 1, a unit that isn't known there, or 6,
+    /// another fault in it.
+    At {
+        place: usize,
+        kind: Kind,
+        reason: u8,
+    },
+    /// Memory was refused.
+    NoMemory,
+}
+
+impl From<NoMemory> for PpduFault {
+    ghost use Rattle.presentation_pdus.specs.declared.place.PpduFault.TheVariants.{NoMemory as no_room};
+
+    ghost from_gives = { λ _ e. e ≡ no_room };
+
+    fn from(_error: NoMemory) -> PpduFault {
+        PpduFault::NoMemory
+    }
+}
