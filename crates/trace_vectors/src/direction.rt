@@ -1,12 +1,10 @@
 //! One direction of a recorded dialogue.
 
-use crate::names::direction_word;
-use crate::said::{Said, fault_text};
-use crate::units::Viewer;
 use osi_base::{NoMemory, Octets, Side};
 use script_text::Text;
 use std::alloc::Global;
 use tpkt::{Packet, TReader};
+use trace_units::{Said, Viewer, direction_word, fault_text};
 
 /// What one end sent, as far as it was recorded. Behind a fault nothing more is said of it.
 #[derive(Drop)]

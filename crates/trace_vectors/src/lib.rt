@@ -1,11 +1,7 @@
-//! What a recorded dialogue says: its packets, session units, presentation units and values, one line
-//! for each message.
+//! The trace of a recorded dialogue: what each of its messages says, a line for each.
 #![tactic(auto)]
 
 mod direction;
-mod names;
-mod said;
 mod trace;
-mod units;
 
 pub use trace::trace_text;

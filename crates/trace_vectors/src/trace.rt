@@ -1,14 +1,12 @@
 //! The trace of a recorded dialogue.
 
 use crate::direction::Direction;
-use crate::units::Viewer;
-use apdu_codec::Heads;
 use osi_base::{NoMemory, Octets, Side};
-use presentation_pdus::PpduTable;
 use script_text::Text;
 use std::alloc::Global;
 use stub_tables::Tables;
 use trace_file::Recording;
+use trace_units::Viewer;
 
 /// What a recorded dialogue says, with the names of a module: a line for each packet that isn't data
 /// and for each transport unit, in the order in which they were whole.
@@ -17,12 +15,7 @@ pub fn trace_text(
     tables: &Tables,
     recording: &Recording,
 ) -> Result<Octets, NoMemory> {
-    let viewer = Viewer {
-        alloc,
-        tables,
-        heads: Heads::new(alloc)?,
-        ppdus: PpduTable::new(alloc)?,
-    };
+    let viewer = Viewer::new(alloc, tables)?;
     let mut a = Direction::new(alloc);
     let mut b = Direction::new(alloc);
     let mut text = Text::new(alloc);
