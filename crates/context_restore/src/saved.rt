@@ -32,7 +32,7 @@ pub struct Saved {
 
 impl Model for Saved {
     ghost use Rattle.context_restore.specs.SavedSets.{SavedSets};
-    ghost use Rattle.context_restore.specs.Chain.{versions, IsSound};
+    ghost use Rattle.context_restore.specs.Chain.{versions, IsKept};
 
     ghost Value = { SavedSets };
 
@@ -42,7 +42,7 @@ impl Model for Saved {
       active = saved.active;
     } };
 
-    ghost invariant = { λ saved. IsSound saved.nodes saved.head saved.newest saved.active };
+    ghost invariant = { λ saved. IsKept saved.nodes saved.head saved.newest saved.inter saved.active };
 }
 
 impl Saved {
@@ -188,6 +188,7 @@ impl Saved {
     pub fn end(&mut self) -> Result<SetList, SaveRefusal>
         ensures refused { MatchResult result (λ _. leave_refusal self.old ≡ None) (IsRefused (leave_refusal self.old)) }
         ensures list { IfOk result (λ list. list ≡ self.old.inter) }
+        ensures rises { IfOk result (λ list. IsRising list) }
         ensures ok { OnOk result (self.new ≡ record self.old { active = false }) }
         ensures err { OnErr result (self.new ≡ self.old) }
     {
@@ -200,6 +201,7 @@ impl Saved {
     pub fn interrupt(&mut self) -> Result<SetList, SaveRefusal>
         ensures refused { MatchResult result (λ _. leave_refusal self.old ≡ None) (IsRefused (leave_refusal self.old)) }
         ensures list { IfOk result (λ list. list ≡ self.old.inter) }
+        ensures rises { IfOk result (λ list. IsRising list) }
         ensures ok { OnOk result (self.new ≡ record self.old { active = false }) }
         ensures err { OnErr result (self.new ≡ self.old) }
     {
@@ -210,6 +212,7 @@ impl Saved {
     pub fn discard(&mut self) -> Result<SetList, SaveRefusal>
         ensures refused { MatchResult result (λ _. leave_refusal self.old ≡ None) (IsRefused (leave_refusal self.old)) }
         ensures list { IfOk result (λ list. list ≡ self.old.inter) }
+        ensures rises { IfOk result (λ list. IsRising list) }
         ensures ok { OnOk result (self.new ≡ record self.old { nodes = []; active = false }) }
         ensures err { OnErr result (self.new ≡ self.old) }
     {
@@ -225,6 +228,7 @@ impl Saved {
     fn left_set(&self) -> Result<SetList, SaveRefusal>
         ensures refused { MatchResult result (λ _. leave_refusal self.now ≡ None) (IsRefused (leave_refusal self.now)) }
         ensures list { IfOk result (λ list. list ≡ self.now.inter) }
+        ensures rises { IfOk result (λ list. IsRising list) }
     {
         if !self.is_active() {
             return Err(SaveRefusal::NoActivity);

@@ -20,6 +20,26 @@ fn mem_line(alloc: Global, numbers: Vec<u64>) -> Result<MemLine, NoMemory> {
 }
 
 #[test]
+fn a_line_in_memory_gives_what_its_peers_say(rt: HostRuntime) -> Result<(), Fail> {
+    let alloc = rt.alloc();
+    let host = Name::from_str(alloc, "localhost")?;
+    let mut line = mem_line(alloc, Vec::new(alloc))?;
+    let mut room = [0; 8];
+    assert!(rt; line.open(alloc, &host, 102) == Ok(()));
+    assert!(rt; line.read(&mut room) == Ok(2));
+    assert!(rt; line.read(&mut room[2..]) == Ok(1));
+    assert!(rt; &room[..3] == b"abc".as_slice());
+    assert!(rt; line.read(&mut room) == Ok(0));
+    assert!(rt; line.octets_read == 3);
+    assert!(rt; line.shut() == Ok(()));
+    assert!(rt; line.accept(alloc, 102) == Ok(()));
+    assert!(rt; line.octets_read == 0);
+    assert!(rt; line.read(&mut room) == Ok(2));
+    assert!(rt; &room[..2] == b"de".as_slice());
+    Ok(())
+}
+
+#[test]
 fn a_line_in_memory_fails_where_it_is_to(rt: HostRuntime) -> Result<(), Fail> {
     let alloc = rt.alloc();
     let mut line = mem_line(alloc, vec![in alloc; 0, 2, 4]?)?;
