@@ -5,6 +5,8 @@
 #[cfg(test)]
 mod alterations;
 #[cfg(test)]
+mod calls;
+#[cfg(test)]
 mod made;
 #[cfg(test)]
 mod refusals;

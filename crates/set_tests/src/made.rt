@@ -1,19 +1,23 @@
 //! Sets, proposals and rules for the tests.
 
-use context_sets::{Alteration, Contexts, Rules, SetFault, SetRefusal};
+ghost use Rattle.std.specs.Prelude.{◌≤◌, IfOk, length};
+ghost use Rattle.context_sets.specs.Sets.{IsRising};
+
+use context_sets::{Alteration, Contexts, Rules, SetFault, accepted_list};
 use osi_base::{
-    Copied, Ids, ListOf, NoMemory, Oid, Oids, Pair, Proposal, SetItem, SetList, Syntax,
+    AddAnswer, AddAnswers, Ids, ListOf, NoMemory, Oid, Oids, Proposal, Proposals, SetList, Syntax,
 };
 use std::alloc::Global;
+
+/// The abstract syntax of ACSE, whose context is fixed.
+const ACSE: [u32; 5] = [2, 2, 1, 0, 1];
+
+/// The abstract syntax of the module.
+const MODULE: [u32; 4] = [2, 999, 7, 1];
 
 /// The abstract syntax with these arcs.
 fn name(alloc: Global, arcs: &[u32]) -> Result<Oid, NoMemory> {
     Oid::from_vec(Vec::from_slice(alloc, arcs)?).ok_or(NoMemory)
-}
-
-/// The abstract syntax of the module.
-pub fn module_name(alloc: Global) -> Result<Oid, NoMemory> {
-    name(alloc, &[2, 999, 7, 1])
 }
 
 /// The name of one transfer syntax.
@@ -23,25 +27,76 @@ fn transfers(alloc: Global, transfer: Syntax) -> Result<Oids, NoMemory> {
     Ok(transfers)
 }
 
-/// A context of the module.
-pub fn context(alloc: Global, id: u32, transfer: Syntax) -> Result<SetItem, NoMemory> {
-    let pair = Pair {
-        abstract_name: module_name(alloc)?,
-        transfer,
-    };
-    Ok(SetItem { id, pair })
+/// A proposed context.
+fn proposal(alloc: Global, id: u32, arcs: &[u32], transfer: Syntax) -> Result<Proposal, NoMemory> {
+    Ok(Proposal {
+        id,
+        abstract_name: name(alloc, arcs)?,
+        transfers: transfers(alloc, transfer)?,
+    })
 }
 
-/// A set of ACSE under 1 and of the module under 5.
-pub fn two_contexts(alloc: Global) -> Result<SetList, NoMemory> {
-    let pair = Pair {
-        abstract_name: name(alloc, &[2, 2, 1, 0, 1])?,
-        transfer: Syntax::Ber,
-    };
-    let mut list = ListOf::new(alloc);
-    list.push(SetItem { id: 1, pair })?;
-    list.push(context(alloc, 5, Syntax::Ber)?)?;
+/// Acceptances of so many proposed contexts.
+fn acceptances(alloc: Global, transfer: Syntax, count: usize) -> Result<AddAnswers, NoMemory> {
+    let mut answers = ListOf::new(alloc);
+    for _ in 0..count {
+        answers.push(AddAnswer {
+            result: 0,
+            transfer: Some(transfer.name(alloc)?),
+            reason: None,
+        })?;
+    }
+    Ok(answers)
+}
+
+/// The set of these proposed contexts, which are all accepted.
+fn accepted(alloc: Global, proposals: Proposals, transfer: Syntax) -> Result<SetList, SetFault>
+    ensures rises { IfOk result (λ list. IsRising list) }
+    ensures within { IfOk result (λ list. length list ≤ 64) }
+{
+    let answers = acceptances(alloc, transfer, proposals.len())?;
+    let list = accepted_list(alloc, &proposals, &answers)?;
+    if list.len() > 64 {
+        return Err(SetFault::NoMemory);
+    }
     Ok(list)
+}
+
+/// An end that has these contexts.
+fn end_with(
+    alloc: Global,
+    initiator: bool,
+    proposals: Proposals,
+    transfer: Syntax,
+) -> Result<Contexts, SetFault> {
+    let list = accepted(alloc, proposals, transfer)?;
+    let mut set = Contexts::new(alloc, initiator);
+    set.install(list)?;
+    Ok(set)
+}
+
+/// An end that has ACSE under 1 and the module under 5, both in BER.
+pub fn end(alloc: Global, initiator: bool) -> Result<Contexts, SetFault> {
+    let mut proposals = ListOf::new(alloc);
+    proposals.push(proposal(alloc, 1, &ACSE, Syntax::Ber)?)?;
+    proposals.push(proposal(alloc, 5, &MODULE, Syntax::Ber)?)?;
+    end_with(alloc, initiator, proposals, Syntax::Ber)
+}
+
+/// An initiator that has the module alone, under 5.
+pub fn only_five(alloc: Global, transfer: Syntax) -> Result<Contexts, SetFault> {
+    let mut proposals = ListOf::new(alloc);
+    proposals.push(proposal(alloc, 5, &MODULE, transfer)?)?;
+    end_with(alloc, true, proposals, transfer)
+}
+
+/// An initiator that has the module 64 times, under the first odd numbers.
+pub fn full_set(alloc: Global) -> Result<Contexts, SetFault> {
+    let mut proposals = ListOf::new(alloc);
+    for place in 0..64u32 {
+        proposals.push(proposal(alloc, 2 * place + 1, &MODULE, Syntax::Packed)?)?;
+    }
+    end_with(alloc, true, proposals, Syntax::Packed)
 }
 
 /// These identifiers.
@@ -53,11 +108,7 @@ pub fn ids(alloc: Global, ids: &[u32]) -> Result<Ids, NoMemory> {
 pub fn alteration(alloc: Global, added: &[u32], deleted: &[u32]) -> Result<Alteration, NoMemory> {
     let mut proposals = ListOf::new(alloc);
     for id in added {
-        proposals.push(Proposal {
-            id: *id,
-            abstract_name: module_name(alloc)?,
-            transfers: transfers(alloc, Syntax::Packed)?,
-        })?;
+        proposals.push(proposal(alloc, *id, &MODULE, Syntax::Packed)?)?;
     }
     Ok(Alteration {
         added: proposals,
@@ -65,44 +116,12 @@ pub fn alteration(alloc: Global, added: &[u32], deleted: &[u32]) -> Result<Alter
     })
 }
 
-/// Asks for that alteration, while these identifiers are in use.
-pub fn ask(
-    alloc: Global,
-    set: &mut Contexts,
-    added: &[u32],
-    deleted: &[u32],
-    used: &[u32],
-) -> Result<(), SetRefusal> {
-    let asked = alteration(alloc, added, deleted)?;
-    let used = ids(alloc, used)?;
-    set.propose(asked.added.copy(alloc)?, asked.deleted.copy(alloc)?, &used)
-}
-
 /// An end that accepts the module in the packed syntax.
 pub fn packed_rules(alloc: Global) -> Result<Rules, NoMemory> {
     Ok(Rules {
-        module: module_name(alloc)?,
+        module: name(alloc, &MODULE)?,
         connect: false,
         reliable: false,
         accepts: transfers(alloc, Syntax::Packed)?,
     })
-}
-
-/// The first 64 identifiers of a responder.
-fn even_ids(alloc: Global) -> Result<Vec<u32>, NoMemory> {
-    let mut even = Vec::new(alloc);
-    for place in 1..65u32 {
-        even.push(2 * place)?;
-    }
-    Ok(even)
-}
-
-/// A set of an initiator that has 64 contexts of the module, as it came from the other end.
-pub fn full_set(alloc: Global) -> Result<Contexts, SetFault> {
-    let even = even_ids(alloc)?;
-    let asked = alteration(alloc, even.as_slice(), &[])?;
-    let none = ListOf::new(alloc);
-    let mut set = Contexts::new(alloc, true);
-    set.answer(&asked.added, &none, &none, &packed_rules(alloc)?)?;
-    Ok(set)
 }

@@ -1,32 +1,9 @@
 //! Alterations that an end isn't to ask for.
 
-use crate::made::{ask, full_set, two_contexts};
-use context_sets::{Contexts, SetRefusal};
-use osi_base::NoMemory;
-use std::alloc::Global;
+use crate::calls::{add, ask, delete};
+use crate::made::{end, full_set};
+use context_sets::SetRefusal;
 use std::test::Fail;
-
-/// An end with ACSE under 1 and the module under 5.
-fn end(alloc: Global, initiator: bool) -> Result<Contexts, NoMemory> {
-    let mut set = Contexts::new(alloc, initiator);
-    set.install(two_contexts(alloc)?)?;
-    Ok(set)
-}
-
-/// Asks for one addition.
-fn add(alloc: Global, set: &mut Contexts, id: u32) -> Result<(), SetRefusal> {
-    ask(alloc, set, &[id], &[], &[])
-}
-
-/// Asks for one deletion.
-fn delete(alloc: Global, set: &mut Contexts, id: u32) -> Result<(), SetRefusal> {
-    ask(alloc, set, &[], &[id], &[])
-}
-
-/// Asks for the deletion of a context that is in use.
-fn delete_used(alloc: Global, set: &mut Contexts, id: u32) -> Result<(), SetRefusal> {
-    ask(alloc, set, &[], &[id], &[id])
-}
 
 #[test]
 fn an_identifier_that_waits_is_named(rt: HostRuntime) -> Result<(), Fail> {
@@ -53,7 +30,7 @@ fn the_context_of_acse_is_fixed(rt: HostRuntime) -> Result<(), Fail> {
 #[test]
 fn a_context_in_use_is_not_deleted(rt: HostRuntime) -> Result<(), Fail> {
     let mut a = end(rt.alloc(), true)?;
-    assert!(rt; delete_used(rt.alloc(), &mut a, 5) == Err(SetRefusal::InUse(5)));
+    assert!(rt; ask(rt.alloc(), &mut a, &[], &[5], &[5]) == Err(SetRefusal::InUse(5)));
     Ok(())
 }
 
