@@ -1,5 +1,6 @@
 //! Lines in memory.
 
+use crate::received::received;
 use osi_base::{Failed, FailingCalls, Line, LineFault, MemLine, Name, NoMemory, Octets, SureLine};
 use std::alloc::Global;
 use std::collections::VecDeque;
@@ -20,22 +21,24 @@ fn mem_line(alloc: Global, numbers: Vec<u64>) -> Result<MemLine, NoMemory> {
 }
 
 #[test]
-fn a_line_in_memory_gives_what_its_peers_say(rt: HostRuntime) -> Result<(), Fail> {
+fn a_line_in_memory_gives_what_its_peer_says(rt: HostRuntime) -> Result<(), Fail> {
     let alloc = rt.alloc();
-    let host = Name::from_str(alloc, "localhost")?;
     let mut line = mem_line(alloc, Vec::new(alloc))?;
-    let mut room = [0; 8];
-    assert!(rt; line.open(alloc, &host, 102) == Ok(()));
-    assert!(rt; line.read(&mut room) == Ok(2));
-    assert!(rt; line.read(&mut room[2..]) == Ok(1));
-    assert!(rt; &room[..3] == b"abc".as_slice());
-    assert!(rt; line.read(&mut room) == Ok(0));
-    assert!(rt; line.octets_read == 3);
-    assert!(rt; line.shut() == Ok(()));
-    assert!(rt; line.accept(alloc, 102) == Ok(()));
-    assert!(rt; line.octets_read == 0);
-    assert!(rt; line.read(&mut room) == Ok(2));
-    assert!(rt; &room[..2] == b"de".as_slice());
+    line.accept(alloc, 102)?;
+    assert!(rt; received(alloc, &mut line)?.as_slice() == b"ab".as_slice());
+    assert!(rt; received(alloc, &mut line)?.as_slice() == b"c".as_slice());
+    assert!(rt; received(alloc, &mut line)?.is_empty());
+    Ok(())
+}
+
+#[test]
+fn the_next_connection_is_to_the_next_peer(rt: HostRuntime) -> Result<(), Fail> {
+    let alloc = rt.alloc();
+    let mut line = mem_line(alloc, Vec::new(alloc))?;
+    line.accept(alloc, 102)?;
+    line.accept(alloc, 102)?;
+    assert!(rt; received(alloc, &mut line)?.as_slice() == b"de".as_slice());
+    assert!(rt; line.octets_read == 2);
     Ok(())
 }
 
