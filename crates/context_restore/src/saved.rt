@@ -7,7 +7,7 @@ ghost use Rattle.context_restore.specs.declared.refusal.SaveRefusal.TheVariants.
 ghost use Rattle.context_restore.specs.SavedSets.{marks_of, next_number, mark_refusal, restart_refusal, resume_refusal, leave_refusal, resumed_set, resumed_nodes, IsRefused};
 
 use crate::chain::{drop_newest, insert_node, rooted, set_back};
-use crate::differing::missing;
+use crate::differing::{changed_set, missing, renew};
 use crate::node::VersionNode;
 use crate::refusal::SaveRefusal;
 use context_sets::Contexts;
@@ -129,10 +129,10 @@ impl Saved {
             added: missing(self.alloc, self.newest.as_slice(), set.items())?,
             lost: missing(self.alloc, set.items(), self.newest.as_slice())?,
         };
-        let newest = set.list()?;
+        let changed = changed_set(&node, self.newest.as_slice(), set)?;
         let key = insert_node(&mut self.nodes, node)?;
         self.head = Some(key);
-        self.newest = newest;
+        renew(&mut self.newest, changed);
         Ok(())
     }
 

@@ -8,8 +8,8 @@ pub invariant_of-self : goal.invariant_of-self
 invariant_of-self c =
     record {
       sound = sound_cut c.self.inside.nodes c.drop_newest-self-inside.new.nodes c.self.inside.head c.drop_newest-self-inside.result c.self.inside.newest c.in_ok-newest.newest c.self.inside.active c.args.count c.saturating_sub-dropped.result c.self.invariant.sound
-    (c.saturating_sub-dropped.ensures ∙ ap (λ n. n - c.args.count) c.len.ensures) c.requires c.drop_newest-self-inside.ensures
-    (c.in_ok-newest.ensures.list ∙ sym (ap (λ (x : SavedSets). set_of (below c.args.count x.nodes)) c.self.view_is));
+          (c.saturating_sub-dropped.ensures ∙ ap (λ n. n - c.args.count) c.len.ensures) c.requires c.drop_newest-self-inside.ensures
+          (c.in_ok-newest.ensures.list ∙ sym (ap (λ (x : SavedSets). set_of (below c.args.count x.nodes)) c.self.view_is));
       inter_rises = c.self.invariant.inter_rises;
     }
 
