@@ -1,3 +1,9 @@
+pub mod DirectMachine
+pub mod DirectOpening
+pub mod DirectCalling
+pub mod DirectTaking
+pub mod DirectWords
+pub mod AnswersFit
 pub mod Marks
 pub mod Transfers
 pub mod PurgedWords

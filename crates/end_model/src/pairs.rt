@@ -1,6 +1,7 @@
 //! Two ends and the model that goes with them: each statement is the contract of a function with
 //! an empty body.
 
+ghost use Rattle.end_model.specs.DirectPairs.{DirectModelled, DirectTakes};
 ghost use Rattle.end_model.specs.Pairs.{BareModelled, BareTakes, HasCodec};
 ghost use Rattle.end_model.specs.Steps.{ActsKept, TakesKept, PassesKept, BreaksKept, UnseenKept, UnitsKept};
 
@@ -10,6 +11,14 @@ pub fn bare_pairs_are_modelled()
     ensures codec { HasCodec }
     ensures modelled { BareModelled }
     ensures takes { BareTakes }
+{}
+
+/// Whatever two ends of direct mode reach, through the transport connection, the opening, all calls,
+/// all messages and breaks, there is a run of the model with their states and with what is on its
+/// way; and what comes next to an end is taken or passed over, so neither aborts of itself.
+pub fn direct_pairs_are_modelled()
+    ensures modelled { DirectModelled }
+    ensures takes { DirectTakes }
 {}
 
 /// Each step of two ends, in every mode, keeps a run of the model: an act, a taking, a passing
