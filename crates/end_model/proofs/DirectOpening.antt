@@ -19,7 +19,7 @@ use Rattle.end_rules.specs.Messages.{TransportUnit, ConnectionRequest, Connectio
 use Rattle.end_rules.specs.State.{Body, Stage, Unused, Asked, Joined, Carrying, NoAnswer, passes_over, is_joined, is_carrying, is_unused, is_asked, is_broken}
 use Rattle.end_rules.specs.Sets.{accepted_set, fit_proposals, syntax_named}
 use Rattle.end_rules.specs.Units.{selected_with, proposed_units, needed_units, has_units, has_version_two, manages_with}
-use Rattle.end_rules.specs.Policy.{is_faulty_proposal}
+use Rattle.end_rules.specs.World.{Shared, anew}
 use Rattle.end_rules.specs.Faults.{transport_fault, invalid_ppdu, acse_fault, fault_if, or_fault, over}
 use Rattle.end_rules.specs.Purging.{is_purged, is_transport_purged}
 use Rattle.end_rules.specs.InPlace.{is_opening}
@@ -35,7 +35,8 @@ use Rattle.agreement.specs.Messages.Choice.{Nothing, Accepting as accepting, Ref
 use Rattle.agreement.specs.State as states
 use Rattle.agreement.specs.State.Phase.{Idle as model_idle, Opening as model_opening, Over as model_over}
 use Rattle.agreement.specs.Takings.{MayTake, IsChoice, is_purged as model_purged}
-use Rattle.agreement.specs.Worlds.{World}
+use Rattle.agreement.specs.Worlds as worlds
+use Rattle.agreement.specs.Worlds.{World, shared_at}
 use Rattle.agreement.specs.Worlds.Step.{Acts, Takes as model_takes}
 use Rattle.agreement.specs.Worlds.Moment.{By}
 use Rattle.agreement.specs.Messages.Act.{Connects}
@@ -47,13 +48,15 @@ use Rattle.end_model.specs.Acting.{IsSound, TakenAs}
 use Rattle.end_model.specs.Takings.{IsJoined}
 use Rattle.end_model.specs.Openings.{OpensAs}
 use Rattle.end_model.specs.DirectPairs.{ProposesRightly}
+use Rattle.end_model.specs.Sharing.{side_of, shared_all_sent, shared_all_answered, before}
 use Rattle.end_model.proofs.Takes.{fine}
 use Rattle.end_model.proofs.Fitting.{known-syntax, additions-answered}
 use Rattle.end_model.proofs.Altered.{added-altered}
 use Rattle.end_model.proofs.Openings.{openings-taken}
 use Rattle.end_model.proofs.Connecting.{connections-act}
 use Rattle.end_model.proofs.BareMachine.{role-back}
-use Rattle.end_model.proofs.Machine.{acts-kept, takes-kept, unseen-kept, units-kept}
+use Rattle.end_model.proofs.Machine.{takes-kept}
+use Rattle.end_model.proofs.Joint.{Same, acts-joint, takes-joint, unseen-joint, units-joint}
 use Rattle.end_model.proofs.DirectWords.{AreOwn, Live}
 use Rattle.end_model.proofs.DirectTaking as taking
 
@@ -124,7 +127,7 @@ module _ (free : Free) (tables : Tables) (spellings : Spellings) (a b : Config) 
   abbrev setup : model.Setup
   setup = taking.setup free tables spellings a b
 
-  abbrev Ends : World → Role → Body → List Message → Body → List Message → Type 0
+  abbrev Ends : World → Role → Body → List Message → Body → List Message → List (List SetItem) → List (List SetItem) → Shared → Type 0
   Ends = taking.Ends free tables spellings a b
 
   -- ---- CR and CC
@@ -144,15 +147,15 @@ module _ (free : Free) (tables : Tables) (spellings : Spellings) (a b : Config) 
   abbrev request : TransportUnit
   request = ConnectionRequest 1 (Some 10) a.calling a.called
 
-  pub record Asks (world : World) (body : Body) (left : List Message) (peer : Body) (to_peer : List Message) : Type 0 where
+  pub record Asks (world : World) (body : Body) (left : List Message) (peer : Body) (to_peer : List Message) (rest gs : List (List SetItem)) (shared : Shared) : Type 0 where
     pub later : Body
     pub reacts : react (base Responder) body cr ≡ Takes later (Transport confirm ∷ []) []
-    pub ends : Ends world Responder later left peer (to_peer ++ Transport confirm ∷ [])
+    pub ends : Ends world Responder later left peer (to_peer ++ Transport confirm ∷ []) rest (gs ++ before shared (Transport confirm ∷ [])) shared
     pub sound : IsSound Direct (base Responder) later
     pub at : At Opening Joined later
 
-  pub asked : (world : World) (body : Body) (left : List Message) (peer : Body) (to_peer : List Message) → Ends world Responder body (cr ∷ left) peer to_peer → IsSound Direct (base Responder) body → At Idle Unused body → Asks world body left peer to_peer
-  asked world body left peer to_peer ends sound at =
+  pub asked : (world : World) (body : Body) (left : List Message) (peer : Body) (to_peer : List Message) (f : List SetItem) (rest gs : List (List SetItem)) (shared : Shared) → Ends world Responder body (cr ∷ left) peer to_peer (f ∷ rest) gs shared → IsSound Direct (base Responder) body → At Idle Unused body → Asks world body left peer to_peer rest gs shared
+  asked world body left peer to_peer f rest gs shared j sound at =
       let later : Body = after_transport (base Responder) body request in
       let put : states.Phase → states.State = λ p. record (seen (base Responder) body) { phase = p } in
       let now : phase_seen Joined (phase_asked body.link.phase true) ≡ model_idle = ap (λ p. phase_seen Joined (phase_asked p true)) at.phase_is in
@@ -165,22 +168,22 @@ module _ (free : Free) (tables : Tables) (spellings : Spellings) (a b : Config) 
             ap (λ s. on_transport (base Responder) body request (fault_if (not (is_unused s && is_waiting body.link.phase)) transport_fault)) at.stage_is ∙
             ap (λ p. on_transport (base Responder) body request (fault_if (not (is_waiting p)) transport_fault)) at.phase_is;
         ends =
-            unseen-kept free (taking.common free tables spellings a b) proposed world Responder body later left peer to_peer (Transport confirm ∷ [])
-            (units-kept free (taking.common free tables spellings a b) proposed world Responder body request left peer to_peer ends)
+            unseen-joint free tables spellings a b world Responder body later left peer to_peer (Transport confirm ∷ []) rest gs shared
+            (units-joint free tables spellings a b world Responder body request left peer to_peer f rest gs shared j)
             (ap put (now ∙ sym before)) tt;
         sound = record { numbered = sound.numbered; calm = tt; sets = tt; queues = sound.queues };
         at = record { phase_is = ap (λ p. phase_asked p true) at.phase_is; stage_is = refl; calm = at.calm };
       }
 
-  pub record Connecting (world : World) (body : Body) (left : List Message) (peer : Body) (to_peer : List Message) : Type 0 where
+  pub record Connecting (world : World) (body : Body) (left : List Message) (peer : Body) (to_peer : List Message) (rest gs : List (List SetItem)) (shared : Shared) : Type 0 where
     pub later : Body
     pub reacts : react (base Initiator) body (Transport confirm) ≡ Takes later (cn ∷ []) []
-    pub ends : Ends (By Initiator (Acts Connects) ∷ world) Initiator later left peer (to_peer ++ cn ∷ [])
+    pub ends : Ends (By Initiator (Acts Connects) ∷ world) Initiator later left peer (to_peer ++ cn ∷ []) rest (gs ++ before shared (cn ∷ [])) shared
     pub sound : IsSound Direct (base Initiator) later
     pub at : At Opening Carrying later
 
-  pub confirmed : (world : World) (body : Body) (left : List Message) (peer : Body) (to_peer : List Message) → Ends world Initiator body (Transport confirm ∷ left) peer to_peer → IsSound Direct (base Initiator) body → At Opening Asked body → Connecting world body left peer to_peer
-  confirmed world body left peer to_peer ends sound at =
+  pub confirmed : (world : World) (body : Body) (left : List Message) (peer : Body) (to_peer : List Message) (f : List SetItem) (rest gs : List (List SetItem)) (shared : Shared) → Ends world Initiator body (Transport confirm ∷ left) peer to_peer (f ∷ rest) gs shared → IsSound Direct (base Initiator) body → At Opening Asked body → Connecting world body left peer to_peer rest gs shared
+  confirmed world body left peer to_peer f rest gs shared j sound at =
       let later : Body = after_transport (base Initiator) body confirm in
       let none : transport_unit_fault (base Initiator) body confirm ≡ None = ap (λ s. fault_if (not (is_asked s && true)) transport_fault) at.stage_is in
       let due : connect_message (base Initiator) (is_recovering body.link.phase) ≡ cn = ap (λ p. connect_message (base Initiator) (is_recovering p)) at.phase_is in
@@ -192,10 +195,10 @@ module _ (free : Free) (tables : Tables) (spellings : Spellings) (a b : Config) 
             ap (on_transport (base Initiator) body confirm) none ∙
             ap (λ m. Takes later (m ∷ []) []) due;
         ends =
-            subst (λ m. Ends (By Initiator (Acts Connects) ∷ world) Initiator later left peer (to_peer ++ m ∷ [])) due
-            (acts-kept free (taking.common free tables spellings a b) proposed world Initiator body later left peer to_peer (connect_message (base Initiator) (is_recovering body.link.phase) ∷ []) Connects
-            (units-kept free (taking.common free tables spellings a b) proposed world Initiator body confirm left peer to_peer ends)
-            (connections-act.connects Direct 1 (Some 10) free (base Initiator) proposed body tt at.phase_is none));
+            subst (λ m. Ends (By Initiator (Acts Connects) ∷ world) Initiator later left peer (to_peer ++ m ∷ []) rest (gs ++ before shared (m ∷ [])) (shared_all_sent Direct (side_of Initiator) (m ∷ []) shared)) due
+            (acts-joint free tables spellings a b world Initiator body later left peer to_peer (connect_message (base Initiator) (is_recovering body.link.phase) ∷ []) Connects rest gs shared
+            (units-joint free tables spellings a b world Initiator body confirm left peer to_peer f rest gs shared j)
+            (connections-act.connects Direct 1 (Some 10) free (base Initiator) proposed body tt at.phase_is none) (tt, tt));
         sound = record { numbered = sound.numbered; calm = tt; sets = tt; queues = sound.queues };
         at = record { phase_is = at.phase_is; stage_is = refl; calm = at.calm };
       }
@@ -240,13 +243,13 @@ module _ (free : Free) (tables : Tables) (spellings : Spellings) (a b : Config) 
       (ap (λ p. or_fault (fault_if p invalid_ppdu) (or_fault (fault_if (has_acse held && false) acse_fault) None)) right ∙
       ap (λ p. or_fault (fault_if p acse_fault) None) (and-none (has_acse held)))
 
-  pub data Connected (world : World) (body : Body) (left : List Message) (peer : Body) (to_peer : List Message) : Type 0 where
+  pub data Connected (body : Body) (left : List Message) (peer : Body) (to_peer : List Message) (rest gs : List (List SetItem)) (shared : Shared) : Type 0 where
     Accepts : (world' : World) (later : Body) (answer : Word) (shown : List Indication) → react (base Responder) body cn ≡ Takes later (Session answer ∷ []) shown
-        → Ends world' Responder later left peer (to_peer ++ Session answer ∷ []) → IsSound Direct (base Responder) later → Live later → IsAccept answer
-        → Connected world body left peer to_peer
+        → Ends world' Responder later left peer (to_peer ++ Session answer ∷ []) rest (gs ++ before shared (Session answer ∷ [])) (shared_all_answered (base Responder) cn (Session answer ∷ []) shared) → IsSound Direct (base Responder) later → Live later → IsAccept answer
+        → Connected body left peer to_peer rest gs shared
     Refuses : (world' : World) (later : Body) (answer : Word) (shown : List Indication) → react (base Responder) body cn ≡ Takes later (Session answer ∷ []) shown
-        → Ends world' Responder later left peer (to_peer ++ Session answer ∷ []) → IsSound Direct (base Responder) later → later.link.phase ≡ Over → IsRefusal answer
-        → Connected world body left peer to_peer
+        → Ends world' Responder later left peer (to_peer ++ Session answer ∷ []) rest (gs ++ before shared (Session answer ∷ [])) (shared_all_answered (base Responder) cn (Session answer ∷ []) shared) → IsSound Direct (base Responder) later → later.link.phase ≡ Over → IsRefusal answer
+        → Connected body left peer to_peer rest gs shared
 
   -- where nothing refuses, association control is accepted
   has-acse : (body : Body) → is_refused (base Responder) body session presentation values ≡ false → has_acse held ≡ true
@@ -290,8 +293,8 @@ module _ (free : Free) (tables : Tables) (spellings : Spellings) (a b : Config) 
       go : model_idle ≡ model_over → ⊥
       go h = cc
 
-  pub connected : (world : World) (body : Body) (left : List Message) (peer : Body) (to_peer : List Message) → ProposesRightly (taking.common free tables spellings a b) → Ends world Responder body (cn ∷ left) peer to_peer → IsSound Direct (base Responder) body → At Opening Joined body → Connected world body left peer to_peer
-  connected world body left peer to_peer right ends sound at = go (is_refused (base Responder) body session presentation values) refl
+  pub connected : (world : World) (body : Body) (left : List Message) (peer : Body) (to_peer : List Message) (f : List SetItem) (rest gs : List (List SetItem)) (shared : Shared) → ProposesRightly (taking.common free tables spellings a b) → Ends world Responder body (cn ∷ left) peer to_peer (f ∷ rest) gs shared → IsSound Direct (base Responder) body → At Opening Joined body → Connected body left peer to_peer rest gs shared
+  connected world body left peer to_peer f rest gs shared right j sound at = go (is_refused (base Responder) body session presentation values) refl
     where
       fine_now : word_fault (base Responder) body cn_word ≡ None
       fine_now = connect-fine body right at
@@ -299,13 +302,13 @@ module _ (free : Free) (tables : Tables) (spellings : Spellings) (a b : Config) 
       reacts : react (base Responder) body cn ≡ Takes (after_word (base Responder) body cn_word) (answers_to_word (base Responder) body cn_word) (shown_of_word (base Responder) body cn_word)
       reacts = reacts-before Opening Joined (base Responder) body cn_word refl refl at fine_now
 
-      go : (refused : Bool) → is_refused (base Responder) body session presentation values ≡ refused → Connected world body left peer to_peer
+      go : (refused : Bool) → is_refused (base Responder) body session presentation values ≡ refused → Connected body left peer to_peer rest gs shared
       go false e =
           let choice : model.Choice = accepting (set_seen held) in
           let o = openings-taken.opened Direct session presentation values free (base Responder) body e refl in
           let chosen : IsChoice setup (seen (base Responder) body) model_connect choice = record { is_set = rising-set proposed (results_for (base Responder) presentation) fit; is_known = known-set held } in
           let t =
-          takes-kept free (taking.common free tables spellings a b) proposed world Responder body cn_word left peer to_peer choice ends (alive-at Opening Joined (base Responder) body joined-not_over at)
+          takes-kept free (taking.common free tables spellings a b) proposed world Responder body cn_word left peer to_peer choice j.ends (alive-at Opening Joined (base Responder) body joined-not_over at)
           (λ message means. calm-at Opening Joined Responder (base Responder) body at message)
           (λ message means. subst (λ m. IsChoice setup (seen (base Responder) body) m choice) (sym means) chosen)
           (λ message means may. subst (λ m. TakenAs free Direct (base Responder) proposed body cn_word m choice) (sym means) (record { no_fault = fine_now; chosen = chosen; after = o.after; means = o.means })) in
@@ -313,18 +316,25 @@ module _ (free : Free) (tables : Tables) (spellings : Spellings) (a b : Config) 
           let answers : answers_to_word (base Responder) body cn_word ≡ Session x.0 ∷ [] =
           ap (λ p. if p then refusal_message (base Responder) body session presentation values ∷ [] else acceptance_message (base Responder) session presentation values ∷ []) e ∙
           ap (λ m. m ∷ []) x.1 in
+          let accepts : answers_to_word (base Responder) body cn_word ≡ acceptance_message (base Responder) session presentation values ∷ [] =
+          ap (λ p. if p then refusal_message (base Responder) body session presentation values ∷ [] else acceptance_message (base Responder) session presentation values ∷ []) e in
+          let now : Same (anew held) (worlds.shared_answered model_connect choice (shared_at setup world)) = record { set = refl; saved = refl } in
+          let same : Same (shared_all_answered (base Responder) cn (answers_to_word (base Responder) body cn_word) shared) (worlds.shared_answered t.message choice (shared_at setup world)) =
+          subst (λ m. Same (shared_all_answered (base Responder) cn (answers_to_word (base Responder) body cn_word) shared) (worlds.shared_answered m choice (shared_at setup world))) (sym t.means)
+          (subst (λ ms. Same (shared_all_answered (base Responder) cn ms shared) (worlds.shared_answered model_connect choice (shared_at setup world))) (sym accepts) now) in
           let after : after_word (base Responder) body cn_word ≡ accepted_connect (base Responder) body session presentation values =
           ap (λ p. if p then refused_connect body else accepted_connect (base Responder) body session presentation values) e in
           Accepts (By Responder (model_takes t.message choice) ∷ world) (after_word (base Responder) body cn_word) x.0 (shown_of_word (base Responder) body cn_word)
           (reacts ∙ ap (λ ms. Takes (after_word (base Responder) body cn_word) ms (shown_of_word (base Responder) body cn_word)) answers)
-          (subst (λ ms. Ends (By Responder (model_takes t.message choice) ∷ world) Responder (after_word (base Responder) body cn_word) left peer (to_peer ++ ms)) answers t.ends)
+          (subst (λ ms. Ends (By Responder (model_takes t.message choice) ∷ world) Responder (after_word (base Responder) body cn_word) left peer (to_peer ++ ms) rest (gs ++ before shared ms) (shared_all_answered (base Responder) cn ms shared)) answers
+          (takes-joint free tables spellings a b world Responder body cn_word left peer to_peer choice f rest gs shared (shared_all_answered (base Responder) cn (answers_to_word (base Responder) body cn_word) shared) j t same))
           (subst (IsSound Direct (base Responder)) (sym after) (record { numbered = tt; calm = tt; sets = tt; queues = refl }))
           (subst Live (sym after) (record { joined = record { stage = refl; selected = refl; manages = refl }; phase = inl refl }))
           x.2
       go true e =
           let o = openings-taken.refused_opening Direct session presentation values free (base Responder) proposed body e at.phase_is in
           let t =
-          takes-kept free (taking.common free tables spellings a b) proposed world Responder body cn_word left peer to_peer Refusing ends (alive-at Opening Joined (base Responder) body joined-not_over at)
+          takes-kept free (taking.common free tables spellings a b) proposed world Responder body cn_word left peer to_peer Refusing j.ends (alive-at Opening Joined (base Responder) body joined-not_over at)
           (λ message means. calm-at Opening Joined Responder (base Responder) body at message)
           (λ message means. subst (λ m. IsChoice setup (seen (base Responder) body) m Refusing) (sym means) tt)
           (λ message means may. subst (λ m. TakenAs free Direct (base Responder) proposed body cn_word m Refusing) (sym means) (record { no_fault = fine_now; chosen = tt; after = o.after; means = o.means })) in
@@ -332,11 +342,15 @@ module _ (free : Free) (tables : Tables) (spellings : Spellings) (a b : Config) 
           let answers : answers_to_word (base Responder) body cn_word ≡ Session x.0 ∷ [] =
           ap (λ p. if p then refusal_message (base Responder) body session presentation values ∷ [] else acceptance_message (base Responder) session presentation values ∷ []) e ∙
           ap (λ m. m ∷ []) x.1 in
+          let same : Same (shared_all_answered (base Responder) cn (answers_to_word (base Responder) body cn_word) shared) (worlds.shared_answered t.message Refusing (shared_at setup world)) =
+          subst (λ m. Same (shared_all_answered (base Responder) cn (answers_to_word (base Responder) body cn_word) shared) (worlds.shared_answered m Refusing (shared_at setup world))) (sym t.means)
+          (subst (λ ms. Same (shared_all_answered (base Responder) cn ms shared) (shared_at setup world)) (sym (answers ∙ ap (λ w. Session w ∷ []) x.2.is_it)) j.same) in
           let after : after_word (base Responder) body cn_word ≡ refused_connect body =
           ap (λ p. if p then refused_connect body else accepted_connect (base Responder) body session presentation values) e in
           Refuses (By Responder (model_takes t.message Refusing) ∷ world) (after_word (base Responder) body cn_word) x.0 (shown_of_word (base Responder) body cn_word)
           (reacts ∙ ap (λ ms. Takes (after_word (base Responder) body cn_word) ms (shown_of_word (base Responder) body cn_word)) answers)
-          (subst (λ ms. Ends (By Responder (model_takes t.message Refusing) ∷ world) Responder (after_word (base Responder) body cn_word) left peer (to_peer ++ ms)) answers t.ends)
+          (subst (λ ms. Ends (By Responder (model_takes t.message Refusing) ∷ world) Responder (after_word (base Responder) body cn_word) left peer (to_peer ++ ms) rest (gs ++ before shared ms) (shared_all_answered (base Responder) cn ms shared)) answers
+          (takes-joint free tables spellings a b world Responder body cn_word left peer to_peer Refusing f rest gs shared (shared_all_answered (base Responder) cn (answers_to_word (base Responder) body cn_word) shared) j t same))
           (subst (IsSound Direct (base Responder)) (sym after) (record { numbered = sound.numbered; calm = tt; sets = tt; queues = sound.queues }))
           (ap (λ (y : Body). y.link.phase) after ∙ ap (λ p. if is_broken p then Broken else Over) at.phase_is)
           x.2
@@ -354,22 +368,22 @@ module _ (free : Free) (tables : Tables) (spellings : Spellings) (a b : Config) 
   asked-so body at =
       ap (λ s. is_carrying s && is_opening body.link.phase) at.stage_is ∙ ap (λ p. is_opening p) at.phase_is
 
-  pub record Answered (world : World) (body : Body) (word : Word) (left : List Message) (peer : Body) (to_peer : List Message) : Type 0 where
+  pub record Answered (body : Body) (word : Word) (left : List Message) (peer : Body) (to_peer : List Message) (rest gs : List (List SetItem)) (shared : Shared) : Type 0 where
     pub world' : World
     pub later : Body
     pub shown : List Indication
     pub reacts : react (base Initiator) body (Session word) ≡ Takes later [] shown
-    pub ends : Ends world' Initiator later left peer (to_peer ++ [])
+    pub ends : Ends world' Initiator later left peer (to_peer ++ []) rest (gs ++ []) shared
     pub sound : IsSound Direct (base Initiator) later
     pub side : Live later ⊎ (later.link.phase ≡ Over)
 
-  accept-so : (world : World) (body : Body) (s : Accepting) (p : PresentationAccept) (v : List Value) (left : List Message) (peer : Body) (to_peer : List Message) → Ends world Initiator body (Session (OfAssociation (Accept s p v)) ∷ left) peer to_peer → IsSound Direct (base Initiator) body → At Opening Carrying body → has_version_two s.version ≡ true → has_units (needed_units Direct) (selected_with Direct s.requirements) ≡ true → selected_with Direct s.requirements ≡ proposed_units Direct → manages_with p.requirements (selected_with Direct s.requirements) ≡ true → accept_fault (base Initiator) p v ≡ None → Answered world body (OfAssociation (Accept s p v)) left peer to_peer
-  accept-so world body s p v left peer to_peer ends sound at version units selected manages none =
+  accept-so : (world : World) (body : Body) (s : Accepting) (p : PresentationAccept) (v : List Value) (left : List Message) (peer : Body) (to_peer : List Message) (f : List SetItem) (rest gs : List (List SetItem)) (shared : Shared) → Ends world Initiator body (Session (OfAssociation (Accept s p v)) ∷ left) peer to_peer (f ∷ rest) gs shared → IsSound Direct (base Initiator) body → At Opening Carrying body → has_version_two s.version ≡ true → has_units (needed_units Direct) (selected_with Direct s.requirements) ≡ true → selected_with Direct s.requirements ≡ proposed_units Direct → manages_with p.requirements (selected_with Direct s.requirements) ≡ true → accept_fault (base Initiator) p v ≡ None → Answered body (OfAssociation (Accept s p v)) left peer to_peer rest gs shared
+  accept-so world body s p v left peer to_peer f rest gs shared j sound at version units selected manages none =
       let word : Word = OfAssociation (Accept s p v) in
       let fine_now : word_fault (base Initiator) body word ≡ None = fine (base Initiator) body word (rw (asked-so body at, version, units) refl) none in
       let o = openings-taken.accept Direct s p v free (base Initiator) proposed body in
       let t =
-      takes-kept free (taking.common free tables spellings a b) proposed world Initiator body word left peer to_peer Nothing ends (alive-at Opening Carrying (base Initiator) body carrying-not_over at)
+      takes-kept free (taking.common free tables spellings a b) proposed world Initiator body word left peer to_peer Nothing j.ends (alive-at Opening Carrying (base Initiator) body carrying-not_over at)
       (λ message means. calm-at Opening Carrying Initiator (base Initiator) body at message)
       (λ message means. subst (λ m. IsChoice setup (seen (base Initiator) body) m Nothing) (sym means) tt)
       (λ message means may. subst (λ m. TakenAs free Direct (base Initiator) proposed body word m Nothing) (sym means) (record { no_fault = fine_now; chosen = tt; after = o.after; means = o.means })) in
@@ -378,22 +392,22 @@ module _ (free : Free) (tables : Tables) (spellings : Spellings) (a b : Config) 
         later = after_word (base Initiator) body word;
         shown = shown_of_word (base Initiator) body word;
         reacts = reacts-before Opening Carrying (base Initiator) body word refl refl at fine_now;
-        ends = t.ends;
+        ends = takes-joint free tables spellings a b world Initiator body word left peer to_peer Nothing f rest gs shared shared j t (subst (λ m. Same shared (worlds.shared_answered m Nothing (shared_at setup world))) (sym t.means) j.same);
         sound = record { numbered = sound.numbered; calm = tt; sets = tt; queues = sound.queues };
         side = inl (record { joined = record { stage = refl; selected = selected; manages = manages }; phase = inl refl });
       }
 
-  pub accepted : (world : World) (body : Body) (word : Word) (left : List Message) (peer : Body) (to_peer : List Message) → Ends world Initiator body (Session word ∷ left) peer to_peer → IsSound Direct (base Initiator) body → At Opening Carrying body → IsAccept word → Answered world body word left peer to_peer
-  accepted world body word left peer to_peer ends sound at x =
-      subst (λ w. Answered world body w left peer to_peer) (sym x.is_it)
-      (accept-so world body x.session x.presentation x.values left peer to_peer (subst (λ w. Ends world Initiator body (Session w ∷ left) peer to_peer) x.is_it ends) sound at x.version x.units x.selected x.manages x.no_fault)
+  pub accepted : (world : World) (body : Body) (word : Word) (left : List Message) (peer : Body) (to_peer : List Message) (f : List SetItem) (rest gs : List (List SetItem)) (shared : Shared) → Ends world Initiator body (Session word ∷ left) peer to_peer (f ∷ rest) gs shared → IsSound Direct (base Initiator) body → At Opening Carrying body → IsAccept word → Answered body word left peer to_peer rest gs shared
+  accepted world body word left peer to_peer f rest gs shared j sound at x =
+      subst (λ w. Answered body w left peer to_peer rest gs shared) (sym x.is_it)
+      (accept-so world body x.session x.presentation x.values left peer to_peer f rest gs shared (subst (λ w. Ends world Initiator body (Session w ∷ left) peer to_peer (f ∷ rest) gs shared) x.is_it j) sound at x.version x.units x.selected x.manages x.no_fault)
 
-  refuse-so : (world : World) (body : Body) (transport reason : Option ℕ) (p : Option PresentationReject) (v : List Value) (left : List Message) (peer : Body) (to_peer : List Message) → Ends world Initiator body (Session (OfAssociation (Refuse transport reason p v)) ∷ left) peer to_peer → IsSound Direct (base Initiator) body → At Opening Carrying body → Answered world body (OfAssociation (Refuse transport reason p v)) left peer to_peer
-  refuse-so world body transport reason p v left peer to_peer ends sound at =
+  refuse-so : (world : World) (body : Body) (transport reason : Option ℕ) (p : Option PresentationReject) (v : List Value) (left : List Message) (peer : Body) (to_peer : List Message) (f : List SetItem) (rest gs : List (List SetItem)) (shared : Shared) → Ends world Initiator body (Session (OfAssociation (Refuse transport reason p v)) ∷ left) peer to_peer (f ∷ rest) gs shared → IsSound Direct (base Initiator) body → At Opening Carrying body → Answered body (OfAssociation (Refuse transport reason p v)) left peer to_peer rest gs shared
+  refuse-so world body transport reason p v left peer to_peer f rest gs shared j sound at =
       let word : Word = OfAssociation (Refuse transport reason p v) in
       let fine_now : word_fault (base Initiator) body word ≡ None = fine (base Initiator) body word (asked-so body at) refl in
       let t =
-      takes-kept free (taking.common free tables spellings a b) proposed world Initiator body word left peer to_peer Nothing ends (alive-at Opening Carrying (base Initiator) body carrying-not_over at)
+      takes-kept free (taking.common free tables spellings a b) proposed world Initiator body word left peer to_peer Nothing j.ends (alive-at Opening Carrying (base Initiator) body carrying-not_over at)
       (λ message means. calm-at Opening Carrying Initiator (base Initiator) body at message)
       (λ message means. subst (λ m. IsChoice setup (seen (base Initiator) body) m Nothing) (sym means) tt)
       (λ message means may. subst (λ m. TakenAs free Direct (base Initiator) proposed body word m Nothing) (sym means) (record { no_fault = fine_now; chosen = tt; after = refl; means = tt })) in
@@ -402,12 +416,12 @@ module _ (free : Free) (tables : Tables) (spellings : Spellings) (a b : Config) 
         later = after_word (base Initiator) body word;
         shown = shown_of_word (base Initiator) body word;
         reacts = reacts-before Opening Carrying (base Initiator) body word refl refl at fine_now;
-        ends = t.ends;
+        ends = takes-joint free tables spellings a b world Initiator body word left peer to_peer Nothing f rest gs shared shared j t (subst (λ m. Same shared (worlds.shared_answered m Nothing (shared_at setup world))) (sym t.means) j.same);
         sound = record { numbered = sound.numbered; calm = tt; sets = tt; queues = sound.queues };
         side = inr refl;
       }
 
-  pub refused-by : (world : World) (body : Body) (word : Word) (left : List Message) (peer : Body) (to_peer : List Message) → Ends world Initiator body (Session word ∷ left) peer to_peer → IsSound Direct (base Initiator) body → At Opening Carrying body → IsRefusal word → Answered world body word left peer to_peer
-  refused-by world body word left peer to_peer ends sound at x =
-      subst (λ w. Answered world body w left peer to_peer) (sym x.is_it)
-      (refuse-so world body x.transport x.reason x.presentation x.values left peer to_peer (subst (λ w. Ends world Initiator body (Session w ∷ left) peer to_peer) x.is_it ends) sound at)
+  pub refused-by : (world : World) (body : Body) (word : Word) (left : List Message) (peer : Body) (to_peer : List Message) (f : List SetItem) (rest gs : List (List SetItem)) (shared : Shared) → Ends world Initiator body (Session word ∷ left) peer to_peer (f ∷ rest) gs shared → IsSound Direct (base Initiator) body → At Opening Carrying body → IsRefusal word → Answered body word left peer to_peer rest gs shared
+  refused-by world body word left peer to_peer f rest gs shared j sound at x =
+      subst (λ w. Answered body w left peer to_peer rest gs shared) (sym x.is_it)
+      (refuse-so world body x.transport x.reason x.presentation x.values left peer to_peer f rest gs shared (subst (λ w. Ends world Initiator body (Session w ∷ left) peer to_peer (f ∷ rest) gs shared) x.is_it j) sound at)

@@ -1,3 +1,5 @@
+pub mod DirectLaws
+pub mod Joint
 pub mod DirectMachine
 pub mod DirectOpening
 pub mod DirectCalling

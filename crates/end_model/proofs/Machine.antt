@@ -132,6 +132,7 @@ takes-kept free common proposed world role body word left peer to_peer choice s 
     let after_it : taken setup (role_seen (is_initiator role)) (seen base body) message choice ≡ taken setup role (seen base body) message choice = ap (λ r. taken setup r (seen base body) message choice) (role-back role) in
     record {
       message = message;
+      means = n.means;
       no_fault = a.no_fault;
       ends =
           record {

@@ -14,3 +14,4 @@ pub mod OwnActs
 pub mod Faultless
 pub mod Steps
 pub mod DirectPairs
+pub mod Sharing

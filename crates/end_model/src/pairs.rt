@@ -2,6 +2,7 @@
 //! an empty body.
 
 ghost use Rattle.end_model.specs.DirectPairs.{DirectModelled, DirectTakes};
+ghost use Rattle.end_model.specs.Sharing.{DirectAsSent};
 ghost use Rattle.end_model.specs.Pairs.{BareModelled, BareTakes, HasCodec};
 ghost use Rattle.end_model.specs.Steps.{ActsKept, TakesKept, PassesKept, BreaksKept, UnseenKept, UnitsKept};
 
@@ -19,6 +20,12 @@ pub fn bare_pairs_are_modelled()
 pub fn direct_pairs_are_modelled()
     ensures modelled { DirectModelled }
     ensures takes { DirectTakes }
+{}
+
+/// Taken as sent in direct mode: a value that an end takes has the pair that its own set gives the
+/// value's identifier, and that is the pair that the shared set gave it when the value was sent.
+pub fn direct_values_are_as_sent()
+    ensures law { DirectAsSent }
 {}
 
 /// Each step of two ends, in every mode, keeps a run of the model: an act, a taking, a passing

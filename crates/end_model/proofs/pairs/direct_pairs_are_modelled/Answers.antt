@@ -1,4 +1,4 @@
-use Rattle.end_model.proofs.DirectMachine.{direct-modelled, direct-takes}
+use Rattle.end_model.proofs.DirectLaws.{direct-modelled, direct-takes}
 use Rattle.end_model.proofs.pairs.direct_pairs_are_modelled.Goals as goal
 
 pub returns : goal.returns
