@@ -105,9 +105,9 @@ fn check_late(alloc: Global, config: &Config) -> Result<(), ConfigRefusal>
 }
 
 /// Whether an end would refuse the configuration, in any mode: by the first row that holds of bad
-/// contexts, more than 62 contexts, bad selectors, bad references, a bad checkpoint or window, and a
-/// CP of more than 10,240 octets, for an opening or for a recovery. Only an initiator has a CP, and
-/// not in bare mode. Memory is taken to write that CP alone, once all other rows passed.
+/// contexts, more than 62 contexts, bad selectors, bad references, a bad checkpoint or window, and
+/// a CP of more than 10,240 octets, for an opening or for a recovery. Only an initiator has a CP,
+/// and not in bare mode. Memory is taken to write that CP alone, once all other rows passed.
 pub fn check_config(alloc: Global, config: &Config) -> Result<(), ConfigRefusal>
     ensures exact { (result ≢ Err refusals.NoMemory)
         → result ≡ refused_if (config_refusal config.now) }

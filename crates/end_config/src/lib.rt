@@ -7,4 +7,4 @@ mod laws;
 
 pub use checking::check_config;
 pub use connecting::connect_octets;
-pub use laws::connect_is_of_rules;
+pub use laws::{connect_is_of_rules, proposed_contexts_are_right};

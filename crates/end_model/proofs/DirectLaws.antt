@@ -1,6 +1,6 @@
 -- Two ends of direct mode: the run that goes with them, that neither aborts of itself, and that values are taken as sent.
 use Rattle.std.proofs.Common.{◌≡◌, refl, true, false, ◌∙◌, sym, ap, subst, List, [], ◌∷◌, ◌++◌, ◌⊎◌, inl, inr}
-use Rattle.std.specs.Prelude.{ℕ, Bool, Option, Some, None, option_map, if◌then◌else◌}
+use Rattle.std.specs.Prelude.{ℕ, Bool, not, ◌&&◌, Option, Some, None, option_map, if◌then◌else◌}
 use Rattle.osi_base.specs.Syntax.{name_of}
 use Rattle.osi_base.specs.declared.syntax.Pair.{Pair}
 use Rattle.osi_base.specs.declared.syntax.Syntax.{Syntax}
@@ -12,7 +12,7 @@ use Rattle.dialogue.specs.declared.config.Phase.TheVariants.{Over}
 use Rattle.dialogue.specs.declared.indication.Indication.{Indication}
 use Rattle.end_rules.specs.Base.{Base, Spellings, Item}
 use Rattle.end_rules.specs.Messages.{Message, TransportUnit, Transport, Session, Word, AssociationWord, OfAssociation, OfData, Values, Value, unit_of}
-use Rattle.end_rules.specs.State.{Body}
+use Rattle.end_rules.specs.State.{Body, Awaited, NoAnswer, RestartOf, InterruptOf, DiscardOf, ReleaseOf, is_up, is_restarting, holds_turn}
 use Rattle.end_rules.specs.Sets.{pair_of}
 use Rattle.end_rules.specs.Purging.{is_purged}
 use Rattle.end_rules.specs.Reacting.{Reaction, Passes, Takes, react, on_word, word_fault}
@@ -26,13 +26,16 @@ use Rattle.agreement.specs.State as states
 use Rattle.agreement.specs.State.Phase.{Over as model_over}
 use Rattle.agreement.specs.Takings.{is_purged as model_purged}
 use Rattle.agreement.specs.Worlds.{Sending, World, ComesNext, state_of, flight_to}
-use Rattle.agreement.proofs.Interface.{takes}
-use Rattle.end_model.specs.Seen.{Free, pair_seen, set_seen, item_seen, seen}
+use Rattle.agreement.specs.Laws.{HoldsTurn, IsNotRestarting}
+use Rattle.agreement.proofs.Interface.{takes, laws}
+use Rattle.end_model.specs.Seen.{Free, awaited_seen, pair_seen, set_seen, item_seen, seen}
 use Rattle.end_model.specs.Words.{value_of_item}
 use Rattle.end_model.specs.Acting.{ReadsBack}
-use Rattle.end_model.specs.Pairs.{Common, base_at, Two, body_at, coming_to, Reached, begins, calls, takes as reached_takes, passes, fails, breaks, WritesAll}
-use Rattle.end_model.specs.DirectPairs.{direct_pair, ProposesRightly, RunOf, DirectModelled, DirectTakes}
+use Rattle.end_model.specs.Pairs.{Common, base_at, Two, body_at, coming_to, Reached, begins, calls, takes as reached_takes, passes, fails, breaks, setup_of, WritesAll}
+use Rattle.end_model.specs.DirectPairs.{direct_pair, ProposesRightly, RunOf, DirectModelled, DirectTakes, DirectOneHolder}
 use Rattle.end_model.specs.Sharing.{SetsSent, sets_to, none_sent, Shares, begins as shares_begin, calls as shares_call, takes as shares_take, passes as shares_pass, fails as shares_fail, breaks as shares_break, DirectAsSent}
+use Rattle.end_model.proofs.Facts.{up-seen}
+use Rattle.end_model.proofs.Fitting.{and-left as left, and-right as right}
 use Rattle.end_model.proofs.Held.{lookup-seen}
 use Rattle.end_model.proofs.Machine.{next-word}
 use Rattle.end_model.proofs.Joint.{SetsOnWay}
@@ -107,29 +110,29 @@ module _ (free : Free) (tables : Tables) (spellings : Spellings) (a b : Config) 
       not-empty message left sets.to_b (flight_to setup Responder k.world) (subst (λ ms. SetsOnWay ms sets.to_b (flight_to setup Responder k.world)) e k.joint.peer_sets)
 
   shared-by : WritesAll free → ReadsBack (base Initiator) → ProposesRightly common → (two : Two) → Reached common two → SharedBy two
-  shared-by writes back right two begins = record { shared = _; sets = none_sent; shares = shares_begin }
-  shared-by writes back right two (calls x role call answer reached h) =
-      let s = shared-by writes back right x reached in
+  shared-by writes back list two begins = record { shared = _; sets = none_sent; shares = shares_begin }
+  shared-by writes back list two (calls x role call answer reached h) =
+      let s = shared-by writes back list x reached in
       record { shared = _; sets = _; shares = shares_call x s.shared s.sets role call answer s.shares h }
-  shared-by writes back right two (reached_takes x role message left body answers shown reached comes h) =
-      let s = shared-by writes back right x reached in
-      let n = sets-there x s.shared s.sets role message left (machine.all-kept free tables spellings a b writes back right x s.shared s.sets s.shares) comes in
+  shared-by writes back list two (reached_takes x role message left body answers shown reached comes h) =
+      let s = shared-by writes back list x reached in
+      let n = sets-there x s.shared s.sets role message left (machine.all-kept free tables spellings a b writes back list x s.shared s.sets s.shares) comes in
       record { shared = _; sets = _; shares = shares_take x s.shared s.sets role message left n.first n.rest body answers shown s.shares comes n.is_it h }
-  shared-by writes back right two (passes x role message left reached comes h) =
-      let s = shared-by writes back right x reached in
-      let n = sets-there x s.shared s.sets role message left (machine.all-kept free tables spellings a b writes back right x s.shared s.sets s.shares) comes in
+  shared-by writes back list two (passes x role message left reached comes h) =
+      let s = shared-by writes back list x reached in
+      let n = sets-there x s.shared s.sets role message left (machine.all-kept free tables spellings a b writes back list x s.shared s.sets s.shares) comes in
       record { shared = _; sets = _; shares = shares_pass x s.shared s.sets role message left n.first n.rest s.shares comes n.is_it h }
-  shared-by writes back right two (fails x role message left fault body aborts shown reached comes h) =
-      let s = shared-by writes back right x reached in
-      let n = sets-there x s.shared s.sets role message left (machine.all-kept free tables spellings a b writes back right x s.shared s.sets s.shares) comes in
+  shared-by writes back list two (fails x role message left fault body aborts shown reached comes h) =
+      let s = shared-by writes back list x reached in
+      let n = sets-there x s.shared s.sets role message left (machine.all-kept free tables spellings a b writes back list x s.shared s.sets s.shares) comes in
       record { shared = _; sets = _; shares = shares_fail x s.shared s.sets role message left n.first n.rest fault body aborts shown s.shares comes n.is_it h }
-  shared-by writes back right two (breaks x reached) =
-      let s = shared-by writes back right x reached in
+  shared-by writes back list two (breaks x reached) =
+      let s = shared-by writes back list x reached in
       record { shared = _; sets = none_sent; shares = shares_break x s.shared s.sets s.shares }
 
-  kept-of : (writes : WritesAll free) (back : ReadsBack (base Initiator)) (right : ProposesRightly common) (two : Two) (reached : Reached common two) → Kept two (shared-by writes back right two reached).shared (shared-by writes back right two reached).sets
-  kept-of writes back right two reached =
-      let s = shared-by writes back right two reached in machine.all-kept free tables spellings a b writes back right two s.shared s.sets s.shares
+  kept-of : (writes : WritesAll free) (back : ReadsBack (base Initiator)) (list : ProposesRightly common) (two : Two) (reached : Reached common two) → Kept two (shared-by writes back list two reached).shared (shared-by writes back list two reached).sets
+  kept-of writes back list two reached =
+      let s = shared-by writes back list two reached in machine.all-kept free tables spellings a b writes back list two s.shared s.sets s.shares
 
   -- ---- a value that is taken
 
@@ -248,18 +251,39 @@ module _ (free : Free) (tables : Tables) (spellings : Spellings) (a b : Config) 
       value-as_sent k.world Responder two.b value left two.a two.to_a set rest sets.to_a shared body answers shown (machine.coming-b free tables spellings a b two shared sets k (Session (OfData (Values (value ∷ []))) ∷ left) (set ∷ rest) comes e) (stands-b two shared sets (value ∷ []) left body answers shown k comes h) h
 
 pub direct-as_sent : DirectAsSent
-direct-as_sent free tables spellings a b writes back right two shared sets role value left set rest body answers shown shares comes e h =
-    as-sent free tables spellings a b two shared sets role value left set rest body answers shown (machine.all-kept free tables spellings a b writes back right two shared sets shares) comes e h
+direct-as_sent free tables spellings a b writes back list two shared sets role value left set rest body answers shown shares comes e h =
+    as-sent free tables spellings a b two shared sets role value left set rest body answers shown (machine.all-kept free tables spellings a b writes back list two shared sets shares) comes e h
 
 pub direct-modelled : DirectModelled
-direct-modelled free tables spellings a b writes back right two reached =
-    let k = kept-of free tables spellings a b writes back right two reached in
+direct-modelled free tables spellings a b writes back list two reached =
+    let k = kept-of free tables spellings a b writes back list two reached in
     record { world = k.world; run = k.joint.ends.run; a = k.joint.ends.own; b = k.joint.ends.others }
 
 pub direct-takes : DirectTakes
-direct-takes free tables spellings a b writes back right two role message left fault body aborts shown reached comes h =
-    let s = shared-by free tables spellings a b writes back right two reached in
-    let k = kept-of free tables spellings a b writes back right two reached in
+direct-takes free tables spellings a b writes back list two role message left fault body aborts shown reached comes h =
+    let s = shared-by free tables spellings a b writes back list two reached in
+    let k = kept-of free tables spellings a b writes back list two reached in
     let n = sets-there free tables spellings a b two s.shared s.sets role message left k comes in
     machine.never-fails free tables spellings a b two s.shared s.sets role message left n.rest fault body aborts shown
-    (machine.handles free tables spellings a b two s.shared s.sets role message left n.first n.rest writes right k comes n.is_it) h
+    (machine.handles free tables spellings a b two s.shared s.sets role message left n.first n.rest writes list k comes n.is_it) h
+
+-- ---- who holds the turn
+
+holds-so : (base : Base) (body : Body) → holds_turn body ≡ true → HoldsTurn (seen base body)
+holds-so base body h = go body.link.turn refl body.link.awaits refl h
+  where
+    go : (turn : Bool) → body.link.turn ≡ turn → (awaited : Awaited) → body.link.awaits ≡ awaited → (turn && is_up body.link.phase && not (is_restarting awaited)) ≡ true → HoldsTurn (seen base body)
+    go false e w f h = cc
+    go true e NoAnswer f h = (e, up-seen body.link.stage body.link.phase (left (is_up body.link.phase) true h), subst (λ x. IsNotRestarting (awaited_seen x)) (sym f) tt)
+    go true e (RestartOf number) f h = let none = right (is_up body.link.phase) false h in cc
+    go true e InterruptOf f h = (e, up-seen body.link.stage body.link.phase (left (is_up body.link.phase) true h), subst (λ x. IsNotRestarting (awaited_seen x)) (sym f) tt)
+    go true e DiscardOf f h = (e, up-seen body.link.stage body.link.phase (left (is_up body.link.phase) true h), subst (λ x. IsNotRestarting (awaited_seen x)) (sym f) tt)
+    go true e ReleaseOf f h = (e, up-seen body.link.stage body.link.phase (left (is_up body.link.phase) true h), subst (λ x. IsNotRestarting (awaited_seen x)) (sym f) tt)
+
+pub direct-one_holder : DirectOneHolder
+direct-one_holder free tables spellings a b writes back list two reached x y =
+    let k = kept-of free tables spellings a b writes back list two reached in
+    let common : Common = direct_pair tables spellings a b in
+    (laws (setup_of free common)).one_holder k.world k.joint.ends.run
+    (subst HoldsTurn (sym k.joint.ends.own.state) (holds-so (base_at Initiator common) two.a x))
+    (subst HoldsTurn (sym k.joint.ends.others.state) (holds-so (base_at Responder common) two.b y))

@@ -7,7 +7,7 @@ use Rattle.dialogue.specs.declared.indication.Indication.{Indication}
 use Rattle.stub_tables.specs.declared.tables.Tables.{Tables}
 use Rattle.end_rules.specs.Base.{Spellings, Fault}
 use Rattle.end_rules.specs.Messages.{Message}
-use Rattle.end_rules.specs.State.{Body}
+use Rattle.end_rules.specs.State.{Body, holds_turn}
 use Rattle.end_rules.specs.Policy.{is_faulty_proposal}
 use Rattle.end_rules.specs.Writing.{proposals}
 use Rattle.end_rules.specs.Reacting.{Fails, react}
@@ -48,3 +48,10 @@ DirectTakes =
     (two : Two) (role : Role) (message : Message) (left : List Message) (fault : Fault) (body : Body) (aborts : List Message) (shown : List Indication) →
     Reached (direct_pair tables spellings a b) two → coming_to role two ≡ message ∷ left →
     react (base_at role (direct_pair tables spellings a b)) (body_at role two) message ≡ Fails fault body aborts shown → ⊥
+
+-- At no moment do both of them hold the turn.
+abbrev pub DirectOneHolder : Type 0
+DirectOneHolder =
+    (free : Free) (tables : Tables) (spellings : Spellings) (a b : Config) → WritesAll free →
+    ReadsBack (base_at Initiator (direct_pair tables spellings a b)) → ProposesRightly (direct_pair tables spellings a b) →
+    (two : Two) → Reached (direct_pair tables spellings a b) two → holds_turn two.a ≡ true → holds_turn two.b ≡ true → ⊥

@@ -11,7 +11,7 @@ use Rattle.dialogue.specs.declared.indication.Indication.{Indication}
 use Rattle.stub_tables.specs.declared.tables.Tables.{Tables}
 use Rattle.end_rules.specs.Base.{Base, Spellings, Fault}
 use Rattle.end_rules.specs.Messages.{Message, Session, OfData, Values, Value}
-use Rattle.end_rules.specs.State.{Body, holds_turn}
+use Rattle.end_rules.specs.State.{Body}
 use Rattle.end_rules.specs.Sets.{pair_of}
 use Rattle.end_rules.specs.Calling.{can_call}
 use Rattle.end_rules.specs.Requesting.{due_of}
