@@ -4,7 +4,7 @@
 
 pub use asn1_types::{
     Class, Item, MaybeVals, Named, Node, Part, Parts, RowRefusal, TextKind, TypeId, TypeRow,
-    TypeTable, Val, Vals, fits, has_default_value, is_whole, may_be_absent,
+    TypeTable, Val, Vals, has_default_value, is_whole, may_be_absent,
 };
 pub use ber_reading::{LIMIT, Read, ReadFault, ber_read, ber_read_within, der_read};
 pub use ber_spelling::{
@@ -13,4 +13,4 @@ pub use ber_spelling::{
     spelled_is_read, unused_bits_are_cleared, unused_bits_are_zeros, wider_is_long, wider_stays,
     written_is_read, written_is_spelled,
 };
-pub use ber_writing::{ber_len, ber_octets, ber_write};
+pub use ber_writing::{ber_len, ber_octets, ber_write, fits, in_order, is_less};

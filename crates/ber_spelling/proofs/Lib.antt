@@ -24,6 +24,7 @@ pub mod WholeValues
 pub mod Digits
 pub mod WrittenFields
 pub mod WriteLaws
+pub mod RisingLaws
 pub mod Written
 pub mod Wholes
 pub mod WholeSpelled

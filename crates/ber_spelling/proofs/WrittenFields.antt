@@ -5,11 +5,12 @@ use Rattle.std.specs.List.{AllByRecursion, flat_map}
 use Rattle.std.proofs.Math.Nat.{pow-suc, mul_assoc, mul_comm}
 use Rattle.std.proofs.lemmas.Bool.{le-ltb, lt-ltb, ltb-true, ltb-false, ne_eqb, lt-leb}
 use Rattle.asn1_types.specs.declared.row.Class.{Class}
-use Rattle.ber_spelling.specs.declared.spot.Tag as tags
+use Rattle.asn1_types.specs.declared.row.Tag as tags
 use Rattle.ber_spelling.specs.Fields.{number_from}
 use Rattle.ber_spelling.specs.Primitives.{is_padded, signed_of}
-use Rattle.ber_spelling.specs.Spelling.{leading, IsIdentifier, IsLength, IsDefinite, IsInteger, AreSubidentifiers}
-use Rattle.ber_spelling.specs.Writing.{natural_octets, integer_octets, identifier, base_128, base_256, length_octets, definite}
+use Rattle.ber_spelling.specs.Spelling.{IsIdentifier, IsLength, IsDefinite, IsInteger, AreSubidentifiers}
+use Rattle.asn1_types.specs.Writing.{natural_octets, integer_octets, identifier, base_128, base_256, length_octets, definite}
+use Rattle.asn1_types.specs.Tags.{leading}
 use Rattle.ber_spelling.proofs.Digits.{split_256, base_128_is, base_256_few, base_256_number, base_256_first, some_first, by_turns}
 
 -- ---- identifiers, lengths

@@ -23,7 +23,8 @@ pub use laws::{
 pub use order::{RANKS, rank, rank_of};
 pub use plain::{boolean, enumerated, integer, is_other_number, null, object_id};
 pub use primitives::integer_of;
-pub use spot::{Ahead, Gathered, Opened, Scope, Spot, StringKind, StringRule, Tag};
+pub use spot::{Ahead, Gathered, Opened, Scope, Spot, StringKind, StringRule};
 pub use strings::{bit_string, octet_string, text};
 pub use tag::{expect, tag_or};
+pub use asn1_types::Tag;
 pub use whole::whole_value;

@@ -1,7 +1,7 @@
 use Rattle.std.proofs.Common.{◌≡◌, ◌+◌, ◌*◌, drop}
 use Rattle.asn1_types.specs.ValueView.{parts_of, values_of}
 use Rattle.asn1_types.specs.Fits.{parts_fit, values_fit, fits}
-use Rattle.asn1_types.proofs.fitting.+fitting.Given as goal
+use Rattle.ber_writing.proofs.fitting.+fitting.Given as goal
 
 abbrev pub decreases-fits : goal.decreases-fits
 decreases-fits l = 5 * l.of.0 + 4

@@ -1,5 +1,5 @@
 -- The DER spelling of each value that fits a row (X.690 8 and 10), as a function.
-use Rattle.std.specs.Prelude.{ℕ, zero, suc, ◌+◌, ◌-◌, ◌/◌, ◌%◌, ℤ, pos, negsuc, Bool, true, false, Option, Some, None, List, [], ◌∷◌, ◌++◌, map, length, min, ◌^◌, nat_lt, nat_eq, slice_get, if◌then◌else◌}
+use Rattle.std.specs.Prelude.{ℕ, zero, suc, ◌+◌, ◌-◌, ◌*◌, ◌/◌, ◌%◌, ℤ, pos, negsuc, Bool, true, false, Option, Some, None, List, [], ◌∷◌, ◌++◌, map, length, min, ◌^◌, nat_lt, nat_eq, slice_get, if◌then◌else◌}
 use Rattle.std.specs.List.{flat_map}
 use Rattle.asn1_types.specs.declared.row.Class.{Class}
 use Rattle.asn1_types.specs.declared.row.Class.TheVariants.{Universal}
@@ -8,10 +8,8 @@ use Rattle.asn1_types.specs.declared.row.TypeRow.{TypeRow}
 use Rattle.asn1_types.specs.declared.row.TypeRow.TheVariants as row
 use Rattle.asn1_types.specs.Rows.{along, text_number}
 use Rattle.asn1_types.specs.Value.{Value, boolean, integer, octets, bits, object_id, text, parts, list, chosen, any, MaybeValues, no_parts, absent, present, Values, no_values, value}
-use Rattle.ber_spelling.specs.declared.spot.Tag as tags
-use Rattle.ber_spelling.specs.Rules.{tag_or}
-use Rattle.ber_spelling.specs.Spelling.{leading, subidentifiers}
-use Rattle.ber_spelling.specs.Order.{ranks, front_rank}
+use Rattle.asn1_types.specs.declared.row.Tag as tags
+use Rattle.asn1_types.specs.Tags.{tag_or, leading, ranks, front_rank}
 
 -- ---- numbers: the last digit first, put before what stands behind it
 
@@ -58,6 +56,12 @@ abbrev pub definite : Bool → tags.Tag → List ℕ → List ℕ
 definite constructed tag contents = identifier tag.class constructed tag.number ++ (length_octets (length contents) ++ contents)
 
 -- ---- contents
+
+-- X.690 8.19: the first two arcs make one subidentifier
+abbrev pub subidentifiers : List ℕ → List ℕ
+subidentifiers [] = []
+subidentifiers (root ∷ []) = root ∷ []
+subidentifiers (root ∷ second ∷ arcs) = (40 * root + second) ∷ arcs
 
 abbrev pub integer_contents : Value → List ℕ
 integer_contents (integer z) = integer_octets z
@@ -166,6 +170,7 @@ write_by inner (row.Text kind) tag v = definite false (tag_or tag Universal (tex
 write_by inner (row.Sequence ps) tag v = definite true (tag_or tag Universal 16) (sequence_contents (parts_contents inner ps) v)
 write_by inner (row.Set ps) tag v = definite true (tag_or tag Universal 17) (sequence_contents (set_parts inner ps) v)
 write_by inner (row.SequenceOf of) tag v = definite true (tag_or tag Universal 16) (list_contents (inner of.0) v)
+write_by inner (row.SetOf of) tag v = definite true (tag_or tag Universal 17) (list_contents (inner of.0) v)
 write_by inner (row.Choice ps) tag v = under (choice_written (λ which. alternative_written inner (slice_get ps which))) tag v
 write_by inner (row.Tagged class number explicit of) tag v = tagged_written explicit (inner of.0) class number tag v
 write_by inner row.Any tag v = under any_written tag v

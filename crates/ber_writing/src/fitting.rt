@@ -6,14 +6,15 @@ ghost use Rattle.osi_base.specs.Oid.{is_oid};
 ghost use Rattle.asn1_types.specs.Rows.{rows_of_parts};
 ghost use Rattle.asn1_types.specs.Table.{IsSound};
 ghost use Rattle.asn1_types.specs.ValueView.{parts_of, values_of};
+ghost use Rattle.asn1_types.specs.Writing.{written};
+ghost use Rattle.asn1_types.specs.Rising.{is_short};
 ghost use Rattle.asn1_types.specs.Fits.{has_32_bits, boolean_fits, integer_fits, enumerated_fits, null_fits, object_id_fits, octets_fit, bits_fit, text_fits, part_fits, parts_fit, sequence_fits, values_fit, list_fits, alternative_fits, choice_fits, any_fits, fits_by, fits};
 
-use crate::defaults::{has_default_value, may_be_absent};
-use crate::row::{Item, Part, Parts, TextKind, TypeId, TypeRow};
-use crate::table::TypeTable;
-use crate::text::{are_bits, are_octets, is_item, is_text};
-use crate::value::{Node, Val};
-use crate::whole::is_whole;
+use crate::order::set_rises;
+use asn1_types::{
+    Item, Node, Part, Parts, TextKind, TypeId, TypeRow, TypeTable, Val, are_bits, are_octets,
+    has_default_value, is_item, is_text, is_whole, may_be_absent,
+};
 use osi_base::are_oid;
 
 fn integer_fits(low: i64, high: i64, value: &Val) -> bool
@@ -109,8 +110,9 @@ fn any_fits(value: &Val) -> bool
 /// Whether a value fits a row of a table: an INTEGER in its range, an ENUMERATED among its items,
 /// an OCTET STRING of at most `most` octets, a BIT STRING whose 0 to 7 unused bits are zero, a text
 /// of characters of its kind, of a SEQUENCE or SET as many parts as the row has in the order of the
-/// notation, each there unless it may be absent and none with its default's value, of a CHOICE an alternative that is there, and in an
-/// `Any` one whole value (X.690 8.1). Nothing fits a row that is not there.
+/// notation, each there unless it may be absent and none with its default's value, of a SET OF items
+/// in rising order of their DER spellings (X.690 11.6), each of at most 4,294,967,295 octets, of a
+/// CHOICE an alternative that is there, and in an `Any` one whole value (X.690 8.1). No memory is taken. Nothing fits a row that is not there.
 #[cycle(fitting)]
 pub fn fits(table: &TypeTable, of: TypeId, value: &Val) -> bool
     ensures { result ≡ fits table.now of.0 value.now }
@@ -122,7 +124,7 @@ pub fn fits(table: &TypeTable, of: TypeId, value: &Val) -> bool
 fn fits_row(table: &TypeTable, of: TypeId, row: &TypeRow, value: &Val) -> bool
     requires row { slice_get table.now of.0 ≡ Some row.now }
     requires sound { IsSound table.now }
-    ensures { result ≡ fits_by (fits table.now) row.now value.now }
+    ensures { result ≡ fits_by is_short (written table.now) (fits table.now) row.now value.now }
 {
     match row {
         TypeRow::Boolean => boolean_fits(value),
@@ -136,6 +138,9 @@ fn fits_row(table: &TypeTable, of: TypeId, row: &TypeRow, value: &Val) -> bool
         TypeRow::Sequence(parts) => sequence_fits(table, of, parts.as_slice(), value),
         TypeRow::Set(parts) => sequence_fits(table, of, parts.as_slice(), value),
         TypeRow::SequenceOf(inner) => list_fits(table, of, *inner, value),
+        TypeRow::SetOf(inner) => {
+            list_fits(table, of, *inner, value) && set_rises(table, *inner, value)
+        }
         TypeRow::Choice(alternatives) => choice_fits(table, of, alternatives, value),
         TypeRow::Tagged { inner, .. } => fits(table, *inner, value),
         TypeRow::Any => any_fits(value),

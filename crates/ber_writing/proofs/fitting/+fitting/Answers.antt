@@ -4,11 +4,11 @@ use Rattle.std.specs.Option.{option_copied}
 use Rattle.asn1_types.specs.Value.{chosen}
 use Rattle.asn1_types.specs.ValueView.{value_of}
 use Rattle.std.proofs.lemmas.Option.{slice_get_within}
-use Rattle.asn1_types.specs.declared.row.TypeRow.TheVariants.{Sequence, Set, SequenceOf, Choice, Tagged}
+use Rattle.asn1_types.specs.declared.row.TypeRow.TheVariants.{Sequence, Set, SequenceOf, SetOf, Choice, Tagged}
 use Rattle.asn1_types.specs.Fits.{alternative_fits, choice_fits, fits}
 use Rattle.asn1_types.proofs.Sound.{each_part, down_as}
 use Rattle.asn1_types.proofs.FitLaws.{not_within, false_not, fits_at, fits_past, parts_short, each_slot}
-use Rattle.asn1_types.proofs.fitting.+fitting.Goals as goal
+use Rattle.ber_writing.proofs.fitting.+fitting.Goals as goal
 
 pub fits-returns-then-has : goal.fits-returns-then-has
 fits-returns-then-has t c =
@@ -31,6 +31,13 @@ fits_row-list_fits-requires t c =
     let lt = slice_get_within c.args.table.now c.args.of.0 c.args.row.now c.requires.row in
     let down = down_as c.args.table.now c.args.of.0 c.args.row.now (SequenceOf c.in-SequenceOf.inner) c.requires.sound c.requires.row c.in-SequenceOf.is in
     let below : c.in-SequenceOf.inner.0 < c.args.of.0 = down.0 in
+    (omega arith, (below, omega arith))
+
+pub fits_row-list_fits-requires-in-SetOf : goal.fits_row-list_fits-requires-in-SetOf
+fits_row-list_fits-requires-in-SetOf t c =
+    let lt = slice_get_within c.args.table.now c.args.of.0 c.args.row.now c.requires.row in
+    let down = down_as c.args.table.now c.args.of.0 c.args.row.now (SetOf c.in-SetOf.inner) c.requires.sound c.requires.row c.in-SetOf.is in
+    let below : c.in-SetOf.inner.0 < c.args.of.0 = down.0 in
     (omega arith, (below, omega arith))
 
 pub fits_row-choice_fits-requires : goal.fits_row-choice_fits-requires
