@@ -393,7 +393,7 @@ fn set_item<'a>(
     ensures stops { IfOk result (λ x. GoesOn spot.entry.place (length spot.entry.rest.now) x.1) }
 {
     let (value, after) = value(alloc, table, inner, None, None, scope, opened, spot)?;
-    if scope.strict && !follows_last(table, inner, before, &value)? {
+    if scope.strict && !follows_last(alloc, table, inner, before, &value)? {
         return Err(refusal(opened.start.place, Kind::Form));
     }
     Ok((value, after))

@@ -142,16 +142,19 @@ fn object_id_octet(tag: Tag, value: &Val, at: u64) -> u8
     requires { length (definite false tag (object_id_contents value.now)) ≤ most_spelled }
     ensures { result ≡ slice_index (definite false tag (object_id_contents value.now)) at }
 {
-    let count = match &value.node {
-        Node::ObjectId(oid) => arcs_len(oid.arcs()),
-        _ => 0,
-    };
-    match head_or_place(tag, false, count, at) {
+    match &value.node {
+        Node::ObjectId(oid) => subidentifiers_octet(tag, oid.arcs(), at),
+        _ => null_octet(tag, at),
+    }
+}
+
+fn subidentifiers_octet(tag: Tag, arcs: &[u32], at: u64) -> u8
+    requires { length (definite false tag (flat_map base_128 (subidentifiers arcs.now))) ≤ most_spelled }
+    ensures { result ≡ slice_index (definite false tag (flat_map base_128 (subidentifiers arcs.now))) at }
+{
+    match head_or_place(tag, false, arcs_len(arcs), at) {
         Ok(octet) => octet,
-        Err(place) => match &value.node {
-            Node::ObjectId(oid) => arcs_octet(oid.arcs(), place),
-            _ => 0,
-        },
+        Err(place) => arcs_octet(arcs, place),
     }
 }
 
@@ -491,15 +494,40 @@ fn set_octet(
     requires short { length (definite true tag (sequence_contents (set_parts (writes table.now) parts.now) value.now)) ≤ most_spelled }
     ensures { result ≡ slice_index (definite true tag (sequence_contents (set_parts (writes table.now) parts.now) value.now)) at }
 {
-    let values: &[Option<Val>] = match &value.node {
-        Node::Parts(values) => values,
-        _ => return null_constructed(tag, at),
-    };
-    let count = parts_len(table, of, parts, values);
+    match &value.node {
+        Node::Parts(values) => set_parts_octet(table, of, parts, tag, values, at),
+        _ => null_constructed(tag, at),
+    }
+}
+
+#[cycle(picking)]
+fn set_parts_octet(
+    table: &TypeTable,
+    of: TypeId,
+    parts: &[Part],
+    tag: Tag,
+    values: &[Option<Val>],
+    at: u64,
+) -> u8
+    requires below { AllByRecursion (λ m. m < of.0) (rows_of_parts parts.now) }
+    requires row { of.0 ≤ length table.now }
+    requires short { length (definite true tag (set_parts (writes table.now) parts.now (parts_of values.now))) ≤ most_spelled }
+    ensures { result ≡ slice_index (definite true tag (set_parts (writes table.now) parts.now (parts_of values.now))) at }
+{
+    let count = set_len(table, of, parts, values);
     match head_or_place(tag, true, count, at) {
         Ok(octet) => octet,
         Err(place) => risen_octet(table, of, parts, values, count, place),
     }
+}
+
+/// The length of the parts of a SET.
+fn set_len(table: &TypeTable, of: TypeId, parts: &[Part], values: &[Option<Val>]) -> u64
+    requires below { AllByRecursion (λ m. m < of.0) (rows_of_parts parts.now) }
+    requires short { length (set_parts (writes table.now) parts.now (parts_of values.now)) ≤ most_spelled }
+    ensures { result ≡ length (set_parts (writes table.now) parts.now (parts_of values.now)) }
+{
+    parts_len(table, of, parts, values)
 }
 
 /// The octet at a place of the parts by rising tags, from the highest tag to the lowest.

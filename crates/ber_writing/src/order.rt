@@ -1,6 +1,6 @@
 //! The order of the items of a SET OF: by their DER spellings, octet by octet (X.690 11.6).
 
-ghost use Rattle.std.specs.Prelude.{◌≡◌, ◌≤◌, length};
+ghost use Rattle.std.specs.Prelude.{◌≡◌, ◌≤◌, length, IfOk};
 ghost use Rattle.asn1_types.specs.Limits.{most_spelled};
 ghost use Rattle.asn1_types.specs.ValueView.{values_of};
 ghost use Rattle.asn1_types.specs.Rising.{is_less, is_short, told_less, stand_so, rise_behind, rise, set_rises};
@@ -8,8 +8,10 @@ ghost use Rattle.asn1_types.specs.Writing.{written};
 
 use crate::length::ber_len;
 use crate::octet::octet_at;
-use crate::write::put_value;
+use crate::write::{ber_octets, put_value};
 use asn1_types::{Node, TypeId, TypeTable, Val};
+use osi_base::NoMemory;
+use std::alloc::Global;
 
 /// How many octets a spelling of a value that fits may have.
 const MOST: u64 = 4_294_967_295;
@@ -45,6 +47,26 @@ pub fn is_less(table: &TypeTable, of: TypeId, a: &Val, b: &Val) -> Option<bool>
     } else {
         Some(long_less(table, of, a, len, b, other))
     }
+}
+
+/// As `is_less`, of spellings of any length: longer ones than 256 octets are written into memory.
+pub(crate) fn less_in_memory(
+    alloc: Global,
+    table: &TypeTable,
+    of: TypeId,
+    a: &Val,
+    b: &Val,
+) -> Result<bool, NoMemory>
+    ensures { IfOk result (λ less. less ≡ is_less (written table.now of.0 a.now) (written table.now of.0 b.now)) }
+{
+    let len = ber_len(table, of, a);
+    let other = ber_len(table, of, b);
+    if len <= ROOM as u64 && other <= ROOM as u64 {
+        return Ok(short_less(table, of, a, len as usize, b, other as usize));
+    }
+    let spelled = ber_octets(alloc, table, of, a)?;
+    let against = ber_octets(alloc, table, of, b)?;
+    Ok(octets_less(spelled.as_slice(), against.as_slice()))
 }
 
 /// As `is_less`, of spellings of at most 256 octets.

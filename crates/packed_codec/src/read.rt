@@ -364,7 +364,7 @@ fn set_item<'a>(
     ensures stops { IfOk result (λ x. GoesOn spot.entry.place (length spot.entry.rest.now) x.1) }
 {
     let (value, after) = value(alloc, table, inner, limit, spot)?;
-    if !follows_last(table, inner, before, &value)? {
+    if !follows_last(alloc, table, inner, before, &value)? {
         return Err(refusal(spot.place));
     }
     Ok((value, after))

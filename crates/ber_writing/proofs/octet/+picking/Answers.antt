@@ -176,15 +176,3 @@ pub risen_octet-returns-then-next-eq0 : goal.risen_octet-returns-then-next-eq0
 risen_octet-returns-then-next-eq0 t c =
     let all = ap length (risen_end (writes c.args.table.now) c.args.parts.now (parts_of c.args.values.now) c.loop-bound.bound c.loop-bound.invariant.within (λ k lt. c.next_rank-next.ensures.none k (omega arith) lt)) in
     absurd (omega (arith, all, c.requires.count, c.loop-bound.invariant.place, c.loop-bound.invariant.before))
-
-pub set_octet-head_or_place-requires : goal.set_octet-head_or_place-requires
-set_octet-head_or_place-requires t c = ?
-
-pub set_octet-risen_octet-requires : goal.set_octet-risen_octet-requires
-set_octet-risen_octet-requires t c = ?
-
-pub set_octet-returns-in-Ok : goal.set_octet-returns-in-Ok
-set_octet-returns-in-Ok t c = ?
-
-pub set_octet-returns-in-Err : goal.set_octet-returns-in-Err
-set_octet-returns-in-Err t c = ?

@@ -6,43 +6,46 @@ use Rattle.asn1_types.specs.Writing.{parts_contents, values_contents, of_rank, r
 use Rattle.ber_writing.proofs.octet.+picking.Given as goal
 
 abbrev pub decreases-octet_at : goal.decreases-octet_at
-decreases-octet_at l = 6 * l.of.0 + 5
+decreases-octet_at l = 7 * l.of.0 + 6
 
 abbrev pub decreases-row_octet : goal.decreases-row_octet
-decreases-row_octet l = 6 * l.of.0 + 4
+decreases-row_octet l = 7 * l.of.0 + 5
 
 abbrev pub decreases-list_octet : goal.decreases-list_octet
-decreases-list_octet l = 6 * l.of.0 + 3
+decreases-list_octet l = 7 * l.of.0 + 3
 
 abbrev pub decreases-explicit_octet : goal.decreases-explicit_octet
-decreases-explicit_octet l = 6 * l.of.0 + 3
+decreases-explicit_octet l = 7 * l.of.0 + 3
 
 abbrev pub decreases-choice_octet : goal.decreases-choice_octet
-decreases-choice_octet l = 6 * l.of.0 + 3
+decreases-choice_octet l = 7 * l.of.0 + 3
 
 abbrev pub decreases-sequence_octet : goal.decreases-sequence_octet
-decreases-sequence_octet l = 6 * l.of.0 + 3
+decreases-sequence_octet l = 7 * l.of.0 + 3
 
 abbrev pub decreases-set_octet : goal.decreases-set_octet
-decreases-set_octet l = 6 * l.of.0 + 3
+decreases-set_octet l = 7 * l.of.0 + 4
+
+abbrev pub decreases-set_parts_octet : goal.decreases-set_parts_octet
+decreases-set_parts_octet l = 7 * l.of.0 + 3
 
 abbrev pub decreases-values_octet : goal.decreases-values_octet
-decreases-values_octet l = 6 * l.of.0 + 2
+decreases-values_octet l = 7 * l.of.0 + 2
 
 abbrev pub decreases-alternative_octet : goal.decreases-alternative_octet
-decreases-alternative_octet l = 6 * l.of.0 + 2
+decreases-alternative_octet l = 7 * l.of.0 + 2
 
 abbrev pub decreases-parts_octet : goal.decreases-parts_octet
-decreases-parts_octet l = 6 * l.of.0 + 2
+decreases-parts_octet l = 7 * l.of.0 + 2
 
 abbrev pub decreases-risen_octet : goal.decreases-risen_octet
-decreases-risen_octet l = 6 * l.of.0 + 2
+decreases-risen_octet l = 7 * l.of.0 + 2
 
 abbrev pub decreases-ranked_octet : goal.decreases-ranked_octet
-decreases-ranked_octet l = 6 * l.of.0 + 1
+decreases-ranked_octet l = 7 * l.of.0 + 1
 
 abbrev pub decreases-part_octet : goal.decreases-part_octet
-decreases-part_octet l = 6 * l.of.0
+decreases-part_octet l = 7 * l.of.0
 
 abbrev pub invariant-values_octet-loop-value : goal.invariant-values_octet-loop-value
 invariant-values_octet-loop-value l = record {
