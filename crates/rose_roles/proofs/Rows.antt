@@ -8,6 +8,7 @@ use Rattle.osi_base.specs.declared.syntax.Syntax.TheVariants as syntax
 use Rattle.asn1_types.specs.declared.row.TypeRow.{TypeRow}
 use Rattle.asn1_types.specs.Rows.{along, of_row}
 use Rattle.asn1_types.specs.Fits.{nothing_fits, fits}
+use Rattle.asn1_types.specs.Writing.{written}
 use Rattle.asn1_types.proofs.FitLaws.{not_within}
 use Rattle.asn1_types.specs.Value.{Value}
 use Rattle.ber_spelling.specs.Spelling as ber
@@ -22,7 +23,7 @@ use Rattle.rose_roles.specs.Values.{IsReadExactly, IsReadAs}
 no_ber : (rows : List TypeRow) (turns n levels : ℕ) (guise : _) (strict : Bool) (v : Value) (text : List ℕ) → slice_get rows n ≡ None → ber.SpelledBy rows turns n guise strict levels v text → ⊥
 no_ber rows zero n levels guise strict v text e h = h
 no_ber rows (suc turns) n levels guise strict v text e h =
-    subst (λ (r : Option TypeRow). ber.RowOr (ber.RowIs (ber.SpelledBy rows turns)) r guise strict levels v text) e h
+    subst (λ (r : Option TypeRow). ber.RowOr (ber.RowIs (written rows) (ber.SpelledBy rows turns)) r guise strict levels v text) e h
 
 no_packs : (rows : List TypeRow) (turns n : ℕ) (v : Value) → slice_get rows n ≡ None → along nothing_fits packs_by rows turns n v ≡ false
 no_packs rows zero n v e = refl

@@ -4,8 +4,9 @@ ghost use Rattle.std.specs.Prelude.{◌≡◌, ◌<◌, length, IfOk, Some, true
 ghost use Rattle.osi_base.specs.declared.syntax.Syntax.TheVariants as syntaxes;
 ghost use Rattle.rose_roles.specs.Values.{IsReadExactly, IsReadAs, IsAllowedIn};
 
-use asn1_types::{TypeId, TypeTable, Val, fits};
+use asn1_types::{TypeId, TypeTable, Val};
 use ber_reading::{ReadFault, ber_read, der_read};
+use ber_writing::fits;
 use osi_base::{NoMemory, Octets, Syntax};
 use packed_codec::{PackedFault, packed_read_within};
 use std::alloc::Global;
