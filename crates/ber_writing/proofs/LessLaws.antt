@@ -1,8 +1,9 @@
 -- Octets compared one after the other.
-use Rattle.std.proofs.Common.{◌≡◌, ◌≢◌, ℕ, zero, suc, ◌+◌, ◌<◌, ◌≤◌, Bool, true, false, ◌&&◌, ◌||◌, cond, List, [], ◌∷◌, length, drop, get_or, min, refl, sym, ap, ◌∙◌, arith}
+use Rattle.std.proofs.Common.{◌≡◌, ◌≢◌, ℕ, zero, suc, ◌+◌, ◌<◌, ◌≤◌, Bool, true, false, not, ◌&&◌, ◌||◌, cond, List, [], ◌∷◌, length, drop, get_or, min, refl, sym, ap, ◌∙◌, arith, inl, inr}
 use Rattle.std.specs.Prelude.{nat_lt, nat_eq}
-use Rattle.std.proofs.lemmas.Bool.{ne_eqb, eq-eqb, le-ltb, lt-ltb}
-use Rattle.asn1_types.specs.Rising.{is_less}
+use Rattle.std.proofs.lemmas.Bool.{ne_eqb, eq-eqb, le-ltb, lt-ltb, cases_lt}
+use Rattle.asn1_types.specs.Value.{Value}
+use Rattle.asn1_types.specs.Rising.{is_less, behind_last}
 
 or_false : (b : Bool) → (b || false) ≡ b
 or_false true = refl
@@ -30,4 +31,16 @@ less_ends (x ∷ xs) [] (suc i) le more end = absurd (omega arith)
 less_ends (x ∷ xs) (y ∷ ys) (suc i) le more end = less_ends xs ys i (omega arith) (omega arith) (omega arith) ∙ shifted (length xs) (length ys)
   where
     shifted : (a b : ℕ) → nat_lt a b ≡ nat_lt (suc a) (suc b)
-    shifted a b = refl
+    shifted a b = elim (cases_lt a b) [
+      | inl lt ↦ rw (lt-ltb a b lt, lt-ltb (suc a) (suc b) (omega arith)) refl
+      | inr ge ↦ rw (le-ltb a b ge, le-ltb (suc a) (suc b) (omega arith)) refl
+    ]
+
+-- ---- the last item
+
+pub last_is : (spell : Value → List ℕ) (ws : List Value) (i : ℕ) (w v : Value) → length ws ≡ suc i → w ≡ get_or ws i w → behind_last spell ws v ≡ not (is_less (spell v) (spell w))
+last_is spell [] i w v e g = absurd (omega arith)
+last_is spell (x ∷ []) zero w v e g = ap (λ (y : Value). not (is_less (spell v) (spell y))) (sym g)
+last_is spell (x ∷ []) (suc i) w v e g = absurd (omega arith)
+last_is spell (x ∷ y ∷ ws) zero w v e g = absurd (omega arith)
+last_is spell (x ∷ y ∷ ws) (suc i) w v e g = last_is spell (y ∷ ws) i w v (omega arith) g

@@ -5,7 +5,7 @@ use Rattle.std.proofs.lemmas.List.{get_or_append_left, get_or-append_right, get_
 use Rattle.std.specs.Prelude.{nat_eq}
 use Rattle.asn1_types.specs.declared.row.Part.{Part}
 use Rattle.asn1_types.specs.declared.row.Tag as tags
-use Rattle.asn1_types.specs.Tags.{front_rank}
+use Rattle.asn1_types.specs.Tags.{ranks, front_rank}
 use Rattle.asn1_types.specs.Value.{Value, MaybeValues}
 use Rattle.asn1_types.specs.ValueView.{parts_of, values_of}
 use Rattle.asn1_types.specs.Writing.{identifier, length_octets, definite, Writer, of_rank, part_contents, parts_contents, values_contents, risen_parts, set_parts}
@@ -92,3 +92,10 @@ module _ (f : ℕ → Writer) (ps : List Part) (vs : MaybeValues) where
       let len2 = length-append one tail in
       let size : length p.0 ≡ start = omega arith in
       back_octet p.0 (one ++ tail) (risen_parts f total 0 ps vs) at start rest size from ∙ front_octet one tail (one ++ tail) (at - start) refl (omega arith)
+
+  -- an octet of the parts of a rank in a SET
+  pub set_octet : (bound r at start count : ℕ) → r < bound → bound ≤ ranks → ((k : ℕ) → r + 1 ≤ k → k < bound → parts_contents (of_rank k f) ps vs ≡ [])
+      → count ≡ length (set_parts f ps vs) → start + length (parts_contents (of_rank r f) ps vs) + length (risen_parts f (ranks - bound) bound ps vs) ≡ count
+      → start ≤ at → at < start + length (parts_contents (of_rank r f) ps vs) → get_or (set_parts f ps vs) at 0 ≡ get_or (parts_contents (of_rank r f) ps vs) (at - start) 0
+  unfolding set_parts
+  set_octet bound r at start count lt le none whole all from until = ranked_octet ranks bound r at start count lt le none whole all from until

@@ -205,9 +205,19 @@ fn segment_octet(tag: Tag, octets: &[u8], unused: u8, at: u64) -> u8
 {
     match head_or_place(tag, false, octets.len() as u64 + 1, at) {
         Ok(octet) => octet,
-        Err(0) => unused,
-        Err(place) => octet_in(octets, place - 1),
+        Err(place) => behind_unused(octets, unused, place),
     }
+}
+
+/// The octet at a place of a segment's contents.
+#[tactic(auto, using(crate::proofs::OctetLaws::behind_one))]
+fn behind_unused(octets: &[u8], unused: u8, at: u64) -> u8
+    ensures { result ≡ slice_index (unused ∷ octets.now) at }
+{
+    if at == 0 {
+        return unused;
+    }
+    octet_in(octets, at - 1)
 }
 
 /// Of any one value, and of the tag that stands before it if one is given.
@@ -627,9 +637,11 @@ fn ranked_octet(
 {
     let mut place = at;
     for index in 0..parts.len().min(values.len()) {
-        let len = if_ranked_len(table, of, &parts[index], &values[index], rank);
+        let part = &parts[index];
+        let value = &values[index];
+        let len = if_ranked_len(table, of, part, value, rank);
         if place < len {
-            return part_octet(table, of, &parts[index], &values[index], place);
+            return part_octet(table, of, part, value, place);
         }
         place -= len;
     }

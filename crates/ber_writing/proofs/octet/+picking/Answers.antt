@@ -11,8 +11,7 @@ use Rattle.asn1_types.specs.ValueView.{parts_of}
 use Rattle.asn1_types.specs.Writing.{Writer, of_rank, parts_contents, part_contents, risen_parts, writes}
 use Rattle.asn1_types.specs.Tags.{ranks}
 use Rattle.ber_writing.proofs.SetCounts.{risen_room}
-use Rattle.ber_writing.proofs.OctetLaws.{part_short, ranked_same, no_octet}
-use Rattle.ber_writing.proofs.OctetLaws as octets
+use Rattle.ber_writing.proofs.OctetLaws.{part_short, ranked_same, no_octet, set_octet}
 use Rattle.ber_spelling.proofs.WriteLaws.{parts_past, risen_begin, risen_next, risen_end, writes_at, writes_past}
 use Rattle.ber_writing.proofs.octet.+picking.Goals as goal
 
@@ -102,9 +101,9 @@ pub ranked_octet-part_octet-requires : goal.ranked_octet-part_octet-requires
 ranked_octet-part_octet-requires t c =
     let within : c.loop-index.index < length c.args.parts.now = omega (arith, c.min-index-end.ensures, c.loop-index-test.true) in
     let other : c.loop-index.index < length c.args.values.now = omega (arith, c.min-index-end.ensures, c.loop-index-test.true) in
-    let lt : c.index-parts-index-then-place-len.result.inner.0 < c.args.of.0 = each_part (λ m. m < c.args.of.0) c.args.parts.now c.loop-index.index c.index-parts-index-then-place-len.result c.requires.below within c.index-parts-index-then-place-len.is in
-    let short = part_short (of_rank c.args.rank (writes c.args.table.now)) c.args.parts.now c.args.values.now c.loop-index.index most_spelled c.index-parts-index-then-place-len.result c.index-values-index-then-place-len.result within other c.index-parts-index-then-place-len.is c.index-values-index-then-place-len.is c.loop-index.invariant.short in
-    let same = ranked_same (writes c.args.table.now) c.args.rank c.index-parts-index-then-place-len.result c.index-values-index-then-place-len.result ? in
+    let lt : c.index-parts-index.result.inner.0 < c.args.of.0 = each_part (λ m. m < c.args.of.0) c.args.parts.now c.loop-index.index c.index-parts-index.result c.requires.below within c.index-parts-index.is in
+    let short = part_short (of_rank c.args.rank (writes c.args.table.now)) c.args.parts.now c.args.values.now c.loop-index.index most_spelled c.index-parts-index.result c.index-values-index.result within other c.index-parts-index.is c.index-values-index.is c.loop-index.invariant.short in
+    let same = ranked_same (writes c.args.table.now) c.args.rank c.index-parts-index.result c.index-values-index.result (omega (arith, c.if-place-len.true, c.if_ranked_len-len.ensures)) in
     (omega arith, (lt, subst (λ (l : List ℕ). length l ≤ most_spelled) same short))
 
 pub ranked_octet-returns : goal.ranked_octet-returns
@@ -150,7 +149,7 @@ risen_octet-returns-then-start-at t c =
     let room = risen_room (writes c.args.table.now) c.args.parts.now (parts_of c.args.values.now) c.loop-bound.bound (c.next_rank-next.result - 1) low c.loop-bound.invariant.within (λ k ge lt. c.next_rank-next.ensures.none k (omega arith) lt) in
     let one : List ℕ = parts_contents (of_rank (c.next_rank-next.result - 1) (writes c.args.table.now)) c.args.parts.now (parts_of c.args.values.now) in
     let others : List ℕ = risen_parts (writes c.args.table.now) (ranks - c.loop-bound.bound) c.loop-bound.bound c.args.parts.now (parts_of c.args.values.now) in
-    c.ranked_octet.ensures ∙ sym (octets.ranked_octet (writes c.args.table.now) c.args.parts.now (parts_of c.args.values.now) ranks c.loop-bound.bound (c.next_rank-next.result - 1) c.args.at (c.loop-bound.start - c.ranked_len-start.result) c.args.count low c.loop-bound.invariant.within (λ k ge lt. c.next_rank-next.ensures.none k (omega arith) lt) c.requires.count (omega (arith, room, c.requires.count, c.loop-bound.invariant.place, c.ranked_len-start.ensures)) (omega arith) (omega (arith, room, c.requires.count, c.loop-bound.invariant.place, c.loop-bound.invariant.before, c.ranked_len-start.ensures)))
+    c.ranked_octet.ensures ∙ sym (set_octet (writes c.args.table.now) c.args.parts.now (parts_of c.args.values.now) c.loop-bound.bound (c.next_rank-next.result - 1) c.args.at (c.loop-bound.start - c.ranked_len-start.result) c.args.count low c.loop-bound.invariant.within (λ k ge lt. c.next_rank-next.ensures.none k (omega arith) lt) c.requires.count (omega (arith, room, c.requires.count, c.loop-bound.invariant.place, c.ranked_len-start.ensures)) (omega arith) (omega (arith, room, c.requires.count, c.loop-bound.invariant.place, c.loop-bound.invariant.before, c.ranked_len-start.ensures)))
 
 pub risen_octet-loop-bound-preserved : goal.risen_octet-loop-bound-preserved
 risen_octet-loop-bound-preserved t c =
