@@ -299,14 +299,14 @@ fn set_of<'a>(
     ensures gives { Gives (λ x. (x.0, spot_of x.1)) result (set_of_at (written table.now inner.0) (reads table.now inner.0) limit (spot_of spot.entry)) }
     ensures stops { IfOk result (λ x. GoesOn spot.entry.place (length spot.entry.rest.now) x.1) }
 {
-    let (number, behind) = count(limit, spot)?;
-    if behind.left < number {
+    let (number, ahead) = count(limit, spot)?;
+    if ahead.left < number {
         return Err(refusal(spot.place));
     }
     let first = Spot {
-        place: behind.place,
-        rest: behind.rest,
-        left: behind.left - number,
+        place: ahead.place,
+        rest: ahead.rest,
+        left: ahead.left - number,
     };
     let (found, after) = set_items(alloc, table, of, inner, number, limit, first)?;
     Ok((
