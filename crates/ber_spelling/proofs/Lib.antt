@@ -51,3 +51,6 @@ pub mod DerForms
 pub mod Wider
 pub mod WiderRules
 pub mod WiderLimits
+pub mod UniqueDigits
+pub mod UniqueSets
+pub mod UniqueRows

@@ -156,7 +156,7 @@ cleared_same unused o os e =
     let same : last - last % 2 ^ unused ≡ last = omega arith in
     rw (ne_eqb (length (o ∷ os)) 0 (λ f. omega arith)) (set_same (o ∷ os) (length (o ∷ os) - 1) (last - last % 2 ^ unused) (omega arith) same)
 
-bits_ruled : (os : List ℕ) (unused : ℕ) → are_bits os unused ≡ true → string_rule OfBits whole_bits (unused ∷ os) ≡ Some (bits os unused)
+pub bits_ruled : (os : List ℕ) (unused : ℕ) → are_bits os unused ≡ true → string_rule OfBits whole_bits (unused ∷ os) ≡ Some (bits os unused)
 bits_ruled [] unused e =
     let a = and_parts (nat_lt unused 8) (nat_eq unused 0) e in
     rw (a.1, few_bits unused a.0) refl

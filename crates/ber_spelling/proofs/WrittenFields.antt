@@ -99,7 +99,7 @@ turned os = map (λ octet. 255 - octet) os
 regroup : (s p : ℕ) → (256 * s) * p ≡ s * (p * 256)
 regroup s p = ap (λ (k : ℕ). k * p) (mul_comm 256 s) ∙ mul_assoc s 256 p ∙ ap (λ (k : ℕ). s * k) (mul_comm 256 p)
 
-turned_number : (a b : ℕ) (os : List ℕ) → Small os → number_from a os + number_from b (turned os) + 1 ≡ (a + b + 1) * 256 ^ length os
+pub turned_number : (a b : ℕ) (os : List ℕ) → Small os → number_from a os + number_from b (turned os) + 1 ≡ (a + b + 1) * 256 ^ length os
 turned_number a b [] h = omega arith
 turned_number a b (o ∷ os) h =
     let lt : o < 256 = h.0 in
@@ -125,7 +125,7 @@ turned_first : (os : List ℕ) → 1 ≤ length os → slice_index os 0 < 128 �
 turned_first [] some lt = absurd (omega arith)
 turned_first (x ∷ os) some lt = omega arith
 
-turned_length : (os : List ℕ) → length (turned os) ≡ length os
+pub turned_length : (os : List ℕ) → length (turned os) ≡ length os
 turned_length [] = refl
 turned_length (o ∷ os) = ap suc (turned_length os)
 

@@ -136,3 +136,7 @@ OneOfThree = (rows : List TypeRow) (n : ℕ) (strict : Bool) (limit : ℕ) (byte
 -- A DER spelling is one whole value of any type: each length is definite, and no tag is UNIVERSAL 0.
 abbrev pub DerIsWhole : Type 0
 DerIsWhole = (rows : List TypeRow) (n : ℕ) (limit : ℕ) (v : Value) (spelled : List ℕ) → IsSound rows → Spells rows n true limit v spelled → is_whole spelled ≡ true
+
+-- A value has one DER spelling: the one that is written.
+abbrev pub DerIsWritten : Type 0
+DerIsWritten = (rows : List TypeRow) (n limit : ℕ) (v : Value) (spelled : List ℕ) → AreOctets spelled → Spells rows n true limit v spelled → spelled ≡ written rows n v
