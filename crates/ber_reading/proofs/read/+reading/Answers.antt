@@ -166,7 +166,7 @@ set_items-loop-turn-preserved t c =
     (rw c.deref.ensures.value at c.in_ok-item-in-Begun.ensures.gives) in
     record {
       onward = goes_then c.loop-turn.invariant.onward (goes_then opens.behind c.in_ok-item-in-Begun.ensures.stops);
-      so_far = ap (λ found. items_at (set_item_at (written c.args.table.now c.args.inner.0) (reads c.args.table.now c.args.inner.0)) (set_of_done (written c.args.table.now c.args.inner.0)) (length c.args.spot.rest.now + 1 - (c.loop-turn._turn + 1)) found c.args.scope.now (spot_of c.in_ok-item-in-Begun.item.1)) c.in_ok-push.ensures.items
+      so_far = ap (λ found. items_at (set_item_at (written c.args.table.now c.args.inner.0) (reads c.args.table.now c.args.inner.0)) (set_of_done (written c.args.table.now c.args.inner.0)) (length c.args.spot.rest.now + 1 - (c.loop-turn._turn + 1)) found c.args.scope.now (spot_of c.in_ok-item-in-Begun.item.1)) c.in_ok-push-in-Begun.ensures.items
           ∙ ap (λ k. items_at (set_item_at (written c.args.table.now c.args.inner.0) (reads c.args.table.now c.args.inner.0)) (set_of_done (written c.args.table.now c.args.inner.0)) k more c.args.scope.now (spot_of c.in_ok-item-in-Begun.item.1)) (sym less) ∙ goes;
     }
 
