@@ -8,7 +8,6 @@ use Rattle.asn1_types.specs.Value.{Value, Values, no_values, value}
 use Rattle.asn1_types.specs.ValueView.{values_of}
 use Rattle.asn1_types.specs.Rising.{is_less, follows, any_length, stand_so, rise_behind, rise, placed, sorted, behind_last}
 
-
 not_less : (x y : ℕ) → x ≤ y → nat_lt y x ≡ false
 not_less x y le = le-ltb y x le
 

@@ -75,6 +75,7 @@ unique_128 (d ∷ next ∷ ds) n h =
   where
     none : (k : ℕ) → 128 * 0 + k ≡ k
     none k = omega arith
+
     above : (d : ℕ) → 128 ≤ d → d ≢ 128 → 0 < d - 128
     above d ge ne = omega arith
 

@@ -325,9 +325,10 @@ module _ (rel : ℕ → Spelled) (write : ℕ → Writer) (each : (m : ℕ) → 
   set_steps : (ps : List Part) (levels total : ℕ) → ((l : List ℕ) → front_rank l < total) → (steps : List (List ℕ × Filled)) (first last : Filled) (c : List ℕ) → AreOctets c → Found write first.least ps first.found
       → Steps (λ a b s. SetStep rel ps a true levels b s) steps first last c
       → Found write last.least ps last.found × (risen_parts write total 0 ps (parts_of last.found) ≡ risen_parts write total 0 ps (parts_of first.found) ++ c)
-  set_steps ps levels total below [] first last c are found p =
-      (subst (λ (x : Filled). Found write x.least ps x.found) p.0 found,
-      (λ i. risen_parts write total 0 ps (parts_of (sym p.0 i).found)) ∙ sym (append-nil (risen_parts write total 0 ps (parts_of first.found))) ∙ ap (λ (x : List ℕ). risen_parts write total 0 ps (parts_of first.found) ++ x) (sym p.1))
+  set_steps ps levels total below [] first last c are found p = (
+    subst (λ (x : Filled). Found write x.least ps x.found) p.0 found,
+    (λ i. risen_parts write total 0 ps (parts_of (sym p.0 i).found)) ∙ sym (append-nil (risen_parts write total 0 ps (parts_of first.found))) ∙ ap (λ (x : List ℕ). risen_parts write total 0 ps (parts_of first.found) ++ x) (sym p.1),
+  )
   set_steps ps levels total below (s ∷ more) first last c are found p =
       let all : AreOctets (s.0 ++ p.0) = subst AreOctets p.1 are in
       let q = p.2 in

@@ -107,11 +107,13 @@ module _ (f : ℕ → Writer) where
     where
       w : List ℕ
       w = f p.inner.0 None v
+
       after : List (Option Value)
       after = slice_set os which (Some v)
+
       by_case : (from < r) ⊎ (r ≤ from)
           → (suc from ≤ r → r < suc from + many → least ≤ r → Found least ps os → slice_get ps which ≡ Some p → slice_get os which ≡ Some None → front_rank w ≡ r → is_default p.default v ≡ false
-              → risen_parts f many (suc from) ps (parts_of after) ≡ risen_parts f many (suc from) ps (parts_of os) ++ w)
+          → risen_parts f many (suc from) ps (parts_of after) ≡ risen_parts f many (suc from) ps (parts_of os) ++ w)
           → ranked from ps after ++ risen_parts f many (suc from) ps (parts_of after) ≡ (ranked from ps os ++ risen_parts f many (suc from) ps (parts_of os)) ++ w
       by_case (inl lt) next =
           let ne : from ≢ r = λ g. omega arith in

@@ -9,9 +9,8 @@ use crate::fault::ReadFault;
 use crate::fields::{contents, refusal};
 use crate::primitives::{arcs_of, integer_of};
 use crate::spot::{Opened, Scope, Spot};
-use asn1_types::Tag;
 use crate::tag::expect;
-use asn1_types::{Item, Node, Val, is_item};
+use asn1_types::{Item, Node, Tag, Val, is_item};
 use osi_base::Kind;
 use std::alloc::Global;
 

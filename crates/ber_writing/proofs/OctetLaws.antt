@@ -69,9 +69,10 @@ module _ (f : ℕ → Writer) (ps : List Part) (vs : MaybeValues) where
       ([], λ i. risen_parts f (same i) (here i) ps vs)
   front_from (suc d) from many total least e g =
       let one : total ≡ suc (d + many) = omega arith in
-      let h = front_from d (suc from) many (d + many) least refl (omega arith) in
-      (parts_contents (of_rank from f) ps vs ++ h.0,
-      ap (λ (k : ℕ). risen_parts f k from ps vs) one ∙ ap (λ (l : List ℕ). parts_contents (of_rank from f) ps vs ++ l) h.1 ∙ sym (append_assoc (parts_contents (of_rank from f) ps vs) h.0 (risen_parts f many least ps vs)))
+      let h = front_from d (suc from) many (d + many) least refl (omega arith) in (
+        parts_contents (of_rank from f) ps vs ++ h.0,
+        ap (λ (k : ℕ). risen_parts f k from ps vs) one ∙ ap (λ (l : List ℕ). parts_contents (of_rank from f) ps vs ++ l) h.1 ∙ sym (append_assoc (parts_contents (of_rank from f) ps vs) h.0 (risen_parts f many least ps vs)),
+      )
 
   -- what stands before the parts of this rank and those of higher ones
   risen_front : (total r : ℕ) → r ≤ total → (front : List ℕ) × (risen_parts f total 0 ps vs ≡ front ++ risen_parts f (total - r) r ps vs)

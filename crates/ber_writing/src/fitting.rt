@@ -112,7 +112,9 @@ fn any_fits(value: &Val) -> bool
 /// of characters of its kind, of a SEQUENCE or SET as many parts as the row has in the order of the
 /// notation, each there unless it may be absent and none with its default's value, of a SET OF items
 /// in rising order of their DER spellings (X.690 11.6), each of at most 4,294,967,295 octets, of a
-/// CHOICE an alternative that is there, and in an `Any` one whole value (X.690 8.1). No memory is taken. Nothing fits a row that is not there.
+/// CHOICE an alternative that is there, and in an `Any` one whole value (X.690 8.1). Nothing fits a
+/// row that is not there. No memory is taken; items of a SET OF with more than 256 octets are
+/// compared octet by octet, each octet found from the item's front.
 #[cycle(fitting)]
 pub fn fits(table: &TypeTable, of: TypeId, value: &Val) -> bool
     ensures { result ≡ fits table.now of.0 value.now }

@@ -306,7 +306,12 @@ fn choice_len(
 }
 
 #[cycle(measuring)]
-pub(crate) fn alternative_len(table: &TypeTable, of: TypeId, alternatives: &Parts, value: &Val) -> u64
+pub(crate) fn alternative_len(
+    table: &TypeTable,
+    of: TypeId,
+    alternatives: &Parts,
+    value: &Val,
+) -> u64
     requires below { AllByRecursion (λ m. m < of.0) (rows_of_parts alternatives.now) }
     ensures { result ≡ saturated (length (choice_written (λ which. alternative_written (writes table.now) (slice_get alternatives.now which)) value.now)) }
 {
@@ -332,7 +337,12 @@ fn sequence_len(table: &TypeTable, of: TypeId, parts: &[Part], tag: Tag, value: 
 }
 
 #[cycle(measuring)]
-pub(crate) fn parts_len(table: &TypeTable, of: TypeId, parts: &[Part], values: &[Option<Val>]) -> u64
+pub(crate) fn parts_len(
+    table: &TypeTable,
+    of: TypeId,
+    parts: &[Part],
+    values: &[Option<Val>],
+) -> u64
     requires below { AllByRecursion (λ m. m < of.0) (rows_of_parts parts.now) }
     ensures { result ≡ saturated (length (parts_contents (writes table.now) parts.now (parts_of values.now))) }
 {

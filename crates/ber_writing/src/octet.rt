@@ -192,9 +192,7 @@ fn bits_octet(tag: Tag, value: &Val, at: u64) -> u8
     ensures { result ≡ slice_index (definite false tag (bits_contents value.now)) at }
 {
     match &value.node {
-        Node::Bits { octets, unused } => {
-            segment_octet(tag, octets.as_slice(), *unused, at)
-        }
+        Node::Bits { octets, unused } => { segment_octet(tag, octets.as_slice(), *unused, at) }
         _ => null_octet(tag, at),
     }
 }
@@ -240,13 +238,7 @@ fn any_octet(tag: Option<Tag>, value: &Val, at: u64) -> u8
 
 /// The octet at a place of what is written of a value of this row, under another tag if one is given.
 #[cycle(picking)]
-pub(crate) fn octet_at(
-    table: &TypeTable,
-    of: TypeId,
-    tag: Option<Tag>,
-    value: &Val,
-    at: u64,
-) -> u8
+pub(crate) fn octet_at(table: &TypeTable, of: TypeId, tag: Option<Tag>, value: &Val, at: u64) -> u8
     requires { length (writes table.now of.0 tag value.now) ≤ most_spelled }
     ensures { result ≡ slice_index (writes table.now of.0 tag value.now) at }
 {
@@ -318,14 +310,7 @@ fn row_octet(
 }
 
 #[cycle(picking)]
-fn list_octet(
-    table: &TypeTable,
-    of: TypeId,
-    inner: TypeId,
-    tag: Tag,
-    value: &Val,
-    at: u64,
-) -> u8
+fn list_octet(table: &TypeTable, of: TypeId, inner: TypeId, tag: Tag, value: &Val, at: u64) -> u8
     requires below { inner.0 < of.0 }
     requires short { length (definite true tag (list_contents (writes table.now inner.0) value.now)) ≤ most_spelled }
     ensures { result ≡ slice_index (definite true tag (list_contents (writes table.now inner.0) value.now)) at }
@@ -456,13 +441,7 @@ fn sequence_octet(
 }
 
 #[cycle(picking)]
-fn parts_octet(
-    table: &TypeTable,
-    of: TypeId,
-    parts: &[Part],
-    values: &[Option<Val>],
-    at: u64,
-) -> u8
+fn parts_octet(table: &TypeTable, of: TypeId, parts: &[Part], values: &[Option<Val>], at: u64) -> u8
     requires below { AllByRecursion (λ m. m < of.0) (rows_of_parts parts.now) }
     requires short { length (parts_contents (writes table.now) parts.now (parts_of values.now)) ≤ most_spelled }
     ensures { result ≡ slice_index (parts_contents (writes table.now) parts.now (parts_of values.now)) at }
@@ -491,14 +470,7 @@ fn part_octet(table: &TypeTable, of: TypeId, part: &Part, value: &Option<Val>, a
 }
 
 #[cycle(picking)]
-fn set_octet(
-    table: &TypeTable,
-    of: TypeId,
-    parts: &[Part],
-    tag: Tag,
-    value: &Val,
-    at: u64,
-) -> u8
+fn set_octet(table: &TypeTable, of: TypeId, parts: &[Part], tag: Tag, value: &Val, at: u64) -> u8
     requires below { AllByRecursion (λ m. m < of.0) (rows_of_parts parts.now) }
     requires row { of.0 ≤ length table.now }
     requires short { length (definite true tag (sequence_contents (set_parts (writes table.now) parts.now) value.now)) ≤ most_spelled }
@@ -597,13 +569,7 @@ fn ranked_len(
     count
 }
 
-fn if_ranked_len(
-    table: &TypeTable,
-    of: TypeId,
-    part: &Part,
-    value: &Option<Val>,
-    rank: u64,
-) -> u64
+fn if_ranked_len(table: &TypeTable, of: TypeId, part: &Part, value: &Option<Val>, rank: u64) -> u64
     requires below { part.now.inner.0 < of.0 }
     requires row { of.0 ≤ length table.now }
     requires short { length (part_contents (of_rank rank (writes table.now)) part.now value.now) ≤ most_spelled }

@@ -71,14 +71,7 @@ pub(crate) fn less_in_memory(
 
 /// As `is_less`, of spellings of at most 256 octets.
 #[tactic(auto, unfolding(asn1_types::specs::Writing::written))]
-fn short_less(
-    table: &TypeTable,
-    of: TypeId,
-    a: &Val,
-    len: usize,
-    b: &Val,
-    other: usize,
-) -> bool
+fn short_less(table: &TypeTable, of: TypeId, a: &Val, len: usize, b: &Val, other: usize) -> bool
     requires len { len ≡ length (written table.now of.0 a.now) }
     requires other { other ≡ length (written table.now of.0 b.now) }
     requires room { len ≤ 256 }
@@ -94,14 +87,7 @@ fn short_less(
 
 /// As `is_less`, of spellings of any length.
 #[tactic(auto, unfolding(asn1_types::specs::Writing::written))]
-fn long_less(
-    table: &TypeTable,
-    of: TypeId,
-    a: &Val,
-    len: usize,
-    b: &Val,
-    other: usize,
-) -> bool
+fn long_less(table: &TypeTable, of: TypeId, a: &Val, len: usize, b: &Val, other: usize) -> bool
     requires len { len ≡ length (written table.now of.0 a.now) }
     requires other { other ≡ length (written table.now of.0 b.now) }
     requires short { len ≤ most_spelled }

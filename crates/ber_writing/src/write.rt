@@ -158,7 +158,13 @@ fn put_length(count: usize, room: &mut [u8], end: usize) -> usize
 }
 
 /// Identifier and length of contents of `count` octets.
-pub(crate) fn put_head(tag: Tag, constructed: bool, count: usize, room: &mut [u8], end: usize) -> usize
+pub(crate) fn put_head(
+    tag: Tag,
+    constructed: bool,
+    count: usize,
+    room: &mut [u8],
+    end: usize,
+) -> usize
     requires room { length (identifier tag.class constructed tag.number ++ length_octets count) ≤ end }
     requires end { end ≤ length room.old }
     ensures start { result + length (identifier tag.class constructed tag.number ++ length_octets count) ≡ end }

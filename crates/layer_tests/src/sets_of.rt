@@ -171,7 +171,13 @@ fn the_packed_syntax_has_them_rising(rt: HostRuntime) -> Result<(), Fail> {
     let read = packed_read(alloc, &table, TypeId(NUMBERS), &room)?;
     assert_eq!(rt; read.used, 8);
     let falling = packed_read(alloc, &table, TypeId(NUMBERS), &[0, 0, 0, 2, 1, 3, 1, 1]);
-    assert_eq!(rt; falling.err(), Some(PackedFault::NotSpelled { place: 6, kind: Kind::Content }));
+    assert_eq!(rt;
+        falling.err(),
+        Some(PackedFault::NotSpelled {
+            place: 6,
+            kind: Kind::Content
+        })
+    );
     Ok(())
 }
 

@@ -219,9 +219,11 @@ module _ (test : ℕ → Value → Bool) (write : ℕ → Writer) (inner : ℕ �
       let same = ok_is {A = List Value × Spot} (b.0.0 ∷ c.0.0, c.0.1) (vs, to) c.2 in
       let f = of_read (test n) (write n) limit s b.0.0 mid ((h n).found limit s b.0.0 mid are here read) in
       let g = set_items_found spell n (before ++ b.0.0 ∷ []) k limit mid c.0.0 c.0.1 (read_octets limit s mid _ _ _ f are) f.inside c.1 in
-      subst (λ (y : List Value × Spot). ItemsAs n limit s y.0 y.1 × (how_many (values_of y.0) ≡ suc k) × GoOn spell before (values_of y.0)) same
-      (read_then limit s mid c.0.1 (write n b.0.0) (values_written (write n) (values_of c.0.0)) (items b.0.0) (items_of_values (values_of c.0.0)) (test n b.0.0) (values_fit (test n) (values_of c.0.0)) f g.0, ap suc g.1,
-      (stands, up_after spell before b.0.0 (values_of c.0.0) g.2))
+      subst (λ (y : List Value × Spot). ItemsAs n limit s y.0 y.1 × (how_many (values_of y.0) ≡ suc k) × GoOn spell before (values_of y.0)) same (
+        read_then limit s mid c.0.1 (write n b.0.0) (values_written (write n) (values_of c.0.0)) (items b.0.0) (items_of_values (values_of c.0.0)) (test n b.0.0) (values_fit (test n) (values_of c.0.0)) f g.0,
+        ap suc g.1,
+        (stands, up_after spell before b.0.0 (values_of c.0.0) g.2),
+      )
 
   pub set_of_found : (spell : Value → List ℕ) (n : ℕ) → Found (λ v. list_fits (test n) v && set_rises any_length spell v) (list_written (write n)) (set_of_at spell (inner n))
   unfolding set_of_at

@@ -19,7 +19,7 @@ returns t c =
     let front = c.in_ok-front.ensures in
     let back = c.in_ok-back-2.ensures in
     let parts : merged (written c.args.table.now c.args.of.0) c.in_ok-front.front.items c.in_ok-back-2.back.items ≡ sorted (written c.args.table.now c.args.of.0) c.args.values.items =
-        (λ i. merged (written c.args.table.now c.args.of.0) (front i) (back i))
-        ∙ (λ i. merged (written c.args.table.now c.args.of.0) (sorted (written c.args.table.now c.args.of.0) (items i)) (sorted (written c.args.table.now c.args.of.0) (tail i)))
-        ∙ halves_sorted (written c.args.table.now c.args.of.0) (c.len-2.result / 2) c.args.values.items in
+    (λ i. merged (written c.args.table.now c.args.of.0) (front i) (back i))
+    ∙ (λ i. merged (written c.args.table.now c.args.of.0) (sorted (written c.args.table.now c.args.of.0) (items i)) (sorted (written c.args.table.now c.args.of.0) (tail i)))
+    ∙ halves_sorted (written c.args.table.now c.args.of.0) (c.len-2.result / 2) c.args.values.items in
     subst (λ (l : List Value). IfOk c.merge.result (λ r. r.items ≡ l)) parts c.merge.ensures
