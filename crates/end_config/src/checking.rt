@@ -4,7 +4,9 @@ ghost use Rattle.std.specs.Prelude.{◌≡◌, ◌≢◌, [], IfOk, Err, None, t
 ghost use Rattle.dialogue.specs.Config.{refused_if};
 ghost use Rattle.dialogue.specs.declared.config.ConfigRefusal.TheVariants as refusals;
 ghost use Rattle.end_rules.specs.Base.{is_bare, is_reliable};
-ghost use Rattle.end_config.specs.Refusing.{is_taken, is_bad_context, bad_context, is_too_long, has_connect, early_refusal, late_refusal, config_refusal};
+ghost use Rattle.end_config.specs.Refusing.{is_taken, is_bad_context, bad_context, is_too_long};
+ghost use Rattle.end_config.specs.Refusing.{has_connect, early_refusal, late_refusal};
+ghost use Rattle.end_config.specs.Refusing.{config_refusal};
 
 use crate::connecting::connect_octets;
 use dialogue::{Config, ConfigRefusal, Mode};

@@ -1,18 +1,19 @@
 -- Sets after alterations are those of the model.
-use Rattle.std.proofs.Common.{◌≡◌, refl, true, false, ◌∙◌, sym, ap, subst, ℕ, List, [], ◌∷◌, ◌++◌, map}
-use Rattle.std.specs.Prelude.{Bool, not, ◌&&◌, Option, Some, None, if◌then◌else◌, nat_eq, nat_lt}
+use Rattle.std.proofs.Common.{◌≡◌, refl, true, false, ◌∙◌, sym, ap, ℕ, List, [], ◌∷◌, ◌++◌, map}
+use Rattle.std.specs.Prelude.{Bool, ◌&&◌, Option, Some, None, if◌then◌else◌, nat_eq, nat_lt}
 use Rattle.osi_base.specs.declared.syntax.Pair.{Pair}
 use Rattle.osi_base.specs.declared.words.SetItem.{SetItem}
 use Rattle.osi_base.specs.declared.words.Proposal.{Proposal}
 use Rattle.osi_base.specs.declared.words.AddAnswer.{AddAnswer}
 use Rattle.osi_base.specs.declared.words.Answers.{Answers}
-use Rattle.end_rules.specs.Sets.{Alteration, put, without_context, pair_accepted, put_accepted, with_added, with_deleted, altered, fits_proposal, fit_proposals, fit_alteration}
-use Rattle.agreement.specs.Sets.{Item, Result, ContextSet, put as model_put, remove, changed, altered as model_altered}
-use Rattle.agreement.specs.Sets.Item.{Addition, Deletion}
-use Rattle.agreement.specs.Sets.Result.{Rejected, AcceptedAs, Accepted, Kept}
+use Rattle.end_rules.specs.Sets.{Alteration, put, without_context, pair_accepted, put_accepted}
+use Rattle.end_rules.specs.Sets.{with_added, with_deleted, altered, fits_proposal, fit_proposals}
+use Rattle.agreement.specs.Sets.{Item, Result, ContextSet, put as model_put, remove, changed}
+use Rattle.agreement.specs.Sets.{altered as model_altered}
+use Rattle.agreement.specs.Sets.Item.{Deletion}
+use Rattle.agreement.specs.Sets.Result.{Accepted, Kept}
 use Rattle.end_model.specs.Seen.{pair_seen, context_seen, set_seen, addition_seen, items_seen}
 use Rattle.end_model.specs.Words.{result_with, added_seen, deleted_seen, results_seen}
-use Rattle.end_model.proofs.Restarts.{if-map}
 
 pub put-seen : (k : ℕ) (pair : Pair) (set : List SetItem) → set_seen (put k pair set) ≡ model_put k (pair_seen pair) (set_seen set)
 put-seen k pair [] = refl

@@ -1,20 +1,27 @@
 -- Alter is an act.
-use Rattle.std.proofs.Common.{◌≡◌, refl, true, false, ◌∙◌, sym, ap, subst, arith, ℕ, suc, ◌≤◌, ◌<◌, ◌%◌, List, [], ◌∷◌, ◌++◌, length, map}
-use Rattle.std.specs.Prelude.{ℤ, Bool, not, ◌&&◌, ◌||◌, Option, Some, None, Ok, is_some, option_map, if◌then◌else◌, nat_eq, nat_le, nat_lt}
+use Rattle.std.proofs.Common.{◌≡◌, refl, true, false, ◌∙◌, sym, ap, subst, arith, ℕ, suc, ◌<◌, ◌%◌}
+use Rattle.std.proofs.Common.{List, [], ◌∷◌, ◌++◌, length, map}
+use Rattle.std.specs.Prelude.{ℤ, Bool, not, ◌&&◌, ◌||◌, Option, Some, None, Ok, is_some, option_map}
+use Rattle.std.specs.Prelude.{if◌then◌else◌, nat_eq, nat_le}
 use Rattle.std.specs.List.{list_any}
 use Rattle.std.proofs.lemmas.Bool.Decides.{nat_tests}
 use Rattle.osi_base.specs.declared.words.Proposal.{Proposal}
-use Rattle.osi_base.specs.declared.words.SetItem.{SetItem}
 use Rattle.osi_base.specs.declared.syntax.Pair.{Pair}
 use Rattle.dialogue.specs.declared.config.Mode.{Mode}
-use Rattle.dialogue.specs.declared.config.Mode.TheVariants.{Bare, Direct, Reliable}
+use Rattle.dialogue.specs.declared.config.Mode.TheVariants.{Direct, Reliable}
 use Rattle.dialogue.specs.declared.call.Call.TheVariants as the_calls
 use Rattle.dialogue.specs.declared.call.CallRefusal.{CallRefusal}
 use Rattle.dialogue.specs.declared.call.CallRefusal.TheVariants as refusals
 use Rattle.end_rules.specs.Base.{Base, is_reliable, most_alterations}
-use Rattle.end_rules.specs.State.{Body, OpenCall, Queued, Transfer, Encoded, Progress, Running, Ending, Suspended, is_free, is_empty, is_current, is_ending, is_suspended}
-use Rattle.end_rules.specs.Sets.{Alteration, pair_of, is_among, named_ids, proposed_ids, is_named_in, is_fixed, has_parity}
-use Rattle.end_rules.specs.Altering.{can_alter, used, context_of_encoding, context_of_current, has_double, is_bad, is_no_context, has_bad_transfers, addition_refusal, deletion_refusal, or_else, additions_refusal, deletions_refusal, is_set_full, alteration_refusal}
+use Rattle.end_rules.specs.State.{Body, OpenCall, Queued, Transfer, Encoded, Progress, Running}
+use Rattle.end_rules.specs.State.{Ending, Suspended, is_free, is_empty, is_current, is_ending}
+use Rattle.end_rules.specs.State.{is_suspended}
+use Rattle.end_rules.specs.Sets.{Alteration, pair_of, is_among, named_ids, proposed_ids}
+use Rattle.end_rules.specs.Sets.{is_named_in, is_fixed, has_parity}
+use Rattle.end_rules.specs.Altering.{can_alter, used, context_of_encoding, context_of_current}
+use Rattle.end_rules.specs.Altering.{has_double, is_bad, is_no_context, has_bad_transfers}
+use Rattle.end_rules.specs.Altering.{addition_refusal, deletion_refusal, or_else, additions_refusal}
+use Rattle.end_rules.specs.Altering.{deletions_refusal, is_set_full, alteration_refusal}
 use Rattle.end_rules.specs.TakesData.{alteration}
 use Rattle.agreement.specs.Sets as sets
 use Rattle.agreement.specs.Sets.Item.{Addition, Deletion}
@@ -22,7 +29,9 @@ use Rattle.agreement.specs.Messages as model
 use Rattle.agreement.specs.Acts as acts
 use Rattle.agreement.specs.State.Progress.{Ending as model_ending}
 use Rattle.agreement.specs.Calls.{contexts_of_calls, contexts_of_items}
-use Rattle.end_model.specs.Seen.{mode_seen, role_seen, pair_seen, set_seen, addition_seen, items_seen, invocation_seen, opens_seen_on, queued_seen, progress_seen, encoded_seen, transfer_seen, seen}
+use Rattle.end_model.specs.Seen.{mode_seen, role_seen, pair_seen, set_seen, addition_seen}
+use Rattle.end_model.specs.Seen.{items_seen, invocation_seen, opens_seen_on, queued_seen}
+use Rattle.end_model.specs.Seen.{progress_seen, encoded_seen, transfer_seen, seen}
 use Rattle.end_model.specs.Rows.{at}
 use Rattle.end_model.specs.Requests.{AlterActs}
 use Rattle.end_model.proofs.Marks.{alter-sent}

@@ -1,7 +1,9 @@
 -- An answer that fits the alteration that it answers, and whose results fit another as the model sees that, fits the other
 -- too, with the same results.
-use Rattle.std.proofs.Common.{◌≡◌, refl, true, false, ap, subst, arith, ℕ, zero, suc, ◌<◌, List, [], ◌∷◌, ◌++◌, map, length}
-use Rattle.std.specs.Prelude.{Bool, not, ◌&&◌, ◌||◌, Option, Some, None, is_some, if◌then◌else◌, nat_eq, slice_index_or}
+use Rattle.std.proofs.Common.{◌≡◌, refl, true, false, ap, subst, arith, ℕ, zero, suc, ◌<◌, List, []}
+use Rattle.std.proofs.Common.{◌∷◌, ◌++◌, map, length}
+use Rattle.std.specs.Prelude.{Bool, not, ◌||◌, Option, Some, None, is_some, if◌then◌else◌, nat_eq}
+use Rattle.std.specs.Prelude.{slice_index_or}
 use Rattle.std.proofs.lemmas.Bool.Decides.{nat_tests}
 use Rattle.std.specs.List.{list_any}
 use Rattle.osi_base.specs.Syntax.{name_of}
@@ -10,10 +12,12 @@ use Rattle.osi_base.specs.declared.syntax.Pair.{Pair}
 use Rattle.osi_base.specs.declared.words.Proposal.{Proposal}
 use Rattle.osi_base.specs.declared.words.AddAnswer.{AddAnswer}
 use Rattle.osi_base.specs.declared.words.Answers.{Answers}
-use Rattle.end_rules.specs.Sets.{Alteration, same_name, syntax_named, accepted_pair, named_syntax, pair_accepted, is_offered, fits_proposal, fit_proposals, fit_alteration}
-use Rattle.agreement.specs.Sets.{Item, Result, Pair as ModelPair, FitsItem, Fits}
-use Rattle.agreement.specs.Sets.Item.{Addition, Deletion}
-use Rattle.agreement.specs.Sets.Result.{Rejected, AcceptedAs, Accepted, Kept}
+use Rattle.end_rules.specs.Sets.{Alteration, same_name, syntax_named, accepted_pair, named_syntax}
+use Rattle.end_rules.specs.Sets.{pair_accepted, is_offered, fits_proposal, fit_proposals}
+use Rattle.end_rules.specs.Sets.{fit_alteration}
+use Rattle.agreement.specs.Sets.{Result, Pair as ModelPair, FitsItem, Fits}
+use Rattle.agreement.specs.Sets.Item.{Deletion}
+use Rattle.agreement.specs.Sets.Result.{AcceptedAs, Accepted, Kept}
 use Rattle.end_model.specs.Seen.{pair_seen, addition_seen, items_seen}
 use Rattle.end_model.specs.Words.{result_with, added_seen, deleted_seen, results_seen}
 use Rattle.end_model.proofs.Fitting.{same-itself, named-back, and-left, and-right}

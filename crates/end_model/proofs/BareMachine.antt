@@ -1,30 +1,26 @@
 -- Two ends of bare mode and their model: each step of the ends is one, or two, of the model.
-use Rattle.std.proofs.Common.{◌≡◌, refl, true, false, ◌∙◌, sym, ap, subst, ℕ, List, [], ◌∷◌, ◌++◌, ◌⊎◌, inl, inr}
-use Rattle.std.specs.Prelude.{ℤ, Bool, not, ◌&&◌, Option, Some, None, Ok, if◌then◌else◌}
-use Rattle.osi_base.specs.declared.session_word.SessionWord.TheVariants as units
-use Rattle.asn1_types.specs.declared.value.Val.{Val}
+use Rattle.std.proofs.Common.{◌≡◌, refl, true, false, ◌∙◌, sym, ap, subst, List, [], ◌∷◌, ◌++◌, ◌⊎◌}
+use Rattle.std.proofs.Common.{inl}
+use Rattle.std.specs.Prelude.{ℤ, Bool, not, Option, Ok}
 use Rattle.stub_tables.specs.declared.tables.Tables.{Tables}
 use Rattle.stub_tables.specs.declared.apdu.Apdu.{Apdu}
 use Rattle.dialogue.specs.declared.config.Config.{Config}
 use Rattle.dialogue.specs.declared.config.Mode.TheVariants.{Bare}
-use Rattle.dialogue.specs.declared.config.Phase.{Phase}
 use Rattle.dialogue.specs.declared.config.Phase.TheVariants.{Up, Over}
 use Rattle.dialogue.specs.declared.call.Call.{Call}
 use Rattle.dialogue.specs.declared.call.Call.TheVariants as the_calls
-use Rattle.dialogue.specs.declared.indication.Indication.{Indication}
-use Rattle.end_rules.specs.Base.{Base, Spellings, Fault}
-use Rattle.end_rules.specs.Messages.{Message, Session, Word, unit_of}
-use Rattle.end_rules.specs.State.{Body, is_up, cut_all, new_body}
-use Rattle.end_rules.specs.Faults.{or_fault, fault_if, session_fault}
-use Rattle.end_rules.specs.InPlace.{is_in_place}
+use Rattle.end_rules.specs.Base.{Base, Spellings}
+use Rattle.end_rules.specs.Messages.{Message}
+use Rattle.end_rules.specs.State.{Body}
 use Rattle.end_rules.specs.Calling.{can_call, is_of_bare_mode, is_phase_for}
 use Rattle.end_rules.specs.Requesting.{after_call, after_sent, due_of}
-use Rattle.end_rules.specs.Reacting.{Reaction, Passes, Takes, Fails, react, react_bare, on_word, fault_above, word_fault, after_word, answers_to_word, shown_of_word}
-use Rattle.end_rules.specs.History.{after_broke}
 use Rattle.agreement.specs.Sets.{Role, ContextSet, other, is_initiator}
 use Rattle.agreement.specs.Sets.Role.{Initiator, Responder}
 use Rattle.agreement.specs.Messages as model
-use Rattle.agreement.specs.Messages.Act.{Says, Queues, Drops, Connects, Recovers, Alters, Marks, Gives, Pleads, Restarts, Starts, Encodes, Sends, Ends, Interrupts, Discards, Resumes, Releases, Aborts, Withdraws, Fails as model_fails}
+use Rattle.agreement.specs.Messages.Act.{Says, Queues, Drops, Connects, Recovers, Alters, Marks}
+use Rattle.agreement.specs.Messages.Act.{Gives, Pleads, Restarts, Starts, Encodes, Sends, Ends}
+use Rattle.agreement.specs.Messages.Act.{Interrupts, Discards, Resumes, Releases, Aborts, Withdraws}
+use Rattle.agreement.specs.Messages.Act.{Fails as model_fails}
 use Rattle.agreement.specs.Laws.{handed_by}
 use Rattle.agreement.specs.Messages.Apdu.{Invoke, Outcome, Reject}
 use Rattle.agreement.specs.Messages.Message.{Data}
@@ -32,27 +28,24 @@ use Rattle.agreement.specs.Messages.Choice.{Nothing}
 use Rattle.agreement.specs.State as states
 use Rattle.agreement.specs.State.Phase.{Up as model_up, Over as model_over}
 use Rattle.agreement.specs.State.Awaited.{NoAnswer as model_no_answer}
-use Rattle.agreement.specs.Calls.{is_open, may_answer}
 use Rattle.agreement.specs.Acts.{MayAct, acted, sent_by}
-use Rattle.agreement.specs.Takings.{MayTake, taken, is_purged as model_purged, broken}
-use Rattle.agreement.specs.Worlds.{Sending, Step, World, IsRun, ComesNext, if_same, after, state_of, sent_in, sendings, shared_at, taken_off, without_first, flight_to}
-use Rattle.agreement.specs.Worlds.Step.{Acts, Takes as model_takes, Passes as model_passes}
-use Rattle.agreement.specs.Worlds.Moment.{By, Break}
-use Rattle.agreement.proofs.Interface.{acts, takes, passes, breaks, laws}
-use Rattle.end_model.specs.Seen.{Free, role_seen, phase_seen, awaited_seen, item_seen, apdu_seen, calls_seen, seen, setup_seen}
+use Rattle.agreement.specs.Worlds.{Sending, Step, World, IsRun, if_same, after, state_of, sent_in}
+use Rattle.agreement.specs.Worlds.{sendings, shared_at, taken_off, flight_to}
+use Rattle.agreement.specs.Worlds.Step.{Acts}
+use Rattle.agreement.specs.Worlds.Moment.{By}
+use Rattle.agreement.proofs.Interface.{acts}
+use Rattle.end_model.specs.Seen.{Free, role_seen, phase_seen, apdu_seen, seen}
 use Rattle.end_model.specs.Rows.{at}
 use Rattle.end_model.specs.Opens.{IsProper}
-use Rattle.end_model.specs.Words.{data_word, IsOurs, AreOurs}
-use Rattle.end_model.specs.Acting.{HandsIn, IsSound, HasBareSet, ReadsBack}
+use Rattle.end_model.specs.Words.{IsOurs, AreOurs}
+use Rattle.end_model.specs.Acting.{HandsIn, IsSound, ReadsBack}
 use Rattle.end_model.specs.Requests.{sent_all, after_called}
-use Rattle.end_model.specs.Heard.{IsExpected, MayThen, then_acted, sent_then, HeardAs}
-use Rattle.end_model.specs.Pairs.{Common, base_at, config_at, Two, two_new, body_at, coming_to, stepped, both_broke, Reached, begins, calls, takes as reached_takes, passes as reached_passes, fails, breaks as reached_breaks, setup_of, AreComing, SideOf, ModelOf, bare_pair, WritesAll, BareModelled, BareTakes}
+use Rattle.end_model.specs.Pairs.{Common, base_at, Two, body_at, coming_to, stepped, setup_of}
+use Rattle.end_model.specs.Pairs.{AreComing, SideOf, ModelOf, bare_pair, WritesAll}
 use Rattle.end_model.proofs.Facts.{is-up, up-there}
 use Rattle.end_model.proofs.Ladder.{called}
-use Rattle.end_model.proofs.Breaking.{broken-seen}
-use Rattle.end_model.proofs.HandingRows.{invoke-in, same-sets}
+use Rattle.end_model.proofs.HandingRows.{invoke-in}
 use Rattle.end_model.proofs.OutcomeRows.{answer-in, refuse-in}
-use Rattle.end_model.proofs.HeardRows.{bare-heard}
 
 -- ---- roles
 

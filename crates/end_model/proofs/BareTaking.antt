@@ -1,23 +1,21 @@
 -- Two ends of bare mode: what comes next is taken, or passed over by an end that is over; breaks.
-use Rattle.std.proofs.Common.{◌≡◌, refl, true, false, ◌∙◌, sym, ap, subst, ℕ, List, [], ◌∷◌, ◌++◌, ◌⊎◌, inl, inr}
-use Rattle.std.specs.Prelude.{ℤ, Bool, not, ◌&&◌, Option, Some, None, Ok, if◌then◌else◌}
+use Rattle.std.proofs.Common.{◌≡◌, refl, true, false, ◌∙◌, sym, ap, subst, List, [], ◌∷◌, ◌++◌, ◌⊎◌}
+use Rattle.std.proofs.Common.{inl, inr}
+use Rattle.std.specs.Prelude.{not, Option, Some, None, if◌then◌else◌}
 use Rattle.osi_base.specs.declared.session_word.SessionWord.TheVariants as units
 use Rattle.stub_tables.specs.declared.tables.Tables.{Tables}
 use Rattle.dialogue.specs.declared.config.Config.{Config}
 use Rattle.dialogue.specs.declared.config.Mode.TheVariants.{Bare}
-use Rattle.dialogue.specs.declared.config.Phase.{Phase}
 use Rattle.dialogue.specs.declared.config.Phase.TheVariants.{Up, Over}
-use Rattle.dialogue.specs.declared.call.Call.{Call}
 use Rattle.dialogue.specs.declared.indication.Indication.{Indication}
 use Rattle.end_rules.specs.Base.{Base, Spellings, Fault, Item}
 use Rattle.end_rules.specs.Messages.{Message, Session, Word, unit_of}
-use Rattle.end_rules.specs.State.{Body, Link, passes_over, Awaited, NoAnswer, Unused, new_body}
+use Rattle.end_rules.specs.State.{Body, Link, passes_over, NoAnswer, Unused, new_body}
 use Rattle.end_rules.specs.Purging.{is_purged}
 use Rattle.end_rules.specs.Faults.{or_fault, fault_if, session_fault}
 use Rattle.end_rules.specs.InPlace.{is_in_place}
-use Rattle.end_rules.specs.Calling.{can_call}
-use Rattle.end_rules.specs.Requesting.{after_call, due_of}
-use Rattle.end_rules.specs.Reacting.{Reaction, Passes, Takes, Fails, react, on_word, fault_above, word_fault, after_word, answers_to_word, shown_of_word}
+use Rattle.end_rules.specs.Reacting.{Passes, Takes, Fails, react, on_word, fault_above, word_fault}
+use Rattle.end_rules.specs.Reacting.{after_word, answers_to_word, shown_of_word}
 use Rattle.end_rules.specs.History.{after_broke, broken_phase}
 use Rattle.agreement.specs.Sets.{Role, other}
 use Rattle.agreement.specs.Sets.Role.{Initiator, Responder}
@@ -31,20 +29,27 @@ use Rattle.agreement.specs.State.Phase.{Up as model_up, Over as model_over}
 use Rattle.agreement.specs.State.Awaited.{NoAnswer as model_no_answer}
 use Rattle.agreement.specs.Calls.{is_open, may_answer}
 use Rattle.agreement.specs.Acts.{MayAct, acted, sent_by}
-use Rattle.agreement.specs.Takings.{MayTake, taken, is_purged as model_purged, broken, broken_phase as model_broken_phase}
-use Rattle.agreement.specs.Worlds.{Sending, World, IsRun, ComesNext, state_of, sendings, shared_at, without_first, flight_to}
+use Rattle.agreement.specs.Takings.{MayTake, taken, is_purged as model_purged, broken}
+use Rattle.agreement.specs.Takings.{broken_phase as model_broken_phase}
+use Rattle.agreement.specs.Worlds.{World, IsRun, ComesNext, state_of, sendings, shared_at}
+use Rattle.agreement.specs.Worlds.{without_first, flight_to}
 use Rattle.agreement.specs.Worlds.Step.{Acts, Takes as model_takes, Passes as model_passes}
 use Rattle.agreement.specs.Worlds.Moment.{By, Break}
 use Rattle.agreement.proofs.Interface.{acts, takes, passes, laws}
-use Rattle.end_model.specs.Seen.{Free, phase_seen, awaited_seen, item_seen, apdu_seen, calls_seen, seen}
-use Rattle.end_model.specs.Words.{data_word, IsOurs, AreOurs}
+use Rattle.end_model.specs.Seen.{Free, phase_seen, awaited_seen, item_seen, seen}
+use Rattle.end_model.specs.Words.{data_word, AreOurs}
 use Rattle.end_model.specs.Acting.{IsSound, ReadsBack}
-use Rattle.end_model.specs.Heard.{IsExpected, MayThen, then_acted, sent_then, HeardAs}
-use Rattle.end_model.specs.Pairs.{Common, base_at, Two, two_new, body_at, coming_to, stepped, both_broke, Reached, begins, calls, takes as reached_takes, passes as reached_passes, fails, breaks, setup_of, AreComing, SideOf, ModelOf, bare_pair, WritesAll, BareModelled, BareTakes}
+use Rattle.end_model.specs.Heard.{IsExpected, MayThen, then_acted, sent_then}
+use Rattle.end_model.specs.Pairs.{Common, base_at, Two, body_at, coming_to, stepped, Reached}
+use Rattle.end_model.specs.Pairs.{begins, calls, takes as reached_takes, passes as reached_passes}
+use Rattle.end_model.specs.Pairs.{fails, breaks, setup_of, AreComing, SideOf, ModelOf, bare_pair}
+use Rattle.end_model.specs.Pairs.{WritesAll, BareTakes}
 use Rattle.end_model.proofs.Breaking.{broken-seen}
 use Rattle.end_model.proofs.HandingRows.{same-sets}
 use Rattle.end_model.proofs.HeardRows.{bare-heard}
-use Rattle.end_model.proofs.BareMachine.{role-back, ours-coming, coming-append, NextOf, next-of, state-own, state-other, flight-own, flight-other, Sides, as-sides, from-sides, acting, called-so}
+use Rattle.end_model.proofs.BareMachine.{role-back, ours-coming, coming-append, next-of, state-own}
+use Rattle.end_model.proofs.BareMachine.{state-other, flight-own, flight-other, Sides, as-sides}
+use Rattle.end_model.proofs.BareMachine.{from-sides, called-so}
 
 -- ---- what the model gives
 

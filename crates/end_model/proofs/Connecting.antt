@@ -1,6 +1,6 @@
 -- The transport connection of an initiator, and own aborts, as acts of the model.
 use Rattle.std.proofs.Common.{◌≡◌, refl, true, false, ◌∙◌, sym, ap, subst, ℕ, List, [], ◌∷◌}
-use Rattle.std.specs.Prelude.{ℤ, Bool, not, ◌&&◌, Option, Some, None, Ok, if◌then◌else◌}
+use Rattle.std.specs.Prelude.{ℤ, Bool, not, ◌&&◌, Option, None, Ok, if◌then◌else◌}
 use Rattle.osi_base.specs.declared.words.Proposal.{Proposal}
 use Rattle.dialogue.specs.declared.config.Mode.{Mode}
 use Rattle.dialogue.specs.declared.config.Mode.TheVariants.{Bare, Direct, Reliable}
@@ -8,19 +8,20 @@ use Rattle.dialogue.specs.declared.config.Phase.{Phase}
 use Rattle.dialogue.specs.declared.config.Phase.TheVariants as phases
 use Rattle.dialogue.specs.declared.call.Call.TheVariants as the_calls
 use Rattle.end_rules.specs.Base.{Base, Fault}
-use Rattle.end_rules.specs.State.{Body, Stage, Unused, Asked, Joined, Carrying, is_asked, is_carrying}
+use Rattle.end_rules.specs.State.{Body, Stage, Unused, Asked, Joined, Carrying, is_asked}
+use Rattle.end_rules.specs.State.{is_carrying}
 use Rattle.end_rules.specs.Messages.{Message, ConnectionConfirm, DisconnectRequest}
 use Rattle.end_rules.specs.Calling.{can_call, may_abort_in}
 use Rattle.end_rules.specs.Faults.{fault_if, transport_fault, over}
 use Rattle.end_rules.specs.Requesting.{due_of}
 use Rattle.end_rules.specs.Writing.{connect_message, is_recovering, user_abort}
-use Rattle.end_rules.specs.TakesTransport.{is_size, may_respond, transport_unit_fault, after_transport, answers_to_transport}
+use Rattle.end_rules.specs.TakesTransport.{is_size, may_respond, transport_unit_fault}
+use Rattle.end_rules.specs.TakesTransport.{after_transport, answers_to_transport}
 use Rattle.agreement.specs.Sets.{Role}
-use Rattle.agreement.specs.Sets.Role.{Initiator, Responder}
-use Rattle.agreement.specs.Messages as model
+use Rattle.agreement.specs.Sets.Role.{Initiator}
 use Rattle.agreement.specs.Messages.Act.{Connects, Recovers, Fails, Aborts, Withdraws}
-use Rattle.agreement.specs.Messages.Message.{Connect as model_connect, Recover as model_recover, UserAbort as model_user_abort}
-use Rattle.agreement.specs.State as states
+use Rattle.agreement.specs.Messages.Message.{Connect as model_connect, Recover as model_recover}
+use Rattle.agreement.specs.Messages.Message.{UserAbort as model_user_abort}
 use Rattle.agreement.specs.State.Phase.{Idle as model_idle, Broken as model_broken}
 use Rattle.agreement.specs.Acts.{MayAbortIn, MayWithdrawIn, IsNotBare}
 use Rattle.end_model.specs.Seen.{Free, mode_seen, role_seen, phase_seen, seen}

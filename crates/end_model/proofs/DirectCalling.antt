@@ -1,6 +1,7 @@
 -- Two ends of direct mode: accepted calls of an end whose association stands.
-use Rattle.std.proofs.Common.{◌≡◌, refl, true, false, ◌∙◌, sym, ap, subst, ℕ, List, [], ◌∷◌, ◌++◌, ◌⊎◌, inl, inr}
-use Rattle.std.specs.Prelude.{ℤ, Bool, not, Option, Some, None, Ok, if◌then◌else◌}
+use Rattle.std.proofs.Common.{◌≡◌, refl, true, false, ◌∙◌, sym, ap, subst, ℕ, List, [], ◌∷◌, ◌++◌}
+use Rattle.std.proofs.Common.{◌⊎◌, inl, inr}
+use Rattle.std.specs.Prelude.{ℤ, Option, Some, None, Ok, if◌then◌else◌}
 use Rattle.osi_base.specs.declared.words.Proposal.{Proposal}
 use Rattle.osi_base.specs.declared.words.SetItem.{SetItem}
 use Rattle.asn1_types.specs.declared.value.Val.{Val}
@@ -10,24 +11,26 @@ use Rattle.stub_tables.specs.declared.tables.Tables.{Tables}
 use Rattle.stub_tables.specs.Lookup.{operation_at, error_at}
 use Rattle.dialogue.specs.declared.config.Config.{Config}
 use Rattle.dialogue.specs.declared.config.Mode.TheVariants.{Direct}
-use Rattle.dialogue.specs.declared.config.Phase.{Phase}
 use Rattle.dialogue.specs.declared.config.Phase.TheVariants.{Up, Releasing, Over}
 use Rattle.dialogue.specs.declared.call.Call.{Call}
 use Rattle.dialogue.specs.declared.call.Call.TheVariants as the_calls
 use Rattle.end_rules.specs.Base.{Base, Spellings}
-use Rattle.end_rules.specs.Messages.{Message, Transport, Session, OfAssociation, OfData, OfMarks, OfActivities}
+use Rattle.end_rules.specs.Messages.{Message, Transport, Session, OfAssociation, OfData, OfMarks}
+use Rattle.end_rules.specs.Messages.{OfActivities}
 use Rattle.end_rules.specs.World.{Shared}
-use Rattle.end_rules.specs.State.{Body, Link, Carrying, OpenCall, opened_with, is_carrying, is_broken}
+use Rattle.end_rules.specs.State.{Body, Link, Carrying, OpenCall, opened_with, is_carrying}
+use Rattle.end_rules.specs.State.{is_broken}
 use Rattle.end_rules.specs.Writing.{user_abort}
 use Rattle.end_rules.specs.Faults.{over}
-use Rattle.end_rules.specs.Calling.{can_call, can_by_rows, is_idle}
-use Rattle.end_rules.specs.Requesting.{after_call, after_invoke, after_outcome, after_accepted, result_in, error_for, due_of}
+use Rattle.end_rules.specs.Calling.{can_call, is_idle}
+use Rattle.end_rules.specs.Requesting.{after_call, after_invoke, after_outcome, result_in}
+use Rattle.end_rules.specs.Requesting.{error_for, due_of}
 use Rattle.agreement.specs.Sets.{Role, named, AreDistinct}
 use Rattle.agreement.specs.Sets.Role.{Initiator, Responder}
 use Rattle.agreement.specs.Messages as model
 use Rattle.agreement.specs.Messages.Act.{Aborts as model_aborts}
 use Rattle.agreement.specs.State as states
-use Rattle.agreement.specs.Worlds.{World, state_of}
+use Rattle.agreement.specs.Worlds.{World}
 use Rattle.agreement.specs.Worlds.Step.{Acts}
 use Rattle.agreement.specs.Worlds.Moment.{By}
 use Rattle.agreement.proofs.Interface.{laws}

@@ -1,5 +1,6 @@
 -- Two ends of direct mode: the run that goes with them, that neither aborts of itself, and that values are taken as sent.
-use Rattle.std.proofs.Common.{◌≡◌, refl, true, false, ◌∙◌, sym, ap, subst, List, [], ◌∷◌, ◌++◌, ◌⊎◌, inl, inr}
+use Rattle.std.proofs.Common.{◌≡◌, refl, true, false, ◌∙◌, sym, ap, subst, List, [], ◌∷◌, ◌⊎◌, inl}
+use Rattle.std.proofs.Common.{inr}
 use Rattle.std.specs.Prelude.{ℕ, Bool, not, ◌&&◌, Option, Some, None, option_map, if◌then◌else◌}
 use Rattle.osi_base.specs.Syntax.{name_of}
 use Rattle.osi_base.specs.declared.syntax.Pair.{Pair}
@@ -11,11 +12,13 @@ use Rattle.dialogue.specs.declared.config.Config.{Config}
 use Rattle.dialogue.specs.declared.config.Phase.TheVariants.{Over}
 use Rattle.dialogue.specs.declared.indication.Indication.{Indication}
 use Rattle.end_rules.specs.Base.{Base, Spellings, Item}
-use Rattle.end_rules.specs.Messages.{Message, TransportUnit, Transport, Session, Word, AssociationWord, OfAssociation, OfData, Values, Value, unit_of}
-use Rattle.end_rules.specs.State.{Body, Awaited, NoAnswer, RestartOf, InterruptOf, DiscardOf, ReleaseOf, is_up, is_restarting, holds_turn}
+use Rattle.end_rules.specs.Messages.{Message, TransportUnit, Transport, Session, Word}
+use Rattle.end_rules.specs.Messages.{AssociationWord, OfAssociation, OfData, Values, Value, unit_of}
+use Rattle.end_rules.specs.State.{Body, Awaited, NoAnswer, RestartOf, InterruptOf, DiscardOf}
+use Rattle.end_rules.specs.State.{ReleaseOf, is_up, is_restarting, holds_turn}
 use Rattle.end_rules.specs.Sets.{pair_of}
 use Rattle.end_rules.specs.Purging.{is_purged}
-use Rattle.end_rules.specs.Reacting.{Reaction, Passes, Takes, react, on_word, word_fault}
+use Rattle.end_rules.specs.Reacting.{Passes, Takes, react, on_word, word_fault}
 use Rattle.end_rules.specs.World.{Shared}
 use Rattle.agreement.specs.Sets.{Role, is_initiator, lookup, Pair as ModelPair}
 use Rattle.agreement.specs.Sets.Role.{Initiator, Responder}
@@ -31,9 +34,15 @@ use Rattle.agreement.proofs.Interface.{takes, laws}
 use Rattle.end_model.specs.Seen.{Free, awaited_seen, pair_seen, set_seen, item_seen, seen}
 use Rattle.end_model.specs.Words.{value_of_item}
 use Rattle.end_model.specs.Acting.{ReadsBack}
-use Rattle.end_model.specs.Pairs.{Common, base_at, Two, body_at, coming_to, Reached, begins, calls, takes as reached_takes, passes, fails, breaks, setup_of, WritesAll}
-use Rattle.end_model.specs.DirectPairs.{direct_pair, ProposesRightly, RunOf, DirectModelled, DirectTakes, DirectOneHolder}
-use Rattle.end_model.specs.Sharing.{SetsSent, sets_to, none_sent, Shares, begins as shares_begin, calls as shares_call, takes as shares_take, passes as shares_pass, fails as shares_fail, breaks as shares_break, DirectAsSent}
+use Rattle.end_model.specs.Pairs.{Common, base_at, Two, body_at, coming_to, Reached, begins, calls}
+use Rattle.end_model.specs.Pairs.{takes as reached_takes, passes, fails, breaks, setup_of}
+use Rattle.end_model.specs.Pairs.{WritesAll}
+use Rattle.end_model.specs.DirectPairs.{direct_pair, ProposesRightly, DirectModelled, DirectTakes}
+use Rattle.end_model.specs.DirectPairs.{DirectOneHolder}
+use Rattle.end_model.specs.Sharing.{SetsSent, sets_to, none_sent, Shares, begins as shares_begin}
+use Rattle.end_model.specs.Sharing.{calls as shares_call, takes as shares_take}
+use Rattle.end_model.specs.Sharing.{passes as shares_pass, fails as shares_fail}
+use Rattle.end_model.specs.Sharing.{breaks as shares_break, DirectAsSent}
 use Rattle.end_model.proofs.Facts.{up-seen}
 use Rattle.end_model.proofs.Fitting.{and-left as left, and-right as right}
 use Rattle.end_model.proofs.Held.{lookup-seen}
@@ -44,7 +53,8 @@ use Rattle.end_model.proofs.DirectWords.{OwnValues, AreOwn, Live, Stands, IsOver
 use Rattle.end_model.proofs.DirectTaking as taking
 use Rattle.end_model.proofs.DirectTaking.{reacts-so}
 use Rattle.end_model.proofs.DirectMachine as machine
-use Rattle.end_model.proofs.DirectMachine.{Fresh, Calling, Confirming, Connecting, Accepting, Refusing, Deaf, Gone, Standing}
+use Rattle.end_model.proofs.DirectMachine.{Fresh, Calling, Confirming, Connecting, Accepting}
+use Rattle.end_model.proofs.DirectMachine.{Refusing, Deaf, Gone, Standing}
 
 -- ---- what is on its way has its sets
 

@@ -1,6 +1,7 @@
 -- Two ends of direct mode, from the transport connection to the end of the association, with the run that goes with them.
-use Rattle.std.proofs.Common.{◌≡◌, refl, true, false, ◌∙◌, sym, ap, subst, List, [], ◌∷◌, ◌++◌, ◌⊎◌, inl, inr}
-use Rattle.std.specs.Prelude.{ℤ, Bool, not, ◌&&◌, Option, Some, Ok, if◌then◌else◌}
+use Rattle.std.proofs.Common.{◌≡◌, refl, true, false, ◌∙◌, sym, ap, subst, List, [], ◌∷◌, ◌++◌, ◌⊎◌}
+use Rattle.std.proofs.Common.{inl, inr}
+use Rattle.std.specs.Prelude.{ℤ, Bool, Option, Some, Ok, if◌then◌else◌}
 use Rattle.osi_base.specs.declared.words.Proposal.{Proposal}
 use Rattle.osi_base.specs.declared.words.SetItem.{SetItem}
 use Rattle.stub_tables.specs.declared.tables.Tables.{Tables}
@@ -13,12 +14,13 @@ use Rattle.dialogue.specs.declared.call.Call.TheVariants as the_calls
 use Rattle.dialogue.specs.declared.indication.Indication.{Indication}
 use Rattle.end_rules.specs.Base.{Base, Spellings, Fault}
 use Rattle.end_rules.specs.Messages.{ConnectionConfirm, Message, Transport, Session, Word}
-use Rattle.end_rules.specs.State.{Body, Link, Stage, Unused, Asked, Joined, Carrying, Transfer, Suspended, is_carrying, passes_over, on_transfer, NoAnswer, cut_all, new_body}
-use Rattle.end_rules.specs.Writing.{proposals, user_abort}
+use Rattle.end_rules.specs.State.{Body, Stage, Unused, Asked, Joined, Carrying, Transfer, Suspended}
+use Rattle.end_rules.specs.State.{is_carrying, passes_over, on_transfer, NoAnswer, cut_all}
+use Rattle.end_rules.specs.Writing.{user_abort}
 use Rattle.end_rules.specs.Faults.{over}
 use Rattle.end_rules.specs.Calling.{can_call, is_phase_for}
 use Rattle.end_rules.specs.Requesting.{due_of}
-use Rattle.end_rules.specs.Reacting.{Reaction, Passes, Takes, Fails, react, react_alive}
+use Rattle.end_rules.specs.Reacting.{Passes, Takes, Fails, react, react_alive}
 use Rattle.end_rules.specs.History.{after_broke, broken_phase}
 use Rattle.end_rules.specs.World.{Shared, shared_first}
 use Rattle.agreement.specs.Sets.{Role, is_initiator}
@@ -29,21 +31,25 @@ use Rattle.agreement.specs.Messages.Mode.{Direct as model_direct}
 use Rattle.agreement.specs.State.Phase.{Over as model_over}
 use Rattle.agreement.specs.Acts.{MayWithdrawIn}
 use Rattle.agreement.specs.Takings.{broken_phase as model_broken_phase}
-use Rattle.agreement.specs.Worlds.{World, IsRun}
+use Rattle.agreement.specs.Worlds.{World}
 use Rattle.agreement.specs.Worlds.Step.{Acts, Passes as model_passes}
 use Rattle.agreement.specs.Worlds.Moment.{By, Break}
 use Rattle.end_model.specs.Seen.{Free, role_seen, phase_seen, seen}
 use Rattle.end_model.specs.Acting.{ActsAs, IsSound, ReadsBack}
 use Rattle.end_model.specs.Requests.{sent_all, after_called}
-use Rattle.end_model.specs.Pairs.{Common, Two, two_new, body_at, coming_to, stepped, both_broke, WritesAll}
-use Rattle.end_model.specs.Steps.{EndOf, BreaksSo}
+use Rattle.end_model.specs.Pairs.{Common, Two, two_new, body_at, coming_to, stepped, both_broke}
+use Rattle.end_model.specs.Pairs.{WritesAll}
+use Rattle.end_model.specs.Steps.{BreaksSo}
 use Rattle.end_model.specs.DirectPairs.{direct_pair, ProposesRightly}
-use Rattle.end_model.specs.Sharing.{side_of, shared_all_sent, shared_all_answered, SetsSent, sets_to, sets_stepped, before, none_sent, Shares, begins, calls, takes, passes, fails, breaks}
+use Rattle.end_model.specs.Sharing.{side_of, shared_all_sent, shared_all_answered, SetsSent}
+use Rattle.end_model.specs.Sharing.{sets_to, sets_stepped, before, none_sent, Shares, begins, calls}
+use Rattle.end_model.specs.Sharing.{takes, passes, fails, breaks}
 use Rattle.end_model.proofs.Ladder.{called}
 use Rattle.end_model.proofs.Requests.{opens-unseen}
 use Rattle.end_model.proofs.Connecting.{connections-act, withdraw-phase}
 use Rattle.end_model.proofs.Machine.{append-nil, passes-kept}
-use Rattle.end_model.proofs.Joint.{AreDirect, acts-joint, passes-joint, units-joint, unseen-joint, breaks-joint}
+use Rattle.end_model.proofs.Joint.{AreDirect, acts-joint, passes-joint, units-joint, unseen-joint}
+use Rattle.end_model.proofs.Joint.{breaks-joint}
 use Rattle.end_model.proofs.DirectWords.{AreOwn, own-append, Live, Side, Stands, IsOver}
 use Rattle.end_model.proofs.DirectTaking as taking
 use Rattle.end_model.proofs.DirectTaking.{Passed, Took}

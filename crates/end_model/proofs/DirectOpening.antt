@@ -1,5 +1,6 @@
 -- Two ends of direct mode: the transport connection, the opening, its refusal, and what breaks of them.
-use Rattle.std.proofs.Common.{◌≡◌, refl, true, false, ◌∙◌, sym, ap, subst, ℕ, List, [], ◌∷◌, ◌++◌, map, ◌⊎◌, inl, inr}
+use Rattle.std.proofs.Common.{◌≡◌, refl, true, false, ◌∙◌, sym, ap, subst, ℕ, List, [], ◌∷◌, ◌++◌}
+use Rattle.std.proofs.Common.{map, ◌⊎◌, inl, inr}
 use Rattle.std.specs.Prelude.{Bool, not, ◌&&◌, ◌||◌, Option, Some, None, is_some, if◌then◌else◌}
 use Rattle.osi_base.specs.declared.words.Proposal.{Proposal}
 use Rattle.osi_base.specs.declared.words.SetItem.{SetItem}
@@ -14,39 +15,52 @@ use Rattle.dialogue.specs.declared.config.Mode.TheVariants.{Direct}
 use Rattle.dialogue.specs.declared.config.Phase.{Phase}
 use Rattle.dialogue.specs.declared.config.Phase.TheVariants.{Idle, Opening, Broken, Over}
 use Rattle.dialogue.specs.declared.indication.Indication.{Indication}
-use Rattle.end_rules.specs.Base.{Base, Spellings, Fault}
-use Rattle.end_rules.specs.Messages.{TransportUnit, ConnectionRequest, ConnectionConfirm, Value, Word, OfAssociation, Connect, Accept, Refuse, Accepting, Message, Transport, Session, unit_of}
-use Rattle.end_rules.specs.State.{Body, Stage, Unused, Asked, Joined, Carrying, NoAnswer, passes_over, is_joined, is_carrying, is_unused, is_asked, is_broken}
+use Rattle.end_rules.specs.Base.{Base, Spellings}
+use Rattle.end_rules.specs.Messages.{TransportUnit, ConnectionRequest, ConnectionConfirm, Value}
+use Rattle.end_rules.specs.Messages.{Word, OfAssociation, Connect, Accept, Refuse, Accepting}
+use Rattle.end_rules.specs.Messages.{Message, Transport, Session, unit_of}
+use Rattle.end_rules.specs.State.{Body, Stage, Unused, Asked, Joined, Carrying, NoAnswer}
+use Rattle.end_rules.specs.State.{passes_over, is_joined, is_carrying, is_unused, is_asked}
+use Rattle.end_rules.specs.State.{is_broken}
 use Rattle.end_rules.specs.Sets.{accepted_set, fit_proposals, syntax_named}
-use Rattle.end_rules.specs.Units.{selected_with, proposed_units, needed_units, has_units, has_version_two, manages_with}
+use Rattle.end_rules.specs.Units.{selected_with, proposed_units, needed_units, has_units}
+use Rattle.end_rules.specs.Units.{has_version_two, manages_with}
 use Rattle.end_rules.specs.World.{Shared, anew}
-use Rattle.end_rules.specs.Faults.{transport_fault, invalid_ppdu, acse_fault, fault_if, or_fault, over}
+use Rattle.end_rules.specs.Faults.{transport_fault, invalid_ppdu, acse_fault, fault_if, or_fault}
 use Rattle.end_rules.specs.Purging.{is_purged, is_transport_purged}
 use Rattle.end_rules.specs.InPlace.{is_opening}
-use Rattle.end_rules.specs.Writing.{session_connect, presentation_connect, connect_values, connect_message, connection_request, is_recovering, provider_refusal, refuse_message}
-use Rattle.end_rules.specs.Connecting.{the_one, context_named, has_acse, set_for, results_for, session_refuses, presentation_refuses, lacks_request, transfer_rejection, rejecting_information, is_refused, accept_fault, accepted_connect, refused_connect, refusal_message, acceptance_message}
-use Rattle.end_rules.specs.TakesTransport.{is_waiting, transport_unit_fault, after_transport, answers_to_transport, shown_of_transport, phase_asked}
-use Rattle.end_rules.specs.Reacting.{Reaction, Passes, Takes, react, react_to_transport, react_to_word, on_transport, fails, on_word, word_fault, after_word, answers_to_word, shown_of_word}
-use Rattle.agreement.specs.Sets.{Role, Item as ModelItem, ContextSet, IsRising, IsKnownSet, altered as model_altered}
+use Rattle.end_rules.specs.Writing.{session_connect, presentation_connect, connect_values}
+use Rattle.end_rules.specs.Writing.{connect_message, connection_request, is_recovering}
+use Rattle.end_rules.specs.Writing.{provider_refusal, refuse_message}
+use Rattle.end_rules.specs.Connecting.{the_one, context_named, has_acse, set_for, results_for}
+use Rattle.end_rules.specs.Connecting.{session_refuses, presentation_refuses, lacks_request}
+use Rattle.end_rules.specs.Connecting.{transfer_rejection, rejecting_information, is_refused}
+use Rattle.end_rules.specs.Connecting.{accept_fault, accepted_connect, refused_connect}
+use Rattle.end_rules.specs.Connecting.{refusal_message, acceptance_message}
+use Rattle.end_rules.specs.TakesTransport.{is_waiting, transport_unit_fault, after_transport}
+use Rattle.end_rules.specs.TakesTransport.{phase_asked}
+use Rattle.end_rules.specs.Reacting.{Passes, Takes, react, react_to_transport, react_to_word}
+use Rattle.end_rules.specs.Reacting.{on_transport, fails, on_word, word_fault, after_word}
+use Rattle.end_rules.specs.Reacting.{answers_to_word, shown_of_word}
+use Rattle.agreement.specs.Sets.{Role, IsRising, IsKnownSet}
 use Rattle.agreement.specs.Sets.Role.{Initiator, Responder}
 use Rattle.agreement.specs.Messages as model
-use Rattle.agreement.specs.Messages.Message.{Connect as model_connect, Accept as model_accept, Refuse as model_refuse}
+use Rattle.agreement.specs.Messages.Message.{Connect as model_connect, Accept as model_accept}
+use Rattle.agreement.specs.Messages.Message.{Refuse as model_refuse}
 use Rattle.agreement.specs.Messages.Choice.{Nothing, Accepting as accepting, Refusing}
 use Rattle.agreement.specs.State as states
-use Rattle.agreement.specs.State.Phase.{Idle as model_idle, Opening as model_opening, Over as model_over}
-use Rattle.agreement.specs.Takings.{MayTake, IsChoice, is_purged as model_purged}
+use Rattle.agreement.specs.State.Phase.{Idle as model_idle, Opening as model_opening}
+use Rattle.agreement.specs.State.Phase.{Over as model_over}
+use Rattle.agreement.specs.Takings.{IsChoice, is_purged as model_purged}
 use Rattle.agreement.specs.Worlds as worlds
 use Rattle.agreement.specs.Worlds.{World, shared_at}
 use Rattle.agreement.specs.Worlds.Step.{Acts, Takes as model_takes}
 use Rattle.agreement.specs.Worlds.Moment.{By}
 use Rattle.agreement.specs.Messages.Act.{Connects}
 use Rattle.agreement.proofs.Flights.{rising-altered}
-use Rattle.end_model.specs.Seen.{Free, phase_seen, awaited_seen, set_seen, addition_seen, seen, setup_seen}
-use Rattle.end_model.specs.Words.{Means, AreMeant, added_seen}
-use Rattle.end_model.specs.Opens.{Numbered}
+use Rattle.end_model.specs.Seen.{Free, phase_seen, awaited_seen, set_seen, addition_seen, seen}
+use Rattle.end_model.specs.Words.{added_seen}
 use Rattle.end_model.specs.Acting.{IsSound, TakenAs}
-use Rattle.end_model.specs.Takings.{IsJoined}
-use Rattle.end_model.specs.Openings.{OpensAs}
 use Rattle.end_model.specs.DirectPairs.{ProposesRightly}
 use Rattle.end_model.specs.Sharing.{side_of, shared_all_sent, shared_all_answered, before}
 use Rattle.end_model.proofs.Takes.{fine}
@@ -54,10 +68,9 @@ use Rattle.end_model.proofs.Fitting.{known-syntax, additions-answered}
 use Rattle.end_model.proofs.Altered.{added-altered}
 use Rattle.end_model.proofs.Openings.{openings-taken}
 use Rattle.end_model.proofs.Connecting.{connections-act}
-use Rattle.end_model.proofs.BareMachine.{role-back}
 use Rattle.end_model.proofs.Machine.{takes-kept}
 use Rattle.end_model.proofs.Joint.{Same, acts-joint, takes-joint, unseen-joint, units-joint}
-use Rattle.end_model.proofs.DirectWords.{AreOwn, Live}
+use Rattle.end_model.proofs.DirectWords.{Live}
 use Rattle.end_model.proofs.DirectTaking as taking
 
 -- ---- before the association stands: the phase, the stage, and nothing is awaited

@@ -1,20 +1,22 @@
 -- Two ends of direct mode: how an end whose association stands takes what comes next.
-use Rattle.std.proofs.Common.{◌≡◌, refl, true, false, ◌∙◌, sym, ap, subst, ℕ, List, [], ◌∷◌, ◌++◌, map, ◌⊎◌, inl, inr}
+use Rattle.std.proofs.Common.{◌≡◌, refl, true, false, ◌∙◌, sym, ap, subst, ℕ, List, [], ◌∷◌, ◌++◌}
+use Rattle.std.proofs.Common.{map, ◌⊎◌, inl, inr}
 use Rattle.std.specs.Prelude.{Bool, not, ◌||◌, Option, Some, None, if◌then◌else◌, length, nat_eq}
 use Rattle.osi_base.specs.declared.words.Proposal.{Proposal}
 use Rattle.osi_base.specs.declared.words.Answers.{Answers}
 use Rattle.osi_base.specs.declared.words.SetItem.{SetItem}
 use Rattle.osi_base.specs.declared.words.Side as sides
-use Rattle.stub_tables.specs.declared.apdu.Apdu.{Apdu}
 use Rattle.stub_tables.specs.declared.tables.Tables.{Tables}
 use Rattle.dialogue.specs.declared.config.Config.{Config}
 use Rattle.dialogue.specs.declared.config.Mode.TheVariants.{Direct}
-use Rattle.dialogue.specs.declared.config.Phase.{Phase}
 use Rattle.dialogue.specs.declared.config.Phase.TheVariants.{Up, Releasing, Over}
 use Rattle.dialogue.specs.declared.indication.Indication.{Indication}
-use Rattle.end_rules.specs.Base.{Base, Spellings, Fault, Item}
-use Rattle.end_rules.specs.Messages.{Value, Word, OfAssociation, OfData, OfMarks, OfActivities, Finish, Disconnect, Abort, Values, AlterContext, AlterContextAck, Mark, Restart, RestartAck, Give, Please, Message, Transport, Session, unit_of}
-use Rattle.end_rules.specs.State.{Body, Link, Stage, passes_over, is_joined, is_carrying}
+use Rattle.end_rules.specs.Base.{Base, Spellings, Item}
+use Rattle.end_rules.specs.Messages.{Value, Word, OfAssociation, OfData, OfMarks, OfActivities}
+use Rattle.end_rules.specs.Messages.{Finish, Disconnect, Abort, Values, AlterContext}
+use Rattle.end_rules.specs.Messages.{AlterContextAck, Mark, Restart, RestartAck, Give, Please}
+use Rattle.end_rules.specs.Messages.{Message, Transport, Session, unit_of}
+use Rattle.end_rules.specs.State.{Body, Link, passes_over, is_joined, is_carrying}
 use Rattle.end_rules.specs.Sets.{Alteration, fit_proposals, below, newest}
 use Rattle.end_rules.specs.World.{Shared, shared_sent, shared_answered}
 use Rattle.end_rules.specs.Policy.{policy}
@@ -22,45 +24,64 @@ use Rattle.end_rules.specs.Faults.{transport_fault}
 use Rattle.end_rules.specs.Purging.{is_purged}
 use Rattle.end_rules.specs.Writing.{proposals}
 use Rattle.end_rules.specs.TakesData.{alteration, settled}
-use Rattle.end_rules.specs.Reacting.{Reaction, Passes, Takes, react, react_to_word, fails, on_word, word_fault, after_word, answers_to_word, shown_of_word}
-use Rattle.agreement.specs.Sets.{Role, other, is_initiator, Item as ModelItem, Result, Fits, altered as model_altered, below as model_below, newest as model_newest}
+use Rattle.end_rules.specs.Reacting.{Passes, Takes, react, react_to_word, fails, on_word}
+use Rattle.end_rules.specs.Reacting.{word_fault, after_word, answers_to_word, shown_of_word}
+use Rattle.agreement.specs.Sets.{Role, other, is_initiator, Item as ModelItem, Result, Fits}
+use Rattle.agreement.specs.Sets.{altered as model_altered, below as model_below}
+use Rattle.agreement.specs.Sets.{newest as model_newest}
 use Rattle.agreement.specs.Sets.Role.{Initiator, Responder}
 use Rattle.agreement.specs.Messages as model
-use Rattle.agreement.specs.Messages.Message.{Mark as model_mark, Restart as model_restart, RestartAnswer as model_restart_answer, Give as model_give, Please as model_please, Alter as model_alter, AlterAnswer as model_alter_answer, Data as model_data, Release as model_release, ReleaseAnswer as model_release_answer, UserAbort as model_abort}
+use Rattle.agreement.specs.Messages.Message.{Mark as model_mark, Restart as model_restart}
+use Rattle.agreement.specs.Messages.Message.{RestartAnswer as model_restart_answer}
+use Rattle.agreement.specs.Messages.Message.{Give as model_give, Please as model_please}
+use Rattle.agreement.specs.Messages.Message.{Alter as model_alter}
+use Rattle.agreement.specs.Messages.Message.{AlterAnswer as model_alter_answer, Data as model_data}
+use Rattle.agreement.specs.Messages.Message.{Release as model_release}
+use Rattle.agreement.specs.Messages.Message.{ReleaseAnswer as model_release_answer}
+use Rattle.agreement.specs.Messages.Message.{UserAbort as model_abort}
 use Rattle.agreement.specs.Messages.Mode.{Direct as model_direct}
 use Rattle.agreement.specs.Messages.Choice.{Nothing, Results}
 use Rattle.agreement.specs.State as states
-use Rattle.agreement.specs.State.Phase.{Up as model_up, Releasing as model_releasing, Over as model_over}
+use Rattle.agreement.specs.State.Phase.{Up as model_up, Releasing as model_releasing}
+use Rattle.agreement.specs.State.Phase.{Over as model_over}
 use Rattle.agreement.specs.Acts.{MayAct, acted, sent_by}
 use Rattle.agreement.specs.Takings.{MayTake, IsChoice, OnFirst, taken, is_purged as model_purged}
 use Rattle.agreement.specs.Worlds as worlds
-use Rattle.agreement.specs.Worlds.{Sending, Step, World, IsRun, ComesNext, state_of, sendings, shared_at, without_first, flight_to}
+use Rattle.agreement.specs.Worlds.{Sending, Step, World, IsRun, ComesNext, state_of, sendings}
+use Rattle.agreement.specs.Worlds.{shared_at, without_first, flight_to}
 use Rattle.agreement.specs.Worlds.Step.{Acts, Takes as model_takes, Passes as model_passes}
 use Rattle.agreement.specs.Worlds.Moment.{By}
 use Rattle.agreement.proofs.Interface.{acts, takes}
-use Rattle.end_model.specs.Seen.{Free, role_seen, phase_seen, awaited_seen, item_seen, items_seen, saved_seen, seen, setup_seen}
+use Rattle.end_model.specs.Seen.{Free, role_seen, phase_seen, awaited_seen, item_seen, items_seen}
+use Rattle.end_model.specs.Seen.{saved_seen, seen, setup_seen}
 use Rattle.end_model.specs.Rows.{at}
 use Rattle.end_model.specs.Meant.{list_meant}
 use Rattle.end_model.specs.Opens.{IsProper, IsReadBack}
-use Rattle.end_model.specs.Words.{Means, AreMeant, results_seen, value_of_item, data_word, AreOurs}
+use Rattle.end_model.specs.Words.{Means, AreMeant, results_seen, data_word, AreOurs}
 use Rattle.end_model.specs.Acting.{IsSound, TakenAs}
-use Rattle.end_model.specs.Heard.{MayThen, then_acted, sent_then, HeardAs}
-use Rattle.end_model.specs.Takings.{IsJoined, TakenWhere, nothing, by_policy}
+use Rattle.end_model.specs.Heard.{MayThen, then_acted, sent_then}
+use Rattle.end_model.specs.Takings.{IsJoined, TakenWhere, nothing}
 use Rattle.end_model.specs.Pairs.{Common, base_at, setup_of, WritesAll}
-use Rattle.end_model.specs.Steps.{AreOnWay, EndOf, BothEnds, TookIt}
+use Rattle.end_model.specs.Steps.{AreOnWay, EndOf}
 use Rattle.end_model.specs.DirectPairs.{direct_pair}
 use Rattle.end_model.specs.Sharing.{side_of, shared_all_sent, shared_all_answered, before}
 use Rattle.end_model.proofs.AnswersFit.{fits-too}
 use Rattle.end_model.proofs.Fitting.{all-fit, policy-fits, and-left}
 use Rattle.end_model.proofs.Altered.{altered-seen}
 use Rattle.end_model.proofs.Restarts.{below-seen, newest-seen}
-use Rattle.end_model.proofs.TakenRows.{mark-direct, give-direct, please-direct, restart-direct, restart_ack-direct, alter-direct, answers-taken, finish-direct, disconnect-direct, abort-direct}
+use Rattle.end_model.proofs.TakenRows.{mark-direct, give-direct, please-direct, restart-direct}
+use Rattle.end_model.proofs.TakenRows.{restart_ack-direct, alter-direct, answers-taken}
+use Rattle.end_model.proofs.TakenRows.{finish-direct, disconnect-direct, abort-direct}
 use Rattle.end_model.proofs.HeardRows.{direct-heard}
-use Rattle.end_model.proofs.BareMachine.{role-back, state-own, state-other, flight-own, flight-other}
+use Rattle.end_model.proofs.BareMachine.{role-back, state-own, state-other, flight-own}
+use Rattle.end_model.proofs.BareMachine.{flight-other}
 use Rattle.end_model.proofs.BareTaking.{expected}
-use Rattle.end_model.proofs.Machine.{NextWord, next-word, append-nil, on-way, way-append, acts-kept, takes-kept, passes-kept}
-use Rattle.end_model.proofs.Joint.{Same, SetsOnWay, AreDirect, all-same, sets-off, Joint, peer-more, takes-joint, passes-joint}
-use Rattle.end_model.proofs.DirectWords.{OwnWord, OwnValues, AreOwn, ours-own, ours-meant, one-item, purged-as, Live}
+use Rattle.end_model.proofs.Machine.{next-word, append-nil, on-way, way-append, takes-kept}
+use Rattle.end_model.proofs.Machine.{passes-kept}
+use Rattle.end_model.proofs.Joint.{Same, SetsOnWay, AreDirect, all-same, sets-off, Joint, peer-more}
+use Rattle.end_model.proofs.Joint.{takes-joint, passes-joint}
+use Rattle.end_model.proofs.DirectWords.{OwnWord, OwnValues, AreOwn, ours-own, ours-meant, one-item}
+use Rattle.end_model.proofs.DirectWords.{purged-as, Live}
 
 -- ---- what an end does with a word
 

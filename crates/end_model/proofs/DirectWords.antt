@@ -1,12 +1,15 @@
 -- Words of an association that stands, as an end of this product sends them in direct mode; what is passed over of them.
-use Rattle.std.proofs.Common.{◌≡◌, refl, true, false, ◌∙◌, sym, ap, subst, ℕ, List, [], ◌∷◌, ◌++◌, ◌⊎◌, inl, inr}
-use Rattle.std.specs.Prelude.{Bool, Option, Some, None}
+use Rattle.std.proofs.Common.{◌≡◌, refl, true, ◌∙◌, sym, ap, subst, List, [], ◌∷◌, ◌++◌, ◌⊎◌}
+use Rattle.std.specs.Prelude.{Bool, Some}
 use Rattle.osi_base.specs.declared.words.Proposal.{Proposal}
-use Rattle.stub_tables.specs.declared.apdu.Apdu.{Apdu}
-use Rattle.dialogue.specs.declared.config.Mode.TheVariants.{Bare, Direct}
+use Rattle.dialogue.specs.declared.config.Mode.TheVariants.{Direct}
 use Rattle.dialogue.specs.declared.config.Phase.TheVariants.{Up, Releasing, Over}
 use Rattle.end_rules.specs.Base.{Base, Item}
-use Rattle.end_rules.specs.Messages.{Content, Remote, Value, Word, AssociationWord, DataWord, MarkWord, OfAssociation, OfData, OfMarks, OfActivities, Finish, Disconnect, Abort, Values, AlterContext, AlterContextAck, Mark, Restart, RestartAck, Give, Please, Message, Transport, Session, unit_of}
+use Rattle.end_rules.specs.Messages.{Remote, Value, Word, AssociationWord, DataWord, MarkWord}
+use Rattle.end_rules.specs.Messages.{OfAssociation, OfData, OfMarks, OfActivities, Finish}
+use Rattle.end_rules.specs.Messages.{Disconnect, Abort, Values, AlterContext, AlterContextAck, Mark}
+use Rattle.end_rules.specs.Messages.{Restart, RestartAck, Give, Please, Message, Transport, Session}
+use Rattle.end_rules.specs.Messages.{unit_of}
 use Rattle.end_rules.specs.State.{Body, Awaited}
 use Rattle.end_rules.specs.Connecting.{the_one}
 use Rattle.end_rules.specs.Purging.{is_purged}
@@ -14,13 +17,12 @@ use Rattle.end_rules.specs.Requesting.{after_sent}
 use Rattle.end_rules.specs.TakesAssociation.{is_release_request, is_release_response}
 use Rattle.end_rules.specs.TakesData.{alteration}
 use Rattle.agreement.specs.Messages.{Message as ModelMessage}
-use Rattle.agreement.specs.Messages.Message.{Mark as model_mark, Restart as model_restart, RestartAnswer as model_restart_answer, Give as model_give, Please as model_please, Alter as model_alter, AlterAnswer as model_alter_answer, Data as model_data, Release as model_release, ReleaseAnswer as model_release_answer, UserAbort as model_abort}
 use Rattle.agreement.specs.Takings.{is_purged as model_purged}
 use Rattle.end_model.specs.Seen.{role_seen, awaited_seen, item_seen, items_seen}
 use Rattle.end_model.specs.Rows.{at}
 use Rattle.end_model.specs.Meant.{list_meant}
 use Rattle.end_model.specs.Opens.{IsProper, IsReadBack}
-use Rattle.end_model.specs.Words.{Means, AreMeant, results_seen, value_of_item, data_word, IsOurs, AreOurs}
+use Rattle.end_model.specs.Words.{Means, AreMeant, results_seen, value_of_item, AreOurs}
 use Rattle.end_model.specs.Requests.{sent_all}
 use Rattle.end_model.specs.Takings.{IsJoined}
 use Rattle.end_model.proofs.PurgedWords as words

@@ -1,21 +1,26 @@
 -- The end of the peer's activity, as it is taken.
-use Rattle.std.proofs.Common.{◌≡◌, refl, true, false, ◌∙◌, sym, ap, ℕ, suc, List, [], ◌∷◌, ◌++◌, map}
+use Rattle.std.proofs.Common.{◌≡◌, refl, true, false, ◌∙◌, sym, ap, ℕ, suc, List, [], ◌∷◌, ◌++◌}
+use Rattle.std.proofs.Common.{map}
 use Rattle.std.specs.Prelude.{Bool, ◌&&◌, Option, Some, None, Ok, nat_eq, if◌then◌else◌}
 use Rattle.osi_base.specs.declared.words.Proposal.{Proposal}
 use Rattle.dialogue.specs.declared.config.Mode.TheVariants.{Reliable}
 use Rattle.dialogue.specs.declared.indication.Indication.{Indication}
 use Rattle.end_rules.specs.Base.{Base, Item, Whole}
-use Rattle.end_rules.specs.State.{Body, Calls, Receiving, is_up, highest, joined, between}
-use Rattle.end_rules.specs.Messages.{Value, OfActivities, End}
-use Rattle.end_rules.specs.Hearing.{Heard, Rejecting, hear, head_of_apdu, on_heard, take_values, reject_apdu}
-use Rattle.end_rules.specs.TakesActivities.{received, arrived_now, arrived_value, handed_up, end_fault, values_arrived, fault_in}
+use Rattle.end_rules.specs.State.{Body, Calls, is_up, highest, joined, between}
+use Rattle.end_rules.specs.Messages.{OfActivities, End}
+use Rattle.end_rules.specs.Hearing.{Heard, Rejecting, hear, head_of_apdu, on_heard, take_values}
+use Rattle.end_rules.specs.Hearing.{reject_apdu}
+use Rattle.end_rules.specs.TakesActivities.{received, arrived_now, handed_up, values_arrived}
+use Rattle.end_rules.specs.TakesActivities.{fault_in}
 use Rattle.agreement.specs.Messages as model
 use Rattle.agreement.specs.Messages.Choice.{Nothing}
 use Rattle.agreement.specs.Messages.Message.{End as model_end}
 use Rattle.agreement.specs.State as states
 use Rattle.agreement.specs.Calls.{heard as model_heard}
-use Rattle.agreement.specs.Takings.{MayTake, value_read, hears as model_hears, handed_up as model_handed_up, between as model_between}
-use Rattle.end_model.specs.Seen.{Free, role_seen, set_seen, item_seen, apdu_seen, queued_seen, calls_seen, incoming_seen, seen, setup_seen}
+use Rattle.agreement.specs.Takings.{MayTake, value_read, hears as model_hears}
+use Rattle.agreement.specs.Takings.{handed_up as model_handed_up, between as model_between}
+use Rattle.end_model.specs.Seen.{Free, role_seen, set_seen, item_seen, apdu_seen, queued_seen}
+use Rattle.end_model.specs.Seen.{calls_seen, incoming_seen, seen, setup_seen}
 use Rattle.end_model.specs.Rows.{at}
 use Rattle.end_model.specs.Opens.{IsProper, IsReadBack}
 use Rattle.end_model.specs.Words.{value_of_item}

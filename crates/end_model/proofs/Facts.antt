@@ -1,11 +1,11 @@
 -- What tests of the rules say, as facts of the model.
-use Rattle.std.proofs.Common.{◌≡◌, refl, true, false, ◌∙◌, sym, ap, arith, ℕ, suc, ◌≤◌, ◌<◌, List, [], ◌∷◌, map}
-use Rattle.std.specs.Prelude.{ℤ, pos, negsuc, Bool, not, ◌&&◌, ◌||◌, Option, Some, None, is_some, if◌then◌else◌, nat_eq, nat_lt, nat_le}
-use Rattle.std.proofs.lemmas.Bool.Decides.{nat_tests}
+use Rattle.std.proofs.Common.{◌≡◌, refl, true, ap, List, [], ◌∷◌}
 use Rattle.dialogue.specs.declared.config.Phase.{Phase}
-use Rattle.dialogue.specs.declared.config.Phase.TheVariants.{Idle, Opening, Up, Releasing, Broken, Recovering, Over, Dead}
-use Rattle.end_rules.specs.State.{Stage, Unused, Asked, Joined, Carrying, Awaited, NoAnswer, RestartOf, InterruptOf, DiscardOf, ReleaseOf, is_up, is_free, is_empty}
-use Rattle.agreement.specs.State as model
+use Rattle.dialogue.specs.declared.config.Phase.TheVariants.{Idle, Opening, Up, Releasing, Broken}
+use Rattle.dialogue.specs.declared.config.Phase.TheVariants.{Recovering, Over, Dead}
+use Rattle.end_rules.specs.State.{Stage, Unused, Asked, Joined, Carrying, Awaited, NoAnswer}
+use Rattle.end_rules.specs.State.{RestartOf, InterruptOf, DiscardOf, ReleaseOf, is_up, is_free}
+use Rattle.end_rules.specs.State.{is_empty}
 use Rattle.agreement.specs.State.Phase.{Up as model_up}
 use Rattle.agreement.specs.State.Awaited.{NoAnswer as model_no_answer}
 use Rattle.end_model.specs.Seen.{phase_seen, awaited_seen}

@@ -1,6 +1,8 @@
 -- A word without a fault may be taken.
-use Rattle.std.proofs.Common.{◌≡◌, refl, true, false, ◌∙◌, sym, ap, subst, arith, ℕ, suc, ◌≤◌, ◌%◌, List, [], ◌∷◌, ◌++◌, map, length}
-use Rattle.std.specs.Prelude.{Bool, not, ◌&&◌, ◌||◌, Option, Some, None, is_some, option_map, if◌then◌else◌, nat_eq, nat_le, nat_lt}
+use Rattle.std.proofs.Common.{◌≡◌, refl, true, false, ◌∙◌, sym, ap, subst, arith, ℕ, suc, ◌≤◌, ◌%◌}
+use Rattle.std.proofs.Common.{List, [], ◌∷◌, ◌++◌, map, length}
+use Rattle.std.specs.Prelude.{Bool, not, ◌&&◌, ◌||◌, Option, Some, None, is_some, option_map}
+use Rattle.std.specs.Prelude.{if◌then◌else◌, nat_eq, nat_le, nat_lt}
 use Rattle.std.specs.List.{list_any}
 use Rattle.std.proofs.lemmas.Bool.Decides.{nat_tests}
 use Rattle.osi_base.specs.declared.syntax.Pair.{Pair}
@@ -11,20 +13,28 @@ use Rattle.osi_base.specs.declared.words.RestoredItem.{RestoredItem}
 use Rattle.osi_base.specs.declared.words.Layer.TheVariants.{Presentation}
 use Rattle.dialogue.specs.declared.indication.Indication.TheVariants.{RestoredListDiffers}
 use Rattle.dialogue.specs.declared.config.Mode.{Mode}
-use Rattle.dialogue.specs.declared.config.Mode.TheVariants.{Bare, Direct, Reliable}
+use Rattle.dialogue.specs.declared.config.Mode.TheVariants.{Direct, Reliable}
 use Rattle.dialogue.specs.declared.config.Phase.TheVariants.{Up}
-use Rattle.end_rules.specs.Base.{Base, Fault, most_marks, most_transferred, is_reliable}
-use Rattle.end_rules.specs.State.{Body, Awaited, NoAnswer, RestartOf, InterruptOf, DiscardOf, ReleaseOf, Transfer, Progress, Running, Ending, Suspended, is_up, highest, joined, is_suspended}
-use Rattle.end_rules.specs.Sets.{Alteration, pair_of, is_among, same_name, same_lists, listed, has_parity, proposed_ids, next_number, fit_alteration}
+use Rattle.end_rules.specs.Base.{Base, Fault, most_marks, most_transferred}
+use Rattle.end_rules.specs.State.{Body, Awaited, NoAnswer, RestartOf, InterruptOf, DiscardOf}
+use Rattle.end_rules.specs.State.{ReleaseOf, Transfer, Progress, Running, Ending, Suspended, is_up}
+use Rattle.end_rules.specs.State.{highest, joined, is_suspended}
+use Rattle.end_rules.specs.Sets.{Alteration, pair_of, is_among, same_name, same_lists, listed}
+use Rattle.end_rules.specs.Sets.{has_parity, proposed_ids, next_number, fit_alteration}
 use Rattle.end_rules.specs.Altering.{has_double}
 use Rattle.end_rules.specs.Policy.{is_faulty_proposal}
-use Rattle.end_rules.specs.Units.{has_marks, has_restarts, has_typed_data, has_activities, has_token}
-use Rattle.end_rules.specs.Faults.{or_fault, fault_if, session_fault, unexpected_ppdu, invalid_ppdu, rtse_fault}
-use Rattle.end_rules.specs.InPlace.{is_peers, is_in_place, is_next_confirmed, awaits_restart, is_receiving}
+use Rattle.end_rules.specs.Units.{has_marks, has_restarts, has_typed_data, has_activities}
+use Rattle.end_rules.specs.Units.{has_token}
+use Rattle.end_rules.specs.Faults.{or_fault, fault_if, session_fault, unexpected_ppdu, invalid_ppdu}
+use Rattle.end_rules.specs.Faults.{rtse_fault}
+use Rattle.end_rules.specs.InPlace.{is_peers, is_in_place, is_next_confirmed, awaits_restart}
 use Rattle.end_rules.specs.TakesData.{alteration, answered_fault}
 use Rattle.end_rules.specs.TakesMarks.{restored_set, list_fault}
 use Rattle.end_rules.specs.Reacting.{fault_above, word_fault}
-use Rattle.end_rules.specs.Messages.{Word, Value, unit_of, OfAssociation, OfData, OfMarks, OfActivities, Finish, AlterContext, AlterContextAck, Values, Part, Mark, MarkAck, Restart, RestartAck, Give, Please, GiveConfirm, GiveAck, Start, Interrupt, Discard}
+use Rattle.end_rules.specs.Messages.{Word, Value, unit_of, OfAssociation, OfData, OfMarks}
+use Rattle.end_rules.specs.Messages.{OfActivities, Finish, AlterContext, AlterContextAck, Values}
+use Rattle.end_rules.specs.Messages.{Part, Mark, MarkAck, Restart, RestartAck, Give, Please}
+use Rattle.end_rules.specs.Messages.{GiveConfirm, GiveAck, Start, Interrupt, Discard}
 use Rattle.agreement.specs.Sets as sets
 use Rattle.agreement.specs.Sets.Role.{Responder}
 use Rattle.agreement.specs.Sets.Item.{Deletion}
@@ -32,12 +42,23 @@ use Rattle.agreement.specs.Messages.Mode.{Reliable as model_reliable}
 use Rattle.agreement.specs.State.Phase.{Up as model_up}
 use Rattle.agreement.specs.State.Progress.{Suspended as model_suspended}
 use Rattle.agreement.specs.State.Awaited.{RestartOf as model_restart_of}
-use Rattle.agreement.specs.Messages.Message.{Mark as model_mark, MarkAnswer as model_mark_answer, Restart as model_restart, RestartAnswer as model_restart_answer, Give as model_give, GiveAnswer as model_give_answer, Please as model_please, Start as model_start, Interrupt as model_interrupt, Discard as model_discard, Chunk as model_chunk, Alter as model_alter, AlterAnswer as model_alter_answer, Release as model_release}
+use Rattle.agreement.specs.Messages.Message.{Mark as model_mark, MarkAnswer as model_mark_answer}
+use Rattle.agreement.specs.Messages.Message.{Restart as model_restart}
+use Rattle.agreement.specs.Messages.Message.{RestartAnswer as model_restart_answer}
+use Rattle.agreement.specs.Messages.Message.{Give as model_give, GiveAnswer as model_give_answer}
+use Rattle.agreement.specs.Messages.Message.{Please as model_please, Start as model_start}
+use Rattle.agreement.specs.Messages.Message.{Interrupt as model_interrupt, Discard as model_discard}
+use Rattle.agreement.specs.Messages.Message.{Chunk as model_chunk, Alter as model_alter}
+use Rattle.agreement.specs.Messages.Message.{AlterAnswer as model_alter_answer}
+use Rattle.agreement.specs.Messages.Message.{Release as model_release}
 use Rattle.agreement.specs.Takings.{MayTake, IsNextConfirmed, OnFirst, additions}
-use Rattle.end_model.specs.Seen.{Free, mode_seen, role_seen, pair_seen, set_seen, addition_seen, items_seen, listed_seen, awaited_seen, piece_seen, progress_seen, transfer_seen, saved_seen, phase_seen, seen, setup_seen}
+use Rattle.end_model.specs.Seen.{Free, mode_seen, role_seen, pair_seen, set_seen, addition_seen}
+use Rattle.end_model.specs.Seen.{items_seen, listed_seen, awaited_seen, progress_seen}
+use Rattle.end_model.specs.Seen.{transfer_seen, saved_seen, phase_seen, seen, setup_seen}
 use Rattle.end_model.specs.Rows.{at}
 use Rattle.end_model.specs.Words.{results_seen}
-use Rattle.end_model.specs.Faultless.{Faultless, DirectMayBeTaken, ReliableMayBeTaken, AnswersMayBeTaken}
+use Rattle.end_model.specs.Faultless.{Faultless, DirectMayBeTaken, ReliableMayBeTaken}
+use Rattle.end_model.specs.Faultless.{AnswersMayBeTaken}
 use Rattle.end_model.proofs.Facts.{up-seen}
 use Rattle.end_model.proofs.Marks.{next-seen}
 use Rattle.end_model.proofs.Held.{lookup-seen}

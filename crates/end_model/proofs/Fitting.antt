@@ -1,24 +1,29 @@
 -- Answers that fit an alteration are results that fit it in the model; the policy's answers fit.
-use Rattle.std.proofs.Common.{◌≡◌, refl, true, false, ◌∙◌, sym, ap, subst, arith, ℕ, suc, ◌+◌, ◌<◌, ◌%◌, List, [], ◌∷◌, ◌++◌, map, length}
-use Rattle.std.specs.Prelude.{Bool, not, ◌&&◌, ◌||◌, Option, Some, None, is_some, if◌then◌else◌, nat_eq, nat_lt, Contains, find}
+use Rattle.std.proofs.Common.{◌≡◌, refl, true, false, ◌∙◌, sym, ap, subst, arith, ℕ, suc, List, []}
+use Rattle.std.proofs.Common.{◌∷◌, ◌++◌, map, length}
+use Rattle.std.specs.Prelude.{Bool, not, ◌&&◌, ◌||◌, Option, Some, None, is_some, if◌then◌else◌}
+use Rattle.std.specs.Prelude.{nat_eq, nat_lt, Contains, find}
 use Rattle.std.specs.List.{list_any}
 use Rattle.std.proofs.lemmas.Bool.Decides.{nat_tests}
 use Rattle.osi_base.specs.Syntax.{name_of}
 use Rattle.osi_base.specs.declared.syntax.Syntax.{Syntax}
 use Rattle.osi_base.specs.declared.syntax.Syntax.TheVariants.{Ber, Der, Packed}
 use Rattle.osi_base.specs.declared.syntax.Pair.{Pair}
-use Rattle.osi_base.specs.declared.words.SetItem.{SetItem}
 use Rattle.osi_base.specs.declared.words.Proposal.{Proposal}
 use Rattle.osi_base.specs.declared.words.AddAnswer.{AddAnswer}
 use Rattle.osi_base.specs.declared.words.Answers.{Answers}
 use Rattle.end_rules.specs.Base.{Base, ber_name, most_contexts}
 use Rattle.end_rules.specs.State.{Body}
-use Rattle.end_rules.specs.Sets.{Alteration, same_name, syntax_named, accepted_pair, named_syntax, pair_accepted, is_offered, fits_proposal, fit_proposals, fit_alteration, count_added}
-use Rattle.end_rules.specs.Policy.{is_association, is_taken, takes_syntax, acceptance, rejection, answer_within, answer_to_addition, counted_with, answers_to_additions, answer_to_deletion, policy}
+use Rattle.end_rules.specs.Sets.{Alteration, same_name, syntax_named, accepted_pair, named_syntax}
+use Rattle.end_rules.specs.Sets.{pair_accepted, is_offered, fits_proposal, fit_proposals}
+use Rattle.end_rules.specs.Sets.{fit_alteration}
+use Rattle.end_rules.specs.Policy.{is_association, is_taken, takes_syntax, acceptance, rejection}
+use Rattle.end_rules.specs.Policy.{answer_within, answer_to_addition, counted_with}
+use Rattle.end_rules.specs.Policy.{answers_to_additions, answer_to_deletion, policy}
 use Rattle.agreement.specs.Sets.{Item, Result, Pair as ModelPair, FitsItem, Fits, IsKnown, AreKnown}
-use Rattle.agreement.specs.Sets.Item.{Addition, Deletion}
-use Rattle.agreement.specs.Sets.Result.{Rejected, AcceptedAs, Accepted, Kept}
-use Rattle.end_model.specs.Seen.{pair_seen, offers_seen, addition_seen, items_seen}
+use Rattle.agreement.specs.Sets.Item.{Deletion}
+use Rattle.agreement.specs.Sets.Result.{Accepted, Kept}
+use Rattle.end_model.specs.Seen.{addition_seen, items_seen}
 use Rattle.end_model.specs.Words.{result_with, added_seen, deleted_seen, results_seen}
 
 -- ---- names

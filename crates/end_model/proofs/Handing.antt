@@ -1,29 +1,32 @@
 -- Invocations and outcomes that are handed in.
-use Rattle.std.proofs.Common.{◌≡◌, refl, true, false, ◌∙◌, sym, ap, subst, arith, ℕ, suc, ◌+◌, List, [], ◌∷◌, ◌++◌, length, map}
-use Rattle.std.specs.Prelude.{ℤ, pos, negsuc, min, Bool, not, ◌&&◌, ◌||◌, Option, Some, None, is_some, option_map, unwrap_or, Ok, if◌then◌else◌, nat_eq, nat_lt, nat_le}
+use Rattle.std.proofs.Common.{◌≡◌, refl, true, false, ◌∙◌, sym, ap, subst, arith, ℕ, suc, ◌+◌, List}
+use Rattle.std.proofs.Common.{[], ◌∷◌, ◌++◌, length}
+use Rattle.std.specs.Prelude.{ℤ, pos, negsuc, Bool, not, ◌&&◌, ◌||◌, Option, Some, None, is_some}
+use Rattle.std.specs.Prelude.{option_map, if◌then◌else◌, nat_eq, nat_lt, nat_le}
 use Rattle.std.specs.Ordering.{int_eq}
 use Rattle.std.proofs.lemmas.Bool.Decides.{nat_tests, Decides-int_eq}
 use Rattle.osi_base.specs.declared.syntax.Pair.{Pair}
 use Rattle.osi_base.specs.declared.words.SetItem.{SetItem}
-use Rattle.stub_tables.specs.declared.tables.Tables.{Tables}
 use Rattle.stub_tables.specs.declared.operation.Operation.{Operation}
 use Rattle.stub_tables.specs.Codes.{is_silent}
-use Rattle.stub_tables.specs.Lookup.{operation_at, operation_with}
+use Rattle.stub_tables.specs.Lookup.{operation_at}
 use Rattle.dialogue.specs.declared.call.CallRefusal.{CallRefusal}
 use Rattle.dialogue.specs.declared.call.CallRefusal.TheVariants as refusals
 use Rattle.end_rules.specs.Base.{Base, most_open, last_invocation}
-use Rattle.end_rules.specs.Sets.{pair_of, has_abstract, may_send, carrier, lowest_with, same_name, is_deleted_in, Alteration}
-use Rattle.end_rules.specs.State.{Body, OpenCall, Calls, is_whose, is_key, opened_with, opens_of, closed, close}
+use Rattle.end_rules.specs.Sets.{pair_of, has_abstract, may_send, carrier, lowest_with, same_name}
+use Rattle.end_rules.specs.Sets.{is_deleted_in, Alteration}
+use Rattle.end_rules.specs.State.{Body, OpenCall, Calls, is_whose, is_key, opened_with, opens_of}
+use Rattle.end_rules.specs.State.{closed, close}
 use Rattle.end_rules.specs.Invoking.{next_id, is_linked_to, link_refusal, linking_refusal}
 use Rattle.end_rules.specs.Hearing.{is_silent_at, opening}
 use Rattle.agreement.specs.Messages as model
 use Rattle.agreement.specs.Calls.{is_link_allowed, has_room, close as model_close}
-use Rattle.end_model.specs.Seen.{Free, number_seen, invocation_seen, opens_seen_on, calls_seen, setup_seen}
+use Rattle.end_model.specs.Seen.{Free, number_seen, opens_seen_on, calls_seen, setup_seen}
 use Rattle.end_model.specs.Opens.{IsNumber, IsNamed, IsNumbered, AreNumbered}
 use Rattle.dialogue.specs.declared.config.Mode.{Mode}
-use Rattle.end_model.proofs.Restarts.{if-map}
 use Rattle.end_model.proofs.Held.{MaySend, may-send}
-use Rattle.end_model.proofs.Opens.{joined-seen, found, link-found, found-seen, on_opened, on-some, closed-seen, others-seen, length-seen}
+use Rattle.end_model.proofs.Opens.{joined-seen, found, link-found, found-seen, on_opened, on-some}
+use Rattle.end_model.proofs.Opens.{closed-seen, others-seen, length-seen}
 
 -- ---- numbers
 

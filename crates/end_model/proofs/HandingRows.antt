@@ -1,31 +1,27 @@
 -- The acts of Invoke, Answer and Refuse.
-use Rattle.std.proofs.Common.{◌≡◌, refl, true, false, ◌∙◌, sym, ap, subst, arith, ℕ, suc, ◌≤◌, List, [], ◌∷◌, ◌++◌, map}
-use Rattle.std.specs.Prelude.{ℤ, pos, negsuc, Bool, not, ◌&&◌, Option, Some, None, is_some, option_map, unwrap_or, Ok, if◌then◌else◌, nat_eq, nat_le}
-use Rattle.std.proofs.lemmas.Bool.Decides.{nat_tests}
-use Rattle.std.specs.Cmp.Lexicographic.{pointwise}
+use Rattle.std.proofs.Common.{◌≡◌, refl, true, false, ◌∙◌, sym, ap, subst, arith, ℕ, suc, ◌≤◌, List}
+use Rattle.std.proofs.Common.{[], ◌∷◌, ◌++◌, map}
+use Rattle.std.specs.Prelude.{ℤ, pos, negsuc, Bool, Option, Some, is_some, option_map, unwrap_or}
+use Rattle.std.specs.Prelude.{Ok, if◌then◌else◌, nat_le}
 use Rattle.osi_base.specs.declared.syntax.Syntax.TheVariants.{Der}
-use Rattle.osi_base.specs.declared.words.SetItem.{SetItem}
 use Rattle.osi_base.specs.declared.words.Proposal.{Proposal}
 use Rattle.asn1_types.specs.declared.value.Val.{Val}
 use Rattle.stub_tables.specs.declared.operation.Operation.{Operation}
-use Rattle.stub_tables.specs.declared.operation.ErrorRow.{ErrorRow}
 use Rattle.stub_tables.specs.declared.apdu.Apdu.{Apdu}
-use Rattle.stub_tables.specs.Codes.{is_error_of}
-use Rattle.stub_tables.specs.Lookup.{operation_at, error_at, operation_with, error_with}
-use Rattle.stub_tables.specs.Uses.{is_carried}
+use Rattle.stub_tables.specs.Lookup.{operation_at, operation_with}
 use Rattle.stub_tables.proofs.OwnCodes.{own_codes}
 use Rattle.dialogue.specs.declared.config.Mode.{Mode}
 use Rattle.dialogue.specs.declared.config.Mode.TheVariants.{Bare, Direct, Reliable}
-use Rattle.dialogue.specs.declared.call.Call.{Call}
 use Rattle.dialogue.specs.declared.call.Call.TheVariants as the_calls
 use Rattle.dialogue.specs.declared.call.CallRefusal.TheVariants as refusals
 use Rattle.end_rules.specs.Base.{Base, Item, last_invocation}
-use Rattle.end_rules.specs.Sets.{pair_of, is_deleted_in, same_name, may_send, carrier, lowest_with}
-use Rattle.end_rules.specs.State.{Body, Sets, OpenCall, Queued, is_up, is_free, is_none, is_empty, bare_set, opened_with}
-use Rattle.end_rules.specs.Messages.{Message, Session, OfData, Values, Remote}
-use Rattle.end_rules.specs.Invoking.{invoke_apdu, result_apdu, error_apdu, is_too_long, is_stopped, next_id, carrier_in, lacks_carrier, can_invoke_operation, can_answer_open, can_refuse_open, operation_of}
+use Rattle.end_rules.specs.Sets.{pair_of, is_deleted_in}
+use Rattle.end_rules.specs.State.{Body, Sets, OpenCall, is_up, is_free, opened_with}
+use Rattle.end_rules.specs.Messages.{Session, OfData, Values, Remote}
+use Rattle.end_rules.specs.Invoking.{invoke_apdu, is_stopped, next_id, can_invoke_operation}
 use Rattle.end_rules.specs.Hearing.{is_silent_at, head_of_apdu, value_on, data_on}
-use Rattle.end_rules.specs.Requesting.{after_call, due_of, after_invoke, due_invoke, invoking, after_outcome, due_outcome, answering, queueing}
+use Rattle.end_rules.specs.Requesting.{after_call, due_of, after_invoke, due_invoke, invoking}
+use Rattle.end_rules.specs.Requesting.{queueing}
 use Rattle.agreement.specs.Messages as model
 use Rattle.agreement.specs.Messages.Act.{Says, Queues}
 use Rattle.agreement.specs.Messages.Message.{Data as model_data}
@@ -33,19 +29,22 @@ use Rattle.agreement.specs.Messages.Apdu.{Outcome as model_outcome}
 use Rattle.agreement.specs.State as states
 use Rattle.agreement.specs.Calls.{MayHandIn, is_link_allowed, has_room, may_answer}
 use Rattle.agreement.specs.Acts.{acted}
-use Rattle.end_model.specs.Seen.{Free, number_seen, pair_seen, apdu_seen, item_seen, queued_seen, calls_seen, opens_seen_on, is_outcome, allows_outcome, seen, setup_seen}
+use Rattle.end_model.specs.Seen.{Free, number_seen, apdu_seen, item_seen, queued_seen, calls_seen}
+use Rattle.end_model.specs.Seen.{opens_seen_on, is_outcome, allows_outcome, seen, setup_seen}
 use Rattle.end_model.specs.Rows.{at}
-use Rattle.end_model.specs.Opens.{IsNumber, IsProper, IsReadBack, AreNumbered, Numbered, fits_argument, fits_parameter, operation_of_code, error_of_code}
+use Rattle.end_model.specs.Opens.{IsNumber, IsProper, IsReadBack, AreNumbered, Numbered}
+use Rattle.end_model.specs.Opens.{fits_argument, operation_of_code}
 use Rattle.end_model.specs.Words.{IsData, AreOurs}
-use Rattle.end_model.specs.Acting.{ActsAs, HandsActs, SetsIn, IsSound, ReadsBack, HandsIn, HandingIn}
+use Rattle.end_model.specs.Acting.{ActsAs, HandsActs, SetsIn, IsSound, HandingIn}
 use Rattle.end_model.proofs.Marks.{map-snoc}
 use Rattle.end_model.proofs.Facts.{up-seen, free-seen}
 use Rattle.end_model.proofs.Held.{found-pair, some-deletes}
 use Rattle.end_model.proofs.Ladder.{passed, called}
-use Rattle.end_model.proofs.InvokeRungs.{Invokable, invokable, Answerable, answerable, Refusable, refusable, Outgoing}
+use Rattle.end_model.proofs.InvokeRungs.{Invokable, invokable}
 use Rattle.end_model.proofs.Opens.{found-seen, answer-found, on_opened, on-some, found}
 use Rattle.end_model.proofs.Numbered.{more-made, own-fresh, numbered-opening}
-use Rattle.end_model.proofs.Handing.{number-next, next-is_number, id-is_number, has-pair, carrier-sends, linking, room, own-opening, peers-closed}
+use Rattle.end_model.proofs.Handing.{number-next, next-is_number, has-pair, linking, room}
+use Rattle.end_model.proofs.Handing.{own-opening}
 
 -- ---- what is said, and what is queued
 

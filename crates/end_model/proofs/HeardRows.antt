@@ -1,18 +1,18 @@
 -- Data that is taken, with the reject that it brings.
-use Rattle.std.proofs.Common.{◌≡◌, refl, true, false, ◌∙◌, sym, ap, subst, ℕ, List, [], ◌∷◌, ◌++◌, map}
-use Rattle.std.specs.Prelude.{ℤ, Bool, not, ◌&&◌, ◌||◌, Option, Some, None, if◌then◌else◌}
+use Rattle.std.proofs.Common.{◌≡◌, refl, true, false, ◌∙◌, sym, ap, subst, ℕ, List, [], ◌∷◌, ◌++◌}
+use Rattle.std.proofs.Common.{map}
+use Rattle.std.specs.Prelude.{Bool, Option, Some, None}
 use Rattle.osi_base.specs.declared.session_word.SessionWord.TheVariants as units
-use Rattle.stub_tables.specs.declared.apdu.Apdu.{Apdu}
 use Rattle.dialogue.specs.declared.config.Mode.{Mode}
 use Rattle.dialogue.specs.declared.config.Mode.TheVariants.{Bare, Direct, Reliable}
 use Rattle.dialogue.specs.declared.indication.Indication.{Indication}
-use Rattle.end_rules.specs.Base.{Base, Item, is_reliable}
-use Rattle.end_rules.specs.State.{Body, Link, Calls, Queued, Awaited, NoAnswer, RestartOf, InterruptOf, DiscardOf, ReleaseOf, is_up, is_free}
-use Rattle.end_rules.specs.Messages.{Message, Value, Remote}
+use Rattle.end_rules.specs.Base.{Base, Item}
+use Rattle.end_rules.specs.State.{Body, Link, Calls, Queued, Awaited, NoAnswer, RestartOf}
+use Rattle.end_rules.specs.State.{InterruptOf, DiscardOf, ReleaseOf, is_up}
 use Rattle.end_rules.specs.Purging.{is_purged}
 use Rattle.end_rules.specs.Invoking.{carrier_in}
-use Rattle.end_rules.specs.Hearing.{Heard, Taken, Rejecting, reject_apdu, hear, head_of_apdu, on_heard, with_reject, sent_on, shown_first}
-use Rattle.end_rules.specs.Reacting.{word_fault}
+use Rattle.end_rules.specs.Hearing.{Heard, Taken, Rejecting, reject_apdu, hear, head_of_apdu}
+use Rattle.end_rules.specs.Hearing.{on_heard, sent_on}
 use Rattle.agreement.specs.Sets.{Role}
 use Rattle.agreement.specs.Messages as model
 use Rattle.agreement.specs.Messages.Act.{Says, Drops}
@@ -23,12 +23,13 @@ use Rattle.agreement.specs.State as states
 use Rattle.agreement.specs.Calls.{heard as model_heard}
 use Rattle.agreement.specs.Acts.{IsFree}
 use Rattle.agreement.specs.Takings.{taken}
-use Rattle.end_model.specs.Seen.{Free, mode_seen, role_seen, awaited_seen, apdu_seen, item_seen, queued_seen, calls_seen, seen, setup_seen}
+use Rattle.end_model.specs.Seen.{Free, mode_seen, role_seen, awaited_seen, apdu_seen, item_seen}
+use Rattle.end_model.specs.Seen.{queued_seen, calls_seen, seen, setup_seen}
 use Rattle.end_model.specs.Rows.{at}
-use Rattle.end_model.specs.Words.{AreOurs, data_word}
+use Rattle.end_model.specs.Words.{AreOurs}
 use Rattle.end_model.specs.Acting.{IsSound, QueuesIn}
 use Rattle.end_model.specs.Opens.{Numbered, IsProper}
-use Rattle.end_model.specs.Heard.{MayThen, then_acted, sent_then, HeardAs, HearsIn}
+use Rattle.end_model.specs.Heard.{MayThen, then_acted, sent_then, HearsIn}
 use Rattle.end_model.proofs.Facts.{up-seen, up-there}
 use Rattle.end_model.proofs.Held.{found-pair, some-deletes}
 use Rattle.end_model.proofs.Handing.{carrier-sends}

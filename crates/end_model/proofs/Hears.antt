@@ -1,6 +1,8 @@
 -- An APDU that is heard: what opens, what closes, which reject is due.
-use Rattle.std.proofs.Common.{◌≡◌, refl, true, false, ◌∙◌, sym, ap, subst, arith, ℕ, suc, ◌+◌, List, [], ◌∷◌, ◌++◌, length, map}
-use Rattle.std.specs.Prelude.{ℤ, pos, negsuc, Bool, not, ◌&&◌, ◌||◌, Option, Some, None, is_some, option_map, unwrap_or, if◌then◌else◌, nat_eq, nat_lt, nat_le}
+use Rattle.std.proofs.Common.{◌≡◌, refl, true, false, ◌∙◌, sym, ap, subst, arith, ℕ, List, [], ◌∷◌}
+use Rattle.std.proofs.Common.{◌++◌, length}
+use Rattle.std.specs.Prelude.{ℤ, pos, negsuc, Bool, not, ◌&&◌, ◌||◌, Option, Some, None, is_some}
+use Rattle.std.specs.Prelude.{option_map, unwrap_or, if◌then◌else◌, nat_eq, nat_lt, nat_le}
 use Rattle.std.proofs.lemmas.Bool.Decides.{nat_tests}
 use Rattle.osi_base.specs.declared.words.Problem.{Problem}
 use Rattle.osi_base.specs.declared.words.ProblemKind.{ProblemKind}
@@ -9,29 +11,37 @@ use Rattle.osi_base.specs.declared.syntax.Syntax.TheVariants.{Der}
 use Rattle.asn1_types.specs.declared.value.Val.{Val}
 use Rattle.stub_tables.specs.declared.operation.Code.{Code}
 use Rattle.stub_tables.specs.declared.operation.Operation.{Operation}
-use Rattle.stub_tables.specs.declared.operation.Use.{Use}
 use Rattle.stub_tables.specs.declared.apdu.Apdu.{Apdu}
 use Rattle.stub_tables.specs.declared.apdu.Apdu.TheVariants as apdus
 use Rattle.stub_tables.specs.declared.apdu.Returned.{Returned}
 use Rattle.stub_tables.specs.Lookup.{operation_at, operation_with, error_with}
-use Rattle.stub_tables.specs.Uses.{is_carried}
 use Rattle.dialogue.specs.declared.config.Mode.{Mode}
 use Rattle.end_rules.specs.Base.{Base, Carried, most_open}
-use Rattle.end_rules.specs.State.{OpenCall, Calls, opened_with, opens_of, close, is_none, is_empty}
+use Rattle.end_rules.specs.State.{OpenCall, Calls, opened_with, opens_of, is_none, is_empty}
 use Rattle.end_rules.specs.Sets.{is_among}
 use Rattle.end_rules.specs.Invoking.{is_linked_to, operation_of}
-use Rattle.end_rules.specs.Hearing.{Heard, Rejecting, reject_apdu, hear, head_of_apdu, carried_in, code_returned, value_returned, is_right, is_silent_at, has_links, link_problem, argument_problem, operation_problem, invoke_problem, opening, invoked, hear_invoke, unless_problem, rejected, told, hear_result_of, hear_error_of, hear_reject, result_problem, error_problem, first_problem, problem_if}
+use Rattle.end_rules.specs.Hearing.{Heard, Rejecting, reject_apdu, hear, head_of_apdu, carried_in}
+use Rattle.end_rules.specs.Hearing.{code_returned, value_returned, is_silent_at, has_links}
+use Rattle.end_rules.specs.Hearing.{link_problem, argument_problem, invoke_problem, opening}
+use Rattle.end_rules.specs.Hearing.{invoked, unless_problem, rejected, result_problem}
+use Rattle.end_rules.specs.Hearing.{error_problem, first_problem, problem_if}
 use Rattle.agreement.specs.Messages as model
-use Rattle.agreement.specs.Messages.Apdu.{Invoke as model_invoke, Outcome as model_outcome, Reject as model_reject}
+use Rattle.agreement.specs.Messages.Apdu.{Invoke as model_invoke, Outcome as model_outcome}
+use Rattle.agreement.specs.Messages.Apdu.{Reject as model_reject}
 use Rattle.agreement.specs.Messages.Problem.{OfInvocation as of_invocation}
 use Rattle.agreement.specs.State.{Handed}
-use Rattle.agreement.specs.Calls.{is_open, is_accepted, has_room, is_link_allowed, heard, rejects_of, may_answer, close as model_close}
-use Rattle.end_model.specs.Seen.{Free, number_seen, invocation_seen, opens_seen_on, calls_seen, apdu_seen, setup_seen, is_outcome, allows_outcome, problem_due, link_due, on_open, outcome_due, problem_seen, rejected_seen}
+use Rattle.agreement.specs.Calls.{is_open, is_accepted, has_room, is_link_allowed, heard}
+use Rattle.agreement.specs.Calls.{rejects_of}
+use Rattle.end_model.specs.Seen.{Free, number_seen, opens_seen_on, calls_seen, apdu_seen}
+use Rattle.end_model.specs.Seen.{setup_seen, is_outcome, allows_outcome, problem_due, link_due}
+use Rattle.end_model.specs.Seen.{on_open}
 use Rattle.end_model.specs.Rows.{at}
-use Rattle.end_model.specs.Opens.{IsNumber, IsNamed, IsProblem, IsProper, IsNumbered, AreNumbered, Numbered, fits_argument, operation_of_code}
+use Rattle.end_model.specs.Opens.{IsNumber, IsNamed, IsProblem, IsProper, AreNumbered, Numbered}
+use Rattle.end_model.specs.Opens.{fits_argument, operation_of_code}
 use Rattle.end_model.specs.Opens.{IsReadBack}
 use Rattle.end_model.specs.Heard.{IsExpected}
-use Rattle.end_model.proofs.Opens.{open-found, link-found, answer-found, found, found-seen, on_opened, on-some, joined-seen, length-seen}
+use Rattle.end_model.proofs.Opens.{open-found, link-found, answer-found, found, found-seen}
+use Rattle.end_model.proofs.Opens.{on_opened, on-some, joined-seen, length-seen}
 use Rattle.end_model.proofs.Numbered.{numbered-opening, numbered-closed}
 use Rattle.end_model.proofs.Handing.{own-closed}
 use Rattle.end_model.proofs.OutcomeRows.{right-carried}

@@ -1,14 +1,16 @@
 -- What a set and the own alterations say of an identifier is what they say in the model.
-use Rattle.std.proofs.Common.{◌≡◌, refl, true, false, ◌∙◌, sym, ap, arith, ℕ, List, [], ◌∷◌, ◌++◌, map}
-use Rattle.std.specs.Prelude.{Bool, not, ◌&&◌, ◌||◌, Option, Some, None, is_some, option_map, if◌then◌else◌, nat_eq}
+use Rattle.std.proofs.Common.{◌≡◌, refl, true, false, ◌∙◌, sym, ap, arith, ℕ, List, [], ◌∷◌, ◌++◌}
+use Rattle.std.proofs.Common.{map}
+use Rattle.std.specs.Prelude.{Bool, not, ◌&&◌, ◌||◌, Option, Some, None, is_some, option_map}
+use Rattle.std.specs.Prelude.{if◌then◌else◌, nat_eq}
 use Rattle.std.proofs.lemmas.Bool.Decides.{nat_tests}
 use Rattle.osi_base.specs.declared.syntax.Pair.{Pair}
 use Rattle.osi_base.specs.declared.words.SetItem.{SetItem}
 use Rattle.osi_base.specs.declared.words.Proposal.{Proposal}
-use Rattle.end_rules.specs.Sets.{Alteration, pair_of, is_among, is_deleted_in, may_send, carrier, lowest_with}
+use Rattle.end_rules.specs.Sets.{Alteration, pair_of, is_among, is_deleted_in, may_send}
 use Rattle.agreement.specs.Sets.{Item, lookup, deletes, some_deletes}
 use Rattle.agreement.specs.Sets.Item.{Deletion}
-use Rattle.end_model.specs.Seen.{pair_seen, context_seen, set_seen, addition_seen, items_seen}
+use Rattle.end_model.specs.Seen.{pair_seen, set_seen, addition_seen, items_seen}
 use Rattle.end_model.proofs.Restarts.{if-map}
 
 pub eq-sym : (a b : ℕ) → nat_eq a b ≡ nat_eq b a

@@ -1,20 +1,21 @@
 -- What an accepted Invoke, Answer or Refuse passed.
-use Rattle.std.proofs.Common.{◌≡◌, refl, true, false, ◌∙◌, sym, ap, ℕ, length}
-use Rattle.std.specs.Prelude.{ℤ, Bool, not, ◌&&◌, nat_le, Option, Some, None, Result, Ok, Err, if◌then◌else◌}
+use Rattle.std.proofs.Common.{◌≡◌, refl, true, false, ℕ, length}
+use Rattle.std.specs.Prelude.{ℤ, not, ◌&&◌, nat_le, Option, Some, None, Ok}
 use Rattle.asn1_types.specs.declared.value.Val.{Val}
 use Rattle.stub_tables.specs.declared.operation.Operation.{Operation}
 use Rattle.stub_tables.specs.declared.operation.ErrorRow.{ErrorRow}
 use Rattle.stub_tables.specs.declared.apdu.Apdu.{Apdu}
 use Rattle.stub_tables.specs.Codes.{is_silent, is_error_of}
-use Rattle.stub_tables.specs.Lookup.{operation_at, error_at}
 use Rattle.stub_tables.specs.Uses.{is_carried}
-use Rattle.dialogue.specs.declared.call.CallRefusal.{CallRefusal}
 use Rattle.dialogue.specs.declared.call.CallRefusal.TheVariants as refusals
 use Rattle.end_rules.specs.Base.{Base, most_open, last_invocation}
 use Rattle.end_rules.specs.Sets.{is_deleted_in}
-use Rattle.end_rules.specs.State.{Body, OpenCall, opened_with, opens_of}
-use Rattle.end_rules.specs.Invoking.{Reply, invoke_apdu, result_apdu, error_apdu, is_too_long, is_stopped, is_queue_full, next_id, is_on_module, linking_refusal, unless_refused, can_send_invoke, can_invoke_operation, can_invoke, lacks_carrier, can_send_outcome, can_answer_open, can_answer, operation_of, can_refuse_open, can_refuse}
-use Rattle.end_model.proofs.Ladder.{passed, Unrefused, unrefused, not-true}
+use Rattle.end_rules.specs.State.{Body, OpenCall, opens_of}
+use Rattle.end_rules.specs.Invoking.{invoke_apdu, result_apdu, error_apdu, is_too_long}
+use Rattle.end_rules.specs.Invoking.{is_queue_full, next_id, is_on_module, linking_refusal}
+use Rattle.end_rules.specs.Invoking.{can_send_invoke, can_invoke_operation, lacks_carrier}
+use Rattle.end_rules.specs.Invoking.{can_send_outcome, can_answer_open, can_refuse_open}
+use Rattle.end_model.proofs.Ladder.{passed, unrefused, not-true}
 
 -- ---- Invoke
 

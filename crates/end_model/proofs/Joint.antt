@@ -1,15 +1,16 @@
 -- Two ends of direct mode beside the model, with the set that they share: each step of the model keeps it.
-use Rattle.std.proofs.Common.{◌≡◌, refl, true, false, ◌∙◌, sym, ap, subst, ℕ, List, [], ◌∷◌, ◌++◌, map, ◌⊎◌}
-use Rattle.std.specs.Prelude.{Option, Some, None}
+use Rattle.std.proofs.Common.{◌≡◌, refl, ◌∙◌, sym, ap, subst, ℕ, List, [], ◌∷◌, ◌++◌}
 use Rattle.osi_base.specs.declared.words.Proposal.{Proposal}
 use Rattle.osi_base.specs.declared.words.SetItem.{SetItem}
-use Rattle.osi_base.specs.declared.words.Side.{Side}
 use Rattle.dialogue.specs.declared.config.Mode.TheVariants.{Direct}
 use Rattle.stub_tables.specs.declared.tables.Tables.{Tables}
 use Rattle.dialogue.specs.declared.config.Config.{Config}
 use Rattle.end_rules.specs.Base.{Base, Spellings}
-use Rattle.end_rules.specs.Sets.{Saved}
-use Rattle.end_rules.specs.Messages.{Message, TransportUnit, Word, AssociationWord, DataWord, MarkWord, ActivityWord, Transport, Session, OfAssociation, OfData, OfMarks, OfActivities, Connect, Accept, Refuse, Finish, Disconnect, Abort, AbortAccept, Values, AlterContext, AlterContextAck, Mark, MarkAck, Restart, RestartAck, Give, Please, GiveConfirm, GiveAck}
+use Rattle.end_rules.specs.Messages.{Message, TransportUnit, Word, Transport, Session}
+use Rattle.end_rules.specs.Messages.{OfAssociation, OfData, OfMarks, OfActivities, Connect, Accept}
+use Rattle.end_rules.specs.Messages.{Refuse, Finish, Disconnect, Abort, AbortAccept, Values}
+use Rattle.end_rules.specs.Messages.{AlterContext, AlterContextAck, Mark, MarkAck, Restart}
+use Rattle.end_rules.specs.Messages.{RestartAck, Give, Please, GiveConfirm, GiveAck}
 use Rattle.end_rules.specs.World.{Shared, shared_sent}
 use Rattle.end_rules.specs.State.{Body}
 use Rattle.end_rules.specs.Writing.{proposals}
@@ -21,7 +22,8 @@ use Rattle.agreement.specs.Sets.Role.{Initiator, Responder}
 use Rattle.agreement.specs.Messages as model
 use Rattle.agreement.specs.Messages.Mode.{Direct as model_direct}
 use Rattle.agreement.specs.Worlds as worlds
-use Rattle.agreement.specs.Worlds.{Sending, World, Step, state_of, sent_in, sendings, shared_at, without_first, taken_off, flight_to}
+use Rattle.agreement.specs.Worlds.{Sending, World, Step, state_of, sent_in, sendings, shared_at}
+use Rattle.agreement.specs.Worlds.{without_first, taken_off, flight_to}
 use Rattle.agreement.specs.Worlds.Step.{Acts, Takes, Passes}
 use Rattle.agreement.specs.Worlds.Moment.{By, Break}
 use Rattle.agreement.specs.Acts.{sent_by}

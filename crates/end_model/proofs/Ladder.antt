@@ -1,13 +1,14 @@
 -- A ladder of refusals that ends in an acceptance: no rung of it failed.
-use Rattle.std.proofs.Common.{◌≡◌, refl, true, false, ap, ◌∙◌}
-use Rattle.std.specs.Prelude.{ℤ, Bool, not, ◌&&◌, Option, Some, None, Result, Ok, Err, if◌then◌else◌}
+use Rattle.std.proofs.Common.{◌≡◌, refl, true, false}
+use Rattle.std.specs.Prelude.{ℤ, Bool, not, ◌&&◌, Option, Some, None, Ok, Err, if◌then◌else◌}
 use Rattle.dialogue.specs.declared.call.Call.{Call}
 use Rattle.dialogue.specs.declared.call.CallRefusal.{CallRefusal}
 use Rattle.dialogue.specs.declared.call.CallRefusal.TheVariants as refusals
 use Rattle.end_rules.specs.Base.{Base, is_bare}
 use Rattle.end_rules.specs.State.{Body}
 use Rattle.end_rules.specs.Invoking.{Reply, unless_refused}
-use Rattle.end_rules.specs.Calling.{can_call, can_by_rows, is_dead, is_initiators, is_phase_for, is_of_bare_mode}
+use Rattle.end_rules.specs.Calling.{can_call, can_by_rows, is_dead, is_initiators, is_phase_for}
+use Rattle.end_rules.specs.Calling.{is_of_bare_mode}
 
 pub record Passed (b : Bool) (r : Reply) (answer : Option ℤ) : Type 0 where
   pub holds : b ≡ false

@@ -1,13 +1,16 @@
 -- Each step of two ends keeps a run of the model.
-use Rattle.std.proofs.Common.{◌≡◌, refl, true, false, ◌∙◌, sym, ap, subst, List, [], ◌∷◌, ◌++◌, ◌⊎◌, inl, inr}
-use Rattle.std.specs.Prelude.{Bool, None}
+use Rattle.std.proofs.Common.{◌≡◌, refl, true, false, ◌∙◌, sym, ap, subst, List, [], ◌∷◌, ◌++◌, ◌⊎◌}
+use Rattle.std.proofs.Common.{inl, inr}
 use Rattle.osi_base.specs.declared.words.Proposal.{Proposal}
 use Rattle.dialogue.specs.declared.config.Mode.{Mode}
 use Rattle.dialogue.specs.declared.config.Mode.TheVariants.{Bare, Direct, Reliable}
 use Rattle.end_rules.specs.Base.{Base}
 use Rattle.end_rules.specs.State.{Body}
-use Rattle.end_rules.specs.Messages.{Message, Word, Value, AssociationWord, DataWord, TransportUnit, Transport, Session, OfAssociation, OfData, OfMarks, OfActivities, Connect, Accept, Refuse, Finish, Disconnect, Abort, AbortAccept, Values, AlterContext, AlterContextAck}
-use Rattle.end_rules.specs.Reacting.{after_word, answers_to_word}
+use Rattle.end_rules.specs.Messages.{Message, Word, Value, AssociationWord, DataWord, Transport}
+use Rattle.end_rules.specs.Messages.{Session, OfAssociation, OfData, OfMarks, OfActivities, Connect}
+use Rattle.end_rules.specs.Messages.{Accept, Refuse, Finish, Disconnect, Abort, AbortAccept, Values}
+use Rattle.end_rules.specs.Messages.{AlterContext, AlterContextAck}
+use Rattle.end_rules.specs.Reacting.{answers_to_word}
 use Rattle.end_rules.specs.History.{after_broke}
 use Rattle.agreement.specs.Sets.{Role, ContextSet, other, is_initiator}
 use Rattle.agreement.specs.Sets.Role.{Initiator, Responder}
@@ -16,17 +19,19 @@ use Rattle.agreement.specs.State as states
 use Rattle.agreement.specs.State.Phase.{Over}
 use Rattle.agreement.specs.Acts.{MayAct, acted, sent_by}
 use Rattle.agreement.specs.Takings.{MayTake, IsChoice, taken, answer_to, is_purged, broken}
-use Rattle.agreement.specs.Worlds.{Sending, World, IsRun, ComesNext, state_of, sendings, shared_at, without_first, flight_to}
+use Rattle.agreement.specs.Worlds.{Sending, World, ComesNext, state_of, sendings, shared_at}
+use Rattle.agreement.specs.Worlds.{without_first, flight_to}
 use Rattle.agreement.specs.Worlds.Step.{Acts, Takes, Passes}
-use Rattle.agreement.specs.Worlds.Moment.{By, Break}
+use Rattle.agreement.specs.Worlds.Moment.{Break}
 use Rattle.agreement.proofs.Interface.{acts, takes, passes}
 use Rattle.end_model.specs.Seen.{Free, role_seen, seen}
-use Rattle.end_model.specs.Words.{IsData, IsChunk, ValuesMean, DataMeans, AssociationMeans, Means, AreMeant}
-use Rattle.end_model.specs.Acting.{ActsAs, TakenAs}
+use Rattle.end_model.specs.Words.{IsData, ValuesMean, DataMeans, AssociationMeans, Means, AreMeant}
 use Rattle.end_model.specs.Pairs.{Common, base_at, setup_of}
-use Rattle.end_model.specs.Steps.{AreOnWay, EndOf, BothEnds, ActsKept, TookIt, TakesKept, PassedIt, PassesKept, BreaksSo, BreaksKept, UnseenKept, UnitsKept}
+use Rattle.end_model.specs.Steps.{AreOnWay, EndOf, ActsKept, TakesKept, PassesKept, BreaksSo}
+use Rattle.end_model.specs.Steps.{BreaksKept, UnseenKept, UnitsKept}
 use Rattle.end_model.proofs.Breaking.{broken-seen}
-use Rattle.end_model.proofs.BareMachine.{role-back, state-own, state-other, flight-own, flight-other}
+use Rattle.end_model.proofs.BareMachine.{role-back, state-own, state-other, flight-own}
+use Rattle.end_model.proofs.BareMachine.{flight-other}
 
 -- ---- what a word means at one end it means at the other
 

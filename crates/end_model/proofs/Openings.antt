@@ -1,5 +1,5 @@
 -- Openings and recoveries, as they are taken.
-use Rattle.std.proofs.Common.{◌≡◌, refl, true, false, ◌∙◌, sym, ap, subst, List, [], ◌∷◌}
+use Rattle.std.proofs.Common.{◌≡◌, refl, true, false, ◌∙◌, sym, ap, List, [], ◌∷◌}
 use Rattle.std.specs.Prelude.{ℕ, Bool, not, ◌||◌, is_some, if◌then◌else◌}
 use Rattle.osi_base.specs.declared.words.SetItem.{SetItem}
 use Rattle.osi_base.specs.declared.words.Proposal.{Proposal}
@@ -11,17 +11,21 @@ use Rattle.dialogue.specs.declared.config.Mode.TheVariants.{Bare, Direct, Reliab
 use Rattle.dialogue.specs.declared.config.Phase.{Phase}
 use Rattle.dialogue.specs.declared.config.Phase.TheVariants as phases
 use Rattle.end_rules.specs.Base.{Base}
-use Rattle.end_rules.specs.State.{Body, Stage, Unused, Asked, Joined, Carrying, is_broken, new_body}
-use Rattle.end_rules.specs.Connecting.{Agreed, agreed_for, set_for, set_accepted, results_for, has_acse, is_refused, recovers_in, joined_with, begun_with, accepted_connect, refused_connect, after_connect, refusal_message, acceptance_message, answer_to_connect, context_named, the_one, lacks_request, rejecting_information, transfer_rejection}
+use Rattle.end_rules.specs.State.{Body, Stage, Unused, Asked, Joined, Carrying, is_broken}
+use Rattle.end_rules.specs.Connecting.{Agreed, agreed_for, set_for, set_accepted, results_for}
+use Rattle.end_rules.specs.Connecting.{has_acse, is_refused, recovers_in, joined_with, begun_with}
+use Rattle.end_rules.specs.Connecting.{refused_connect, refusal_message, context_named, the_one}
+use Rattle.end_rules.specs.Connecting.{lacks_request, rejecting_information, transfer_rejection}
 use Rattle.end_rules.specs.Writing.{provider_refusal, refuse_message}
 use Rattle.end_rules.specs.Units.{selected_with, manages_with}
-use Rattle.end_rules.specs.Messages.{Accepting, Message, Value, OfAssociation, Connect, Accept}
-use Rattle.agreement.specs.Sets.{Role, ContextSet, is_initiator}
-use Rattle.agreement.specs.Messages as model
+use Rattle.end_rules.specs.Messages.{Accepting, Value, OfAssociation, Connect, Accept}
+use Rattle.agreement.specs.Sets.{ContextSet}
 use Rattle.agreement.specs.Messages.Choice.{Nothing, Accepting as accepting, Refusing}
-use Rattle.agreement.specs.Messages.Message.{Connect as model_connect, Recover as model_recover, Accept as model_accept, Refuse as model_refuse}
+use Rattle.agreement.specs.Messages.Message.{Connect as model_connect, Recover as model_recover}
+use Rattle.agreement.specs.Messages.Message.{Accept as model_accept, Refuse as model_refuse}
 use Rattle.agreement.specs.State as states
-use Rattle.agreement.specs.State.Phase.{Idle as model_idle, Opening as model_opening, Over as model_over}
+use Rattle.agreement.specs.State.Phase.{Idle as model_idle, Opening as model_opening}
+use Rattle.agreement.specs.State.Phase.{Over as model_over}
 use Rattle.agreement.specs.Takings.{refusing}
 use Rattle.end_model.specs.Seen.{Free, mode_seen, role_seen, set_seen, phase_seen, seen, setup_seen}
 use Rattle.end_model.specs.Rows.{at}

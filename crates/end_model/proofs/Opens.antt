@@ -1,13 +1,16 @@
 -- The open invocations of one end as the model sees them.
-use Rattle.std.proofs.Common.{◌≡◌, ◌≢◌, refl, true, false, ◌∙◌, sym, ap, arith, ℕ, suc, ◌+◌, ◌≤◌, List, [], ◌∷◌, ◌++◌, length, map, nat_lt, cond}
-use Rattle.std.specs.Prelude.{ℤ, pos, negsuc, Bool, not, ◌&&◌, ◌||◌, Option, Some, None, is_some, if◌then◌else◌, nat_eq, filter, find}
+use Rattle.std.proofs.Common.{◌≡◌, refl, true, false, ◌∙◌, sym, ap, arith, ℕ, ◌+◌, List, [], ◌∷◌}
+use Rattle.std.proofs.Common.{◌++◌, length}
+use Rattle.std.specs.Prelude.{ℤ, pos, negsuc, Bool, not, ◌&&◌, ◌||◌, Option, Some, None, is_some}
+use Rattle.std.specs.Prelude.{if◌then◌else◌, nat_eq}
 use Rattle.std.specs.Ordering.{int_eq}
-use Rattle.std.proofs.lemmas.Bool.Decides.{nat_tests, Decides-int_eq}
-use Rattle.end_rules.specs.State.{OpenCall, is_whose, is_key, opened_with, opens_of, closed, orphaned}
+use Rattle.std.proofs.lemmas.Bool.Decides.{nat_tests}
+use Rattle.end_rules.specs.State.{OpenCall, is_whose, is_key, opened_with, opens_of, closed}
+use Rattle.end_rules.specs.State.{orphaned}
 use Rattle.agreement.specs.Messages.{Invocation, Setup}
 use Rattle.agreement.specs.Calls.{is_open, close, is_link_allowed, may_answer}
 use Rattle.end_model.specs.Seen.{number_seen, invocation_seen, opens_seen_on}
-use Rattle.end_model.specs.Opens.{IsNumber, IsNumbered, AreNumbered}
+use Rattle.end_model.specs.Opens.{IsNumber, AreNumbered}
 
 pub same-number : (i : ℤ) (n : ℕ) → IsNumber i → int_eq i (pos n) ≡ nat_eq (number_seen i) n
 same-number (pos m) n h = grind (arith, nat_tests)

@@ -1,12 +1,10 @@
 -- The acts of Answer and Refuse.
-use Rattle.std.proofs.Common.{◌≡◌, refl, true, false, ◌∙◌, sym, ap, subst, arith, ℕ, suc, List, [], ◌∷◌, ◌++◌, map}
-use Rattle.std.specs.Prelude.{ℤ, pos, negsuc, Bool, not, ◌&&◌, Option, Some, None, is_some, option_map, unwrap_or, Ok, if◌then◌else◌, nat_eq}
+use Rattle.std.proofs.Common.{◌≡◌, refl, true, false, ◌∙◌, sym, ap, subst, arith, ℕ, List, [], ◌∷◌}
+use Rattle.std.proofs.Common.{◌++◌, map}
+use Rattle.std.specs.Prelude.{ℤ, pos, negsuc, Bool, Option, Some, None, if◌then◌else◌, nat_eq}
 use Rattle.std.specs.List.{list_any}
 use Rattle.std.proofs.lemmas.Bool.Decides.{nat_tests}
-use Rattle.std.specs.Cmp.Lexicographic.{pointwise}
-use Rattle.osi_base.specs.declared.syntax.Pair.{Pair}
 use Rattle.osi_base.specs.declared.syntax.Syntax.TheVariants.{Der}
-use Rattle.osi_base.specs.declared.words.SetItem.{SetItem}
 use Rattle.osi_base.specs.declared.words.Proposal.{Proposal}
 use Rattle.asn1_types.specs.declared.value.Val.{Val}
 use Rattle.stub_tables.specs.declared.operation.Operation.{Operation}
@@ -22,11 +20,14 @@ use Rattle.dialogue.specs.declared.config.Mode.TheVariants.{Bare, Direct, Reliab
 use Rattle.dialogue.specs.declared.call.Call.TheVariants as the_calls
 use Rattle.dialogue.specs.declared.call.CallRefusal.TheVariants as refusals
 use Rattle.end_rules.specs.Base.{Base, Item}
-use Rattle.end_rules.specs.Sets.{Alteration, same_name, may_send, carrier, lowest_with, pair_of}
-use Rattle.end_rules.specs.State.{Body, OpenCall, Calls, is_up, is_free, is_none, is_empty, bare_set, opened_with, close}
-use Rattle.end_rules.specs.Invoking.{result_apdu, error_apdu, is_too_long, is_stopped, carrier_in, lacks_carrier, can_answer_open, can_refuse_open, operation_of}
-use Rattle.end_rules.specs.Hearing.{head_of_apdu, carried_in, is_right, is_right_result, result_problem, error_problem, known_error_problem, is_place, data_on}
-use Rattle.end_rules.specs.Requesting.{after_outcome, due_outcome, answering, result_for, error_for, operation_opened, sent_at_once, queueing}
+use Rattle.end_rules.specs.Sets.{same_name, may_send, carrier, lowest_with}
+use Rattle.end_rules.specs.State.{Body, OpenCall, Calls, is_up, is_free, is_none, is_empty}
+use Rattle.end_rules.specs.State.{bare_set, opened_with, close}
+use Rattle.end_rules.specs.Invoking.{result_apdu, error_apdu, is_stopped, carrier_in}
+use Rattle.end_rules.specs.Invoking.{can_answer_open, can_refuse_open, operation_of}
+use Rattle.end_rules.specs.Hearing.{head_of_apdu, carried_in, is_right}
+use Rattle.end_rules.specs.Requesting.{after_outcome, due_outcome, answering, result_for, error_for}
+use Rattle.end_rules.specs.Requesting.{operation_opened, sent_at_once, queueing}
 use Rattle.agreement.specs.Messages as model
 use Rattle.agreement.specs.Messages.Act.{Says, Queues}
 use Rattle.agreement.specs.Messages.Apdu.{Outcome as model_outcome}
@@ -35,16 +36,18 @@ use Rattle.agreement.specs.Calls.{handed_in, due_after, close as model_close}
 use Rattle.agreement.specs.Acts.{acted}
 use Rattle.agreement.specs.Worlds.Step.{Acts}
 use Rattle.agreement.specs.Laws.{handed_by}
-use Rattle.end_model.specs.Seen.{Free, number_seen, apdu_seen, item_seen, queued_seen, calls_seen, is_outcome, seen, setup_seen}
+use Rattle.end_model.specs.Seen.{Free, number_seen, apdu_seen, item_seen, queued_seen, calls_seen}
+use Rattle.end_model.specs.Seen.{is_outcome, seen, setup_seen}
 use Rattle.end_model.specs.Rows.{at}
-use Rattle.end_model.specs.Opens.{IsNumber, IsProper, IsReadBack, AreNumbered, FitsReturned, fits_result, fits_parameter, operation_of_code, error_of_code}
-use Rattle.end_model.specs.Acting.{HandsActs, IsSound, HasBareSet, ReadsBack, HandsIn, HandingIn}
-use Rattle.end_model.proofs.Held.{MaySend}
+use Rattle.end_model.specs.Opens.{IsNumber, IsProper, IsReadBack, AreNumbered, fits_result}
+use Rattle.end_model.specs.Opens.{fits_parameter, operation_of_code, error_of_code}
+use Rattle.end_model.specs.Acting.{HandsActs, IsSound, HasBareSet, HandingIn}
 use Rattle.end_model.proofs.Ladder.{passed, called}
-use Rattle.end_model.proofs.InvokeRungs.{Answerable, answerable, Refusable, refusable, Outgoing}
+use Rattle.end_model.proofs.InvokeRungs.{answerable, refusable, Outgoing}
 use Rattle.end_model.proofs.Numbered.{numbered-closed}
 use Rattle.end_model.proofs.Handing.{id-is_number, carrier-sends, peers-closed}
-use Rattle.end_model.proofs.HandingRows.{said, queued, our-data, same-sets, queue-seen, calm-at, IsOutcome, handed-outcome}
+use Rattle.end_model.proofs.HandingRows.{said, queued, our-data, same-sets, queue-seen, calm-at}
+use Rattle.end_model.proofs.HandingRows.{IsOutcome, handed-outcome}
 
 -- ---- outcomes that are allowed
 

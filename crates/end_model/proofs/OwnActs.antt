@@ -1,17 +1,22 @@
 -- What an end of reliable mode does by itself.
-use Rattle.std.proofs.Common.{◌≡◌, refl, true, false, ◌∙◌, sym, ap, subst, ℕ, suc, List, [], ◌∷◌, map, take, length}
-use Rattle.std.specs.Prelude.{Bool, not, ◌&&◌, Option, Some, None, is_some, option_map, if◌then◌else◌, nat_lt}
+use Rattle.std.proofs.Common.{◌≡◌, refl, true, false, ◌∙◌, sym, ap, subst, ℕ, suc, List, [], ◌∷◌}
+use Rattle.std.proofs.Common.{map, take, length}
+use Rattle.std.specs.Prelude.{Bool, not, ◌&&◌, Option, Some, None, is_some, option_map}
+use Rattle.std.specs.Prelude.{if◌then◌else◌, nat_lt}
 use Rattle.osi_base.specs.declared.syntax.Pair.{Pair}
 use Rattle.osi_base.specs.declared.words.Proposal.{Proposal}
 use Rattle.dialogue.specs.declared.config.Mode.TheVariants.{Reliable}
 use Rattle.end_rules.specs.Base.{Base, last_activity}
 use Rattle.end_rules.specs.Sets.{pair_of}
-use Rattle.end_rules.specs.State.{Body, Transfer, Encoded, Queued, Progress, Running, Ending, Suspended, is_up, is_free, is_empty, is_running, highest}
-use Rattle.end_rules.specs.Messages.{Message, Session, OfData, OfMarks, OfActivities, Values, Mark, Start, End}
+use Rattle.end_rules.specs.State.{Body, Transfer, Encoded, Queued, Progress, Running, Ending}
+use Rattle.end_rules.specs.State.{Suspended, is_up, is_free, is_empty, is_running, highest}
+use Rattle.end_rules.specs.Messages.{Session, OfMarks, OfActivities, Mark, Start, End}
 use Rattle.end_rules.specs.Writing.{part_message}
 use Rattle.end_rules.specs.Invoking.{carrier_in}
 use Rattle.end_rules.specs.Requesting.{after_sent}
-use Rattle.end_rules.specs.ByItself.{OwnAct, SendsNow, EncodesOn, leads, part_size, ends_in_octets, is_window_full, next_of, left_of, encodes_on, next_of_encoded, next_start, next_in, next_own, item_on, encoded_as, encoding}
+use Rattle.end_rules.specs.ByItself.{OwnAct, SendsNow, EncodesOn, leads, part_size, ends_in_octets}
+use Rattle.end_rules.specs.ByItself.{is_window_full, next_of, left_of, encodes_on, next_of_encoded}
+use Rattle.end_rules.specs.ByItself.{next_start, next_in, next_own, item_on, encoded_as, encoding}
 use Rattle.agreement.specs.Sets.{lookup}
 use Rattle.agreement.specs.Messages as model
 use Rattle.agreement.specs.Messages.Act.{Starts, Encodes}
@@ -19,11 +24,12 @@ use Rattle.agreement.specs.Messages.Message.{Start as model_start}
 use Rattle.agreement.specs.State as states
 use Rattle.agreement.specs.State.Progress.{Running as model_running}
 use Rattle.agreement.specs.Acts.{Leads, IsUnencoded, IsWritable, MayEncode, value_on}
-use Rattle.end_model.specs.Seen.{Free, pair_seen, set_seen, item_seen, progress_seen, queued_seen, encoded_seen, current_seen, transfer_seen, seen, setup_seen}
+use Rattle.end_model.specs.Seen.{Free, pair_seen, set_seen, progress_seen, queued_seen}
+use Rattle.end_model.specs.Seen.{encoded_seen, current_seen, transfer_seen, seen}
 use Rattle.end_model.specs.Rows.{at}
 use Rattle.end_model.specs.Acting.{ActsAs}
 use Rattle.end_model.specs.OwnActs.{ByItselfActs}
-use Rattle.end_model.proofs.Held.{MaySend, lookup-seen}
+use Rattle.end_model.proofs.Held.{lookup-seen}
 use Rattle.end_model.proofs.Handing.{carrier-sends}
 use Rattle.end_model.proofs.Requests.{leads-there}
 use Rattle.end_model.proofs.Transfers.{on-current, start-sent}

@@ -1,33 +1,35 @@
 -- The other calls are acts.
-use Rattle.std.proofs.Common.{◌≡◌, refl, true, false, ◌∙◌, sym, ap, subst, arith, ℕ, suc, ◌+◌, ◌≤◌, List, [], ◌∷◌, ◌++◌, length, map}
-use Rattle.std.specs.Prelude.{ℤ, Bool, not, ◌&&◌, ◌||◌, Option, Some, None, Ok, if◌then◌else◌, nat_lt, nat_le, is_some}
+use Rattle.std.proofs.Common.{◌≡◌, refl, true, false, ◌∙◌, sym, ap, subst, arith, ℕ, ◌+◌, ◌≤◌, List}
+use Rattle.std.proofs.Common.{[], ◌∷◌, length, map}
+use Rattle.std.specs.Prelude.{ℤ, Bool, not, ◌&&◌, ◌||◌, Option, Some, None, Ok, nat_lt, nat_le}
 use Rattle.std.proofs.lemmas.Bool.Decides.{nat_tests}
-use Rattle.osi_base.specs.declared.words.Proposal.{Proposal}
 use Rattle.dialogue.specs.declared.config.Mode.{Mode}
-use Rattle.dialogue.specs.declared.config.Mode.TheVariants.{Bare, Direct, Reliable}
+use Rattle.dialogue.specs.declared.config.Mode.TheVariants.{Direct, Reliable}
 use Rattle.dialogue.specs.declared.config.Phase.{Phase}
 use Rattle.dialogue.specs.declared.config.Phase.TheVariants as phases
 use Rattle.dialogue.specs.declared.call.Call.TheVariants as the_calls
 use Rattle.dialogue.specs.declared.call.CallRefusal.TheVariants as refusals
 use Rattle.end_rules.specs.Base.{Base, is_direct, is_reliable, most_marks}
-use Rattle.end_rules.specs.Sets.{Alteration, Saved, next_number}
-use Rattle.end_rules.specs.State.{Body, OpenCall, Transfer, Progress, Running, Ending, Suspended, Asked, is_up, is_broken, is_free, is_empty, is_none, is_current, is_running, is_ending, is_suspended, opens_of}
+use Rattle.end_rules.specs.Sets.{next_number}
+use Rattle.end_rules.specs.State.{Body, OpenCall, Transfer, Progress, Running, Ending, Suspended}
+use Rattle.end_rules.specs.State.{is_up, is_broken, is_free, is_empty, is_none, is_current}
+use Rattle.end_rules.specs.State.{is_running, is_ending, is_suspended, opens_of}
 use Rattle.end_rules.specs.Units.{has_token, has_marks, has_restarts}
-use Rattle.end_rules.specs.Messages.{Session, OfMarks, OfActivities, Mark, Restart, Resume}
-use Rattle.end_rules.specs.Calling.{can_mark, can_give, can_please, can_restart, can_stop, can_resume, can_release, has_activity, is_idle}
-use Rattle.agreement.specs.Sets.{Role, next_number as model_next}
+use Rattle.end_rules.specs.Calling.{can_stop, can_release, has_activity, is_idle}
 use Rattle.agreement.specs.Sets.Role.{Initiator}
 use Rattle.agreement.specs.Messages as model
-use Rattle.agreement.specs.Messages.Act.{Marks, Gives, Pleads, Restarts, Interrupts, Discards, Resumes, Releases}
-use Rattle.agreement.specs.Messages.Message.{Mark as model_mark, Restart as model_restart, Resume as model_resume}
+use Rattle.agreement.specs.Messages.Act.{Marks, Gives, Pleads, Restarts, Interrupts, Discards}
+use Rattle.agreement.specs.Messages.Act.{Resumes, Releases}
+use Rattle.agreement.specs.Messages.Message.{Mark as model_mark, Restart as model_restart}
+use Rattle.agreement.specs.Messages.Message.{Resume as model_resume}
 use Rattle.agreement.specs.State as states
 use Rattle.agreement.specs.State.Progress.{Running as model_running, Suspended as model_suspended}
 use Rattle.agreement.specs.Acts.{IsFree, Leads, RestsOrNone, has_progress}
-use Rattle.end_model.specs.Seen.{Free, role_seen, phase_seen, awaited_seen, items_seen, calls_seen, opens_seen_on, queued_seen, progress_seen, transfer_seen, saved_seen, seen, setup_seen}
+use Rattle.end_model.specs.Seen.{role_seen, phase_seen, items_seen, opens_seen_on, queued_seen}
+use Rattle.end_model.specs.Seen.{progress_seen, transfer_seen, seen}
 use Rattle.end_model.specs.Rows.{at}
-use Rattle.end_model.specs.Acting.{ActsAs, IsSound}
 use Rattle.end_model.specs.Requests.{CallActs, CallUnseen}
-use Rattle.end_model.proofs.Facts.{is-up, up-seen, free-seen, is-empty}
+use Rattle.end_model.proofs.Facts.{up-seen, free-seen, is-empty}
 use Rattle.end_model.proofs.Ladder.{passed, not-true, called}
 use Rattle.end_model.proofs.Marks.{next-seen, mark-sent}
 use Rattle.end_model.proofs.Sendings.{restored-seen, confirmed-of}

@@ -1,10 +1,10 @@
 -- The takings of each kind of word, in direct and in reliable mode.
-use Rattle.std.proofs.Common.{◌≡◌, refl, true, false, ◌∙◌, sym, ap, subst, ℕ, suc, List, [], ◌∷◌, ◌≤◌, map, length}
-use Rattle.std.specs.Prelude.{Bool, not, ◌&&◌, Option, Some, None, nat_eq, nat_le}
+use Rattle.std.proofs.Common.{◌≡◌, refl, true, ◌∙◌, sym, ap, subst, ℕ, suc, List, [], ◌∷◌, ◌≤◌, map}
+use Rattle.std.proofs.Common.{length}
+use Rattle.std.specs.Prelude.{Option, Some, nat_eq, nat_le}
 use Rattle.osi_base.specs.declared.words.Proposal.{Proposal}
 use Rattle.osi_base.specs.declared.words.Answers.{Answers}
 use Rattle.osi_base.specs.declared.words.RestoredItem.{RestoredItem}
-use Rattle.osi_base.specs.declared.words.SetItem.{SetItem}
 use Rattle.dialogue.specs.declared.config.Mode.{Mode}
 use Rattle.dialogue.specs.declared.config.Mode.TheVariants.{Bare, Direct, Reliable}
 use Rattle.end_rules.specs.Base.{Base, most_marks}
@@ -17,10 +17,23 @@ use Rattle.end_rules.specs.Connecting.{the_one}
 use Rattle.end_rules.specs.TakesAssociation.{is_release_request, is_release_response}
 use Rattle.end_rules.specs.TakesData.{alteration, settled}
 use Rattle.end_rules.specs.TakesMarks.{priority_in}
-use Rattle.end_rules.specs.Messages.{AbortData, Value, OfAssociation, OfData, OfMarks, OfActivities, Finish, Disconnect, Abort, AlterContext, AlterContextAck, Mark, Restart, RestartAck, Give, Please, GiveConfirm, GiveAck, Start, Interrupt, InterruptAck, Discard}
+use Rattle.end_rules.specs.Messages.{AbortData, Value, OfAssociation, OfData, OfMarks, OfActivities}
+use Rattle.end_rules.specs.Messages.{Finish, Disconnect, Abort, AlterContext, AlterContextAck, Mark}
+use Rattle.end_rules.specs.Messages.{Restart, RestartAck, Give, Please, GiveConfirm, GiveAck, Start}
+use Rattle.end_rules.specs.Messages.{Interrupt, InterruptAck, Discard}
 use Rattle.agreement.specs.Sets as sets
 use Rattle.agreement.specs.Messages.Choice.{Nothing}
-use Rattle.agreement.specs.Messages.Message.{Mark as model_mark, Restart as model_restart, RestartAnswer as model_restart_answer, Give as model_give, GiveAnswer as model_give_answer, Please as model_please, Start as model_start, Interrupt as model_interrupt, InterruptAnswer as model_interrupt_answer, Discard as model_discard, Alter as model_alter, AlterAnswer as model_alter_answer, Release as model_release, ReleaseAnswer as model_release_answer, UserAbort as model_abort}
+use Rattle.agreement.specs.Messages.Message.{Mark as model_mark, Restart as model_restart}
+use Rattle.agreement.specs.Messages.Message.{RestartAnswer as model_restart_answer}
+use Rattle.agreement.specs.Messages.Message.{Give as model_give, GiveAnswer as model_give_answer}
+use Rattle.agreement.specs.Messages.Message.{Please as model_please, Start as model_start}
+use Rattle.agreement.specs.Messages.Message.{Interrupt as model_interrupt}
+use Rattle.agreement.specs.Messages.Message.{InterruptAnswer as model_interrupt_answer}
+use Rattle.agreement.specs.Messages.Message.{Discard as model_discard, Alter as model_alter}
+use Rattle.agreement.specs.Messages.Message.{AlterAnswer as model_alter_answer}
+use Rattle.agreement.specs.Messages.Message.{Release as model_release}
+use Rattle.agreement.specs.Messages.Message.{ReleaseAnswer as model_release_answer}
+use Rattle.agreement.specs.Messages.Message.{UserAbort as model_abort}
 use Rattle.agreement.specs.State as states
 use Rattle.agreement.specs.Takings.{MayTake, altered_first, later}
 use Rattle.end_model.specs.Seen.{Free, role_seen, set_seen, items_seen, seen, setup_seen}
@@ -35,7 +48,9 @@ use Rattle.end_model.proofs.Restarts.{restarted-seen}
 use Rattle.end_model.proofs.Sendings.{restored-seen}
 use Rattle.end_model.proofs.Altered.{altered-seen}
 use Rattle.end_model.proofs.Fitting.{all-fit, policy-fits, and-left}
-use Rattle.end_model.proofs.Takes.{eq-true, le-true, up-now, is-responder, fine, no-list_fault, awaits-restart, awaits-release, awaits-interrupt, no-faulty_proposal}
+use Rattle.end_model.proofs.Takes.{eq-true, le-true, up-now, is-responder, fine, no-list_fault}
+use Rattle.end_model.proofs.Takes.{awaits-restart, awaits-release, awaits-interrupt}
+use Rattle.end_model.proofs.Takes.{no-faulty_proposal}
 
 -- ---- marks and the turn
 

@@ -1,39 +1,37 @@
 -- What the model may take has no fault.
-use Rattle.std.proofs.Common.{◌≡◌, refl, true, false, ◌∙◌, sym, ap, subst, arith, ℕ, suc, ◌≤◌, ◌%◌, List, [], ◌∷◌, ◌++◌, map}
-use Rattle.std.specs.Prelude.{Bool, not, ◌&&◌, ◌||◌, Option, Some, None, is_some, option_map, if◌then◌else◌, nat_eq, nat_le}
-use Rattle.std.specs.Cmp.Lexicographic.{pointwise}
+use Rattle.std.proofs.Common.{◌≡◌, refl, true, false, ◌∙◌, sym, ap, subst, arith, ℕ, ◌≤◌, ◌%◌, List}
+use Rattle.std.proofs.Common.{[], ◌∷◌, ◌++◌, map}
+use Rattle.std.specs.Prelude.{Bool, not, ◌&&◌, ◌||◌, Option, Some, None, is_some, option_map}
+use Rattle.std.specs.Prelude.{nat_eq, nat_le}
 use Rattle.std.specs.List.{list_any}
 use Rattle.std.proofs.lemmas.Bool.Decides.{nat_tests}
 use Rattle.osi_base.specs.declared.syntax.Pair.{Pair}
 use Rattle.osi_base.specs.declared.words.SetItem.{SetItem}
 use Rattle.osi_base.specs.declared.words.Proposal.{Proposal}
 use Rattle.osi_base.specs.declared.words.RestoredItem.{RestoredItem}
-use Rattle.dialogue.specs.declared.config.Mode.{Mode}
-use Rattle.dialogue.specs.declared.config.Mode.TheVariants.{Bare, Direct, Reliable}
-use Rattle.end_rules.specs.Base.{Base, Fault, most_marks}
-use Rattle.end_rules.specs.State.{Body, Awaited, NoAnswer, RestartOf, InterruptOf, DiscardOf, ReleaseOf, Queued, Carrying, is_up, highest}
-use Rattle.end_rules.specs.Sets.{Alteration, Saved, pair_of, is_among, same_name, same_lists, listed, has_parity, proposed_ids, next_number}
+use Rattle.end_rules.specs.Base.{Base}
+use Rattle.end_rules.specs.State.{Body, Awaited, NoAnswer, RestartOf, InterruptOf, DiscardOf}
+use Rattle.end_rules.specs.State.{ReleaseOf, is_up}
+use Rattle.end_rules.specs.Sets.{Alteration, pair_of, is_among, same_name, same_lists, listed}
+use Rattle.end_rules.specs.Sets.{has_parity, proposed_ids}
 use Rattle.end_rules.specs.Altering.{has_double}
-use Rattle.end_rules.specs.Policy.{policy, is_faulty_proposal}
-use Rattle.end_rules.specs.Faults.{or_fault, fault_if, session_fault}
+use Rattle.end_rules.specs.Policy.{is_faulty_proposal}
 use Rattle.end_rules.specs.InPlace.{is_in_place, awaits_restart, awaits_release, awaits_interrupt}
-use Rattle.end_rules.specs.Connecting.{the_one}
-use Rattle.end_rules.specs.TakesAssociation.{is_release_request, is_release_response}
-use Rattle.end_rules.specs.TakesData.{alteration}
-use Rattle.end_rules.specs.TakesMarks.{restored_set, list_fault, priority_in}
+use Rattle.end_rules.specs.TakesMarks.{restored_set, list_fault}
 use Rattle.end_rules.specs.Reacting.{fault_above, word_fault}
-use Rattle.end_rules.specs.Messages.{Word, unit_of, OfMarks, Restart, RestartAck}
+use Rattle.end_rules.specs.Messages.{Word, unit_of}
 use Rattle.agreement.specs.Sets as sets
 use Rattle.agreement.specs.Sets.Role.{Initiator, Responder}
 use Rattle.agreement.specs.Sets.Item.{Deletion}
 use Rattle.agreement.specs.Takings.{additions}
 use Rattle.agreement.specs.State.Phase.{Up as model_up}
-use Rattle.agreement.specs.State.Awaited.{RestartOf as model_restart_of, ReleaseOf as model_release_of, InterruptOf as model_interrupt_of}
-use Rattle.end_model.specs.Seen.{Free, role_seen, pair_seen, set_seen, addition_seen, items_seen, listed_seen, awaited_seen, piece_seen, saved_seen, phase_seen}
-use Rattle.end_model.specs.Rows.{at}
+use Rattle.agreement.specs.State.Awaited.{RestartOf as model_restart_of}
+use Rattle.agreement.specs.State.Awaited.{ReleaseOf as model_release_of}
+use Rattle.agreement.specs.State.Awaited.{InterruptOf as model_interrupt_of}
+use Rattle.end_model.specs.Seen.{role_seen, pair_seen, set_seen, addition_seen, items_seen}
+use Rattle.end_model.specs.Seen.{listed_seen, awaited_seen, saved_seen, phase_seen}
 use Rattle.end_model.specs.Meant.{list_meant}
 use Rattle.end_model.proofs.Facts.{up-there}
-use Rattle.end_model.proofs.Marks.{next-seen}
 use Rattle.end_model.proofs.Held.{lookup-seen}
 use Rattle.end_model.proofs.Sendings.{restored-seen}
 use Rattle.end_model.proofs.Fitting.{same-itself}

@@ -1,6 +1,8 @@
 -- The takings of the words of a transfer, in reliable mode.
-use Rattle.std.proofs.Common.{◌≡◌, refl, true, false, ◌∙◌, sym, ap, subst, arith, ℕ, suc, ◌≤◌, List, [], ◌∷◌, ◌++◌, ◌⊎◌, inl, inr, map, length}
-use Rattle.std.specs.Prelude.{ℤ, pos, negsuc, Bool, not, ◌&&◌, ◌||◌, Option, Some, None, nat_eq, nat_le, nat_lt}
+use Rattle.std.proofs.Common.{◌≡◌, refl, true, false, ◌∙◌, sym, ap, subst, arith, ℕ, suc, ◌≤◌, List}
+use Rattle.std.proofs.Common.{[], ◌∷◌, ◌++◌, inl, inr, map, length}
+use Rattle.std.specs.Prelude.{pos, negsuc, Bool, ◌&&◌, ◌||◌, Option, Some, None, nat_eq, nat_le}
+use Rattle.std.specs.Prelude.{nat_lt}
 use Rattle.std.proofs.lemmas.Bool.Decides.{nat_tests}
 use Rattle.osi_base.specs.declared.syntax.Pair.{Pair}
 use Rattle.osi_base.specs.declared.words.Proposal.{Proposal}
@@ -8,22 +10,31 @@ use Rattle.stub_tables.specs.declared.apdu.Apdu.{Apdu}
 use Rattle.stub_tables.specs.declared.apdu.Apdu.TheVariants as apdus
 use Rattle.dialogue.specs.declared.config.Mode.TheVariants.{Reliable}
 use Rattle.end_rules.specs.Base.{Base, most_transferred}
-use Rattle.end_rules.specs.State.{Body, Calls, Piece, Octets, Marked, Transfer, Receiving, Progress, Running, Ending, Suspended, Awaited, NoAnswer, RestartOf, InterruptOf, DiscardOf, ReleaseOf, highest, joined, pieces_of, is_up, is_current, is_ending, is_suspended}
+use Rattle.end_rules.specs.State.{Body, Calls, Piece, Octets, Marked, Transfer, Receiving, Progress}
+use Rattle.end_rules.specs.State.{Running, Ending, Suspended, Awaited, NoAnswer, RestartOf}
+use Rattle.end_rules.specs.State.{InterruptOf, DiscardOf, ReleaseOf, highest, joined, pieces_of}
+use Rattle.end_rules.specs.State.{is_up, is_current, is_ending, is_suspended}
 use Rattle.end_rules.specs.InPlace.{is_next_confirmed, may_resume_at, awaits_discard}
 use Rattle.end_rules.specs.Connecting.{the_one}
 use Rattle.end_rules.specs.TakesAssociation.{is_release_request}
 use Rattle.end_rules.specs.TakesActivities.{invocation_in, cut_invocation}
-use Rattle.end_rules.specs.Messages.{Value, OfAssociation, OfData, OfMarks, OfActivities, Finish, Values, Part, MarkAck, Resume, EndAck, DiscardAck}
+use Rattle.end_rules.specs.Messages.{Value, OfAssociation, OfData, OfMarks, OfActivities, Finish}
+use Rattle.end_rules.specs.Messages.{Values, Part, MarkAck, Resume, EndAck, DiscardAck}
 use Rattle.agreement.specs.Messages as model
 use Rattle.agreement.specs.Messages.Choice.{Nothing}
-use Rattle.agreement.specs.Messages.Message.{MarkAnswer as model_mark_answer, Resume as model_resume, EndAnswer as model_end_answer, DiscardAnswer as model_discard_answer, Chunk as model_chunk, Release as model_release}
+use Rattle.agreement.specs.Messages.Message.{MarkAnswer as model_mark_answer}
+use Rattle.agreement.specs.Messages.Message.{Resume as model_resume, EndAnswer as model_end_answer}
+use Rattle.agreement.specs.Messages.Message.{DiscardAnswer as model_discard_answer}
+use Rattle.agreement.specs.Messages.Message.{Chunk as model_chunk, Release as model_release}
 use Rattle.agreement.specs.State as states
 use Rattle.agreement.specs.State.Progress.{Suspended as model_suspended, Ending as model_ending}
-use Rattle.agreement.specs.State.Awaited.{DiscardOf as model_discard_of, NoAnswer as model_no_answer}
+use Rattle.agreement.specs.State.Awaited.{DiscardOf as model_discard_of}
+use Rattle.agreement.specs.State.Awaited.{NoAnswer as model_no_answer}
 use Rattle.agreement.specs.Takings.{MayTake, IsNextConfirmed, IsEndOf, MayResumeAt, cut_item}
-use Rattle.end_model.specs.Seen.{Free, role_seen, set_seen, piece_seen, progress_seen, awaited_seen, transfer_seen, incoming_seen, apdu_seen, calls_seen, seen, setup_seen}
+use Rattle.end_model.specs.Seen.{Free, role_seen, set_seen, piece_seen, progress_seen, awaited_seen}
+use Rattle.end_model.specs.Seen.{transfer_seen, incoming_seen, calls_seen, seen, setup_seen}
 use Rattle.end_model.specs.Rows.{at}
-use Rattle.end_model.specs.Opens.{IsNumber, IsProper, AreNumbered}
+use Rattle.end_model.specs.Opens.{IsProper, AreNumbered}
 use Rattle.end_model.specs.Acting.{IsSound, TakenAs}
 use Rattle.end_model.specs.Takings.{IsJoined, TakenWhere, nothing, IsProperCurrent}
 use Rattle.end_model.proofs.Transfers.{highest-seen, mark-confirmed}

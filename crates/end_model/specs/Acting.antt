@@ -1,5 +1,5 @@
 -- What one end does is an act, or a taking, of the model.
-use Rattle.std.specs.Prelude.{◌≡◌, ℕ, ℤ, List, [], ◌∷◌, true, false, Option, Some, None, Ok}
+use Rattle.std.specs.Prelude.{◌≡◌, ℕ, ℤ, List, [], ◌∷◌, true, false, Option, None, Ok}
 use Rattle.osi_base.specs.declared.syntax.Syntax.TheVariants.{Der}
 use Rattle.osi_base.specs.declared.words.Proposal.{Proposal}
 use Rattle.stub_tables.specs.declared.apdu.Apdu.{Apdu}

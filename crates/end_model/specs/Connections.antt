@@ -1,5 +1,5 @@
 -- The transport connection of an initiator, and own aborts, as acts of the model.
-use Rattle.std.specs.Prelude.{◌≡◌, ℕ, ℤ, List, [], true, false, Option, None, Ok}
+use Rattle.std.specs.Prelude.{◌≡◌, ℕ, ℤ, List, false, Option, None, Ok}
 use Rattle.osi_base.specs.declared.words.Proposal.{Proposal}
 use Rattle.dialogue.specs.declared.config.Mode.{Mode}
 use Rattle.dialogue.specs.declared.config.Mode.TheVariants.{Direct, Reliable}
@@ -10,7 +10,8 @@ use Rattle.end_rules.specs.State.{Body, Carrying, is_carrying}
 use Rattle.end_rules.specs.Messages.{ConnectionConfirm, DisconnectRequest}
 use Rattle.end_rules.specs.Calling.{can_call}
 use Rattle.end_rules.specs.Requesting.{due_of}
-use Rattle.end_rules.specs.TakesTransport.{transport_unit_fault, after_transport, answers_to_transport}
+use Rattle.end_rules.specs.TakesTransport.{transport_unit_fault, after_transport}
+use Rattle.end_rules.specs.TakesTransport.{answers_to_transport}
 use Rattle.agreement.specs.Messages.Act.{Connects, Recovers, Fails, Aborts, Withdraws}
 use Rattle.end_model.specs.Seen.{Free}
 use Rattle.end_model.specs.Rows.{at}

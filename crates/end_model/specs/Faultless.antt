@@ -1,5 +1,5 @@
 -- What the end takes, the model may take: a word without a fault is one that may be taken.
-use Rattle.std.specs.Prelude.{◌≡◌, ℕ, List, [], ◌∷◌, true, Option, Some, None}
+use Rattle.std.specs.Prelude.{◌≡◌, ℕ, List, [], ◌∷◌, Option, Some, None}
 use Rattle.osi_base.specs.declared.syntax.Pair.{Pair}
 use Rattle.osi_base.specs.declared.words.Proposal.{Proposal}
 use Rattle.osi_base.specs.declared.words.Answers.{Answers}
@@ -11,10 +11,21 @@ use Rattle.end_rules.specs.Base.{Base}
 use Rattle.end_rules.specs.State.{Body}
 use Rattle.end_rules.specs.Sets.{Alteration}
 use Rattle.end_rules.specs.TakesData.{alteration}
-use Rattle.end_rules.specs.Messages.{Word, Value, OfAssociation, OfData, OfMarks, OfActivities, Finish, AlterContext, AlterContextAck, Values, Part, Mark, MarkAck, Restart, RestartAck, Give, Please, GiveConfirm, GiveAck, Start, Resume, EndAck, Interrupt, Discard}
+use Rattle.end_rules.specs.Messages.{Word, Value, OfAssociation, OfData, OfMarks, OfActivities}
+use Rattle.end_rules.specs.Messages.{Finish, AlterContext, AlterContextAck, Values, Part, Mark}
+use Rattle.end_rules.specs.Messages.{MarkAck, Restart, RestartAck, Give, Please, GiveConfirm}
+use Rattle.end_rules.specs.Messages.{GiveAck, Start, Interrupt, Discard}
 use Rattle.end_rules.specs.Reacting.{word_fault}
 use Rattle.agreement.specs.Messages.{Message as ModelMessage}
-use Rattle.agreement.specs.Messages.Message.{Mark as model_mark, MarkAnswer as model_mark_answer, Restart as model_restart, RestartAnswer as model_restart_answer, Give as model_give, GiveAnswer as model_give_answer, Please as model_please, Start as model_start, Resume as model_resume, EndAnswer as model_end_answer, Interrupt as model_interrupt, Discard as model_discard, Chunk as model_chunk, Alter as model_alter, AlterAnswer as model_alter_answer, Release as model_release}
+use Rattle.agreement.specs.Messages.Message.{Mark as model_mark, MarkAnswer as model_mark_answer}
+use Rattle.agreement.specs.Messages.Message.{Restart as model_restart}
+use Rattle.agreement.specs.Messages.Message.{RestartAnswer as model_restart_answer}
+use Rattle.agreement.specs.Messages.Message.{Give as model_give, GiveAnswer as model_give_answer}
+use Rattle.agreement.specs.Messages.Message.{Please as model_please, Start as model_start}
+use Rattle.agreement.specs.Messages.Message.{Interrupt as model_interrupt, Discard as model_discard}
+use Rattle.agreement.specs.Messages.Message.{Chunk as model_chunk, Alter as model_alter}
+use Rattle.agreement.specs.Messages.Message.{AlterAnswer as model_alter_answer}
+use Rattle.agreement.specs.Messages.Message.{Release as model_release}
 use Rattle.agreement.specs.Takings.{MayTake}
 use Rattle.end_model.specs.Seen.{Free, role_seen, items_seen, listed_seen, seen, setup_seen}
 use Rattle.end_model.specs.Rows.{at}

@@ -1,14 +1,15 @@
 -- Data that is taken: an APDU is heard as the model hears it, and the reject that it brings is said or dropped at once.
-use Rattle.std.specs.Prelude.{◌≡◌, ℕ, List, [], ◌∷◌, Bool, true, false, Option, Some, None}
+use Rattle.std.specs.Prelude.{◌≡◌, List, [], true, false, Option, Some, None}
 use Rattle.dialogue.specs.declared.config.Mode.{Mode}
-use Rattle.dialogue.specs.declared.config.Mode.TheVariants.{Bare, Direct, Reliable}
+use Rattle.dialogue.specs.declared.config.Mode.TheVariants.{Bare, Direct}
 use Rattle.end_rules.specs.Base.{Base, Item}
 use Rattle.end_rules.specs.State.{Body}
 use Rattle.end_rules.specs.Messages.{unit_of}
 use Rattle.end_rules.specs.Purging.{is_purged}
 use Rattle.end_rules.specs.Reacting.{word_fault, after_word, answers_to_word}
 use Rattle.agreement.specs.Sets.{Role}
-use Rattle.agreement.specs.Messages.{Act, Setup, Calls as ModelCalls, Apdu as ModelApdu, Value as ModelValue, Message as ModelMessage}
+use Rattle.agreement.specs.Messages.{Act, Setup, Calls as ModelCalls, Apdu as ModelApdu}
+use Rattle.agreement.specs.Messages.{Value as ModelValue, Message as ModelMessage}
 use Rattle.agreement.specs.Messages.Apdu.{Invoke, Outcome, Reject}
 use Rattle.agreement.specs.Messages.Message.{Data}
 use Rattle.agreement.specs.Messages.Choice.{Nothing}
@@ -16,7 +17,8 @@ use Rattle.agreement.specs.State.{State}
 use Rattle.agreement.specs.Calls.{is_open, may_answer}
 use Rattle.agreement.specs.Acts.{MayAct, acted, sent_by}
 use Rattle.agreement.specs.Takings.{MayTake, taken}
-use Rattle.end_model.specs.Seen.{Free, role_seen, item_seen, apdu_seen, calls_seen, seen, setup_seen}
+use Rattle.end_model.specs.Seen.{Free, role_seen, item_seen, apdu_seen, calls_seen, seen}
+use Rattle.end_model.specs.Seen.{setup_seen}
 use Rattle.end_model.specs.Rows.{at}
 use Rattle.end_model.specs.Opens.{IsProper, IsReadBack}
 use Rattle.end_model.specs.Words.{data_word, AreOurs}

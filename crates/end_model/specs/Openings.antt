@@ -1,5 +1,5 @@
 -- Openings and recoveries, as they are taken: by the responder a CN, which it accepts or refuses, by the initiator an AC.
-use Rattle.std.specs.Prelude.{◌≡◌, List, [], ◌∷◌, Bool, true, false}
+use Rattle.std.specs.Prelude.{◌≡◌, List, true, false}
 use Rattle.osi_base.specs.declared.words.Proposal.{Proposal}
 use Rattle.osi_base.specs.declared.session_word.SessionConnect.{SessionConnect}
 use Rattle.osi_base.specs.declared.presentation_word.PresentationConnect.{PresentationConnect}
@@ -13,7 +13,8 @@ use Rattle.end_rules.specs.Messages.{Accepting, Value, Word, OfAssociation, Conn
 use Rattle.end_rules.specs.Reacting.{after_word, answers_to_word}
 use Rattle.agreement.specs.Messages.{Choice, Message as ModelMessage}
 use Rattle.agreement.specs.Messages.Choice.{Nothing, Accepting as accepting, Refusing}
-use Rattle.agreement.specs.Messages.Message.{Connect as model_connect, Recover as model_recover, Accept as model_accept}
+use Rattle.agreement.specs.Messages.Message.{Connect as model_connect, Recover as model_recover}
+use Rattle.agreement.specs.Messages.Message.{Accept as model_accept}
 use Rattle.agreement.specs.Takings.{taken, answer_to}
 use Rattle.end_model.specs.Seen.{Free, role_seen, set_seen, seen, setup_seen}
 use Rattle.end_model.specs.Rows.{at}

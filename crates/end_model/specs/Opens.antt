@@ -1,11 +1,10 @@
 -- What holds of the open invocations of every end: identifiers are from 1 to the last one, those of own ones have been given
 -- out, and no two invocations of one end have the same (X.880 8.2). APDUs as calls write them and as rejects are.
-use Rattle.std.specs.Prelude.{◌≡◌, ℕ, suc, ◌≤◌, ℤ, pos, negsuc, List, [], ◌∷◌, Bool, true, false, Option, Some, None, is_some}
-use Rattle.osi_base.specs.declared.words.Problem.{Problem}
+use Rattle.std.specs.Prelude.{◌≡◌, ℕ, ◌≤◌, ℤ, pos, negsuc, List, [], ◌∷◌, Bool, true, false, Option}
+use Rattle.std.specs.Prelude.{Some, None, is_some}
 use Rattle.osi_base.specs.declared.words.ProblemKind.{ProblemKind}
 use Rattle.osi_base.specs.declared.words.ProblemKind.TheVariants as problems
 use Rattle.asn1_types.specs.declared.value.Val.{Val}
-use Rattle.stub_tables.specs.declared.operation.Code.{Code}
 use Rattle.stub_tables.specs.declared.operation.Operation.{Operation}
 use Rattle.stub_tables.specs.declared.operation.ErrorRow.{ErrorRow}
 use Rattle.stub_tables.specs.declared.apdu.Apdu.{Apdu}

@@ -1,6 +1,6 @@
 -- Two ends at the level of messages: what they reach by calls, by takings and by breaks; and the world of the model that
 -- goes with it.
-use Rattle.std.specs.Prelude.{◌≡◌, ℕ, ℤ, List, [], ◌∷◌, ◌++◌, Bool, true, false, Option, Ok, ◌⊎◌}
+use Rattle.std.specs.Prelude.{◌≡◌, ℤ, List, [], ◌∷◌, ◌++◌, true, Option, Ok, ◌⊎◌}
 use Rattle.dialogue.specs.declared.config.Config.{Config}
 use Rattle.dialogue.specs.declared.config.Mode.TheVariants.{Bare}
 use Rattle.dialogue.specs.declared.config.Mode.{Mode}
@@ -13,7 +13,7 @@ use Rattle.end_rules.specs.Messages.{Message}
 use Rattle.end_rules.specs.State.{Body, new_body}
 use Rattle.end_rules.specs.Calling.{can_call}
 use Rattle.end_rules.specs.Requesting.{due_of}
-use Rattle.end_rules.specs.Reacting.{Reaction, Passes, Takes, Fails, react}
+use Rattle.end_rules.specs.Reacting.{Passes, Takes, Fails, react}
 use Rattle.end_rules.specs.History.{after_broke}
 use Rattle.agreement.specs.Sets.{Role, is_initiator}
 use Rattle.agreement.specs.Sets.Role.{Initiator, Responder}

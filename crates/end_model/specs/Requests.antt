@@ -1,5 +1,5 @@
 -- The other calls: marks, givings, pleas, restarts, interrupts, discards, resumptions, releases, alterations, aborts.
-use Rattle.std.specs.Prelude.{◌≡◌, ℕ, ℤ, List, [], ◌∷◌, true, false, Option, Some, None, Ok}
+use Rattle.std.specs.Prelude.{◌≡◌, ℕ, ℤ, List, [], ◌∷◌, Option, Ok}
 use Rattle.osi_base.specs.declared.words.Proposal.{Proposal}
 use Rattle.dialogue.specs.declared.config.Mode.{Mode}
 use Rattle.dialogue.specs.declared.config.Mode.TheVariants.{Direct, Reliable}
@@ -11,7 +11,8 @@ use Rattle.end_rules.specs.Messages.{Message}
 use Rattle.end_rules.specs.Calling.{can_call}
 use Rattle.end_rules.specs.Requesting.{after_call, after_sent, due_of}
 use Rattle.agreement.specs.Messages.{Act}
-use Rattle.agreement.specs.Messages.Act.{Alters, Marks, Gives, Pleads, Restarts, Interrupts, Discards, Resumes, Releases}
+use Rattle.agreement.specs.Messages.Act.{Alters, Marks, Gives, Pleads, Restarts, Interrupts}
+use Rattle.agreement.specs.Messages.Act.{Discards, Resumes, Releases}
 use Rattle.agreement.specs.Sets.{AreDistinct, named}
 use Rattle.end_rules.specs.TakesData.{alteration}
 use Rattle.end_model.specs.Seen.{Free, items_seen, seen}

@@ -1,10 +1,13 @@
 -- Each request that an end sends, and each message that it takes, is an act or a taking of the model.
-use Rattle.std.specs.Prelude.{◌≡◌, ℕ, suc, List, [], ◌∷◌, Bool, false, Option, Some}
+use Rattle.std.specs.Prelude.{◌≡◌, ℕ, suc, List, [], ◌∷◌, Bool, Option, Some}
 use Rattle.end_rules.specs.Messages.{Resume}
 use Rattle.end_rules.specs.State.{confirmed_of}
 use Rattle.end_rules.specs.TakesData.{part_in}
 use Rattle.agreement.specs.Messages.Act.{Resumes}
-use Rattle.agreement.specs.Messages.Message.{Resume as model_resume, Chunk as model_chunk, AlterAnswer as model_alter_answer, End as model_end, Connect as model_connect, Recover as model_recover, Accept as model_accept}
+use Rattle.agreement.specs.Messages.Message.{Resume as model_resume, Chunk as model_chunk}
+use Rattle.agreement.specs.Messages.Message.{AlterAnswer as model_alter_answer, End as model_end}
+use Rattle.agreement.specs.Messages.Message.{Connect as model_connect, Recover as model_recover}
+use Rattle.agreement.specs.Messages.Message.{Accept as model_accept}
 use Rattle.dialogue.specs.declared.config.Phase.TheVariants.{Opening, Recovering}
 use Rattle.end_rules.specs.TakesTransport.{after_transport}
 use Rattle.end_rules.specs.Faults.{over}
@@ -25,13 +28,32 @@ use Rattle.agreement.specs.Takings.{broken, broken_phase as model_broken_phase}
 use Rattle.end_model.specs.Seen.{mode_seen, phase_seen}
 use Rattle.end_rules.specs.Base.{Base}
 use Rattle.end_rules.specs.State.{Body}
-use Rattle.end_rules.specs.Messages.{Message, Session, Word, OfAssociation, OfData, OfMarks, OfActivities, Value, Values, AlterContext, AlterContextAck, Accepting, Connect, Accept, MarkAck, RestartAck, End, InterruptAck, DiscardAck, unit_of, AbortData, Refuse, Finish, Disconnect, Abort, Mark, Restart, Give, Please, GiveConfirm, GiveAck, Start, EndAck, Interrupt, Discard}
+use Rattle.end_rules.specs.Messages.{Message, Session, Word, OfAssociation, OfData, OfMarks}
+use Rattle.end_rules.specs.Messages.{OfActivities, Value, Values, AlterContext, AlterContextAck}
+use Rattle.end_rules.specs.Messages.{Accepting, Connect, Accept, MarkAck, RestartAck, End}
+use Rattle.end_rules.specs.Messages.{InterruptAck, DiscardAck, unit_of, AbortData, Refuse, Finish}
+use Rattle.end_rules.specs.Messages.{Disconnect, Abort, Mark, Restart, Give, Please, GiveConfirm}
+use Rattle.end_rules.specs.Messages.{GiveAck, Start, EndAck, Interrupt, Discard}
 use Rattle.end_rules.specs.Requesting.{after_sent}
 use Rattle.end_rules.specs.Reacting.{after_word}
 use Rattle.agreement.specs.Messages.{Act, Choice, Message as ModelMessage}
-use Rattle.agreement.specs.Messages.Act.{Marks, Gives, Pleads, Restarts, Interrupts, Releases, Sends, Ends, Starts, Discards, Alters}
+use Rattle.agreement.specs.Messages.Act.{Marks, Gives, Pleads, Restarts, Interrupts, Releases}
+use Rattle.agreement.specs.Messages.Act.{Sends, Ends, Starts, Discards, Alters}
 use Rattle.agreement.specs.Messages.Choice.{Nothing}
-use Rattle.agreement.specs.Messages.Message.{Mark as model_mark, Give as model_give, GiveAnswer as model_give_answer, Please as model_please, Start as model_start, EndAnswer as model_end_answer, Interrupt as model_interrupt, Discard as model_discard, Refuse as model_refuse, Release as model_release, ReleaseAnswer as model_release_answer, UserAbort as model_abort, MarkAnswer as model_mark_answer, InterruptAnswer as model_interrupt_answer, DiscardAnswer as model_discard_answer, Data as model_data, Alter as model_alter, Restart as model_restart, RestartAnswer as model_restart_answer}
+use Rattle.agreement.specs.Messages.Message.{Mark as model_mark, Give as model_give}
+use Rattle.agreement.specs.Messages.Message.{GiveAnswer as model_give_answer}
+use Rattle.agreement.specs.Messages.Message.{Please as model_please, Start as model_start}
+use Rattle.agreement.specs.Messages.Message.{EndAnswer as model_end_answer}
+use Rattle.agreement.specs.Messages.Message.{Interrupt as model_interrupt, Discard as model_discard}
+use Rattle.agreement.specs.Messages.Message.{Refuse as model_refuse, Release as model_release}
+use Rattle.agreement.specs.Messages.Message.{ReleaseAnswer as model_release_answer}
+use Rattle.agreement.specs.Messages.Message.{UserAbort as model_abort}
+use Rattle.agreement.specs.Messages.Message.{MarkAnswer as model_mark_answer}
+use Rattle.agreement.specs.Messages.Message.{InterruptAnswer as model_interrupt_answer}
+use Rattle.agreement.specs.Messages.Message.{DiscardAnswer as model_discard_answer}
+use Rattle.agreement.specs.Messages.Message.{Data as model_data, Alter as model_alter}
+use Rattle.agreement.specs.Messages.Message.{Restart as model_restart}
+use Rattle.agreement.specs.Messages.Message.{RestartAnswer as model_restart_answer}
 use Rattle.agreement.specs.Messages.{Value as ModelValue}
 use Rattle.agreement.specs.Sets.{Item, Listed, ContextSet, Result}
 use Rattle.agreement.specs.Takings.{is_purged as model_purged}

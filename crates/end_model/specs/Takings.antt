@@ -4,7 +4,6 @@ use Rattle.osi_base.specs.declared.syntax.Pair.{Pair}
 use Rattle.osi_base.specs.declared.words.Proposal.{Proposal}
 use Rattle.osi_base.specs.declared.words.Answers.{Answers}
 use Rattle.osi_base.specs.declared.words.RestoredItem.{RestoredItem}
-use Rattle.osi_base.specs.declared.presentation_word.PresentationReject.{PresentationReject}
 use Rattle.dialogue.specs.declared.config.Mode.{Mode}
 use Rattle.dialogue.specs.declared.config.Mode.TheVariants.{Direct, Reliable}
 use Rattle.end_rules.specs.Base.{Base, Item, Whole}
@@ -16,12 +15,32 @@ use Rattle.end_rules.specs.Connecting.{the_one}
 use Rattle.end_rules.specs.TakesAssociation.{is_release_request, is_release_response}
 use Rattle.end_rules.specs.TakesData.{alteration}
 use Rattle.end_rules.specs.TakesMarks.{priority_in}
-use Rattle.end_rules.specs.Messages.{AbortData, Word, Value, OfAssociation, OfData, OfMarks, OfActivities, Refuse, Finish, Disconnect, Abort, Values, AlterContext, AlterContextAck, Part, Mark, MarkAck, Restart, RestartAck, Give, Please, GiveConfirm, GiveAck, Start, Resume, End, EndAck, Interrupt, InterruptAck, Discard, DiscardAck}
+use Rattle.end_rules.specs.Messages.{AbortData, Word, Value, OfAssociation, OfData, OfMarks}
+use Rattle.end_rules.specs.Messages.{OfActivities, Finish, Disconnect, Abort, Values, AlterContext}
+use Rattle.end_rules.specs.Messages.{AlterContextAck, Part, Mark, MarkAck, Restart, RestartAck}
+use Rattle.end_rules.specs.Messages.{Give, Please, GiveConfirm, GiveAck, Start, Resume, End, EndAck}
+use Rattle.end_rules.specs.Messages.{Interrupt, InterruptAck, Discard, DiscardAck}
 use Rattle.agreement.specs.Messages.{Choice, Message as ModelMessage}
 use Rattle.agreement.specs.Messages.Choice.{Nothing, Results}
-use Rattle.agreement.specs.Messages.Message.{Mark as model_mark, MarkAnswer as model_mark_answer, Restart as model_restart, RestartAnswer as model_restart_answer, Give as model_give, GiveAnswer as model_give_answer, Please as model_please, Start as model_start, Resume as model_resume, End as model_end, EndAnswer as model_end_answer, Interrupt as model_interrupt, InterruptAnswer as model_interrupt_answer, Discard as model_discard, DiscardAnswer as model_discard_answer, Chunk as model_chunk, Alter as model_alter, AlterAnswer as model_alter_answer, Refuse as model_refuse, Release as model_release, ReleaseAnswer as model_release_answer, UserAbort as model_abort}
+use Rattle.agreement.specs.Messages.Message.{Mark as model_mark, MarkAnswer as model_mark_answer}
+use Rattle.agreement.specs.Messages.Message.{Restart as model_restart}
+use Rattle.agreement.specs.Messages.Message.{RestartAnswer as model_restart_answer}
+use Rattle.agreement.specs.Messages.Message.{Give as model_give, GiveAnswer as model_give_answer}
+use Rattle.agreement.specs.Messages.Message.{Please as model_please, Start as model_start}
+use Rattle.agreement.specs.Messages.Message.{Resume as model_resume, End as model_end}
+use Rattle.agreement.specs.Messages.Message.{EndAnswer as model_end_answer}
+use Rattle.agreement.specs.Messages.Message.{Interrupt as model_interrupt}
+use Rattle.agreement.specs.Messages.Message.{InterruptAnswer as model_interrupt_answer}
+use Rattle.agreement.specs.Messages.Message.{Discard as model_discard}
+use Rattle.agreement.specs.Messages.Message.{DiscardAnswer as model_discard_answer}
+use Rattle.agreement.specs.Messages.Message.{Chunk as model_chunk, Alter as model_alter}
+use Rattle.agreement.specs.Messages.Message.{AlterAnswer as model_alter_answer}
+use Rattle.agreement.specs.Messages.Message.{Release as model_release}
+use Rattle.agreement.specs.Messages.Message.{ReleaseAnswer as model_release_answer}
+use Rattle.agreement.specs.Messages.Message.{UserAbort as model_abort}
 use Rattle.agreement.specs.Takings.{MayTake}
-use Rattle.end_model.specs.Seen.{Free, role_seen, set_seen, items_seen, item_seen, apdu_seen, calls_seen, seen, setup_seen}
+use Rattle.end_model.specs.Seen.{Free, role_seen, set_seen, items_seen, item_seen, apdu_seen}
+use Rattle.end_model.specs.Seen.{calls_seen, seen, setup_seen}
 use Rattle.end_model.specs.Rows.{at}
 use Rattle.end_model.specs.Meant.{list_meant}
 use Rattle.end_model.specs.Opens.{IsProper, IsReadBack}

@@ -1,5 +1,6 @@
 -- Which message of the model a message is: also of openings, values and alterations, where it depends on what they answer.
-use Rattle.std.specs.Prelude.{◌≡◌, ℕ, List, [], ◌∷◌, ◌++◌, map, Bool, true, nat_eq, if◌then◌else◌, Option, Some, None}
+use Rattle.std.specs.Prelude.{◌≡◌, ℕ, List, [], ◌∷◌, ◌++◌, map, true, nat_eq, if◌then◌else◌, Option}
+use Rattle.std.specs.Prelude.{Some, None}
 use Rattle.osi_base.specs.declared.words.Proposal.{Proposal}
 use Rattle.osi_base.specs.declared.words.AddAnswer.{AddAnswer}
 use Rattle.osi_base.specs.declared.words.Answers.{Answers}
@@ -10,11 +11,20 @@ use Rattle.end_rules.specs.Base.{Base, Item}
 use Rattle.end_rules.specs.Sets.{Alteration, pair_accepted, accepted_set, fit_alteration}
 use Rattle.end_rules.specs.Connecting.{recovers_in}
 use Rattle.end_rules.specs.TakesData.{alteration}
-use Rattle.end_rules.specs.Messages.{AssociationWord, DataWord, Message, Word, Value, Transport, Session, OfAssociation, OfData, OfMarks, OfActivities, Connect, Accept, Refuse, Finish, Disconnect, Abort, AbortAccept, Values, AlterContext, AlterContextAck, Remote, Part}
+use Rattle.end_rules.specs.Messages.{AssociationWord, DataWord, Message, Word, Value, Transport}
+use Rattle.end_rules.specs.Messages.{Session, OfAssociation, OfData, OfMarks, OfActivities, Connect}
+use Rattle.end_rules.specs.Messages.{Accept, Refuse, Finish, Disconnect, Abort, AbortAccept, Values}
+use Rattle.end_rules.specs.Messages.{AlterContext, AlterContextAck, Remote, Part}
 use Rattle.agreement.specs.Sets.{Result}
 use Rattle.agreement.specs.Sets.Result.{Rejected, AcceptedAs, Accepted, Kept}
 use Rattle.agreement.specs.Messages.{Message as ModelMessage}
-use Rattle.agreement.specs.Messages.Message.{Connect as model_connect, Recover as model_recover, Accept as model_accept, Refuse as model_refuse, Release as model_release, ReleaseAnswer as model_release_answer, UserAbort as model_abort, Data as model_data, Chunk as model_chunk, Alter as model_alter, AlterAnswer as model_alter_answer}
+use Rattle.agreement.specs.Messages.Message.{Connect as model_connect, Recover as model_recover}
+use Rattle.agreement.specs.Messages.Message.{Accept as model_accept, Refuse as model_refuse}
+use Rattle.agreement.specs.Messages.Message.{Release as model_release}
+use Rattle.agreement.specs.Messages.Message.{ReleaseAnswer as model_release_answer}
+use Rattle.agreement.specs.Messages.Message.{UserAbort as model_abort, Data as model_data}
+use Rattle.agreement.specs.Messages.Message.{Chunk as model_chunk, Alter as model_alter}
+use Rattle.agreement.specs.Messages.Message.{AlterAnswer as model_alter_answer}
 use Rattle.end_model.specs.Seen.{pair_seen, set_seen, item_seen, items_seen}
 use Rattle.end_model.specs.Opens.{IsProper, IsReadBack}
 use Rattle.end_model.specs.Meant.{mark_meant, activity_meant}

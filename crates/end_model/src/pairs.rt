@@ -4,7 +4,8 @@
 ghost use Rattle.end_model.specs.DirectPairs.{DirectModelled, DirectOneHolder, DirectTakes};
 ghost use Rattle.end_model.specs.Sharing.{DirectAsSent};
 ghost use Rattle.end_model.specs.Pairs.{BareModelled, BareTakes, HasCodec};
-ghost use Rattle.end_model.specs.Steps.{ActsKept, TakesKept, PassesKept, BreaksKept, UnseenKept, UnitsKept};
+ghost use Rattle.end_model.specs.Steps.{ActsKept, TakesKept, PassesKept, BreaksKept, UnseenKept};
+ghost use Rattle.end_model.specs.Steps.{UnitsKept};
 
 /// Whatever two ends of bare mode reach, there is a run of the model with their states and with
 /// what is on its way.

@@ -1,6 +1,9 @@
 //! Each row is the contract of a function with an empty body.
 
-ghost use Rattle.end_model.specs.Rows.{AssociationTaken, MarksSent, MarksTaken, ActivitiesSent, ActivitiesTaken, TransfersSent, TransfersTaken, AlterationsSent, Purged, PurgedOthers, GivingsTaken, RestartsTaken, Connections, Resumptions, Broke};
+ghost use Rattle.end_model.specs.Rows.{AssociationTaken, MarksSent, MarksTaken, ActivitiesSent};
+ghost use Rattle.end_model.specs.Rows.{ActivitiesTaken, TransfersSent, TransfersTaken};
+ghost use Rattle.end_model.specs.Rows.{AlterationsSent, Purged, PurgedOthers, GivingsTaken};
+ghost use Rattle.end_model.specs.Rows.{RestartsTaken, Connections, Resumptions, Broke};
 ghost use Rattle.end_model.specs.Meant.{Answered, RestartsAnswered, Sent};
 
 /// Marks, givings, pleas and restarts, as they are sent.

@@ -1,9 +1,11 @@
 //! What the model may take, the end takes: each group of rows is the contract of a function with
 //! an empty body.
 
-ghost use Rattle.end_model.specs.Faultless.{AnswersMayBeTaken, DirectMayBeTaken, ReliableMayBeTaken};
+ghost use Rattle.end_model.specs.Faultless.{AnswersMayBeTaken, DirectMayBeTaken};
+ghost use Rattle.end_model.specs.Faultless.{ReliableMayBeTaken};
 ghost use Rattle.end_model.specs.Openings.{OpeningsTaken};
-ghost use Rattle.end_model.specs.Takings.{AnswersTaken, DirectTaken, DiscardsTaken, EndsTaken, ReliableTaken, TransferWordsTaken};
+ghost use Rattle.end_model.specs.Takings.{AnswersTaken, DirectTaken, DiscardsTaken, EndsTaken};
+ghost use Rattle.end_model.specs.Takings.{ReliableTaken, TransferWordsTaken};
 
 /// Marks, givings, pleas, restarts and their answers, alterations, releases and aborts, as they
 /// are taken in direct mode.
