@@ -6,3 +6,5 @@ pub mod Allowed
 pub mod Changes
 pub mod Hearings
 pub mod Outcomes
+pub mod Carrying
+pub mod Within

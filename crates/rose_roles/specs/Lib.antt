@@ -3,3 +3,4 @@ pub mod Heads
 pub mod Values
 pub mod Judging
 pub mod Hearing
+pub mod Laws

@@ -5,6 +5,7 @@
 mod called;
 mod invoker;
 mod judging;
+mod laws;
 mod opening;
 mod performer;
 mod taken;
@@ -12,5 +13,6 @@ mod values;
 
 pub use called::Called;
 pub use invoker::Invoker;
+pub use laws::{always_carries, stays_within};
 pub use performer::Performer;
 pub use taken::{RoseTaken, refused};

@@ -157,19 +157,6 @@ told_all s octets strict h all =
           on_told s.stage s.seen on ∙ sym (all_read s octets strict h ∙ ap (λ (x : List ℕ). outcome (resume s x)) none ∙ nothing_left s.seen s.field s.depth s.stage h.sound on)
     ]
 
-take_take : (xs : List ℕ) (k m : ℕ) → k ≤ m → take k (take m xs) ≡ take k xs
-take_take xs zero m le = refl
-take_take [] (suc k) zero le = absurd (omega arith)
-take_take [] (suc k) (suc m) le = refl
-take_take (x ∷ xs) (suc k) zero le = absurd (omega arith)
-take_take (x ∷ xs) (suc k) (suc m) le = ap (λ (ys : List ℕ). x ∷ ys) (take_take xs k m (omega arith))
-
--- a longer beginning of octets
-pub further_seen : (s : Scanner) (octets : List ℕ) (k m : ℕ) → k ≤ m → HasSeen s (take k octets) → HasSeen s (take m octets)
-further_seen s octets k m le h =
-    let parts : take k octets ++ drop k (take m octets) ≡ take m octets = ap (λ (xs : List ℕ). xs ++ drop k (take m octets)) (sym (take_take octets k m le)) ∙ take-append-drop k (take m octets) in
-    subst (HasSeen s) parts (more_seen s (take k octets) (drop k (take m octets)) h)
-
 -- ---- the next octet
 
 pub octet_seen : (s : Scanner) (octets : List ℕ) (octet : ℕ) → HasSeen s octets → is_done s.stage ≡ false → slice_get octets s.seen ≡ Some octet → HasSeen (steps.step s octet) octets

@@ -1,0 +1,24 @@
+-- The laws of the two sides.
+use Rattle.std.specs.Prelude.{ℕ, ◌≤◌, Bool, length, IfSome}
+use Rattle.osi_base.specs.declared.syntax.Syntax.{Syntax}
+use Rattle.asn1_types.specs.Table.{IsSound}
+use Rattle.ber_spelling.specs.Octets.{AreOctets}
+use Rattle.stub_tables.specs.declared.tables.Tables.{Tables}
+use Rattle.apdu_spelling.specs.declared.head.ApduHead.{ApduHead}
+use Rattle.end_rules.specs.Base.{Base, Carried, Head}
+use Rattle.end_rules.specs.State.{Calls, opens_of}
+use Rattle.end_rules.specs.Hearing.{hear}
+use Rattle.end_wire.specs.Heads.{carried_at}
+use Rattle.rose_roles.specs.Heads.{HeadCarries, room_in, use_by}
+
+-- what reading the octets behind a head gives
+abbrev pub carried_by : Tables → Syntax → ApduHead → Carried
+carried_by tables syntax head = carried_at syntax tables.types (room_in syntax head.room) (use_by tables head.kind head.code) head.rest
+
+-- The octets behind a head always carry something: what reading them gives.
+abbrev pub AlwaysCarries : Type 0
+AlwaysCarries = (tables : Tables) (syntax : Syntax) (head : ApduHead) → IsSound tables.types → IfSome head.rest AreOctets → HeadCarries tables syntax head (carried_by tables syntax head)
+
+-- Whatever is heard, at most 4,096 invocations of an end stay open.
+abbrev pub StaysWithin : Type 0
+StaysWithin = (base : Base) (calls : Calls) (context : ℕ) (head : Head) (own : Bool) → length (opens_of own calls.opens) ≤ 4096 → length (opens_of own (hear base calls context head).calls.opens) ≤ 4096
