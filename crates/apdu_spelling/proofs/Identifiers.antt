@@ -8,7 +8,7 @@ use Rattle.osi_base.specs.declared.syntax.Syntax.TheVariants.{Ber, Der, Packed}
 use Rattle.osi_base.specs.declared.words.ProblemKind.{ProblemKind}
 use Rattle.osi_base.specs.declared.words.ProblemKind.TheVariants as kinds
 use Rattle.asn1_types.specs.Value.{integer}
-use Rattle.asn1_types.specs.Fits.{integer_fits, fits}
+use Rattle.asn1_types.specs.Fits.{integer_fits, has_form}
 use Rattle.ber_spelling.specs.Octets.{AreOctets}
 use Rattle.ber_spelling.proofs.Fitting.{spelled_fits}
 use Rattle.packed_codec.specs.Laws.{packs}
@@ -50,8 +50,8 @@ two_ids id linked more e =
 
 -- ---- BER
 
-invoke_fits : (id : ℤ) (l : Option ℤ) (c : Code) (os : Option (List ℕ)) → fits head_rows apdu_row (ber_value (invoke id l c os)) ≡ true → (is_identifier id && is_identifier_or_none l) ≡ true
-unfolding fits
+invoke_fits : (id : ℤ) (l : Option ℤ) (c : Code) (os : Option (List ℕ)) → has_form head_rows apdu_row (ber_value (invoke id l c os)) ≡ true → (is_identifier id && is_identifier_or_none l) ≡ true
+unfolding has_form
 invoke_fits id None (Local n) None e = first_id id _ e
 invoke_fits id None (Global arcs) None e = first_id id _ e
 invoke_fits id None (Local n) (Some os) e = first_id id _ e
@@ -61,31 +61,31 @@ invoke_fits id (Some k) (Global arcs) None e = two_ids id k _ e
 invoke_fits id (Some k) (Local n) (Some os) e = two_ids id k _ e
 invoke_fits id (Some k) (Global arcs) (Some os) e = two_ids id k _ e
 
-error_fits : (id : ℤ) (c : Code) (os : Option (List ℕ)) → fits head_rows apdu_row (ber_value (error id c os)) ≡ true → is_identifier id ≡ true
-unfolding fits
+error_fits : (id : ℤ) (c : Code) (os : Option (List ℕ)) → has_form head_rows apdu_row (ber_value (error id c os)) ≡ true → is_identifier id ≡ true
+unfolding has_form
 error_fits id (Local n) None e = one_id id _ e
 error_fits id (Global arcs) None e = one_id id _ e
 error_fits id (Local n) (Some os) e = one_id id _ e
 error_fits id (Global arcs) (Some os) e = one_id id _ e
 
-none_fits : (id : ℤ) → fits head_rows apdu_row (ber_value (result id None)) ≡ true → is_identifier id ≡ true
-unfolding fits
+none_fits : (id : ℤ) → has_form head_rows apdu_row (ber_value (result id None)) ≡ true → is_identifier id ≡ true
+unfolding has_form
 none_fits id e = one_id id _ e
 
-result_fits : (id : ℤ) (c : Code) (os : List ℕ) → fits head_rows apdu_row (ber_value (result id (Some (record { code = c; octets = os })))) ≡ true → is_identifier id ≡ true
-unfolding fits
+result_fits : (id : ℤ) (c : Code) (os : List ℕ) → has_form head_rows apdu_row (ber_value (result id (Some (record { code = c; octets = os })))) ≡ true → is_identifier id ≡ true
+unfolding has_form
 result_fits id (Local n) os e = one_id id _ e
 result_fits id (Global arcs) os e = one_id id _ e
 
-reject_fits : (id : Option ℤ) (k : ProblemKind) (number : ℤ) → fits head_rows apdu_row (ber_value (reject id (record { kind = k; number = number }))) ≡ true → is_identifier_or_none id ≡ true
-unfolding fits
+reject_fits : (id : Option ℤ) (k : ProblemKind) (number : ℤ) → has_form head_rows apdu_row (ber_value (reject id (record { kind = k; number = number }))) ≡ true → is_identifier_or_none id ≡ true
+unfolding has_form
 reject_fits None k number e = refl
 reject_fits (Some id) kinds.General number e = one_id id _ e
 reject_fits (Some id) kinds.Invoke number e = one_id id _ e
 reject_fits (Some id) kinds.Result number e = one_id id _ e
 reject_fits (Some id) kinds.Error number e = one_id id _ e
 
-head_fits : (h : Head) → fits head_rows apdu_row (ber_value h) ≡ true → has_identifiers h ≡ true
+head_fits : (h : Head) → has_form head_rows apdu_row (ber_value h) ≡ true → has_identifiers h ≡ true
 head_fits (invoke id l c os) e = invoke_fits id l c os e
 head_fits (result id None) e = none_fits id e
 head_fits (result id (Some o)) e = result_fits id o.code o.octets e
