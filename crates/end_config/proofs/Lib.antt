@@ -1,3 +1,2 @@
 pub mod Contexts
-pub mod Connects
 pub mod Proposes

@@ -1,3 +1,2 @@
-pub mod Connecting
 pub mod Refusing
 pub mod Proposing
