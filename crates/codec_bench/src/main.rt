@@ -41,21 +41,83 @@ fn bench<S: Syntax, R: Print + Alloc<A = Global>>(
     Ok(())
 }
 
-fn run<R: Env + Print + Alloc<A = Global>>(rt: &R) -> Result<(), Stopped> {
-    let counts = counts(rt)?;
-    let count = |place: usize| counts.get(place).copied().unwrap_or(0);
+/// How often the step at this place is done; a word that isn't there counts as 0.
+fn count(counts: &[u64], place: usize) -> u64 {
+    counts.get(place).copied().unwrap_or(0)
+}
+
+/// The sequence and the invocation, by the first eight counts.
+fn bench_parts<R: Print + Alloc<A = Global>>(rt: &R, counts: &[u64]) -> Result<(), Stopped> {
     let sequence = sequence(rt.alloc())?;
     let invocation = invocation(rt.alloc())?;
-    bench::<Ber, R>(rt, "sequence", &sequence, count(0), count(1))?;
-    bench::<Ber, R>(rt, "invocation", &invocation, count(2), count(3))?;
-    bench::<Packed, R>(rt, "sequence", &sequence, count(4), count(5))?;
-    bench::<Packed, R>(rt, "invocation", &invocation, count(6), count(7))?;
+    bench::<Ber, R>(
+        rt,
+        "sequence",
+        &sequence,
+        count(counts, 0),
+        count(counts, 1),
+    )?;
+    bench::<Ber, R>(
+        rt,
+        "invocation",
+        &invocation,
+        count(counts, 2),
+        count(counts, 3),
+    )?;
+    bench::<Packed, R>(
+        rt,
+        "sequence",
+        &sequence,
+        count(counts, 4),
+        count(counts, 5),
+    )?;
+    bench::<Packed, R>(
+        rt,
+        "invocation",
+        &invocation,
+        count(counts, 6),
+        count(counts, 7),
+    )
+}
+
+/// The numbers in a SET OF and in a SEQUENCE OF, by the next eight counts.
+fn bench_lists<R: Print + Alloc<A = Global>>(rt: &R, counts: &[u64]) -> Result<(), Stopped> {
     let set = numbers(rt.alloc(), true)?;
     let list = numbers(rt.alloc(), false)?;
-    bench::<Ber, R>(rt, "set of numbers", &set, count(8), count(9))?;
-    bench::<Ber, R>(rt, "list of numbers", &list, count(10), count(11))?;
-    bench::<Packed, R>(rt, "set of numbers", &set, count(12), count(13))?;
-    bench::<Packed, R>(rt, "list of numbers", &list, count(14), count(15))
+    bench::<Ber, R>(
+        rt,
+        "set of numbers",
+        &set,
+        count(counts, 8),
+        count(counts, 9),
+    )?;
+    bench::<Ber, R>(
+        rt,
+        "list of numbers",
+        &list,
+        count(counts, 10),
+        count(counts, 11),
+    )?;
+    bench::<Packed, R>(
+        rt,
+        "set of numbers",
+        &set,
+        count(counts, 12),
+        count(counts, 13),
+    )?;
+    bench::<Packed, R>(
+        rt,
+        "list of numbers",
+        &list,
+        count(counts, 14),
+        count(counts, 15),
+    )
+}
+
+fn run<R: Env + Print + Alloc<A = Global>>(rt: &R) -> Result<(), Stopped> {
+    let counts = counts(rt)?;
+    bench_parts(rt, &counts)?;
+    bench_lists(rt, &counts)
 }
 
 fn main(rt: HostRuntime) -> ExitCode {
