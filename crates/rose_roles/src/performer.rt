@@ -104,6 +104,13 @@ impl Performer {
         called(&self.kept, &id)
     }
 
+    /// As `called`.
+    pub fn called_at(&self, id: &i64) -> Option<Called>
+        ensures { result ≡ called id.now self.now.kept }
+    {
+        called(&self.kept, id)
+    }
+
     /// How many invocations of the peer are open.
     pub fn open_count(&self) -> usize
         ensures { result ≡ length self.now.kept }
@@ -121,6 +128,19 @@ impl Performer {
     {
         forest.is_forest();
         let key = key_of(false, &id);
+        leave(&mut self.kept, forest, &key);
+    }
+
+    /// As `close`.
+    pub fn close_at(&mut self, forest: &mut Forest, id: &i64)
+        requires { AreOpen false forest.old self.old.kept }
+        ensures closed { (invoked : Invoking) → calls_of forest.new invoked self.new.kept ≡ close false id.now (calls_of forest.old invoked self.old.kept) }
+        ensures context { self.new.context ≡ self.old.context }
+        ensures peer { AreOpen false forest.new self.new.kept }
+        ensures own { (invoked : Invoking) → AreOpen true forest.old invoked.kept → AreOpen true forest.new invoked.kept }
+    {
+        forest.is_forest();
+        let key = key_of(false, id);
         leave(&mut self.kept, forest, &key);
     }
 

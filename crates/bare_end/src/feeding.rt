@@ -1,0 +1,196 @@
+//! What an end does with octets that come.
+
+ghost use Rattle.std.specs.Prelude.{◌≡◌, ℕ, List, ◌≤◌, ◌<◌, ◌++◌, length, drop, take, true, false, IfOk, OnOk, OnErr, MatchResult, ◌∷◌, []};
+ghost use Rattle.osi_base.specs.declared.syntax.Syntax.TheVariants as syntaxes;
+ghost use Rattle.osi_base.specs.declared.words.Layer.TheVariants.{Rose};
+ghost use Rattle.stub_tables.specs.Readable.{IsReadable};
+ghost use Rattle.end_rules.specs.State.{passes_over};
+ghost use Rattle.end_rules.specs.Faults.{fault_at, shown_at_fault};
+ghost use Rattle.end_rules.specs.History.{fault, feed_end};
+ghost use Rattle.end_wire.specs.Heads.{head_at};
+ghost use Rattle.end_wire.specs.Values.{IsContent, content_at};
+ghost use Rattle.end_wire.specs.Bare.{first_at, Whole};
+ghost use Rattle.bare_end.specs.View.{EndView, body, Stepped, Keeps};
+ghost use Rattle.bare_end.specs.Feed.{TookOne, ReadAll, Goes, Fed, KeepsDue, DiedFed};
+ghost use Rattle.bare_end.specs.First.{IsFirst};
+ghost use Rattle.rose.specs.First.{Stands};
+ghost use Rattle.stub_tables.specs.declared.tables.Tables.{Tables};
+
+use crate::end::End;
+use crate::gate::passes_over;
+use crate::order::tell_cuts;
+use dialogue::{Indication, Indications, Phase};
+use osi_base::{Layer, ListOf, NoMemory};
+use rose::First;
+
+/// What stands first in octets.
+#[derive(Clone, Copy, Debug)]
+pub enum Front {
+    /// Less than one whole value.
+    Short,
+    /// One whole value, with so many octets.
+    Whole(usize),
+    /// No value, however it goes on: the field at this place breaks the rules.
+    Faulty(usize),
+}
+
+/// What stands first, whatever it says.
+fn front_of(first: First) -> Front
+    ensures { (tables : Tables) (octets : List ℕ) → Stands tables octets first → IsFirst octets result }
+{
+    match first {
+        First::Short => Front::Short,
+        First::Whole { content, used } => {
+            drop(content);
+            Front::Whole(used)
+        }
+        First::Faulty { place } => Front::Faulty(place),
+    }
+}
+
+impl<'t> End<'t> {
+    /// What stands first in what came.
+    fn front(&self) -> Result<Front, NoMemory>
+        ensures { IfOk result (IsFirst self.now.rest) }
+    {
+        let first = self
+            .stream
+            .first(self.alloc, self.tables, self.rest.as_slice())?;
+        Ok(front_of(first))
+    }
+
+    /// Takes the first octets off what came.
+    fn skip(&mut self, used: usize)
+        requires { used ≤ length self.old.rest }
+        ensures { self.new ≡ record self.old { rest = drop used self.old.rest } }
+    {
+        self.rest.skip(used);
+    }
+
+    /// Takes the message with which what came begins, which has so many octets.
+    fn take(&mut self, used: usize, shown: &mut Indications) -> Result<(), NoMemory>
+        requires first { first_at self.old.rest ≡ Whole used }
+        requires some { 0 < used }
+        requires within { used ≤ length self.old.rest }
+        requires up { passes_over self.old.phase ≡ false }
+        ensures ok { OnOk result (TookOne self.old self.new shown.old shown.new) }
+        ensures err { OnErr result (Keeps self.old self.new) }
+    {
+        self.tables.is_readable();
+        let taken = self.hear(used)?;
+        self.skip(used);
+        self.tell(taken, shown)?;
+        Ok(())
+    }
+
+    /// Ends the association for a fault at this place.
+    fn abort(&mut self, place: usize, shown: &mut Indications) -> Result<(), NoMemory>
+        ensures ok { OnOk result (Stepped self.old self.new (fault Rose place 0 ∷ feed_end ∷ [])) }
+        ensures shown { OnOk result (shown.new ≡ shown.old ++ shown_at_fault (body self.old) (fault_at Rose place 0)) }
+        ensures err { OnErr result (Keeps self.old self.new) }
+    {
+        let opens = self.invocations.opens()?;
+        tell_cuts(self.alloc, opens.as_slice(), shown)?;
+        shown.push(Indication::Aborted {
+            own: true,
+            layer: Layer::Rose,
+            place: place as u64,
+            reason: 0,
+        })?;
+        self.phase = Phase::Over;
+        self.invocations.clear();
+        self.rest.clear();
+        Ok(())
+    }
+
+    /// Reads what stands first, and answers whether more may follow.
+    fn read_next(&mut self, shown: &mut Indications) -> Result<bool, NoMemory>
+        requires { passes_over self.old.phase ≡ false }
+        ensures { MatchResult result (λ more. Goes more self.old self.new shown.old shown.new) (λ _. Keeps self.old self.new) }
+    {
+        let front = self.front()?;
+        match front {
+            Front::Short => Ok(false),
+            Front::Whole(used) => {
+                self.take(used, shown)?;
+                Ok(true)
+            }
+            Front::Faulty(place) => {
+                self.abort(place, shown)?;
+                Ok(false)
+            }
+        }
+    }
+
+    /// Reads what came, message by message.
+    fn read_all(&mut self, shown: &mut Indications) -> Result<(), NoMemory>
+        requires { passes_over self.old.phase ≡ false }
+        ensures ok { OnOk result (ReadAll self.old self.new shown.old shown.new) }
+        ensures err { OnErr result (KeepsDue self.old self.new) }
+    {
+        loop {
+            let more = self.read_next(shown)?;
+            if !more {
+                return Ok(());
+            }
+        }
+    }
+
+    /// Whether what comes is passed over.
+    fn is_over(&self) -> bool
+        ensures { result ≡ passes_over self.now.phase }
+    {
+        passes_over(self.phase)
+    }
+
+    /// Drops what came.
+    fn pass_over(&mut self)
+        ensures { self.new ≡ record self.old { rest = [] } }
+    {
+        self.rest.clear();
+    }
+
+    /// Keeps what came.
+    fn keep(&mut self, bytes: &[u8]) -> Result<(), NoMemory>
+        ensures ok { OnOk result (self.new ≡ record self.old { rest = self.old.rest ++ bytes.now }) }
+        ensures err { OnErr result (Keeps self.old self.new) }
+    {
+        self.rest.extend(bytes)?;
+        Ok(())
+    }
+
+    /// No indications.
+    fn nothing_shown(&self) -> Indications
+        ensures { result ≡ [] }
+    {
+        ListOf::new(self.alloc)
+    }
+
+    /// Takes octets, unless memory is refused.
+    fn feed_now(&mut self, bytes: &[u8]) -> Result<Indications, NoMemory>
+        ensures { MatchResult result (λ shown. Fed self.old self.new bytes.now shown) (λ _. KeepsDue self.old self.new) }
+    {
+        let mut shown = self.nothing_shown();
+        if self.is_over() {
+            self.pass_over();
+            return Ok(shown);
+        }
+        self.keep(bytes)?;
+        self.read_all(&mut shown)?;
+        Ok(shown)
+    }
+
+    /// Takes octets that came, and answers the indications of all messages that became whole with
+    /// them. After want of memory the end is dead.
+    pub fn feed(&mut self, bytes: &[u8]) -> Result<Indications, NoMemory>
+        ensures { MatchResult result (λ shown. Fed self.old self.new bytes.now shown) (λ _. DiedFed self.old self.new) }
+    {
+        match self.feed_now(bytes) {
+            Ok(shown) => Ok(shown),
+            Err(error) => {
+                self.phase = Phase::Dead;
+                Err(error)
+            }
+        }
+    }
+}
