@@ -8,7 +8,8 @@ use Rattle.asn1_types.specs.declared.row.Class.TheVariants.{Universal}
 use Rattle.ber_spelling.specs.declared.fault.ReadFault.{ReadFault}
 use Rattle.ber_spelling.specs.declared.fault.ReadFault.TheVariants as faults
 use Rattle.ber_spelling.specs.Reading.{Spot, Opened, Ahead, ended, begun, Reading, ◌>>=◌, within, refuse}
-use Rattle.ber_spelling.specs.Fields.{identifier_at, digits_at, opened_at, class_of, is_constructed, capped, definite_at, long_at, number_from, cut_off, begin_at, look_at, second_zero_at}
+use Rattle.ber_spelling.specs.Fields.{identifier_at, digits_at, opened_at, is_constructed, definite_at, long_at, number_from, cut_off, begin_at, look_at, second_zero_at}
+use Rattle.asn1_types.specs.Tags.{class_of, capped}
 use Rattle.ber_spelling.specs.Rules.{whole_at}
 use Rattle.stream_front.specs.declared.front.Front.{Front}
 use Rattle.stream_front.specs.declared.front.Front.TheVariants.{Short, Whole, Faulty}

@@ -10,7 +10,8 @@ use Rattle.asn1_types.specs.Value.{Value, any}
 use Rattle.ber_spelling.specs.declared.fault.ReadFault.{ReadFault}
 use Rattle.ber_spelling.specs.declared.fault.ReadFault.TheVariants as faults
 use Rattle.ber_spelling.specs.Reading.{Spot, Opened, Reading, ◌>>=◌, within, refuse}
-use Rattle.ber_spelling.specs.Fields.{identifier_at, high_at, digits_at, is_lax, opened_at, capped, definite_at, contents_at, look_at}
+use Rattle.ber_spelling.specs.Fields.{identifier_at, high_at, digits_at, is_lax, opened_at, definite_at, contents_at, look_at}
+use Rattle.asn1_types.specs.Tags.{capped}
 use Rattle.ber_spelling.specs.Rules.{whole_at, any_at, reads, plain, value_at, read_at, outermost as outermost_scope}
 use Rattle.stub_tables.specs.Heads.{head_rows, any_row}
 use Rattle.stream_front.specs.declared.front.Front.{Front}

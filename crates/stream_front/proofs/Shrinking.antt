@@ -6,7 +6,8 @@ use Rattle.asn1_types.specs.Rows.{is_no_tag}
 use Rattle.asn1_types.specs.Whole.{is_marked}
 use Rattle.ber_spelling.specs.declared.spot.Scope.{Scope}
 use Rattle.ber_spelling.specs.Reading.{Spot, Opened, Ahead, ended, begun, Reading, ◌>>=◌, within, is_past}
-use Rattle.ber_spelling.specs.Fields.{digits_at, high_at, identifier_at, announced_at, long_at, definite_at, extent_at, contents_at, look_at, mark_at, second_zero_at, begin_at, lacking_from, cut_off, is_lax, capped, is_end}
+use Rattle.ber_spelling.specs.Fields.{digits_at, high_at, identifier_at, announced_at, long_at, definite_at, extent_at, contents_at, look_at, mark_at, second_zero_at, begin_at, lacking_from, cut_off, is_lax, is_end}
+use Rattle.asn1_types.specs.Tags.{capped}
 use Rattle.ber_spelling.specs.Rules.{item_at, items_at, all_items_at, anew, whole_at}
 
 -- ---- what holds of what is read

@@ -3,7 +3,8 @@ use Rattle.std.proofs.Common.{◌≡◌, ℕ, zero, suc, ◌+◌, ◌-◌, ◌*�
 use Rattle.std.proofs.lemmas.Bool.Decides.{nat_tests}
 use Rattle.std.specs.Prelude.{nat_lt, nat_le, nat_eq, min, if◌then◌else◌}
 use Rattle.asn1_types.specs.Rows.{is_no_tag}
-use Rattle.ber_spelling.specs.Fields.{class_of, is_constructed, capped}
+use Rattle.ber_spelling.specs.Fields.{is_constructed}
+use Rattle.asn1_types.specs.Tags.{class_of, capped}
 use Rattle.stream_front.specs.declared.scanner.Scanner.{Scanner}
 use Rattle.stream_front.specs.declared.scanner.Stage as stages
 use Rattle.stream_front.specs.declared.scanner.Stage.TheVariants as stage

@@ -1,7 +1,8 @@
 -- What one octet makes of a scanner.
 use Rattle.std.specs.Prelude.{ℕ, zero, suc, ◌+◌, ◌-◌, ◌*◌, ◌%◌, Bool, true, false, ◌&&◌, ◌||◌, nat_lt, nat_le, nat_eq, if◌then◌else◌}
 use Rattle.asn1_types.specs.Rows.{is_no_tag}
-use Rattle.ber_spelling.specs.Fields.{class_of, is_constructed, capped}
+use Rattle.ber_spelling.specs.Fields.{is_constructed}
+use Rattle.asn1_types.specs.Tags.{class_of, capped}
 use Rattle.stream_front.specs.declared.scanner.Scanner.{Scanner}
 use Rattle.stream_front.specs.declared.scanner.Stage.{Stage}
 use Rattle.stream_front.specs.declared.scanner.Stage.TheVariants as stage

@@ -1,7 +1,7 @@
 //! What one octet makes of a scanner.
 
 ghost use Rattle.std.specs.Prelude.{◌≡◌, ◌<◌, ◌≤◌, ◌^◌, ◌+◌, nat_lt};
-ghost use Rattle.ber_spelling.specs.Fields.{capped};
+ghost use Rattle.asn1_types.specs.Tags.{capped};
 ghost use Rattle.stream_front.specs.Resuming.{IsSound};
 ghost use Rattle.stream_front.specs.Steps as steps;
 
