@@ -164,12 +164,19 @@ fn connect(alloc: Global, config: &Config, recovers: bool) -> Result<Presentatio
     })
 }
 
+/// The same as a unit of the presentation protocol.
+fn connect_unit(alloc: Global, config: &Config, recovers: bool) -> Result<Ppdu, NoMemory>
+    ensures { IfOk result (λ u. u ≡ unit.Connect (connect_of config.now recovers)) }
+{
+    Ok(Ppdu::Connect(connect(alloc, config, recovers)?))
+}
+
 /// The octets of the CP (X.226 8.2.1) with which an initiator of this configuration opens an
 /// association, or recovers one: with its request for an association, and in reliable mode that
 /// for transfers. `check_config` counts these.
 pub fn connect_octets(alloc: Global, config: &Config, recovers: bool) -> Result<Octets, NoMemory>
     ensures { IfOk result (λ octets. octets ≡ connect_octets config.now recovers) }
 {
-    let connect = connect(alloc, config, recovers)?;
-    write_ppdu(alloc, &Ppdu::Connect(connect))
+    let unit = connect_unit(alloc, config, recovers)?;
+    write_ppdu(alloc, &unit)
 }
