@@ -1,5 +1,5 @@
 -- The contexts of a configuration that isn't refused come once each and are odd.
-use Rattle.std.proofs.Common.{◌≡◌, ℕ, ◌%◌, Bool, true, false, List, [], ◌∷◌, ◌++◌, length, Some, None, refl, ap, subst, arith}
+use Rattle.std.proofs.Common.{◌≡◌, ℕ, ◌%◌, Bool, true, false, List, [], ◌∷◌, ◌++◌, length, Some, None, refl, sym, ap, subst, ◌∙◌, arith}
 use Rattle.std.specs.Prelude.{Option, not, ◌&&◌, ◌||◌, nat_eq, nat_lt, if◌then◌else◌}
 use Rattle.std.specs.List.{list_any}
 use Rattle.std.proofs.lemmas.Bool.Decides.{nat_tests}
@@ -15,7 +15,7 @@ use Rattle.end_rules.specs.State.{is_empty}
 use Rattle.end_rules.specs.Altering.{has_double}
 use Rattle.end_rules.specs.Policy.{is_faulty_proposal}
 use Rattle.end_rules.specs.Writing.{own_proposals}
-use Rattle.end_config.specs.Refusing.{is_taken, is_bad_context, bad_context, or_refusal, context_refusal, values_refusal}
+use Rattle.end_config.specs.Refusing.{is_taken, is_bad_context, bad_context, or_refusal, context_refusal, early_refusal, late_refusal, config_refusal}
 use Rattle.end_config.specs.Proposing.{ProposesRightly}
 
 or-left : (p q : Bool) → (p || q) ≡ false → p ≡ false
@@ -115,8 +115,8 @@ right mode before (p ∷ ps) h = go (right mode (before ++ p ∷ []) ps) (is_bad
 
 -- ---- the rows before
 
-no-early : (config : Config) → values_refusal config ≡ None → bad_context config.mode [] config.contexts ≡ None
-no-early config h = contexts (bad_context config.mode [] config.contexts) (length config.contexts) (first (context_refusal (bad_context config.mode [] config.contexts) (length config.contexts)) (values.config_refusal config) h)
+no-early : (config : Config) → config_refusal config ≡ None → bad_context config.mode [] config.contexts ≡ None
+no-early config h = contexts (bad_context config.mode [] config.contexts) (length config.contexts) (first (context_refusal (bad_context config.mode [] config.contexts) (length config.contexts)) (values.config_refusal config) (first (early_refusal config) (late_refusal config) h))
   where
     first : (x y : Option ConfigRefusal) → or_refusal x y ≡ None → x ≡ None
     first None y h = refl
