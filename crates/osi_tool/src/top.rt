@@ -4,7 +4,7 @@ ghost use Rattle.std.specs.Prelude.{◌≡◌, ◌≢◌, ◌≤◌, ◌⊎◌, 
 ghost use Rattle.osi_base.specs.Outside.{Rose, IsCalm};
 ghost use Rattle.osi_tool.specs.Answers.{KeepsCount};
 ghost use Rattle.osi_tool.specs.Commands.{command_of};
-ghost use Rattle.osi_tool.specs.Preparing.{Asks, AskedBy};
+ghost use Rattle.osi_tool.specs.Preparing.{Asks, AskedBy, AskedAtEnd};
 ghost use Rattle.osi_tool.specs.TopCall.{IsAnswer, Closes, IsDone, IsUsage, IsUnread, IsOtherModule, IsBadScript, IsBegun, IsUnless, IsSure, CountsFiles, CountsWrites, due_status};
 
 use crate::answers::{Answer, conclude, done};
@@ -37,7 +37,7 @@ fn run_words<F: Files, O: Sink>(alloc: Global, words: &Words, files: &mut F, out
     ensures contents { F.told files.new ≡ F.told files.old }
     ensures sink { O.faults out.old ≤ O.faults out.new }
     ensures asked { Asks (F.told files.old) (F.faults files.old) (F.faults files.new) (F.asked files.old) (F.asked files.new) (command_of words.now) }
-    ensures asked_for { AskedBy (command_of words.now) (F.asked files.old) (F.asked files.new) result }
+    ensures asked_for { AskedAtEnd (command_of words.now) (F.asked files.old) (F.asked files.new) result }
     ensures closes { Closes (F.told files.old) (F.faults files.old) (F.faults files.new) words.now (O.faults out.old) (O.faults out.new) (O.told out.old) (O.told out.new) result }
 {
     conclude(out, answer_words(alloc, words, files))
@@ -70,7 +70,7 @@ pub fn osi_run<F: Files, O: Sink, L: Line>(
     ensures sink { O.faults out.old ≤ O.faults out.new }
     ensures line { line.new ≡ line.old }
     ensures asked { Asks (F.told files.old) (F.faults files.old) (F.faults files.new) (F.asked files.old) (F.asked files.new) (command_of words.now) }
-    ensures asked_for { AskedBy (command_of words.now) (F.asked files.old) (F.asked files.new) result }
+    ensures asked_for { AskedAtEnd (command_of words.now) (F.asked files.old) (F.asked files.new) result }
     ensures files_count { CountsFiles (F.told files.old) (F.faults files.old) (F.faults files.new) words.now (O.told out.old) (O.told out.new) result }
     ensures sink_count { CountsWrites (O.faults out.old) (O.faults out.new) result }
 
