@@ -48,7 +48,7 @@ cut_off : (command : Option Command) (before after : Option (List (List ℕ))) (
 cut_off None before after answer asked = (asked, asked)
 cut_off (Some command) before after answer asked = (tt, tt)
 
-by_end : (command : Option Command) (first last : Option (List (List ℕ))) (old new : ℕ) (before after : Option (List ℕ)) (answer : Answer) (status : Status)
+pub by_end : (command : Option Command) (first last : Option (List (List ℕ))) (old new : ℕ) (before after : Option (List ℕ)) (answer : Answer) (status : Status)
     → Ends old new before after answer status → AskedBy command first last answer.status → AskedBy command first last status
 by_end command first last old new before after answer _ (whole same written) asked = asked
 by_end command first last old new before after answer _ (failed rose part) asked = (cut_off command first last answer.status asked).0

@@ -12,6 +12,7 @@ mod statuses;
 #[cfg(test)]
 mod tests;
 mod top;
+mod tracing;
 
 use osi_base::{DiskFiles, StdSink, TcpLine};
 use process::{Arguments, run_process};

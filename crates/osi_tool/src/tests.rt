@@ -73,6 +73,65 @@ fn replayed(alloc: Global, schedule: &str) -> Result<(Status, Octets), NoMemory>
     Ok((status, out.written))
 }
 
+/// The status and the output of the trace of a recording.
+fn traced(alloc: Global, recording: &str) -> Result<(Status, Octets), NoMemory> {
+    let texts = [("one", ONE_MODULE), ("recording", recording)];
+    let mut files = files(alloc, texts.as_slice(), Vec::new(alloc))?;
+    let mut out = SureSink::new(alloc);
+    let mut line = SureLine::new(alloc);
+    let words = words(alloc, ["trace", "one", "recording"].as_slice())?;
+    let status = osi_run(alloc, &words, &mut files, &mut out, &mut line);
+    Ok((status, out.written))
+}
+
+/// A connect unit of the session protocol, with a request for an association.
+const CONNECT: &str =
+    "A>B 03 00 00 6E 02 F0 80 0D 65 05 09 13 01 00 16 01 02 17 01 31 14 02 04 2A 33 02 00 01 34 02 00 01 C1 4C 31 4A
+A>B A0 03 80 01 01 A2 43 81 02 00 01 82 02 00 01 A4 22 30 0F 02 01 01 06 04 52 01 00 01 30 04 06 02 51 01 30 0F 02
+A>B 01 05 06 04 88 37 07 01 30 04 06 02 51 01 88 02 06 C0 61 11 30 0F 02 01 01 A0 0A 60 08 A1 06 06 04 88 37 05 03
+";
+
+#[test]
+fn traces_recordings(rt: HostRuntime) -> Result<(), Fail> {
+    let rows = [
+        (
+            "A>B 03 00 00 1F 02 F0 80 01 00 01 00 61 12 30 10 02 01 05 A0 0B A1 09 02 01 01 02 01 01 02 01 05\n",
+            "A>B GT+DT 5:invoke 1 add\n",
+        ),
+        (CONNECT, "A>B CN CP 1:value 10\n"),
+        ("A>B 03 00 00 06\n", "A>B fault transport 2 Length\n"),
+        (
+            "A>B 03 00 00 10 02 F0 80 21 00 A0 05 A1 03 02 01 05\nA>B 03 00 00 10 02 F0 80 21 00 A1 05 A1 03 02 01 00\n",
+            "A>B TD AC\nA>B TD ACA\n",
+        ),
+        (
+            "B>A 03 00 00 29 02 F0 80 01 00 35 1E 1B 01 00 2A 01 32 C1 16 30 14 A0 12 30 07 02 01 01 06 02 51 01 30 07 02 01 05 06 02 51 01\n",
+            "B>A GT+RS RS\n",
+        ),
+        (
+            "A>B 03 00 00 26 02 F0 80 01 00 22 1B 2A 01 32 C1 16 30 14 A0 12 30 07 02 01 01 06 02 51 01 30 07 02 01 05 06 02 51 01\n",
+            "A>B GT+RA RSA\n",
+        ),
+    ];
+    for (recording, text) in rows {
+        let (status, written) = traced(rt.alloc(), recording)?;
+        assert_eq!(rt; status, Status::Done);
+        assert_eq!(rt; written.as_slice(), text.as_bytes());
+    }
+    Ok(())
+}
+
+#[test]
+fn refuses_a_recording_with_an_odd_digit(rt: HostRuntime) -> Result<(), Fail> {
+    let (status, written) = traced(rt.alloc(), "A>B 0\n")?;
+    assert_eq!(rt; status, Status::ScriptRefused);
+    assert_eq!(rt;
+        written.as_slice(),
+        b"script refused 1 BadField\n".as_slice()
+    );
+    Ok(())
+}
+
 #[test]
 fn replays_schedules(rt: HostRuntime) -> Result<(), Fail> {
     let rows = [

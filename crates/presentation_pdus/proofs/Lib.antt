@@ -2,3 +2,8 @@ pub mod Added
 pub mod Shapes
 pub mod SelectedLaws
 pub mod UnitLaws
+pub mod Aligned
+pub mod BackValues
+pub mod SaidBack
+pub mod SetBack
+pub mod UnitsBack

@@ -6,6 +6,8 @@ use Rattle.osi_base.specs.declared.presentation_word.PresentationWord as units
 use Rattle.ber_spelling.specs.Octets.{AreOctets}
 use Rattle.presentation_pdus.specs.declared.place.PpduPlace.{PpduPlace}
 use Rattle.presentation_pdus.specs.declared.place.PpduFault.TheVariants as fault
+use Rattle.presentation_pdus.specs.Words.{written_ppdu}
+use Rattle.presentation_pdus.specs.Written.{IsWritable}
 use Rattle.presentation_pdus.specs.Units.{SpellsPpdu, ppdu_at, reason_of}
 
 -- what is read is spelled by the octets
@@ -21,3 +23,7 @@ SpelledPpduIsRead = (carrier : PpduPlace) (word : units.PresentationWord) (octet
 abbrev pub PpduFaultIsFirst : Type 0
 PpduFaultIsFirst = (carrier : PpduPlace) (octets : List ℕ) (place : ℕ) (kind : Kind) (reason : ℕ) → ppdu_at carrier octets ≡ Err (fault.At place kind reason)
     → (place ≤ length octets) × (reason ≡ reason_of place kind) × ((k : ℕ) → k < place → ppdu_at carrier (take k octets) ≡ Err (fault.At k Missing 6))
+
+-- what is written of a unit that may be written is spelled so, where it is carried, and read back
+abbrev pub WrittenPpduIsRead : Type 0
+WrittenPpduIsRead = (carrier : PpduPlace) (word : units.PresentationWord) → IsWritable carrier word → SpellsPpdu carrier word (written_ppdu word) × (ppdu_at carrier (written_ppdu word) ≡ Ok word)

@@ -6,3 +6,4 @@ pub mod Said
 pub mod Selected
 pub mod Units
 pub mod Words
+pub mod Written

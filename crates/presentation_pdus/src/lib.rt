@@ -12,6 +12,6 @@ mod table;
 mod words;
 
 pub use codec::{read_ppdu, write_ppdu};
-pub use laws::{ppdu_fault_is_first, ppdu_is_spelled, spelled_ppdu_is_read};
+pub use laws::{ppdu_fault_is_first, ppdu_is_spelled, spelled_ppdu_is_read, written_ppdu_is_read};
 pub use place::{PpduFault, PpduPlace};
 pub use table::PpduTable;

@@ -1,6 +1,6 @@
 use Rattle.osi_tool.proofs.Answering.{closed}
 use Rattle.osi_tool.proofs.Asked.{asked_at_end}
-use Rattle.osi_tool.proofs.top.run_words.Goals as goal
+use Rattle.osi_tool.proofs.top.run_others.Goals as goal
 
 pub returns-clause-closes : goal.returns-clause-closes
 returns-clause-closes g c = closed _ _ _ _ _ _ _ _ _ c.answer_words.result c.answer_words.ensures.answer c.answer_words.ensures.counts c.answer_words.ensures.err_count c.conclude.ensures.ends

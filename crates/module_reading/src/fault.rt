@@ -1,0 +1,69 @@
+//! Why a text is no module, or a module has no tables.
+
+ghost use Rattle.std.specs.Prelude.{◌≡◌};
+ghost use Rattle.module_reading.specs.Words.{notation_word, table_word, kind_word};
+
+use module_compiler::TableKind;
+use notation_tokens::NotationKind;
+
+/// How a text breaks the notation, or what is wrong with a module that reads.
+#[derive(Clone, Copy, Debug, PartialEq, Eq)]
+pub enum ModuleKind {
+    Notation(NotationKind),
+    Table(TableKind),
+}
+
+/// Why a text has no tables.
+#[derive(Clone, Copy, Debug, PartialEq, Eq)]
+pub enum ModuleFault {
+    /// What stands at this line and column, both counted from 1, columns in octets.
+    At {
+        line: u32,
+        column: u32,
+        kind: ModuleKind,
+    },
+    /// An allocation was refused.
+    NoMemory,
+}
+
+fn notation_word(kind: NotationKind) -> &'static str
+    ensures { result.now ≡ notation_word kind }
+{
+    match kind {
+        NotationKind::BadCharacter => "BadCharacter",
+        NotationKind::UnexpectedToken => "UnexpectedToken",
+        NotationKind::TextTooLong => "TextTooLong",
+        NotationKind::TooManyTokens => "TooManyTokens",
+        NotationKind::Unsupported => "Unsupported",
+    }
+}
+
+fn table_word(kind: TableKind) -> &'static str
+    ensures { result.now ≡ table_word kind }
+{
+    match kind {
+        TableKind::UnknownName => "UnknownName",
+        TableKind::DoubleName => "DoubleName",
+        TableKind::DoubleCode => "DoubleCode",
+        TableKind::NoCode => "NoCode",
+        TableKind::Recursive => "Recursive",
+        TableKind::TooNested => "TooNested",
+        TableKind::TagsNotDistinct => "TagsNotDistinct",
+        TableKind::NotOperation => "NotOperation",
+        TableKind::NotError => "NotError",
+        TableKind::BadRange => "BadRange",
+        TableKind::Contradiction => "Contradiction",
+        TableKind::BadDefault => "BadDefault",
+        TableKind::Unsupported => "Unsupported",
+    }
+}
+
+/// The name of a kind of fault.
+pub fn kind_word(kind: ModuleKind) -> &'static str
+    ensures { result.now ≡ kind_word kind }
+{
+    match kind {
+        ModuleKind::Notation(kind) => notation_word(kind),
+        ModuleKind::Table(kind) => table_word(kind),
+    }
+}

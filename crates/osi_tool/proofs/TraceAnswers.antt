@@ -1,0 +1,56 @@
+-- What a trace is answered, from what its steps say.
+use Rattle.std.proofs.Common.{ℕ, ◌≡◌, ◌⊎◌, List, Option, None, Some, Result, Ok, Err, IfOk, refl, sym, subst, inl, inr}
+use Rattle.osi_base.specs.Outside.{FileMap}
+use Rattle.stub_tables.specs.declared.tables.Tables.{Tables}
+use Rattle.module_reading.specs.declared.fault.ModuleKind.{ModuleKind}
+use Rattle.module_reading.specs.declared.fault.ModuleFault.TheVariants as faults
+use Rattle.module_reading.specs.Modules.{HasTables, IsRefused}
+use Rattle.trace_file.specs.declared.fault.RecordingKind.{RecordingKind}
+use Rattle.trace_file.specs.declared.fault.RecordingFault.{RecordingFault}
+use Rattle.trace_file.specs.declared.fault.RecordingFault.TheVariants as recording_faults
+use Rattle.trace_file.specs.declared.reading.Recorded.{Recorded}
+use Rattle.trace_file.specs.Reading.{recording_of}
+use Rattle.trace_vectors.specs.Trace.{TraceTextOf}
+use Rattle.osi_tool.specs.declared.answers.Answer.{Answer}
+use Rattle.osi_tool.specs.Answers.{unread_answer, script_answer, done_answer}
+use Rattle.osi_tool.specs.Preparing.{WasRead}
+use Rattle.osi_tool.specs.Tracing.{TraceCommand, refused_answer, script_kind, TracedBy, TracesNamed, Traces}
+
+abbrev Read : Type 0
+Read = Result (List Recorded) RecordingFault
+
+pub traced_ok : (tables : Tables) (read : Read) (told : List Recorded) (text : List ℕ) (answer : Answer) → read ≡ Ok told → TraceTextOf tables told text → answer ≡ done_answer text → TracedBy tables read answer
+traced_ok tables read told text answer e h a = let P : Read → Type 0 = λ r. TracedBy tables r answer in subst P (sym e) (text, h, a)
+
+pub traced_err : (tables : Tables) (read : Read) (number : ℕ) (kind : RecordingKind) (answer : Answer) → read ≡ Err (recording_faults.At number kind)
+    → answer ≡ script_answer number (script_kind kind) → TracedBy tables read answer
+traced_err tables read number kind answer e a = let P : Read → Type 0 = λ r. TracedBy tables r answer in subst P (sym e) a
+
+pub named_none : (tables : Tables) (told : Option FileMap) (old new : ℕ) (name : List ℕ) (answer : Answer) → WasRead told old new name None → answer ≡ unread_answer name
+    → TracesNamed tables told old new name answer
+named_none tables told old new name answer w a = (None, w, a)
+
+pub named_some : {E : Type 0} (r : Result Answer E) (tables : Tables) (told : Option FileMap) (old new : ℕ) (name octets given : List ℕ) → WasRead told old new name (Some octets) → given ≡ octets
+    → IfOk r (λ answer. TracedBy tables (recording_of given) answer) → IfOk r (λ answer. TracesNamed tables told old new name answer)
+named_some (Ok answer) tables told old new name octets given w e h =
+    let P : List ℕ → Type 0 = λ o. TracedBy tables (recording_of o) answer in (Some octets, w, subst P e h)
+named_some (Err fault) tables told old new name octets given w e h = tt
+
+pub traces_unread : (told : Option FileMap) (old new : ℕ) (command : TraceCommand) (answer : Answer) → WasRead told old new command.«module» None → answer ≡ unread_answer command.«module»
+    → Traces told old new command answer
+traces_unread told old new command answer w a = (None, w, a)
+
+pub traces_refused : (told : Option FileMap) (old new : ℕ) (command : TraceCommand) (text : List ℕ) (number column : ℕ) (kind : ModuleKind) (answer : Answer)
+    → WasRead told old new command.«module» (Some text) → IsRefused text (faults.At number column kind) → answer ≡ refused_answer number column kind → Traces told old new command answer
+traces_refused told old new command text number column kind answer w r a = (Some text, w, inr (number, column, kind, r, a))
+
+-- the second file was read where the first one had left the files as they were
+pub traces_named : {E : Type 0} (r : Result Answer E) (told later : Option FileMap) (old mid new : ℕ) (command : TraceCommand) (text given : List ℕ) (tables : Tables) → later ≡ told → mid ≡ old
+    → given ≡ text → WasRead told old mid command.«module» (Some text) → HasTables given tables → IfOk r (λ answer. TracesNamed tables later mid new command.file answer)
+    → IfOk r (λ answer. Traces told old new command answer)
+traces_named (Ok answer) told later old mid new command text given tables e f s w h t =
+    let P : Option FileMap → Type 0 = λ m. TracesNamed tables m mid new command.file answer in
+    let Q : ℕ → Type 0 = λ n. TracesNamed tables told n new command.file answer in
+    let R : List ℕ → Type 0 = λ o. HasTables o tables in
+    (Some text, w, inl (tables, subst R s h, subst Q f (subst P e t)))
+traces_named (Err fault) told later old mid new command text given tables e f s w h t = tt
