@@ -1,5 +1,5 @@
 -- What a trace is answered, from what its steps say.
-use Rattle.std.proofs.Common.{ℕ, ◌≡◌, ◌⊎◌, List, Option, None, Some, Result, Ok, Err, IfOk, refl, sym, subst, inl, inr}
+use Rattle.std.proofs.Common.{ℕ, ◌≡◌, ◌⊎◌, List, Option, None, Some, Result, Ok, Err, refl, sym, subst, inl, inr}
 use Rattle.osi_base.specs.Outside.{FileMap}
 use Rattle.stub_tables.specs.declared.tables.Tables.{Tables}
 use Rattle.module_reading.specs.declared.fault.ModuleKind.{ModuleKind}
@@ -30,27 +30,25 @@ pub named_none : (tables : Tables) (told : Option FileMap) (old new : ℕ) (name
     → TracesNamed tables told old new name answer
 named_none tables told old new name answer w a = (None, w, a)
 
-pub named_some : {E : Type 0} (r : Result Answer E) (tables : Tables) (told : Option FileMap) (old new : ℕ) (name octets given : List ℕ) → WasRead told old new name (Some octets) → given ≡ octets
-    → IfOk r (λ answer. TracedBy tables (recording_of given) answer) → IfOk r (λ answer. TracesNamed tables told old new name answer)
-named_some (Ok answer) tables told old new name octets given w e h =
+pub named_some : (tables : Tables) (told : Option FileMap) (old new : ℕ) (name octets given : List ℕ) (answer : Answer) → WasRead told old new name (Some octets) → given ≡ octets
+    → TracedBy tables (recording_of given) answer → TracesNamed tables told old new name answer
+named_some tables told old new name octets given answer w e h =
     let P : List ℕ → Type 0 = λ o. TracedBy tables (recording_of o) answer in (Some octets, w, subst P e h)
-named_some (Err fault) tables told old new name octets given w e h = tt
 
 pub traces_unread : (told : Option FileMap) (old new : ℕ) (command : TraceCommand) (answer : Answer) → WasRead told old new command.«module» None → answer ≡ unread_answer command.«module»
     → Traces told old new command answer
 traces_unread told old new command answer w a = (None, w, a)
 
-pub traces_refused : (told : Option FileMap) (old new : ℕ) (command : TraceCommand) (text : List ℕ) (number column : ℕ) (kind : ModuleKind) (answer : Answer)
-    → WasRead told old new command.«module» (Some text) → IsRefused text (faults.At number column kind) → answer ≡ refused_answer number column kind → Traces told old new command answer
-traces_refused told old new command text number column kind answer w r a = (Some text, w, inr (number, column, kind, r, a))
+pub traces_refused : (told : Option FileMap) (old new : ℕ) (command : TraceCommand) (text given : List ℕ) (number column : ℕ) (kind : ModuleKind) (answer : Answer)
+    → WasRead told old new command.«module» (Some text) → given ≡ text → IsRefused given (faults.At number column kind) → answer ≡ refused_answer number column kind → Traces told old new command answer
+traces_refused told old new command text given number column kind answer w e r a =
+    let P : List ℕ → Type 0 = λ o. IsRefused o (faults.At number column kind) in (Some text, w, inr (number, column, kind, subst P e r, a))
 
 -- the second file was read where the first one had left the files as they were
-pub traces_named : {E : Type 0} (r : Result Answer E) (told later : Option FileMap) (old mid new : ℕ) (command : TraceCommand) (text given : List ℕ) (tables : Tables) → later ≡ told → mid ≡ old
-    → given ≡ text → WasRead told old mid command.«module» (Some text) → HasTables given tables → IfOk r (λ answer. TracesNamed tables later mid new command.file answer)
-    → IfOk r (λ answer. Traces told old new command answer)
-traces_named (Ok answer) told later old mid new command text given tables e f s w h t =
+pub traces_named : (told later : Option FileMap) (old mid new : ℕ) (command : TraceCommand) (text given : List ℕ) (tables : Tables) (answer : Answer) → later ≡ told → mid ≡ old → given ≡ text
+    → WasRead told old mid command.«module» (Some text) → HasTables given tables → TracesNamed tables later mid new command.file answer → Traces told old new command answer
+traces_named told later old mid new command text given tables answer e f s w h t =
     let P : Option FileMap → Type 0 = λ m. TracesNamed tables m mid new command.file answer in
     let Q : ℕ → Type 0 = λ n. TracesNamed tables told n new command.file answer in
     let R : List ℕ → Type 0 = λ o. HasTables o tables in
     (Some text, w, inl (tables, subst R s h, subst Q f (subst P e t)))
-traces_named (Err fault) told later old mid new command text given tables e f s w h t = tt

@@ -189,8 +189,8 @@ by_octets : (tables : Tables) (command : Command) (before after : Option (List (
 by_octets tables command before after answer name None t both = asked_along command before after (unread_answer name) answer t (inr both)
 by_octets tables command before after answer name (Some octets) t both = by_recording tables command before after answer (recording_of octets) t both
 
-pub both_asked : {E : Type 0} (tables : Tables) (told : Option FileMap) (old new : ℕ) (command : TraceCommand) (before middle after : Option (List (List ℕ))) (r : Result Answer E)
-    → IfOk r (λ answer. TracesNamed tables told old new command.file answer) → middle ≡ logged command.«module» before → IfOk r (λ answer. after ≡ logged command.file middle)
-    → IfOk r (λ answer. AskedBy (Some (files_of command)) before after answer.status)
-both_asked tables told old new command before middle after (Ok answer) t first second = by_octets tables (files_of command) before after answer command.file t.0 t.2 (rw (first) at second)
-both_asked tables told old new command before middle after (Err fault) t first second = tt
+pub named_asked : (tables : Tables) (told : Option FileMap) (old new : ℕ) (command : TraceCommand) (before middle after : Option (List (List ℕ))) (answer : Answer)
+    → TracesNamed tables told old new command.file answer → middle ≡ logged command.«module» before → after ≡ logged command.file middle
+    → AskedBy (Some (files_of command)) before after answer.status
+named_asked tables told old new command before middle after answer t first second =
+    by_octets tables (files_of command) before after answer command.file t.0 t.2 (rw (first) at second)

@@ -1,26 +1,38 @@
--- Words behind those of a trace.
-use Rattle.std.proofs.Common.{◌≡◌, ℕ, Bool, true, false, List, [], ◌∷◌, Option, Some, None, refl}
-use Rattle.std.specs.Prelude.{if◌then◌else◌, option_map}
-use Rattle.osi_tool.specs.Commands.{is_name}
-use Rattle.osi_tool.specs.Tracing.{TraceCommand, is_dashes, names_of, of_names, behind_both}
+-- Words that are a trace, or aren't.
+use Rattle.std.proofs.Common.{ℕ, ◌≡◌, List, Option, None, Some, sym, subst}
+use Rattle.osi_base.specs.Outside.{FileMap}
+use Rattle.osi_base.specs.declared.words.Status.{Status}
+use Rattle.osi_tool.specs.Commands.{Command}
+use Rattle.osi_tool.specs.Preparing.{Asks, AskedBy}
+use Rattle.osi_tool.specs.TopCall.{Closes}
+use Rattle.osi_tool.specs.Tracing.{TraceCommand, AsksTrace, AsksFor, AskedForBy, files_of, ClosesTrace, ClosesFor}
 
-three : (a b c : List ℕ) (names : Option (List (List ℕ))) → of_names (option_map (λ l. a ∷ l) (option_map (λ l. b ∷ l) (option_map (λ l. c ∷ l) names))) ≡ None
-three a b c None = refl
-three a b c (Some l) = refl
+pub closes_none : (trace : Option TraceCommand) (told : Option FileMap) (old new : ℕ) (words : List (List ℕ)) (sink_old sink_new : ℕ) (before after : Option (List ℕ)) (status : Status)
+    → trace ≡ None → Closes told old new words sink_old sink_new before after status → ClosesFor trace told old new words sink_old sink_new before after status
+closes_none trace told old new words sink_old sink_new before after status e h =
+    let P : Option TraceCommand → Type 0 = λ t. ClosesFor t told old new words sink_old sink_new before after status in subst P (sym e) h
 
--- a third word that isn't `--` is one too many, or no name
-if_name : (a b c : List ℕ) (more : List (List ℕ)) (is : Bool) → of_names (option_map (λ l. a ∷ l) (option_map (λ l. b ∷ l) (if is then option_map (λ l. c ∷ l) (names_of more) else None))) ≡ None
-if_name a b c more true = three a b c (names_of more)
-if_name a b c more false = refl
+pub closes_some : (trace : Option TraceCommand) (command : TraceCommand) (told : Option FileMap) (old new : ℕ) (words : List (List ℕ)) (sink_old sink_new : ℕ) (before after : Option (List ℕ)) (status : Status)
+    → trace ≡ Some command → ClosesTrace told old new command sink_old sink_new before after status → ClosesFor trace told old new words sink_old sink_new before after status
+closes_some trace command told old new words sink_old sink_new before after status e h =
+    let P : Option TraceCommand → Type 0 = λ t. ClosesFor t told old new words sink_old sink_new before after status in subst P (sym e) h
 
-pub no_third : (a b c : List ℕ) (more : List (List ℕ)) → is_dashes c ≡ false → of_names (behind_both a b (c ∷ more)) ≡ None
-no_third a b c more e = rw e (if_name a b c more (is_name c))
+pub asks_none : (trace : Option TraceCommand) (told : Option FileMap) (old new : ℕ) (before after : Option (List (List ℕ))) (command : Option Command) → trace ≡ None
+    → Asks told old new before after command → AsksFor trace told old new before after command
+asks_none trace told old new before after command e h =
+    let P : Option TraceCommand → Type 0 = λ t. AsksFor t told old new before after command in subst P (sym e) h
 
--- words behind `--` are names too
-if_dashes : (a b c d : List ℕ) (more : List (List ℕ)) (is : Bool)
-    → of_names (option_map (λ l. a ∷ l) (option_map (λ l. b ∷ l) (if is then Some (d ∷ more) else (if is_name c then option_map (λ l. c ∷ l) (names_of (d ∷ more)) else None)))) ≡ None
-if_dashes a b c d more true = refl
-if_dashes a b c d more false = if_name a b c (d ∷ more) (is_name c)
+pub asks_some : (trace : Option TraceCommand) (which : TraceCommand) (told : Option FileMap) (old new : ℕ) (before after : Option (List (List ℕ))) (command : Option Command) → trace ≡ Some which
+    → AsksTrace told old new before after which → AsksFor trace told old new before after command
+asks_some trace which told old new before after command e h =
+    let P : Option TraceCommand → Type 0 = λ t. AsksFor t told old new before after command in subst P (sym e) h
 
-pub too_many : (a b c d : List ℕ) (more : List (List ℕ)) → of_names (behind_both a b (c ∷ d ∷ more)) ≡ None
-too_many a b c d more = if_dashes a b c d more (is_dashes c)
+pub asked_none : (trace : Option TraceCommand) (command : Option Command) (before after : Option (List (List ℕ))) (status : Status) → trace ≡ None → AskedBy command before after status
+    → AskedForBy trace command before after status
+asked_none trace command before after status e h =
+    let P : Option TraceCommand → Type 0 = λ t. AskedForBy t command before after status in subst P (sym e) h
+
+pub asked_some : (trace : Option TraceCommand) (which : TraceCommand) (command : Option Command) (before after : Option (List (List ℕ))) (status : Status) → trace ≡ Some which
+    → AskedBy (Some (files_of which)) before after status → AskedForBy trace command before after status
+asked_some trace which command before after status e h =
+    let P : Option TraceCommand → Type 0 = λ t. AskedForBy t command before after status in subst P (sym e) h

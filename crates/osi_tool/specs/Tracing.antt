@@ -1,5 +1,5 @@
 -- The command `trace`: what words and files make the program answer.
-use Rattle.std.specs.Prelude.{ℕ, ◌≡◌, ◌≢◌, ◌⊎◌, Bool, true, false, if◌then◌else◌, List, [], ◌∷◌, ◌++◌, Option, None, Some, Result, Ok, Err, codes, decimal, bytes_eq, option_map, IfSome}
+use Rattle.std.specs.Prelude.{ℕ, ◌≡◌, ◌≢◌, ◌⊎◌, ◌&&◌, if◌then◌else◌, List, [], ◌∷◌, ◌++◌, Option, None, Some, Result, Ok, Err, codes, decimal, bytes_eq, IfSome}
 use Rattle.osi_base.specs.Outside.{Rose, IsCalm, FileMap, Lacks, logged, grown, GrewPart}
 use Rattle.osi_base.specs.declared.words.Status.{Status}
 use Rattle.osi_base.specs.declared.words.Status.TheVariants.{Done, Usage, ReadFault, WriteFault, LineFault, ModuleRefused, ScriptRefused, Ended, Spent, NoMemory}
@@ -36,30 +36,11 @@ pub record TraceCommand : Type 0 where
 abbrev pub trace_command : List ℕ → List ℕ → TraceCommand
 trace_command module_name file = record { «module» = module_name; file = file }
 
-abbrev pub is_dashes : List ℕ → Bool
-is_dashes word = bytes_eq word (codes "--")
-
--- The names that words give which have no flags: behind `--` all of them, before it those that begin with no `-`.
-abbrev pub names_of : List (List ℕ) → Option (List (List ℕ))
-names_of [] = Some []
-names_of (word ∷ words) =
-    if is_dashes word then Some words else (if is_name word then option_map (λ names. word ∷ names) (names_of words) else None)
-
--- the names behind one, and behind two
-abbrev pub behind_one : List ℕ → List (List ℕ) → Option (List (List ℕ))
-behind_one first words = option_map (λ names. first ∷ names) (names_of words)
-
-abbrev pub behind_both : List ℕ → List ℕ → List (List ℕ) → Option (List (List ℕ))
-behind_both first second words = option_map (λ names. first ∷ names) (behind_one second words)
-
-abbrev pub of_names : Option (List (List ℕ)) → Option TraceCommand
-of_names (Some (module_name ∷ file ∷ [])) = Some (trace_command module_name file)
-of_names _ = None
-
 -- the trace that words give, or nothing where they give none
 abbrev pub trace_of : List (List ℕ) → Option TraceCommand
-trace_of [] = None
-trace_of (word ∷ words) = if bytes_eq word (codes "trace") then of_names (names_of words) else None
+trace_of (word ∷ module_name ∷ file ∷ []) =
+    if bytes_eq word (codes "trace") && (is_name module_name && is_name file) then Some (record { «module» = module_name; file = file }) else None
+trace_of _ = None
 
 -- ---- answers
 

@@ -1,13 +1,12 @@
 //! The command `trace`: what a recorded dialogue says.
 
-ghost use Rattle.std.specs.Prelude.{◌≡◌, ◌≤◌, ◌∷◌, None, Some, IfOk, OnOk, OnErr, MatchOption};
+ghost use Rattle.std.specs.Prelude.{◌≡◌, ◌≤◌, None, Some, IfOk, OnOk, OnErr, MatchOption};
 ghost use Rattle.osi_base.specs.Outside.{logged};
 ghost use Rattle.trace_file.specs.Reading.{recording_of};
 ghost use Rattle.osi_tool.specs.Answers.{KeepsCount};
 ghost use Rattle.osi_tool.specs.Preparing.{MayAsk, AskedBy};
-ghost use Rattle.osi_tool.specs.Tracing.{trace_command, names_of, of_names, behind_one};
-ghost use Rattle.osi_tool.specs.Tracing.{behind_both, trace_of};
-ghost use Rattle.osi_tool.specs.Tracing.{is_dashes, refused_answer, script_kind, TracedBy};
+ghost use Rattle.osi_tool.specs.Tracing.{trace_of, trace_command, refused_answer, script_kind};
+ghost use Rattle.osi_tool.specs.Tracing.{TracedBy};
 ghost use Rattle.osi_tool.specs.Tracing.{TracesNamed, Traces, AsksTrace, files_of};
 
 use crate::answers::{Answer, cannot_read, done, script_refused};
@@ -29,107 +28,16 @@ pub struct Trace<'a> {
     pub file: &'a Name,
 }
 
-/// Whether all words behind this one are names.
-fn is_dashes(word: &Name) -> bool
-    ensures { result ≡ is_dashes word.now }
-{
-    is_word(word, "--")
-}
-
-/// The trace that two names give.
-fn of_two(words: &[Name]) -> Option<Trace<'_>>
-    ensures { MatchOption result (of_names (Some words.entry.now) ≡ None)
-        (λ trace. of_names (Some words.entry.now) ≡ Some (trace_command trace.module.now
-        trace.file.now)) }
-{
-    match words {
-        [module, file] => Some(Trace { module, file }),
-        _ => None,
-    }
-}
-
-/// The trace of a module and one further name.
-fn of_one<'a>(module: &'a Name, words: &'a [Name]) -> Option<Trace<'a>>
-    ensures { MatchOption result (of_names (Some («module».entry.now ∷ words.entry.now)) ≡ None)
-        (λ trace. of_names (Some («module».entry.now ∷ words.entry.now)) ≡ Some (trace_command
-        trace.module.now trace.file.now)) }
-{
-    match words {
-        [file] => Some(Trace { module, file }),
-        _ => None,
-    }
-}
-
-/// The trace of a module and a file, behind which `--` may stand.
-#[tactic(auto, using(crate::proofs::TraceWords::too_many))]
-fn of_both<'a>(module: &'a Name, file: &'a Name, words: &'a [Name]) -> Option<Trace<'a>>
-    ensures { MatchOption result (of_names (behind_both «module».entry.now file.entry.now
-        words.entry.now) ≡ None) (λ trace. of_names (behind_both «module».entry.now file.entry.now
-        words.entry.now) ≡ Some (trace_command trace.module.now trace.file.now)) }
-{
-    match words {
-        [] => Some(Trace { module, file }),
-        [last] => {
-            if is_dashes(last) {
-                Some(Trace { module, file })
-            } else {
-                None
-            }
-        }
-        _ => None,
-    }
-}
-
-/// The trace of a module and the words behind it.
-fn of_more<'a>(module: &'a Name, words: &'a [Name]) -> Option<Trace<'a>>
-    ensures { MatchOption result (of_names (behind_one «module».entry.now words.entry.now) ≡ None)
-        (λ trace. of_names (behind_one «module».entry.now words.entry.now) ≡ Some (trace_command
-        trace.module.now trace.file.now)) }
-{
-    match words {
-        [] => None,
-        [first, others @ ..] => {
-            if is_dashes(first) {
-                of_one(module, others)
-            } else if is_name(first) {
-                of_both(module, first, others)
-            } else {
-                None
-            }
-        }
-    }
-}
-
-/// The trace that the words behind `trace` give: two names, and `--` at most once before those that
-/// may begin with `-`.
-fn named(words: &[Name]) -> Option<Trace<'_>>
-    ensures { MatchOption result (of_names (names_of words.entry.now) ≡ None)
-        (λ trace. of_names (names_of words.entry.now) ≡ Some (trace_command trace.module.now
-        trace.file.now)) }
-{
-    match words {
-        [] => None,
-        [first, others @ ..] => {
-            if is_dashes(first) {
-                of_two(others)
-            } else if is_name(first) {
-                of_more(first, others)
-            } else {
-                None
-            }
-        }
-    }
-}
-
-/// The trace that these words give, where they give one.
+/// The trace that these words give, where they give one: exactly the three words `trace`, the
+/// module's name and the recording's.
 pub fn trace(words: &Words) -> Option<Trace<'_>>
     ensures { MatchOption result (trace_of words.now ≡ None)
-        (λ trace. trace_of words.now ≡ Some (trace_command trace.module.now trace.file.now)) }
+        (λ trace. trace_of words.now ≡ Some (record { «module» = trace.module.now; file = trace.file.now })) }
 {
     match words.as_slice() {
-        [word, others @ ..] => {
-            if is_word(word, "trace") {
-                named(others)
+        [word, module, file] => {
+            if is_word(word, "trace") && is_name(module) && is_name(file) {
+                Some(Trace { module, file })
             } else {
                 None
             }
@@ -186,6 +94,7 @@ fn trace_octets(alloc: Global, tables: &Tables, octets: &[u8]) -> Result<Answer,
 
 /// Reads the file of this name, and traces it. What tells that it isn't read is made before it is
 /// asked for, so that no want of memory stands between a file that failed and its telling.
+#[tactic(auto, using(crate::proofs::TraceAnswers::named_none, crate::proofs::TraceAnswers::named_some))]
 fn trace_named<F: Files>(
     alloc: Global,
     tables: &Tables,
@@ -205,11 +114,15 @@ fn trace_named<F: Files>(
     let unread = cannot_read(alloc, name)?;
     match read_file(alloc, files, name)? {
         None => Ok(unread),
-        Some(octets) => trace_octets(alloc, tables, octets.as_slice()),
+        Some(octets) => {
+            let answer = trace_octets(alloc, tables, octets.as_slice())?;
+            Ok(answer)
+        }
     }
 }
 
 /// What the program answers to a trace: it reads the module, and then the file.
+#[tactic(auto, using(crate::proofs::TraceAnswers::traces_unread, crate::proofs::TraceAnswers::traces_refused, crate::proofs::TraceAnswers::traces_named, crate::proofs::TraceEnding::named_asked))]
 pub fn answer_trace<F: Files>(
     alloc: Global,
     trace: Trace<'_>,
@@ -233,8 +146,14 @@ pub fn answer_trace<F: Files>(
         return Ok(unread);
     };
     match read_module(alloc, text.as_slice()) {
-        Ok(tables) => trace_named(alloc, &tables, trace.file, files),
-        Err(ModuleFault::At { line, column, kind }) => refused(alloc, line, column, kind),
+        Ok(tables) => {
+            let answer = trace_named(alloc, &tables, trace.file, files)?;
+            Ok(answer)
+        }
+        Err(ModuleFault::At { line, column, kind }) => {
+            let answer = refused(alloc, line, column, kind)?;
+            Ok(answer)
+        }
         Err(ModuleFault::NoMemory) => Err(NoMemory),
     }
 }
