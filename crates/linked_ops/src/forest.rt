@@ -103,6 +103,13 @@ impl Forest {
         }
     }
 
+    /// All keys in order of opening, each with the key above it.
+    pub fn as_slice(&self) -> &[(Key, Option<Key>)]
+        ensures { result.now ≡ self.now }
+    {
+        self.entries.as_slice()
+    }
+
     /// All keys, each behind those under it; roots, and the children of one key, in order of
     /// opening.
     pub fn post_order(&self) -> Result<Keys, NoMemory>

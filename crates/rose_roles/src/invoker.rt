@@ -1,17 +1,17 @@
 //! The side that invokes: what becomes of outcomes and rejects.
 
-ghost use Rattle.std.specs.Prelude.{◌≡◌, ◌<◌, ◌≤◌, ◌+◌, ℕ, ℤ, pos, [], ◌∷◌, ◌++◌, length, None, Some, true, false, IfOk, OnOk, OnErr, is_some};
+ghost use Rattle.std.specs.Prelude.{◌≡◌, ◌<◌, ◌≤◌, ◌+◌, ℕ, ℤ, pos, List, [], ◌∷◌, ◌++◌, length, None, Some, true, false, IfOk, OnOk, OnErr, is_some};
 ghost use Rattle.std.specs.Option.{option_map};
 ghost use Rattle.std.specs.Ordering.{int_cmp};
-ghost use Rattle.linked_ops.specs.Entries.{IsForest, is_open, is_open_or_none};
+ghost use Rattle.linked_ops.specs.Entries.{Entry, IsForest, is_open, is_open_or_none};
 ghost use Rattle.apdu_spelling.specs.declared.head.ApduKind.TheVariants as kinds;
 ghost use Rattle.stub_tables.specs.Lookup.{error_with};
 ghost use Rattle.end_rules.specs.Base.{Base, ResultHead, ErrorHead, RejectHead};
-ghost use Rattle.end_rules.specs.State.{close};
+ghost use Rattle.end_rules.specs.State.{close, opens_of};
 ghost use Rattle.end_rules.specs.Hearing.{hear, is_of_invocation};
 ghost use Rattle.rose_roles.specs.Heads.{is_invocation, reject_by, Carries, use_by, parameter_placed};
 ghost use Rattle.rose_roles.specs.Hearing.{Hears, HearsHead, heard_with};
-ghost use Rattle.rose_roles.specs.Calls.{Kept, Invoking, called, key_of, AreOpen, calls_of, open_call};
+ghost use Rattle.rose_roles.specs.Calls.{Kept, Invoking, called, key_of, AreOpen, calls_of, open_call, opens_in};
 
 use crate::called::Called;
 use crate::judging::{judge_error, judge_result};
@@ -63,9 +63,10 @@ impl Invoker {
         called(&self.kept, &id)
     }
 
-    /// How many own invocations are open.
+    /// How many own invocations are open; so many keys of this end stand in the forest.
     pub fn open_count(&self) -> usize
-        ensures { result ≡ length self.now.kept }
+        ensures count { result ≡ length self.now.kept }
+        ensures opens { (forest : List Entry) (performed : Kept) → IsForest forest → AreOpen true forest self.now.kept → length (opens_of true (opens_in forest self.now.kept performed)) ≡ result }
     {
         self.kept.len()
     }

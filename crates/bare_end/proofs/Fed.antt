@@ -1,0 +1,149 @@
+-- What stood first was taken, or ended the reading.
+use Rattle.std.proofs.Common.{◌≡◌, ℕ, ◌<◌, Bool, true, false, cond, if◌then◌else◌, List, [], ◌∷◌, ◌++◌, length, take, drop, refl, sym, ap, subst, ◌∙◌, arith, append_assoc}
+use Rattle.std.proofs.lemmas.List.{append-nil, length-drop}
+use Rattle.osi_base.specs.declared.words.Layer.TheVariants.{Rose}
+use Rattle.dialogue.specs.declared.indication.Indication.{Indication}
+use Rattle.end_rules.specs.Base.{Base}
+use Rattle.end_rules.specs.State.{passes_over}
+use Rattle.end_rules.specs.Faults.{fault_at, shown_at_fault}
+use Rattle.end_rules.specs.History.{Step, fed, fault, feed_end}
+use Rattle.end_wire.specs.Bare.{Short, Faulty, first_at, bare_message}
+use Rattle.end_rules.specs.State.{bare_set}
+use Rattle.end_wire.specs.Line.{End, after, after_all}
+use Rattle.end_wire.specs.Feeding.{Reads, passes, waits, takes, fails, taking}
+use Rattle.bare_end.specs.View.{EndView, base, body, seen, Stepped, Keeps}
+use Rattle.bare_end.specs.Feed.{TookOne, ReadAll, Fed, KeepsDue}
+use Rattle.bare_end.proofs.Histories.{same_base, stands_on, stepped_on}
+
+pub nothing_made : (e : EndView) → Stepped e e (feed_end ∷ [])
+nothing_made e = record { tables = refl; config = refl; end = refl }
+
+pub waited : (old : EndView) (before : List Indication) → passes_over old.phase ≡ false → first_at old.rest ≡ Short → ReadAll old old before before
+waited old before up short = record {
+  steps = feed_end ∷ [];
+  told = [];
+  reads = waits up short;
+  made = nothing_made old;
+  shown_is = sym (append-nil before);
+}
+
+pub failed : (old new : EndView) (before after : List Indication) (place : ℕ) → passes_over old.phase ≡ false → first_at old.rest ≡ Faulty place
+    → Stepped old new (fault Rose place 0 ∷ feed_end ∷ []) → after ≡ before ++ shown_at_fault (body old) (fault_at Rose place 0) → ReadAll old new before after
+failed old new before after place up bad s f = record {
+  steps = fault Rose place 0 ∷ feed_end ∷ [];
+  told = shown_at_fault (body old) (fault_at Rose place 0);
+  reads = fails place up bad;
+  made = s;
+  shown_is = f;
+}
+
+-- ---- message after message
+
+-- what reading went on from, and came to
+pub record ReadsOn (old now : EndView) (before shown : List Indication) : Type 0 where
+  pub steps : List Step
+  pub told : List Indication
+  pub made : Stepped old now steps
+  pub shown_is : shown ≡ before ++ told
+  pub up : passes_over now.phase ≡ false
+  pub due : List ℕ
+  pub waiting : now.waiting ≡ old.waiting ++ due
+  pub goes_on : (more : List Step) (later : List Indication) → Reads (base now) (seen now) more later → Reads (base old) (seen old) (steps ++ more) (told ++ later)
+
+pub reads_on_start : (e : EndView) (before : List Indication) → passes_over e.phase ≡ false → ReadsOn e e before before
+reads_on_start e before up = record {
+  steps = [];
+  told = [];
+  made = record { tables = refl; config = refl; end = refl };
+  shown_is = sym (append-nil before);
+  up = up;
+  due = [];
+  waiting = sym (append-nil e.waiting);
+  goes_on = λ more later r. r;
+}
+
+pub reads_on_more : (old now next : EndView) (before shown then : List Indication) → ReadsOn old now before shown → TookOne now next shown then → ReadsOn old next before then
+reads_on_more old now next before shown then h one =
+    let steps : List Step = taking (bare_message (bare_set now.tables) one.content) one.answers in
+    record {
+      steps = h.steps ++ steps;
+      told = h.told ++ one.told;
+      made = stepped_on old now next h.steps steps h.made one.steps;
+      shown_is = one.shown_is ∙ ap (λ (s : List Indication). s ++ one.told) h.shown_is ∙ append_assoc before h.told one.told;
+      up = ap passes_over one.phase_stays ∙ h.up;
+      due = h.due ++ one.due;
+      waiting = one.waiting ∙ ap (λ (s : List ℕ). s ++ one.due) h.waiting ∙ append_assoc old.waiting h.due one.due;
+      goes_on = λ more later r.
+          let moved : Reads (base now) (seen next) more later = subst (λ (b : Base). Reads b (seen next) more later) (same_base now next steps one.steps) r in
+          let here : Reads (base now) (after_all (base now) (seen now) steps) more later = subst (λ (e : End). Reads (base now) e more later) one.steps.end moved in
+          let taken : Reads (base now) (seen now) (steps ++ more) (one.told ++ later) = takes one.used one.content one.left one.answers one.told h.up one.first one.is one.reacts here in
+          subst (λ (xs : List Step). Reads (base old) (seen old) xs ((h.told ++ one.told) ++ later)) (sym (append_assoc h.steps steps more))
+          (subst (λ (ts : List Indication). Reads (base old) (seen old) (h.steps ++ (steps ++ more)) ts) (sym (append_assoc h.told one.told later))
+          (h.goes_on (steps ++ more) (one.told ++ later) taken));
+    }
+
+pub reads_on_end : (old now next : EndView) (before shown then : List Indication) → ReadsOn old now before shown → ReadAll now next shown then → ReadAll old next before then
+reads_on_end old now next before shown then h last = record {
+  steps = h.steps ++ last.steps;
+  told = h.told ++ last.told;
+  reads = h.goes_on last.steps last.told last.reads;
+  made = stepped_on old now next h.steps last.steps h.made last.made;
+  shown_is = last.shown_is ∙ ap (λ (s : List Indication). s ++ last.told) h.shown_is ∙ append_assoc before h.told last.told;
+}
+
+pub reads_on_kept : (old now next : EndView) (before shown : List Indication) → ReadsOn old now before shown → Keeps now next → KeepsDue old next
+reads_on_kept old now next before shown h k = record {
+  tables = k.tables ∙ h.made.tables;
+  config = k.config ∙ h.made.config;
+  more = h.due;
+  waiting = k.waiting ∙ h.waiting;
+}
+
+-- ---- a feed
+
+-- what came while the end was up
+pub fed_up : (old new : EndView) (octets : List ℕ) (shown : List Indication) → passes_over old.phase ≡ false
+    → ReadAll (record old { rest = old.rest ++ octets }) new [] shown → Fed old new octets shown
+fed_up old new octets shown up r =
+    let state_is : seen (record old { rest = old.rest ++ octets }) ≡ after (base old) (seen old) (fed octets)
+        = ap (λ (b : Bool). record (seen old) { line = record (seen old).line { rest = if b then [] else old.rest ++ octets } }) (sym up) in
+    let made : Stepped old new (fed octets ∷ r.steps)
+        = record { tables = r.made.tables; config = r.made.config; end = r.made.end ∙ ap (λ (e : End). after_all (base old) e r.steps) state_is } in
+    record {
+      steps = fed octets ∷ r.steps;
+      feeds = record {
+        reading = r.steps;
+        all = refl;
+        reads = subst (λ (ts : List Indication). Reads (base old) (after (base old) (seen old) (fed octets)) r.steps ts) (sym r.shown_is)
+            (subst (λ (e : End). Reads (base old) e r.steps r.told) state_is r.reads);
+      };
+      made = made;
+      stands = stands_on old new (fed octets ∷ r.steps) made;
+    }
+
+-- what came when the end was over
+pub fed_over : (old new : EndView) (octets : List ℕ) → passes_over old.phase ≡ true → new ≡ record old { rest = [] } → Fed old new octets []
+fed_over old new octets over e =
+    let state_is : seen (record old { rest = [] }) ≡ after (base old) (seen old) (fed octets)
+        = ap (λ (b : Bool). record (seen old) { line = record (seen old).line { rest = if b then [] else old.rest ++ octets } }) (sym over) in
+    let made : Stepped old new (fed octets ∷ feed_end ∷ [])
+        = record { tables = ap (λ (v : EndView). v.tables) e; config = ap (λ (v : EndView). v.config) e; end = ap seen e ∙ state_is } in
+    record {
+      steps = fed octets ∷ feed_end ∷ [];
+      feeds = record { reading = feed_end ∷ []; all = refl; reads = passes over };
+      made = made;
+      stands = stands_on old new (fed octets ∷ feed_end ∷ []) made;
+    }
+
+-- ---- want of memory
+
+pub kept_none : (old new : EndView) → Keeps old new → KeepsDue old new
+kept_none old new k = record { tables = k.tables; config = k.config; more = []; waiting = k.waiting ∙ sym (append-nil old.waiting) }
+
+pub kept_from : (old middle new : EndView) (rest : List ℕ) → middle ≡ record old { rest = rest } → KeepsDue middle new → KeepsDue old new
+kept_from old middle new rest is k = record {
+  tables = k.tables ∙ ap (λ (e : EndView). e.tables) is;
+  config = k.config ∙ ap (λ (e : EndView). e.config) is;
+  more = k.more;
+  waiting = k.waiting ∙ ap (λ (e : EndView). e.waiting ++ k.more) is;
+}

@@ -1,0 +1,16 @@
+-- What stands first in octets, as an end sees it.
+use Rattle.std.specs.Prelude.{◌≡◌, ℕ, ◌≤◌, ◌<◌, List, length}
+use Rattle.bare_end.specs.declared.feeding.Front as fronts
+use Rattle.bare_end.specs.declared.feeding.Front.TheVariants as front
+use Rattle.end_wire.specs.Bare.{Short, Whole, Faulty, first_at}
+
+-- one whole value, with some octets of those that are there
+pub record IsWholeFirst (octets : List ℕ) (used : ℕ) : Type 0 where
+  pub first : first_at octets ≡ Whole used
+  pub some : 0 < used
+  pub within : used ≤ length octets
+
+abbrev pub IsFirst : List ℕ → fronts.Front → Type 0
+IsFirst octets front.Short = first_at octets ≡ Short
+IsFirst octets (front.Whole used) = IsWholeFirst octets used
+IsFirst octets (front.Faulty place) = first_at octets ≡ Faulty place

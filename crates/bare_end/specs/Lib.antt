@@ -1,0 +1,6 @@
+pub mod Invocations
+pub mod View
+pub mod Told
+pub mod First
+pub mod Feed
+pub mod Checking

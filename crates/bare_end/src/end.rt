@@ -1,0 +1,146 @@
+//! One end of a connection in bare mode.
+
+ghost use Rattle.std.specs.Prelude.{◌≡◌, ◌≢◌, ℕ, List, [], ◌∷◌, ◌++◌, length, min, take, drop, IfOk, IfErr, OnOk, true, Some, None, is_some};
+
+use crate::gate::{broken, is_up};
+use crate::invocations::Invocations;
+use crate::queue::{OctetQueue, copy_front};
+use apdu_codec::Heads;
+use dialogue::{Config, ConfigRefusal, Phase, check_config};
+use std::alloc::Global;
+use std::marker::Model;
+use stub_tables::Tables;
+
+/// One end of a connection in bare mode.
+#[derive(Drop)]
+pub struct End<'t> {
+    pub(crate) alloc: Global,
+    pub(crate) tables: &'t Tables,
+    pub(crate) config: Config,
+    pub(crate) stream: rose::Heads,
+    pub(crate) heads: Heads,
+    pub(crate) phase: Phase,
+    pub(crate) invocations: Invocations,
+    pub(crate) waiting: OctetQueue,
+    pub(crate) rest: OctetQueue,
+}
+
+impl<'t> Model for End<'t> {
+    ghost use Rattle.std.specs.Prelude.{◌≡◌};
+    ghost use Rattle.dialogue.specs.declared.config.Mode.TheVariants.{Bare};
+    ghost use Rattle.bare_end.specs.View.{EndView};
+
+    ghost Value = { EndView };
+
+    ghost view = { λ e. record { tables = e.tables.now; config = e.config; phase = e.phase; calls = e.invocations; waiting = e.waiting; rest = e.rest } };
+
+    ghost invariant = { λ e. e.config.mode ≡ Bare };
+}
+
+impl<'t> End<'t> {
+    ghost use Rattle.dialogue.specs.declared.config.Mode.TheVariants as modes;
+    ghost use Rattle.dialogue.specs.declared.config.Phase.TheVariants as phases;
+    ghost use Rattle.dialogue.specs.Config.{config_refusal};
+    ghost use Rattle.dialogue.specs.declared.config.ConfigRefusal.TheVariants as config_refusals;
+    ghost use Rattle.end_rules.specs.State.{holds_turn, opened_with};
+    ghost use Rattle.end_rules.specs.History.{History, gave, broke};
+    ghost use Rattle.bare_end.specs.View.{EndView, body, Stepped, StandsFor};
+
+    /// An end of bare mode with these tables and this configuration, up at once. Ends of the other
+    /// modes aren't built yet. Refused is what `check_config` refuses, and want of memory.
+    pub fn new(alloc: Global, tables: &'t Tables, config: Config) -> Result<End<'t>, ConfigRefusal>
+        requires bare { config.mode ≡ modes.Bare }
+        ensures made { IfOk result (λ end. end ≡ record { tables = tables.entry.now; config = config; phase = phases.Up; calls = record { opens = []; made = 0 }; waiting = []; rest = [] }) }
+        ensures history { IfOk result (λ end. StandsFor end []) }
+        ensures accepted { OnOk result (config_refusal config ≡ None) }
+        ensures refused { IfErr result (λ refusal. (refusal ≢ config_refusals.NoMemory) → config_refusal config ≡ Some refusal) }
+    {
+        check_config(alloc, &config)?;
+        let Ok(stream) = rose::Heads::new(alloc) else {
+            return Err(ConfigRefusal::NoMemory);
+        };
+        let Ok(heads) = Heads::new(alloc) else {
+            return Err(ConfigRefusal::NoMemory);
+        };
+        Ok(End {
+            alloc,
+            tables,
+            config,
+            stream,
+            heads,
+            phase: Phase::Up,
+            invocations: Invocations::new(alloc),
+            waiting: OctetQueue::new(alloc),
+            rest: OctetQueue::new(alloc),
+        })
+    }
+
+    /// The phase of the end.
+    pub fn phase(&self) -> Phase
+        ensures { result ≡ self.now.phase }
+    {
+        self.phase
+    }
+
+    /// Whether the end holds the turn: it was the initiator's at first and in bare mode stays there,
+    /// and an end that isn't up holds none.
+    pub fn holds_turn(&self) -> bool
+        ensures { result ≡ holds_turn (body self.now) }
+    {
+        self.config.initiator && is_up(self.phase)
+    }
+
+    /// Whether no transfer is queued or in progress: in bare mode there never is one.
+    pub fn idle(&self) -> bool
+        ensures { result ≡ true }
+    {
+        true
+    }
+
+    /// Whether the invocation of this end (own), or of its peer, with this identifier is open: it
+    /// has no outcome yet (X.880 8).
+    pub fn is_open(&self, own: bool, id: i64) -> bool
+        ensures { result ≡ is_some (opened_with own id self.now.calls.opens) }
+    {
+        self.invocations.is_open(own, id)
+    }
+
+    /// How the end was set up.
+    pub fn config(&self) -> &Config
+        ensures { result.now ≡ self.now.config }
+    {
+        &self.config
+    }
+
+    /// The end's tables.
+    pub fn tables(&self) -> &'t Tables
+        ensures { result.now ≡ self.now.tables }
+    {
+        self.tables
+    }
+
+    /// Moves the octets that wait to the front of the room, in their order and as many as fit, and
+    /// answers how many.
+    pub fn give_out(&mut self, out: &mut [u8]) -> usize
+        ensures count { result ≡ min (length out.old) (length self.old.waiting) }
+        ensures given { out.new ≡ take result self.old.waiting ++ drop result out.old }
+        ensures end { self.new ≡ record self.old { waiting = drop result self.old.waiting } }
+        ensures steps { Stepped self.old self.new (gave result ∷ []) }
+        ensures history { (h : History) → StandsFor self.old h → StandsFor self.new (gave result ∷ h) }
+    {
+        let count = copy_front(self.waiting.as_slice(), out);
+        self.waiting.skip(count);
+        count
+    }
+
+    /// The connection broke: what waits in either direction is lost.
+    pub fn broke(&mut self)
+        ensures steps { Stepped self.old self.new (broke ∷ []) }
+        ensures history { (h : History) → StandsFor self.old h → StandsFor self.new (broke ∷ h) }
+    {
+        self.phase = broken(self.phase);
+        self.invocations.clear();
+        self.waiting.clear();
+        self.rest.clear();
+    }
+}

@@ -1,0 +1,165 @@
+//! The open invocations of an end and of its peer.
+
+ghost use Rattle.std.specs.Prelude.{◌≡◌, ◌<◌, ◌≤◌, ◌+◌, ◌++◌, ◌∷◌, [], length, pos, true, false, is_some, IfOk, OnOk, OnErr};
+ghost use Rattle.osi_base.specs.declared.syntax.Syntax.TheVariants as syntaxes;
+ghost use Rattle.rose_roles.specs.Hearing.{Hears};
+ghost use Rattle.end_rules.specs.State.{opened_with, opens_of, close};
+ghost use Rattle.bare_end.specs.Invocations.{is_link, operation_in, SomeCarried};
+
+use crate::listing::opens_in;
+use crate::open_call::OpenCall;
+use apdu_spelling::{ApduHead, ApduKind};
+use linked_ops::Forest;
+use osi_base::{NoMemory, Syntax};
+use rose_roles::{Called, Invoker, Performer, RoseTaken};
+use std::alloc::Global;
+use std::marker::Model;
+use stub_tables::Tables;
+
+/// The open invocations of an end and of its peer, in order of opening, and how many this end made.
+#[derive(Drop)]
+pub struct Invocations {
+    alloc: Global,
+    forest: Forest,
+    invoker: Invoker,
+    performer: Performer,
+}
+
+impl Model for Invocations {
+    ghost use Rattle.end_rules.specs.State.{Calls};
+    ghost use Rattle.rose_roles.specs.Calls.{calls_of};
+    ghost use Rattle.bare_end.specs.Invocations.{AreKept};
+
+    ghost Value = { Calls };
+
+    ghost view = { λ i. calls_of i.forest i.invoker i.performer.kept };
+
+    ghost invariant = { λ i. AreKept i.forest i.invoker i.performer.kept };
+}
+
+impl Invocations {
+    /// No open invocations, and none made.
+    pub fn new(alloc: Global) -> Invocations
+        ensures { result ≡ record { opens = []; made = 0 } }
+    {
+        Invocations {
+            alloc,
+            forest: Forest::new(alloc),
+            invoker: Invoker::new(alloc),
+            performer: Performer::new(alloc),
+        }
+    }
+
+    /// Whether the invocation of this end (own), or of its peer, with this identifier is open.
+    pub fn is_open(&self, own: bool, id: i64) -> bool
+        ensures { result ≡ is_some (opened_with own id self.now.opens) }
+    {
+        if own {
+            self.invoker.called(id).is_some()
+        } else {
+            self.performer.called(id).is_some()
+        }
+    }
+
+    /// The operation of an open invocation of the peer, as a place in the table of operations.
+    pub fn operation(&self, id: i64) -> Option<u32>
+        ensures { result ≡ operation_in (opened_with false id self.now.opens) }
+    {
+        match self.performer.called(id) {
+            Some(called) => Some(called.operation),
+            None => None,
+        }
+    }
+
+    /// How many own invocations are open.
+    pub fn own_count(&self) -> usize
+        ensures { result ≡ length (opens_of true self.now.opens) }
+    {
+        self.forest.is_forest();
+        self.invoker.open_count()
+    }
+
+    /// How many own invocations were made.
+    pub fn made(&self) -> u32
+        ensures is { result ≡ self.now.made }
+        ensures most { result ≤ 2147483647 }
+    {
+        self.invoker.made()
+    }
+
+    /// Opens the next own invocation of an operation. Want of memory changes nothing.
+    pub fn open(
+        &mut self,
+        operation: u32,
+        context: u32,
+        linked: Option<i64>,
+    ) -> Result<i64, NoMemory>
+        requires numbers { self.old.made < 2147483647 }
+        requires room { length (opens_of true self.old.opens) < 4096 }
+        requires linked { is_link linked self.old.opens ≡ true }
+        ensures id { IfOk result (λ id. id ≡ pos (self.old.made + 1)) }
+        ensures opened { OnOk result (self.new ≡ record { opens = self.old.opens ++ record { own = true; id = pos (self.old.made + 1); operation = operation; context = context; parent = linked } ∷ []; made = self.old.made + 1 }) }
+        ensures err { OnErr result (self.new ≡ self.old) }
+    {
+        self.forest.is_forest();
+        let _count = self.invoker.open_count();
+        let called = Called { operation, context };
+        self.invoker.open(&mut self.forest, called, linked)
+    }
+
+    /// Counts an own invocation that is never open.
+    pub fn pass(&mut self) -> i64
+        requires { self.old.made < 2147483647 }
+        ensures id { result ≡ pos (self.old.made + 1) }
+        ensures passed { self.new ≡ record self.old { made = self.old.made + 1 } }
+    {
+        self.invoker.pass()
+    }
+
+    /// Closes an invocation of the peer.
+    pub fn close(&mut self, id: i64)
+        ensures { self.new ≡ close false id self.old }
+    {
+        self.performer.close(&mut self.forest, id);
+    }
+
+    /// What becomes of an APDU that came in BER on context 0. Want of memory changes nothing.
+    pub fn take(&mut self, tables: &Tables, head: ApduHead) -> Result<RoseTaken, NoMemory>
+        requires { SomeCarried tables.now head }
+        ensures heard { IfOk result (λ taken. Hears tables.now syntaxes.Ber 0 head self.old self.new taken) }
+        ensures err { OnErr result (self.new ≡ self.old) }
+    {
+        match head.kind {
+            ApduKind::Invoke => {
+                self.performer.set_context(0);
+                self.performer
+                    .take(&self.invoker, &mut self.forest, Syntax::Ber, tables, head)
+            }
+            ApduKind::Result | ApduKind::Error | ApduKind::Reject => {
+                self.invoker
+                    .take(&mut self.forest, Syntax::Ber, tables, head)
+            }
+        }
+    }
+
+    /// Forgets all open invocations.
+    pub fn clear(&mut self)
+        ensures { self.new ≡ record self.old { opens = [] } }
+    {
+        self.forest = Forest::new(self.alloc);
+        self.invoker.clear();
+        self.performer.clear();
+    }
+
+    /// The open invocations in order of opening.
+    pub fn opens(&self) -> Result<Vec<OpenCall>, NoMemory>
+        ensures { IfOk result (λ opens. opens.items ≡ self.now.opens) }
+    {
+        opens_in(
+            self.alloc,
+            self.forest.as_slice(),
+            &self.invoker,
+            &self.performer,
+        )
+    }
+}

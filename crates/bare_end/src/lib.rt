@@ -1,0 +1,18 @@
+//! One end of bare mode: each APDU is one BER value straight on the line.
+#![tactic(auto)]
+
+mod answering;
+mod calling;
+mod end;
+mod feeding;
+mod gate;
+mod hearing;
+mod invocations;
+mod invoking;
+mod listing;
+mod open_call;
+mod order;
+mod queue;
+mod sending;
+
+pub use end::End;
