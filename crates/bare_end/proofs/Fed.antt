@@ -1,31 +1,40 @@
 -- What stood first was taken, or ended the reading.
-use Rattle.std.proofs.Common.{◌≡◌, ℕ, ◌<◌, Bool, true, false, cond, if◌then◌else◌, List, [], ◌∷◌, ◌++◌, length, take, drop, refl, sym, ap, subst, ◌∙◌, arith, append_assoc}
+use Rattle.std.proofs.Common.{◌≡◌, ℕ, ◌<◌, ◌≤◌, Bool, true, false, cond, if◌then◌else◌, List, [], ◌∷◌, ◌++◌, length, map, take, drop, refl, sym, ap, subst, ◌∙◌, arith, append_assoc}
 use Rattle.std.proofs.lemmas.List.{append-nil, length-drop}
 use Rattle.osi_base.specs.declared.words.Layer.TheVariants.{Rose}
+use Rattle.dialogue.specs.declared.config.Phase.TheVariants.{Dead}
 use Rattle.dialogue.specs.declared.indication.Indication.{Indication}
+use Rattle.dialogue.specs.declared.indication.Indication.TheVariants as indications
 use Rattle.end_rules.specs.Base.{Base}
-use Rattle.end_rules.specs.State.{passes_over}
-use Rattle.end_rules.specs.Faults.{fault_at, shown_at_fault}
+use Rattle.end_rules.specs.State.{Calls, OpenCall, post_order, passes_over}
+use Rattle.end_rules.specs.Faults.{cut_of, fault_at, shown_at_fault}
 use Rattle.end_rules.specs.History.{Step, fed, fault, feed_end}
 use Rattle.end_wire.specs.Bare.{Short, Faulty, first_at, bare_message}
 use Rattle.end_rules.specs.State.{bare_set}
 use Rattle.end_wire.specs.Line.{End, after, after_all}
 use Rattle.end_wire.specs.Feeding.{Reads, passes, waits, takes, fails, taking}
-use Rattle.bare_end.specs.View.{EndView, base, body, seen, Stepped, Keeps}
-use Rattle.bare_end.specs.Feed.{TookOne, ReadAll, Fed, KeepsDue}
+use Rattle.bare_end.specs.View.{EndView, base, body, seen, Stepped, Keeps, with_calls}
+use Rattle.bare_end.specs.declared.feeding.Front as fronts
+use Rattle.bare_end.specs.declared.feeding.Front.TheVariants as found
+use Rattle.bare_end.specs.First.{IsShortFirst, IsWholeFirst, IsFirst}
+use Rattle.bare_end.specs.Feed.{TookOne, ReadAll, Fed, KeepsDue, DiedFed}
 use Rattle.bare_end.proofs.Histories.{same_base, stands_on, stepped_on}
 
 pub nothing_made : (e : EndView) → Stepped e e (feed_end ∷ [])
 nothing_made e = record { tables = refl; config = refl; end = refl }
 
-pub waited : (old : EndView) (before : List Indication) → passes_over old.phase ≡ false → first_at old.rest ≡ Short → ReadAll old old before before
+pub waited : (old : EndView) (before : List Indication) → passes_over old.phase ≡ false → IsShortFirst old.rest → ReadAll old old before before
 waited old before up short = record {
   steps = feed_end ∷ [];
   told = [];
-  reads = waits up short;
+  reads = waits up short.first;
   made = nothing_made old;
   shown_is = sym (append-nil before);
+  few = short.few;
 }
+
+few_at : {rest : List ℕ} → rest ≡ [] → length rest ≤ 262144
+few_at e = subst (λ (r : List ℕ). length r ≤ 262144) (sym e) (omega arith)
 
 pub failed : (old new : EndView) (before after : List Indication) (place : ℕ) → passes_over old.phase ≡ false → first_at old.rest ≡ Faulty place
     → Stepped old new (fault Rose place 0 ∷ feed_end ∷ []) → after ≡ before ++ shown_at_fault (body old) (fault_at Rose place 0) → ReadAll old new before after
@@ -35,7 +44,19 @@ failed old new before after place up bad s f = record {
   reads = fails place up bad;
   made = s;
   shown_is = f;
+  few = few_at (ap (λ (e : End). e.line.rest) s.end);
 }
+
+-- as the code comes by them
+pub read_short : (old : EndView) (before : List Indication) (front : fronts.Front) → passes_over old.phase ≡ false → IsFirst old.rest front → front ≡ found.Short → ReadAll old old before before
+read_short old before front up first is = waited old before up (subst (IsFirst old.rest) is first)
+
+pub whole_first : (octets : List ℕ) (front : fronts.Front) (used : ℕ) → IsFirst octets front → front ≡ found.Whole used → IsWholeFirst octets used
+whole_first octets front used first is = subst (IsFirst octets) is first
+
+pub read_faulty : (old new : EndView) (before after : List Indication) (front : fronts.Front) (place : ℕ) → passes_over old.phase ≡ false → IsFirst old.rest front → front ≡ found.Faulty place
+    → Stepped old new (fault Rose place 0 ∷ feed_end ∷ []) → after ≡ before ++ shown_at_fault (body old) (fault_at Rose place 0) → ReadAll old new before after
+read_faulty old new before after front place up first is s f = failed old new before after place up (subst (IsFirst old.rest) is first) s f
 
 -- ---- message after message
 
@@ -62,8 +83,8 @@ reads_on_start e before up = record {
   goes_on = λ more later r. r;
 }
 
-pub reads_on_more : (old now next : EndView) (before shown then : List Indication) → ReadsOn old now before shown → TookOne now next shown then → ReadsOn old next before then
-reads_on_more old now next before shown then h one =
+pub reads_on_more : (old now next : EndView) (before shown later_shown : List Indication) → ReadsOn old now before shown → TookOne now next shown later_shown → ReadsOn old next before later_shown
+reads_on_more old now next before shown later_shown h one =
     let steps : List Step = taking (bare_message (bare_set now.tables) one.content) one.answers in
     record {
       steps = h.steps ++ steps;
@@ -82,13 +103,14 @@ reads_on_more old now next before shown then h one =
           (h.goes_on (steps ++ more) (one.told ++ later) taken));
     }
 
-pub reads_on_end : (old now next : EndView) (before shown then : List Indication) → ReadsOn old now before shown → ReadAll now next shown then → ReadAll old next before then
-reads_on_end old now next before shown then h last = record {
+pub reads_on_end : (old now next : EndView) (before shown later_shown : List Indication) → ReadsOn old now before shown → ReadAll now next shown later_shown → ReadAll old next before later_shown
+reads_on_end old now next before shown later_shown h last = record {
   steps = h.steps ++ last.steps;
   told = h.told ++ last.told;
   reads = h.goes_on last.steps last.told last.reads;
   made = stepped_on old now next h.steps last.steps h.made last.made;
   shown_is = last.shown_is ∙ ap (λ (s : List Indication). s ++ last.told) h.shown_is ∙ append_assoc before h.told last.told;
+  few = last.few;
 }
 
 pub reads_on_kept : (old now next : EndView) (before shown : List Indication) → ReadsOn old now before shown → Keeps now next → KeepsDue old next
@@ -106,9 +128,9 @@ pub fed_up : (old new : EndView) (octets : List ℕ) (shown : List Indication) �
     → ReadAll (record old { rest = old.rest ++ octets }) new [] shown → Fed old new octets shown
 fed_up old new octets shown up r =
     let state_is : seen (record old { rest = old.rest ++ octets }) ≡ after (base old) (seen old) (fed octets)
-        = ap (λ (b : Bool). record (seen old) { line = record (seen old).line { rest = if b then [] else old.rest ++ octets } }) (sym up) in
+    = ap (λ (b : Bool). record (seen old) { line = record (seen old).line { rest = if b then [] else old.rest ++ octets } }) (sym up) in
     let made : Stepped old new (fed octets ∷ r.steps)
-        = record { tables = r.made.tables; config = r.made.config; end = r.made.end ∙ ap (λ (e : End). after_all (base old) e r.steps) state_is } in
+    = record { tables = r.made.tables; config = r.made.config; end = r.made.end ∙ ap (λ (e : End). after_all (base old) e r.steps) state_is } in
     record {
       steps = fed octets ∷ r.steps;
       feeds = record {
@@ -118,6 +140,7 @@ fed_up old new octets shown up r =
             (subst (λ (e : End). Reads (base old) e r.steps r.told) state_is r.reads);
       };
       made = made;
+      few = r.few;
       stands = stands_on old new (fed octets ∷ r.steps) made;
     }
 
@@ -125,13 +148,14 @@ fed_up old new octets shown up r =
 pub fed_over : (old new : EndView) (octets : List ℕ) → passes_over old.phase ≡ true → new ≡ record old { rest = [] } → Fed old new octets []
 fed_over old new octets over e =
     let state_is : seen (record old { rest = [] }) ≡ after (base old) (seen old) (fed octets)
-        = ap (λ (b : Bool). record (seen old) { line = record (seen old).line { rest = if b then [] else old.rest ++ octets } }) (sym over) in
+    = ap (λ (b : Bool). record (seen old) { line = record (seen old).line { rest = if b then [] else old.rest ++ octets } }) (sym over) in
     let made : Stepped old new (fed octets ∷ feed_end ∷ [])
-        = record { tables = ap (λ (v : EndView). v.tables) e; config = ap (λ (v : EndView). v.config) e; end = ap seen e ∙ state_is } in
+    = record { tables = ap (λ (v : EndView). v.tables) e; config = ap (λ (v : EndView). v.config) e; end = ap seen e ∙ state_is } in
     record {
       steps = fed octets ∷ feed_end ∷ [];
       feeds = record { reading = feed_end ∷ []; all = refl; reads = passes over };
       made = made;
+      few = few_at (ap (λ (v : EndView). v.rest) e);
       stands = stands_on old new (fed octets ∷ feed_end ∷ []) made;
     }
 
@@ -147,3 +171,32 @@ kept_from old middle new rest is k = record {
   more = k.more;
   waiting = k.waiting ∙ ap (λ (e : EndView). e.waiting ++ k.more) is;
 }
+
+pub died_fed : (old now new : EndView) → KeepsDue old now → new ≡ record now { phase = Dead } → DiedFed old new
+died_fed old now new k is = record {
+  kept = record {
+    tables = ap (λ (e : EndView). e.tables) is ∙ k.tables;
+    config = ap (λ (e : EndView). e.config) is ∙ k.config;
+    more = k.more;
+    waiting = ap (λ (e : EndView). e.waiting) is ∙ k.waiting;
+  };
+  phase = ap (λ (e : EndView). e.phase) is;
+}
+
+pub kept_taken : (old heard skipped new : EndView) (calls : Calls) (rest : List ℕ) → heard ≡ with_calls calls old → skipped ≡ record heard { rest = rest } → new ≡ skipped → Keeps old new
+kept_taken old heard skipped new calls rest h s n = record {
+  tables = ap (λ (e : EndView). e.tables) n ∙ ap (λ (e : EndView). e.tables) s ∙ ap (λ (e : EndView). e.tables) h;
+  config = ap (λ (e : EndView). e.config) n ∙ ap (λ (e : EndView). e.config) s ∙ ap (λ (e : EndView). e.config) h;
+  waiting = ap (λ (e : EndView). e.waiting) n ∙ ap (λ (e : EndView). e.waiting) s ∙ ap (λ (e : EndView). e.waiting) h;
+}
+
+pub kept_same : (old new : EndView) → new ≡ old → Keeps old new
+kept_same old new e = record { tables = ap (λ (x : EndView). x.tables) e; config = ap (λ (x : EndView). x.config) e; waiting = ap (λ (x : EndView). x.waiting) e }
+
+-- what is told at a fault: the cuts, and the abort
+pub abort_shown : (old : EndView) (place : ℕ) (before cut told : List Indication) (opens : List OpenCall) → opens ≡ old.calls.opens → cut ≡ before ++ map cut_of (post_order opens)
+    → told ≡ cut ++ indications.Aborted true Rose place 0 ∷ [] → told ≡ before ++ shown_at_fault (body old) (fault_at Rose place 0)
+abort_shown old place before cut told opens o c t =
+    t ∙ ap (λ (s : List Indication). s ++ indications.Aborted true Rose place 0 ∷ []) c
+    ∙ ap (λ (os : List OpenCall). (before ++ map cut_of (post_order os)) ++ indications.Aborted true Rose place 0 ∷ []) o
+    ∙ append_assoc before (map cut_of (post_order old.calls.opens)) (indications.Aborted true Rose place 0 ∷ [])

@@ -1,8 +1,10 @@
 -- What the scanner found, as what stands first.
-use Rattle.std.proofs.Common.{◌≡◌, ℕ, ◌<◌, ◌≤◌, List, ◌++◌, length, take, drop, Some, None, Result, Ok, Err, refl, sym, ap, subst, ◌∙◌, arith}
+use Rattle.std.proofs.Common.{◌≡◌, ℕ, ◌<◌, ◌≤◌, false, List, ◌++◌, length, take, drop, Some, None, Result, Ok, Err, refl, sym, ap, subst, ◌∙◌, arith}
 use Rattle.std.proofs.lemmas.List.{take-append-drop, length-take}
 use Rattle.ber_spelling.specs.declared.fault.ReadFault.{ReadFault}
 use Rattle.ber_spelling.specs.declared.fault.ReadFault.TheVariants as faults
+use Rattle.ber_spelling.proofs.Limits.{short_is_within}
+use Rattle.stub_tables.specs.Heads.{head_rows, any_row}
 use Rattle.stub_tables.specs.declared.tables.Tables.{Tables}
 use Rattle.stub_tables.specs.Apdus.{IsWhole, IsShort, IsFaulty, place_of}
 use Rattle.rose.specs.First.{IsFirst as IsFirstIn, Stands}
@@ -11,11 +13,11 @@ use Rattle.rose.specs.declared.first.First as firsts
 use Rattle.rose.specs.declared.first.First.TheVariants as found
 use Rattle.end_wire.specs.Bare.{First, Short, Whole, Faulty, first_of, first_at}
 use Rattle.end_wire.proofs.FirstLaws.{whole_first}
-use Rattle.bare_end.specs.First.{IsWholeFirst}
+use Rattle.bare_end.specs.First.{IsShortFirst, IsWholeFirst}
 
-pub short_first : (octets : List ℕ) → IsShort octets → first_at octets ≡ Short
+pub short_first : (octets : List ℕ) → IsShort octets → IsShortFirst octets
 unfolding IsShort first_at
-short_first octets p = ap first_of p
+short_first octets p = record { first = ap first_of p; few = short_is_within head_rows any_row false 262144 octets p }
 
 some_is : (a b : ℕ) → Some a ≡ Some b → a ≡ b
 some_is a b e = cc
@@ -41,7 +43,7 @@ whole_so t c used octets p =
     }
 
 -- once what the scanner answered is known
-pub is_short : (t : Tables) (octets : List ℕ) (f : firsts.First) → f ≡ found.Short → Stands t octets f → first_at octets ≡ Short
+pub is_short : (t : Tables) (octets : List ℕ) (f : firsts.First) → f ≡ found.Short → Stands t octets f → IsShortFirst octets
 is_short t octets f e h = short_first octets (subst (Stands t octets) e h)
 
 pub is_faulty : (t : Tables) (octets : List ℕ) (f : firsts.First) (place : ℕ) → f ≡ found.Faulty place → Stands t octets f → first_at octets ≡ Faulty place

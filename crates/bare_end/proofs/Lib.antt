@@ -1,4 +1,4 @@
-pub mod Missing
+pub mod Kept
 pub mod Orders
 pub mod Histories
 pub mod Sent
@@ -6,3 +6,5 @@ pub mod Messages
 pub mod Taken
 pub mod Fed
 pub mod Fronts
+pub mod Answered
+pub mod Heard

@@ -1,5 +1,5 @@
 -- What is sent in bare mode is written in BER.
-use Rattle.std.proofs.Common.{◌≡◌, ℕ, ℤ, suc, Bool, true, false, not, cond, ◌&&◌, if◌then◌else◌, is_some, List, [], ◌∷◌, ◌++◌, map, Option, Some, None, Ok, refl, sym, ap, ◌∙◌}
+use Rattle.std.proofs.Common.{◌≡◌, ℕ, zero, suc, ℤ, Bool, true, false, not, cond, ◌&&◌, if◌then◌else◌, is_some, List, [], ◌∷◌, ◌++◌, map, Option, Some, None, Ok, refl, sym, ap, ◌∙◌}
 use Rattle.std.specs.Prelude.{nat_eq}
 use Rattle.std.proofs.lemmas.List.{append-nil}
 use Rattle.asn1_types.specs.declared.value.Val.{Val}
@@ -15,7 +15,7 @@ use Rattle.dialogue.specs.declared.call.Call.TheVariants as the_calls
 use Rattle.osi_base.specs.declared.syntax.Pair.{Pair}
 use Rattle.ber_spelling.proofs.Steady.{eqb_itself}
 use Rattle.end_rules.specs.Messages.{Message}
-use Rattle.end_rules.specs.Sets.{same_name, pair_of, carrier}
+use Rattle.end_rules.specs.Sets.{same_name, has_abstract, lowest_with, pair_of, carrier}
 use Rattle.end_rules.specs.State.{Calls, OpenCall, bare_set, opened_with, close}
 use Rattle.end_rules.specs.Hearing.{data_on, syntax_of, opening}
 use Rattle.end_rules.specs.Invoking.{invoke_apdu, result_apdu, error_apdu, carrier_in}
@@ -23,7 +23,7 @@ use Rattle.end_rules.specs.Requesting.{due_of, due_invoke, due_outcome, after_in
 use Rattle.end_rules.specs.History.{called, sent}
 use Rattle.end_wire.specs.Line.{End, after, after_all}
 use Rattle.end_wire.specs.Bare.{written}
-use Rattle.bare_end.specs.View.{EndView, base, body, calls, seen, Stepped, with_calls, with_waiting}
+use Rattle.bare_end.specs.View.{EndView, base, body, seen, Stepped, with_calls, with_waiting}
 
 bare_ber : (t : Tables) (context : ℕ) → syntax_of (pair_of (bare_set t) context) ≡ Ber
 bare_ber t context = elim (nat_eq 0 context) as (λ b. syntax_of (cond b (Some (record { abstract_name = t.name_oid; transfer = Ber })) None) ≡ Ber) [ true ↦ refl | false ↦ refl ]
@@ -42,7 +42,7 @@ module _ (e : EndView) (context place : ℕ) (id : ℤ) (linked : Option ℤ) (o
   called_so = record { own = true; id = id; operation = place; context = context; parent = linked }
 
   abbrev begun : EndView
-  begun = with_calls (opening (base e) called_so (record (calls e) { made = suc e.made })) e
+  begun = with_calls (opening (base e) called_so (record e.calls { made = suc e.calls.made })) e
 
   abbrev text : List ℕ
   text = written_apdu e.tables Ber (invoke_apdu operation id linked argument)
@@ -62,32 +62,48 @@ module _ (e : EndView) (context place : ℕ) (id : ℤ) (linked : Option ℤ) (o
 
 -- ---- outcomes
 
+and_then : (b c : Bool) → b ≡ true → c ≡ true → b && c ≡ true
+and_then true c e f = f
+and_then false c e f = absurd cc
+
 same_name_itself : (xs : List ℕ) → same_name xs xs ≡ true
 same_name_itself [] = refl
-same_name_itself (x ∷ xs) = by (nat_eq x x) (eqb_itself x)
-  where
-    by : (b : Bool) → b ≡ true → b && same_name xs xs ≡ true
-    by true e = same_name_itself xs
-    by false e = absurd cc
+same_name_itself (x ∷ xs) = and_then (nat_eq x x) (same_name xs xs) (eqb_itself x) (same_name_itself xs)
+
+-- context 0 has the module's abstract syntax, and no other is there
+pub on_module : (t : Tables) (context : ℕ) → nat_eq context 0 ≡ has_abstract t.name_oid (pair_of (bare_set t) context)
+on_module t zero = sym (same_name_itself t.name_oid)
+on_module t (suc n) = refl
+
+pub lowest_is : (t : Tables) → Some 0 ≡ lowest_with t.name_oid [] (bare_set t)
+lowest_is t = sym (ap (λ (b : Bool). if b && not false then Some 0 else None) (same_name_itself t.name_oid))
+
+pub pair_here : (t : Tables) (context : ℕ) (p : Pair) → context ≡ 0 → p ≡ record { abstract_name = t.name_oid; transfer = Ber } → Some p ≡ pair_of (bare_set t) context
+pair_here t context p e f = ap Some f ∙ ap (pair_of (bare_set t)) (sym e)
+
+pub pair_not : (t : Tables) (context : ℕ) → (context ≡ 0 → ⊥) → None ≡ pair_of (bare_set t) context
+pair_not t zero n = absurd (n refl)
+pair_not t (suc k) n = refl
 
 -- some context carries an outcome
+abbrev pair_if : List ℕ → Bool → Option Pair
+pair_if name b = if b then Some (record { abstract_name = name; transfer = Ber }) else None
+
+abbrev carried_on : List ℕ → ℕ → Bool → Bool → Option ℕ
+carried_on name context b same = if is_some (pair_if name b) && not false then Some context else (if same && not false then Some 0 else None)
+
 carried : (e : EndView) (context : ℕ) → (on : ℕ) × (carrier_in (base e) (body e) context ≡ Some on)
 carried e context = by (nat_eq 0 context) refl
   where
-    name : List ℕ
-    name = e.tables.name_oid
-
-    abbrev found : Bool → Option Pair
-    found b = if b then Some (record { abstract_name = name; transfer = Ber }) else None
-
-    abbrev sent_on : Bool → Bool → Option ℕ
-    sent_on b same = if is_some (found b) && not false then Some context else (if same && not false then Some 0 else None)
-
     by : (b : Bool) → nat_eq 0 context ≡ b → (on : ℕ) × (carrier_in (base e) (body e) context ≡ Some on)
-    by true h = (context, ap (λ (b : Bool). sent_on b (same_name name name)) h)
-    by false h = (0, ap (λ (b : Bool). sent_on b (same_name name name)) h ∙ ap (λ (same : Bool). sent_on false same) (same_name_itself name))
+    by true h = (context, ap (λ (b : Bool). carried_on e.tables.name_oid context b (same_name e.tables.name_oid e.tables.name_oid)) h)
+    by false h = (
+      0,
+      ap (λ (b : Bool). carried_on e.tables.name_oid context b (same_name e.tables.name_oid e.tables.name_oid)) h
+          ∙ ap (λ (same : Bool). carried_on e.tables.name_oid context false same) (same_name_itself e.tables.name_oid),
+    )
 
-module _ (e new : EndView) (id : ℤ) (o : OpenCall) (apdu : Apdu) (is : new ≡ with_waiting (written_apdu e.tables Ber apdu) (with_calls (close false id (calls e)) e)) where
+module _ (e new : EndView) (id : ℤ) (o : OpenCall) (apdu : Apdu) (is : new ≡ with_waiting (written_apdu e.tables Ber apdu) (with_calls (close false id e.calls) e)) where
   abbrev closing : End
   closing = record { body = after_outcome (base e) (body e) id (Some o) (Some apdu); line = (seen e).line }
 
@@ -98,11 +114,11 @@ module _ (e new : EndView) (id : ℤ) (o : OpenCall) (apdu : Apdu) (is : new ≡
   outcome_end =
       let c = carried e o.context in
       ap seen is
-      ∙ waits_more (seen (with_calls (close false id (calls e)) e)) (written_apdu e.tables Ber apdu) (written e.tables (data_on (body e) c.0 apdu)) (sym (written_on e c.0 apdu))
+      ∙ waits_more (seen (with_calls (close false id e.calls) e)) (written_apdu e.tables Ber apdu) (written e.tables (data_on (body e) c.0 apdu)) (sym (written_on e c.0 apdu))
       ∙ ap (λ (on : Option ℕ). after_all (base e) closing (map sent (sends on))) (sym c.1)
 
-pub answered : (e new : EndView) (id : ℤ) (value : Option Val) (o : OpenCall) (operation : Operation) → opened_with false id e.opens ≡ Some o → operation_at e.tables o.operation ≡ Some operation
-    → new ≡ with_waiting (written_apdu e.tables Ber (result_apdu operation id value)) (with_calls (close false id (calls e)) e)
+pub answered : (e new : EndView) (id : ℤ) (value : Option Val) (o : OpenCall) (operation : Operation) → opened_with false id e.calls.opens ≡ Some o → operation_at e.tables o.operation ≡ Some operation
+    → new ≡ with_waiting (written_apdu e.tables Ber (result_apdu operation id value)) (with_calls (close false id e.calls) e)
     → Stepped e new (called (the_calls.Answer id value) (Ok None) ∷ map sent (due_of (base e) (body e) (the_calls.Answer id value) (Ok None)))
 answered e new id value o operation found there is = record {
   tables = ap (λ (x : EndView). x.tables) is;
@@ -114,8 +130,8 @@ answered e new id value o operation found there is = record {
       (map sent (due_outcome (base e) (body e) q (result_for id value (operation_opened (base e) q))))) (sym found);
 }
 
-pub refused : (e new : EndView) (id : ℤ) (place : ℕ) (parameter : Option Val) (o : OpenCall) (error : ErrorRow) → opened_with false id e.opens ≡ Some o → error_at e.tables place ≡ Some error
-    → new ≡ with_waiting (written_apdu e.tables Ber (error_apdu error id parameter)) (with_calls (close false id (calls e)) e)
+pub refused : (e new : EndView) (id : ℤ) (place : ℕ) (parameter : Option Val) (o : OpenCall) (error : ErrorRow) → opened_with false id e.calls.opens ≡ Some o → error_at e.tables place ≡ Some error
+    → new ≡ with_waiting (written_apdu e.tables Ber (error_apdu error id parameter)) (with_calls (close false id e.calls) e)
     → Stepped e new (called (the_calls.Refuse id place parameter) (Ok None) ∷ map sent (due_of (base e) (body e) (the_calls.Refuse id place parameter) (Ok None)))
 refused e new id place parameter o error found there is = record {
   tables = ap (λ (x : EndView). x.tables) is;

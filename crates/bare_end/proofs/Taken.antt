@@ -17,13 +17,11 @@ use Rattle.end_wire.specs.Bare.{First, Whole, first_at, front, behind, bare_mess
 use Rattle.end_wire.specs.Line.{End, after, after_all}
 use Rattle.end_wire.specs.Feeding.{taking}
 use Rattle.end_wire.proofs.ContentLaws.{content_says}
-use Rattle.bare_end.specs.declared.message.Message as messages
 use Rattle.bare_end.specs.declared.hearing.Taken as takens
 use Rattle.bare_end.specs.declared.hearing.Taken.TheVariants as taken
-use Rattle.bare_end.specs.Heads.{heard_as}
-use Rattle.bare_end.specs.Messages.{head_seen, Hears}
-use Rattle.bare_end.specs.Told.{told_by, answers_by, answered_end}
-use Rattle.bare_end.specs.View.{EndView, base, body, bare_body, calls, seen, Stepped, with_calls}
+use Rattle.bare_end.specs.Told.{heard_as, told_by, answers_by, answered_end}
+use Rattle.bare_end.specs.Told as told_specs
+use Rattle.bare_end.specs.View.{EndView, base, body, bare_body, seen, Stepped, with_calls}
 use Rattle.bare_end.specs.Feed.{TookOne}
 use Rattle.bare_end.proofs.Sent.{written_on}
 
@@ -51,6 +49,10 @@ module _ (e : EndView) where
   pub on_taken : (c : Calls) (t : takens.Taken) → takes_as (on_heard (base e) (body e) 0 (heard_as c t)) ≡ Takes (bare_body (base e) e.phase c) (answers_by e t) (told_by t)
   on_taken c (taken.Told indication) = refl
   on_taken c (taken.Rejects id problem) = refl
+
+pub calls_told : (c : Calls) (t : takens.Taken) → (heard_as c t).calls ≡ c
+calls_told c (taken.Told indication) = refl
+calls_told c (taken.Rejects id problem) = refl
 
 -- ---- the steps of a taking
 
@@ -115,7 +117,7 @@ module _ (old : EndView) (used : ℕ) (readable : IsReadable old.tables) (up : p
   content = content_at old.tables Ber octets
 
   abbrev heard : Heard
-  heard = hear (base old) (calls old) 0 (head_at old.tables Ber octets)
+  heard = hear (base old) old.calls 0 (head_at old.tables Ber octets)
 
   module _ (means : IsContent old.tables Ber octets content) (t : takens.Taken) (told_so : heard_as heard.calls t ≡ heard) where
     reaction : react (base old) (body old) (bare_message (bare_set old.tables) content) ≡ Takes (bare_body (base old) old.phase heard.calls) (answers_by old t) (told_by t)
@@ -162,14 +164,16 @@ module _ (old : EndView) (used : ℕ) (readable : IsReadable old.tables) (up : p
         }
 
 -- as the code comes by it
-pub took : (old heard_end skipped new : EndView) (before later : List Indication) (used : ℕ) (message : messages.Message) (t : takens.Taken) → IsReadable old.tables
+pub took : (old heard_end skipped new : EndView) (before later : List Indication) (used : ℕ) (t : takens.Taken) → IsReadable old.tables
     → passes_over old.phase ≡ false → first_at old.rest ≡ Whole used → 0 < used → used ≤ length old.rest
-    → head_seen message ≡ head_at old.tables Ber (take used old.rest) → IsContent old.tables Ber (take used old.rest) (content_at old.tables Ber (take used old.rest))
-    → Hears old heard_end (hear (base old) (calls old) 0 (head_seen message)) t → skipped ≡ record heard_end { rest = drop used heard_end.rest }
+    → IsContent old.tables Ber (take used old.rest) (content_at old.tables Ber (take used old.rest))
+    → told_specs.Heard old heard_end (head_at old.tables Ber (take used old.rest)) t → skipped ≡ record heard_end { rest = drop used heard_end.rest }
     → new ≡ answered_end t skipped → later ≡ before ++ told_by t → TookOne old new before later
-took old heard_end skipped new before later used message t readable up first some within says means hears skips answers shown =
-    let h : Hears old heard_end (hear (base old) (calls old) 0 (head_at old.tables Ber (take used old.rest))) t
-        = subst (λ (x : Head). Hears old heard_end (hear (base old) (calls old) 0 x) t) says hears in
-    let at : skipped ≡ taken_end old (content_at old.tables Ber (take used old.rest)) (take used old.rest) (hear (base old) (calls old) 0 (head_at old.tables Ber (take used old.rest))).calls t used
-        = skips ∙ ap (λ (x : EndView). record x { rest = drop used x.rest }) h.end_is in
-    took_one old used readable up first some within means t h.heard_is new before later (answers ∙ ap (answered_end t) at) shown
+took old heard_end skipped new before later used t readable up first some within means h skips answers shown =
+    let text : List ℕ = take used old.rest in
+    let left : Calls = (hear (base old) old.calls 0 (head_at old.tables Ber text)).calls in
+    let same : heard_end.calls ≡ left = sym (calls_told heard_end.calls t) ∙ ap (λ (x : Heard). x.calls) h.heard_is in
+    let told_so : heard_as left t ≡ hear (base old) old.calls 0 (head_at old.tables Ber text) = ap (λ (c : Calls). heard_as c t) (sym same) ∙ h.heard_is in
+    let at : skipped ≡ taken_end old (content_at old.tables Ber text) text left t used
+    = skips ∙ ap (λ (x : EndView). record x { rest = drop used x.rest }) (h.end_is ∙ ap (λ (c : Calls). with_calls c old) same) in
+    took_one old used readable up first some within means t told_so new before later (answers ∙ ap (answered_end t) at) shown

@@ -40,6 +40,7 @@ pub record ReadAll (old new : EndView) (before after : List Indication) : Type 0
   pub reads : Reads (base old) (seen old) steps told
   pub made : Stepped old new steps
   pub shown_is : after ≡ before ++ told
+  pub few : length new.rest ≤ 262144
 
 -- a message was taken and more may follow, or all was read
 abbrev pub Goes : Bool → EndView → EndView → List Indication → List Indication → Type 0
@@ -51,6 +52,8 @@ pub record Fed (old new : EndView) (octets : List ℕ) (shown : List Indication)
   pub steps : List Step
   pub feeds : Feeds (base old) (seen old) octets steps shown
   pub made : Stepped old new steps
+  -- of an APDU that isn't whole it keeps at most 262,144 octets
+  pub few : length new.rest ≤ 262144
   -- where it stood for a history, it stands for it with these steps
   pub stands : (h : History) → StandsFor old h → StandsFor new (going_on h steps)
 

@@ -10,7 +10,12 @@ pub record IsWholeFirst (octets : List ℕ) (used : ℕ) : Type 0 where
   pub some : 0 < used
   pub within : used ≤ length octets
 
+-- less than one whole value, of at most 262,144 octets
+pub record IsShortFirst (octets : List ℕ) : Type 0 where
+  pub first : first_at octets ≡ Short
+  pub few : length octets ≤ 262144
+
 abbrev pub IsFirst : List ℕ → fronts.Front → Type 0
-IsFirst octets front.Short = first_at octets ≡ Short
+IsFirst octets front.Short = IsShortFirst octets
 IsFirst octets (front.Whole used) = IsWholeFirst octets used
 IsFirst octets (front.Faulty place) = first_at octets ≡ Faulty place

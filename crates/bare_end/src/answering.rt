@@ -20,16 +20,16 @@ use stub_tables::{Apdu, ErrorRow, Operation, Returned};
 
 impl<'t> End<'t> {
     /// The operation of an open invocation of the peer.
-    fn operation_of(&self, id: i64) -> Option<&'t Operation>
-        ensures { option_copied result ≡ operation_of (base self.now) (opened_with false id self.now.calls.opens) }
+    fn operation_of(&self, id: &i64) -> Option<&'t Operation>
+        ensures { option_copied result ≡ operation_of (base self.now) (opened_with false id.now self.now.calls.opens) }
     {
-        let place = self.invocations.operation(id)?;
+        let place = self.invocations.operation(false, id)?;
         self.tables.operation(place)
     }
 
     /// Writes the outcome of an open invocation of the peer.
-    fn end_invocation(&mut self, id: i64, text: &[u8]) -> Result<(), NoMemory>
-        ensures ok { OnOk result (self.new ≡ with_waiting text.now (with_calls (close false id self.old.calls) self.old)) }
+    fn end_invocation(&mut self, id: &i64, text: &[u8]) -> Result<(), NoMemory>
+        ensures ok { OnOk result (self.new ≡ with_waiting text.now (with_calls (close false id.now self.old.calls) self.old)) }
         ensures err { OnErr result (Keeps self.old self.new) }
     {
         self.send(text)?;
@@ -51,10 +51,10 @@ impl<'t> End<'t> {
     fn result_apdu(
         &self,
         operation: &Operation,
-        id: i64,
+        id: &i64,
         value: &Option<Val>,
     ) -> Result<Apdu, NoMemory>
-        ensures { IfOk result (λ apdu. apdu ≡ result_apdu operation.now id value.now) }
+        ensures { IfOk result (λ apdu. apdu ≡ result_apdu operation.now id.now value.now) }
     {
         let returned = match value {
             None => None,
@@ -63,20 +63,20 @@ impl<'t> End<'t> {
                 value: value.copy(self.alloc)?,
             }),
         };
-        Ok(Apdu::Result { id, returned })
+        Ok(Apdu::Result { id: *id, returned })
     }
 
     /// The APDU of an error.
     fn error_apdu(
         &self,
         error: &ErrorRow,
-        id: i64,
+        id: &i64,
         parameter: &Option<Val>,
     ) -> Result<Apdu, NoMemory>
-        ensures { IfOk result (λ apdu. apdu ≡ error_apdu error.now id parameter.now) }
+        ensures { IfOk result (λ apdu. apdu ≡ error_apdu error.now id.now parameter.now) }
     {
         Ok(Apdu::Error {
-            id,
+            id: *id,
             code: error.code.copy(self.alloc)?,
             parameter: parameter.copy(self.alloc)?,
         })
@@ -85,11 +85,11 @@ impl<'t> End<'t> {
     /// The text of a result, or why it isn't sent.
     fn check_answer(
         &self,
-        id: i64,
+        id: &i64,
         operation: &Operation,
         value: &Option<Val>,
     ) -> Result<Checked, NoMemory>
-        ensures { IfOk result (λ checked. (o : OpenCall) → IsChecked (can_answer_open (base self.now) (body self.now) id (Some o) (Some operation.now) value.now) None (written_apdu self.now.tables syntaxes.Ber (result_apdu operation.now id value.now)) checked) }
+        ensures { IfOk result (λ checked. (o : OpenCall) → IsChecked (can_answer_open (base self.now) (body self.now) id.now (Some o) (Some operation.now) value.now) None (written_apdu self.now.tables syntaxes.Ber (result_apdu operation.now id.now value.now)) checked) }
     {
         if !operation.returns {
             return Ok(Checked::Refused(CallRefusal::NotAllowed));
@@ -98,36 +98,41 @@ impl<'t> End<'t> {
             return Ok(Checked::Refused(CallRefusal::NotTyped));
         }
         let apdu = self.result_apdu(operation, id, value)?;
-        self.check_outcome(&apdu)
+        let checked = self.check_outcome(&apdu);
+        drop(apdu);
+        checked
     }
 
     /// The text of an error, or why it isn't sent.
     fn check_refuse(
         &self,
-        id: i64,
+        id: &i64,
         error: &ErrorRow,
         parameter: &Option<Val>,
     ) -> Result<Checked, NoMemory>
-        ensures { IfOk result (λ checked. (o : OpenCall) → IsChecked (can_refuse_with (base self.now) (body self.now) id o error.now parameter.now) None (written_apdu self.now.tables syntaxes.Ber (error_apdu error.now id parameter.now)) checked) }
+        ensures { IfOk result (λ checked. (o : OpenCall) → IsChecked (can_refuse_with (base self.now) (body self.now) id.now o error.now parameter.now) None (written_apdu self.now.tables syntaxes.Ber (error_apdu error.now id.now parameter.now)) checked) }
     {
         if !error.parameter.carries(&self.tables.types, parameter) {
             return Ok(Checked::Refused(CallRefusal::NotTyped));
         }
         let apdu = self.error_apdu(error, id, parameter)?;
-        self.check_outcome(&apdu)
+        let checked = self.check_outcome(&apdu);
+        drop(apdu);
+        checked
     }
 
     /// Answers an open invocation of an operation by its result.
     fn answer_open(
         &mut self,
-        id: i64,
+        id: &i64,
         operation: &Operation,
         value: &Option<Val>,
     ) -> Result<Option<i64>, CallRefusal>
-        requires { operation_of (base self.old) (opened_with false id self.old.calls.opens) ≡ Some operation.now }
-        ensures { Answers (can_answer (base self.old) (body self.old) id value.now) self.old self.new (the_calls.Answer id value.now) result }
+        requires { operation_of (base self.old) (opened_with false id.now self.old.calls.opens) ≡ Some operation.now }
+        ensures { Answers (can_answer (base self.old) (body self.old) id.now value.now) self.old self.new (the_calls.Answer id.now value.now) result }
     {
-        match self.check_answer(id, operation, value)? {
+        let checked = self.check_answer(id, operation, value)?;
+        match checked {
             Checked::Refused(refusal) => Err(refusal),
             Checked::Sends(text) => {
                 self.end_invocation(id, text.as_slice())?;
@@ -139,13 +144,13 @@ impl<'t> End<'t> {
     /// Answers an invocation of the peer by its result.
     pub(crate) fn answer(
         &mut self,
-        id: i64,
+        id: &i64,
         value: &Option<Val>,
     ) -> Result<Option<i64>, CallRefusal>
-        ensures { Answers (can_answer (base self.old) (body self.old) id value.now) self.old self.new (the_calls.Answer id value.now) result }
+        ensures { Answers (can_answer (base self.old) (body self.old) id.now value.now) self.old self.new (the_calls.Answer id.now value.now) result }
     {
         let Some(operation) = self.operation_of(id) else {
-            return Err(CallRefusal::NoInvocation(id));
+            return Err(CallRefusal::NoInvocation(*id));
         };
         self.answer_open(id, operation, value)
     }
@@ -153,15 +158,16 @@ impl<'t> End<'t> {
     /// Answers an open invocation of an operation by an error.
     fn refuse_open(
         &mut self,
-        id: i64,
+        id: &i64,
         place: u32,
         error: &ErrorRow,
         parameter: &Option<Val>,
     ) -> Result<Option<i64>, CallRefusal>
         requires there { error_at self.old.tables place ≡ Some error.now }
-        ensures { (o : OpenCall) → opened_with false id self.old.calls.opens ≡ Some o → Answers (can_refuse_with (base self.old) (body self.old) id o error.now parameter.now) self.old self.new (the_calls.Refuse id place parameter.now) result }
+        ensures { (o : OpenCall) → opened_with false id.now self.old.calls.opens ≡ Some o → Answers (can_refuse_with (base self.old) (body self.old) id.now o error.now parameter.now) self.old self.new (the_calls.Refuse id.now place parameter.now) result }
     {
-        match self.check_refuse(id, error, parameter)? {
+        let checked = self.check_refuse(id, error, parameter)?;
+        match checked {
             Checked::Refused(refusal) => Err(refusal),
             Checked::Sends(text) => {
                 self.end_invocation(id, text.as_slice())?;
@@ -173,15 +179,15 @@ impl<'t> End<'t> {
     /// Answers an invocation of the peer by an error.
     pub(crate) fn refuse(
         &mut self,
-        id: i64,
+        id: &i64,
         place: u32,
         parameter: &Option<Val>,
     ) -> Result<Option<i64>, CallRefusal>
-        ensures { Answers (can_refuse (base self.old) (body self.old) id place parameter.now) self.old self.new (the_calls.Refuse id place parameter.now) result }
+        ensures { Answers (can_refuse (base self.old) (body self.old) id.now place parameter.now) self.old self.new (the_calls.Refuse id.now place parameter.now) result }
     {
         let tables = self.tables;
         let Some(operation) = self.operation_of(id) else {
-            return Err(CallRefusal::NoInvocation(id));
+            return Err(CallRefusal::NoInvocation(*id));
         };
         let Some(error) = tables.error(place) else {
             return Err(CallRefusal::UnknownError);

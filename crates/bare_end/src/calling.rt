@@ -8,9 +8,16 @@ ghost use Rattle.end_wire.specs.Line.{going_on, end_of};
 ghost use Rattle.bare_end.specs.View.{base, body, Answers, Answered, Died, is_memory, StandsFor};
 
 use crate::end::End;
-use crate::gate::{is_dead, is_initiators, is_phase_for};
+use crate::gate::{is_dead, is_initiators, is_of_bare_mode, is_phase_for};
 use crate::invoking::Making;
 use dialogue::{Call, CallRefusal, Phase};
+
+/// Whether memory was refused.
+fn is_memory(answer: &Result<Option<i64>, CallRefusal>) -> bool
+    ensures { result ≡ is_memory answer.now }
+{
+    matches!(answer, Err(CallRefusal::NoMemory))
+}
 
 impl<'t> End<'t> {
     /// Makes a call of remote operations in its phase; there are no others in bare mode.
@@ -20,6 +27,9 @@ impl<'t> End<'t> {
         requires alive { is_dead self.old.phase ≡ false }
         ensures { Answers (can_call (base self.old) (body self.old) call.now) self.old self.new call.now result }
     {
+        if !is_of_bare_mode(call) {
+            return Err(CallRefusal::NotNegotiated);
+        }
         match call {
             Call::Invoke {
                 context,
@@ -34,24 +44,13 @@ impl<'t> End<'t> {
                 };
                 self.invoke(making, argument)
             }
-            Call::Answer { id, result } => self.answer(*id, result),
+            Call::Answer { id, result } => self.answer(id, result),
             Call::Refuse {
                 id,
                 error,
                 parameter,
-            } => self.refuse(*id, *error, parameter),
-            Call::Open
-            | Call::Alter { .. }
-            | Call::Mark
-            | Call::Give
-            | Call::Please { .. }
-            | Call::Resync { .. }
-            | Call::Interrupt
-            | Call::Resume
-            | Call::Discard
-            | Call::Recover
-            | Call::Release
-            | Call::Abort => Err(CallRefusal::NotNegotiated),
+            } => self.refuse(id, *error, parameter),
+            _ => Err(CallRefusal::NotNegotiated),
         }
     }
 
@@ -76,8 +75,9 @@ impl<'t> End<'t> {
         ensures { MatchBool (is_memory result) (Died self.old self.new) (Answered (can_call (base self.old) (body self.old) call.now) self.old self.new call.now result) }
     {
         let answer = self.call_now(call);
-        if matches!(answer, Err(CallRefusal::NoMemory)) {
+        if is_memory(&answer) {
             self.phase = Phase::Dead;
+            return answer;
         }
         answer
     }
@@ -90,6 +90,8 @@ impl<'t> End<'t> {
         // Where the end stood for a history, it stands for it with the steps of the call.
         ensures history { (h : History) → StandsFor self.old h → OnFalse (is_memory result) (StandsFor self.new (going_on h (call_steps (base self.old) (end_of (base self.old) h).body call))) }
     {
-        self.call_or_die(&call)
+        let answer = self.call_or_die(&call);
+        drop(call);
+        answer
     }
 }

@@ -7,6 +7,7 @@ use crate::invocations::Invocations;
 use crate::queue::{OctetQueue, copy_front};
 use apdu_codec::Heads;
 use dialogue::{Config, ConfigRefusal, Phase, check_config};
+use osi_base::{Copied, Pair, Syntax};
 use std::alloc::Global;
 use std::marker::Model;
 use stub_tables::Tables;
@@ -23,10 +24,12 @@ pub struct End<'t> {
     pub(crate) invocations: Invocations,
     pub(crate) waiting: OctetQueue,
     pub(crate) rest: OctetQueue,
+    pair: Pair,
 }
 
 impl<'t> Model for End<'t> {
     ghost use Rattle.std.specs.Prelude.{◌≡◌};
+    ghost use Rattle.osi_base.specs.declared.syntax.Syntax.TheVariants.{Ber};
     ghost use Rattle.dialogue.specs.declared.config.Mode.TheVariants.{Bare};
     ghost use Rattle.bare_end.specs.View.{EndView};
 
@@ -34,7 +37,7 @@ impl<'t> Model for End<'t> {
 
     ghost view = { λ e. record { tables = e.tables.now; config = e.config; phase = e.phase; calls = e.invocations; waiting = e.waiting; rest = e.rest } };
 
-    ghost invariant = { λ e. e.config.mode ≡ Bare };
+    ghost invariant = { λ e. (e.config.mode ≡ Bare) × (e.pair ≡ record { abstract_name = e.tables.now.name_oid; transfer = Ber }) };
 }
 
 impl<'t> End<'t> {
@@ -42,6 +45,8 @@ impl<'t> End<'t> {
     ghost use Rattle.dialogue.specs.declared.config.Phase.TheVariants as phases;
     ghost use Rattle.dialogue.specs.Config.{config_refusal};
     ghost use Rattle.dialogue.specs.declared.config.ConfigRefusal.TheVariants as config_refusals;
+    ghost use Rattle.std.specs.Option.{option_copied};
+    ghost use Rattle.end_rules.specs.Sets.{pair_of, lowest_with};
     ghost use Rattle.end_rules.specs.State.{holds_turn, opened_with};
     ghost use Rattle.end_rules.specs.History.{History, gave, broke};
     ghost use Rattle.bare_end.specs.View.{EndView, body, Stepped, StandsFor};
@@ -62,6 +67,13 @@ impl<'t> End<'t> {
         let Ok(heads) = Heads::new(alloc) else {
             return Err(ConfigRefusal::NoMemory);
         };
+        let Ok(name) = tables.name_oid.copy(alloc) else {
+            return Err(ConfigRefusal::NoMemory);
+        };
+        let pair = Pair {
+            abstract_name: name,
+            transfer: Syntax::Ber,
+        };
         Ok(End {
             alloc,
             tables,
@@ -72,6 +84,7 @@ impl<'t> End<'t> {
             invocations: Invocations::new(alloc),
             waiting: OctetQueue::new(alloc),
             rest: OctetQueue::new(alloc),
+            pair,
         })
     }
 
@@ -102,7 +115,21 @@ impl<'t> End<'t> {
     pub fn is_open(&self, own: bool, id: i64) -> bool
         ensures { result ≡ is_some (opened_with own id self.now.calls.opens) }
     {
-        self.invocations.is_open(own, id)
+        self.invocations.is_open(own, &id)
+    }
+
+    /// The pair of this identifier in the set: that of the one context of bare mode, 0.
+    pub fn pair(&self, id: u32) -> Option<&Pair>
+        ensures { option_copied result ≡ pair_of (body self.now).sets.held id }
+    {
+        if id == 0 { Some(&self.pair) } else { None }
+    }
+
+    /// The lowest identifier that may be sent and has the module's abstract syntax: 0.
+    pub fn lowest(&self) -> Option<u32>
+        ensures { result ≡ lowest_with self.now.tables.name_oid (body self.now).sets.own (body self.now).sets.held }
+    {
+        Some(0)
     }
 
     /// How the end was set up.

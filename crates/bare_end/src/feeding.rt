@@ -1,6 +1,6 @@
 //! What an end does with octets that come.
 
-ghost use Rattle.std.specs.Prelude.{◌≡◌, ◌≤◌, ◌<◌, ◌++◌, length, drop, take, true, false, IfOk, OnOk, OnErr, MatchResult, ◌∷◌, []};
+ghost use Rattle.std.specs.Prelude.{◌≡◌, ℕ, List, ◌≤◌, ◌<◌, ◌++◌, length, drop, take, true, false, IfOk, OnOk, OnErr, MatchResult, ◌∷◌, []};
 ghost use Rattle.osi_base.specs.declared.syntax.Syntax.TheVariants as syntaxes;
 ghost use Rattle.osi_base.specs.declared.words.Layer.TheVariants.{Rose};
 ghost use Rattle.stub_tables.specs.Readable.{IsReadable};
@@ -13,6 +13,8 @@ ghost use Rattle.end_wire.specs.Bare.{first_at, Whole};
 ghost use Rattle.bare_end.specs.View.{EndView, body, Stepped, Keeps};
 ghost use Rattle.bare_end.specs.Feed.{TookOne, ReadAll, Goes, Fed, KeepsDue, DiedFed};
 ghost use Rattle.bare_end.specs.First.{IsFirst};
+ghost use Rattle.rose.specs.First.{Stands};
+ghost use Rattle.stub_tables.specs.declared.tables.Tables.{Tables};
 
 use crate::end::End;
 use crate::gate::passes_over;
@@ -32,20 +34,29 @@ pub enum Front {
     Faulty(usize),
 }
 
+/// What stands first, whatever it says.
+fn front_of(first: First) -> Front
+    ensures { (tables : Tables) (octets : List ℕ) → Stands tables octets first → IsFirst octets result }
+{
+    match first {
+        First::Short => Front::Short,
+        First::Whole { content, used } => {
+            drop(content);
+            Front::Whole(used)
+        }
+        First::Faulty { place } => Front::Faulty(place),
+    }
+}
+
 impl<'t> End<'t> {
     /// What stands first in what came.
-    #[tactic(auto, using(crate::proofs::Fronts::is_short, crate::proofs::Fronts::is_whole, crate::proofs::Fronts::is_faulty))]
     fn front(&self) -> Result<Front, NoMemory>
         ensures { IfOk result (IsFirst self.now.rest) }
     {
-        match self
+        let first = self
             .stream
-            .first(self.alloc, self.tables, self.rest.as_slice())?
-        {
-            First::Short => Ok(Front::Short),
-            First::Whole { used, .. } => Ok(Front::Whole(used)),
-            First::Faulty { place } => Ok(Front::Faulty(place)),
-        }
+            .first(self.alloc, self.tables, self.rest.as_slice())?;
+        Ok(front_of(first))
     }
 
     /// Takes the first octets off what came.
@@ -57,7 +68,6 @@ impl<'t> End<'t> {
     }
 
     /// Takes the message with which what came begins, which has so many octets.
-    #[tactic(auto, using(crate::proofs::Taken::took))]
     fn take(&mut self, used: usize, shown: &mut Indications) -> Result<(), NoMemory>
         requires first { first_at self.old.rest ≡ Whole used }
         requires some { 0 < used }
@@ -66,9 +76,11 @@ impl<'t> End<'t> {
         ensures ok { OnOk result (TookOne self.old self.new shown.old shown.new) }
         ensures err { OnErr result (Keeps self.old self.new) }
     {
+        self.tables.is_readable();
         let taken = self.hear(used)?;
         self.skip(used);
-        self.tell(taken, shown)
+        self.tell(taken, shown)?;
+        Ok(())
     }
 
     /// Ends the association for a fault at this place.
@@ -92,12 +104,12 @@ impl<'t> End<'t> {
     }
 
     /// Reads what stands first, and answers whether more may follow.
-    #[tactic(auto, using(crate::proofs::Fed::waited, crate::proofs::Fed::failed))]
     fn read_next(&mut self, shown: &mut Indications) -> Result<bool, NoMemory>
         requires { passes_over self.old.phase ≡ false }
         ensures { MatchResult result (λ more. Goes more self.old self.new shown.old shown.new) (λ _. Keeps self.old self.new) }
     {
-        match self.front()? {
+        let front = self.front()?;
+        match front {
             Front::Short => Ok(false),
             Front::Whole(used) => {
                 self.take(used, shown)?;
@@ -111,7 +123,6 @@ impl<'t> End<'t> {
     }
 
     /// Reads what came, message by message.
-    #[tactic(auto, using(crate::proofs::Fed::reads_on_kept))]
     fn read_all(&mut self, shown: &mut Indications) -> Result<(), NoMemory>
         requires { passes_over self.old.phase ≡ false }
         ensures ok { OnOk result (ReadAll self.old self.new shown.old shown.new) }
@@ -156,7 +167,6 @@ impl<'t> End<'t> {
     }
 
     /// Takes octets, unless memory is refused.
-    #[tactic(auto, using(crate::proofs::Fed::kept_none, crate::proofs::Fed::kept_from))]
     fn feed_now(&mut self, bytes: &[u8]) -> Result<Indications, NoMemory>
         ensures { MatchResult result (λ shown. Fed self.old self.new bytes.now shown) (λ _. KeepsDue self.old self.new) }
     {
@@ -175,10 +185,12 @@ impl<'t> End<'t> {
     pub fn feed(&mut self, bytes: &[u8]) -> Result<Indications, NoMemory>
         ensures { MatchResult result (λ shown. Fed self.old self.new bytes.now shown) (λ _. DiedFed self.old self.new) }
     {
-        let fed = self.feed_now(bytes);
-        if fed.is_err() {
-            self.phase = Phase::Dead;
+        match self.feed_now(bytes) {
+            Ok(shown) => Ok(shown),
+            Err(error) => {
+                self.phase = Phase::Dead;
+                Err(error)
+            }
         }
-        fed
     }
 }

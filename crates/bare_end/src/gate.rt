@@ -2,8 +2,7 @@
 
 ghost use Rattle.std.specs.Prelude.{◌≡◌};
 ghost use Rattle.end_rules.specs.State.{is_up, is_broken, passes_over};
-ghost use Rattle.end_rules.specs.Calling.{is_dead, is_idle, may_abort_in, is_phase_for, is_initiators};
-
+ghost use Rattle.end_rules.specs.Calling.{is_dead, is_idle, may_abort_in, is_phase_for, is_initiators, is_of_bare_mode};
 ghost use Rattle.dialogue.specs.declared.config.Mode.TheVariants.{Bare};
 ghost use Rattle.end_rules.specs.History.{broken_phase};
 
@@ -88,6 +87,16 @@ pub fn is_initiators(call: &Call) -> bool
     }
 }
 
+/// Whether it is a call of bare mode.
+pub fn is_of_bare_mode(call: &Call) -> bool
+    ensures { result ≡ is_of_bare_mode call.now }
+{
+    match call {
+        Call::Invoke { .. } | Call::Answer { .. } | Call::Refuse { .. } => true,
+        _ => false,
+    }
+}
+
 /// The phase after a break.
 pub fn broken(phase: Phase) -> Phase
     ensures { result ≡ broken_phase Bare phase }
@@ -95,7 +104,11 @@ pub fn broken(phase: Phase) -> Phase
     match phase {
         Phase::Idle => Phase::Idle,
         Phase::Dead => Phase::Dead,
-        Phase::Over | Phase::Opening | Phase::Up | Phase::Releasing | Phase::Broken
+        Phase::Over
+        | Phase::Opening
+        | Phase::Up
+        | Phase::Releasing
+        | Phase::Broken
         | Phase::Recovering => Phase::Over,
     }
 }

@@ -28,10 +28,7 @@ pub enum Taken {
     /// The user is told.
     Told(Indication),
     /// It is rejected.
-    Rejects {
-        id: Option<i64>,
-        problem: Problem,
-    },
+    Rejects { id: Option<i64>, problem: Problem },
 }
 
 /// What the user is told, or the reject that is due.
@@ -118,7 +115,8 @@ impl<'t> End<'t> {
         match self.first_head(used) {
             Ok(head) => {
                 hold_octets(&head.rest);
-                self.hear_head(head)
+                let taken = self.hear_head(head)?;
+                Ok(taken)
             }
             Err(fault) => {
                 let taken = refused(fault)?;
@@ -133,8 +131,10 @@ impl<'t> End<'t> {
         ensures err { OnErr result (self.new ≡ self.old) }
     {
         let apdu = Apdu::Reject { id, problem };
-        let text = self.text(Syntax::Ber, &apdu)?;
-        self.send(text.as_slice())
+        let text = self.text(Syntax::Ber, &apdu);
+        drop(apdu);
+        self.send(text?.as_slice())?;
+        Ok(())
     }
 
     /// Tells the user what became of an APDU, and answers it where it is rejected.

@@ -6,7 +6,7 @@ ghost use Rattle.rose_roles.specs.Hearing.{Hears};
 ghost use Rattle.end_rules.specs.State.{opened_with, opens_of, close};
 ghost use Rattle.bare_end.specs.Invocations.{is_link, operation_in, SomeCarried};
 
-use crate::listing::opens_in;
+use crate::listing::{called_at, opens_in};
 use crate::open_call::OpenCall;
 use apdu_spelling::{ApduHead, ApduKind};
 use linked_ops::Forest;
@@ -50,24 +50,24 @@ impl Invocations {
         }
     }
 
-    /// Whether the invocation of this end (own), or of its peer, with this identifier is open.
-    pub fn is_open(&self, own: bool, id: i64) -> bool
-        ensures { result ≡ is_some (opened_with own id self.now.opens) }
+    /// The operation of an open invocation of this end (own), or of its peer, as a place in the table
+    /// of operations.
+    pub fn operation(&self, own: bool, id: &i64) -> Option<u32>
+        ensures { result ≡ operation_in (opened_with own id.now self.now.opens) }
     {
-        if own {
-            self.invoker.called(id).is_some()
-        } else {
-            self.performer.called(id).is_some()
+        match called_at(&self.invoker, &self.performer, own, id) {
+            Some(called) => Some(called.operation),
+            None => None,
         }
     }
 
-    /// The operation of an open invocation of the peer, as a place in the table of operations.
-    pub fn operation(&self, id: i64) -> Option<u32>
-        ensures { result ≡ operation_in (opened_with false id self.now.opens) }
+    /// Whether the invocation of this end (own), or of its peer, with this identifier is open.
+    pub fn is_open(&self, own: bool, id: &i64) -> bool
+        ensures { result ≡ is_some (opened_with own id.now self.now.opens) }
     {
-        match self.performer.called(id) {
-            Some(called) => Some(called.operation),
-            None => None,
+        match self.operation(own, id) {
+            Some(_) => true,
+            None => false,
         }
     }
 
@@ -117,10 +117,11 @@ impl Invocations {
     }
 
     /// Closes an invocation of the peer.
-    pub fn close(&mut self, id: i64)
-        ensures { self.new ≡ close false id self.old }
+    pub fn close(&mut self, id: &i64)
+        ensures { self.new ≡ close false id.now self.old }
     {
-        self.performer.close(&mut self.forest, id);
+        let closed = *id;
+        self.performer.close(&mut self.forest, closed);
     }
 
     /// What becomes of an APDU that came in BER on context 0. Want of memory changes nothing.

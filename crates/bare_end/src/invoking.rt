@@ -76,7 +76,7 @@ impl<'t> End<'t> {
         ensures memory { IsRefusal result }
     {
         let linked = linked?;
-        let Some(parent) = self.invocations.operation(linked) else {
+        let Some(parent) = self.invocations.operation(false, &linked) else {
             return Some(CallRefusal::ParentClosed(linked));
         };
         if is_linked_to(self.tables.operation(parent), place) {
@@ -90,14 +90,14 @@ impl<'t> End<'t> {
     fn invoke_apdu(
         &self,
         operation: &Operation,
-        id: i64,
+        id: &i64,
         linked: Option<i64>,
         argument: &Option<Val>,
     ) -> Result<Apdu, NoMemory>
-        ensures { IfOk result (λ apdu. apdu ≡ invoke_apdu operation.now id linked argument.now) }
+        ensures { IfOk result (λ apdu. apdu ≡ invoke_apdu operation.now id.now linked argument.now) }
     {
         Ok(Apdu::Invoke {
-            id,
+            id: *id,
             linked,
             code: operation.code.copy(self.alloc)?,
             argument: argument.copy(self.alloc)?,
@@ -130,8 +130,11 @@ impl<'t> End<'t> {
         if !operation.argument.carries(&self.tables.types, argument) {
             return Ok(Checked::Refused(CallRefusal::NotTyped));
         }
-        let apdu = self.invoke_apdu(operation, self.next_id(), linked, argument)?;
-        let Some(text) = self.short_text(&apdu)? else {
+        let id = self.next_id();
+        let apdu = self.invoke_apdu(operation, &id, linked, argument)?;
+        let short = self.short_text(&apdu);
+        drop(apdu);
+        let Some(text) = short? else {
             return Ok(Checked::Refused(CallRefusal::TooLong));
         };
         match self.room_refusal(operation) {
@@ -158,12 +161,7 @@ impl<'t> End<'t> {
     }
 
     /// Keeps the next invocation, which was written.
-    fn begin(
-        &mut self,
-        operation: &Operation,
-        making: Making,
-        text: &[u8],
-    ) -> Result<(), NoMemory>
+    fn begin(&mut self, operation: &Operation, making: Making, text: &[u8]) -> Result<(), NoMemory>
         requires there { operation_at self.old.tables making.place ≡ Some operation.now }
         requires room { HasRoom self.old.calls operation.now }
         requires linked { is_link making.linked self.old.calls.opens ≡ true }
@@ -187,7 +185,8 @@ impl<'t> End<'t> {
         ensures { Answers (can_send_invoke (base self.old) (body self.old) operation.now argument.now making.linked) self.old self.new (the_calls.Invoke making.context making.place argument.now making.linked) result }
     {
         let id = self.next_id();
-        match self.check_invoke(operation, argument, making.linked)? {
+        let checked = self.check_invoke(operation, argument, making.linked)?;
+        match checked {
             Checked::Refused(refusal) => Err(refusal),
             Checked::Sends(text) => {
                 self.begin(operation, making, text.as_slice())?;

@@ -12,6 +12,7 @@ mod invoking;
 mod listing;
 mod open_call;
 mod order;
+mod probe;
 mod queue;
 mod sending;
 

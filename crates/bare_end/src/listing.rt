@@ -9,14 +9,19 @@ use osi_base::NoMemory;
 use rose_roles::{Called, Invoker, Performer};
 use std::alloc::Global;
 
-/// What is called under a key.
-fn called_at(invoker: &Invoker, performer: &Performer, key: Key) -> Option<Called>
-    ensures { result ≡ called key.id (side key.own invoker.now.kept performer.now.kept) }
+/// What is called under an identifier of this end (own), or of its peer.
+pub(crate) fn called_at(
+    invoker: &Invoker,
+    performer: &Performer,
+    own: bool,
+    id: &i64,
+) -> Option<Called>
+    ensures { result ≡ called id.now (side own invoker.now.kept performer.now.kept) }
 {
-    if key.own {
-        invoker.called(key.id)
+    if own {
+        invoker.called_at(id)
     } else {
-        performer.called(key.id)
+        performer.called_at(id)
     }
 }
 
@@ -57,15 +62,11 @@ fn parent_in(own: bool, above: Option<Key>) -> Option<i64>
 }
 
 /// The open invocation with this key, under that one.
-fn open_call(
-    invoker: &Invoker,
-    performer: &Performer,
-    entry: &(Key, Option<Key>),
-) -> OpenCall
+fn open_call(invoker: &Invoker, performer: &Performer, entry: &(Key, Option<Key>)) -> OpenCall
     ensures { result ≡ open_call invoker.now.kept performer.now.kept entry.now }
 {
     let key = entry.0;
-    let called = called_at(invoker, performer, key);
+    let called = called_at(invoker, performer, key.own, &key.id);
     OpenCall {
         own: key.own,
         id: key.id,

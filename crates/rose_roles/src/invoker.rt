@@ -122,8 +122,8 @@ impl Invoker {
         self.kept.clear();
     }
 
-    /// What is called under an identifier.
-    pub(crate) fn called_at(&self, id: &i64) -> Option<Called>
+    /// As `called`.
+    pub fn called_at(&self, id: &i64) -> Option<Called>
         ensures { result ≡ called id.now self.now.kept }
     {
         called(&self.kept, id)

@@ -104,6 +104,13 @@ impl Performer {
         called(&self.kept, &id)
     }
 
+    /// As `called`.
+    pub fn called_at(&self, id: &i64) -> Option<Called>
+        ensures { result ≡ called id.now self.now.kept }
+    {
+        called(&self.kept, id)
+    }
+
     /// How many invocations of the peer are open.
     pub fn open_count(&self) -> usize
         ensures { result ≡ length self.now.kept }

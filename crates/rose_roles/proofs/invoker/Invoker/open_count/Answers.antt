@@ -1,4 +1,4 @@
-use Rattle.std.proofs.Common.{length, sym, ap, subst, ◌∙◌}
+use Rattle.std.proofs.Common.{true, length, sym, ap, subst, ◌∙◌}
 use Rattle.rose_roles.specs.Calls.{Invoking}
 use Rattle.rose_roles.proofs.Keys.{apart}
 use Rattle.rose_roles.proofs.Counts.{Once, once_sorted, counts}
@@ -8,4 +8,4 @@ pub returns-clause-opens : goal.returns-clause-opens
 returns-clause-opens c = λ forest performed is own.
     let once = subst (λ (i : Invoking). Once i.kept) c.self.view_is (once_sorted c.self.inside.kept.entries c.len.ensures.ordered) in
     counts true c.args.self.now.kept performed forest c.args.self.now.kept (apart forest is) once own
-    ∙ sym (c.len.ensures.length ∙ ap (λ (i : Invoking). length i.kept) c.self.view_is)
+    ∙ sym (c.len.ensures.len ∙ ap (λ (i : Invoking). length i.kept) c.self.view_is)

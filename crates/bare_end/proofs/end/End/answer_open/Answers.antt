@@ -1,0 +1,10 @@
+use Rattle.bare_end.proofs.Answered.{answer_refused, answer_sent}
+use Rattle.bare_end.proofs.end.End.answer_open.Goals as goal
+
+pub returns-in-Refused : goal.returns-in-Refused
+returns-in-Refused c =
+    answer_refused c.args.self.now c.args.id.now c.args.value.now c.args.operation.now c.requires c.in_ok-checked.checked c.in-Refused.refusal c.in_ok-checked.ensures c.in-Refused.is
+
+pub returns-in_ok-end_invocation-in-Sends : goal.returns-in_ok-end_invocation-in-Sends
+returns-in_ok-end_invocation-in-Sends c =
+    answer_sent c.args.self.now c.args.id.now c.args.value.now c.args.operation.now c.requires c.in_ok-checked.checked c.in-Sends.text c.end_invocation.new.self c.in_ok-checked.ensures c.in-Sends.is c.in_ok-end_invocation-in-Sends.ensures.ok
