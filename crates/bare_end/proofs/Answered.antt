@@ -61,11 +61,11 @@ pub opened_so : (e : EndView) (id : ℤ) (operation : Operation) → operation_o
 opened_so e id operation there = opened_by e id operation (opened_with false id e.calls.opens) refl there
 
 module _ (e : EndView) (id : ℤ) (value : Option Val) (operation : Operation) (there : operation_of (base e) (opened_with false id e.calls.opens) ≡ Some operation) where
-  abbrev text : List ℕ
-  text = written_apdu e.tables Ber (result_apdu operation id value)
+  abbrev result_text : List ℕ
+  result_text = written_apdu e.tables Ber (result_apdu operation id value)
 
   abbrev CheckedSo : checkeds.Checked → Type 0
-  CheckedSo k = (o : OpenCall) → IsChecked (can_answer_open (base e) (body e) id (Some o) (Some operation) value) None text k
+  CheckedSo k = (o : OpenCall) → IsChecked (can_answer_open (base e) (body e) id (Some o) (Some operation) value) None result_text k
 
   can_is : (o : OpenCall) → opened_with false id e.calls.opens ≡ Some o → can_answer (base e) (body e) id value ≡ can_answer_open (base e) (body e) id (Some o) (Some operation) value
   can_is o found = λ k. can_answer_open (base e) (body e) id (found k) (there k) value
@@ -73,14 +73,14 @@ module _ (e : EndView) (id : ℤ) (value : Option Val) (operation : Operation) (
   pub answer_refused : (k : checkeds.Checked) (r : CallRefusal) → CheckedSo k → k ≡ checked.Refused r → Answers (can_answer (base e) (body e) id value) e e (the_calls.Answer id value) (Err r)
   answer_refused k r c is =
       let o = opened_so e id operation there in
-      let h = subst (IsChecked (can_answer_open (base e) (body e) id (Some o.o) (Some operation) value) None text) is (c o.o) in
+      let h = subst (IsChecked (can_answer_open (base e) (body e) id (Some o.o) (Some operation) value) None result_text) is (c o.o) in
       refused_so (can_answer (base e) (body e) id value) e (the_calls.Answer id value) r (can_is o.o o.found ∙ h.0) h.1
 
   pub answer_sent : (k : checkeds.Checked) (octets : List ℕ) (new : EndView) → CheckedSo k → k ≡ checked.Sends octets → new ≡ with_waiting octets (with_calls (close false id e.calls) e)
       → Answers (can_answer (base e) (body e) id value) e new (the_calls.Answer id value) (Ok None)
   answer_sent k octets new c is at =
       let o = opened_so e id operation there in
-      let h = subst (IsChecked (can_answer_open (base e) (body e) id (Some o.o) (Some operation) value) None text) is (c o.o) in
+      let h = subst (IsChecked (can_answer_open (base e) (body e) id (Some o.o) (Some operation) value) None result_text) is (c o.o) in
       answered_so (can_answer (base e) (body e) id value) e new (the_calls.Answer id value) None (can_is o.o o.found ∙ h.0)
       (answered e new id value o.o operation o.found o.there (at ∙ ap (λ (t : List ℕ). with_waiting t (with_calls (close false id e.calls) e)) h.1))
 
@@ -109,30 +109,30 @@ module _ (e : EndView) (context place : ℕ) (linked : Option ℤ) (argument : O
   abbrev can_send : Reply
   can_send = can_send_invoke (base e) (body e) operation argument linked
 
-  abbrev id : ℤ
-  id = next_id (body e)
+  abbrev own_id : ℤ
+  own_id = next_id (body e)
 
   abbrev invoke_text : List ℕ
-  invoke_text = written_apdu e.tables Ber (invoke_apdu operation id linked argument)
+  invoke_text = written_apdu e.tables Ber (invoke_apdu operation own_id linked argument)
 
-  abbrev call : Call
-  call = the_calls.Invoke context place argument linked
+  abbrev invoke_call : Call
+  invoke_call = the_calls.Invoke context place argument linked
 
   abbrev begun : EndView
-  begun = with_calls (opening (base e) (record { own = true; id = id; operation = place; context = context; parent = linked }) (record e.calls { made = suc e.calls.made })) e
+  begun = with_calls (opening (base e) (record { own = true; id = own_id; operation = place; context = context; parent = linked }) (record e.calls { made = suc e.calls.made })) e
 
-  pub invoke_refused : (k : checkeds.Checked) (r : CallRefusal) → IsChecked can_send (Some id) invoke_text k → k ≡ checked.Refused r → Answers can_send e e call (Err r)
+  pub invoke_refused : (k : checkeds.Checked) (r : CallRefusal) → IsChecked can_send (Some own_id) invoke_text k → k ≡ checked.Refused r → Answers can_send e e invoke_call (Err r)
   invoke_refused k r c is =
-      let h = subst (IsChecked can_send (Some id) invoke_text) is c in
-      refused_so can_send e call r h.0 h.1
+      let h = subst (IsChecked can_send (Some own_id) invoke_text) is c in
+      refused_so can_send e invoke_call r h.0 h.1
 
-  pub invoke_sent : (k : checkeds.Checked) (octets : List ℕ) (new : EndView) (x : ℤ) → IsChecked can_send (Some id) invoke_text k → k ≡ checked.Sends octets → new ≡ with_waiting octets begun → x ≡ id
-      → Answers can_send e new call (Ok (Some x))
+  pub invoke_sent : (k : checkeds.Checked) (octets : List ℕ) (new : EndView) (x : ℤ) → IsChecked can_send (Some own_id) invoke_text k → k ≡ checked.Sends octets → new ≡ with_waiting octets begun → x ≡ own_id
+      → Answers can_send e new invoke_call (Ok (Some x))
   invoke_sent k octets new x c is at same =
-      let h = subst (IsChecked can_send (Some id) invoke_text) is c in
-      subst (λ (y : ℤ). Answers can_send e new call (Ok (Some y))) (sym same)
-      (answered_so can_send e new call (Some id) h.0
-      (invoked e context place id linked operation argument there new (at ∙ ap (λ (t : List ℕ). with_waiting t begun) h.1)))
+      let h = subst (IsChecked can_send (Some own_id) invoke_text) is c in
+      subst (λ (y : ℤ). Answers can_send e new invoke_call (Ok (Some y))) (sym same)
+      (answered_so can_send e new invoke_call (Some own_id) h.0
+      (invoked e context place own_id linked operation argument there new (at ∙ ap (λ (t : List ℕ). with_waiting t begun) h.1)))
 
   -- what was asked before doesn't refuse it
   pub invoke_allowed : is_on_module (base e) (body e) context ≡ true → linking_refusal (base e) (body e) place linked ≡ None → can_invoke (base e) (body e) context place argument linked ≡ can_send
@@ -163,31 +163,31 @@ answers_by can_now can_before e new call reply same h = subst (λ (can : Reply).
 -- ---- the outcome of an error by its first rows
 
 module _ (e : EndView) (id : ℤ) (place : ℕ) (parameter : Option Val) where
-  abbrev can : Reply
-  can = can_refuse (base e) (body e) id place parameter
+  abbrev can_error : Reply
+  can_error = can_refuse (base e) (body e) id place parameter
 
   refusing : (f : Option OpenCall) (q : Option Operation) (r : Option ErrorRow) → opened_with false id e.calls.opens ≡ f → operation_of (base e) (opened_with false id e.calls.opens) ≡ q → error_at e.tables place ≡ r
-      → can ≡ can_refuse_open (base e) (body e) id f q place r parameter
+      → can_error ≡ can_refuse_open (base e) (body e) id f q place r parameter
   refusing f q r is there error = λ k. can_refuse_open (base e) (body e) id (is k) (there k) place (error k) parameter
 
-  none_opened : (f : Option OpenCall) → opened_with false id e.calls.opens ≡ f → operation_of (base e) (opened_with false id e.calls.opens) ≡ None → can ≡ Err (refusals.NoInvocation id)
+  none_opened : (f : Option OpenCall) → opened_with false id e.calls.opens ≡ f → operation_of (base e) (opened_with false id e.calls.opens) ≡ None → can_error ≡ Err (refusals.NoInvocation id)
   none_opened None is none = refusing None None (error_at e.tables place) is none refl
   none_opened (Some o) is none = refusing (Some o) None (error_at e.tables place) is none refl
 
-  pub refuse_none : operation_of (base e) (opened_with false id e.calls.opens) ≡ None → can ≡ Err (refusals.NoInvocation id)
+  pub refuse_none : operation_of (base e) (opened_with false id e.calls.opens) ≡ None → can_error ≡ Err (refusals.NoInvocation id)
   refuse_none none = none_opened (opened_with false id e.calls.opens) refl none
 
   module _ (operation : Operation) (there : operation_of (base e) (opened_with false id e.calls.opens) ≡ Some operation) where
-    pub refuse_unknown : error_at e.tables place ≡ None → can ≡ Err refusals.UnknownError
+    pub refuse_unknown : error_at e.tables place ≡ None → can_error ≡ Err refusals.UnknownError
     refuse_unknown none = let o = opened_so e id operation there in refusing (Some o.o) (Some operation) None o.found there none
 
-    pub refuse_foreign : (error : ErrorRow) → error_at e.tables place ≡ Some error → is_error_of operation place ≡ false → can ≡ Err refusals.NotAllowed
+    pub refuse_foreign : (error : ErrorRow) → error_at e.tables place ≡ Some error → is_error_of operation place ≡ false → can_error ≡ Err refusals.NotAllowed
     refuse_foreign error some foreign =
         let o = opened_so e id operation there in
         refusing (Some o.o) (Some operation) (Some error) o.found there some
         ∙ ap (λ (b : Bool). if not b then Err refusals.NotAllowed else can_refuse_with (base e) (body e) id o.o error parameter) foreign
 
-    pub refuse_own : (error : ErrorRow) → error_at e.tables place ≡ Some error → is_error_of operation place ≡ true → can ≡ can_refuse_with (base e) (body e) id (opened_so e id operation there).o error parameter
+    pub refuse_own : (error : ErrorRow) → error_at e.tables place ≡ Some error → is_error_of operation place ≡ true → can_error ≡ can_refuse_with (base e) (body e) id (opened_so e id operation there).o error parameter
     refuse_own error some own =
         let o = opened_so e id operation there in
         refusing (Some o.o) (Some operation) (Some error) o.found there some

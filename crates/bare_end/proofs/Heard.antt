@@ -34,24 +34,14 @@ heard_so old new fields text t readable p os h =
 abbrev Rose : Type 0
 Rose = Result roses.RoseTaken NoMemory
 
+abbrev taken_in : roses.RoseTaken → Rose → roses.RoseTaken
+taken_in r (Ok x) = x
+taken_in r (Err m) = r
+
 module _ (old : EndView) (t : takens.Taken) (r : roses.RoseTaken) (told_so : (calls : Calls) → heard_as calls t ≡ heard_with calls r) where
   hears_refused : (f : HeadFault) → refused_as f ≡ Ok r → heard_as old.calls t ≡ hear (base old) old.calls 0 (refused f)
-  hears_refused (fault.General number) e = told_so old.calls ∙ told_by (refused_as (fault.General number)) e refl
-    where
-      taken_in : Rose → roses.RoseTaken
-      taken_in (Ok x) = x
-      taken_in (Err m) = r
-
-      told_by : (x : Rose) → x ≡ Ok r → x ≡ refused_as (fault.General number) → heard_with old.calls r ≡ hear (base old) old.calls 0 (refused (fault.General number))
-      told_by x e f = ap (λ (y : Rose). heard_with old.calls (taken_in y)) (sym e ∙ f)
-  hears_refused fault.BadReject e = told_so old.calls ∙ told_by (refused_as fault.BadReject) e refl
-    where
-      taken_in : Rose → roses.RoseTaken
-      taken_in (Ok x) = x
-      taken_in (Err m) = r
-
-      told_by : (x : Rose) → x ≡ Ok r → x ≡ refused_as fault.BadReject → heard_with old.calls r ≡ hear (base old) old.calls 0 (refused fault.BadReject)
-      told_by x e f = ap (λ (y : Rose). heard_with old.calls (taken_in y)) (sym e ∙ f)
+  hears_refused (fault.General number) e = told_so old.calls ∙ ap (λ (y : Rose). heard_with old.calls (taken_in r y)) (sym e)
+  hears_refused fault.BadReject e = told_so old.calls ∙ ap (λ (y : Rose). heard_with old.calls (taken_in r y)) (sym e)
   hears_refused fault.NoMemory e = absurd cc
 
   none_in : (text : List ℕ) (f : HeadFault) → IsRefused Ber text f → refused_as f ≡ Ok r → HasNone Ber text
@@ -59,14 +49,14 @@ module _ (old : EndView) (t : takens.Taken) (r : roses.RoseTaken) (told_so : (ca
   none_in text fault.BadReject p e = p.0
   none_in text fault.NoMemory p e = absurd cc
 
+  at_text : (text : List ℕ) (f : HeadFault) → IsReadable old.tables → AreOctets text → IsRefused Ber text f → refused_as f ≡ Ok r → refused f ≡ head_at old.tables Ber text
+  at_text text (fault.General number) readable are p e = refused_read old.tables readable text are p.0 (fault.General number) p.1
+  at_text text fault.BadReject readable are p e = refused_read old.tables readable text are p.0 fault.BadReject p.1
+  at_text text fault.NoMemory readable are p e = absurd cc
+
   pub refused_heard : (text : List ℕ) (f : HeadFault) → IsReadable old.tables → AreOctets text → IsRefused Ber text f → refused_as f ≡ Ok r → Heard old old (head_at old.tables Ber text) t
   refused_heard text f readable are p e =
       record { heard_is = hears_refused f e ∙ ap (hear (base old) old.calls 0) (at_text text f readable are p e); end_is = refl }
-    where
-      at_text : (text : List ℕ) (f : HeadFault) → IsReadable old.tables → AreOctets text → IsRefused Ber text f → refused_as f ≡ Ok r → refused f ≡ head_at old.tables Ber text
-      at_text text (fault.General number) readable are p e = refused_read old.tables readable text are p.0 (fault.General number) p.1
-      at_text text fault.BadReject readable are p e = refused_read old.tables readable text are p.0 fault.BadReject p.1
-      at_text text fault.NoMemory readable are p e = absurd cc
 
   pub refused_means : (text : List ℕ) (f : HeadFault) → IsReadable old.tables → AreOctets text → IsRefused Ber text f → refused_as f ≡ Ok r → IsContent old.tables Ber text (content_at old.tables Ber text)
   refused_means text f readable are p e = refused_mean old.tables readable text are (none_in text f p e)
