@@ -1,11 +1,14 @@
 -- A call that was checked got the answer that can be given.
-use Rattle.std.proofs.Common.{◌≡◌, ℕ, suc, ℤ, Bool, true, false, not, ◌&&◌, if◌then◌else◌, List, [], ◌∷◌, map, Option, Some, None, Ok, Err, refl, sym, ap, subst, ◌∙◌}
-use Rattle.std.specs.Prelude.{MatchBool}
+use Rattle.std.proofs.Common.{◌≡◌, ℕ, suc, ℤ, Bool, true, false, not, ◌&&◌, if◌then◌else◌, List, [], ◌∷◌, map, Option, Some, None, Result, Ok, Err, nat_le, length, refl, sym, ap, subst, ◌∙◌}
+use Rattle.std.specs.Prelude.{MatchBool, IfOk}
+use Rattle.osi_base.specs.declared.fault.NoMemory.{NoMemory}
 use Rattle.asn1_types.specs.declared.value.Val.{Val}
 use Rattle.osi_base.specs.declared.syntax.Syntax.TheVariants.{Ber}
 use Rattle.stub_tables.specs.declared.operation.Operation.{Operation}
 use Rattle.stub_tables.specs.declared.operation.ErrorRow.{ErrorRow}
-use Rattle.stub_tables.specs.Codes.{is_error_of}
+use Rattle.stub_tables.specs.Codes.{is_error_of, is_silent}
+use Rattle.stub_tables.specs.Uses.{is_carried}
+use Rattle.stub_tables.specs.declared.apdu.Apdu.{Apdu}
 use Rattle.stub_tables.specs.Lookup.{operation_at, error_at}
 use Rattle.apdu_spelling.specs.Writing.{written_apdu}
 use Rattle.dialogue.specs.declared.call.Call.{Call}
@@ -13,8 +16,8 @@ use Rattle.dialogue.specs.declared.call.Call.TheVariants as the_calls
 use Rattle.dialogue.specs.declared.call.CallRefusal.{CallRefusal}
 use Rattle.dialogue.specs.declared.call.CallRefusal.TheVariants as refusals
 use Rattle.end_rules.specs.Base.{Base}
-use Rattle.end_rules.specs.State.{Body, OpenCall, opened_with, close}
-use Rattle.end_rules.specs.Invoking.{Reply, next_id, is_on_module, linking_refusal, unless_refused, operation_of, invoke_apdu, result_apdu, error_apdu, can_send_invoke, can_invoke, can_invoke_operation, can_answer, can_answer_open, can_refuse, can_refuse_open}
+use Rattle.end_rules.specs.State.{Body, OpenCall, opened_with, opens_of, close}
+use Rattle.end_rules.specs.Invoking.{Reply, is_too_long, can_send_outcome, next_id, is_on_module, linking_refusal, unless_refused, operation_of, invoke_apdu, result_apdu, error_apdu, can_send_invoke, can_invoke, can_invoke_operation, can_answer, can_answer_open, can_refuse, can_refuse_open}
 use Rattle.dialogue.specs.declared.config.Phase.TheVariants.{Dead}
 use Rattle.end_rules.specs.Calling.{can_call, can_by_rows, is_dead, is_initiators, is_phase_for, is_of_bare_mode}
 use Rattle.end_rules.specs.Hearing.{opening}
@@ -23,7 +26,7 @@ use Rattle.end_rules.specs.History.{called, sent}
 use Rattle.end_wire.specs.Line.{End}
 use Rattle.bare_end.specs.declared.sending.Checked as checkeds
 use Rattle.bare_end.specs.declared.sending.Checked.TheVariants as checked
-use Rattle.bare_end.specs.Checking.{IsChecked, can_refuse_with}
+use Rattle.bare_end.specs.Checking.{IsChecked, IsNumbered, HasRoom, can_refuse_with}
 use Rattle.bare_end.specs.View.{EndView, base, body, seen, Stepped, Answers, Answered, Died, Keeps, is_memory, with_calls, with_waiting}
 use Rattle.bare_end.proofs.Sent.{invoked, answered, refused}
 
@@ -260,3 +263,48 @@ pub lived_so : (can : Reply) (old new : EndView) (call : Call) (reply : Reply) �
 lived_so can old new call reply m h =
     let k = subst (λ (b : Bool). MatchBool b (Keeps old new) (Answered can old new call reply)) m h in
     subst (λ (b : Bool). MatchBool b (Died old new) (Answered can old new call reply)) (sym m) k
+
+-- ---- texts that were checked
+
+module _ (e : EndView) (id : ℤ) (apdu : Apdu) (r : Result checkeds.Checked NoMemory)
+    (c : IfOk r (λ k. (o : OpenCall) → IsChecked (can_send_outcome (base e) (body e) o apdu) None (written_apdu e.tables Ber apdu) k)) where
+  pub outcome_checked : (is : Apdu) (can : OpenCall → Reply) → apdu ≡ is → ((o : OpenCall) → can o ≡ can_send_outcome (base e) (body e) o is) → IfOk r (λ k. (o : OpenCall) → IsChecked (can o) None (written_apdu e.tables Ber is) k)
+  outcome_checked is can same row = by r c
+    where
+      by : (r : Result checkeds.Checked NoMemory) → IfOk r (λ k. (o : OpenCall) → IsChecked (can_send_outcome (base e) (body e) o apdu) None (written_apdu e.tables Ber apdu) k)
+          → IfOk r (λ k. (o : OpenCall) → IsChecked (can o) None (written_apdu e.tables Ber is) k)
+      by (Ok k) c = λ o.
+          subst (λ (q : Reply). IsChecked q None (written_apdu e.tables Ber is) k) (sym (row o))
+          (subst (λ (a : Apdu). IsChecked (can_send_outcome (base e) (body e) o a) None (written_apdu e.tables Ber a) k) same (c o))
+      by (Err m) c = tt
+
+pub answer_row : (e : EndView) (id : ℤ) (operation : Operation) (value : Option Val) (o : OpenCall) → operation.returns ≡ true → is_carried e.tables.types operation.result value ≡ true
+    → can_answer_open (base e) (body e) id (Some o) (Some operation) value ≡ can_send_outcome (base e) (body e) o (result_apdu operation id value)
+answer_row e id operation value o returns carried =
+    ap
+    (λ (b : Bool). if not b then Err refusals.NotAllowed else (if not (is_carried e.tables.types operation.result value) then Err refusals.NotTyped else can_send_outcome (base e) (body e) o (result_apdu operation id value)))
+    returns
+    ∙ ap (λ (b : Bool). if not b then Err refusals.NotTyped else can_send_outcome (base e) (body e) o (result_apdu operation id value)) carried
+
+pub refuse_row : (e : EndView) (id : ℤ) (error : ErrorRow) (parameter : Option Val) (o : OpenCall) → is_carried e.tables.types error.parameter parameter ≡ true
+    → can_refuse_with (base e) (body e) id o error parameter ≡ can_send_outcome (base e) (body e) o (error_apdu error id parameter)
+refuse_row e id error parameter o carried = ap (λ (b : Bool). if not b then Err refusals.NotTyped else can_send_outcome (base e) (body e) o (error_apdu error id parameter)) carried
+
+-- an invocation for which there is no room or no number
+pub invoke_full : (e : EndView) (operation : Operation) (argument : Option Val) (linked : Option ℤ) (apdu : Apdu) (found : Option CallRefusal) (r : CallRefusal) → is_carried e.tables.types operation.argument argument ≡ true
+    → apdu ≡ invoke_apdu operation (next_id (body e)) linked argument → is_too_long (base e) apdu ≡ false
+    → ((go : Reply) → IsNumbered e.calls operation found (if not (is_silent operation) && nat_le 4096 (length (opens_of true e.calls.opens)) then Err refusals.TooManyOpen else (if nat_le 2147483647 e.calls.made then Err refusals.NumbersSpent else go)) go)
+    → found ≡ Some r → (can_send_invoke (base e) (body e) operation argument linked ≡ Err r) × (is_memory (Err r) ≡ false)
+invoke_full e operation argument linked apdu found r carried same short numbered is =
+    let go : Reply = Ok (Some (next_id (body e))) in
+    let ladder : Reply = if not (is_silent operation) && nat_le 4096 (length (opens_of true e.calls.opens)) then Err refusals.TooManyOpen else (if nat_le 2147483647 e.calls.made then Err refusals.NumbersSpent else go) in
+    let h = subst (λ (f : Option CallRefusal). IsNumbered e.calls operation f ladder go) is (numbered go) in
+    (
+      ap (λ (b : Bool). if not b then Err refusals.NotTyped else (if is_too_long (base e) (invoke_apdu operation (next_id (body e)) linked argument) then Err refusals.TooLong else ladder)) carried
+      ∙ ap (λ (b : Bool). if b then Err refusals.TooLong else ladder) (ap (is_too_long (base e)) (sym same) ∙ short)
+      ∙ h.0,
+      h.1,
+    )
+
+pub has_room : (e : EndView) (operation : Operation) (found : Option CallRefusal) (can go : Reply) → IsNumbered e.calls operation found can go → found ≡ None → HasRoom e.calls operation
+has_room e operation found can go numbered is = (subst (λ (f : Option CallRefusal). IsNumbered e.calls operation f can go) is numbered).0

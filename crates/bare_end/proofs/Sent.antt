@@ -1,7 +1,9 @@
 -- What is sent in bare mode is written in BER.
-use Rattle.std.proofs.Common.{◌≡◌, ℕ, zero, suc, ℤ, Bool, true, false, not, cond, ◌&&◌, if◌then◌else◌, is_some, List, [], ◌∷◌, ◌++◌, map, Option, Some, None, Ok, refl, sym, ap, ◌∙◌}
+use Rattle.std.proofs.Common.{◌≡◌, ℕ, zero, suc, ℤ, Bool, true, false, not, cond, ◌&&◌, if◌then◌else◌, is_some, List, [], ◌∷◌, ◌++◌, map, Option, Some, None, Ok, refl, sym, ap, ◌∙◌, arith}
 use Rattle.std.specs.Prelude.{nat_eq}
 use Rattle.std.proofs.lemmas.List.{append-nil}
+use Rattle.std.proofs.lemmas.Bool.{eqb-true}
+use Rattle.rose_roles.proofs.Keys.{bool_cases}
 use Rattle.asn1_types.specs.declared.value.Val.{Val}
 use Rattle.osi_base.specs.declared.syntax.Syntax.{Syntax}
 use Rattle.osi_base.specs.declared.syntax.Syntax.TheVariants.{Ber}
@@ -71,9 +73,16 @@ same_name_itself [] = refl
 same_name_itself (x ∷ xs) = and_then (nat_eq x x) (same_name xs xs) (eqb_itself x) (same_name_itself xs)
 
 -- context 0 has the module's abstract syntax, and no other is there
+not_eq : (a b : ℕ) → (a ≡ b → ⊥) → nat_eq a b ≡ false
+not_eq a b n = bool_cases (nat_eq a b) (λ t. absurd (n (eqb-true a b t))) (λ f. f)
+
+abbrev pair_in : Tables → Bool → Option Pair
+pair_in t b = if b then Some (record { abstract_name = t.name_oid; transfer = Ber }) else None
+
 pub on_module : (t : Tables) (context : ℕ) → nat_eq context 0 ≡ has_abstract t.name_oid (pair_of (bare_set t) context)
 on_module t zero = sym (same_name_itself t.name_oid)
-on_module t (suc n) = refl
+on_module t (suc n) =
+    not_eq (suc n) 0 (λ e. omega arith) ∙ sym (ap (λ (b : Bool). has_abstract t.name_oid (pair_in t b)) (not_eq 0 (suc n) (λ e. omega arith)))
 
 pub lowest_is : (t : Tables) → Some 0 ≡ lowest_with t.name_oid [] (bare_set t)
 lowest_is t = sym (ap (λ (b : Bool). if b && not false then Some 0 else None) (same_name_itself t.name_oid))
@@ -83,7 +92,7 @@ pair_here t context p e f = ap Some f ∙ ap (pair_of (bare_set t)) (sym e)
 
 pub pair_not : (t : Tables) (context : ℕ) → (context ≡ 0 → ⊥) → None ≡ pair_of (bare_set t) context
 pair_not t zero n = absurd (n refl)
-pair_not t (suc k) n = refl
+pair_not t (suc k) n = sym (ap (pair_in t) (not_eq 0 (suc k) (λ e. omega arith)))
 
 -- some context carries an outcome
 abbrev pair_if : List ℕ → Bool → Option Pair

@@ -120,8 +120,7 @@ impl Invocations {
     pub fn close(&mut self, id: &i64)
         ensures { self.new ≡ close false id.now self.old }
     {
-        let closed = *id;
-        self.performer.close(&mut self.forest, closed);
+        self.performer.close_at(&mut self.forest, id);
     }
 
     /// What becomes of an APDU that came in BER on context 0. Want of memory changes nothing.

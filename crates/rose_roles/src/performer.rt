@@ -131,6 +131,19 @@ impl Performer {
         leave(&mut self.kept, forest, &key);
     }
 
+    /// As `close`.
+    pub fn close_at(&mut self, forest: &mut Forest, id: &i64)
+        requires { AreOpen false forest.old self.old.kept }
+        ensures closed { (invoked : Invoking) → calls_of forest.new invoked self.new.kept ≡ close false id.now (calls_of forest.old invoked self.old.kept) }
+        ensures context { self.new.context ≡ self.old.context }
+        ensures peer { AreOpen false forest.new self.new.kept }
+        ensures own { (invoked : Invoking) → AreOpen true forest.old invoked.kept → AreOpen true forest.new invoked.kept }
+    {
+        forest.is_forest();
+        let key = key_of(false, id);
+        leave(&mut self.kept, forest, &key);
+    }
+
     /// Forgets all open invocations of the peer; their keys are to be taken from the forest too.
     pub fn clear(&mut self)
         ensures { self.new ≡ record self.old { kept = [] } }

@@ -1,3 +1,6 @@
+use Rattle.std.proofs.Common.{ℕ, List, false, ap, ◌∙◌}
+use Rattle.end_rules.specs.State.{close}
+use Rattle.bare_end.specs.View.{with_calls, with_waiting}
 use Rattle.bare_end.proofs.Answered.{answer_refused, answer_sent}
 use Rattle.bare_end.proofs.end.End.answer_open.Goals as goal
 
@@ -7,4 +10,4 @@ returns-in-Refused c =
 
 pub returns-in_ok-end_invocation-in-Sends : goal.returns-in_ok-end_invocation-in-Sends
 returns-in_ok-end_invocation-in-Sends c =
-    answer_sent c.args.self.now c.args.id.now c.args.value.now c.args.operation.now c.requires c.in_ok-checked.checked c.in-Sends.text c.end_invocation.new.self c.in_ok-checked.ensures c.in-Sends.is c.in_ok-end_invocation-in-Sends.ensures.ok
+    answer_sent c.args.self.now c.args.id.now c.args.value.now c.args.operation.now c.requires c.in_ok-checked.checked c.in-Sends.text c.end_invocation.new.self c.in_ok-checked.ensures c.in-Sends.is (c.in_ok-end_invocation-in-Sends.ensures.ok ∙ ap (λ (t : List ℕ). with_waiting t (with_calls (close false c.args.id.now c.args.self.now.calls) c.args.self.now)) c.as_slice.ensures)
