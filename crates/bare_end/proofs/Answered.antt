@@ -306,5 +306,10 @@ invoke_full e operation argument linked apdu found r carried same short numbered
       h.1,
     )
 
-pub has_room : (e : EndView) (operation : Operation) (found : Option CallRefusal) (can go : Reply) → IsNumbered e.calls operation found can go → found ≡ None → HasRoom e.calls operation
-has_room e operation found can go numbered is = (subst (λ (f : Option CallRefusal). IsNumbered e.calls operation f can go) is numbered).0
+pub has_room : (e : EndView) (operation : Operation) (found : Option CallRefusal)
+    → ((go : Reply) → IsNumbered e.calls operation found (if not (is_silent operation) && nat_le 4096 (length (opens_of true e.calls.opens)) then Err refusals.TooManyOpen else (if nat_le 2147483647 e.calls.made then Err refusals.NumbersSpent else go)) go)
+    → found ≡ None → HasRoom e.calls operation
+has_room e operation found numbered is =
+    let go : Reply = Ok None in
+    let ladder : Reply = if not (is_silent operation) && nat_le 4096 (length (opens_of true e.calls.opens)) then Err refusals.TooManyOpen else (if nat_le 2147483647 e.calls.made then Err refusals.NumbersSpent else go) in
+    (subst (λ (f : Option CallRefusal). IsNumbered e.calls operation f ladder go) is (numbered go)).0

@@ -12,7 +12,6 @@ mod invoking;
 mod listing;
 mod open_call;
 mod order;
-mod probe;
 mod queue;
 mod sending;
 
