@@ -1,6 +1,8 @@
 -- What stood first was taken, or ended the reading.
-use Rattle.std.proofs.Common.{◌≡◌, ℕ, ◌<◌, ◌≤◌, Bool, true, false, cond, if◌then◌else◌, List, [], ◌∷◌, ◌++◌, length, map, take, drop, refl, sym, ap, subst, ◌∙◌, arith, append_assoc}
+use Rattle.std.proofs.Common.{◌≡◌, ℕ, ◌<◌, ◌≤◌, Bool, true, false, cond, if◌then◌else◌, List, [], ◌∷◌, ◌++◌, length, map, take, drop, Result, Ok, Err, refl, sym, ap, subst, ◌∙◌, arith, append_assoc}
 use Rattle.std.proofs.lemmas.List.{append-nil, length-drop}
+use Rattle.std.specs.Prelude.{OnErr}
+use Rattle.osi_base.specs.declared.fault.NoMemory.{NoMemory}
 use Rattle.osi_base.specs.declared.words.Layer.TheVariants.{Rose}
 use Rattle.dialogue.specs.declared.config.Phase.TheVariants.{Dead}
 use Rattle.dialogue.specs.declared.indication.Indication.{Indication}
@@ -200,3 +202,8 @@ abort_shown old place before cut told opens o c t =
     t ∙ ap (λ (s : List Indication). s ++ indications.Aborted true Rose place 0 ∷ []) c
     ∙ ap (λ (os : List OpenCall). (before ++ map cut_of (post_order os)) ++ indications.Aborted true Rose place 0 ∷ []) o
     ∙ append_assoc before (map cut_of (post_order old.calls.opens)) (indications.Aborted true Rose place 0 ∷ [])
+
+-- what stands after a call stands after it where memory was refused
+pub on_err : (r : Result (Unit {0}) NoMemory) (P : Type 0) → P → OnErr r P
+on_err (Ok done) P p = tt
+on_err (Err e) P p = p

@@ -90,18 +90,31 @@ impl<'t> End<'t> {
     fn invoke_apdu(
         &self,
         operation: &Operation,
-        id: &i64,
+        id: i64,
         linked: Option<i64>,
         argument: &Option<Val>,
     ) -> Result<Apdu, NoMemory>
-        ensures { IfOk result (λ apdu. apdu ≡ invoke_apdu operation.now id.now linked argument.now) }
+        ensures { IfOk result (λ apdu. apdu ≡ invoke_apdu operation.now id linked argument.now) }
     {
         Ok(Apdu::Invoke {
-            id: *id,
+            id,
             linked,
             code: operation.code.copy(self.alloc)?,
             argument: argument.copy(self.alloc)?,
         })
+    }
+
+    /// The APDU of the next invocation.
+    fn next_apdu(
+        &self,
+        operation: &Operation,
+        linked: Option<i64>,
+        argument: &Option<Val>,
+    ) -> Result<Apdu, NoMemory>
+        ensures { IfOk result (λ apdu. apdu ≡ invoke_apdu operation.now (next_id (body self.now)) linked argument.now) }
+    {
+        let id = self.next_id();
+        self.invoke_apdu(operation, id, linked, argument)
     }
 
     /// Why there is no room or no number for one more invocation of an operation.
@@ -130,8 +143,7 @@ impl<'t> End<'t> {
         if !operation.argument.carries(&self.tables.types, argument) {
             return Ok(Checked::Refused(CallRefusal::NotTyped));
         }
-        let id = self.next_id();
-        let apdu = self.invoke_apdu(operation, &id, linked, argument)?;
+        let apdu = self.next_apdu(operation, linked, argument)?;
         let short = self.short_text(&apdu);
         drop(apdu);
         let Some(text) = short? else {
