@@ -298,11 +298,10 @@ pub invoke_full : (e : EndView) (operation : Operation) (argument : Option Val) 
 invoke_full e operation argument linked apdu found r carried same short numbered is =
     let go : Reply = Ok (Some (next_id (body e))) in
     let ladder : Reply = if not (is_silent operation) && nat_le 4096 (length (opens_of true e.calls.opens)) then Err refusals.TooManyOpen else (if nat_le 2147483647 e.calls.made then Err refusals.NumbersSpent else go) in
-    let h = subst (λ (f : Option CallRefusal). IsNumbered e.calls operation f ladder go) is (numbered go) in
-    (
+    let h = subst (λ (f : Option CallRefusal). IsNumbered e.calls operation f ladder go) is (numbered go) in (
       ap (λ (b : Bool). if not b then Err refusals.NotTyped else (if is_too_long (base e) (invoke_apdu operation (next_id (body e)) linked argument) then Err refusals.TooLong else ladder)) carried
-      ∙ ap (λ (b : Bool). if b then Err refusals.TooLong else ladder) (ap (is_too_long (base e)) (sym same) ∙ short)
-      ∙ h.0,
+          ∙ ap (λ (b : Bool). if b then Err refusals.TooLong else ladder) (ap (is_too_long (base e)) (sym same) ∙ short)
+          ∙ h.0,
       h.1,
     )
 
