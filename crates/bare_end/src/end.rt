@@ -95,8 +95,8 @@ impl<'t> End<'t> {
         self.phase
     }
 
-    /// Whether the end holds the turn: it was the initiator's at first and in bare mode stays there,
-    /// and an end that isn't up holds none.
+    /// Whether the end holds the turn: it was the initiator's at first and in bare mode stays
+    /// there, and an end that isn't up holds none.
     pub fn holds_turn(&self) -> bool
         ensures { result ≡ holds_turn (body self.now) }
     {

@@ -50,8 +50,8 @@ impl Invocations {
         }
     }
 
-    /// The operation of an open invocation of this end (own), or of its peer, as a place in the table
-    /// of operations.
+    /// The operation of an open invocation of this end (own), or of its peer, as a place in the
+    /// table of operations.
     pub fn operation(&self, own: bool, id: &i64) -> Option<u32>
         ensures { result ≡ operation_in (opened_with own id.now self.now.opens) }
     {
