@@ -8,3 +8,4 @@ pub mod Answering
 pub mod Closing
 pub mod Only
 pub mod Asked
+pub mod CheckClosing

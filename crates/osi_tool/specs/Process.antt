@@ -1,10 +1,12 @@
 -- The program as a process: arguments in, the number of its status out.
-use Rattle.std.specs.Prelude.{ℕ, ◌≡◌, List, [], Option, map, drop, string_bytes}
+use Rattle.std.specs.Prelude.{ℕ, ◌≡◌, List, [], Option, None, Some, map, drop, string_bytes}
 use Rattle.osi_base.specs.Outside.{FileMap}
 use Rattle.osi_base.specs.declared.words.Status.{Status}
 use Rattle.osi_tool.specs.declared.process.Arguments.{Arguments}
 use Rattle.osi_tool.specs.declared.process.Arguments.TheVariants.{Given, NotText, Unread}
 use Rattle.osi_tool.specs.Statuses.{exit_code}
+use Rattle.module_check.specs.Command.{Check, check_of}
+use Rattle.osi_tool.specs.Checking.{CheckCloses}
 use Rattle.osi_tool.specs.TopCall.{Closes}
 
 -- the words that arguments give: all but the first, which is the program's name; none where one is no text
@@ -13,8 +15,15 @@ words_given (Given arguments) = map (λ argument. string_bytes argument) (drop 1
 words_given NotText = []
 words_given Unread = []
 
+-- A check ends as a check does, and other words as other words do.
+pub data RunCloses (told : Option FileMap) (old new : ℕ) (words : List (List ℕ)) (sink_old sink_new : ℕ) (before after : Option (List ℕ)) (status : Status) : Type 0 where
+  of_check : (check : Check) → check_of words ≡ Some check → CheckCloses told old new check sink_old sink_new before after status
+      → RunCloses told old new words sink_old sink_new before after status
+  of_others : check_of words ≡ None → Closes told old new words sink_old sink_new before after status
+      → RunCloses told old new words sink_old sink_new before after status
+
 -- The process ends with the number of the status with which the top call ends for these words.
 pub record Exits (told : Option FileMap) (old new : ℕ) (words : List (List ℕ)) (sink_old sink_new : ℕ) (before after : Option (List ℕ)) (code : ℕ) : Type 0 where
   pub status : Status
-  pub closes : Closes told old new words sink_old sink_new before after status
+  pub closes : RunCloses told old new words sink_old sink_new before after status
   pub code_is : code ≡ exit_code status

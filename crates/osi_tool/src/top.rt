@@ -5,12 +5,16 @@ ghost use Rattle.osi_base.specs.Outside.{Rose, IsCalm};
 ghost use Rattle.osi_tool.specs.Answers.{KeepsCount};
 ghost use Rattle.osi_tool.specs.Commands.{command_of};
 ghost use Rattle.osi_tool.specs.Preparing.{Asks, AskedBy};
+ghost use Rattle.module_check.specs.Command.{check_of};
+ghost use Rattle.osi_tool.specs.Checking.{CheckCloses, SaysOfCheck, CheckAsks, CheckIsSure};
 ghost use Rattle.osi_tool.specs.TopCall.{IsAnswer, Closes, IsDone, IsUsage, IsUnread, IsOtherModule, IsBadScript, IsBegun, IsUnless, IsSure, CountsFiles, CountsWrites, due_status};
 
 use crate::answers::{Answer, conclude, done};
+use crate::checking::run_check;
 use crate::known::one_tables;
 use crate::preparing::{Prepared, prepare};
 use crate::replaying::replay;
+use module_check::check_command;
 use osi_base::{Files, Line, NoMemory, Sink, Status, Words};
 use std::alloc::Global;
 
@@ -43,12 +47,21 @@ fn run_words<F: Files, O: Sink>(alloc: Global, words: &Words, files: &mut F, out
     conclude(out, answer_words(alloc, words, files))
 }
 
-/// Runs the program with these words. The one command so far is `replay MODULE SCHEDULE`: it
-/// reads both files, runs the schedule over two ends of the module and writes the transcript's
-/// text, once the run is whole. Each other answer is a status with a text of its own, and
-/// nothing else is written:
+/// Runs the program with these words. The commands so far are `check MODULE [--table]` and
+/// `replay MODULE SCHEDULE`.
 ///
-/// - `Usage`: the words aren't this command.
+/// A check reads the module, a text or a table file, and writes the listing of its operations and
+/// errors, or with `--table` its table file. Its status is `Done`, or
+///
+/// - `ReadFault`: the module isn't read.
+/// - `ModuleRefused`: it has no tables; the line written says where, and of which kind its first
+///   fault is.
+///
+/// A replay reads both files, runs the schedule over two ends of the module and writes the
+/// transcript's text, once the run is whole. Each other answer is a status with a text of its own,
+/// and nothing else is written:
+///
+/// - `Usage`: the words are no command.
 /// - `ReadFault`: a file isn't read.
 /// - `ModuleRefused`: the module's text isn't that of the one module that is known.
 /// - `ScriptRefused`: a line of the schedule breaks its grammar.
@@ -57,7 +70,7 @@ fn run_words<F: Files, O: Sink>(alloc: Global, words: &Words, files: &mut F, out
 ///
 /// The words come first, then the module, the schedule and the run: the first fault decides. A
 /// file that isn't due isn't asked for, and neither a read nor a write that failed is tried again.
-/// The line isn't used by `replay`.
+/// The line isn't used by either.
 pub fn osi_run<F: Files, O: Sink, L: Line>(
     alloc: Global,
     words: &Words,
@@ -69,28 +82,37 @@ pub fn osi_run<F: Files, O: Sink, L: Line>(
     ensures contents { F.told files.new ≡ F.told files.old }
     ensures sink { O.faults out.old ≤ O.faults out.new }
     ensures line { line.new ≡ line.old }
-    ensures asked { Asks (F.told files.old) (F.faults files.old) (F.faults files.new) (F.asked files.old) (F.asked files.new) (command_of words.now) }
-    ensures asked_for { AskedBy (command_of words.now) (F.asked files.old) (F.asked files.new) result }
-    ensures files_count { CountsFiles (F.told files.old) (F.faults files.old) (F.faults files.new) words.now (O.told out.old) (O.told out.new) result }
+    ensures asked { check_of words.now ≡ None → Asks (F.told files.old) (F.faults files.old) (F.faults files.new) (F.asked files.old) (F.asked files.new) (command_of words.now) }
+    ensures asked_for { check_of words.now ≡ None → AskedBy (command_of words.now) (F.asked files.old) (F.asked files.new) result }
+    ensures files_count { check_of words.now ≡ None → CountsFiles (F.told files.old) (F.faults files.old) (F.faults files.new) words.now (O.told out.old) (O.told out.new) result }
     ensures sink_count { CountsWrites (O.faults out.old) (O.faults out.new) result }
 
-    // The whole of it, of which all that follows is said again in parts
-    ensures closes { Closes (F.told files.old) (F.faults files.old) (F.faults files.new) words.now (O.faults out.old) (O.faults out.new) (O.told out.old) (O.told out.new) result }
+    // A check: the whole of it, and what each status says and when it comes
+    ensures check_closes { IfSome (check_of words.now) (λ check. CheckCloses (F.told files.old) (F.faults files.old) (F.faults files.new) check (O.faults out.old) (O.faults out.new) (O.told out.old) (O.told out.new) result) }
+    ensures check_says { IfSome (check_of words.now) (λ check. SaysOfCheck (F.told files.old) (F.faults files.old) (F.faults files.new) check (O.faults out.old) (O.faults out.new) (O.told out.old) (O.told out.new) result) }
+    ensures check_asks { IfSome (check_of words.now) (λ check. CheckAsks check (F.asked files.old) (F.asked files.new)) }
+    ensures check_complete { IfSome (check_of words.now) (λ check. CheckIsSure (F.told files.old) (F.faults files.old) (F.faults files.new) check (O.faults out.old) (O.faults out.new) → (result ≡ Status.Done) ⊎ (result ≡ Status.NoMemory)) }
+
+    // Other words: the whole of it, of which all that follows is said again in parts
+    ensures closes { check_of words.now ≡ None → Closes (F.told files.old) (F.faults files.old) (F.faults files.new) words.now (O.faults out.old) (O.faults out.new) (O.told out.old) (O.told out.new) result }
 
     // What each status says
-    ensures done { result ≡ Status.Done → IsDone (F.told files.old) (F.faults files.old) (F.faults files.new) words.now (O.told out.old) (O.told out.new) }
-    ensures usage { result ≡ Status.Usage → IsUsage words.now (O.told out.old) (O.told out.new) }
-    ensures read_fault { result ≡ Status.ReadFault → IsUnread (F.told files.old) (F.faults files.old) (F.faults files.new) words.now (O.told out.old) (O.told out.new) }
-    ensures module_refused { result ≡ Status.ModuleRefused → IsOtherModule (F.told files.old) (F.faults files.old) (F.faults files.new) words.now (O.told out.old) (O.told out.new) }
-    ensures script_refused { result ≡ Status.ScriptRefused → IsBadScript (F.told files.old) (F.faults files.old) (F.faults files.new) words.now (O.told out.old) (O.told out.new) }
-    ensures write_fault { result ≡ Status.WriteFault → Rose (O.faults out.old) (O.faults out.new) × IsBegun (F.told files.old) (F.faults files.old) (F.faults files.new) words.now (O.told out.old) (O.told out.new) }
-    ensures no_memory { result ≡ Status.NoMemory → (O.told out.new ≡ O.told out.old) ⊎ IsBegun (F.told files.old) (F.faults files.old) (F.faults files.new) words.now (O.told out.old) (O.told out.new) }
-    ensures no_other { (result ≢ Status.LineFault) × (result ≢ Status.Ended) × (result ≢ Status.Spent) }
+    ensures done { check_of words.now ≡ None → (result ≡ Status.Done → IsDone (F.told files.old) (F.faults files.old) (F.faults files.new) words.now (O.told out.old) (O.told out.new)) }
+    ensures usage { check_of words.now ≡ None → (result ≡ Status.Usage → IsUsage words.now (O.told out.old) (O.told out.new)) }
+    ensures read_fault { check_of words.now ≡ None → (result ≡ Status.ReadFault → IsUnread (F.told files.old) (F.faults files.old) (F.faults files.new) words.now (O.told out.old) (O.told out.new)) }
+    ensures module_refused { check_of words.now ≡ None → (result ≡ Status.ModuleRefused → IsOtherModule (F.told files.old) (F.faults files.old) (F.faults files.new) words.now (O.told out.old) (O.told out.new)) }
+    ensures script_refused { check_of words.now ≡ None → (result ≡ Status.ScriptRefused → IsBadScript (F.told files.old) (F.faults files.old) (F.faults files.new) words.now (O.told out.old) (O.told out.new)) }
+    ensures write_fault { check_of words.now ≡ None → (result ≡ Status.WriteFault → Rose (O.faults out.old) (O.faults out.new) × IsBegun (F.told files.old) (F.faults files.old) (F.faults files.new) words.now (O.told out.old) (O.told out.new)) }
+    ensures no_memory { check_of words.now ≡ None → (result ≡ Status.NoMemory → (O.told out.new ≡ O.told out.old) ⊎ IsBegun (F.told files.old) (F.faults files.old) (F.faults files.new) words.now (O.told out.old) (O.told out.new)) }
+    ensures no_other { check_of words.now ≡ None → ((result ≢ Status.LineFault) × (result ≢ Status.Ended) × (result ≢ Status.Spent)) }
 
     // When each status comes
-    ensures no_command { command_of words.now ≡ None → IsUnless (O.faults out.old) (O.faults out.new) Status.Usage result }
-    ensures due { IfSome (F.told files.old) (λ map. IsCalm (F.faults files.old) (F.faults files.new) → IsUnless (O.faults out.old) (O.faults out.new) (due_status map (command_of words.now)) result) }
-    ensures complete { IsSure (F.told files.old) (F.faults files.old) (F.faults files.new) words.now (O.faults out.old) (O.faults out.new) → (result ≡ Status.Done) ⊎ (result ≡ Status.NoMemory) }
+    ensures no_command { check_of words.now ≡ None → (command_of words.now ≡ None → IsUnless (O.faults out.old) (O.faults out.new) Status.Usage result) }
+    ensures due { check_of words.now ≡ None → (IfSome (F.told files.old) (λ map. IsCalm (F.faults files.old) (F.faults files.new) → IsUnless (O.faults out.old) (O.faults out.new) (due_status map (command_of words.now)) result)) }
+    ensures complete { check_of words.now ≡ None → (IsSure (F.told files.old) (F.faults files.old) (F.faults files.new) words.now (O.faults out.old) (O.faults out.new) → (result ≡ Status.Done) ⊎ (result ≡ Status.NoMemory)) }
 {
-    run_words(alloc, words, files, out)
+    match check_command(words) {
+        Some(check) => run_check(alloc, check, files, out),
+        None => run_words(alloc, words, files, out),
+    }
 }

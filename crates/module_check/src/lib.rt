@@ -1,0 +1,11 @@
+//! The check of a module: its tables shown as a listing or as a table file, or why it is refused.
+#![tactic(auto)]
+
+mod checking;
+mod command;
+mod kinds;
+mod reading;
+
+pub use checking::{Checked, checked};
+pub use command::{Check, check_command};
+pub use reading::{ModuleFault, Refused, module_tables};

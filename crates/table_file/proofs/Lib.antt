@@ -1,0 +1,6 @@
+pub mod Folding
+pub mod Seen
+pub mod Sizes
+pub mod Places
+pub mod OwnCodes
+pub mod RowsPut

@@ -1,0 +1,20 @@
+//! Table files: the tables of a module as octets, in the packed syntax of one value.
+#![tactic(auto)]
+
+mod fault;
+mod field_types;
+mod fields;
+mod known;
+mod loading;
+mod migrating;
+mod putting;
+mod row_parts;
+mod rows;
+mod sections;
+mod spot;
+mod storing;
+
+pub use fault::LoadFault;
+pub use loading::{MOST_OCTETS, load};
+pub use migrating::migrate;
+pub use storing::store;

@@ -1,0 +1,6 @@
+//! The listing of a module's operations and errors.
+#![tactic(auto)]
+
+mod lines;
+
+pub use lines::listing;
