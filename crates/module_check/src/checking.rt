@@ -51,7 +51,7 @@ fn shown(alloc: Global, tables: &Tables, table: bool) -> Result<Octets, NoMemory
 /// # Errors
 ///
 /// Where memory is refused.
-pub fn checked(alloc: Global, bytes: &[u8], table: bool) -> Result<Checked, NoMemory>
+pub fn check_module(alloc: Global, bytes: &[u8], table: bool) -> Result<Checked, NoMemory>
     ensures { IfOk result (λ written. IsChecked table bytes.now written) }
 {
     match module_tables(alloc, bytes) {

@@ -6,6 +6,6 @@ mod command;
 mod kinds;
 mod reading;
 
-pub use checking::{Checked, checked};
+pub use checking::{Checked, check_module};
 pub use command::{Check, check_command};
 pub use reading::{ModuleFault, Refused, module_tables};

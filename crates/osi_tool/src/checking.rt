@@ -8,7 +8,7 @@ ghost use Rattle.osi_tool.specs.Checking.{ChecksTo, ChecksBytes, CheckCloses, Ch
 
 use crate::answers::{Answer, cannot_read, conclude, done};
 use crate::preparing::read_file;
-use module_check::{Check, Checked, checked};
+use module_check::{Check, Checked, check_module};
 use osi_base::{Files, NoMemory, Sink, Status};
 use std::alloc::Global;
 
@@ -29,7 +29,7 @@ fn checked_answer(checked: Checked) -> Answer
 fn answer_bytes(alloc: Global, bytes: &[u8], table: bool) -> Result<Answer, NoMemory>
     ensures { IfOk result (λ answer. ChecksBytes table bytes.now answer) }
 {
-    let checked = checked(alloc, bytes, table)?;
+    let checked = check_module(alloc, bytes, table)?;
     Ok(checked_answer(checked))
 }
 

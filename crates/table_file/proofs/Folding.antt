@@ -29,8 +29,8 @@ module _ {A : Type 0} (step : ℕ → A → Spot → Reading (A × Spot)) where
   fold_fails : (n i : ℕ) (a : A) (s : Spot) (e : Stop) → i < n → Fails e (step n a s) → Fails e (fold_at (step n) (n - i) a s)
   fold_fails n i a s e lt h =
       fails_as e (fold_at (step n) (n - i) a s) (step n a s >>= λ x. fold_at (step n) (n - (i + 1)) x.0 x.1)
-        (ap (λ (k : ℕ). fold_at (step n) k a s) (less n i lt) ∙ fold_suc n (n - (i + 1)) a s)
-        (fails_first e (step n a s) (λ x. fold_at (step n) (n - (i + 1)) x.0 x.1) h)
+      (ap (λ (k : ℕ). fold_at (step n) k a s) (less n i lt) ∙ fold_suc n (n - (i + 1)) a s)
+      (fails_first e (step n a s) (λ x. fold_at (step n) (n - (i + 1)) x.0 x.1) h)
 
   fold_zero : (m : ℕ) (a : A) (s : Spot) → fold_at (step m) zero a s ≡ Ok (a, s)
   unfolding fold_at

@@ -4,3 +4,4 @@ pub mod Sizes
 pub mod Places
 pub mod OwnCodes
 pub mod RowsPut
+pub mod Limits

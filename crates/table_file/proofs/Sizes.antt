@@ -15,11 +15,11 @@ use Rattle.table_file.specs.FieldTypes.{field_types}
 
 unpadded_few : (os : List ℕ) → length (unpadded os) ≤ length os
 unpadded_few [] = omega arith
-unpadded_few (o ∷ os) = by (is_padded (o ∷ os))
+unpadded_few (o ∷ os) = by (unpadded_few os) (is_padded (o ∷ os))
   where
-    by : (b : Bool) → length (if b then unpadded os else o ∷ os) ≤ length (o ∷ os)
-    by true = omega (arith, unpadded_few os)
-    by false = omega arith
+    by : length (unpadded os) ≤ length os → (b : Bool) → length (if b then unpadded os else o ∷ os) ≤ length (o ∷ os)
+    by h true = omega arith
+    by h false = omega arith
 
 integer_few : (z : ℤ) → length (integer_octets z) ≤ 8
 unfolding integer_octets
@@ -31,11 +31,11 @@ integer_room types z is = subst (λ (t : List TypeRow). length (packed t 0 (inte
 
 without_few : (ds : List ℕ) → length (without_zeros ds) ≤ length ds
 without_few [] = omega arith
-without_few (d ∷ ds) = by (nat_eq d 128)
+without_few (d ∷ ds) = by (without_few ds) (nat_eq d 128)
   where
-    by : (b : Bool) → length (if b then without_zeros ds else d ∷ ds) ≤ length (d ∷ ds)
-    by true = omega (arith, without_few ds)
-    by false = omega arith
+    by : length (without_zeros ds) ≤ length ds → (b : Bool) → length (if b then without_zeros ds else d ∷ ds) ≤ length (d ∷ ds)
+    by h true = omega arith
+    by h false = omega arith
 
 base_few : (n : ℕ) → length (base_128 n) ≤ 5
 unfolding base_128

@@ -78,8 +78,14 @@ fn contents<'a>(
     let (types, behind_types) = rows(alloc, fields, version, behind_oid)?;
     let mut names = Names::new(alloc);
     let (errors, behind_errors) = errors(alloc, fields, &types, &mut names, behind_types)?;
-    let (operations, after) =
-        operations(alloc, fields, &types, &errors, &mut names, behind_errors)?;
+    let (operations, after) = operations(
+        alloc,
+        fields,
+        &types,
+        &errors,
+        &mut names,
+        behind_errors,
+    )?;
     let tables = Tables {
         name,
         name_oid,

@@ -38,12 +38,7 @@ pub(crate) fn put_truth(out: &mut Octets, truth: bool) -> Result<(), NoMemory>
 }
 
 /// Puts the packed spelling of a value, which has at most 200 octets.
-fn put_value(
-    types: &TypeTable,
-    of: TypeId,
-    value: &Val,
-    out: &mut Octets,
-) -> Result<(), NoMemory>
+fn put_value(types: &TypeTable, of: TypeId, value: &Val, out: &mut Octets) -> Result<(), NoMemory>
     requires { length (packed types.now of.0 value.now) ≤ 200 }
     ensures { OnOk result (out.new ≡ out.old ++ packed types.now of.0 value.now) }
 {
@@ -54,11 +49,7 @@ fn put_value(
 
 /// Puts an INTEGER.
 #[tactic(auto, unfolding(packed_codec::specs::Writing::packed))]
-pub(crate) fn put_integer(
-    types: &TypeTable,
-    number: i64,
-    out: &mut Octets,
-) -> Result<(), NoMemory>
+pub(crate) fn put_integer(types: &TypeTable, number: i64, out: &mut Octets) -> Result<(), NoMemory>
     requires { types.now ≡ field_types }
     ensures { OnOk result (out.new ≡ out.old ++ integer_file number) }
 {

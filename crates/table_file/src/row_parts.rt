@@ -60,10 +60,7 @@ pub(crate) fn row_number<'a>(
 }
 
 /// One more behind those so far, if all are sound.
-fn joined<T: Drop>(
-    before: Option<ListOf<T>>,
-    one: Option<T>,
-) -> Result<Option<ListOf<T>>, NoMemory>
+fn joined<T: Drop>(before: Option<ListOf<T>>, one: Option<T>) -> Result<Option<ListOf<T>>, NoMemory>
     ensures { IfOk result (λ all. all ≡ found.joined before one) }
 {
     match (before, one) {

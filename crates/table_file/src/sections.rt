@@ -20,11 +20,7 @@ use stub_tables::{Code, ErrorRow, ErrorRows, Operation, Operations, Use};
 
 /// A code.
 #[tactic(auto, unfolding(crate::specs::Sections::code_at))]
-fn code<'a>(
-    alloc: Global,
-    fields: &TypeTable,
-    spot: Spot<'a>,
-) -> Result<(Code, Spot<'a>), Stop>
+fn code<'a>(alloc: Global, fields: &TypeTable, spot: Spot<'a>) -> Result<(Code, Spot<'a>), Stop>
     requires { fields.now ≡ field_types }
     ensures { Gives (λ x. (x.0, spot_of x.1)) result (found.code_at (spot_of spot.entry)) }
 {
@@ -262,7 +258,10 @@ fn operation<'a>(
     let (linked, after) = indices(alloc, fields, operations as usize, behind_errors)?;
     let uses = both(argument, outcome);
     let places = both(errors, linked);
-    Ok((operation_of(name, code, uses, returns, always, places), after))
+    Ok((
+        operation_of(name, code, uses, returns, always, places),
+        after,
+    ))
 }
 
 /// Puts an operation behind the others, if its name and its code are its own.

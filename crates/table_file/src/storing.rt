@@ -58,11 +58,7 @@ fn put_items(fields: &TypeTable, items: &[Item], out: &mut Octets) -> Result<(),
     Ok(())
 }
 
-fn put_default(
-    fields: &TypeTable,
-    default: Option<i64>,
-    out: &mut Octets,
-) -> Result<(), NoMemory>
+fn put_default(fields: &TypeTable, default: Option<i64>, out: &mut Octets) -> Result<(), NoMemory>
     requires { fields.now ≡ field_types }
     ensures { OnOk result (out.new ≡ out.old ++ maybe_file integer_file default) }
 {

@@ -35,7 +35,7 @@ unfoldable pub error_line : ErrorRow → List ℕ
 error_line e = codes "error " ++ e.name ++ codes " " ++ code_text e.code ++ codes " parameter " ++ use_word e.parameter ++ 10 ∷ []
 
 unfoldable pub count_line : ℕ → ℕ → List ℕ
-count_line operations errors = codes "checked " ++ decimal operations ++ codes " operations " ++ decimal errors ++ codes " errors" ++ 10 ∷ []
+count_line operations errors = codes "checked " ++ (decimal operations ++ codes " operations ") ++ (decimal errors ++ codes " errors") ++ 10 ∷ []
 
 -- a line for each operation, then one for each error, and how many there are
 unfoldable pub listing_of : Tables → List ℕ

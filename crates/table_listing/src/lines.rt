@@ -103,16 +103,22 @@ fn put_errors(text: &mut Text, errors: &[ErrorRow]) -> Result<(), NoMemory>
     Ok(())
 }
 
+/// A number, and words behind it.
+fn put_count(text: &mut Text, number: usize, words: &str) -> Result<(), NoMemory>
+    ensures { OnOk result (text.new ≡ text.old ++ (decimal number ++ words.now)) }
+{
+    text.put_number(number as u64)?;
+    text.put(words)
+}
+
 /// The last line: how many operations and errors there are.
 #[tactic(auto, unfolding(crate::specs::Listing::count_line))]
 fn put_counts(text: &mut Text, operations: usize, errors: usize) -> Result<(), NoMemory>
     ensures { OnOk result (text.new ≡ text.old ++ count_line operations errors) }
 {
     text.put("checked ")?;
-    text.put_number(operations as u64)?;
-    text.put(" operations ")?;
-    text.put_number(errors as u64)?;
-    text.put(" errors")?;
+    put_count(text, operations, " operations ")?;
+    put_count(text, errors, " errors")?;
     text.end_line()
 }
 

@@ -19,7 +19,7 @@ loop-index-preserved c =
 
 pub returns-in_err-more : goal.returns-in_err-more
 returns-in_err-more c =
-    let p = err_from_is_err_and c.from_residual.result c.from_residual.ensures.1 in
+    let p = err_from_is_err_and c.from_residual-in_err-more.result c.from_residual-in_err-more.ensures.1 in
     rw (p.1, p.2) (goes_wrong (λ n. joins (index_at c.args.most)) (Some []) (spot_of c.args.spot) c.in_ok-number.number c.loop-index._index c.loop-index.all (spot_of c.loop-index.spot) _ c.loop-index.invariant c.loop-index-test.true c.in_err-more.ensures)
 
 pub returns : goal.returns
