@@ -10,7 +10,9 @@ use Rattle.module_check.specs.declared.checking.Checked.{Checked}
 use Rattle.module_check.specs.declared.checking.Checked.TheVariants.{Shown, Refused}
 use Rattle.osi_tool.specs.declared.answers.Answer.{Answer}
 use Rattle.osi_tool.specs.Answers.{KeepsCount, Ends, whole, failed, no_memory}
+use Rattle.osi_tool.specs.TopCall.{CountsWrites}
 use Rattle.osi_tool.specs.Preparing.{WasRead}
+use Rattle.osi_tool.proofs.Endings.{counts_writes}
 use Rattle.osi_tool.specs.Checking.{checked_answer, ChecksBytes, ChecksTo, unread, read, CheckCloses, answered, no_room, CheckIsDone, CheckIsRefused, CheckIsUnread, CheckIsBegun, SaysOfCheck, CheckIsSure}
 
 module _ (told : Option FileMap) (old new : ℕ) (check : Check) where
@@ -48,6 +50,10 @@ module _ (told : Option FileMap) (old new : ℕ) (check : Check) (sink_old sink_
   says _ (answered answer status is counts ends) = says_ended answer status is counts ends
   says _ (no_room kept calm same) = inl same
 
+  pub counts : (status : Status) → CheckCloses told old new check sink_old sink_new before after status → CountsWrites sink_old sink_new status
+  counts _ (answered answer status is kept ends) = counts_writes sink_old sink_new before after answer status ends
+  counts _ (no_room kept calm same) = inr calm
+
   -- ---- what comes for a module that has tables
 
   same_bytes : (name a b : List ℕ) → Holds told name a → WasRead told old new name (Some b) → a ≡ b
@@ -84,3 +90,13 @@ module _ (told : Option FileMap) (old new : ℕ) (check : Check) (sink_old sink_
 
   pub complete : (status : Status) → CheckCloses told old new check sink_old sink_new before after status → CheckIsSure told old new check sink_old sink_new → (status ≡ Done) ⊎ (status ≡ NoMemory)
   complete status closes sure = complete_by status (says status closes) sure
+
+-- what holds of the one, and of none
+pub some_if : {A : Type 0} (o : Option A) (P : A → Type 0) (a : A) → o ≡ Some a → P a → IfSome o P
+some_if o P a e p = subst (λ (x : Option A). IfSome x P) (sym e) p
+
+pub none_if : {A : Type 0} (o : Option A) (P : A → Type 0) → o ≡ None → IfSome o P
+none_if o P e = subst (λ (x : Option A). IfSome x P) (sym e) tt
+
+pub never : {A : Type 0} (o : Option A) (a : A) (P : Type 0) → o ≡ Some a → o ≡ None → P
+never o a P e h = let f : Some a ≡ None = sym e ∙ h in absurd cc
