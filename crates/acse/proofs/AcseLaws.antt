@@ -14,6 +14,8 @@ use Rattle.asn1_types.specs.Fits.{fits, fits_by, nothing_fits, values_fit, is_nu
 use Rattle.asn1_types.specs.Value.{Value, integer, bits, object_id}
 use Rattle.asn1_types.specs.ValueView.{values_of}
 use Rattle.asn1_types.specs.Whole.{is_whole}
+use Rattle.asn1_types.specs.Writing.{written}
+use Rattle.asn1_types.specs.Rising.{is_short}
 use Rattle.ber_spelling.specs.Octets.{AreOctets}
 use Rattle.ber_spelling.proofs.Wholes.{whole_is}
 use Rattle.ber_spelling.proofs.Written.{written_spelled}
@@ -69,7 +71,7 @@ below_fits : (high n : ℕ) → high < 256 → nat_lt n (high + 1) ≡ true → 
 below_fits high n small h = let lt = ltb-true n (high + 1) h in natural_fits high n (omega arith) (omega arith)
 
 -- items of user information, as far down the table as they stand in an APDU
-users_fit : (es : List externals.External) → list_all can_carry es ≡ true → values_fit (along nothing_fits fits_by acse_rows 26 9) (values_of (map external_value es)) ≡ true
+users_fit : (es : List externals.External) → list_all can_carry es ≡ true → values_fit (along nothing_fits (fits_by is_short (written acse_rows)) acse_rows 26 9) (values_of (map external_value es)) ≡ true
 users_fit [] h = refl
 users_fit (e ∷ es) h =
     let p = and_parts (can_carry e) (list_all can_carry es) h in

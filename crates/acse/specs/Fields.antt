@@ -8,7 +8,7 @@ use Rattle.asn1_types.specs.Rows.{same_class}
 use Rattle.asn1_types.specs.Limits.{most_levels}
 use Rattle.asn1_types.specs.Value.{Value, chosen}
 use Rattle.ber_spelling.specs.declared.spot.Scope.{Scope}
-use Rattle.ber_spelling.specs.declared.spot.Tag as tags
+use Rattle.asn1_types.specs.declared.row.Tag as tags
 use Rattle.ber_spelling.specs.Reading.{Spot, Opened, Reading, ◌>>=◌, refuse}
 use Rattle.fixed_tables.specs.declared.pdu.PduFault as units
 use Rattle.passed_fields.specs.declared.field.Field as known

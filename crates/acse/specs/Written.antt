@@ -10,7 +10,7 @@ use Rattle.osi_base.specs.declared.acse_word.Acse.TheVariants as apdu
 use Rattle.asn1_types.specs.Fits.{is_number, bits_fit, object_id_fits}
 use Rattle.asn1_types.specs.Value.{bits, object_id}
 use Rattle.asn1_types.specs.Whole.{is_whole}
-use Rattle.ber_spelling.specs.Writing.{written}
+use Rattle.asn1_types.specs.Writing.{written}
 use Rattle.acse.specs.Rows.{acse_row, acse_rows}
 use Rattle.acse.specs.Words.{value_of}
 

@@ -5,7 +5,7 @@ use Rattle.std.proofs.lemmas.Bool.Decides.{nat_tests}
 use Rattle.agreement.specs.Sets.{Role, other, parity, Pair, ContextSet, Item, Result, Fits, changed, altered, lookup, IsRising, AreDistinct, identifier_of, identifiers, Saved, below, next_number}
 use Rattle.agreement.specs.Sets.Role.{Initiator, Responder}
 use Rattle.agreement.specs.Sets.Item.{Addition, Deletion}
-use Rattle.agreement.specs.Sets.Result.{Rejected, Accepted, AcceptedAs}
+use Rattle.agreement.specs.Sets.Result.{Rejected, AcceptedAs, Accepted, Kept}
 use Rattle.agreement.specs.Takings.{OnFirst, altered_first, later}
 use Rattle.agreement.proofs.Order.{put-put, put-remove, remove-remove, rising-put, rising-remove}
 use Rattle.agreement.proofs.Names.{AllUntouched, AreUntouched, later-untouched, later-all_untouched, lookup-altered}
@@ -94,25 +94,33 @@ changed-changed : (i j : Item) (r q : Result) (set : ContextSet) → IsApart i j
 changed-changed (Addition i o) (Addition j u) (AcceptedAs p) (AcceptedAs s) set a h = put-put i j p s set a h
 changed-changed (Addition i o) (Addition j u) (AcceptedAs p) Rejected set a h = refl
 changed-changed (Addition i o) (Addition j u) (AcceptedAs p) Accepted set a h = refl
+changed-changed (Addition i o) (Addition j u) (AcceptedAs p) Kept set a h = refl
 changed-changed (Addition i o) (Deletion j) (AcceptedAs p) Accepted set a h = put-remove i j p set a h
+changed-changed (Addition i o) (Deletion j) (AcceptedAs p) Kept set a h = refl
 changed-changed (Addition i o) (Deletion j) (AcceptedAs p) Rejected set a h = refl
 changed-changed (Addition i o) (Deletion j) (AcceptedAs p) (AcceptedAs s) set a h = refl
 changed-changed (Addition i o) j Rejected q set a h = refl
 changed-changed (Addition i o) j Accepted q set a h = refl
+changed-changed (Addition i o) j Kept q set a h = refl
 changed-changed (Deletion i) (Addition j u) Accepted (AcceptedAs s) set a h = sym (put-remove j i s set (λ e. a (sym e)) h)
 changed-changed (Deletion i) (Addition j u) Accepted Rejected set a h = refl
 changed-changed (Deletion i) (Addition j u) Accepted Accepted set a h = refl
+changed-changed (Deletion i) (Addition j u) Accepted Kept set a h = refl
 changed-changed (Deletion i) (Deletion j) Accepted Accepted set a h = remove-remove i j set h
+changed-changed (Deletion i) (Deletion j) Accepted Kept set a h = refl
 changed-changed (Deletion i) (Deletion j) Accepted Rejected set a h = refl
 changed-changed (Deletion i) (Deletion j) Accepted (AcceptedAs s) set a h = refl
 changed-changed (Deletion i) j Rejected q set a h = refl
+changed-changed (Deletion i) j Kept q set a h = refl
 changed-changed (Deletion i) j (AcceptedAs p) q set a h = refl
 
 rising-changed : (i : Item) (r : Result) (set : ContextSet) → IsRising set → IsRising (changed i r set)
 rising-changed (Addition k o) (AcceptedAs p) set h = rising-put k p set h
 rising-changed (Addition k o) Rejected set h = h
 rising-changed (Addition k o) Accepted set h = h
+rising-changed (Addition k o) Kept set h = h
 rising-changed (Deletion k) Accepted set h = rising-remove k set h
+rising-changed (Deletion k) Kept set h = h
 rising-changed (Deletion k) Rejected set h = h
 rising-changed (Deletion k) (AcceptedAs p) set h = h
 
@@ -134,18 +142,22 @@ altered-altered (x ∷ xs) (r ∷ rs) ys qs set a h =
     ap (altered xs rs) (changed-altered x r ys qs set a.0 h) ∙ altered-altered xs rs ys qs (changed x r set) a.1 (rising-changed x r set h)
 
 -- all items rejected: nothing changes
+rejection : Item → Result
+rejection (Addition k offers) = Rejected
+rejection (Deletion k) = Kept
+
 pub rejections : List Item → List Result
 rejections [] = []
-rejections (item ∷ items) = Rejected ∷ rejections items
+rejections (item ∷ items) = rejection item ∷ rejections items
 
 pub rejections-fit : (items : List Item) → Fits items (rejections items)
-unfolding rejections
+unfolding rejections rejection
 rejections-fit [] = tt
 rejections-fit (Addition k o ∷ items) = (tt, rejections-fit items)
 rejections-fit (Deletion k ∷ items) = (tt, rejections-fit items)
 
 pub rejections-altered : (items : List Item) (set : ContextSet) → altered items (rejections items) set ≡ set
-unfolding rejections
+unfolding rejections rejection
 rejections-altered [] set = refl
 rejections-altered (Addition k o ∷ items) set = rejections-altered items set
 rejections-altered (Deletion k ∷ items) set = rejections-altered items set

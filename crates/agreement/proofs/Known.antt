@@ -4,7 +4,7 @@ use Rattle.std.specs.Prelude.{Option, Some, None}
 use Rattle.agreement.specs.Sets.{Role, Pair, ContextSet, Item, Result, put, remove, changed, altered, IsKnown, AreKnown, IsKnownSet, Saved, below, newest}
 use Rattle.agreement.specs.Sets.Role.{Initiator, Responder}
 use Rattle.agreement.specs.Sets.Item.{Addition, Deletion}
-use Rattle.agreement.specs.Sets.Result.{Rejected, Accepted, AcceptedAs}
+use Rattle.agreement.specs.Sets.Result.{Rejected, AcceptedAs, Accepted, Kept}
 use Rattle.agreement.specs.Messages.{Value, Mode, Setup, Message, Act, Choice}
 use Rattle.agreement.specs.Messages.Mode.{Bare, Direct, Reliable}
 use Rattle.agreement.specs.Messages.Act.{Connects, Recovers, Says, Queues, Drops, Alters, Marks, Gives, Pleads, Restarts, Starts, Encodes, Sends, Ends, Interrupts, Discards, Resumes, Releases, Aborts, Withdraws, Fails}
@@ -39,7 +39,9 @@ known-altered knows (item ∷ items) (result ∷ results) set r h = known-altere
     go (Addition k offers) (AcceptedAs p) e = known-put knows k p set e h
     go (Addition k offers) Rejected e = h
     go (Addition k offers) Accepted e = h
+    go (Addition k offers) Kept e = h
     go (Deletion k) Accepted e = known-remove knows k set h
+    go (Deletion k) Kept e = h
     go (Deletion k) Rejected e = h
     go (Deletion k) (AcceptedAs p) e = h
 

@@ -4,7 +4,7 @@ use Rattle.std.proofs.lemmas.Bool.Decides.{nat_tests}
 use Rattle.std.proofs.Common.{arith}
 use Rattle.agreement.specs.Sets.{ContextSet, Item, Result, changed, altered, lookup, AreDistinct, is_among, identifier_of, identifiers, named}
 use Rattle.agreement.specs.Sets.Item.{Addition, Deletion}
-use Rattle.agreement.specs.Sets.Result.{Rejected, Accepted, AcceptedAs}
+use Rattle.agreement.specs.Sets.Result.{Rejected, AcceptedAs, Accepted, Kept}
 use Rattle.agreement.specs.Takings.{later}
 use Rattle.agreement.proofs.Order.{lookup-put_other, lookup-remove_other}
 
@@ -126,7 +126,9 @@ lookup-changed : (i : Item) (r : Result) (k : ℕ) (set : ContextSet) → (ident
 lookup-changed (Addition j o) (AcceptedAs p) k set n = lookup-put_other k j p set (λ e. n (sym e))
 lookup-changed (Addition j o) Rejected k set n = refl
 lookup-changed (Addition j o) Accepted k set n = refl
+lookup-changed (Addition j o) Kept k set n = refl
 lookup-changed (Deletion j) Accepted k set n = lookup-remove_other k j set (λ e. n (sym e))
+lookup-changed (Deletion j) Kept k set n = refl
 lookup-changed (Deletion j) Rejected k set n = refl
 lookup-changed (Deletion j) (AcceptedAs p) k set n = refl
 

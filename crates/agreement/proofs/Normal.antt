@@ -5,7 +5,7 @@ use Rattle.std.proofs.lemmas.Bool.Decides.{nat_tests}
 use Rattle.agreement.specs.Sets.{Role, other, parity, Pair, ContextSet, Item, Result, Fits, changed, altered, lookup, remove, IsRising, AreDistinct, identifiers, named, is_among, Saved, below, newest, next_number, is_initiator}
 use Rattle.agreement.specs.Sets.Role.{Initiator, Responder}
 use Rattle.agreement.specs.Sets.Item.{Addition, Deletion}
-use Rattle.agreement.specs.Sets.Result.{Rejected, Accepted, AcceptedAs}
+use Rattle.agreement.specs.Sets.Result.{Rejected, AcceptedAs, Accepted, Kept}
 use Rattle.agreement.specs.Takings.{altered_first, later}
 use Rattle.agreement.proofs.Order.{lookup-put_other, by_test}
 use Rattle.agreement.proofs.Flights.{Entry, IsSound, AreSound, AllApart, Reads, asked, unanswered, Paced, turn_after, saved_after, IsStill, rising-altered, reads-settled, reads-same, sound-shared, push-value, push-answer, push-ask, push-mark, push-plain, asks-apart, ask-more, unanswered-more, unanswered-untouched, unanswered-all_untouched, no-answers, asked-append, unanswered-append, paced-holder, paced-append, turn-append, saved-append, below-after, next-after}
@@ -217,7 +217,9 @@ absent-changed role set k (Addition j o) (AcceptedAs p) held e h n =
     lookup-put_other k j p held (λ x. parities role (sym e ∙ ap (λ y. y % 2) x ∙ h.0)) ∙ n
 absent-changed role set k (Addition j o) Rejected held e h n = n
 absent-changed role set k (Addition j o) Accepted held e h n = n
+absent-changed role set k (Addition j o) Kept held e h n = n
 absent-changed role set k (Deletion j) Accepted held e h n = absent-removed k j held n
+absent-changed role set k (Deletion j) Kept held e h n = n
 absent-changed role set k (Deletion j) Rejected held e h n = n
 absent-changed role set k (Deletion j) (AcceptedAs p) held e h n = n
 

@@ -5,7 +5,7 @@ use Rattle.std.proofs.lemmas.Bool.{eqb-false}
 use Rattle.std.proofs.lemmas.Bool.Decides.{nat_tests}
 use Rattle.agreement.specs.Sets.{Role, ContextSet, Item, Result, Saved, changed, altered, lookup, is_among, identifier_of, identifiers, below, newest}
 use Rattle.agreement.specs.Sets.Item.{Addition, Deletion}
-use Rattle.agreement.specs.Sets.Result.{Rejected, Accepted, AcceptedAs}
+use Rattle.agreement.specs.Sets.Result.{Rejected, AcceptedAs, Accepted, Kept}
 use Rattle.agreement.specs.Messages.{Value, Mode, Setup, Message, Act, Choice}
 use Rattle.agreement.specs.Messages.Mode.{Bare, Direct, Reliable}
 use Rattle.agreement.specs.Messages.Act.{Connects, Recovers, Says, Queues, Drops, Alters, Marks, Gives, Pleads, Restarts, Starts, Encodes, Sends, Ends, Interrupts, Discards, Resumes, Releases, Aborts, Withdraws, Fails}
@@ -64,7 +64,9 @@ changed-other : (k : ℕ) (item : Item) (result : Result) (set : ContextSet) →
 changed-other k (Addition j offers) (AcceptedAs p) set n = lookup-put_other k j p set n
 changed-other k (Addition j offers) Rejected set n = refl
 changed-other k (Addition j offers) Accepted set n = refl
+changed-other k (Addition j offers) Kept set n = refl
 changed-other k (Deletion j) Accepted set n = lookup-remove_other k j set n
+changed-other k (Deletion j) Kept set n = refl
 changed-other k (Deletion j) Rejected set n = refl
 changed-other k (Deletion j) (AcceptedAs p) set n = refl
 

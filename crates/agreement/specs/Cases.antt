@@ -3,7 +3,7 @@ use Rattle.std.specs.Prelude.{◌≡◌, ℕ, zero, suc, Bool, true, false, nat_
 use Rattle.agreement.specs.Sets.{Pair, Context, ContextSet, Role, lookup}
 use Rattle.agreement.specs.Sets.Role.{Initiator, Responder}
 use Rattle.agreement.specs.Sets.Item.{Addition, Deletion}
-use Rattle.agreement.specs.Sets.Result.{Rejected, Accepted, AcceptedAs}
+use Rattle.agreement.specs.Sets.Result.{AcceptedAs, Accepted, Kept}
 use Rattle.agreement.specs.Messages.{Apdu, Problem, Calls, Value, Mode, Setup, Message, Act, Choice}
 use Rattle.agreement.specs.Messages.Problem.{General, OfInvocation, OfResult, OfError}
 use Rattle.agreement.specs.Messages.Apdu.{Invoke, Outcome, Reject}
@@ -168,7 +168,7 @@ collision =
 abbrev pub use_rejected : List Event
 use_rejected =
     opening ++ Does Responder (Says (invocation 1 in_ber)) ∷ Does Initiator (Alters (Deletion 5 ∷ [])) ∷
-    Gets Responder (Results (Rejected ∷ [])) ∷ Gets Initiator Nothing ∷ Gets Initiator Nothing ∷ []
+    Gets Responder (Results (Kept ∷ [])) ∷ Gets Initiator Nothing ∷ Gets Initiator Nothing ∷ []
 
 abbrev pub marked_once : List Event
 marked_once = opening ++ Does Initiator Marks ∷ Gets Responder Nothing ∷ []

@@ -61,18 +61,22 @@ pub data Item : Type 0 where
   Addition : (identifier : ℕ) → (offers : List Pair) → Item
   Deletion : (identifier : ℕ) → Item
 
--- its result: an addition is accepted with one of its pairs, a deletion as it is (X.226 8.4.3)
+-- its result: an addition is rejected, or accepted with one of its pairs; a deletion is accepted, or its context is
+-- kept (X.226 8.4.3)
 pub data Result : Type 0 where
   Rejected : Result
-  Accepted : Result
   AcceptedAs : (pair : Pair) → Result
+  Accepted : Result
+  Kept : Result
 
 -- a set after one item with its result
 abbrev pub changed : Item → Result → ContextSet → ContextSet
 changed (Addition k offers) (AcceptedAs p) set = put k p set
 changed (Addition k offers) Rejected set = set
 changed (Addition k offers) Accepted set = set
+changed (Addition k offers) Kept set = set
 changed (Deletion k) Accepted set = remove k set
+changed (Deletion k) Kept set = set
 changed (Deletion k) Rejected set = set
 changed (Deletion k) (AcceptedAs p) set = set
 
@@ -83,10 +87,13 @@ altered (item ∷ items) [] set = set
 altered (item ∷ items) (result ∷ results) set = altered items results (changed item result set)
 
 abbrev pub FitsItem : Item → Result → Type 0
-FitsItem item Rejected = Unit {0}
+FitsItem (Addition k offers) Rejected = Unit {0}
 FitsItem (Addition k offers) (AcceptedAs p) = Contains offers p
 FitsItem (Addition k offers) Accepted = ⊥
+FitsItem (Addition k offers) Kept = ⊥
 FitsItem (Deletion k) Accepted = Unit {0}
+FitsItem (Deletion k) Kept = Unit {0}
+FitsItem (Deletion k) Rejected = ⊥
 FitsItem (Deletion k) (AcceptedAs p) = ⊥
 
 -- the results answer the items, one for one, in their order (X.226 8.4.3)
@@ -100,6 +107,7 @@ Fits (item ∷ items) (result ∷ results) = FitsItem item result × Fits items 
 abbrev pub IsKnown : (List ℕ → Bool) → Result → Type 0
 IsKnown knows Rejected = Unit {0}
 IsKnown knows Accepted = Unit {0}
+IsKnown knows Kept = Unit {0}
 IsKnown knows (AcceptedAs p) = knows p.transfer_syntax ≡ true
 
 abbrev pub AreKnown : (List ℕ → Bool) → List Result → Type 0

@@ -5,7 +5,7 @@ ghost use Rattle.std.specs.Option.{option_map, option_copied};
 ghost use Rattle.apdu_spelling.specs.Heads as heads;
 ghost use Rattle.apdu_spelling.specs.Heads.{or_none};
 ghost use Rattle.apdu_spelling.specs.Rows.{head_rows, apdu_row, packed_apdu_row};
-ghost use Rattle.ber_spelling.specs.Writing.{written};
+ghost use Rattle.asn1_types.specs.Writing.{written};
 ghost use Rattle.apdu_spelling.specs.Writing.{written_value, written_typed, written_carried, written_head, outcome_of, written_apdu};
 ghost use Rattle.packed_codec.specs.Writing.{packed};
 ghost use Rattle.stub_tables.specs.Apdus.{argument_of, result_of, parameter_of, operation_coded, error_coded};

@@ -16,8 +16,8 @@ use Rattle.asn1_types.specs.Rows.{along}
 use Rattle.asn1_types.specs.Table.{IsSound}
 use Rattle.asn1_types.specs.Value.{Value, integer, parts, any, MaybeValues, no_parts, absent, present}
 use Rattle.asn1_types.specs.Whole.{is_whole}
-use Rattle.ber_spelling.specs.declared.spot.Tag as tags
-use Rattle.ber_spelling.specs.Writing.{Writer, parts_contents, write_by, nothing_written, writes, written, definite}
+use Rattle.asn1_types.specs.declared.row.Tag as tags
+use Rattle.asn1_types.specs.Writing.{Writer, parts_contents, write_by, nothing_written, writes, written, definite}
 use Rattle.ber_spelling.proofs.WrittenFields.{contents_short}
 use Rattle.ber_spelling.proofs.Written.{written_spelled as value_spelled}
 use Rattle.ber_spelling.proofs.Wholes.{whole_is}

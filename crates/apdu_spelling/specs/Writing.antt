@@ -7,7 +7,7 @@ use Rattle.asn1_types.specs.declared.value.Val.{Val}
 use Rattle.asn1_types.specs.declared.table.TypeTable.{TypeTable}
 use Rattle.asn1_types.specs.declared.row.TypeId.{TypeId}
 use Rattle.asn1_types.specs.Fits.{is_number, fits}
-use Rattle.ber_spelling.specs.Writing.{written}
+use Rattle.asn1_types.specs.Writing.{written}
 use Rattle.asn1_types.specs.Limits.{most_items}
 use Rattle.packed_codec.specs.Writing.{packed, items}
 use Rattle.packed_codec.specs.Laws.{packs}

@@ -5,4 +5,4 @@ mod head;
 mod laws;
 
 pub use head::{ApduHead, ApduKind};
-pub use laws::{one_apdu, one_head, written_apdu_is_spelled};
+pub use laws::{heads_have_identifiers, one_apdu, one_head, written_apdu_is_spelled};

@@ -7,7 +7,7 @@ use Rattle.std.proofs.lemmas.Option.{slice_get_within}
 use Rattle.std.proofs.lemmas.Bool.{ltb-true, ltb-false}
 use Rattle.asn1_types.specs.declared.row.Part.{Part}
 use Rattle.asn1_types.specs.declared.row.TypeRow.{TypeRow}
-use Rattle.asn1_types.specs.declared.row.TypeRow.TheVariants.{Boolean, Integer, Enumerated, Null, OctetString, BitString, ObjectId, Text, Sequence, Set, SequenceOf, Choice, Tagged, Any}
+use Rattle.asn1_types.specs.declared.row.TypeRow.TheVariants.{Boolean, Integer, Enumerated, Null, OctetString, BitString, ObjectId, Text, Sequence, Set, SequenceOf, SetOf, Choice, Tagged, Any}
 use Rattle.asn1_types.specs.declared.refusal.RowRefusal.{RowRefusal}
 use Rattle.asn1_types.specs.Rows.{names_of, rows_of_parts, greatest, nesting_by, nesting, Opening, every, meets, openings_by, openings}
 use Rattle.asn1_types.specs.Limits.{most_levels}
@@ -73,6 +73,7 @@ openings_cong (Text kind) f g h = refl
 openings_cong (Sequence parts) f g h = refl
 openings_cong (Set parts) f g h = refl
 openings_cong (SequenceOf inner) f g h = refl
+openings_cong (SetOf inner) f g h = refl
 openings_cong (Choice parts) f g h = flat_parts parts f g h
 openings_cong (Tagged class number explicit inner) f g h = refl
 openings_cong Any f g h = refl
@@ -146,6 +147,7 @@ clash_by_cong (Text kind) f g h = refl
 clash_by_cong (Sequence parts) f g h = sequence_cong f g parts h
 clash_by_cong (Set parts) f g h = later_cong f g parts h
 clash_by_cong (SequenceOf inner) f g h = refl
+clash_by_cong (SetOf inner) f g h = refl
 clash_by_cong (Choice parts) f g h = later_cong f g parts h
 clash_by_cong (Tagged class number explicit inner) f g h = refl
 clash_by_cong Any f g h = refl
@@ -216,6 +218,7 @@ row_opens f (Text kind) e h = refl
 row_opens f (Sequence parts) e h = refl
 row_opens f (Set parts) e h = refl
 row_opens f (SequenceOf inner) e h = refl
+row_opens f (SetOf inner) e h = refl
 row_opens f (Choice parts) e h = parts_open f parts e h
 row_opens f (Tagged class number explicit inner) e h = refl
 row_opens f Any e h = refl
@@ -265,6 +268,7 @@ default_cong (Text kind) f g h = refl
 default_cong (Sequence parts) f g h = refl
 default_cong (Set parts) f g h = refl
 default_cong (SequenceOf inner) f g h = refl
+default_cong (SetOf inner) f g h = refl
 default_cong (Choice parts) f g h = refl
 default_cong (Tagged class number explicit inner) f g h = h.0
 default_cong Any f g h = refl

@@ -14,6 +14,8 @@ use Rattle.asn1_types.specs.Limits.{number_bits}
 use Rattle.asn1_types.specs.Rows.{along}
 use Rattle.asn1_types.specs.Defaults.{is_item, may_be_absent, is_default}
 use Rattle.asn1_types.specs.Whole.{is_whole}
+use Rattle.asn1_types.specs.Writing.{written}
+use Rattle.asn1_types.specs.Rising.{is_short, any_length, set_rises}
 
 -- numbers have 64 bits, one of them the sign's
 abbrev pub is_number : ℤ → Bool
@@ -128,25 +130,31 @@ abbrev pub any_fits : Value → Bool
 any_fits (any os) = is_whole os
 any_fits v = false
 
-abbrev pub fits_by : (ℕ → Value → Bool) → TypeRow → Value → Bool
-fits_by inner row.Boolean v = boolean_fits v
-fits_by inner (row.Integer low high) v = integer_fits low high v
-fits_by inner (row.Enumerated items) v = enumerated_fits items v
-fits_by inner row.Null v = null_fits v
-fits_by inner (row.OctetString most) v = octets_fit most v
-fits_by inner row.BitString v = bits_fit v
-fits_by inner row.ObjectId v = object_id_fits v
-fits_by inner (row.Text kind) v = text_fits kind v
-fits_by inner (row.Sequence ps) v = sequence_fits (parts_fit inner ps) v
-fits_by inner (row.Set ps) v = sequence_fits (parts_fit inner ps) v
-fits_by inner (row.SequenceOf of) v = list_fits (inner of.0) v
-fits_by inner (row.Choice ps) v = choice_fits (λ which. alternative_fits inner (slice_get ps which)) v
-fits_by inner (row.Tagged class number explicit of) v = inner of.0 v
-fits_by inner row.Any v = any_fits v
+-- from how values of the rows are spelled in DER, of which lengths they may be in a SET OF, and which fit them
+abbrev pub fits_by : (ℕ → Bool) → (ℕ → Value → List ℕ) → (ℕ → Value → Bool) → TypeRow → Value → Bool
+fits_by short spell inner row.Boolean v = boolean_fits v
+fits_by short spell inner (row.Integer low high) v = integer_fits low high v
+fits_by short spell inner (row.Enumerated items) v = enumerated_fits items v
+fits_by short spell inner row.Null v = null_fits v
+fits_by short spell inner (row.OctetString most) v = octets_fit most v
+fits_by short spell inner row.BitString v = bits_fit v
+fits_by short spell inner row.ObjectId v = object_id_fits v
+fits_by short spell inner (row.Text kind) v = text_fits kind v
+fits_by short spell inner (row.Sequence ps) v = sequence_fits (parts_fit inner ps) v
+fits_by short spell inner (row.Set ps) v = sequence_fits (parts_fit inner ps) v
+fits_by short spell inner (row.SequenceOf of) v = list_fits (inner of.0) v
+fits_by short spell inner (row.SetOf of) v = list_fits (inner of.0) v && set_rises short (spell of.0) v
+fits_by short spell inner (row.Choice ps) v = choice_fits (λ which. alternative_fits inner (slice_get ps which)) v
+fits_by short spell inner (row.Tagged class number explicit of) v = inner of.0 v
+fits_by short spell inner row.Any v = any_fits v
 
 abbrev pub nothing_fits : Value → Bool
 nothing_fits v = false
 
 -- a value fits row n of a table
 unfoldable pub fits : List TypeRow → ℕ → Value → Bool
-fits rows n = along nothing_fits fits_by rows (length rows) n
+fits rows n = along nothing_fits (fits_by is_short (written rows)) rows (length rows) n
+
+-- as values fit, but that items of a SET OF may be of any length
+unfoldable pub has_form : List TypeRow → ℕ → Value → Bool
+has_form rows n v = along nothing_fits (fits_by any_length (written rows)) rows (length rows) n v

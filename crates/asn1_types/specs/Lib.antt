@@ -8,4 +8,7 @@ pub mod Defaults
 pub mod Table
 pub mod Inside
 pub mod Whole
+pub mod Tags
+pub mod Writing
+pub mod Rising
 pub mod Fits

@@ -9,6 +9,10 @@ most_levels = 32
 abbrev pub most_octets : ℕ
 most_octets = 262144
 
+-- octets of each spelling of a value that fits
+abbrev pub most_spelled : ℕ
+most_spelled = 4294967295
+
 -- items of the lists of one value in the packed syntax, together
 abbrev pub most_items : ℕ
 most_items = 131072

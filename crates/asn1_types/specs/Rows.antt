@@ -7,7 +7,7 @@ use Rattle.asn1_types.specs.declared.row.Class.TheVariants.{Universal, Applicati
 use Rattle.asn1_types.specs.declared.row.TextKind.{TextKind}
 use Rattle.asn1_types.specs.declared.row.TextKind.TheVariants.{Utf8, Ia5, Visible, Printable, Numeric}
 use Rattle.asn1_types.specs.declared.row.TypeRow.{TypeRow}
-use Rattle.asn1_types.specs.declared.row.TypeRow.TheVariants.{Boolean, Integer, Enumerated, Null, OctetString, BitString, ObjectId, Text, Sequence, Set, SequenceOf, Choice, Tagged, Any}
+use Rattle.asn1_types.specs.declared.row.TypeRow.TheVariants.{Boolean, Integer, Enumerated, Null, OctetString, BitString, ObjectId, Text, Sequence, Set, SequenceOf, SetOf, Choice, Tagged, Any}
 
 abbrev pub of_row : {A : Type 0} → A → (TypeRow → A) → Option TypeRow → A
 of_row none rule None = none
@@ -35,6 +35,7 @@ names_of (Text kind) = []
 names_of (Sequence parts) = rows_of_parts parts
 names_of (Set parts) = rows_of_parts parts
 names_of (SequenceOf inner) = inner.0 ∷ []
+names_of (SetOf inner) = inner.0 ∷ []
 names_of (Choice parts) = rows_of_parts parts
 names_of (Tagged class number explicit inner) = inner.0 ∷ []
 names_of Any = []
@@ -75,6 +76,7 @@ openings_by inner (Text kind) = tag Universal (text_number kind) ∷ []
 openings_by inner (Sequence parts) = tag Universal 16 ∷ []
 openings_by inner (SequenceOf of) = tag Universal 16 ∷ []
 openings_by inner (Set parts) = tag Universal 17 ∷ []
+openings_by inner (SetOf of) = tag Universal 17 ∷ []
 openings_by inner (Choice parts) = flat_map (λ (p : Part). inner p.inner.0) parts
 openings_by inner (Tagged class number explicit of) = tag class number ∷ []
 openings_by inner Any = every ∷ []

@@ -5,7 +5,6 @@
 mod check;
 mod clash;
 mod defaults;
-mod fitting;
 mod nesting;
 mod opening;
 mod refusal;
@@ -16,11 +15,10 @@ mod value;
 mod whole;
 
 pub use defaults::{has_default_value, may_be_absent};
-pub use fitting::fits;
 pub use opening::{begins, is_no_tag, same_class, text_number};
 pub use refusal::RowRefusal;
-pub use row::{Class, Item, Named, Part, Parts, TextKind, TypeId, TypeRow};
+pub use row::{Class, Item, Named, Part, Parts, Tag, TextKind, TypeId, TypeRow};
 pub use table::TypeTable;
-pub use text::{are_bits, is_item, is_text};
+pub use text::{are_bits, are_octets, is_item, is_text};
 pub use value::{MaybeVals, Node, Val, Vals};
 pub use whole::is_whole;

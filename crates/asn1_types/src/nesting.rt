@@ -15,7 +15,7 @@ pub(crate) fn first_missing(count: usize, row: &TypeRow) -> Option<u32>
         TypeRow::Sequence(parts) => missing_part(count, parts.as_slice()),
         TypeRow::Set(parts) => missing_part(count, parts.as_slice()),
         TypeRow::Choice(parts) => missing_part(count, parts.as_slice()),
-        TypeRow::SequenceOf(inner) => missing(count, inner.0),
+        TypeRow::SequenceOf(inner) | TypeRow::SetOf(inner) => missing(count, inner.0),
         TypeRow::Tagged { inner, .. } => missing(count, inner.0),
         _ => None,
     }
@@ -51,7 +51,7 @@ pub(crate) fn nesting_of(nestings: &[u32], row: &TypeRow) -> u64
         TypeRow::Sequence(parts) => greatest_part(nestings, parts.as_slice()),
         TypeRow::Set(parts) => greatest_part(nestings, parts.as_slice()),
         TypeRow::Choice(parts) => greatest_part(nestings, parts.as_slice()),
-        TypeRow::SequenceOf(inner) => nestings[inner.0 as usize],
+        TypeRow::SequenceOf(inner) | TypeRow::SetOf(inner) => nestings[inner.0 as usize],
         TypeRow::Tagged { inner, .. } => nestings[inner.0 as usize],
         _ => 0,
     };

@@ -82,7 +82,7 @@ fn opens_row(table: &TypeTable, of: TypeId, row: &TypeRow, class: Class, number:
         TypeRow::Enumerated(_) => 10,
         TypeRow::Text(kind) => text_number(*kind),
         TypeRow::Sequence(_) | TypeRow::SequenceOf(_) => 16,
-        TypeRow::Set(_) => 17,
+        TypeRow::Set(_) | TypeRow::SetOf(_) => 17,
     };
     is_tag(class, number, Class::Universal, own)
 }
@@ -133,7 +133,7 @@ fn meets_row(table: &TypeTable, a: TypeId, row: &TypeRow, b: TypeId) -> bool
         TypeRow::Enumerated(_) => 10,
         TypeRow::Text(kind) => text_number(*kind),
         TypeRow::Sequence(_) | TypeRow::SequenceOf(_) => 16,
-        TypeRow::Set(_) => 17,
+        TypeRow::Set(_) | TypeRow::SetOf(_) => 17,
     };
     opens(table, b, Class::Universal, own as u64)
 }

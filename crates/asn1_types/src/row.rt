@@ -57,6 +57,13 @@ pub enum Class {
     Private,
 }
 
+/// A tag.
+#[derive(Clone, Copy)]
+pub struct Tag {
+    pub class: Class,
+    pub number: u32,
+}
+
 /// A type. It names the types that it is made of by their rows.
 #[derive(Debug, Drop)]
 pub enum TypeRow {
@@ -87,6 +94,8 @@ pub enum TypeRow {
     Set(Parts),
     /// SEQUENCE OF.
     SequenceOf(TypeId),
+    /// SET OF.
+    SetOf(TypeId),
     /// CHOICE.
     Choice(Parts),
     /// A type with a tag of its own, around the inner type's (explicit) or in its place. Over an

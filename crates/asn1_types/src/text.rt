@@ -21,7 +21,7 @@ pub fn is_item(items: &[Item], number: i64) -> bool
 }
 
 /// Octets have 8 bits.
-pub(crate) fn are_octets(octets: &[u8]) -> bool
+pub fn are_octets(octets: &[u8]) -> bool
     ensures { result ≡ list_all is_octet octets.now }
 {
     true

@@ -1,5 +1,5 @@
 pub use Rattle.ber_spelling.specs.Reading
 pub use Rattle.ber_spelling.specs.Rules
 pub use Rattle.ber_spelling.specs.Spelling
-pub use Rattle.ber_spelling.specs.Writing
+pub use Rattle.asn1_types.specs.Writing
 pub use Rattle.ber_reading.specs.Calls

@@ -14,7 +14,7 @@ use Rattle.asn1_types.specs.Table.{IsSound}
 use Rattle.asn1_types.specs.Value.{Value, integer, chosen}
 use Rattle.asn1_types.proofs.Sound.{openings_at}
 use Rattle.asn1_types.specs.Defaults.{may_be_absent, is_default, kept}
-use Rattle.ber_spelling.specs.declared.spot.Tag as tags
+use Rattle.asn1_types.specs.declared.row.Tag as tags
 use Rattle.ber_spelling.proofs.Identifiers.{bind_ok, ok_is}
 use Rattle.ber_spelling.proofs.Steady.{judge_is, form_passes}
 use Rattle.ber_spelling.specs.declared.spot.Scope.{Scope}

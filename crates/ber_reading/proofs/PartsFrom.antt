@@ -10,7 +10,7 @@ use Rattle.asn1_types.specs.declared.row.Part.{Part}
 use Rattle.asn1_types.specs.Defaults.{may_be_absent, kept}
 use Rattle.ber_spelling.specs.declared.fault.ReadFault.{ReadFault}
 use Rattle.ber_spelling.specs.declared.spot.Scope.{Scope}
-use Rattle.ber_spelling.specs.declared.spot.Tag as tags
+use Rattle.asn1_types.specs.declared.row.Tag as tags
 use Rattle.ber_spelling.specs.Reading.{Spot, Opened, Ahead, ended, begun, Reading, ◌>>=◌, Fails, refuse}
 use Rattle.ber_spelling.specs.Fields.{look_at, extent_at}
 use Rattle.ber_spelling.specs.Rules.{Reader, part_at, parts_at, present_at, last_of, close_at, expect_at, sequence_at, bare}

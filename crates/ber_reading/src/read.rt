@@ -1,15 +1,17 @@
 //! Reading values, row by row.
 
-ghost use Rattle.std.specs.Prelude.{◌≡◌, false, true, ◌+◌, ◌≤◌, ◌<◌, ◌^◌, [], length, Some, None, slice_get, slice_set, IfOk, List};
+ghost use Rattle.std.specs.Prelude.{◌≡◌, false, true, ◌++◌, ◌∷◌, ◌+◌, ◌≤◌, ◌<◌, ◌^◌, [], length, Some, None, slice_get, slice_set, IfOk, List};
 ghost use Rattle.std.specs.List.{AllByRecursion};
 ghost use Rattle.asn1_types.specs.Rows.{begins, rows_of_parts, names_of};
 ghost use Rattle.asn1_types.specs.Defaults.{may_be_absent, kept};
 ghost use Rattle.asn1_types.specs.Table.{IsSound};
 ghost use Rattle.asn1_types.specs.Value as tree;
+ghost use Rattle.asn1_types.specs.Writing.{written};
+ghost use Rattle.asn1_types.specs.Rising.{sorted};
 ghost use Rattle.asn1_types.specs.ValueView.{values_of, parts_of};
+ghost use Rattle.asn1_types.specs.Tags.{rank};
 ghost use Rattle.ber_spelling.specs.Reading.{begun, Opens, Gives, Fails, spot_of, opened_of, GoesOn};
-ghost use Rattle.ber_spelling.specs.Rules.{open_at, close_at, all_items_at, list_item_at, list_done, list_at, sequence_at, choice_at, any_at, explicit_at, or_explicit, tagged_at, read_by, reads, no_parts_of, nothing_filled, is_free, stands, is_filled, kept_of, settled, set_done, bare, under, late_kind, late_at, ordered_at, fill_at, slot_at, set_at};
-ghost use Rattle.ber_spelling.specs.Order.{rank};
+ghost use Rattle.ber_spelling.specs.Rules.{open_at, close_at, all_items_at, list_item_at, list_done, list_at, set_item_at, set_of_done, set_of_at, sequence_at, choice_at, any_at, explicit_at, or_explicit, tagged_at, read_by, reads, no_parts_of, nothing_filled, is_free, stands, is_filled, kept_of, settled, set_done, bare, under, late_kind, late_at, ordered_at, fill_at, slot_at, set_at};
 ghost use Rattle.ber_reading.specs.Parts.{absent_at, found_at, part_from, parts_from};
 
 use crate::at_once::{integer_ahead, parts_at_once, reach};
@@ -21,6 +23,7 @@ use ber_spelling::{
     Ahead, Opened, ReadFault, Scope, Spot, Tag, bit_string, boolean, enumerated, expect, extent,
     integer, look, null, object_id, octet_string, rank, refusal, tag_or, text, whole_value,
 };
+use ber_writing::{follows_last, in_order};
 use osi_base::{Kind, NoMemory, Octets};
 use std::alloc::Global;
 
@@ -140,7 +143,7 @@ fn value_as<'a>(
     requires sound { IsSound table.now }
     requires whole { spot.place + length spot.rest.now < 2 ^ 63 }
     requires start { GoesOn opened.now.start.place (length opened.now.start.rest.now) spot }
-    ensures gives { Gives (λ x. (x.0, spot_of x.1)) result (read_by (begins table.now) (reads table.now) row.now (under tag default) scope.now (opened_of opened.now) (spot_of spot.entry)) }
+    ensures gives { Gives (λ x. (x.0, spot_of x.1)) result (read_by (begins table.now) (written table.now) (reads table.now) row.now (under tag default) scope.now (opened_of opened.now) (spot_of spot.entry)) }
     ensures stops { IfOk result (λ x. GoesOn spot.entry.place (length spot.entry.rest.now) x.1) }
 {
     match row {
@@ -167,6 +170,10 @@ fn value_as<'a>(
         TypeRow::SequenceOf(inner) => {
             let tag = tag_or(tag, Class::Universal, 16);
             list(alloc, table, of, *inner, tag, scope, opened, spot)
+        }
+        TypeRow::SetOf(inner) => {
+            let tag = tag_or(tag, Class::Universal, 17);
+            set_of(alloc, table, of, *inner, tag, scope, opened, spot)
         }
         TypeRow::Integer { low, high } => {
             let tag = tag_or(tag, Class::Universal, 2);
@@ -300,6 +307,96 @@ fn items<'a>(
         }
     }
     Err(ReadFault::Short)
+}
+
+/// A SET OF, whose items stand in rising order whatever order they came in.
+#[cycle(reading)]
+#[inline(never)]
+fn set_of<'a>(
+    alloc: Global,
+    table: &TypeTable,
+    of: TypeId,
+    inner: TypeId,
+    tag: Tag,
+    scope: &Scope,
+    opened: &Opened<'a>,
+    spot: Spot<'a>,
+) -> Result<(Val, Spot<'a>), ReadFault>
+    requires below { inner.0 < of.0 }
+    requires row { of.0 ≤ length table.now }
+    requires whole { spot.place + length spot.rest.now < 2 ^ 63 }
+    ensures gives { Gives (λ x. (x.0, spot_of x.1)) result (set_of_at (written table.now inner.0) (reads table.now inner.0) tag scope.now (opened_of opened.now) (spot_of spot.entry)) }
+    ensures stops { IfOk result (λ x. GoesOn spot.entry.place (length spot.entry.rest.now) x.1) }
+{
+    expect(tag, true, opened)?;
+    let (inside, spot) = extent(scope, spot)?;
+    let (found, after) = set_items(alloc, table, of, inner, &inside, spot)?;
+    let sorted = in_order(alloc, table, inner, found)?;
+    Ok((
+        Val {
+            node: Node::List(sorted),
+        },
+        after,
+    ))
+}
+
+/// The items of a SET OF as they came, up to the end of its contents. In DER each stands behind the
+/// one before.
+#[cycle(reading)]
+fn set_items<'a>(
+    alloc: Global,
+    table: &TypeTable,
+    of: TypeId,
+    inner: TypeId,
+    scope: &Scope,
+    spot: Spot<'a>,
+) -> Result<(Vals, Spot<'a>), ReadFault>
+    requires below { inner.0 < of.0 }
+    requires row { of.0 ≤ length table.now }
+    requires whole { spot.place + length spot.rest.now < 2 ^ 63 }
+    ensures gives { Gives (λ x. (tree.list (values_of (sorted (written table.now inner.0) x.0.items)), spot_of x.1)) result (all_items_at (set_item_at (written table.now inner.0) (reads table.now inner.0)) (set_of_done (written table.now inner.0)) [] scope.now (spot_of spot.entry)) }
+    ensures stops { IfOk result (λ x. GoesOn spot.entry.place (length spot.entry.rest.now) x.1) }
+{
+    let mut found = Vec::new(alloc);
+    let mut spot = spot;
+    for _turn in 0..spot.rest.len() + 1 {
+        match look(scope, spot)? {
+            Ahead::Ended { after, .. } => return Ok((found, after)),
+            Ahead::Begun(opened, after) => {
+                let item = set_item(alloc, table, of, inner, &found, scope, &opened, after)?;
+                let (value, next) = item;
+                found.push(value)?;
+                spot = next;
+            }
+        }
+    }
+    Err(ReadFault::Short)
+}
+
+/// One item of a SET OF behind those that came. In DER it may not be less than the last of them.
+#[cycle(reading)]
+fn set_item<'a>(
+    alloc: Global,
+    table: &TypeTable,
+    of: TypeId,
+    inner: TypeId,
+    before: &[Val],
+    scope: &Scope,
+    opened: &Opened<'a>,
+    spot: Spot<'a>,
+) -> Result<(Val, Spot<'a>), ReadFault>
+    requires below { inner.0 < of.0 }
+    requires row { of.0 ≤ length table.now }
+    requires whole { spot.place + length spot.rest.now < 2 ^ 63 }
+    requires start { GoesOn opened.now.start.place (length opened.now.start.rest.now) spot }
+    ensures gives { Gives (λ x. (before.now ++ x.0 ∷ [], spot_of x.1)) result (set_item_at (written table.now inner.0) (reads table.now inner.0) before.now scope.now (opened_of opened.now) (spot_of spot.entry)) }
+    ensures stops { IfOk result (λ x. GoesOn spot.entry.place (length spot.entry.rest.now) x.1) }
+{
+    let (value, after) = value(alloc, table, inner, None, None, scope, opened, spot)?;
+    if scope.strict && !follows_last(alloc, table, inner, before, &value)? {
+        return Err(refusal(opened.start.place, Kind::Form));
+    }
+    Ok((value, after))
 }
 
 #[tactic(auto, unfolding(ber_spelling::specs::Rules::explicit_at))]

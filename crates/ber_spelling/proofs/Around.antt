@@ -1,7 +1,7 @@
 -- What stands around the contents of a spelling: other contents of the same length may stand there.
 use Rattle.std.proofs.Common.{◌≡◌, ℕ, Bool, true, false, List, [], ◌∷◌, ◌++◌, length, refl, sym, ap, ◌∙◌, subst, append_assoc, length-append, ◌⊎◌, inl, inr}
 use Rattle.std.proofs.lemmas.List.{append-nil}
-use Rattle.ber_spelling.specs.declared.spot.Tag as tags
+use Rattle.asn1_types.specs.declared.row.Tag as tags
 use Rattle.ber_spelling.specs.Octets.{AreOctets}
 use Rattle.ber_spelling.specs.Spelling.{IsLength, IsDefinite, IsIndefinite, IsPrimitive, IsConstructed}
 use Rattle.ber_spelling.proofs.Steady.{octets_left, octets_right}

@@ -5,7 +5,7 @@ use Rattle.std.proofs.Math.Nat.{pow-suc, div-add-mod}
 use Rattle.std.proofs.lemmas.Bool.{le-ltb, lt-ltb, ltb-true, ltb-false, ne_eqb}
 use Rattle.ber_spelling.specs.Fields.{number_from}
 use Rattle.ber_spelling.specs.Spelling.{AreDigits, low_bits, number_128, IsBase128}
-use Rattle.ber_spelling.specs.Writing.{high_digits, base_128, digits_256, base_256, natural_octets}
+use Rattle.asn1_types.specs.Writing.{high_digits, base_128, digits_256, base_256, natural_octets}
 use Rattle.ber_spelling.proofs.Identifiers.{digits_more}
 
 split_128 : (n : ℕ) → (128 * (n / 128) + n % 128 ≡ n) × (n % 128 < 128)

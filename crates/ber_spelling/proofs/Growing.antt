@@ -8,7 +8,8 @@ use Rattle.ber_spelling.specs.declared.fault.ReadFault.{ReadFault}
 use Rattle.ber_spelling.specs.declared.fault.ReadFault.TheVariants as faults
 use Rattle.ber_spelling.specs.declared.spot.Scope.{Scope}
 use Rattle.ber_spelling.specs.Reading.{Spot, Opened, Ahead, ended, begun, Reading, ◌>>=◌, is_past, within}
-use Rattle.ber_spelling.specs.Fields.{capped, digits_at, is_lax, high_at, identifier_at, number_from, announced_at, long_at, is_end, cut_off, lacking_from, sure_reach, definite_at, extent_at, contents_at, begin_at, second_zero_at, mark_at, look_at}
+use Rattle.ber_spelling.specs.Fields.{digits_at, is_lax, high_at, identifier_at, number_from, announced_at, long_at, is_end, cut_off, lacking_from, sure_reach, definite_at, extent_at, contents_at, begin_at, second_zero_at, mark_at, look_at}
+use Rattle.asn1_types.specs.Tags.{capped}
 
 abbrev pub grown : List ℕ → Spot → Spot
 grown more s = record { place = s.place; rest = s.rest ++ more }

@@ -10,18 +10,21 @@ use Rattle.asn1_types.specs.declared.row.TypeRow.TheVariants as row
 use Rattle.asn1_types.specs.Defaults.{may_be_absent}
 use Rattle.asn1_types.specs.Rows.{of_row, along, begins, text_number}
 use Rattle.asn1_types.specs.Value.{Value}
+use Rattle.asn1_types.specs.Rising.{behind_last}
 use Rattle.ber_spelling.specs.declared.spot.Scope.{Scope}
-use Rattle.ber_spelling.specs.declared.spot.Tag as tags
+use Rattle.asn1_types.specs.declared.row.Tag as tags
+use Rattle.asn1_types.specs.Tags.{tag_or}
 use Rattle.ber_spelling.specs.declared.spot.StringKind.TheVariants.{OfOctets, OfBits}
 use Rattle.ber_spelling.specs.Reading.{Spot, Opened, Ahead, ended, begun, Reading}
 use Rattle.ber_spelling.specs.Fields.{extent_at, look_at}
-use Rattle.ber_spelling.specs.Rules.{Reader, expect_at, first_of, last_of, open_at, close_at, explicit_at, present_at, part_at, parts_at, sequence_at, choice_at, whole_at, any_at, dead, or_explicit, all_items_at, slot_at, set_done, nothing_filled, read_by, tag_or, always, boolean_rule, is_strict_boolean, integer_rule, enumerated_rule, null_rule, object_id_rule, whole_octets, whole_text, whole_bits, has_zero_bits, Guise, bare, plain, under, is_other}
+use Rattle.ber_spelling.specs.Rules.{Reader, expect_at, first_of, last_of, open_at, close_at, explicit_at, present_at, part_at, parts_at, sequence_at, choice_at, whole_at, any_at, dead, or_explicit, all_items_at, slot_at, set_done, nothing_filled, read_by, always, boolean_rule, is_strict_boolean, integer_rule, enumerated_rule, null_rule, object_id_rule, whole_octets, whole_text, whole_bits, has_zero_bits, Guise, bare, plain, under, is_other, set_item_at, set_of_done, set_of_at}
 use Rattle.ber_spelling.proofs.Growing.{grown, grown_opened, grown_ahead, Grows, Grows-bind, Grows-same, Grows-cond, with_spot, with_opened, extent_grows, look_grows}
 use Rattle.ber_spelling.proofs.Steady.{Run}
 use Rattle.ber_spelling.proofs.Items.{GrowsRun, constructed_grows}
 use Rattle.ber_spelling.proofs.WholeReads.{whole_grows}
 use Rattle.ber_spelling.proofs.Sets.{set_grows}
-use Rattle.ber_spelling.proofs.Segments.{prim_grows, string_grows, list_grows}
+use Rattle.ber_spelling.proofs.Segments.{prim_grows, string_grows, list_grows, set_of_grows}
+use Rattle.asn1_types.specs.Writing.{written}
 
 first_grows : (a : Ahead) (more : List ℕ) → Grows (with_opened more) (first_of a) (first_of (grown_ahead more a))
 first_grows (ended place after) more = refl
@@ -125,27 +128,28 @@ or_grows run (Some t) h = explicit_grows run t h
 dead_grows : (t : Guise) → GrowsRun (dead t)
 dead_grows t = record { grows = λ scope o s more. refl }
 
-row_grows : (begins : ℕ → Class → ℕ → Bool) (inner : ℕ → Reader) → ((n : ℕ) (t : Guise) → GrowsRun (inner n t)) → (r : TypeRow) (t : Guise) → GrowsRun (read_by begins inner r t)
-row_grows begins inner h row.Boolean t = prim_grows boolean_rule (λ c. is_strict_boolean c && is_other t.default (boolean_rule c)) (tag_or t.tag Universal 1)
-row_grows begins inner h (row.Integer low high) t = prim_grows (integer_rule low high) (λ c. is_other t.default (integer_rule low high c)) (tag_or t.tag Universal 2)
-row_grows begins inner h (row.Enumerated items) t = prim_grows (enumerated_rule items) (λ c. is_other t.default (enumerated_rule items c)) (tag_or t.tag Universal 10)
-row_grows begins inner h row.Null t = prim_grows null_rule always (tag_or t.tag Universal 5)
-row_grows begins inner h (row.OctetString most) t = string_grows OfOctets (whole_octets most) always (tag_or t.tag Universal 4)
-row_grows begins inner h row.BitString t = string_grows OfBits whole_bits has_zero_bits (tag_or t.tag Universal 3)
-row_grows begins inner h row.ObjectId t = prim_grows object_id_rule always (tag_or t.tag Universal 6)
-row_grows begins inner h (row.Text kind) t = string_grows OfOctets (whole_text kind) always (tag_or t.tag Universal (text_number kind))
-row_grows begins inner h (row.Sequence ps) t = sequence_grows begins inner h ps (tag_or t.tag Universal 16)
-row_grows begins inner h (row.Set ps) t = constructed_grows (all_items_at (slot_at begins inner 0 ps) (set_done ps) (nothing_filled ps)) (tag_or t.tag Universal 17) (set_grows begins inner h ps)
-row_grows begins inner h (row.SequenceOf of) t = list_grows (inner of.0) (tag_or t.tag Universal 16) (h of.0 plain)
-row_grows begins inner h (row.Choice ps) t = or_grows (choice_at begins inner 0 ps) t.tag (choice_grows begins inner h 0 ps)
-row_grows begins inner h (row.Tagged class number true of) t = explicit_grows (inner of.0 (bare t.default)) (tag_or t.tag class number) (h of.0 (bare t.default))
-row_grows begins inner h (row.Tagged class number false of) t = h of.0 (under (Some (tag_or t.tag class number)) t.default)
-row_grows begins inner h row.Any t = or_grows any_at t.tag any_grows
+row_grows : (begins : ℕ → Class → ℕ → Bool) (spell : ℕ → Value → List ℕ) (inner : ℕ → Reader) → ((n : ℕ) (t : Guise) → GrowsRun (inner n t)) → (r : TypeRow) (t : Guise) → GrowsRun (read_by begins spell inner r t)
+row_grows begins spell inner h row.Boolean t = prim_grows boolean_rule (λ c. is_strict_boolean c && is_other t.default (boolean_rule c)) (tag_or t.tag Universal 1)
+row_grows begins spell inner h (row.Integer low high) t = prim_grows (integer_rule low high) (λ c. is_other t.default (integer_rule low high c)) (tag_or t.tag Universal 2)
+row_grows begins spell inner h (row.Enumerated items) t = prim_grows (enumerated_rule items) (λ c. is_other t.default (enumerated_rule items c)) (tag_or t.tag Universal 10)
+row_grows begins spell inner h row.Null t = prim_grows null_rule always (tag_or t.tag Universal 5)
+row_grows begins spell inner h (row.OctetString most) t = string_grows OfOctets (whole_octets most) always (tag_or t.tag Universal 4)
+row_grows begins spell inner h row.BitString t = string_grows OfBits whole_bits has_zero_bits (tag_or t.tag Universal 3)
+row_grows begins spell inner h row.ObjectId t = prim_grows object_id_rule always (tag_or t.tag Universal 6)
+row_grows begins spell inner h (row.Text kind) t = string_grows OfOctets (whole_text kind) always (tag_or t.tag Universal (text_number kind))
+row_grows begins spell inner h (row.Sequence ps) t = sequence_grows begins inner h ps (tag_or t.tag Universal 16)
+row_grows begins spell inner h (row.Set ps) t = constructed_grows (all_items_at (slot_at begins inner 0 ps) (set_done ps) (nothing_filled ps)) (tag_or t.tag Universal 17) (set_grows begins inner h ps)
+row_grows begins spell inner h (row.SequenceOf of) t = list_grows (inner of.0) (tag_or t.tag Universal 16) (h of.0 plain)
+row_grows begins spell inner h (row.SetOf of) t = set_of_grows (spell of.0) (inner of.0) (tag_or t.tag Universal 17) (h of.0 plain)
+row_grows begins spell inner h (row.Choice ps) t = or_grows (choice_at begins inner 0 ps) t.tag (choice_grows begins inner h 0 ps)
+row_grows begins spell inner h (row.Tagged class number true of) t = explicit_grows (inner of.0 (bare t.default)) (tag_or t.tag class number) (h of.0 (bare t.default))
+row_grows begins spell inner h (row.Tagged class number false of) t = h of.0 (under (Some (tag_or t.tag class number)) t.default)
+row_grows begins spell inner h row.Any t = or_grows any_at t.tag any_grows
 
-of_grows : (begins : ℕ → Class → ℕ → Bool) (inner : ℕ → Reader) → ((n : ℕ) (t : Guise) → GrowsRun (inner n t)) → (o : Option TypeRow) (t : Guise) → GrowsRun (of_row dead (read_by begins inner) o t)
-of_grows begins inner h None t = dead_grows t
-of_grows begins inner h (Some r) t = row_grows begins inner h r t
+of_grows : (begins : ℕ → Class → ℕ → Bool) (spell : ℕ → Value → List ℕ) (inner : ℕ → Reader) → ((n : ℕ) (t : Guise) → GrowsRun (inner n t)) → (o : Option TypeRow) (t : Guise) → GrowsRun (of_row dead (read_by begins spell inner) o t)
+of_grows begins spell inner h None t = dead_grows t
+of_grows begins spell inner h (Some r) t = row_grows begins spell inner h r t
 
-pub along_grows : (rows : List TypeRow) (turns n : ℕ) (t : Guise) → GrowsRun (along dead (read_by (begins rows)) rows turns n t)
+pub along_grows : (rows : List TypeRow) (turns n : ℕ) (t : Guise) → GrowsRun (along dead (read_by (begins rows) (written rows)) rows turns n t)
 along_grows rows zero n t = dead_grows t
-along_grows rows (suc turns) n t = of_grows (begins rows) (along dead (read_by (begins rows)) rows turns) (λ m u. along_grows rows turns m u) (slice_get rows n) t
+along_grows rows (suc turns) n t = of_grows (begins rows) (written rows) (along dead (read_by (begins rows) (written rows)) rows turns) (λ m u. along_grows rows turns m u) (slice_get rows n) t

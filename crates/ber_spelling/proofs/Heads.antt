@@ -8,14 +8,15 @@ use Rattle.asn1_types.specs.declared.row.TypeRow.{TypeRow}
 use Rattle.asn1_types.specs.declared.row.TypeRow.TheVariants as row
 use Rattle.asn1_types.specs.Rows.{text_number}
 use Rattle.asn1_types.specs.Value.{Value, boolean, integer, null, octets, bits, object_id, text, parts, list, chosen, any}
-use Rattle.ber_spelling.specs.declared.spot.Tag as tags
+use Rattle.asn1_types.specs.declared.row.Tag as tags
+use Rattle.asn1_types.specs.Tags.{front_rank, tag_or}
 use Rattle.ber_spelling.specs.declared.spot.StringKind.{StringKind}
 use Rattle.ber_spelling.specs.declared.spot.StringKind.TheVariants.{OfOctets, OfBits}
 use Rattle.ber_spelling.specs.declared.spot.Gathered.{Gathered}
-use Rattle.ber_spelling.specs.Order.{front_rank}
-use Rattle.ber_spelling.specs.Rules.{tag_or, always, string_rule, nothing, whole_octets, whole_text, whole_bits, has_zero_bits, Guise, bare, plain, under}
-use Rattle.ber_spelling.specs.Spelling.{IsOther, IsIdentifier, IsDefinite, IsIndefinite, IsPrimitive, IsConstructed, BooleanIs, IntegerIs, EnumeratedIs, NullIs, ObjectIdIs, IsWhole, AnyIs, Spelled, ItemsAre, SegmentIs, StringIs, SequenceIs, SetIs, ListIs, ChoiceIs, OrExplicit, RowIs, RowOr, SpelledBy}
+use Rattle.ber_spelling.specs.Rules.{always, string_rule, nothing, whole_octets, whole_text, whole_bits, has_zero_bits, Guise, bare, plain, under}
+use Rattle.ber_spelling.specs.Spelling.{IsOther, IsIdentifier, IsDefinite, IsIndefinite, IsPrimitive, IsConstructed, BooleanIs, IntegerIs, EnumeratedIs, NullIs, ObjectIdIs, IsWhole, AnyIs, Spelled, ItemsAre, SegmentIs, StringIs, SequenceIs, SetIs, ListIs, ChoiceIs, OrExplicit, RowIs, RowOr, SpelledBy, SetOfIs}
 use Rattle.ber_spelling.proofs.Orders.{front_head}
+use Rattle.asn1_types.specs.Writing.{written}
 
 pub record Headed (s : List ℕ) : Type 0 where
   pub class : Class
@@ -72,7 +73,7 @@ explicit_headed : (P : Bool → ℕ → Value → List ℕ → Type 0) → ((str
 explicit_headed P each None strict levels v s p = each strict levels v s p
 explicit_headed P each (Some t) strict levels v s p = constructed_headed t strict levels (λ inner contents. P strict inner v contents) s p
 
-module _ (rel : ℕ → Spelled) (each : (m : ℕ) → AreHeaded (rel m)) where
+module _ (spell : ℕ → Value → List ℕ) (rel : ℕ → Spelled) (each : (m : ℕ) → AreHeaded (rel m)) where
   chosen_headed : (ps : List Part) (strict : Bool) (levels : ℕ) (v : Value) (s : List ℕ) → ChoiceIs rel ps strict levels v s → Headed s
   chosen_headed ps strict levels (chosen which v) s p = (each p.0.inner.0).is plain strict levels v s p.2
   chosen_headed ps strict levels (boolean x) s p = absurd p
@@ -86,7 +87,7 @@ module _ (rel : ℕ → Spelled) (each : (m : ℕ) → AreHeaded (rel m)) where
   chosen_headed ps strict levels (list x) s p = absurd p
   chosen_headed ps strict levels (any x) s p = absurd p
 
-  row_headed : (r : TypeRow) (t : Guise) (strict : Bool) (levels : ℕ) (v : Value) (s : List ℕ) → RowIs rel r t strict levels v s → Headed s
+  row_headed : (r : TypeRow) (t : Guise) (strict : Bool) (levels : ℕ) (v : Value) (s : List ℕ) → RowIs spell rel r t strict levels v s → Headed s
   row_headed row.Boolean t strict levels v s p = primitive_headed (tag_or t.tag Universal 1) strict levels (λ c. BooleanIs strict v c × IsOther t.default strict v) s p
   row_headed (row.Integer low high) t strict levels v s p = primitive_headed (tag_or t.tag Universal 2) strict levels (λ c. IntegerIs low high v c × IsOther t.default strict v) s p
   row_headed (row.Enumerated items) t strict levels v s p = primitive_headed (tag_or t.tag Universal 10) strict levels (λ c. EnumeratedIs items v c × IsOther t.default strict v) s p
@@ -98,15 +99,16 @@ module _ (rel : ℕ → Spelled) (each : (m : ℕ) → AreHeaded (rel m)) where
   row_headed (row.Sequence ps) t strict levels v s p = constructed_headed (tag_or t.tag Universal 16) strict levels (SequenceIs rel strict ps v) s p
   row_headed (row.Set ps) t strict levels v s p = constructed_headed (tag_or t.tag Universal 17) strict levels (SetIs rel ps strict v) s p
   row_headed (row.SequenceOf of) t strict levels v s p = constructed_headed (tag_or t.tag Universal 16) strict levels (ListIs (rel of.0) strict v) s p
+  row_headed (row.SetOf of) t strict levels v s p = constructed_headed (tag_or t.tag Universal 17) strict levels (SetOfIs (spell of.0) (rel of.0) strict v) s p
   row_headed (row.Choice ps) t strict levels v s p = explicit_headed (ChoiceIs rel ps) (chosen_headed ps) t.tag strict levels v s p
   row_headed (row.Tagged class number true of) t strict levels v s p = constructed_headed (tag_or t.tag class number) strict levels (λ l contents. rel of.0 (bare t.default) strict l v contents) s p
   row_headed (row.Tagged class number false of) t strict levels v s p = (each of.0).is (under (Some (tag_or t.tag class number)) t.default) strict levels v s p
   row_headed row.Any t strict levels v s p = explicit_headed (λ strict. AnyIs) (λ strict. any_headed) t.tag strict levels v s p
 
-  or_headed : (o : Option TypeRow) (t : Guise) (strict : Bool) (levels : ℕ) (v : Value) (s : List ℕ) → RowOr (RowIs rel) o t strict levels v s → Headed s
+  or_headed : (o : Option TypeRow) (t : Guise) (strict : Bool) (levels : ℕ) (v : Value) (s : List ℕ) → RowOr (RowIs spell rel) o t strict levels v s → Headed s
   or_headed None t strict levels v s p = absurd p
   or_headed (Some r) t strict levels v s p = row_headed r t strict levels v s p
 
 pub along_headed : (rows : List TypeRow) (turns n : ℕ) → AreHeaded (SpelledBy rows turns n)
 along_headed rows zero n = record { is = λ t strict levels v s p. absurd p }
-along_headed rows (suc turns) n = record { is = λ t strict levels v s p. or_headed (SpelledBy rows turns) (λ m. along_headed rows turns m) (slice_get rows n) t strict levels v s p }
+along_headed rows (suc turns) n = record { is = λ t strict levels v s p. or_headed (written rows) (SpelledBy rows turns) (λ m. along_headed rows turns m) (slice_get rows n) t strict levels v s p }

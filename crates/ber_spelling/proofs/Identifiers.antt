@@ -6,13 +6,14 @@ use Rattle.std.proofs.lemmas.Bool.Decides.{nat_tests}
 use Rattle.osi_base.specs.declared.words.Kind.TheVariants.{Tag}
 use Rattle.asn1_types.specs.declared.row.Class.{Class}
 use Rattle.asn1_types.specs.declared.row.Class.TheVariants.{Universal, Application, Context, Private}
+use Rattle.asn1_types.specs.Tags.{class_of, capped, leading}
 use Rattle.ber_spelling.specs.declared.fault.ReadFault.{ReadFault}
 use Rattle.ber_spelling.specs.declared.fault.ReadFault.TheVariants as faults
 use Rattle.ber_spelling.specs.declared.spot.Scope.{Scope}
 use Rattle.ber_spelling.specs.Octets.{AreOctets}
 use Rattle.ber_spelling.specs.Reading.{Spot, Opened, Reading, ◌>>=◌, refuse, is_past, within}
-use Rattle.ber_spelling.specs.Fields.{class_of, is_constructed, capped, digits_at, opened_at, is_lax, high_at, identifier_at}
-use Rattle.ber_spelling.specs.Spelling.{AreDigits, low_bits, number_128, IsBase128, leading, IsIdentifier}
+use Rattle.ber_spelling.specs.Fields.{is_constructed, digits_at, opened_at, is_lax, high_at, identifier_at}
+use Rattle.ber_spelling.specs.Spelling.{AreDigits, low_bits, number_128, IsBase128, IsIdentifier}
 use Rattle.ber_spelling.proofs.Numbers.{octets_tail}
 use Rattle.ber_spelling.proofs.Growing.{within_ok, within_is, lacking_not_ok}
 

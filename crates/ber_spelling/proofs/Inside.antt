@@ -6,7 +6,8 @@ use Rattle.std.proofs.lemmas.List.{length-drop}
 use Rattle.ber_spelling.specs.declared.fault.ReadFault.TheVariants as faults
 use Rattle.ber_spelling.specs.declared.spot.Scope.{Scope}
 use Rattle.ber_spelling.specs.Reading.{Spot, Opened, Ahead, ended, begun, Reading, ◌>>=◌, is_past, within}
-use Rattle.ber_spelling.specs.Fields.{capped, digits_at, is_lax, high_at, identifier_at, number_from, announced_at, long_at, is_end, cut_off, lacking_from, definite_at, extent_at, contents_at, begin_at, second_zero_at, mark_at, look_at}
+use Rattle.ber_spelling.specs.Fields.{digits_at, is_lax, high_at, identifier_at, number_from, announced_at, long_at, is_end, cut_off, lacking_from, definite_at, extent_at, contents_at, begin_at, second_zero_at, mark_at, look_at}
+use Rattle.asn1_types.specs.Tags.{capped}
 
 -- the octets from a spot on end here
 abbrev pub Ends : ℕ → Spot → Type 0

@@ -10,18 +10,21 @@ use Rattle.asn1_types.specs.Defaults.{may_be_absent}
 use Rattle.asn1_types.specs.Rows.{of_row, along, begins, text_number, is_no_tag}
 use Rattle.asn1_types.specs.Value.{Value}
 use Rattle.asn1_types.specs.Whole.{is_marked}
+use Rattle.asn1_types.specs.Rising.{behind_last}
 use Rattle.ber_spelling.specs.declared.spot.Scope.{Scope}
-use Rattle.ber_spelling.specs.declared.spot.Tag as tags
+use Rattle.asn1_types.specs.declared.row.Tag as tags
+use Rattle.asn1_types.specs.Tags.{rank, tag_or}
 use Rattle.ber_spelling.specs.declared.spot.StringKind.{StringKind}
 use Rattle.ber_spelling.specs.declared.spot.StringKind.TheVariants.{OfOctets, OfBits}
 use Rattle.ber_spelling.specs.declared.spot.Gathered.{Gathered}
-use Rattle.ber_spelling.specs.Order.{rank, Filled}
+use Rattle.ber_spelling.specs.Order.{Filled}
 use Rattle.ber_spelling.specs.Reading.{Spot, Opened, Ahead, ended, begun, Reading, ◌>>=◌}
 use Rattle.ber_spelling.specs.Fields.{extent_at, contents_at, look_at}
-use Rattle.ber_spelling.specs.Rules.{Reader, is_opened, expect_at, judge, form_at, primitive_at, always, boolean_rule, is_strict_boolean, integer_rule, enumerated_rule, null_rule, object_id_rule, constructed_at, finish, item_at, items_at, all_items_at, segment_tag, nothing, segment_rule, segment_at, segmented_at, string_rule, string_at, whole_octets, whole_text, whole_bits, has_zero_bits, list_item_at, list_done, list_at, first_of, last_of, open_at, close_at, explicit_at, present_at, part_at, parts_at, sequence_at, nothing_filled, set_done, ordered_at, is_free, fill_at, slot_at, choice_at, anew, sized_at, marked_at, whole_at, any_at, dead, or_explicit, read_by, tag_or, Guise, bare, plain, under, is_other}
+use Rattle.ber_spelling.specs.Rules.{Reader, is_opened, expect_at, judge, form_at, primitive_at, always, boolean_rule, is_strict_boolean, integer_rule, enumerated_rule, null_rule, object_id_rule, constructed_at, finish, item_at, items_at, all_items_at, segment_tag, nothing, segment_rule, segment_at, segmented_at, string_rule, string_at, whole_octets, whole_text, whole_bits, has_zero_bits, list_item_at, list_done, list_at, first_of, last_of, open_at, close_at, explicit_at, present_at, part_at, parts_at, sequence_at, nothing_filled, set_done, ordered_at, is_free, fill_at, slot_at, choice_at, anew, sized_at, marked_at, whole_at, any_at, dead, or_explicit, read_by, Guise, bare, plain, under, is_other, set_item_at, set_of_done, set_of_at}
 use Rattle.ber_spelling.proofs.Steady.{Run, RunOf}
 use Rattle.ber_spelling.proofs.Constructed.{BodyOf}
 use Rattle.ber_spelling.proofs.Inside.{Ends, Inside, Inside-bind, Inside-cond, nowhere, second, Begun, Contained, Looked, extent_inside, contents_inside, look_inside}
+use Rattle.asn1_types.specs.Writing.{written}
 
 pub record InsideRun {A : Type 0} (run : RunOf A) : Type 0 where
   pub each : (end : ℕ) (scope : Scope) (o : Opened) (s : Spot) → o.start.place ≤ end → Ends end s → Inside (second end) end (run scope o s)
@@ -129,6 +132,14 @@ list_step_inside inner h before = record {
 
 list_inside : (inner : Reader) (tag : tags.Tag) → InsideRun (inner plain) → InsideRun (list_at inner tag)
 list_inside inner tag h = constructed_inside (all_items_at (list_item_at inner) list_done []) tag (all_inside (list_item_at inner) list_done (λ a. list_step_inside inner h a) [])
+
+set_step_inside : (spell : Value → List ℕ) (inner : Reader) → InsideRun (inner plain) → (before : List Value) → InsideRun (set_item_at spell inner before)
+set_step_inside spell inner h before = record {
+  each = λ end scope o s le e. Inside-bind (second end) (second end) end (inner plain scope o s) _ (h.each end scope o s le e) (λ v k. formed (second end) scope o.start.place (behind_last spell before v.0) end _ le k);
+}
+
+set_of_inside : (spell : Value → List ℕ) (inner : Reader) (tag : tags.Tag) → InsideRun (inner plain) → InsideRun (set_of_at spell inner tag)
+set_of_inside spell inner tag h = constructed_inside (all_items_at (set_item_at spell inner) (set_of_done spell) []) tag (all_inside (set_item_at spell inner) (set_of_done spell) (λ a. set_step_inside spell inner h a) [])
 
 -- ---- explicit tags
 
@@ -270,27 +281,28 @@ any_inside = record {
 dead_inside : (t : Guise) → InsideRun (dead t)
 dead_inside t = record { each = λ end scope o s le e. le }
 
-row_inside : (begins : ℕ → Class → ℕ → Bool) (inner : ℕ → Reader) → ((n : ℕ) (t : Guise) → InsideRun (inner n t)) → (r : TypeRow) (t : Guise) → InsideRun (read_by begins inner r t)
-row_inside begins inner h row.Boolean t = prim_inside boolean_rule (λ c. is_strict_boolean c && is_other t.default (boolean_rule c)) (tag_or t.tag Universal 1)
-row_inside begins inner h (row.Integer low high) t = prim_inside (integer_rule low high) (λ c. is_other t.default (integer_rule low high c)) (tag_or t.tag Universal 2)
-row_inside begins inner h (row.Enumerated items) t = prim_inside (enumerated_rule items) (λ c. is_other t.default (enumerated_rule items c)) (tag_or t.tag Universal 10)
-row_inside begins inner h row.Null t = prim_inside null_rule always (tag_or t.tag Universal 5)
-row_inside begins inner h (row.OctetString most) t = string_inside OfOctets (whole_octets most) always (tag_or t.tag Universal 4)
-row_inside begins inner h row.BitString t = string_inside OfBits whole_bits has_zero_bits (tag_or t.tag Universal 3)
-row_inside begins inner h row.ObjectId t = prim_inside object_id_rule always (tag_or t.tag Universal 6)
-row_inside begins inner h (row.Text kind) t = string_inside OfOctets (whole_text kind) always (tag_or t.tag Universal (text_number kind))
-row_inside begins inner h (row.Sequence ps) t = sequence_inside begins inner h ps (tag_or t.tag Universal 16)
-row_inside begins inner h (row.Set ps) t = constructed_inside (all_items_at (slot_at begins inner 0 ps) (set_done ps) (nothing_filled ps)) (tag_or t.tag Universal 17) (set_inside begins inner h ps)
-row_inside begins inner h (row.SequenceOf of) t = list_inside (inner of.0) (tag_or t.tag Universal 16) (h of.0 plain)
-row_inside begins inner h (row.Choice ps) t = or_inside (choice_at begins inner 0 ps) t.tag (choice_inside begins inner h 0 ps)
-row_inside begins inner h (row.Tagged class number true of) t = explicit_inside (inner of.0 (bare t.default)) (tag_or t.tag class number) (h of.0 (bare t.default))
-row_inside begins inner h (row.Tagged class number false of) t = h of.0 (under (Some (tag_or t.tag class number)) t.default)
-row_inside begins inner h row.Any t = or_inside any_at t.tag any_inside
+row_inside : (begins : ℕ → Class → ℕ → Bool) (spell : ℕ → Value → List ℕ) (inner : ℕ → Reader) → ((n : ℕ) (t : Guise) → InsideRun (inner n t)) → (r : TypeRow) (t : Guise) → InsideRun (read_by begins spell inner r t)
+row_inside begins spell inner h row.Boolean t = prim_inside boolean_rule (λ c. is_strict_boolean c && is_other t.default (boolean_rule c)) (tag_or t.tag Universal 1)
+row_inside begins spell inner h (row.Integer low high) t = prim_inside (integer_rule low high) (λ c. is_other t.default (integer_rule low high c)) (tag_or t.tag Universal 2)
+row_inside begins spell inner h (row.Enumerated items) t = prim_inside (enumerated_rule items) (λ c. is_other t.default (enumerated_rule items c)) (tag_or t.tag Universal 10)
+row_inside begins spell inner h row.Null t = prim_inside null_rule always (tag_or t.tag Universal 5)
+row_inside begins spell inner h (row.OctetString most) t = string_inside OfOctets (whole_octets most) always (tag_or t.tag Universal 4)
+row_inside begins spell inner h row.BitString t = string_inside OfBits whole_bits has_zero_bits (tag_or t.tag Universal 3)
+row_inside begins spell inner h row.ObjectId t = prim_inside object_id_rule always (tag_or t.tag Universal 6)
+row_inside begins spell inner h (row.Text kind) t = string_inside OfOctets (whole_text kind) always (tag_or t.tag Universal (text_number kind))
+row_inside begins spell inner h (row.Sequence ps) t = sequence_inside begins inner h ps (tag_or t.tag Universal 16)
+row_inside begins spell inner h (row.Set ps) t = constructed_inside (all_items_at (slot_at begins inner 0 ps) (set_done ps) (nothing_filled ps)) (tag_or t.tag Universal 17) (set_inside begins inner h ps)
+row_inside begins spell inner h (row.SequenceOf of) t = list_inside (inner of.0) (tag_or t.tag Universal 16) (h of.0 plain)
+row_inside begins spell inner h (row.SetOf of) t = set_of_inside (spell of.0) (inner of.0) (tag_or t.tag Universal 17) (h of.0 plain)
+row_inside begins spell inner h (row.Choice ps) t = or_inside (choice_at begins inner 0 ps) t.tag (choice_inside begins inner h 0 ps)
+row_inside begins spell inner h (row.Tagged class number true of) t = explicit_inside (inner of.0 (bare t.default)) (tag_or t.tag class number) (h of.0 (bare t.default))
+row_inside begins spell inner h (row.Tagged class number false of) t = h of.0 (under (Some (tag_or t.tag class number)) t.default)
+row_inside begins spell inner h row.Any t = or_inside any_at t.tag any_inside
 
-of_inside : (begins : ℕ → Class → ℕ → Bool) (inner : ℕ → Reader) → ((n : ℕ) (t : Guise) → InsideRun (inner n t)) → (o : Option TypeRow) (t : Guise) → InsideRun (of_row dead (read_by begins inner) o t)
-of_inside begins inner h None t = dead_inside t
-of_inside begins inner h (Some r) t = row_inside begins inner h r t
+of_inside : (begins : ℕ → Class → ℕ → Bool) (spell : ℕ → Value → List ℕ) (inner : ℕ → Reader) → ((n : ℕ) (t : Guise) → InsideRun (inner n t)) → (o : Option TypeRow) (t : Guise) → InsideRun (of_row dead (read_by begins spell inner) o t)
+of_inside begins spell inner h None t = dead_inside t
+of_inside begins spell inner h (Some r) t = row_inside begins spell inner h r t
 
-pub along_inside : (rows : List TypeRow) (turns n : ℕ) (t : Guise) → InsideRun (along dead (read_by (begins rows)) rows turns n t)
+pub along_inside : (rows : List TypeRow) (turns n : ℕ) (t : Guise) → InsideRun (along dead (read_by (begins rows) (written rows)) rows turns n t)
 along_inside rows zero n t = dead_inside t
-along_inside rows (suc turns) n t = of_inside (begins rows) (along dead (read_by (begins rows)) rows turns) (λ m u. along_inside rows turns m u) (slice_get rows n) t
+along_inside rows (suc turns) n t = of_inside (begins rows) (written rows) (along dead (read_by (begins rows) (written rows)) rows turns) (λ m u. along_inside rows turns m u) (slice_get rows n) t

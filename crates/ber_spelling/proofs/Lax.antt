@@ -7,14 +7,16 @@ use Rattle.asn1_types.specs.declared.row.TypeRow.{TypeRow}
 use Rattle.asn1_types.specs.declared.row.TypeRow.TheVariants as row
 use Rattle.asn1_types.specs.Rows.{text_number}
 use Rattle.asn1_types.specs.Value.{Value, boolean, integer, null, octets, bits, object_id, text, parts, list, chosen, any, MaybeValues, no_parts, absent, present}
-use Rattle.ber_spelling.specs.declared.spot.Tag as tags
+use Rattle.asn1_types.specs.declared.row.Tag as tags
+use Rattle.asn1_types.specs.Tags.{tag_or}
 use Rattle.ber_spelling.specs.declared.spot.StringKind.{StringKind}
 use Rattle.ber_spelling.specs.declared.spot.StringKind.TheVariants.{OfOctets, OfBits}
 use Rattle.ber_spelling.specs.declared.spot.Gathered.{Gathered}
-use Rattle.ber_spelling.specs.Rules.{tag_or, always, string_rule, whole_octets, whole_text, whole_bits, has_zero_bits, nothing_filled, Guise, bare, plain, under}
+use Rattle.ber_spelling.specs.Rules.{always, string_rule, whole_octets, whole_text, whole_bits, has_zero_bits, nothing_filled, Guise, bare, plain, under}
 use Rattle.ber_spelling.specs.Order.{Filled}
-use Rattle.ber_spelling.specs.Spelling.{IsLength, IsDefinite, IsPrimitive, IsConstructed, BooleanIs, IntegerIs, EnumeratedIs, NullIs, ObjectIdIs, AnyIs, Spelled, Steps, StringIs, PartsAre, SequenceIs, ListStep, ListIs, SetStep, SetIs, ChoiceIs, OrExplicit, RowIs, RowOr, SpelledBy, PartIs, IsOther}
+use Rattle.ber_spelling.specs.Spelling.{IsLength, IsDefinite, IsPrimitive, IsConstructed, BooleanIs, IntegerIs, EnumeratedIs, NullIs, ObjectIdIs, AnyIs, Spelled, Steps, StringIs, PartsAre, SequenceIs, ListStep, ListIs, SetStep, SetIs, ChoiceIs, OrExplicit, RowIs, RowOr, SpelledBy, PartIs, IsOther, SetOfIs, SetItemStep}
 use Rattle.ber_spelling.specs.Laws.{DerIsBer}
+use Rattle.asn1_types.specs.Writing.{written}
 
 pub lax_length : (size : List ℕ) (n : ℕ) → IsLength true size n → IsLength false size n
 lax_length [] n h = absurd h
@@ -70,7 +72,7 @@ string_lax kind whole canonical tag levels v s (inr h) = absurd (let wrong : tru
 other_lax : (default : Option ℤ) (v : Value) → IsOther default false v
 other_lax default v = λ e. absurd (let wrong : false ≡ true = e in cc)
 
-module _ (rel : ℕ → Spelled) (h : (m : ℕ) → Lax (rel m)) where
+module _ (spell : ℕ → Value → List ℕ) (rel : ℕ → Spelled) (h : (m : ℕ) → Lax (rel m)) where
   part_lax : (levels : ℕ) (p : Part) (o : Option Value) (s : List ℕ) → PartIs (rel p.inner.0) true levels p o s → PartIs (rel p.inner.0) false levels p o s
   part_lax levels p o s (inl x) = inl x
   part_lax levels p o s (inr x) = inr (x.0, x.1, (h p.inner.0).is (bare p.default) levels x.0 s x.2)
@@ -101,6 +103,12 @@ module _ (rel : ℕ → Spelled) (h : (m : ℕ) → Lax (rel m)) where
   steps_lax of levels [] a b c p = p
   steps_lax of levels (s ∷ more) a b c p = (p.0, p.1, (p.2.0, p.2.1, (h of).is plain levels p.2.0 s.0 p.2.2), steps_lax of levels more s.1 b p.0 p.3)
 
+  items_lax : (of levels : ℕ) (steps : List (List ℕ × List Value)) (a b : List Value) (c : List ℕ)
+      → Steps (λ x y spelled. SetItemStep (spell of) (rel of) x true levels y spelled) steps a b c → Steps (λ x y spelled. SetItemStep (spell of) (rel of) x false levels y spelled) steps a b c
+  items_lax of levels [] a b c p = p
+  items_lax of levels (s ∷ more) a b c p =
+      (p.0, p.1, (p.2.0, p.2.1, (h of).is plain levels p.2.0 s.0 p.2.2, λ e. absurd (let wrong : false ≡ true = e in cc)), items_lax of levels more s.1 b p.0 p.3)
+
   set_steps_lax : (ps : List Part) (levels : ℕ) (steps : List (List ℕ × Filled)) (a b : Filled) (c : List ℕ)
       → Steps (λ x y spelled. SetStep rel ps x true levels y spelled) steps a b c → Steps (λ x y spelled. SetStep rel ps x false levels y spelled) steps a b c
   set_steps_lax ps levels [] a b c p = p
@@ -125,7 +133,7 @@ module _ (rel : ℕ → Spelled) (h : (m : ℕ) → Lax (rel m)) where
   or_lax P f None levels v s p = f levels v s p
   or_lax P f (Some t) levels v s p = lax_constructed t levels (λ l c. P true l v c) (λ l c. P false l v c) (λ l c. f l v c) s p
 
-  row_lax : (r : TypeRow) (t : Guise) (levels : ℕ) (v : Value) (s : List ℕ) → RowIs rel r t true levels v s → RowIs rel r t false levels v s
+  row_lax : (r : TypeRow) (t : Guise) (levels : ℕ) (v : Value) (s : List ℕ) → RowIs spell rel r t true levels v s → RowIs spell rel r t false levels v s
   row_lax row.Boolean t levels v s p = lax_primitive (tag_or t.tag Universal 1) levels (λ c. BooleanIs true v c × IsOther t.default true v) (λ c. BooleanIs false v c × IsOther t.default false v) (λ c q. (boolean_lax v c q.0, other_lax t.default v)) s p
   row_lax (row.Integer low high) t levels v s p = lax_primitive (tag_or t.tag Universal 2) levels (λ c. IntegerIs low high v c × IsOther t.default true v) (λ c. IntegerIs low high v c × IsOther t.default false v) (λ c q. (q.0, other_lax t.default v)) s p
   row_lax (row.Enumerated items) t levels v s p = lax_primitive (tag_or t.tag Universal 10) levels (λ c. EnumeratedIs items v c × IsOther t.default true v) (λ c. EnumeratedIs items v c × IsOther t.default false v) (λ c q. (q.0, other_lax t.default v)) s p
@@ -139,19 +147,21 @@ module _ (rel : ℕ → Spelled) (h : (m : ℕ) → Lax (rel m)) where
       lax_constructed (tag_or t.tag Universal 17) levels (SetIs rel ps true v) (SetIs rel ps false v) (λ l c q. (q.0, q.1, q.2, set_steps_lax ps l q.2 (nothing_filled ps) q.0 c q.3)) s p
   row_lax (row.SequenceOf of) t levels v s p =
       lax_constructed (tag_or t.tag Universal 16) levels (ListIs (rel of.0) true v) (ListIs (rel of.0) false v) (λ l c q. (q.0, q.1, q.2, steps_lax of.0 l q.2 [] q.0 c q.3)) s p
+  row_lax (row.SetOf of) t levels v s p =
+      lax_constructed (tag_or t.tag Universal 17) levels (SetOfIs (spell of.0) (rel of.0) true v) (SetOfIs (spell of.0) (rel of.0) false v) (λ l c q. (q.0, q.1, q.2, items_lax of.0 l q.2 [] q.0 c q.3)) s p
   row_lax (row.Choice ps) t levels v s p = or_lax (ChoiceIs rel ps) (λ l w c. chosen_lax ps l w c) t.tag levels v s p
   row_lax (row.Tagged class number true of) t levels v s p =
       lax_constructed (tag_or t.tag class number) levels (λ l c. rel of.0 (bare t.default) true l v c) (λ l c. rel of.0 (bare t.default) false l v c) (λ l c. (h of.0).is (bare t.default) l v c) s p
   row_lax (row.Tagged class number false of) t levels v s p = (h of.0).is (under (Some (tag_or t.tag class number)) t.default) levels v s p
   row_lax row.Any t levels v s p = or_lax (λ strict. AnyIs) (λ l w c q. q) t.tag levels v s p
 
-  of_lax : (o : Option TypeRow) (t : Guise) (levels : ℕ) (v : Value) (s : List ℕ) → RowOr (RowIs rel) o t true levels v s → RowOr (RowIs rel) o t false levels v s
+  of_lax : (o : Option TypeRow) (t : Guise) (levels : ℕ) (v : Value) (s : List ℕ) → RowOr (RowIs spell rel) o t true levels v s → RowOr (RowIs spell rel) o t false levels v s
   of_lax None t levels v s p = absurd p
   of_lax (Some r) t levels v s p = row_lax r t levels v s p
 
 along_lax : (rows : List TypeRow) (turns n : ℕ) → Lax (λ t strict levels v s. SpelledBy rows turns n t strict levels v s)
 along_lax rows zero n = record { is = λ t levels v s p. absurd p }
-along_lax rows (suc turns) n = record { is = λ t levels v s p. of_lax (SpelledBy rows turns) (λ m. along_lax rows turns m) (slice_get rows n) t levels v s p }
+along_lax rows (suc turns) n = record { is = λ t levels v s p. of_lax (written rows) (SpelledBy rows turns) (λ m. along_lax rows turns m) (slice_get rows n) t levels v s p }
 
 pub der_is_ber : DerIsBer
 der_is_ber rows n limit v s p = record { by = (along_lax rows (length rows) n).is plain 32 v s p.by; within = p.within }

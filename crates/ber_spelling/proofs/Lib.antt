@@ -24,6 +24,7 @@ pub mod WholeValues
 pub mod Digits
 pub mod WrittenFields
 pub mod WriteLaws
+pub mod RisingLaws
 pub mod Written
 pub mod Wholes
 pub mod WholeSpelled
@@ -50,3 +51,6 @@ pub mod DerForms
 pub mod Wider
 pub mod WiderRules
 pub mod WiderLimits
+pub mod UniqueDigits
+pub mod UniqueSets
+pub mod UniqueRows

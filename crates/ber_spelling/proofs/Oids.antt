@@ -5,10 +5,11 @@ use Rattle.std.specs.List.{list_all, AllByRecursion}
 use Rattle.std.proofs.lemmas.Bool.{lt-ltb, le-ltb, ltb-false, ltb-true, eqb-false, ne_eqb, leb-true, and_parts, or_cases}
 use Rattle.osi_base.specs.Oid.{is_oid, IsOid}
 use Rattle.asn1_types.specs.Value.{Value, boolean, integer, null, octets, bits, object_id, text, parts, list, chosen, any}
+use Rattle.asn1_types.specs.Writing.{subidentifiers}
 use Rattle.ber_spelling.specs.Octets.{AreOctets}
 use Rattle.ber_spelling.specs.Primitives.{sized, push_front, subidentifiers_of, arcs_from, is_arc, judged_arcs, arcs_of}
 use Rattle.ber_spelling.specs.Rules.{object_id_rule}
-use Rattle.ber_spelling.specs.Spelling.{AreDigits, low_bits, number_128, IsBase128, subidentifiers, AreSubidentifiers, IsObjectId, ObjectIdIs}
+use Rattle.ber_spelling.specs.Spelling.{AreDigits, low_bits, number_128, IsBase128, AreSubidentifiers, IsObjectId, ObjectIdIs}
 use Rattle.ber_spelling.proofs.Numbers.{octets_tail}
 use Rattle.ber_spelling.proofs.Identifiers.{digits_more}
 

@@ -7,12 +7,12 @@ use Rattle.asn1_types.specs.declared.row.Class.TheVariants.{Universal, Applicati
 use Rattle.asn1_types.specs.Rows.{class_number}
 use Rattle.ber_spelling.specs.declared.fault.ReadFault.TheVariants as faults
 use Rattle.ber_spelling.specs.declared.spot.Scope.{Scope}
-use Rattle.ber_spelling.specs.declared.spot.Tag as tags
+use Rattle.asn1_types.specs.declared.row.Tag as tags
 use Rattle.ber_spelling.specs.Reading.{Spot, Opened, refuse, within}
-use Rattle.ber_spelling.specs.Fields.{capped, class_of, digits_at, opened_at, is_lax, high_at, identifier_at}
-use Rattle.ber_spelling.specs.Order.{rank, front_number, front_rank}
+use Rattle.ber_spelling.specs.Fields.{digits_at, opened_at, is_lax, high_at, identifier_at}
 use Rattle.ber_spelling.specs.Spelling.{IsIdentifier}
-use Rattle.ber_spelling.specs.Writing.{identifier, length_octets, definite}
+use Rattle.asn1_types.specs.Writing.{identifier, length_octets, definite}
+use Rattle.asn1_types.specs.Tags.{capped, class_of, rank, front_number, front_rank}
 use Rattle.ber_spelling.proofs.Growing.{lacking_not_ok}
 use Rattle.ber_spelling.proofs.Identifiers.{bind_ok, chosen_ok, unless_ok, ok_is, identifier_again}
 use Rattle.ber_spelling.proofs.WrittenFields.{identifier_is}

@@ -6,14 +6,14 @@ use Rattle.std.proofs.lemmas.Option.{slice_get_within}
 use Rattle.asn1_types.specs.declared.row.TypeId.{TypeId}
 use Rattle.asn1_types.specs.declared.row.Class.{Class}
 use Rattle.asn1_types.specs.declared.row.TypeRow.{TypeRow}
-use Rattle.asn1_types.specs.declared.row.TypeRow.TheVariants.{Boolean, Integer, Enumerated, Null, OctetString, BitString, ObjectId, Text, Sequence, Set, SequenceOf, Choice, Tagged, Any}
+use Rattle.asn1_types.specs.declared.row.TypeRow.TheVariants.{Boolean, Integer, Enumerated, Null, OctetString, BitString, ObjectId, Text, Sequence, Set, SequenceOf, SetOf, Choice, Tagged, Any}
 use Rattle.asn1_types.specs.Rows.{names_of}
 use Rattle.asn1_types.specs.Table.{IsSound}
 use Rattle.asn1_types.specs.Value.{Value}
 use Rattle.asn1_types.proofs.Sound.{down_as, sound_row}
-use Rattle.ber_spelling.specs.declared.spot.Tag as tags
-use Rattle.ber_spelling.specs.Order.{rank, front_rank}
-use Rattle.ber_spelling.specs.Writing.{Writer, boolean_contents, integer_contents, octets_contents, bits_contents, object_id_contents, text_contents, sequence_contents, parts_contents, set_parts, list_contents, choice_written, alternative_written, any_written, write_by, writes}
+use Rattle.asn1_types.specs.declared.row.Tag as tags
+use Rattle.asn1_types.specs.Writing.{Writer, boolean_contents, integer_contents, octets_contents, bits_contents, object_id_contents, text_contents, sequence_contents, parts_contents, set_parts, list_contents, choice_written, alternative_written, any_written, write_by, writes}
+use Rattle.asn1_types.specs.Tags.{rank, front_rank}
 use Rattle.ber_spelling.proofs.Orders.{definite_rank}
 use Rattle.ber_spelling.proofs.WriteLaws.{writes_at}
 
@@ -33,6 +33,7 @@ row_under f (Text kind) h = record { is = λ t v. definite_rank false t (text_co
 row_under f (Sequence ps) h = record { is = λ t v. definite_rank true t (sequence_contents (parts_contents f ps) v) }
 row_under f (Set ps) h = record { is = λ t v. definite_rank true t (sequence_contents (set_parts f ps) v) }
 row_under f (SequenceOf of) h = record { is = λ t v. definite_rank true t (list_contents (f of.0) v) }
+row_under f (SetOf of) h = record { is = λ t v. definite_rank true t (list_contents (f of.0) v) }
 row_under f (Choice ps) h = record { is = λ t v. definite_rank true t (choice_written (λ which. alternative_written f (slice_get ps which)) v) }
 row_under f (Tagged class number true of) h = record { is = λ t v. definite_rank true t (f of.0 None v) }
 row_under f (Tagged class number false of) h = record { is = λ t v. h.0.is t v }

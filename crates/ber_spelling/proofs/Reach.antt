@@ -7,7 +7,8 @@ use Rattle.osi_base.specs.declared.words.Kind.TheVariants.{Length}
 use Rattle.ber_spelling.specs.declared.fault.ReadFault.TheVariants as faults
 use Rattle.ber_spelling.specs.declared.spot.Scope.{Scope}
 use Rattle.ber_spelling.specs.Reading.{Spot, Opened, Ahead, ended, begun, Reading, ◌>>=◌, is_past, within}
-use Rattle.ber_spelling.specs.Fields.{capped, digits_at, is_lax, high_at, identifier_at, number_from, announced_at, sure_reach, long_at, is_end, cut_off, lacking_from, definite_at, extent_at, contents_at, begin_at, second_zero_at, mark_at, look_at}
+use Rattle.ber_spelling.specs.Fields.{digits_at, is_lax, high_at, identifier_at, number_from, announced_at, sure_reach, long_at, is_end, cut_off, lacking_from, definite_at, extent_at, contents_at, begin_at, second_zero_at, mark_at, look_at}
+use Rattle.asn1_types.specs.Tags.{capped}
 
 -- Octets that end here are too short only where they end within the limit.
 abbrev pub Bounded : {A : Type 0} → (A → Type 0) → ℕ → ℕ → Reading A → Type 0

@@ -14,14 +14,17 @@ use Rattle.osi_base.specs.declared.words.Kind.{Kind}
 use Rattle.osi_base.specs.declared.words.Kind.TheVariants.{Tag, Form}
 use Rattle.ber_spelling.specs.declared.fault.ReadFault.TheVariants as faults
 use Rattle.ber_spelling.specs.declared.spot.Scope.{Scope}
-use Rattle.ber_spelling.specs.declared.spot.Tag as tags
+use Rattle.asn1_types.specs.declared.row.Tag as tags
+use Rattle.asn1_types.specs.Tags.{rank, tag_or}
+use Rattle.asn1_types.specs.Writing.{written}
+use Rattle.asn1_types.specs.Rising.{behind_last}
 use Rattle.ber_spelling.specs.declared.spot.StringKind.{StringKind}
 use Rattle.ber_spelling.specs.declared.spot.StringKind.TheVariants.{OfOctets, OfBits}
 use Rattle.ber_spelling.specs.declared.spot.Gathered.{Gathered}
-use Rattle.ber_spelling.specs.Order.{rank, Filled}
+use Rattle.ber_spelling.specs.Order.{Filled}
 use Rattle.ber_spelling.specs.Reading.{Spot, Opened, Ahead, ended, begun, Reading, ◌>>=◌}
 use Rattle.ber_spelling.specs.Fields.{extent_at, contents_at, look_at}
-use Rattle.ber_spelling.specs.Rules.{Reader, is_opened, expect_at, judge, form_at, primitive_at, always, boolean_rule, is_strict_boolean, integer_rule, enumerated_rule, null_rule, object_id_rule, constructed_at, finish, item_at, items_at, all_items_at, segment_tag, nothing, segment_rule, segment_at, segmented_at, string_rule, string_at, whole_octets, whole_text, whole_bits, has_zero_bits, list_item_at, list_done, list_at, first_of, last_of, open_at, close_at, explicit_at, present_at, part_at, parts_at, sequence_at, nothing_filled, set_done, ordered_at, is_free, fill_at, slot_at, choice_at, anew, sized_at, marked_at, whole_at, any_at, dead, or_explicit, read_by, tag_or, Guise, bare, plain, under, is_other}
+use Rattle.ber_spelling.specs.Rules.{Reader, is_opened, expect_at, judge, form_at, primitive_at, always, boolean_rule, is_strict_boolean, integer_rule, enumerated_rule, null_rule, object_id_rule, constructed_at, finish, item_at, items_at, all_items_at, segment_tag, nothing, segment_rule, segment_at, segmented_at, string_rule, string_at, whole_octets, whole_text, whole_bits, has_zero_bits, list_item_at, list_done, list_at, first_of, last_of, open_at, close_at, explicit_at, present_at, part_at, parts_at, sequence_at, nothing_filled, set_done, ordered_at, is_free, fill_at, slot_at, choice_at, anew, sized_at, marked_at, whole_at, any_at, dead, or_explicit, read_by, Guise, bare, plain, under, is_other, set_item_at, set_of_done, set_of_at}
 use Rattle.ber_spelling.proofs.Steady.{Run, RunOf}
 use Rattle.ber_spelling.proofs.Constructed.{BodyOf}
 use Rattle.ber_spelling.proofs.Reach.{Bounded, Bounded-bind, Bounded-cond, Stands, later, StandsIn, second, third, Looked, extent_bounded, contents_bounded, look_bounded}
@@ -175,6 +178,16 @@ list_step_bounded inner h before = record {
 
 list_bounded : (inner : Reader) (tag : tags.Tag) → BoundedRun (inner plain) → BoundedRun (list_at inner tag)
 list_bounded inner tag h = constructed_bounded (all_items_at (list_item_at inner) list_done []) tag (all_bounded (list_item_at inner) list_done (λ a. list_step_bounded inner h a) [])
+
+set_step_bounded : (spell : Value → List ℕ) (inner : Reader) → BoundedRun (inner plain) → (before : List Value) → BoundedRun (set_item_at spell inner before)
+set_step_bounded spell inner h before = record {
+  each = λ limit end scope o s same k.
+      Bounded-bind (second limit end s.place) (second limit end s.place) limit end (inner plain scope o s) _ (h.each limit end scope o s same k) (λ v l.
+      surely (second limit end s.place) limit end (form_at scope o.start.place (behind_last spell before v.0)) _ (form_sure scope o.start.place (behind_last spell before v.0)) (λ u. l));
+}
+
+set_of_bounded : (spell : Value → List ℕ) (inner : Reader) (tag : tags.Tag) → BoundedRun (inner plain) → BoundedRun (set_of_at spell inner tag)
+set_of_bounded spell inner tag h = constructed_bounded (all_items_at (set_item_at spell inner) (set_of_done spell) []) tag (all_bounded (set_item_at spell inner) (set_of_done spell) (λ a. set_step_bounded spell inner h a) [])
 
 -- ---- explicit tags
 
@@ -338,27 +351,28 @@ any_bounded = record {
 dead_bounded : (t : Guise) → BoundedRun (dead t)
 dead_bounded t = record { each = λ limit end scope o s same k. tt }
 
-row_bounded : (begins : ℕ → Class → ℕ → Bool) (inner : ℕ → Reader) → ((n : ℕ) (t : Guise) → BoundedRun (inner n t)) → (r : TypeRow) (t : Guise) → BoundedRun (read_by begins inner r t)
-row_bounded begins inner h row.Boolean t = prim_bounded boolean_rule (λ c. is_strict_boolean c && is_other t.default (boolean_rule c)) (tag_or t.tag Universal 1)
-row_bounded begins inner h (row.Integer low high) t = prim_bounded (integer_rule low high) (λ c. is_other t.default (integer_rule low high c)) (tag_or t.tag Universal 2)
-row_bounded begins inner h (row.Enumerated items) t = prim_bounded (enumerated_rule items) (λ c. is_other t.default (enumerated_rule items c)) (tag_or t.tag Universal 10)
-row_bounded begins inner h row.Null t = prim_bounded null_rule always (tag_or t.tag Universal 5)
-row_bounded begins inner h (row.OctetString most) t = string_bounded OfOctets (whole_octets most) always (tag_or t.tag Universal 4)
-row_bounded begins inner h row.BitString t = string_bounded OfBits whole_bits has_zero_bits (tag_or t.tag Universal 3)
-row_bounded begins inner h row.ObjectId t = prim_bounded object_id_rule always (tag_or t.tag Universal 6)
-row_bounded begins inner h (row.Text kind) t = string_bounded OfOctets (whole_text kind) always (tag_or t.tag Universal (text_number kind))
-row_bounded begins inner h (row.Sequence ps) t = sequence_bounded begins inner h ps (tag_or t.tag Universal 16)
-row_bounded begins inner h (row.Set ps) t = constructed_bounded (all_items_at (slot_at begins inner 0 ps) (set_done ps) (nothing_filled ps)) (tag_or t.tag Universal 17) (set_bounded begins inner h ps)
-row_bounded begins inner h (row.SequenceOf of) t = list_bounded (inner of.0) (tag_or t.tag Universal 16) (h of.0 plain)
-row_bounded begins inner h (row.Choice ps) t = or_bounded (choice_at begins inner 0 ps) t.tag (choice_bounded begins inner h 0 ps)
-row_bounded begins inner h (row.Tagged class number true of) t = explicit_bounded (inner of.0 (bare t.default)) (tag_or t.tag class number) (h of.0 (bare t.default))
-row_bounded begins inner h (row.Tagged class number false of) t = h of.0 (under (Some (tag_or t.tag class number)) t.default)
-row_bounded begins inner h row.Any t = or_bounded any_at t.tag any_bounded
+row_bounded : (begins : ℕ → Class → ℕ → Bool) (spell : ℕ → Value → List ℕ) (inner : ℕ → Reader) → ((n : ℕ) (t : Guise) → BoundedRun (inner n t)) → (r : TypeRow) (t : Guise) → BoundedRun (read_by begins spell inner r t)
+row_bounded begins spell inner h row.Boolean t = prim_bounded boolean_rule (λ c. is_strict_boolean c && is_other t.default (boolean_rule c)) (tag_or t.tag Universal 1)
+row_bounded begins spell inner h (row.Integer low high) t = prim_bounded (integer_rule low high) (λ c. is_other t.default (integer_rule low high c)) (tag_or t.tag Universal 2)
+row_bounded begins spell inner h (row.Enumerated items) t = prim_bounded (enumerated_rule items) (λ c. is_other t.default (enumerated_rule items c)) (tag_or t.tag Universal 10)
+row_bounded begins spell inner h row.Null t = prim_bounded null_rule always (tag_or t.tag Universal 5)
+row_bounded begins spell inner h (row.OctetString most) t = string_bounded OfOctets (whole_octets most) always (tag_or t.tag Universal 4)
+row_bounded begins spell inner h row.BitString t = string_bounded OfBits whole_bits has_zero_bits (tag_or t.tag Universal 3)
+row_bounded begins spell inner h row.ObjectId t = prim_bounded object_id_rule always (tag_or t.tag Universal 6)
+row_bounded begins spell inner h (row.Text kind) t = string_bounded OfOctets (whole_text kind) always (tag_or t.tag Universal (text_number kind))
+row_bounded begins spell inner h (row.Sequence ps) t = sequence_bounded begins inner h ps (tag_or t.tag Universal 16)
+row_bounded begins spell inner h (row.Set ps) t = constructed_bounded (all_items_at (slot_at begins inner 0 ps) (set_done ps) (nothing_filled ps)) (tag_or t.tag Universal 17) (set_bounded begins inner h ps)
+row_bounded begins spell inner h (row.SequenceOf of) t = list_bounded (inner of.0) (tag_or t.tag Universal 16) (h of.0 plain)
+row_bounded begins spell inner h (row.SetOf of) t = set_of_bounded (spell of.0) (inner of.0) (tag_or t.tag Universal 17) (h of.0 plain)
+row_bounded begins spell inner h (row.Choice ps) t = or_bounded (choice_at begins inner 0 ps) t.tag (choice_bounded begins inner h 0 ps)
+row_bounded begins spell inner h (row.Tagged class number true of) t = explicit_bounded (inner of.0 (bare t.default)) (tag_or t.tag class number) (h of.0 (bare t.default))
+row_bounded begins spell inner h (row.Tagged class number false of) t = h of.0 (under (Some (tag_or t.tag class number)) t.default)
+row_bounded begins spell inner h row.Any t = or_bounded any_at t.tag any_bounded
 
-of_bounded : (begins : ℕ → Class → ℕ → Bool) (inner : ℕ → Reader) → ((n : ℕ) (t : Guise) → BoundedRun (inner n t)) → (o : Option TypeRow) (t : Guise) → BoundedRun (of_row dead (read_by begins inner) o t)
-of_bounded begins inner h None t = dead_bounded t
-of_bounded begins inner h (Some r) t = row_bounded begins inner h r t
+of_bounded : (begins : ℕ → Class → ℕ → Bool) (spell : ℕ → Value → List ℕ) (inner : ℕ → Reader) → ((n : ℕ) (t : Guise) → BoundedRun (inner n t)) → (o : Option TypeRow) (t : Guise) → BoundedRun (of_row dead (read_by begins spell inner) o t)
+of_bounded begins spell inner h None t = dead_bounded t
+of_bounded begins spell inner h (Some r) t = row_bounded begins spell inner h r t
 
-pub along_bounded : (rows : List TypeRow) (turns n : ℕ) (t : Guise) → BoundedRun (along dead (read_by (begins rows)) rows turns n t)
+pub along_bounded : (rows : List TypeRow) (turns n : ℕ) (t : Guise) → BoundedRun (along dead (read_by (begins rows) (written rows)) rows turns n t)
 along_bounded rows zero n t = dead_bounded t
-along_bounded rows (suc turns) n t = of_bounded (begins rows) (along dead (read_by (begins rows)) rows turns) (λ m u. along_bounded rows turns m u) (slice_get rows n) t
+along_bounded rows (suc turns) n t = of_bounded (begins rows) (written rows) (along dead (read_by (begins rows) (written rows)) rows turns) (λ m u. along_bounded rows turns m u) (slice_get rows n) t

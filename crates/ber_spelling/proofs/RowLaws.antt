@@ -16,9 +16,10 @@ use Rattle.asn1_types.specs.Defaults.{is_default}
 use Rattle.asn1_types.specs.Value.{Value}
 use Rattle.asn1_types.specs.Table.{IsSound}
 use Rattle.asn1_types.proofs.Sound.{IsSoundRow, sound_row}
-use Rattle.ber_spelling.specs.declared.spot.Tag as tags
+use Rattle.asn1_types.specs.declared.row.Tag as tags
+use Rattle.asn1_types.specs.Tags.{tag_or}
 use Rattle.ber_spelling.specs.declared.spot.StringKind.TheVariants.{OfOctets, OfBits}
-use Rattle.ber_spelling.specs.Rules.{Reader, dead, tag_or, read_by, or_explicit, explicit_at, choice_at, any_at, always, all_items_at, slot_at, set_done, nothing_filled, boolean_rule, is_strict_boolean, integer_rule, enumerated_rule, null_rule, object_id_rule, whole_octets, whole_text, whole_bits, has_zero_bits, sequence_at, Guise, bare, plain, under, is_other}
+use Rattle.ber_spelling.specs.Rules.{Reader, dead, read_by, or_explicit, explicit_at, choice_at, any_at, always, all_items_at, slot_at, set_done, nothing_filled, boolean_rule, is_strict_boolean, integer_rule, enumerated_rule, null_rule, object_id_rule, whole_octets, whole_text, whole_bits, has_zero_bits, sequence_at, Guise, bare, plain, under, is_other}
 use Rattle.ber_spelling.specs.Spelling.{Spelled, RowIs, RowOr, SpelledBy, OrExplicit, ChoiceIs, SequenceIs, ItemsAre, SetStep, AnyIs, BooleanIs, IntegerIs, EnumeratedIs, NullIs, ObjectIdIs, IsOther}
 use Rattle.ber_spelling.proofs.Steady.{Run, Relation, Found, Only, only_wider, OfTag, prim_found, prim_only, class_itself, eqb_itself}
 use Rattle.ber_spelling.proofs.Constructed.{ConstructedBy, constructed_found, constructed_only, explicit_body, explicit_found, explicit_only, explicit_same}
@@ -30,8 +31,9 @@ use Rattle.ber_spelling.proofs.Sets.{set_found, set_only}
 use Rattle.ber_spelling.proofs.WholeReads.{IsTagged}
 use Rattle.ber_spelling.proofs.Anys.{any_found, any_only}
 use Rattle.ber_spelling.proofs.Contents.{boolean_sound, boolean_complete, integer_sound, integer_complete, enumerated_sound, enumerated_complete, null_sound, null_complete}
-use Rattle.ber_spelling.proofs.Segments.{string_found, string_only, list_found, list_only}
+use Rattle.ber_spelling.proofs.Segments.{string_found, string_only, list_found, list_only, set_of_found, set_of_only}
 use Rattle.ber_spelling.proofs.Oids.{object_id_sound, object_id_complete}
+use Rattle.asn1_types.specs.Writing.{written}
 
 -- ---- what is read is spelled so
 
@@ -57,7 +59,7 @@ other_only : (rule : List ℕ → Option Value) (default : Option ℤ) (strict :
 other_only rule default strict c v e h x = subst (λ (o : Option Value). is_other default o ≡ true) (sym e) (ap not (h x))
 
 module _ (rows : List TypeRow) where
-  row_found : (inner : ℕ → Reader) (rel : ℕ → Spelled) → ((n : ℕ) (t : Guise) → Found (inner n t) (rel n t)) → ((n : ℕ) → AreHeaded (rel n)) → (r : TypeRow) (t : Guise) → Found (read_by (begins rows) inner r t) (RowIs rel r t)
+  row_found : (inner : ℕ → Reader) (rel : ℕ → Spelled) → ((n : ℕ) (t : Guise) → Found (inner n t) (rel n t)) → ((n : ℕ) → AreHeaded (rel n)) → (r : TypeRow) (t : Guise) → Found (read_by (begins rows) (written rows) inner r t) (RowIs (written rows) rel r t)
   unfolding sequence_at
   row_found inner rel h heads row.Boolean t = prim_found boolean_rule (λ c. is_strict_boolean c && is_other t.default (boolean_rule c)) (tag_or t.tag Universal 1) (λ strict v c. BooleanIs strict v c × IsOther t.default strict v) (λ strict c v are e k. (boolean_sound strict c v are e (λ x. (and_parts (is_strict_boolean c) (is_other t.default (boolean_rule c)) (k x)).0), other_found boolean_rule t.default strict c v e (λ x. (and_parts (is_strict_boolean c) (is_other t.default (boolean_rule c)) (k x)).1)))
   row_found inner rel h heads (row.Integer low high) t = prim_found (integer_rule low high) (λ c. is_other t.default (integer_rule low high c)) (tag_or t.tag Universal 2) (λ strict v c. IntegerIs low high v c × IsOther t.default strict v) (λ strict c v are e k. (integer_sound low high c v are e, other_found (integer_rule low high) t.default strict c v e k))
@@ -72,19 +74,20 @@ module _ (rows : List TypeRow) where
   row_found inner rel h heads (row.Set ps) t =
       constructed_found (all_items_at (slot_at (begins rows) inner 0 ps) (set_done ps) (nothing_filled ps)) (tag_or t.tag Universal 17) (ItemsAre (set_done ps) (SetStep rel ps) (nothing_filled ps)) (set_found (begins rows) inner rel h heads ps)
   row_found inner rel h heads (row.SequenceOf of) t = list_found (inner of.0) (rel of.0) (tag_or t.tag Universal 16) (h of.0 plain)
+  row_found inner rel h heads (row.SetOf of) t = set_of_found (written rows of.0) (inner of.0) (rel of.0) (tag_or t.tag Universal 17) (h of.0 plain)
   row_found inner rel h heads (row.Choice ps) t = or_found (choice_at (begins rows) inner 0 ps) (ChoiceIs rel ps) t.tag (choice_at_found (begins rows) inner rel h ps ps 0 (λ i p e. let none : 0 + i ≡ i = omega arith in ap (slice_get ps) none ∙ e))
   row_found inner rel h heads (row.Tagged class number true of) t = tagged_found (inner of.0 (bare t.default)) (rel of.0 (bare t.default)) (tag_or t.tag class number) (h of.0 (bare t.default))
   row_found inner rel h heads (row.Tagged class number false of) t = h of.0 (under (Some (tag_or t.tag class number)) t.default)
   row_found inner rel h heads row.Any t = or_found any_at (λ strict. AnyIs) t.tag any_found
 
   of_found : (inner : ℕ → Reader) (rel : ℕ → Spelled) → ((n : ℕ) (t : Guise) → Found (inner n t) (rel n t)) → ((n : ℕ) → AreHeaded (rel n)) → (o : Option TypeRow) (t : Guise)
-      → Found (of_row dead (read_by (begins rows) inner) o t) (λ strict levels v text. RowOr (RowIs rel) o t strict levels v text)
+      → Found (of_row dead (read_by (begins rows) (written rows) inner) o t) (λ strict levels v text. RowOr (RowIs (written rows) rel) o t strict levels v text)
   of_found inner rel h heads None t = dead_found t
   of_found inner rel h heads (Some r) t = row_found inner rel h heads r t
 
-  pub along_found : (turns n : ℕ) (t : Guise) → Found (along dead (read_by (begins rows)) rows turns n t) (λ strict levels v text. SpelledBy rows turns n t strict levels v text)
+  pub along_found : (turns n : ℕ) (t : Guise) → Found (along dead (read_by (begins rows) (written rows)) rows turns n t) (λ strict levels v text. SpelledBy rows turns n t strict levels v text)
   along_found zero n t = dead_found t
-  along_found (suc turns) n t = of_found (along dead (read_by (begins rows)) rows turns) (SpelledBy rows turns) (λ m u. along_found turns m u) (λ m. along_headed rows turns m) (slice_get rows n) t
+  along_found (suc turns) n t = of_found (along dead (read_by (begins rows) (written rows)) rows turns) (SpelledBy rows turns) (λ m u. along_found turns m u) (λ m. along_headed rows turns m) (slice_get rows n) t
 
 -- ---- what is spelled so is read
 
@@ -155,7 +158,7 @@ module _ (rows : List TypeRow) (n : ℕ) where
   both x y = rw (x, y) refl
 
   row_only : (inner : ℕ → Reader) (rel : ℕ → Spelled) → ((m : ℕ) (t : Guise) → OkTag t.tag → Only (Allowed rows m t.tag) (inner m t) (rel m t)) → ((m : ℕ) → AreHeaded (rel m))
-      → (r : TypeRow) → IsSoundRow rows n r → (t : Guise) → OkTag t.tag → Only (Allowed rows n t.tag) (read_by (begins rows) inner r t) (RowIs rel r t)
+      → (r : TypeRow) → IsSoundRow rows n r → (t : Guise) → OkTag t.tag → Only (Allowed rows n t.tag) (read_by (begins rows) (written rows) inner r t) (RowIs (written rows) rel r t)
   unfolding sequence_at
   row_only inner rel h heads row.Boolean s t ok =
       own Universal 1 s.opens refl t.tag _ _ (prim_only boolean_rule (λ c. is_strict_boolean c && is_other t.default (boolean_rule c)) (tag_or t.tag Universal 1) (λ strict v c. BooleanIs strict v c × IsOther t.default strict v) (tag_ok t.tag Universal 1 ok refl) (λ strict c v p. (let x = boolean_complete strict c v p.0 in (x.0, λ k. both (x.1 k) (other_only boolean_rule t.default strict c v x.0 p.1 k)))))
@@ -181,6 +184,8 @@ module _ (rows : List TypeRow) (n : ℕ) where
       (set_only (openings rows) inner rel (λ m d. h m (bare d) tt) heads ps s.apart))
   row_only inner rel h heads (row.SequenceOf of) s t ok =
       own Universal 16 s.opens refl t.tag _ _ (list_only (Allowed rows of.0 None) (inner of.0) (rel of.0) (tag_or t.tag Universal 16) (tag_ok t.tag Universal 16 ok refl) (h of.0 plain tt))
+  row_only inner rel h heads (row.SetOf of) s t ok =
+      own Universal 17 s.opens refl t.tag _ _ (set_of_only (written rows of.0) (Allowed rows of.0 None) (inner of.0) (rel of.0) (tag_or t.tag Universal 17) (tag_ok t.tag Universal 17 ok refl) (h of.0 plain tt))
   row_only inner rel h heads (row.Choice ps) s t ok =
       or_only (AnyAllows (openings rows) ps) (choice_at (begins rows) inner 0 ps) (ChoiceIs rel ps) t.tag ok (λ c k a. choice_begins ps s.opens c k a) (choice_only (openings rows) inner rel (λ m d. h m (bare d) tt) ps s.apart)
   row_only inner rel h heads (row.Tagged class number true of) s t ok =
@@ -190,10 +195,10 @@ module _ (rows : List TypeRow) (n : ℕ) where
   row_only inner rel h heads row.Any s t ok = or_only IsTagged any_at (λ strict. AnyIs) t.tag ok (λ c k a. any_begins s.opens c k a) any_only
 
   of_only : IsSound rows → (inner : ℕ → Reader) (rel : ℕ → Spelled) → ((m : ℕ) (t : Guise) → OkTag t.tag → Only (Allowed rows m t.tag) (inner m t) (rel m t)) → ((m : ℕ) → AreHeaded (rel m))
-      → (o : Option TypeRow) → slice_get rows n ≡ o → (t : Guise) → OkTag t.tag → Only (Allowed rows n t.tag) (of_row dead (read_by (begins rows) inner) o t) (λ strict levels v text. RowOr (RowIs rel) o t strict levels v text)
+      → (o : Option TypeRow) → slice_get rows n ≡ o → (t : Guise) → OkTag t.tag → Only (Allowed rows n t.tag) (of_row dead (read_by (begins rows) (written rows) inner) o t) (λ strict levels v text. RowOr (RowIs (written rows) rel) o t strict levels v text)
   of_only sound inner rel h heads None e t ok = nothing (Allowed rows n t.tag) (dead t)
   of_only sound inner rel h heads (Some r) e t ok = row_only inner rel h heads r (sound_row rows sound n r e) t ok
 
-pub along_only : (rows : List TypeRow) → IsSound rows → (turns n : ℕ) (t : Guise) → OkTag t.tag → Only (Allowed rows n t.tag) (along dead (read_by (begins rows)) rows turns n t) (λ strict levels v text. SpelledBy rows turns n t strict levels v text)
+pub along_only : (rows : List TypeRow) → IsSound rows → (turns n : ℕ) (t : Guise) → OkTag t.tag → Only (Allowed rows n t.tag) (along dead (read_by (begins rows) (written rows)) rows turns n t) (λ strict levels v text. SpelledBy rows turns n t strict levels v text)
 along_only rows sound zero n t ok = nothing (Allowed rows n t.tag) (dead t)
-along_only rows sound (suc turns) n t ok = of_only rows n sound (along dead (read_by (begins rows)) rows turns) (SpelledBy rows turns) (λ m u k. along_only rows sound turns m u k) (λ m. along_headed rows turns m) (slice_get rows n) refl t ok
+along_only rows sound (suc turns) n t ok = of_only rows n sound (along dead (read_by (begins rows) (written rows)) rows turns) (SpelledBy rows turns) (λ m u k. along_only rows sound turns m u k) (λ m. along_headed rows turns m) (slice_get rows n) refl t ok

@@ -3,17 +3,18 @@ use Rattle.std.proofs.Common.{◌≡◌, ℕ, zero, suc, ◌+◌, Bool, true, fa
 use Rattle.asn1_types.specs.declared.row.Class.{Class}
 use Rattle.asn1_types.specs.Rows.{is_no_tag}
 use Rattle.asn1_types.specs.Value.{Value}
+use Rattle.asn1_types.specs.Rising.{behind_last}
 use Rattle.ber_spelling.specs.declared.spot.Scope.{Scope}
-use Rattle.ber_spelling.specs.declared.spot.Tag as tags
+use Rattle.asn1_types.specs.declared.row.Tag as tags
 use Rattle.ber_spelling.specs.declared.spot.StringKind.{StringKind}
 use Rattle.ber_spelling.specs.declared.spot.StringKind.TheVariants.{OfOctets, OfBits}
 use Rattle.ber_spelling.specs.declared.spot.Gathered.{Gathered}
 use Rattle.ber_spelling.specs.Reading.{Spot, Opened, ◌>>=◌}
 use Rattle.ber_spelling.specs.Fields.{extent_at, contents_at}
-use Rattle.ber_spelling.specs.Rules.{Reader, expect_at, judge, form_at, primitive_at, always, constructed_at, all_items_at, segment_tag, nothing, segment_rule, segment_at, segmented_at, string_rule, string_at, list_item_at, list_done, list_at, plain}
-use Rattle.ber_spelling.specs.Spelling.{Spelled, IsConstructed, ItemsAre, SegmentIs, StringIs, ListStep, ListIs}
+use Rattle.ber_spelling.specs.Rules.{Reader, expect_at, judge, form_at, primitive_at, always, constructed_at, all_items_at, segment_tag, nothing, segment_rule, segment_at, segmented_at, string_rule, string_at, list_item_at, list_done, list_at, plain, set_item_at, set_of_done, set_of_at}
+use Rattle.ber_spelling.specs.Spelling.{Spelled, IsConstructed, ItemsAre, SegmentIs, StringIs, ListStep, ListIs, SetItemStep, SetOfIs}
 use Rattle.ber_spelling.proofs.Identifiers.{bind_ok, chosen_ok, ok_is}
-use Rattle.ber_spelling.proofs.Steady.{RunOf, RelationOf, ReadAs, Found, ReadBack, Only, OfTag, opened_as, judge_is, form_lax, form_passes, prim_found, prim_only}
+use Rattle.ber_spelling.proofs.Steady.{RunOf, RelationOf, ReadAs, Found, ReadBack, Only, OfTag, opened_as, judge_is, form_lax, form_passes, prim_found, prim_only, form_ok}
 use Rattle.ber_spelling.proofs.Constructed.{BodyOf, ConstructedBy, constructed_found, constructed_only}
 use Rattle.ber_spelling.proofs.Growing.{grown, grown_opened, Grows-bind, Grows-same, Grows-cond, with_spot, with_contents, extent_grows, contents_grow}
 use Rattle.ber_spelling.proofs.Turns.{bind_is}
@@ -188,6 +189,39 @@ list_step_only B inner rel h before = record {
 pub list_only : (B : Class → ℕ → Type 0) (inner : Reader) (rel : Spelled) (tag : tags.Tag) → is_no_tag tag.class tag.number ≡ false → Only B (inner plain) (rel plain) → Only (OfTag tag) (list_at inner tag) (λ strict levels v text. IsConstructed tag strict levels (ListIs rel strict v) text)
 list_only B inner rel tag tagged h = constructed_only (all_items_at (list_item_at inner) list_done []) tag (ItemsAre list_done (ListStep rel) []) tagged (all_only B (list_item_at inner) list_done (ListStep rel) [] (list_step_only B inner rel h))
 
+-- ---- SET OF
+
+set_step_found : (spell : Value → List ℕ) (inner : Reader) (rel : Spelled) → Found (inner plain) (rel plain) → (before : List Value) → Found (set_item_at spell inner before) (SetItemStep spell rel before)
+set_step_found spell inner rel h before = record {
+  found = λ scope place rest o s vs to are opens e.
+      let b = bind_ok (inner plain scope o s) (λ v. form_at scope o.start.place (behind_last spell before v.0) >>= λ _. Ok (before ++ v.0 ∷ [], v.1)) (vs, to) e in
+      let f = bind_ok (form_at scope o.start.place (behind_last spell before b.0.0)) (λ _. Ok (before ++ b.0.0 ∷ [], b.0.1)) (vs, to) b.2 in
+      let same = ok_is {A = List Value × Spot} (before ++ b.0.0 ∷ [], b.0.1) (vs, to) f.2 in
+      let r = h.found scope place rest o s b.0.0 b.0.1 are opens b.1 in
+      subst (λ (y : List Value × Spot). ReadAs (SetItemStep spell rel before) scope place rest y.0 y.1) same (record {
+        text = r.text;
+        taken = r.taken;
+        spelled = (b.0.0, refl, r.spelled, form_ok scope o.start.place (behind_last spell before b.0.0) f.0 f.1);
+        is_in = r.is_in;
+      });
+}
+
+pub set_of_found : (spell : Value → List ℕ) (inner : Reader) (rel : Spelled) (tag : tags.Tag) → Found (inner plain) (rel plain) → Found (set_of_at spell inner tag) (λ strict levels v text. IsConstructed tag strict levels (SetOfIs spell rel strict v) text)
+set_of_found spell inner rel tag h =
+    constructed_found (all_items_at (set_item_at spell inner) (set_of_done spell) []) tag (ItemsAre (set_of_done spell) (SetItemStep spell rel) []) (all_found (set_item_at spell inner) (set_of_done spell) (SetItemStep spell rel) [] (set_step_found spell inner rel h))
+
+set_step_only : (spell : Value → List ℕ) (B : Class → ℕ → Type 0) (inner : Reader) (rel : Spelled) → Only B (inner plain) (rel plain) → (before : List Value) → Only B (set_item_at spell inner before) (SetItemStep spell rel before)
+set_step_only spell B inner rel h before = record {
+  only = λ scope place vs text rest p here.
+      let r = h.only scope place p.0 text rest p.2 here in
+      back_as B (inner plain) (set_item_at spell inner before) scope place text rest p.0 vs r
+      (rw (r.reads, form_passes scope r.opened.start.place (behind_last spell before p.0) p.3) (ap (λ (y : List Value). Ok (y, record { place = place + length text; rest = rest })) (sym p.1)));
+}
+
+pub set_of_only : (spell : Value → List ℕ) (B : Class → ℕ → Type 0) (inner : Reader) (rel : Spelled) (tag : tags.Tag) → is_no_tag tag.class tag.number ≡ false → Only B (inner plain) (rel plain) → Only (OfTag tag) (set_of_at spell inner tag) (λ strict levels v text. IsConstructed tag strict levels (SetOfIs spell rel strict v) text)
+set_of_only spell B inner rel tag tagged h =
+    constructed_only (all_items_at (set_item_at spell inner) (set_of_done spell) []) tag (ItemsAre (set_of_done spell) (SetItemStep spell rel) []) tagged (all_only B (set_item_at spell inner) (set_of_done spell) (SetItemStep spell rel) [] (set_step_only spell B inner rel h))
+
 -- ---- it stays so
 
 pub prim_grows : {A : Type 0} (rule : List ℕ → Option A) (canonical : List ℕ → Bool) (tag : tags.Tag) → GrowsRun (primitive_at rule canonical tag)
@@ -231,3 +265,13 @@ list_step_grows inner h before = record {
 
 pub list_grows : (inner : Reader) (tag : tags.Tag) → GrowsRun (inner plain) → GrowsRun (list_at inner tag)
 list_grows inner tag h = constructed_grows (all_items_at (list_item_at inner) list_done []) tag (all_grow (list_item_at inner) list_done (list_step_grows inner h) [])
+
+set_step_grows : (spell : Value → List ℕ) (inner : Reader) → GrowsRun (inner plain) → (before : List Value) → GrowsRun (set_item_at spell inner before)
+set_step_grows spell inner h before = record {
+  grows = λ scope o s more.
+      Grows-bind (with_spot more) (with_spot more) (inner plain scope o s) (inner plain scope (grown_opened more o) (grown more s)) _ _ (h.grows scope o s more) (λ v e.
+      Grows-same (with_spot more) (form_at scope o.start.place (behind_last spell before v.0)) _ _ (λ f e. refl));
+}
+
+pub set_of_grows : (spell : Value → List ℕ) (inner : Reader) (tag : tags.Tag) → GrowsRun (inner plain) → GrowsRun (set_of_at spell inner tag)
+set_of_grows spell inner tag h = constructed_grows (all_items_at (set_item_at spell inner) (set_of_done spell) []) tag (all_grow (set_item_at spell inner) (set_of_done spell) (set_step_grows spell inner h) [])

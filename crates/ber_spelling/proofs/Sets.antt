@@ -8,11 +8,12 @@ use Rattle.asn1_types.specs.declared.row.Part.{Part}
 use Rattle.asn1_types.specs.Rows.{Opening}
 use Rattle.asn1_types.specs.Table.{clash, agrees_later}
 use Rattle.asn1_types.specs.Value.{Value}
+use Rattle.asn1_types.specs.Tags.{rank, front_rank}
 use Rattle.ber_spelling.specs.declared.fault.ReadFault.TheVariants as faults
 use Rattle.ber_spelling.specs.declared.spot.Scope.{Scope}
 use Rattle.ber_spelling.specs.Reading.{Spot, Opened}
 use Rattle.ber_spelling.specs.Fields.{identifier_at}
-use Rattle.ber_spelling.specs.Order.{rank, front_rank, Filled}
+use Rattle.ber_spelling.specs.Order.{Filled}
 use Rattle.ber_spelling.specs.Rules.{Reader, all_items_at, alone, cut_behind, late_kind, ordered_at, is_free, filled_by, fill_at, slot_at, set_done, nothing_filled, Guise, bare, plain}
 use Rattle.ber_spelling.specs.Spelling.{Spelled, SetStep, ItemsAre}
 use Rattle.ber_spelling.proofs.Identifiers.{bind_ok, chosen_ok, unless_ok, ok_is, done}

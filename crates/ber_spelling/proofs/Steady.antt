@@ -10,12 +10,13 @@ use Rattle.asn1_types.specs.Value.{Value}
 use Rattle.ber_spelling.specs.declared.fault.ReadFault.{ReadFault}
 use Rattle.ber_spelling.specs.declared.fault.ReadFault.TheVariants as faults
 use Rattle.ber_spelling.specs.declared.spot.Scope.{Scope}
-use Rattle.ber_spelling.specs.declared.spot.Tag as tags
+use Rattle.asn1_types.specs.declared.row.Tag as tags
+use Rattle.asn1_types.specs.Tags.{capped, leading}
 use Rattle.ber_spelling.specs.Octets.{AreOctets}
 use Rattle.ber_spelling.specs.Reading.{Spot, Opened, Reading, refuse}
-use Rattle.ber_spelling.specs.Fields.{capped, identifier_at, contents_at}
+use Rattle.ber_spelling.specs.Fields.{identifier_at, contents_at}
 use Rattle.ber_spelling.specs.Rules.{is_opened, expect_at, judge, form_at, primitive_at}
-use Rattle.ber_spelling.specs.Spelling.{leading, IsIdentifier, IsPrimitive}
+use Rattle.ber_spelling.specs.Spelling.{IsIdentifier, IsPrimitive}
 use Rattle.ber_spelling.proofs.Identifiers.{IsIn, in_before, Taken, bind_ok, chosen_ok, ok_is, done, identifier_found, identifier_again}
 use Rattle.ber_spelling.proofs.Lengths.{contents_found, contents_again}
 

@@ -5,7 +5,8 @@ use Rattle.osi_base.specs.declared.words.Kind.TheVariants.{Tag, Length, Form}
 use Rattle.ber_spelling.specs.declared.fault.ReadFault.TheVariants as faults
 use Rattle.ber_spelling.specs.declared.spot.Scope.{Scope}
 use Rattle.ber_spelling.specs.Reading.{Spot, Reading, ◌>>=◌, refuse, is_past, within}
-use Rattle.ber_spelling.specs.Fields.{capped, digits_at, is_lax, high_at, identifier_at, number_from, announced_at, long_at, is_end, lacking, sure_reach, definite_at, extent_at, contents_at, begin_at, second_zero_at, mark_at, look_at}
+use Rattle.ber_spelling.specs.Fields.{digits_at, is_lax, high_at, identifier_at, number_from, announced_at, long_at, is_end, lacking, sure_reach, definite_at, extent_at, contents_at, begin_at, second_zero_at, mark_at, look_at}
+use Rattle.asn1_types.specs.Tags.{capped}
 
 -- the scope of BER
 abbrev pub lax : Scope → Scope

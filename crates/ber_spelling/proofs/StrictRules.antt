@@ -13,19 +13,22 @@ use Rattle.asn1_types.specs.Rows.{of_row, along, begins, text_number, is_no_tag}
 use Rattle.asn1_types.specs.Value.{Value}
 use Rattle.asn1_types.specs.ValueView.{parts_of}
 use Rattle.asn1_types.specs.Whole.{is_marked}
+use Rattle.asn1_types.specs.Rising.{behind_last}
 use Rattle.ber_spelling.specs.declared.fault.ReadFault.TheVariants as faults
 use Rattle.ber_spelling.specs.declared.spot.Scope.{Scope}
-use Rattle.ber_spelling.specs.declared.spot.Tag as tags
+use Rattle.asn1_types.specs.declared.row.Tag as tags
+use Rattle.asn1_types.specs.Tags.{rank, tag_or}
 use Rattle.ber_spelling.specs.declared.spot.StringKind.{StringKind}
 use Rattle.ber_spelling.specs.declared.spot.StringKind.TheVariants.{OfOctets, OfBits}
 use Rattle.ber_spelling.specs.declared.spot.Gathered.{Gathered}
-use Rattle.ber_spelling.specs.Order.{rank, Filled}
+use Rattle.ber_spelling.specs.Order.{Filled}
 use Rattle.ber_spelling.specs.Reading.{Spot, Opened, Ahead, ended, begun, Reading, ◌>>=◌, refuse}
 use Rattle.ber_spelling.specs.Fields.{extent_at, contents_at, look_at}
-use Rattle.ber_spelling.specs.Rules.{Reader, is_opened, expect_at, judge, form_at, primitive_at, always, boolean_rule, is_strict_boolean, integer_rule, enumerated_rule, null_rule, object_id_rule, constructed_at, finish, item_at, items_at, all_items_at, segment_tag, nothing, segment_rule, segment_at, segmented_at, string_rule, string_at, whole_octets, whole_text, whole_bits, has_zero_bits, list_item_at, list_done, list_at, first_of, last_of, open_at, close_at, explicit_at, is_part, present_at, part_at, parts_at, sequence_at, nothing_filled, set_done, alone, cut_behind, late_kind, late_at, ordered_at, is_free, fill_at, slot_at, choice_at, anew, sized_at, marked_at, whole_at, any_at, dead, or_explicit, read_by, tag_or, Guise, bare, plain, under, is_other}
+use Rattle.ber_spelling.specs.Rules.{Reader, is_opened, expect_at, judge, form_at, primitive_at, always, boolean_rule, is_strict_boolean, integer_rule, enumerated_rule, null_rule, object_id_rule, constructed_at, finish, item_at, items_at, all_items_at, segment_tag, nothing, segment_rule, segment_at, segmented_at, string_rule, string_at, whole_octets, whole_text, whole_bits, has_zero_bits, list_item_at, list_done, list_at, first_of, last_of, open_at, close_at, explicit_at, is_part, present_at, part_at, parts_at, sequence_at, nothing_filled, set_done, alone, cut_behind, late_kind, late_at, ordered_at, is_free, fill_at, slot_at, choice_at, anew, sized_at, marked_at, whole_at, any_at, dead, or_explicit, read_by, Guise, bare, plain, under, is_other, set_item_at, set_of_done, set_of_at}
 use Rattle.ber_spelling.proofs.Steady.{Run, RunOf}
 use Rattle.ber_spelling.proofs.Constructed.{BodyOf}
 use Rattle.ber_spelling.proofs.Strict.{lax, Formal, same, Formal-bind, Formal-same, Formal-cond, Formal-asked, Formal-refl, lax_extent, extent_lax, contents_lax, look_lax, NoTag, NoTag-bind, extent_no_tag, contents_no_tag}
+use Rattle.asn1_types.specs.Writing.{written}
 
 pub record FormalRun {A : Type 0} (run : RunOf A) : Type 0 where
   pub each : (scope : Scope) (o : Opened) (s : Spot) → Formal same (run scope o s) (run (lax scope) o s)
@@ -113,6 +116,16 @@ list_step_formal inner h before = record { each = λ scope o s. Formal-bind same
 
 list_formal : (inner : Reader) (tag : tags.Tag) → FormalRun (inner plain) → FormalRun (list_at inner tag)
 list_formal inner tag h = constructed_formal (all_items_at (list_item_at inner) list_done []) tag (all_formal (list_item_at inner) list_done (λ a. list_step_formal inner h a) [])
+
+set_step_formal : (spell : Value → List ℕ) (inner : Reader) → FormalRun (inner plain) → (before : List Value) → FormalRun (set_item_at spell inner before)
+set_step_formal spell inner h before = record {
+  each = λ scope o s.
+      Formal-bind same same (inner plain scope o s) (inner plain (lax scope) o s) _ _ (h.each scope o s) (λ v.
+      Formal-bind same same (form_at scope o.start.place (behind_last spell before v.0)) (form_at (lax scope) o.start.place (behind_last spell before v.0)) _ _ (form_formal scope o.start.place (behind_last spell before v.0)) (λ u. refl));
+}
+
+set_of_formal : (spell : Value → List ℕ) (inner : Reader) (tag : tags.Tag) → FormalRun (inner plain) → FormalRun (set_of_at spell inner tag)
+set_of_formal spell inner tag h = constructed_formal (all_items_at (set_item_at spell inner) (set_of_done spell) []) tag (all_formal (set_item_at spell inner) (set_of_done spell) (λ a. set_step_formal spell inner h a) [])
 
 -- ---- explicit tags
 
@@ -398,44 +411,46 @@ pub record Strict (reader : Reader) : Type 0 where
 dead_strict : Strict dead
 dead_strict = record { formal = λ t. record { each = λ scope o s. inr refl }; tag_alone = λ t. record { each = λ scope o s. inr (λ other. refl) } }
 
-row_formal : (begins : ℕ → Class → ℕ → Bool) (inner : ℕ → Reader) → ((n : ℕ) → Strict (inner n)) → (r : TypeRow) (t : Guise) → FormalRun (read_by begins inner r t)
-row_formal begins inner h row.Boolean t = prim_formal boolean_rule (λ c. is_strict_boolean c && is_other t.default (boolean_rule c)) (tag_or t.tag Universal 1)
-row_formal begins inner h (row.Integer low high) t = prim_formal (integer_rule low high) (λ c. is_other t.default (integer_rule low high c)) (tag_or t.tag Universal 2)
-row_formal begins inner h (row.Enumerated items) t = prim_formal (enumerated_rule items) (λ c. is_other t.default (enumerated_rule items c)) (tag_or t.tag Universal 10)
-row_formal begins inner h row.Null t = prim_formal null_rule always (tag_or t.tag Universal 5)
-row_formal begins inner h (row.OctetString most) t = string_formal OfOctets (whole_octets most) always (tag_or t.tag Universal 4)
-row_formal begins inner h row.BitString t = string_formal OfBits whole_bits has_zero_bits (tag_or t.tag Universal 3)
-row_formal begins inner h row.ObjectId t = prim_formal object_id_rule always (tag_or t.tag Universal 6)
-row_formal begins inner h (row.Text kind) t = string_formal OfOctets (whole_text kind) always (tag_or t.tag Universal (text_number kind))
-row_formal begins inner h (row.Sequence ps) t = sequence_formal begins inner (λ n t. (h n).formal t) ps (tag_or t.tag Universal 16)
-row_formal begins inner h (row.Set ps) t = constructed_formal (all_items_at (slot_at begins inner 0 ps) (set_done ps) (nothing_filled ps)) (tag_or t.tag Universal 17) (set_formal begins inner (λ n t. (h n).formal t) (λ n t. (h n).tag_alone t) ps)
-row_formal begins inner h (row.SequenceOf of) t = list_formal (inner of.0) (tag_or t.tag Universal 16) ((h of.0).formal plain)
-row_formal begins inner h (row.Choice ps) t = or_formal (choice_at begins inner 0 ps) t.tag (choice_formal begins inner (λ n t. (h n).formal t) 0 ps)
-row_formal begins inner h (row.Tagged class number true of) t = explicit_formal (inner of.0 (bare t.default)) (tag_or t.tag class number) ((h of.0).formal (bare t.default))
-row_formal begins inner h (row.Tagged class number false of) t = (h of.0).formal (under (Some (tag_or t.tag class number)) t.default)
-row_formal begins inner h row.Any t = or_formal any_at t.tag any_formal
+row_formal : (begins : ℕ → Class → ℕ → Bool) (spell : ℕ → Value → List ℕ) (inner : ℕ → Reader) → ((n : ℕ) → Strict (inner n)) → (r : TypeRow) (t : Guise) → FormalRun (read_by begins spell inner r t)
+row_formal begins spell inner h row.Boolean t = prim_formal boolean_rule (λ c. is_strict_boolean c && is_other t.default (boolean_rule c)) (tag_or t.tag Universal 1)
+row_formal begins spell inner h (row.Integer low high) t = prim_formal (integer_rule low high) (λ c. is_other t.default (integer_rule low high c)) (tag_or t.tag Universal 2)
+row_formal begins spell inner h (row.Enumerated items) t = prim_formal (enumerated_rule items) (λ c. is_other t.default (enumerated_rule items c)) (tag_or t.tag Universal 10)
+row_formal begins spell inner h row.Null t = prim_formal null_rule always (tag_or t.tag Universal 5)
+row_formal begins spell inner h (row.OctetString most) t = string_formal OfOctets (whole_octets most) always (tag_or t.tag Universal 4)
+row_formal begins spell inner h row.BitString t = string_formal OfBits whole_bits has_zero_bits (tag_or t.tag Universal 3)
+row_formal begins spell inner h row.ObjectId t = prim_formal object_id_rule always (tag_or t.tag Universal 6)
+row_formal begins spell inner h (row.Text kind) t = string_formal OfOctets (whole_text kind) always (tag_or t.tag Universal (text_number kind))
+row_formal begins spell inner h (row.Sequence ps) t = sequence_formal begins inner (λ n t. (h n).formal t) ps (tag_or t.tag Universal 16)
+row_formal begins spell inner h (row.Set ps) t = constructed_formal (all_items_at (slot_at begins inner 0 ps) (set_done ps) (nothing_filled ps)) (tag_or t.tag Universal 17) (set_formal begins inner (λ n t. (h n).formal t) (λ n t. (h n).tag_alone t) ps)
+row_formal begins spell inner h (row.SequenceOf of) t = list_formal (inner of.0) (tag_or t.tag Universal 16) ((h of.0).formal plain)
+row_formal begins spell inner h (row.SetOf of) t = set_of_formal (spell of.0) (inner of.0) (tag_or t.tag Universal 17) ((h of.0).formal plain)
+row_formal begins spell inner h (row.Choice ps) t = or_formal (choice_at begins inner 0 ps) t.tag (choice_formal begins inner (λ n t. (h n).formal t) 0 ps)
+row_formal begins spell inner h (row.Tagged class number true of) t = explicit_formal (inner of.0 (bare t.default)) (tag_or t.tag class number) ((h of.0).formal (bare t.default))
+row_formal begins spell inner h (row.Tagged class number false of) t = (h of.0).formal (under (Some (tag_or t.tag class number)) t.default)
+row_formal begins spell inner h row.Any t = or_formal any_at t.tag any_formal
 
-row_alone : (begins : ℕ → Class → ℕ → Bool) (inner : ℕ → Reader) → ((n : ℕ) → Strict (inner n)) → (r : TypeRow) (t : Guise) → TagAlone (read_by begins inner r t)
-row_alone begins inner h row.Boolean t = prim_alone boolean_rule (λ c. is_strict_boolean c && is_other t.default (boolean_rule c)) (tag_or t.tag Universal 1)
-row_alone begins inner h (row.Integer low high) t = prim_alone (integer_rule low high) (λ c. is_other t.default (integer_rule low high c)) (tag_or t.tag Universal 2)
-row_alone begins inner h (row.Enumerated items) t = prim_alone (enumerated_rule items) (λ c. is_other t.default (enumerated_rule items c)) (tag_or t.tag Universal 10)
-row_alone begins inner h row.Null t = prim_alone null_rule always (tag_or t.tag Universal 5)
-row_alone begins inner h (row.OctetString most) t = string_alone OfOctets (whole_octets most) always (tag_or t.tag Universal 4)
-row_alone begins inner h row.BitString t = string_alone OfBits whole_bits has_zero_bits (tag_or t.tag Universal 3)
-row_alone begins inner h row.ObjectId t = prim_alone object_id_rule always (tag_or t.tag Universal 6)
-row_alone begins inner h (row.Text kind) t = string_alone OfOctets (whole_text kind) always (tag_or t.tag Universal (text_number kind))
-row_alone begins inner h (row.Sequence ps) t = sequence_alone begins inner ps (tag_or t.tag Universal 16)
-row_alone begins inner h (row.Set ps) t = constructed_alone (all_items_at (slot_at begins inner 0 ps) (set_done ps) (nothing_filled ps)) (tag_or t.tag Universal 17)
-row_alone begins inner h (row.SequenceOf of) t = constructed_alone (all_items_at (list_item_at (inner of.0)) list_done []) (tag_or t.tag Universal 16)
-row_alone begins inner h (row.Choice ps) t = or_alone (choice_at begins inner 0 ps) t.tag (choice_alone begins inner (λ n t. (h n).tag_alone t) 0 ps)
-row_alone begins inner h (row.Tagged class number true of) t = explicit_alone (inner of.0 (bare t.default)) (tag_or t.tag class number)
-row_alone begins inner h (row.Tagged class number false of) t = (h of.0).tag_alone (under (Some (tag_or t.tag class number)) t.default)
-row_alone begins inner h row.Any t = or_alone any_at t.tag any_alone
+row_alone : (begins : ℕ → Class → ℕ → Bool) (spell : ℕ → Value → List ℕ) (inner : ℕ → Reader) → ((n : ℕ) → Strict (inner n)) → (r : TypeRow) (t : Guise) → TagAlone (read_by begins spell inner r t)
+row_alone begins spell inner h row.Boolean t = prim_alone boolean_rule (λ c. is_strict_boolean c && is_other t.default (boolean_rule c)) (tag_or t.tag Universal 1)
+row_alone begins spell inner h (row.Integer low high) t = prim_alone (integer_rule low high) (λ c. is_other t.default (integer_rule low high c)) (tag_or t.tag Universal 2)
+row_alone begins spell inner h (row.Enumerated items) t = prim_alone (enumerated_rule items) (λ c. is_other t.default (enumerated_rule items c)) (tag_or t.tag Universal 10)
+row_alone begins spell inner h row.Null t = prim_alone null_rule always (tag_or t.tag Universal 5)
+row_alone begins spell inner h (row.OctetString most) t = string_alone OfOctets (whole_octets most) always (tag_or t.tag Universal 4)
+row_alone begins spell inner h row.BitString t = string_alone OfBits whole_bits has_zero_bits (tag_or t.tag Universal 3)
+row_alone begins spell inner h row.ObjectId t = prim_alone object_id_rule always (tag_or t.tag Universal 6)
+row_alone begins spell inner h (row.Text kind) t = string_alone OfOctets (whole_text kind) always (tag_or t.tag Universal (text_number kind))
+row_alone begins spell inner h (row.Sequence ps) t = sequence_alone begins inner ps (tag_or t.tag Universal 16)
+row_alone begins spell inner h (row.Set ps) t = constructed_alone (all_items_at (slot_at begins inner 0 ps) (set_done ps) (nothing_filled ps)) (tag_or t.tag Universal 17)
+row_alone begins spell inner h (row.SequenceOf of) t = constructed_alone (all_items_at (list_item_at (inner of.0)) list_done []) (tag_or t.tag Universal 16)
+row_alone begins spell inner h (row.SetOf of) t = constructed_alone (all_items_at (set_item_at (spell of.0) (inner of.0)) (set_of_done (spell of.0)) []) (tag_or t.tag Universal 17)
+row_alone begins spell inner h (row.Choice ps) t = or_alone (choice_at begins inner 0 ps) t.tag (choice_alone begins inner (λ n t. (h n).tag_alone t) 0 ps)
+row_alone begins spell inner h (row.Tagged class number true of) t = explicit_alone (inner of.0 (bare t.default)) (tag_or t.tag class number)
+row_alone begins spell inner h (row.Tagged class number false of) t = (h of.0).tag_alone (under (Some (tag_or t.tag class number)) t.default)
+row_alone begins spell inner h row.Any t = or_alone any_at t.tag any_alone
 
-of_strict : (begins : ℕ → Class → ℕ → Bool) (inner : ℕ → Reader) → ((n : ℕ) → Strict (inner n)) → (o : Option TypeRow) → Strict (λ t. of_row dead (read_by begins inner) o t)
-of_strict begins inner h None = dead_strict
-of_strict begins inner h (Some r) = record { formal = row_formal begins inner h r; tag_alone = row_alone begins inner h r }
+of_strict : (begins : ℕ → Class → ℕ → Bool) (spell : ℕ → Value → List ℕ) (inner : ℕ → Reader) → ((n : ℕ) → Strict (inner n)) → (o : Option TypeRow) → Strict (λ t. of_row dead (read_by begins spell inner) o t)
+of_strict begins spell inner h None = dead_strict
+of_strict begins spell inner h (Some r) = record { formal = row_formal begins spell inner h r; tag_alone = row_alone begins spell inner h r }
 
-pub along_strict : (rows : List TypeRow) (turns n : ℕ) → Strict (along dead (read_by (begins rows)) rows turns n)
+pub along_strict : (rows : List TypeRow) (turns n : ℕ) → Strict (along dead (read_by (begins rows) (written rows)) rows turns n)
 along_strict rows zero n = dead_strict
-along_strict rows (suc turns) n = of_strict (begins rows) (along dead (read_by (begins rows)) rows turns) (λ m. along_strict rows turns m) (slice_get rows n)
+along_strict rows (suc turns) n = of_strict (begins rows) (written rows) (along dead (read_by (begins rows) (written rows)) rows turns) (λ m. along_strict rows turns m) (slice_get rows n)

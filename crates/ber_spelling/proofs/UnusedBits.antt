@@ -12,16 +12,18 @@ use Rattle.asn1_types.specs.Rows.{text_number}
 use Rattle.asn1_types.specs.Value.{Value, octets, text, parts, bits}
 use Rattle.asn1_types.specs.ValueView.{parts_of}
 use Rattle.asn1_types.specs.Fits.{are_bits, is_text}
-use Rattle.ber_spelling.specs.declared.spot.Tag as tags
+use Rattle.asn1_types.specs.declared.row.Tag as tags
+use Rattle.asn1_types.specs.Tags.{tag_or}
 use Rattle.ber_spelling.specs.declared.spot.StringKind.TheVariants.{OfOctets, OfBits}
 use Rattle.ber_spelling.specs.declared.spot.Gathered.{Gathered}
 use Rattle.ber_spelling.specs.Order.{Filled}
-use Rattle.ber_spelling.specs.Rules.{tag_or, always, segment_tag, nothing, segment_rule, string_rule, and_whole, cleared, whole_octets, whole_text, whole_bits, has_zero_bits, is_filled, set_done, Guise, bare, plain, under, settled}
-use Rattle.ber_spelling.specs.Spelling.{IsDefinite, IsPrimitive, IsConstructed, Spelled, StringIs, SequenceIs, SetIs, ListIs, ChoiceIs, RowIs, RowOr, SpelledBy, AnyIs, OrExplicit}
+use Rattle.ber_spelling.specs.Rules.{always, segment_tag, nothing, segment_rule, string_rule, and_whole, cleared, whole_octets, whole_text, whole_bits, has_zero_bits, is_filled, set_done, Guise, bare, plain, under, settled}
+use Rattle.ber_spelling.specs.Spelling.{IsDefinite, IsPrimitive, IsConstructed, Spelled, StringIs, SequenceIs, SetIs, ListIs, ChoiceIs, RowIs, RowOr, SpelledBy, AnyIs, OrExplicit, SetOfIs}
 use Rattle.ber_spelling.specs.Laws.{HoldsUnused, UnusedBitsAreZeros, UnusedBitsAreCleared}
 use Rattle.ber_spelling.proofs.Around.{Before, before_of, around, around_one, around_are, primitive_as}
 use Rattle.ber_spelling.proofs.LastOctets.{Outcome, Last, Holds, with_last, holds_outcome, segment_outcome}
 use Rattle.ber_spelling.proofs.Wholes.{cond_some as else_some}
+use Rattle.asn1_types.specs.Writing.{written}
 
 -- ---- the last octet, cleared
 
@@ -237,7 +239,7 @@ explicit_zeros P tag levels os unused s each p =
           },
     )
 
-module _ (rel : ℕ → Spelled) (h : (m : ℕ) → HaveZeros (rel m)) where
+module _ (spell : ℕ → Value → List ℕ) (rel : ℕ → Spelled) (h : (m : ℕ) → HaveZeros (rel m)) where
   choice_zeros : (ps : List Part) (t : Option tags.Tag) (levels : ℕ) (os : List ℕ) (unused : ℕ) (s : List ℕ) → OrExplicit (ChoiceIs rel ps) t false levels (bits os unused) s → AreZeros os unused (OrExplicit (ChoiceIs rel ps) t false levels (bits os unused)) s
   choice_zeros ps None levels os unused s p = absurd p
   choice_zeros ps (Some t) levels os unused s p = absurd (around t false levels (λ l c. ChoiceIs rel ps false l (bits os unused) c) s p).holds
@@ -246,7 +248,7 @@ module _ (rel : ℕ → Spelled) (h : (m : ℕ) → HaveZeros (rel m)) where
   any_zeros None levels os unused s p = absurd p
   any_zeros (Some t) levels os unused s p = absurd (around t false levels (λ l c. AnyIs l (bits os unused) c) s p).holds
 
-  row_zeros : (r : TypeRow) (t : Guise) (levels : ℕ) (os : List ℕ) (unused : ℕ) (s : List ℕ) → RowIs rel r t false levels (bits os unused) s → AreZeros os unused (RowIs rel r t false levels (bits os unused)) s
+  row_zeros : (r : TypeRow) (t : Guise) (levels : ℕ) (os : List ℕ) (unused : ℕ) (s : List ℕ) → RowIs spell rel r t false levels (bits os unused) s → AreZeros os unused (RowIs spell rel r t false levels (bits os unused)) s
   row_zeros row.Boolean t levels os unused s p = absurd p.form.holds.0
   row_zeros (row.Integer low high) t levels os unused s p = absurd p.form.holds.0
   row_zeros (row.Enumerated items) t levels os unused s p = absurd p.form.holds.0
@@ -262,19 +264,22 @@ module _ (rel : ℕ → Spelled) (h : (m : ℕ) → HaveZeros (rel m)) where
   row_zeros (row.SequenceOf of) t levels os unused s p =
       let x = (around (tag_or t.tag Universal 16) false levels (ListIs (rel of.0) false (bits os unused)) s p).holds in
       absurd (let no = x.1 in cc)
+  row_zeros (row.SetOf of) t levels os unused s p =
+      let x = (around (tag_or t.tag Universal 17) false levels (SetOfIs (spell of.0) (rel of.0) false (bits os unused)) s p).holds in
+      absurd (let no = x.1 in cc)
   row_zeros (row.Choice ps) t levels os unused s p = choice_zeros ps t.tag levels os unused s p
   row_zeros (row.Tagged class number true of) t levels os unused s p =
       explicit_zeros (λ l v c. rel of.0 (bare t.default) false l v c) (tag_or t.tag class number) levels os unused s (λ l c q. (h of.0).is (bare t.default) l os unused c q) p
   row_zeros (row.Tagged class number false of) t levels os unused s p = (h of.0).is (under (Some (tag_or t.tag class number)) t.default) levels os unused s p
   row_zeros row.Any t levels os unused s p = any_zeros t.tag levels os unused s p
 
-  of_zeros : (o : Option TypeRow) (t : Guise) (levels : ℕ) (os : List ℕ) (unused : ℕ) (s : List ℕ) → RowOr (RowIs rel) o t false levels (bits os unused) s → AreZeros os unused (RowOr (RowIs rel) o t false levels (bits os unused)) s
+  of_zeros : (o : Option TypeRow) (t : Guise) (levels : ℕ) (os : List ℕ) (unused : ℕ) (s : List ℕ) → RowOr (RowIs spell rel) o t false levels (bits os unused) s → AreZeros os unused (RowOr (RowIs spell rel) o t false levels (bits os unused)) s
   of_zeros None t levels os unused s p = absurd p
   of_zeros (Some r) t levels os unused s p = row_zeros r t levels os unused s p
 
 along_zeros : (rows : List TypeRow) (turns n : ℕ) → HaveZeros (SpelledBy rows turns n)
 along_zeros rows zero n = record { is = λ t levels os unused s p. absurd p }
-along_zeros rows (suc turns) n = record { is = λ t levels os unused s p. of_zeros (SpelledBy rows turns) (λ m. along_zeros rows turns m) (slice_get rows n) t levels os unused s p }
+along_zeros rows (suc turns) n = record { is = λ t levels os unused s p. of_zeros (written rows) (SpelledBy rows turns) (λ m. along_zeros rows turns m) (slice_get rows n) t levels os unused s p }
 
 same_size : (front back : List ℕ) (x y limit : ℕ) (s : List ℕ) → s ≡ front ++ (x ∷ back) → length s ≤ limit → length (front ++ (y ∷ back)) ≤ limit
 same_size front back x y limit s is le = omega (arith, ap length is, length-append front (x ∷ back), length-append front (y ∷ back))

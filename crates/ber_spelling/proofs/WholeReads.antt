@@ -7,11 +7,12 @@ use Rattle.asn1_types.specs.declared.row.Class.{Class}
 use Rattle.asn1_types.specs.declared.row.Class.TheVariants.{Universal}
 use Rattle.asn1_types.specs.Rows.{is_no_tag, same_class}
 use Rattle.asn1_types.specs.Whole.{is_marked}
+use Rattle.asn1_types.specs.Tags.{capped}
 use Rattle.ber_spelling.specs.declared.fault.ReadFault.TheVariants as faults
 use Rattle.ber_spelling.specs.declared.spot.Scope.{Scope}
 use Rattle.ber_spelling.specs.Octets.{AreOctets}
 use Rattle.ber_spelling.specs.Reading.{Spot, Opened, Reading, ◌>>=◌}
-use Rattle.ber_spelling.specs.Fields.{capped, identifier_at, inside, is_end, cut_off, lacking, definite_at, extent_at, contents_at}
+use Rattle.ber_spelling.specs.Fields.{identifier_at, inside, is_end, cut_off, lacking, definite_at, extent_at, contents_at}
 use Rattle.ber_spelling.specs.Rules.{all_items_at, anew, sized_at, marked_at, whole_at}
 use Rattle.ber_spelling.specs.Spelling.{IsLength, IsIdentifier, Steps, ItemsAre, IsSized, AreAll, IsMarked, IsWhole}
 use Rattle.ber_spelling.proofs.Identifiers.{IsIn, in_before, bind_ok, chosen_ok, unless_ok, ok_is, IdentifierFound, identifier_found, identifier_again}

@@ -14,14 +14,15 @@ use Rattle.asn1_types.specs.Value.{Value, boolean, integer, null, octets, bits, 
 use Rattle.asn1_types.specs.Whole.{number_256, behind_digits, behind_high, behind_identifier, behind_octets, behind_counted, behind_sized, is_constructed as is_formed, is_ended, behind_values, behind_whole, is_nothing, is_whole}
 use Rattle.asn1_types.specs.Fits.{fits}
 use Rattle.asn1_types.proofs.Sound.{sound_row}
-use Rattle.ber_spelling.specs.declared.spot.Tag as tags
+use Rattle.asn1_types.specs.declared.row.Tag as tags
 use Rattle.ber_spelling.specs.Fields.{is_constructed, number_from}
 use Rattle.ber_spelling.specs.declared.spot.StringKind.{StringKind}
 use Rattle.ber_spelling.specs.declared.spot.StringKind.TheVariants.{OfOctets, OfBits}
-use Rattle.ber_spelling.specs.Rules.{tag_or, string_rule, whole_octets, whole_bits, whole_text, has_zero_bits, always, Guise, bare, plain, under}
+use Rattle.ber_spelling.specs.Rules.{string_rule, whole_octets, whole_bits, whole_text, has_zero_bits, always, Guise, bare, plain, under}
 use Rattle.ber_spelling.specs.declared.spot.Gathered.{Gathered}
-use Rattle.ber_spelling.specs.Spelling.{AreDigits, low_bits, IsBase128, leading, IsIdentifier, IsLength, IsDefinite, IsIndefinite, IsPrimitive, IsConstructed, AreAll, IsWhole, Spelled, SequenceIs, SetIs, ChoiceIs, BooleanIs, IntegerIs, EnumeratedIs, StringIs, ListIs, NullIs, ObjectIdIs, AnyIs, RowIs, RowOr, SpelledBy, Spells, OrExplicit, IsOther}
-use Rattle.ber_spelling.specs.Writing.{written}
+use Rattle.ber_spelling.specs.Spelling.{AreDigits, low_bits, IsBase128, IsIdentifier, IsLength, IsDefinite, IsIndefinite, IsPrimitive, IsConstructed, AreAll, IsWhole, Spelled, SequenceIs, SetIs, ChoiceIs, BooleanIs, IntegerIs, EnumeratedIs, StringIs, ListIs, NullIs, ObjectIdIs, AnyIs, RowIs, RowOr, SpelledBy, Spells, OrExplicit, IsOther, SetOfIs}
+use Rattle.asn1_types.specs.Writing.{written}
+use Rattle.asn1_types.specs.Tags.{tag_or, leading}
 use Rattle.ber_spelling.proofs.Identifiers.{low_at, form_at}
 use Rattle.ber_spelling.proofs.Steady.{Head, head_some, regroup, regroup_marked}
 use Rattle.ber_spelling.proofs.RowLaws.{text_tag, OkTag, tag_ok}
@@ -229,7 +230,7 @@ explicit_whole : (P : Bool → ℕ → Value → List ℕ → Type 0) → ((leve
 explicit_whole P each None levels v s ok p = each levels v s p
 explicit_whole P each (Some t) levels v s ok p = constructed_whole t levels (λ inner contents. P true inner v contents) s ok p
 
-module _ (rel : ℕ → Spelled) (each : (m : ℕ) → AreWhole (rel m)) where
+module _ (spell : ℕ → Value → List ℕ) (rel : ℕ → Spelled) (each : (m : ℕ) → AreWhole (rel m)) where
   chosen_whole : (ps : List Part) (levels : ℕ) (v : Value) (s : List ℕ) → ChoiceIs rel ps true levels v s → IsWhole 32 s
   chosen_whole ps levels (chosen which v) s p = (each p.0.inner.0).is plain levels v s tt p.2
   chosen_whole ps levels (boolean x) s p = absurd p
@@ -243,7 +244,7 @@ module _ (rel : ℕ → Spelled) (each : (m : ℕ) → AreWhole (rel m)) where
   chosen_whole ps levels (list x) s p = absurd p
   chosen_whole ps levels (any x) s p = absurd p
 
-  row_whole : (r : TypeRow) → is_bad_range r ≡ false → (t : Guise) (levels : ℕ) (v : Value) (s : List ℕ) → OkTag t.tag → RowIs rel r t true levels v s → IsWhole 32 s
+  row_whole : (r : TypeRow) → is_bad_range r ≡ false → (t : Guise) (levels : ℕ) (v : Value) (s : List ℕ) → OkTag t.tag → RowIs spell rel r t true levels v s → IsWhole 32 s
   row_whole row.Boolean good t levels v s ok p = primitive_whole (tag_or t.tag Universal 1) levels (λ c. BooleanIs true v c × IsOther t.default true v) s (tag_ok t.tag Universal 1 ok refl) p
   row_whole (row.Integer low high) good t levels v s ok p = primitive_whole (tag_or t.tag Universal 2) levels (λ c. IntegerIs low high v c × IsOther t.default true v) s (tag_ok t.tag Universal 2 ok refl) p
   row_whole (row.Enumerated items) good t levels v s ok p = primitive_whole (tag_or t.tag Universal 10) levels (λ c. EnumeratedIs items v c × IsOther t.default true v) s (tag_ok t.tag Universal 10 ok refl) p
@@ -255,6 +256,7 @@ module _ (rel : ℕ → Spelled) (each : (m : ℕ) → AreWhole (rel m)) where
   row_whole (row.Sequence ps) good t levels v s ok p = constructed_whole (tag_or t.tag Universal 16) levels (SequenceIs rel true ps v) s (tag_ok t.tag Universal 16 ok refl) p
   row_whole (row.Set ps) good t levels v s ok p = constructed_whole (tag_or t.tag Universal 17) levels (SetIs rel ps true v) s (tag_ok t.tag Universal 17 ok refl) p
   row_whole (row.SequenceOf of) good t levels v s ok p = constructed_whole (tag_or t.tag Universal 16) levels (ListIs (rel of.0) true v) s (tag_ok t.tag Universal 16 ok refl) p
+  row_whole (row.SetOf of) good t levels v s ok p = constructed_whole (tag_or t.tag Universal 17) levels (SetOfIs (spell of.0) (rel of.0) true v) s (tag_ok t.tag Universal 17 ok refl) p
   row_whole (row.Choice ps) good t levels v s ok p = explicit_whole (ChoiceIs rel ps) (chosen_whole ps) t.tag levels v s ok p
   row_whole (row.Tagged class number true of) good t levels v s ok p =
       constructed_whole (tag_or t.tag class number) levels (λ l contents. rel of.0 (bare t.default) true l v contents) s (tag_ok t.tag class number ok good) p
@@ -266,9 +268,9 @@ module _ (rows : List TypeRow) (sound : IsSound rows) where
   all_whole zero n = record { is = λ t levels v s ok p. absurd p }
   all_whole (suc turns) n = record { is = by_row (slice_get rows n) refl (λ m. all_whole turns m) }
     where
-      by_row : (o : Option TypeRow) → slice_get rows n ≡ o → ((m : ℕ) → AreWhole (SpelledBy rows turns m)) → (t : Guise) (levels : ℕ) (v : Value) (s : List ℕ) → OkTag t.tag → RowOr (RowIs (SpelledBy rows turns)) o t true levels v s → IsWhole 32 s
+      by_row : (o : Option TypeRow) → slice_get rows n ≡ o → ((m : ℕ) → AreWhole (SpelledBy rows turns m)) → (t : Guise) (levels : ℕ) (v : Value) (s : List ℕ) → OkTag t.tag → RowOr (RowIs (written rows) (SpelledBy rows turns)) o t true levels v s → IsWhole 32 s
       by_row None g h t levels v s ok p = absurd p
-      by_row (Some r) g h t levels v s ok p = row_whole (SpelledBy rows turns) h r (sound_row rows sound n r g).range t levels v s ok p
+      by_row (Some r) g h t levels v s ok p = row_whole (written rows) (SpelledBy rows turns) h r (sound_row rows sound n r g).range t levels v s ok p
 
   -- what DER spells is one whole value
   pub der_whole : (n limit : ℕ) (v : Value) (s : List ℕ) → Spells rows n true limit v s → IsWhole 32 s

@@ -7,8 +7,9 @@ use Rattle.asn1_types.specs.declared.row.Class.{Class}
 use Rattle.asn1_types.specs.declared.row.Class.TheVariants.{Universal, Application, Context, Private}
 use Rattle.asn1_types.specs.Rows.{is_no_tag, same_class}
 use Rattle.asn1_types.specs.Whole.{number_256, behind_digits, behind_high, behind_identifier, behind_octets, behind_counted, behind_sized, is_constructed as is_formed, is_marked, is_ended, behind_values, behind_length, behind_whole, is_nothing, is_whole}
-use Rattle.ber_spelling.specs.Fields.{class_of, is_constructed, number_from}
-use Rattle.ber_spelling.specs.Spelling.{AreDigits, low_bits, number_128, IsBase128, leading, IsIdentifier, IsLength, IsSized, AreAll, IsMarked, IsWhole}
+use Rattle.asn1_types.specs.Tags.{class_of, leading}
+use Rattle.ber_spelling.specs.Fields.{is_constructed, number_from}
+use Rattle.ber_spelling.specs.Spelling.{AreDigits, low_bits, number_128, IsBase128, IsIdentifier, IsLength, IsSized, AreAll, IsMarked, IsWhole}
 use Rattle.ber_spelling.proofs.Identifiers.{first_is}
 use Rattle.ber_spelling.proofs.Steady.{regroup, regroup_marked}
 

@@ -6,7 +6,8 @@ use Rattle.osi_base.specs.declared.words.Kind.TheVariants.{Length, Form}
 use Rattle.ber_spelling.specs.declared.fault.ReadFault.TheVariants as faults
 use Rattle.ber_spelling.specs.declared.spot.Scope.{Scope}
 use Rattle.ber_spelling.specs.Reading.{Spot, Reading, ◌>>=◌, refuse, is_past, within}
-use Rattle.ber_spelling.specs.Fields.{capped, digits_at, is_lax, high_at, identifier_at, number_from, announced_at, long_at, is_end, cut_off, lacking_from, lacking, inside, sure_reach, definite_at, extent_at, contents_at, begin_at, second_zero_at, mark_at, look_at}
+use Rattle.asn1_types.specs.Tags.{capped}
+use Rattle.ber_spelling.specs.Fields.{digits_at, is_lax, high_at, identifier_at, number_from, announced_at, long_at, is_end, cut_off, lacking_from, lacking, inside, sure_reach, definite_at, extent_at, contents_at, begin_at, second_zero_at, mark_at, look_at}
 
 -- a scope with another limit
 abbrev pub wide : ℕ → Scope → Scope

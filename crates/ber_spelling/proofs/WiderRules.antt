@@ -15,14 +15,17 @@ use Rattle.asn1_types.specs.ValueView.{parts_of}
 use Rattle.asn1_types.specs.Whole.{is_marked}
 use Rattle.ber_spelling.specs.declared.fault.ReadFault.TheVariants as faults
 use Rattle.ber_spelling.specs.declared.spot.Scope.{Scope}
-use Rattle.ber_spelling.specs.declared.spot.Tag as tags
+use Rattle.asn1_types.specs.declared.row.Tag as tags
+use Rattle.asn1_types.specs.Tags.{rank, tag_or}
+use Rattle.asn1_types.specs.Writing.{written}
+use Rattle.asn1_types.specs.Rising.{behind_last}
 use Rattle.ber_spelling.specs.declared.spot.StringKind.{StringKind}
 use Rattle.ber_spelling.specs.declared.spot.StringKind.TheVariants.{OfOctets, OfBits}
 use Rattle.ber_spelling.specs.declared.spot.Gathered.{Gathered}
-use Rattle.ber_spelling.specs.Order.{rank, Filled}
+use Rattle.ber_spelling.specs.Order.{Filled}
 use Rattle.ber_spelling.specs.Reading.{Spot, Opened, Ahead, ended, begun, Reading, ◌>>=◌, refuse}
 use Rattle.ber_spelling.specs.Fields.{extent_at, contents_at, look_at}
-use Rattle.ber_spelling.specs.Rules.{Reader, expect_at, judge, form_at, primitive_at, always, boolean_rule, is_strict_boolean, integer_rule, enumerated_rule, null_rule, object_id_rule, constructed_at, finish, item_at, items_at, all_items_at, segment_tag, nothing, segment_rule, segment_at, segmented_at, string_rule, string_at, whole_octets, whole_text, whole_bits, has_zero_bits, list_item_at, list_done, list_at, first_of, last_of, open_at, close_at, explicit_at, is_part, present_at, part_at, parts_at, sequence_at, nothing_filled, set_done, alone, cut_behind, late_kind, late_at, ordered_at, is_free, fill_at, slot_at, choice_at, anew, whole_at, any_at, dead, or_explicit, read_by, tag_or, Guise, bare, plain, under, is_other}
+use Rattle.ber_spelling.specs.Rules.{Reader, expect_at, judge, form_at, primitive_at, always, boolean_rule, is_strict_boolean, integer_rule, enumerated_rule, null_rule, object_id_rule, constructed_at, finish, item_at, items_at, all_items_at, segment_tag, nothing, segment_rule, segment_at, segmented_at, string_rule, string_at, whole_octets, whole_text, whole_bits, has_zero_bits, list_item_at, list_done, list_at, first_of, last_of, open_at, close_at, explicit_at, is_part, present_at, part_at, parts_at, sequence_at, nothing_filled, set_done, alone, cut_behind, late_kind, late_at, ordered_at, is_free, fill_at, slot_at, choice_at, anew, whole_at, any_at, dead, or_explicit, read_by, Guise, bare, plain, under, is_other, set_item_at, set_of_done, set_of_at}
 use Rattle.ber_spelling.proofs.Steady.{Run, RunOf}
 use Rattle.ber_spelling.proofs.Constructed.{BodyOf}
 use Rattle.ber_spelling.proofs.Identifiers.{bind_ok, ok_is}
@@ -137,6 +140,16 @@ module _ (m : ℕ) where
 
   list_wide : (inner : Reader) (tag : tags.Tag) → WideRun m (inner plain) → WideRun m (list_at inner tag)
   list_wide inner tag h = constructed_wide (all_items_at (list_item_at inner) list_done []) tag (all_wide (list_item_at inner) list_done (λ a. list_step_wide inner h a) [])
+
+  set_step_wide : (spell : Value → List ℕ) (inner : Reader) → WideRun m (inner plain) → (before : List Value) → WideRun m (set_item_at spell inner before)
+  set_step_wide spell inner h before = record {
+    each = λ scope o s le.
+        Wider-bind same same (inner plain scope o s) (inner plain (wide m scope) o s) _ _ (h.each scope o s le) (λ v e.
+        Wider-same same (form_at scope o.start.place (behind_last spell before v.0)) _ _ (λ u. refl));
+  }
+
+  set_of_wide : (spell : Value → List ℕ) (inner : Reader) (tag : tags.Tag) → WideRun m (inner plain) → WideRun m (set_of_at spell inner tag)
+  set_of_wide spell inner tag h = constructed_wide (all_items_at (set_item_at spell inner) (set_of_done spell) []) tag (all_wide (set_item_at spell inner) (set_of_done spell) (λ a. set_step_wide spell inner h a) [])
 
   -- ---- explicit tags
 
@@ -290,28 +303,29 @@ module _ (m : ℕ) where
   dead_wide : (t : Guise) → WideRun m (dead t)
   dead_wide t = record { each = λ scope o s le. refl }
 
-  row_wide : (begins : ℕ → Class → ℕ → Bool) (inner : ℕ → Reader) → ((n : ℕ) (t : Guise) → WideRun m (inner n t)) → ((n : ℕ) (t : Guise) → TagAlone (inner n t)) → (r : TypeRow) (t : Guise) → WideRun m (read_by begins inner r t)
-  row_wide begins inner h l row.Boolean t = prim_wide boolean_rule (λ c. is_strict_boolean c && is_other t.default (boolean_rule c)) (tag_or t.tag Universal 1)
-  row_wide begins inner h l (row.Integer low high) t = prim_wide (integer_rule low high) (λ c. is_other t.default (integer_rule low high c)) (tag_or t.tag Universal 2)
-  row_wide begins inner h l (row.Enumerated items) t = prim_wide (enumerated_rule items) (λ c. is_other t.default (enumerated_rule items c)) (tag_or t.tag Universal 10)
-  row_wide begins inner h l row.Null t = prim_wide null_rule always (tag_or t.tag Universal 5)
-  row_wide begins inner h l (row.OctetString most) t = string_wide OfOctets (whole_octets most) always (tag_or t.tag Universal 4)
-  row_wide begins inner h l row.BitString t = string_wide OfBits whole_bits has_zero_bits (tag_or t.tag Universal 3)
-  row_wide begins inner h l row.ObjectId t = prim_wide object_id_rule always (tag_or t.tag Universal 6)
-  row_wide begins inner h l (row.Text kind) t = string_wide OfOctets (whole_text kind) always (tag_or t.tag Universal (text_number kind))
-  row_wide begins inner h l (row.Sequence ps) t = sequence_wide begins inner h ps (tag_or t.tag Universal 16)
-  row_wide begins inner h l (row.Set ps) t = constructed_wide (all_items_at (slot_at begins inner 0 ps) (set_done ps) (nothing_filled ps)) (tag_or t.tag Universal 17) (set_wide begins inner h l ps)
-  row_wide begins inner h l (row.SequenceOf of) t = list_wide (inner of.0) (tag_or t.tag Universal 16) (h of.0 plain)
-  row_wide begins inner h l (row.Choice ps) t = or_wide (choice_at begins inner 0 ps) t.tag (choice_wide begins inner h 0 ps)
-  row_wide begins inner h l (row.Tagged class number true of) t = explicit_wide (inner of.0 (bare t.default)) (tag_or t.tag class number) (h of.0 (bare t.default))
-  row_wide begins inner h l (row.Tagged class number false of) t = h of.0 (under (Some (tag_or t.tag class number)) t.default)
-  row_wide begins inner h l row.Any t = or_wide any_at t.tag any_wide
+  row_wide : (begins : ℕ → Class → ℕ → Bool) (spell : ℕ → Value → List ℕ) (inner : ℕ → Reader) → ((n : ℕ) (t : Guise) → WideRun m (inner n t)) → ((n : ℕ) (t : Guise) → TagAlone (inner n t)) → (r : TypeRow) (t : Guise) → WideRun m (read_by begins spell inner r t)
+  row_wide begins spell inner h l row.Boolean t = prim_wide boolean_rule (λ c. is_strict_boolean c && is_other t.default (boolean_rule c)) (tag_or t.tag Universal 1)
+  row_wide begins spell inner h l (row.Integer low high) t = prim_wide (integer_rule low high) (λ c. is_other t.default (integer_rule low high c)) (tag_or t.tag Universal 2)
+  row_wide begins spell inner h l (row.Enumerated items) t = prim_wide (enumerated_rule items) (λ c. is_other t.default (enumerated_rule items c)) (tag_or t.tag Universal 10)
+  row_wide begins spell inner h l row.Null t = prim_wide null_rule always (tag_or t.tag Universal 5)
+  row_wide begins spell inner h l (row.OctetString most) t = string_wide OfOctets (whole_octets most) always (tag_or t.tag Universal 4)
+  row_wide begins spell inner h l row.BitString t = string_wide OfBits whole_bits has_zero_bits (tag_or t.tag Universal 3)
+  row_wide begins spell inner h l row.ObjectId t = prim_wide object_id_rule always (tag_or t.tag Universal 6)
+  row_wide begins spell inner h l (row.Text kind) t = string_wide OfOctets (whole_text kind) always (tag_or t.tag Universal (text_number kind))
+  row_wide begins spell inner h l (row.Sequence ps) t = sequence_wide begins inner h ps (tag_or t.tag Universal 16)
+  row_wide begins spell inner h l (row.Set ps) t = constructed_wide (all_items_at (slot_at begins inner 0 ps) (set_done ps) (nothing_filled ps)) (tag_or t.tag Universal 17) (set_wide begins inner h l ps)
+  row_wide begins spell inner h l (row.SequenceOf of) t = list_wide (inner of.0) (tag_or t.tag Universal 16) (h of.0 plain)
+  row_wide begins spell inner h l (row.SetOf of) t = set_of_wide (spell of.0) (inner of.0) (tag_or t.tag Universal 17) (h of.0 plain)
+  row_wide begins spell inner h l (row.Choice ps) t = or_wide (choice_at begins inner 0 ps) t.tag (choice_wide begins inner h 0 ps)
+  row_wide begins spell inner h l (row.Tagged class number true of) t = explicit_wide (inner of.0 (bare t.default)) (tag_or t.tag class number) (h of.0 (bare t.default))
+  row_wide begins spell inner h l (row.Tagged class number false of) t = h of.0 (under (Some (tag_or t.tag class number)) t.default)
+  row_wide begins spell inner h l row.Any t = or_wide any_at t.tag any_wide
 
-  of_wide : (begins : ℕ → Class → ℕ → Bool) (inner : ℕ → Reader) → ((n : ℕ) (t : Guise) → WideRun m (inner n t)) → ((n : ℕ) (t : Guise) → TagAlone (inner n t)) → (o : Option TypeRow) (t : Guise) → WideRun m (of_row dead (read_by begins inner) o t)
-  of_wide begins inner h l None t = dead_wide t
-  of_wide begins inner h l (Some r) t = row_wide begins inner h l r t
+  of_wide : (begins : ℕ → Class → ℕ → Bool) (spell : ℕ → Value → List ℕ) (inner : ℕ → Reader) → ((n : ℕ) (t : Guise) → WideRun m (inner n t)) → ((n : ℕ) (t : Guise) → TagAlone (inner n t)) → (o : Option TypeRow) (t : Guise) → WideRun m (of_row dead (read_by begins spell inner) o t)
+  of_wide begins spell inner h l None t = dead_wide t
+  of_wide begins spell inner h l (Some r) t = row_wide begins spell inner h l r t
 
-  pub along_wide : (rows : List TypeRow) (turns n : ℕ) (t : Guise) → WideRun m (along dead (read_by (begins rows)) rows turns n t)
+  pub along_wide : (rows : List TypeRow) (turns n : ℕ) (t : Guise) → WideRun m (along dead (read_by (begins rows) (written rows)) rows turns n t)
   along_wide rows zero n t = dead_wide t
   along_wide rows (suc turns) n t =
-      of_wide (begins rows) (along dead (read_by (begins rows)) rows turns) (λ k u. along_wide rows turns k u) (λ k u. (along_strict rows turns k).tag_alone u) (slice_get rows n) t
+      of_wide (begins rows) (written rows) (along dead (read_by (begins rows) (written rows)) rows turns) (λ k u. along_wide rows turns k u) (λ k u. (along_strict rows turns k).tag_alone u) (slice_get rows n) t

@@ -7,17 +7,16 @@ use Rattle.std.proofs.lemmas.Bool.{cases_lt}
 use Rattle.asn1_types.specs.declared.row.Class.TheVariants.{Universal}
 use Rattle.asn1_types.specs.declared.row.Part.{Part}
 use Rattle.asn1_types.specs.declared.row.TypeRow.{TypeRow}
-use Rattle.asn1_types.specs.declared.row.TypeRow.TheVariants.{Boolean, Integer, Enumerated, Null, OctetString, BitString, ObjectId, Text, Sequence, Set, SequenceOf, Choice, Tagged, Any}
+use Rattle.asn1_types.specs.declared.row.TypeRow.TheVariants.{Boolean, Integer, Enumerated, Null, OctetString, BitString, ObjectId, Text, Sequence, Set, SequenceOf, SetOf, Choice, Tagged, Any}
 use Rattle.asn1_types.specs.Rows.{along, names_of, rows_of_parts}
 use Rattle.asn1_types.specs.Table.{IsSound}
 use Rattle.asn1_types.specs.Value.{Value, MaybeValues, no_parts, absent, present}
 use Rattle.asn1_types.specs.ValueView.{parts_of, values_of}
 use Rattle.asn1_types.proofs.Along.{settled}
 use Rattle.asn1_types.proofs.Sound.{is_down}
-use Rattle.ber_spelling.specs.declared.spot.Tag as tags
-use Rattle.ber_spelling.specs.Rules.{tag_or}
-use Rattle.ber_spelling.specs.Writing.{Writer, part_contents, parts_contents, sequence_contents, values_contents, list_contents, alternative_written, choice_written, definite, under, tagged_written, nothing_written, write_by, writes, of_rank, risen_parts, set_parts}
-use Rattle.ber_spelling.specs.Order.{ranks, front_rank}
+use Rattle.asn1_types.specs.declared.row.Tag as tags
+use Rattle.asn1_types.specs.Writing.{Writer, part_contents, parts_contents, sequence_contents, values_contents, list_contents, alternative_written, choice_written, definite, under, tagged_written, nothing_written, write_by, writes, of_rank, risen_parts, set_parts}
+use Rattle.asn1_types.specs.Tags.{tag_or, ranks, front_rank}
 
 module _ (f g : ℕ → Writer) where
   parts_same : (ps : List Part) → AllByRecursion (λ m. f m ≡ g m) (rows_of_parts ps) → (vs : MaybeValues) → parts_contents f ps vs ≡ parts_contents g ps vs
@@ -58,6 +57,7 @@ write_cong (Text kind) f g h = refl
 write_cong (Sequence ps) f g h = λ i tag v. definite true (tag_or tag Universal 16) (sequence_contents (λ vs. parts_same f g ps h vs i) v)
 write_cong (Set ps) f g h = λ i tag v. definite true (tag_or tag Universal 17) (sequence_contents (λ vs. set_same f g ps h vs i) v)
 write_cong (SequenceOf inner) f g h = λ i tag v. definite true (tag_or tag Universal 16) (list_contents (h.0 i) v)
+write_cong (SetOf inner) f g h = λ i tag v. definite true (tag_or tag Universal 17) (list_contents (h.0 i) v)
 write_cong (Choice ps) f g h = λ i. under (choice_written (λ which. alternative_same f g ps h which i))
 write_cong (Tagged class number true inner) f g h = λ i. tagged_written true (h.0 i) class number
 write_cong (Tagged class number false inner) f g h = λ i. tagged_written false (h.0 i) class number

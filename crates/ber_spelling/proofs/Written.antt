@@ -24,18 +24,20 @@ use Rattle.asn1_types.specs.Defaults.{is_item, may_be_absent, is_default, kept}
 use Rattle.asn1_types.specs.Fits.{is_number, has_32_bits, is_octet, are_bits, is_text, boolean_fits, integer_fits, enumerated_fits, null_fits, octets_fit, bits_fit, text_fits, object_id_fits, values_fit, list_fits, parts_fit, sequence_fits, alternative_fits, choice_fits, any_fits, fits_by, nothing_fits, fits}
 use Rattle.asn1_types.proofs.Along.{settled}
 use Rattle.asn1_types.proofs.Sound.{is_down, taken, nesting_cong, nesting_before, sound_row}
-use Rattle.ber_spelling.specs.declared.spot.Tag as tags
+use Rattle.asn1_types.specs.declared.row.Tag as tags
 use Rattle.ber_spelling.specs.declared.spot.StringKind.TheVariants.{OfOctets, OfBits}
-use Rattle.ber_spelling.specs.Rules.{tag_or, always, string_rule, whole_octets, whole_text, cleared, whole_bits, has_zero_bits, bare, plain}
-use Rattle.ber_spelling.specs.Spelling.{Spelled, IsPrimitive, IsConstructed, IsWhole, PartsAre, SequenceIs, SetIs, ChoiceIs, Steps, ListStep, ListIs, BooleanIs, EnumeratedIs, IntegerIs, NullIs, ObjectIdIs, AnyIs, RowIs, RowOr, SpelledBy, Spells, OrExplicit, subidentifiers, IsOther, PartIs}
-use Rattle.ber_spelling.specs.Writing.{Writer, definite, boolean_contents, integer_contents, octets_contents, text_contents, bits_contents, object_id_contents, values_contents, list_contents, parts_contents, sequence_contents, set_parts, alternative_written, choice_written, any_written, under, write_by, nothing_written, writes, written}
+use Rattle.ber_spelling.specs.Rules.{always, string_rule, whole_octets, whole_text, cleared, whole_bits, has_zero_bits, bare, plain}
+use Rattle.ber_spelling.specs.Spelling.{Spelled, IsPrimitive, IsConstructed, IsWhole, PartsAre, SequenceIs, SetIs, ChoiceIs, Steps, ListStep, ListIs, BooleanIs, EnumeratedIs, IntegerIs, NullIs, ObjectIdIs, AnyIs, RowIs, RowOr, SpelledBy, Spells, OrExplicit, IsOther, PartIs, SetItemStep, SetOfIs}
+use Rattle.asn1_types.specs.Writing.{Writer, definite, boolean_contents, integer_contents, octets_contents, text_contents, bits_contents, object_id_contents, values_contents, list_contents, parts_contents, sequence_contents, set_parts, alternative_written, choice_written, any_written, under, write_by, nothing_written, writes, written, subidentifiers}
+use Rattle.asn1_types.specs.Tags.{tag_or, front_rank}
 use Rattle.ber_spelling.specs.declared.spot.Scope.{Scope}
-use Rattle.ber_spelling.specs.Order.{front_rank}
 use Rattle.ber_spelling.proofs.Orders.{front_read, opened_small}
 use Rattle.ber_spelling.proofs.RowLaws.{along_only}
 use Rattle.ber_spelling.proofs.WrittenSets.{Told, AllSpelled, AllShort, first_short, rest_short, set_short, set_is}
 use Rattle.ber_spelling.proofs.WrittenFields.{definite_is, contents_short, Has64, integer_is, subidentifiers_are}
 use Rattle.ber_spelling.proofs.Oids.{arcs_small}
+use Rattle.ber_spelling.proofs.RisingLaws.{items_in, items_same, GoOn, go_on, rising_goes, rising_sorted}
+use Rattle.asn1_types.specs.Rising.{is_short, set_rises}
 
 abbrev Most : ℕ
 Most = 2 ^ 64
@@ -154,7 +156,7 @@ cleared_same unused o os e =
     let same : last - last % 2 ^ unused ≡ last = omega arith in
     rw (ne_eqb (length (o ∷ os)) 0 (λ f. omega arith)) (set_same (o ∷ os) (length (o ∷ os) - 1) (last - last % 2 ^ unused) (omega arith) same)
 
-bits_ruled : (os : List ℕ) (unused : ℕ) → are_bits os unused ≡ true → string_rule OfBits whole_bits (unused ∷ os) ≡ Some (bits os unused)
+pub bits_ruled : (os : List ℕ) (unused : ℕ) → are_bits os unused ≡ true → string_rule OfBits whole_bits (unused ∷ os) ≡ Some (bits os unused)
 bits_ruled [] unused e =
     let a = and_parts (nat_lt unused 8) (nat_eq unused 0) e in
     rw (a.1, few_bits unused a.0) refl
@@ -261,14 +263,6 @@ module _ (fit : ℕ → Value → Bool) (write : ℕ → Writer) (rel : ℕ → 
   slot_written levels (p ∷ ps) zero v le e short = (p, refl, (each p.inner.0).is None None strict levels v tt (omega arith) e (no_default strict v) short)
   slot_written levels (p ∷ ps) (suc which) v le e short = slot_written levels ps which v (omega arith) e short
 
-  abbrev items_in : Values → List Value
-  items_in no_values = []
-  items_in (value v vs) = v ∷ items_in vs
-
-  items_same : (vs : Values) → values_of (items_in vs) ≡ vs
-  items_same no_values = refl
-  items_same (value v vs) = ap (value v) (items_same vs)
-
   values_written : (of levels : ℕ) (before : List Value) (vs : Values) → nest of ≤ levels → values_fit (fit of) vs ≡ true → length (values_contents (write of) vs) < Most
       → (steps : List (List ℕ × List Value)) × Steps (λ a b text. ListStep (rel of) a strict levels b text) steps before (before ++ items_in vs) (values_contents (write of) vs)
   values_written of levels before no_values le e short = ([], (sym (append-nil before), refl))
@@ -300,6 +294,38 @@ module _ (fit : ℕ → Value → Bool) (write : ℕ → Writer) (rel : ℕ → 
   list_written of levels (parts ps) le e short = absurd cc
   list_written of levels (chosen n v) le e short = absurd cc
   list_written of levels (any os) le e short = absurd cc
+
+  set_values_written : (spell : Value → List ℕ) (of levels : ℕ) (before : List Value) (vs : Values) → nest of ≤ levels → values_fit (fit of) vs ≡ true → GoOn spell before vs → length (values_contents (write of) vs) < Most
+      → (steps : List (List ℕ × List Value)) × Steps (λ a b text. SetItemStep spell (rel of) a strict levels b text) steps before (before ++ items_in vs) (values_contents (write of) vs)
+  set_values_written spell of levels before no_values le e up short = ([], (sym (append-nil before), refl))
+  set_values_written spell of levels before (value v vs) le e up short =
+      let t = and_parts (fit of v) (values_fit (fit of) vs) e in
+      let s = append_short (write of None v) (values_contents (write of) vs) short in
+      let more = set_values_written spell of levels (before ++ v ∷ []) vs le t.1 (go_on spell before v vs up.1) s.1 in
+      let ends : (before ++ v ∷ []) ++ items_in vs ≡ before ++ v ∷ items_in vs = append_assoc before (v ∷ []) (items_in vs) in (
+        (write of None v, before ++ v ∷ []) ∷ more.0,
+        (
+          values_contents (write of) vs,
+          refl,
+          (v, refl, (each of).is None None strict levels v tt le t.0 (no_default strict v) s.0, λ k. up.0),
+          subst (λ (l : List Value). Steps (λ a b text. SetItemStep spell (rel of) a strict levels b text) more.0 (before ++ v ∷ []) l (values_contents (write of) vs)) ends more.1,
+        ),
+      )
+
+  set_of_written : (spell : Value → List ℕ) (of levels : ℕ) (v : Value) → nest of ≤ levels → list_fits (fit of) v ≡ true → set_rises is_short spell v ≡ true → length (list_contents (write of) v) < Most → SetOfIs spell (rel of) strict v levels (list_contents (write of) v)
+  set_of_written spell of levels (list vs) le e up short =
+      let w = set_values_written spell of levels [] vs le e (rising_goes spell is_short vs up) short in
+      (items_in vs, ap (λ (x : Values). Some (list x)) (rising_sorted spell is_short vs up), w.0, w.1)
+  set_of_written spell of levels null le e up short = absurd cc
+  set_of_written spell of levels (integer z) le e up short = absurd cc
+  set_of_written spell of levels (boolean b) le e up short = absurd cc
+  set_of_written spell of levels (octets os) le e up short = absurd cc
+  set_of_written spell of levels (bits os n) le e up short = absurd cc
+  set_of_written spell of levels (object_id os) le e up short = absurd cc
+  set_of_written spell of levels (text os) le e up short = absurd cc
+  set_of_written spell of levels (parts ps) le e up short = absurd cc
+  set_of_written spell of levels (chosen n v) le e up short = absurd cc
+  set_of_written spell of levels (any os) le e up short = absurd cc
 
   sequence_written : (levels : ℕ) (ps : List Part) (v : Value) → greatest nest (rows_of_parts ps) ≤ levels → sequence_fits (parts_fit fit ps) v ≡ true → length (sequence_contents (parts_contents write ps) v) < Most
       → SequenceIs rel strict ps v levels (sequence_contents (parts_contents write ps) v)
@@ -406,10 +432,10 @@ told_of rows sound turns m d strict levels v s p =
     }
 
 module _ (whole : (os : List ℕ) → is_whole os ≡ true → IsWhole 32 os) where
-  module _ (openings : ℕ → List Opening) (fit : ℕ → Value → Bool) (write : ℕ → Writer) (rel : ℕ → Spelled) (nest : ℕ → ℕ) (each : (m : ℕ) → RowWritten (fit m) (write m) (rel m) (nest m))
+  module _ (spell : ℕ → Value → List ℕ) (openings : ℕ → List Opening) (fit : ℕ → Value → Bool) (write : ℕ → Writer) (rel : ℕ → Spelled) (nest : ℕ → ℕ) (each : (m : ℕ) → RowWritten (fit m) (write m) (rel m) (nest m))
       (told : (m : ℕ) (d : Option ℤ) (strict : Bool) (levels : ℕ) (v : Value) (s : List ℕ) → rel m (bare d) strict levels v s → Told openings m s)
     where
-      choice_is : (ps : List Part) (t : Option tags.Tag) (strict : Bool) (levels : ℕ) (v : Value) → OkTag t → need t (1 + greatest nest (rows_of_parts ps)) ≤ levels → fits_by fit (row.Choice ps) v ≡ true → length (write_by write (row.Choice ps) t v) < Most → OrExplicit (ChoiceIs rel ps) t strict levels v (write_by write (row.Choice ps) t v)
+      choice_is : (ps : List Part) (t : Option tags.Tag) (strict : Bool) (levels : ℕ) (v : Value) → OkTag t → need t (1 + greatest nest (rows_of_parts ps)) ≤ levels → fits_by is_short spell fit (row.Choice ps) v ≡ true → length (write_by write (row.Choice ps) t v) < Most → OrExplicit (ChoiceIs rel ps) t strict levels v (write_by write (row.Choice ps) t v)
       choice_is ps None strict levels v ok le e short = chosen_written fit write rel nest each strict levels ps v (omega arith) e short
       choice_is ps (Some t) strict levels v ok le e short =
           let l = lower (greatest nest (rows_of_parts ps)) levels (omega arith) in
@@ -426,7 +452,7 @@ module _ (whole : (os : List ℕ) → is_whole os ≡ true → IsWhole 32 os) wh
       some_level None k levels le = le
       some_level (Some t) k levels le = omega arith
 
-      row_is : (r : TypeRow) → has_clash openings r ≡ false → HasShortTag r → (t : Option tags.Tag) (d : Option ℤ) (strict : Bool) (levels : ℕ) (v : Value) → OkTag t → need t (nesting_by nest r) ≤ levels → fits_by fit r v ≡ true → IsOther d strict v → length (write_by write r t v) < Most → RowIs rel r (Rattle.ber_spelling.specs.Rules.under t d) strict levels v (write_by write r t v)
+      row_is : (r : TypeRow) → has_clash openings r ≡ false → HasShortTag r → (t : Option tags.Tag) (d : Option ℤ) (strict : Bool) (levels : ℕ) (v : Value) → OkTag t → need t (nesting_by nest r) ≤ levels → fits_by is_short spell fit r v ≡ true → IsOther d strict v → length (write_by write r t v) < Most → RowIs spell rel r (Rattle.ber_spelling.specs.Rules.under t d) strict levels v (write_by write r t v)
       row_is row.Boolean apart small t d strict levels v ok le e other short =
           primitive_is strict (tag_or t Universal 1) levels (λ c. BooleanIs strict v c × IsOther d strict v) (boolean_contents v) (tag_ok t Universal 1 ok (omega arith)) (omega (arith, some_level t 0 levels le)) short (boolean_written strict v e, other)
       row_is (row.Integer low high) apart small t d strict levels v ok le e other short =
@@ -462,6 +488,12 @@ module _ (whole : (os : List ℕ) → is_whole os ≡ true → IsWhole 32 os) wh
           let c : List ℕ = list_contents (write of.0) v in
           constructed_is strict (tag_or t Universal 16) levels l.0 (ListIs (rel of.0) strict v) c l.1 (tag_ok t Universal 16 ok (omega arith)) short
           (list_written fit write rel nest each strict of.0 l.0 v l.2 e (contents_short true (tag_or t Universal 16) c Most short))
+      row_is (row.SetOf of) apart small t d strict levels v ok le e other short =
+          let l = lower (nest of.0) levels (omega (arith, some_level t (greatest nest (of.0 ∷ [])) levels le)) in
+          let c : List ℕ = list_contents (write of.0) v in
+          let both = and_parts (list_fits (fit of.0) v) (set_rises is_short (spell of.0) v) e in
+          constructed_is strict (tag_or t Universal 17) levels l.0 (SetOfIs (spell of.0) (rel of.0) strict v) c l.1 (tag_ok t Universal 17 ok (omega arith)) short
+          (set_of_written fit write rel nest each strict (spell of.0) of.0 l.0 v l.2 both.0 both.1 (contents_short true (tag_or t Universal 17) c Most short))
       row_is (row.Choice ps) apart small t d strict levels v ok le e other short = choice_is ps t strict levels v ok le e short
       row_is (row.Tagged class number true of) apart small t d strict levels v ok le e other short =
           let l = lower (nest of.0) levels (omega (arith, some_level t (greatest nest (of.0 ∷ [])) levels le)) in
@@ -473,23 +505,23 @@ module _ (whole : (os : List ℕ) → is_whole os ≡ true → IsWhole 32 os) wh
       row_is row.Any apart small t d strict levels v ok le e other short = any_is t strict levels v ok le e short
 
   module _ (rows : List TypeRow) (sound : IsSound rows) where
-    of_written : (turns n : ℕ) → ((m : ℕ) → RowWritten (along nothing_fits fits_by rows turns m) (along nothing_written write_by rows turns m) (SpelledBy rows turns m) (nesting rows m)) → (o : Option TypeRow) → slice_get rows n ≡ o
+    of_written : (turns n : ℕ) → ((m : ℕ) → RowWritten (along nothing_fits (fits_by is_short (written rows)) rows turns m) (along nothing_written write_by rows turns m) (SpelledBy rows turns m) (nesting rows m)) → (o : Option TypeRow) → slice_get rows n ≡ o
         → (t : Option tags.Tag) (d : Option ℤ) (strict : Bool) (levels : ℕ) (v : Value) → OkTag t → need t (nesting rows n) ≤ levels
-        → of_row nothing_fits (fits_by (along nothing_fits fits_by rows turns)) o v ≡ true → IsOther d strict v → length (of_row nothing_written (write_by (along nothing_written write_by rows turns)) o t v) < Most
-        → RowOr (RowIs (SpelledBy rows turns)) o (Rattle.ber_spelling.specs.Rules.under t d) strict levels v (of_row nothing_written (write_by (along nothing_written write_by rows turns)) o t v)
+        → of_row nothing_fits (fits_by is_short (written rows) (along nothing_fits (fits_by is_short (written rows)) rows turns)) o v ≡ true → IsOther d strict v → length (of_row nothing_written (write_by (along nothing_written write_by rows turns)) o t v) < Most
+        → RowOr (RowIs (written rows) (SpelledBy rows turns)) o (Rattle.ber_spelling.specs.Rules.under t d) strict levels v (of_row nothing_written (write_by (along nothing_written write_by rows turns)) o t v)
     of_written turns n h None g t d strict levels v ok le e other short = absurd cc
     of_written turns n h (Some r) g t d strict levels v ok le e other short =
-        row_is (openings rows) (along nothing_fits fits_by rows turns) (along nothing_written write_by rows turns) (SpelledBy rows turns) (nesting rows) h (λ m k. told_of rows sound turns m k) r (sound_row rows sound n r g).apart (sound.short n r g) t d strict levels v ok (subst (λ (k : ℕ). need t k ≤ levels) (nesting_at rows sound n r g) le) e other short
+        row_is (written rows) (openings rows) (along nothing_fits (fits_by is_short (written rows)) rows turns) (along nothing_written write_by rows turns) (SpelledBy rows turns) (nesting rows) h (λ m k. told_of rows sound turns m k) r (sound_row rows sound n r g).apart (sound.short n r g) t d strict levels v ok (subst (λ (k : ℕ). need t k ≤ levels) (nesting_at rows sound n r g) le) e other short
 
-    all_written : (turns n : ℕ) → RowWritten (along nothing_fits fits_by rows turns n) (along nothing_written write_by rows turns n) (SpelledBy rows turns n) (nesting rows n)
+    all_written : (turns n : ℕ) → RowWritten (along nothing_fits (fits_by is_short (written rows)) rows turns n) (along nothing_written write_by rows turns n) (SpelledBy rows turns n) (nesting rows n)
     all_written zero n = record { is = λ t d strict levels v ok le e other short. absurd cc }
     all_written (suc turns) n = record { is = of_written turns n (λ m. all_written turns m) (slice_get rows n) refl }
 
-    no_fit : (turns n : ℕ) (v : Value) → along nothing_fits fits_by rows turns n v ≡ true → (r : TypeRow) × (slice_get rows n ≡ Some r)
+    no_fit : (turns n : ℕ) (v : Value) → along nothing_fits (fits_by is_short (written rows)) rows turns n v ≡ true → (r : TypeRow) × (slice_get rows n ≡ Some r)
     no_fit zero n v e = absurd cc
     no_fit (suc turns) n v e = by_row (slice_get rows n) refl e
       where
-        by_row : (o : Option TypeRow) → slice_get rows n ≡ o → of_row nothing_fits (fits_by (along nothing_fits fits_by rows turns)) o v ≡ true → (r : TypeRow) × (slice_get rows n ≡ Some r)
+        by_row : (o : Option TypeRow) → slice_get rows n ≡ o → of_row nothing_fits (fits_by is_short (written rows) (along nothing_fits (fits_by is_short (written rows)) rows turns)) o v ≡ true → (r : TypeRow) × (slice_get rows n ≡ Some r)
         by_row None g e = absurd cc
         by_row (Some r) g e = (r, g)
 

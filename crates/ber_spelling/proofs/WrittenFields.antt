@@ -5,11 +5,12 @@ use Rattle.std.specs.List.{AllByRecursion, flat_map}
 use Rattle.std.proofs.Math.Nat.{pow-suc, mul_assoc, mul_comm}
 use Rattle.std.proofs.lemmas.Bool.{le-ltb, lt-ltb, ltb-true, ltb-false, ne_eqb, lt-leb}
 use Rattle.asn1_types.specs.declared.row.Class.{Class}
-use Rattle.ber_spelling.specs.declared.spot.Tag as tags
+use Rattle.asn1_types.specs.declared.row.Tag as tags
 use Rattle.ber_spelling.specs.Fields.{number_from}
 use Rattle.ber_spelling.specs.Primitives.{is_padded, signed_of}
-use Rattle.ber_spelling.specs.Spelling.{leading, IsIdentifier, IsLength, IsDefinite, IsInteger, AreSubidentifiers}
-use Rattle.ber_spelling.specs.Writing.{natural_octets, integer_octets, identifier, base_128, base_256, length_octets, definite}
+use Rattle.ber_spelling.specs.Spelling.{IsIdentifier, IsLength, IsDefinite, IsInteger, AreSubidentifiers}
+use Rattle.asn1_types.specs.Writing.{natural_octets, integer_octets, identifier, base_128, base_256, length_octets, definite}
+use Rattle.asn1_types.specs.Tags.{leading}
 use Rattle.ber_spelling.proofs.Digits.{split_256, base_128_is, base_256_few, base_256_number, base_256_first, some_first, by_turns}
 
 -- ---- identifiers, lengths
@@ -98,7 +99,7 @@ turned os = map (λ octet. 255 - octet) os
 regroup : (s p : ℕ) → (256 * s) * p ≡ s * (p * 256)
 regroup s p = ap (λ (k : ℕ). k * p) (mul_comm 256 s) ∙ mul_assoc s 256 p ∙ ap (λ (k : ℕ). s * k) (mul_comm 256 p)
 
-turned_number : (a b : ℕ) (os : List ℕ) → Small os → number_from a os + number_from b (turned os) + 1 ≡ (a + b + 1) * 256 ^ length os
+pub turned_number : (a b : ℕ) (os : List ℕ) → Small os → number_from a os + number_from b (turned os) + 1 ≡ (a + b + 1) * 256 ^ length os
 turned_number a b [] h = omega arith
 turned_number a b (o ∷ os) h =
     let lt : o < 256 = h.0 in
@@ -124,7 +125,7 @@ turned_first : (os : List ℕ) → 1 ≤ length os → slice_index os 0 < 128 �
 turned_first [] some lt = absurd (omega arith)
 turned_first (x ∷ os) some lt = omega arith
 
-turned_length : (os : List ℕ) → length (turned os) ≡ length os
+pub turned_length : (os : List ℕ) → length (turned os) ≡ length os
 turned_length [] = refl
 turned_length (o ∷ os) = ap suc (turned_length os)
 

@@ -11,10 +11,11 @@ use Rattle.asn1_types.specs.Rows.{Opening}
 use Rattle.asn1_types.specs.Table.{clash, agrees_later}
 use Rattle.asn1_types.specs.Value.{Value, parts, MaybeValues, no_parts, absent, present}
 use Rattle.asn1_types.specs.ValueView.{parts_of}
-use Rattle.ber_spelling.specs.Order.{rank, ranks, front_rank, Filled}
+use Rattle.ber_spelling.specs.Order.{Filled}
 use Rattle.ber_spelling.specs.Rules.{no_parts_of, nothing_filled, is_filled, bare, settled}
 use Rattle.ber_spelling.specs.Spelling.{Spelled, Steps, SetStep, SetIs}
-use Rattle.ber_spelling.specs.Writing.{Writer, parts_contents, of_rank, risen_parts, set_parts}
+use Rattle.asn1_types.specs.Writing.{Writer, parts_contents, of_rank, risen_parts, set_parts}
+use Rattle.asn1_types.specs.Tags.{rank, ranks, front_rank}
 use Rattle.ber_spelling.proofs.Steady.{eqb_itself}
 use Rattle.ber_spelling.proofs.SequencesBack.{list_of, parts_list}
 use Rattle.ber_spelling.proofs.Distinct.{begins_by, apart}

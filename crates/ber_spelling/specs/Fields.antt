@@ -3,19 +3,13 @@ use Rattle.std.specs.Prelude.{ℕ, ◌+◌, ◌-◌, ◌*◌, ◌/◌, ◌%◌, 
 use Rattle.osi_base.specs.declared.words.Kind.TheVariants.{Tag, Length, Form}
 use Rattle.asn1_types.specs.declared.row.Class.{Class}
 use Rattle.asn1_types.specs.declared.row.Class.TheVariants.{Universal, Application, Context, Private}
+use Rattle.asn1_types.specs.Tags.{class_of, capped}
 use Rattle.ber_spelling.specs.declared.fault.ReadFault.TheVariants.{Short, TooDeep}
 use Rattle.ber_spelling.specs.declared.spot.Scope.{Scope}
 use Rattle.ber_spelling.specs.Reading.{Spot, Opened, Ahead, ended, begun, Reading, ◌>>=◌, refuse, is_past, within}
 
-abbrev pub class_of : ℕ → Class
-class_of first = if nat_lt first 64 then Universal else (if nat_lt first 128 then Application else (if nat_lt first 192 then Context else Private))
-
 abbrev pub is_constructed : ℕ → Bool
 is_constructed first = nat_eq (first / 32 % 2) 1
-
--- numbers past 32 bits are all one
-abbrev pub capped : ℕ → ℕ
-capped n = min n (2 ^ 32)
 
 -- a field at a place that goes on until here at least, and that is cut off
 abbrev pub cut_off : {A : Type 0} → Scope → ℕ → ℕ → Reading A

@@ -5,7 +5,7 @@ use Rattle.asn1_types.specs.declared.row.TypeRow.{TypeRow}
 use Rattle.asn1_types.specs.declared.row.TypeRow.TheVariants.{BitString}
 use Rattle.asn1_types.specs.Table.{IsSound}
 use Rattle.asn1_types.specs.Value.{Value, bits}
-use Rattle.asn1_types.specs.Fits.{are_bits, fits}
+use Rattle.asn1_types.specs.Fits.{are_bits, fits, has_form}
 use Rattle.asn1_types.specs.Whole.{is_whole}
 use Rattle.ber_spelling.specs.declared.fault.ReadFault.{ReadFault}
 use Rattle.ber_spelling.specs.declared.fault.ReadFault.TheVariants.{NotSpelled, Short, TooDeep, TooLong, NoMemory}
@@ -13,7 +13,7 @@ use Rattle.ber_spelling.specs.declared.spot.StringKind.TheVariants.{OfBits}
 use Rattle.ber_spelling.specs.Octets.{AreOctets}
 use Rattle.ber_spelling.specs.Rules.{read_at, segment_tag, cleared}
 use Rattle.ber_spelling.specs.Spelling.{IsDefinite, Spells}
-use Rattle.ber_spelling.specs.Writing.{written}
+use Rattle.asn1_types.specs.Writing.{written}
 
 -- what is read is spelled by its octets
 abbrev pub ReadIsSpelled : Type 0
@@ -93,9 +93,10 @@ abbrev pub DerIsBerInForm : Type 0
 DerIsBerInForm = (rows : List TypeRow) (n limit : ℕ) (bytes : List ℕ)
     → (read_at rows n true limit bytes ≡ read_at rows n false limit bytes) ⊎ ((place : ℕ) × (read_at rows n true limit bytes ≡ Err (NotSpelled place Form)))
 
--- What octets spell fits the row, with it each part of it and each unused bit.
+-- What octets spell fits the row, with it each part of it and each unused bit; but the items of a SET OF may be longer
+-- than those of a value that fits.
 abbrev pub SpelledFits : Type 0
-SpelledFits = (rows : List TypeRow) (n : ℕ) (strict : Bool) (limit : ℕ) (v : Value) (spelled : List ℕ) → AreOctets spelled → Spells rows n strict limit v spelled → fits rows n v ≡ true
+SpelledFits = (rows : List TypeRow) (n : ℕ) (strict : Bool) (limit : ℕ) (v : Value) (spelled : List ℕ) → AreOctets spelled → Spells rows n strict limit v spelled → has_form rows n v ≡ true
 
 -- One octet holds the unused bits of a BIT STRING, the low ones, and whatever they are the octets stay P.
 pub record HoldsUnused (used unused : ℕ) (P : List ℕ → Type 0) (spelled : List ℕ) : Type 0 where
@@ -135,3 +136,7 @@ OneOfThree = (rows : List TypeRow) (n : ℕ) (strict : Bool) (limit : ℕ) (byte
 -- A DER spelling is one whole value of any type: each length is definite, and no tag is UNIVERSAL 0.
 abbrev pub DerIsWhole : Type 0
 DerIsWhole = (rows : List TypeRow) (n : ℕ) (limit : ℕ) (v : Value) (spelled : List ℕ) → IsSound rows → Spells rows n true limit v spelled → is_whole spelled ≡ true
+
+-- A value has one DER spelling: the one that is written.
+abbrev pub DerIsWritten : Type 0
+DerIsWritten = (rows : List TypeRow) (n limit : ℕ) (v : Value) (spelled : List ℕ) → AreOctets spelled → Spells rows n true limit v spelled → spelled ≡ written rows n v

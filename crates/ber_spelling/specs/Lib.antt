@@ -6,4 +6,3 @@ pub mod Order
 pub mod Rules
 pub mod Spelling
 pub mod Laws
-pub mod Writing

@@ -16,9 +16,12 @@ use Rattle.asn1_types.specs.Whole.{is_marked}
 use Rattle.asn1_types.specs.Limits.{most_levels}
 use Rattle.asn1_types.specs.Defaults.{is_item, may_be_absent, is_default, kept}
 use Rattle.asn1_types.specs.Fits.{is_text, are_bits}
+use Rattle.asn1_types.specs.Writing.{written}
+use Rattle.asn1_types.specs.Rising.{behind_last, sorted}
 use Rattle.ber_spelling.specs.declared.fault.ReadFault.TheVariants.{NotSpelled, Short}
 use Rattle.ber_spelling.specs.declared.spot.Scope.{Scope}
-use Rattle.ber_spelling.specs.declared.spot.Tag as tags
+use Rattle.asn1_types.specs.declared.row.Tag as tags
+use Rattle.asn1_types.specs.Tags.{rank, tag_or}
 use Rattle.ber_spelling.specs.declared.spot.StringKind.{StringKind}
 use Rattle.ber_spelling.specs.declared.spot.StringKind.TheVariants.{OfOctets, OfBits}
 use Rattle.ber_spelling.specs.declared.spot.StringRule.{StringRule}
@@ -27,7 +30,7 @@ use Rattle.ber_spelling.specs.declared.spot.Gathered.{Gathered}
 use Rattle.ber_spelling.specs.Reading.{Spot, Opened, Ahead, ended, begun, Reading, ◌>>=◌, refuse}
 use Rattle.ber_spelling.specs.Fields.{identifier_at, extent_at, contents_at, look_at}
 use Rattle.ber_spelling.specs.Primitives.{integer_of, arcs_of}
-use Rattle.ber_spelling.specs.Order.{rank, Filled}
+use Rattle.ber_spelling.specs.Order.{Filled}
 
 -- How a value of a row stands: under another tag, if one is given, and as a part with a default.
 pub record Guise : Type 0 where
@@ -47,10 +50,6 @@ under tag default = record { tag = tag; default = default }
 -- Reads what stands behind an identifier.
 abbrev pub Reader : Type 0
 Reader = Guise → Scope → Opened → Spot → Reading (Value × Spot)
-
-abbrev pub tag_or : Option tags.Tag → Class → ℕ → tags.Tag
-tag_or None class number = record { class = class; number = number }
-tag_or (Some tag) class number = tag
 
 -- the identifier is of this tag and form (numbers past 32 bits are no tag's)
 abbrev pub is_opened : tags.Tag → Bool → Opened → Bool
@@ -258,6 +257,22 @@ list_done vs = Some (list (values_of vs))
 abbrev pub list_at : Reader → tags.Tag → Scope → Opened → Spot → Reading (Value × Spot)
 list_at inner tag = constructed_at (all_items_at (list_item_at inner) list_done []) tag
 
+-- ---- SET OF (X.690 8.12)
+
+-- in DER the items rise (X.690 11.6); one is judged once it is whole
+abbrev pub set_item_at : (Value → List ℕ) → Reader → List Value → Scope → Opened → Spot → Reading (List Value × Spot)
+set_item_at spell inner before scope opened spot = do
+  v ← inner plain scope opened spot
+  _ ← form_at scope opened.start.place (behind_last spell before v.0)
+  Ok (before ++ v.0 ∷ [], v.1)
+
+-- items in any order are those in rising order
+abbrev pub set_of_done : (Value → List ℕ) → List Value → Option Value
+set_of_done spell vs = Some (list (values_of (sorted spell vs)))
+
+abbrev pub set_of_at : (Value → List ℕ) → Reader → tags.Tag → Scope → Opened → Spot → Reading (Value × Spot)
+set_of_at spell inner tag = constructed_at (all_items_at (set_item_at spell inner) (set_of_done spell) []) tag
+
 -- ---- an explicit tag (X.690 8.14): one value in constructed contents
 
 abbrev pub first_of : Ahead → Reading (Opened × Spot)
@@ -461,24 +476,25 @@ abbrev pub tagged_at : Bool → Reader → Class → ℕ → Reader
 tagged_at true inner class number guise = explicit_at (inner (bare guise.default)) (tag_or guise.tag class number)
 tagged_at false inner class number guise = inner (under (Some (tag_or guise.tag class number)) guise.default)
 
-abbrev pub read_by : (ℕ → Class → ℕ → Bool) → (ℕ → Reader) → TypeRow → Reader
-read_by begins inner row.Boolean guise = primitive_at boolean_rule (λ c. is_strict_boolean c && is_other guise.default (boolean_rule c)) (tag_or guise.tag Universal 1)
-read_by begins inner (row.Integer low high) guise = primitive_at (integer_rule low high) (λ c. is_other guise.default (integer_rule low high c)) (tag_or guise.tag Universal 2)
-read_by begins inner (row.Enumerated items) guise = primitive_at (enumerated_rule items) (λ c. is_other guise.default (enumerated_rule items c)) (tag_or guise.tag Universal 10)
-read_by begins inner row.Null guise = primitive_at null_rule always (tag_or guise.tag Universal 5)
-read_by begins inner (row.OctetString most) guise = string_at OfOctets (whole_octets most) always (tag_or guise.tag Universal 4)
-read_by begins inner row.BitString guise = string_at OfBits whole_bits has_zero_bits (tag_or guise.tag Universal 3)
-read_by begins inner row.ObjectId guise = primitive_at object_id_rule always (tag_or guise.tag Universal 6)
-read_by begins inner (row.Text kind) guise = string_at OfOctets (whole_text kind) always (tag_or guise.tag Universal (text_number kind))
-read_by begins inner (row.Sequence ps) guise = sequence_at begins inner ps (tag_or guise.tag Universal 16)
-read_by begins inner (row.Set ps) guise = set_at begins inner ps (tag_or guise.tag Universal 17)
-read_by begins inner (row.SequenceOf of) guise = list_at (inner of.0) (tag_or guise.tag Universal 16)
-read_by begins inner (row.Choice ps) guise = or_explicit (choice_at begins inner 0 ps) guise.tag
-read_by begins inner (row.Tagged class number explicit of) guise = tagged_at explicit (inner of.0) class number guise
-read_by begins inner row.Any guise = or_explicit any_at guise.tag
+abbrev pub read_by : (ℕ → Class → ℕ → Bool) → (ℕ → Value → List ℕ) → (ℕ → Reader) → TypeRow → Reader
+read_by begins spell inner row.Boolean guise = primitive_at boolean_rule (λ c. is_strict_boolean c && is_other guise.default (boolean_rule c)) (tag_or guise.tag Universal 1)
+read_by begins spell inner (row.Integer low high) guise = primitive_at (integer_rule low high) (λ c. is_other guise.default (integer_rule low high c)) (tag_or guise.tag Universal 2)
+read_by begins spell inner (row.Enumerated items) guise = primitive_at (enumerated_rule items) (λ c. is_other guise.default (enumerated_rule items c)) (tag_or guise.tag Universal 10)
+read_by begins spell inner row.Null guise = primitive_at null_rule always (tag_or guise.tag Universal 5)
+read_by begins spell inner (row.OctetString most) guise = string_at OfOctets (whole_octets most) always (tag_or guise.tag Universal 4)
+read_by begins spell inner row.BitString guise = string_at OfBits whole_bits has_zero_bits (tag_or guise.tag Universal 3)
+read_by begins spell inner row.ObjectId guise = primitive_at object_id_rule always (tag_or guise.tag Universal 6)
+read_by begins spell inner (row.Text kind) guise = string_at OfOctets (whole_text kind) always (tag_or guise.tag Universal (text_number kind))
+read_by begins spell inner (row.Sequence ps) guise = sequence_at begins inner ps (tag_or guise.tag Universal 16)
+read_by begins spell inner (row.Set ps) guise = set_at begins inner ps (tag_or guise.tag Universal 17)
+read_by begins spell inner (row.SequenceOf of) guise = list_at (inner of.0) (tag_or guise.tag Universal 16)
+read_by begins spell inner (row.SetOf of) guise = set_of_at (spell of.0) (inner of.0) (tag_or guise.tag Universal 17)
+read_by begins spell inner (row.Choice ps) guise = or_explicit (choice_at begins inner 0 ps) guise.tag
+read_by begins spell inner (row.Tagged class number explicit of) guise = tagged_at explicit (inner of.0) class number guise
+read_by begins spell inner row.Any guise = or_explicit any_at guise.tag
 
 unfoldable pub reads : List TypeRow → ℕ → Reader
-reads rows n = along dead (read_by (begins rows)) rows (length rows) n
+reads rows n = along dead (read_by (begins rows) (written rows)) rows (length rows) n
 
 -- a whole value, from its identifier on
 unfoldable pub value_at : List TypeRow → ℕ → Scope → ℕ → List ℕ → Reading (Value × Spot)

@@ -13,14 +13,17 @@ use Rattle.asn1_types.specs.Rows.{class_number, is_no_tag, text_number}
 use Rattle.asn1_types.specs.Limits.{most_levels, most_octets}
 use Rattle.asn1_types.specs.Defaults.{is_item, may_be_absent, is_default, kept}
 use Rattle.asn1_types.specs.Value.{Value, boolean, integer, null, object_id, parts, chosen, any, MaybeValues, no_parts, absent, present}
-use Rattle.ber_spelling.specs.declared.spot.Tag as tags
+use Rattle.asn1_types.specs.declared.row.Tag as tags
+use Rattle.asn1_types.specs.Tags.{tag_or, front_rank, leading}
+use Rattle.asn1_types.specs.Rising.{behind_last}
 use Rattle.ber_spelling.specs.Fields.{number_from}
 use Rattle.ber_spelling.specs.Primitives.{is_padded, signed_of}
 use Rattle.ber_spelling.specs.declared.spot.StringKind.{StringKind}
 use Rattle.ber_spelling.specs.declared.spot.StringKind.TheVariants.{OfOctets, OfBits}
 use Rattle.ber_spelling.specs.declared.spot.Gathered.{Gathered}
-use Rattle.ber_spelling.specs.Rules.{Guise, bare, plain, under, tag_or, always, segment_tag, nothing, segment_rule, string_rule, whole_octets, whole_text, whole_bits, has_zero_bits, list_done, nothing_filled, set_done}
-use Rattle.ber_spelling.specs.Order.{Filled, front_rank}
+use Rattle.ber_spelling.specs.Rules.{Guise, bare, plain, under, always, segment_tag, nothing, segment_rule, string_rule, whole_octets, whole_text, whole_bits, has_zero_bits, list_done, set_of_done, nothing_filled, set_done}
+use Rattle.asn1_types.specs.Writing.{written, subidentifiers}
+use Rattle.ber_spelling.specs.Order.{Filled}
 
 -- ---- numbers in digits of seven bits (X.690 8.1.2.4.2, 8.19.2)
 
@@ -44,10 +47,6 @@ pub record IsBase128 (digits : List ℕ) (n : ℕ) : Type 0 where
   pub number : number_128 0 digits ≡ n
 
 -- ---- identifiers (X.690 8.1.2)
-
--- class and form, bits 8 to 6
-abbrev pub leading : Class → Bool → ℕ
-leading class constructed = 64 * class_number class + (if constructed then 32 else 0)
 
 -- numbers below 31 in the first octet, others in digits
 abbrev pub IsIdentifier : Class → Bool → ℕ → List ℕ → Type 0
@@ -128,12 +127,6 @@ IntegerIs low high v contents = ⊥
 abbrev pub NullIs : Value → List ℕ → Type 0
 NullIs null contents = contents ≡ []
 NullIs v contents = ⊥
-
--- X.690 8.19: the first two arcs make one subidentifier
-abbrev pub subidentifiers : List ℕ → List ℕ
-subidentifiers [] = []
-subidentifiers (root ∷ []) = root ∷ []
-subidentifiers (root ∷ second ∷ arcs) = (40 * root + second) ∷ arcs
 
 abbrev pub AreSubidentifiers : List ℕ → List ℕ → Type 0
 AreSubidentifiers [] contents = contents ≡ []
@@ -253,6 +246,15 @@ ListStep inner before strict levels after spelled = (v : Value) × (after ≡ be
 abbrev pub ListIs : Spelled → Bool → Value → ℕ → List ℕ → Type 0
 ListIs inner strict v levels contents = ItemsAre list_done (ListStep inner) [] strict levels v contents
 
+-- one item more of a SET OF (X.690 8.12); in DER they rise (X.690 11.6)
+abbrev pub SetItemStep : (Value → List ℕ) → Spelled → List Value → Bool → ℕ → List Value → List ℕ → Type 0
+SetItemStep spell inner before strict levels after spelled =
+    (v : Value) × (after ≡ before ++ v ∷ []) × inner plain strict levels v spelled × (strict ≡ true → behind_last spell before v ≡ true)
+
+-- the items in any order; the value has them in rising order
+abbrev pub SetOfIs : (Value → List ℕ) → Spelled → Bool → Value → ℕ → List ℕ → Type 0
+SetOfIs spell inner strict v levels contents = ItemsAre (set_of_done spell) (SetItemStep spell inner) [] strict levels v contents
+
 -- one part more, whose slot is free (X.690 8.11); in DER the tags rise (X.690 10.3)
 abbrev pub SetStep : (ℕ → Spelled) → List Part → Filled → Bool → ℕ → Filled → List ℕ → Type 0
 SetStep inner ps before strict levels after spelled =
@@ -278,21 +280,23 @@ abbrev pub TaggedIs : Bool → Spelled → Class → ℕ → Spelled
 TaggedIs true inner class number guise strict levels v spelled = IsConstructed (tag_or guise.tag class number) strict levels (λ l contents. inner (bare guise.default) strict l v contents) spelled
 TaggedIs false inner class number guise strict levels v spelled = inner (under (Some (tag_or guise.tag class number)) guise.default) strict levels v spelled
 
-abbrev pub RowIs : (ℕ → Spelled) → TypeRow → Spelled
-RowIs inner row.Boolean guise strict levels v spelled = IsPrimitive (tag_or guise.tag Universal 1) strict levels (λ c. BooleanIs strict v c × IsOther guise.default strict v) spelled
-RowIs inner (row.Integer low high) guise strict levels v spelled = IsPrimitive (tag_or guise.tag Universal 2) strict levels (λ c. IntegerIs low high v c × IsOther guise.default strict v) spelled
-RowIs inner (row.Enumerated items) guise strict levels v spelled = IsPrimitive (tag_or guise.tag Universal 10) strict levels (λ c. EnumeratedIs items v c × IsOther guise.default strict v) spelled
-RowIs inner row.Null guise strict levels v spelled = IsPrimitive (tag_or guise.tag Universal 5) strict levels (NullIs v) spelled
-RowIs inner (row.OctetString most) guise strict levels v spelled = StringIs OfOctets (whole_octets most) always (tag_or guise.tag Universal 4) strict levels v spelled
-RowIs inner row.BitString guise strict levels v spelled = StringIs OfBits whole_bits has_zero_bits (tag_or guise.tag Universal 3) strict levels v spelled
-RowIs inner row.ObjectId guise strict levels v spelled = IsPrimitive (tag_or guise.tag Universal 6) strict levels (ObjectIdIs v) spelled
-RowIs inner (row.Text kind) guise strict levels v spelled = StringIs OfOctets (whole_text kind) always (tag_or guise.tag Universal (text_number kind)) strict levels v spelled
-RowIs inner (row.Sequence ps) guise strict levels v spelled = IsConstructed (tag_or guise.tag Universal 16) strict levels (SequenceIs inner strict ps v) spelled
-RowIs inner (row.Set ps) guise strict levels v spelled = IsConstructed (tag_or guise.tag Universal 17) strict levels (SetIs inner ps strict v) spelled
-RowIs inner (row.SequenceOf of) guise strict levels v spelled = IsConstructed (tag_or guise.tag Universal 16) strict levels (ListIs (inner of.0) strict v) spelled
-RowIs inner (row.Choice ps) guise strict levels v spelled = OrExplicit (ChoiceIs inner ps) guise.tag strict levels v spelled
-RowIs inner (row.Tagged class number explicit of) guise strict levels v spelled = TaggedIs explicit (inner of.0) class number guise strict levels v spelled
-RowIs inner row.Any guise strict levels v spelled = OrExplicit (λ s. AnyIs) guise.tag strict levels v spelled
+-- from how values of the rows are spelled in DER as a function, and in which relation
+abbrev pub RowIs : (ℕ → Value → List ℕ) → (ℕ → Spelled) → TypeRow → Spelled
+RowIs spell inner row.Boolean guise strict levels v spelled = IsPrimitive (tag_or guise.tag Universal 1) strict levels (λ c. BooleanIs strict v c × IsOther guise.default strict v) spelled
+RowIs spell inner (row.Integer low high) guise strict levels v spelled = IsPrimitive (tag_or guise.tag Universal 2) strict levels (λ c. IntegerIs low high v c × IsOther guise.default strict v) spelled
+RowIs spell inner (row.Enumerated items) guise strict levels v spelled = IsPrimitive (tag_or guise.tag Universal 10) strict levels (λ c. EnumeratedIs items v c × IsOther guise.default strict v) spelled
+RowIs spell inner row.Null guise strict levels v spelled = IsPrimitive (tag_or guise.tag Universal 5) strict levels (NullIs v) spelled
+RowIs spell inner (row.OctetString most) guise strict levels v spelled = StringIs OfOctets (whole_octets most) always (tag_or guise.tag Universal 4) strict levels v spelled
+RowIs spell inner row.BitString guise strict levels v spelled = StringIs OfBits whole_bits has_zero_bits (tag_or guise.tag Universal 3) strict levels v spelled
+RowIs spell inner row.ObjectId guise strict levels v spelled = IsPrimitive (tag_or guise.tag Universal 6) strict levels (ObjectIdIs v) spelled
+RowIs spell inner (row.Text kind) guise strict levels v spelled = StringIs OfOctets (whole_text kind) always (tag_or guise.tag Universal (text_number kind)) strict levels v spelled
+RowIs spell inner (row.Sequence ps) guise strict levels v spelled = IsConstructed (tag_or guise.tag Universal 16) strict levels (SequenceIs inner strict ps v) spelled
+RowIs spell inner (row.Set ps) guise strict levels v spelled = IsConstructed (tag_or guise.tag Universal 17) strict levels (SetIs inner ps strict v) spelled
+RowIs spell inner (row.SequenceOf of) guise strict levels v spelled = IsConstructed (tag_or guise.tag Universal 16) strict levels (ListIs (inner of.0) strict v) spelled
+RowIs spell inner (row.SetOf of) guise strict levels v spelled = IsConstructed (tag_or guise.tag Universal 17) strict levels (SetOfIs (spell of.0) (inner of.0) strict v) spelled
+RowIs spell inner (row.Choice ps) guise strict levels v spelled = OrExplicit (ChoiceIs inner ps) guise.tag strict levels v spelled
+RowIs spell inner (row.Tagged class number explicit of) guise strict levels v spelled = TaggedIs explicit (inner of.0) class number guise strict levels v spelled
+RowIs spell inner row.Any guise strict levels v spelled = OrExplicit (λ s. AnyIs) guise.tag strict levels v spelled
 
 abbrev pub RowOr : (TypeRow → Spelled) → Option TypeRow → Spelled
 RowOr rule None guise strict levels v spelled = ⊥
@@ -301,7 +305,7 @@ RowOr rule (Some r) guise strict levels v spelled = rule r guise strict levels v
 -- Each row names only lower rows, so as many turns as there are rows are enough.
 abbrev pub SpelledBy : List TypeRow → ℕ → ℕ → Spelled
 SpelledBy rows zero n guise strict levels v spelled = ⊥
-SpelledBy rows (suc turns) n guise strict levels v spelled = RowOr (RowIs (SpelledBy rows turns)) (slice_get rows n) guise strict levels v spelled
+SpelledBy rows (suc turns) n guise strict levels v spelled = RowOr (RowIs (written rows) (SpelledBy rows turns)) (slice_get rows n) guise strict levels v spelled
 
 -- octets spell a value of row n of a table, within a limit on their number (X.690; `strict` is DER)
 pub record Spells (rows : List TypeRow) (n : ℕ) (strict : Bool) (limit : ℕ) (v : Value) (spelled : List ℕ) : Type 0 where

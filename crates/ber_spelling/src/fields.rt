@@ -2,7 +2,8 @@
 
 ghost use Rattle.std.specs.Prelude.{◌≢◌, IfErr, ◌≡◌, ◌∷◌, ◌+◌, ◌-◌, ◌≤◌, ◌<◌, ◌^◌, length, take, IfOk, Err};
 ghost use Rattle.ber_spelling.specs.Reading.{Gives, within, spot_of, opened_of, ahead_of, is_past, LiesIn, GoesOn, Opens};
-ghost use Rattle.ber_spelling.specs.Fields.{class_of, is_constructed, capped, digits_at, high_at, identifier_at, number_from, announced_at, long_at, definite_at, extent_at, contents_at, begin_at, mark_at, look_at, is_end, lacking_from, cut_off, sure_reach};
+ghost use Rattle.ber_spelling.specs.Fields.{is_constructed, digits_at, high_at, identifier_at, number_from, announced_at, long_at, definite_at, extent_at, contents_at, begin_at, mark_at, look_at, is_end, lacking_from, cut_off, sure_reach};
+ghost use Rattle.asn1_types.specs.Tags.{class_of, capped};
 
 use crate::fault::ReadFault;
 use crate::spot::{Ahead, Opened, Scope, Spot};

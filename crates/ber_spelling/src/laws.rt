@@ -1,6 +1,6 @@
 //! The laws of reading, each the contract of a function that does nothing.
 
-ghost use Rattle.ber_spelling.specs.Laws.{ReadIsSpelled, SpelledIsRead, NoneBegins, ReadStays, FaultStays, FaultIsFirst, WiderStays, WiderIsLong, ShortIsWithin, BeginningIsShort, WrittenIsSpelled, WrittenIsRead, DerIsBer, DerIsBerInForm, OneOfThree, DerIsWhole, SpelledFits, UnusedBitsAreZeros, UnusedBitsAreCleared};
+ghost use Rattle.ber_spelling.specs.Laws.{ReadIsSpelled, SpelledIsRead, NoneBegins, ReadStays, FaultStays, FaultIsFirst, WiderStays, WiderIsLong, ShortIsWithin, BeginningIsShort, WrittenIsSpelled, WrittenIsRead, DerIsBer, DerIsBerInForm, OneOfThree, DerIsWhole, DerIsWritten, SpelledFits, UnusedBitsAreZeros, UnusedBitsAreCleared};
 
 /// What is read is spelled by the octets used.
 pub fn read_is_spelled()
@@ -52,8 +52,7 @@ pub fn beginning_is_short()
     ensures { BeginningIsShort }
 {}
 
-/// What is written of a value that fits is spelled so, in DER too. So, with `none_begins`, it is
-/// the value's only DER spelling.
+/// What is written of a value that fits is spelled so, in DER too.
 pub fn written_is_spelled()
     ensures { WrittenIsSpelled }
 {}
@@ -103,4 +102,9 @@ pub fn one_of_three()
 /// written of a value that fits.
 pub fn der_is_whole()
     ensures { DerIsWhole }
+{}
+
+/// What spells a value in DER is what is written of it: a value has one DER spelling (X.690 10, 11).
+pub fn der_is_written()
+    ensures { DerIsWritten }
 {}

@@ -15,7 +15,7 @@ mod whole;
 pub use fault::ReadFault;
 pub use fields::{class_of, extent, identifier, look, refusal};
 pub use laws::{
-    beginning_is_short, der_is_ber, der_is_ber_in_form, der_is_whole, fault_is_first, fault_stays,
+    beginning_is_short, der_is_ber, der_is_ber_in_form, der_is_whole, der_is_written, fault_is_first, fault_stays,
     none_begins, one_of_three, read_is_spelled, read_stays, short_is_within, spelled_fits,
     spelled_is_read, unused_bits_are_cleared, unused_bits_are_zeros, wider_is_long, wider_stays,
     written_is_read, written_is_spelled,
@@ -23,7 +23,8 @@ pub use laws::{
 pub use order::{RANKS, rank, rank_of};
 pub use plain::{boolean, enumerated, integer, is_other_number, null, object_id};
 pub use primitives::integer_of;
-pub use spot::{Ahead, Gathered, Opened, Scope, Spot, StringKind, StringRule, Tag};
+pub use spot::{Ahead, Gathered, Opened, Scope, Spot, StringKind, StringRule};
 pub use strings::{bit_string, octet_string, text};
 pub use tag::{expect, tag_or};
+pub use asn1_types::Tag;
 pub use whole::whole_value;

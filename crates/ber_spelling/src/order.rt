@@ -4,9 +4,8 @@ ghost use Rattle.std.specs.Prelude.{◌≡◌, ◌<◌, ◌≤◌, ◌^◌, None
 ghost use Rattle.std.specs.List.{AllByRecursion};
 ghost use Rattle.asn1_types.specs.Rows.{rows_of_parts};
 ghost use Rattle.asn1_types.specs.Table.{IsSound};
-ghost use Rattle.ber_spelling.specs.Fields.{capped};
-ghost use Rattle.ber_spelling.specs.Order.{rank, front_number, front_rank};
-ghost use Rattle.ber_spelling.specs.Writing.{alternative_written, choice_written, any_written, write_by, writes};
+ghost use Rattle.asn1_types.specs.Writing.{alternative_written, choice_written, any_written, write_by, writes};
+ghost use Rattle.asn1_types.specs.Tags.{capped, rank, front_number, front_rank};
 
 use crate::fields::class_of;
 use asn1_types::{Class, Node, Parts, TypeId, TypeRow, TypeTable, Val, text_number};
@@ -38,7 +37,7 @@ fn front_number(digits: &[u8]) -> u64
 }
 
 /// The rank of the tag that octets begin with; 0 for none.
-#[tactic(auto, unfolding(crate::specs::Order::front_rank))]
+#[tactic(auto, unfolding(asn1_types::specs::Tags::front_rank))]
 pub(crate) fn front_rank(octets: &[u8]) -> u64
     ensures { result ≡ front_rank octets.now }
 {
@@ -81,6 +80,7 @@ fn rank_by(table: &TypeTable, of: TypeId, row: &TypeRow, value: &Val) -> u64
         TypeRow::Sequence(_) => rank(Class::Universal, 16),
         TypeRow::SequenceOf(_) => rank(Class::Universal, 16),
         TypeRow::Set(_) => rank(Class::Universal, 17),
+        TypeRow::SetOf(_) => rank(Class::Universal, 17),
         TypeRow::Choice(alternatives) => rank_of_chosen(table, of, alternatives, value),
         TypeRow::Tagged { class, number, .. } => rank(*class, *number as u64),
         TypeRow::Any => rank_of_any(value),

@@ -8,7 +8,8 @@ ghost use Rattle.ber_spelling.specs.Rules.{primitive_at, always, boolean_rule, i
 use crate::fault::ReadFault;
 use crate::fields::{contents, refusal};
 use crate::primitives::{arcs_of, integer_of};
-use crate::spot::{Opened, Scope, Spot, Tag};
+use crate::spot::{Opened, Scope, Spot};
+use asn1_types::Tag;
 use crate::tag::expect;
 use asn1_types::{Item, Node, Val, is_item};
 use osi_base::Kind;

@@ -35,13 +35,6 @@ pub struct Opened<'a> {
     pub number: u64,
 }
 
-/// A tag that stands in the place of a type's own.
-#[derive(Clone, Copy)]
-pub struct Tag {
-    pub class: Class,
-    pub number: u32,
-}
-
 /// What stands next in contents.
 #[derive(Clone, Copy)]
 pub enum Ahead<'a> {

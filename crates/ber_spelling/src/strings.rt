@@ -7,7 +7,8 @@ ghost use Rattle.ber_spelling.specs.Rules.{always, primitive_at, constructed_at,
 
 use crate::fault::ReadFault;
 use crate::fields::{contents, extent, look, refusal};
-use crate::spot::{Ahead, Gathered, Opened, Scope, Spot, StringKind, StringRule, Tag};
+use crate::spot::{Ahead, Gathered, Opened, Scope, Spot, StringKind, StringRule};
+use asn1_types::Tag;
 use crate::tag::expect;
 use asn1_types::{Class, Node, TextKind, Val, are_bits, is_text};
 use osi_base::{Kind, NoMemory, Octets};

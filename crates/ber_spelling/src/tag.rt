@@ -2,12 +2,13 @@
 
 ghost use Rattle.std.specs.Prelude.{◌≢◌, IfErr, ◌≡◌};
 ghost use Rattle.ber_spelling.specs.Reading.{Gives, opened_of};
-ghost use Rattle.ber_spelling.specs.Rules.{tag_or, expect_at};
+ghost use Rattle.ber_spelling.specs.Rules.{expect_at};
+ghost use Rattle.asn1_types.specs.Tags.{tag_or};
 
 use crate::fault::ReadFault;
 use crate::fields::refusal;
-use crate::spot::{Opened, Tag};
-use asn1_types::{Class, same_class};
+use crate::spot::Opened;
+use asn1_types::{Class, Tag, same_class};
 use osi_base::Kind;
 
 /// A given tag, or else this one.

@@ -1,12 +1,12 @@
 -- How many octets are written.
-use Rattle.std.proofs.Common.{◌≡◌, ℕ, zero, suc, ◌+◌, ◌-◌, ◌/◌, ◌%◌, ◌<◌, ◌≤◌, Bool, true, false, cond, List, [], ◌∷◌, ◌++◌, length, map, drop, get_or, Option, Some, None, refl, sym, ap, ◌∙◌, arith, length-append, inl, inr}
+use Rattle.std.proofs.Common.{◌≡◌, ℕ, zero, suc, ◌+◌, ◌-◌, ◌*◌, ◌/◌, ◌%◌, ◌^◌, ◌<◌, ◌≤◌, Bool, true, false, cond, List, [], ◌∷◌, ◌++◌, length, map, drop, get_or, Option, Some, None, refl, sym, ap, ◌∙◌, arith, length-append, inl, inr}
 use Rattle.std.specs.Prelude.{nat_lt, nat_eq}
 use Rattle.std.specs.List.{flat_map}
 use Rattle.std.proofs.lemmas.Bool.{cases_lt}
 use Rattle.asn1_types.specs.declared.row.Part.{Part}
 use Rattle.asn1_types.specs.Value.{Value}
 use Rattle.asn1_types.specs.ValueView.{parts_of, values_of}
-use Rattle.ber_spelling.specs.Writing.{Writer, high_digits, base_128, digits_256, base_256, natural_octets, part_contents, parts_contents, values_contents}
+use Rattle.asn1_types.specs.Writing.{Writer, high_digits, base_128, digits_256, base_256, natural_octets, part_contents, parts_contents, values_contents}
 use Rattle.ber_spelling.proofs.Digits.{high_step, high_append, low_step, low_append, nat_step, nat_append, nat_last}
 use Rattle.ber_spelling.proofs.WriteLaws.{parts_before, parts_none, values_before}
 
@@ -99,3 +99,43 @@ parts_room f ps vs i k p o e lt more is has =
     let h = parts_within f ps vs i in
     let s = ap length (parts_before f ps vs i p o lt more is has) ∙ length-append (part_contents f p o) (parts_contents f (drop (suc i) ps) (parts_of (drop (suc i) vs))) in
     rw e (omega arith)
+
+-- ---- few octets hold a number
+
+few_none : (m : ℕ) → m < 1 → length (high_digits m m []) ≤ 0
+few_none zero lt = omega arith
+few_none (suc m) lt = absurd (omega arith)
+
+few_next : (x k : ℕ) → ((m : ℕ) → m < x → length (high_digits m m []) ≤ k) → (m : ℕ) → m < 128 * x → length (high_digits m m []) ≤ suc k
+few_next x k h zero lt = omega arith
+few_next x k h (suc m) lt = let some : 0 < suc m = omega arith in let less : suc m / 128 < x = omega arith in omega (arith, high_more (suc m) some, h (suc m / 128) less)
+
+few_five : (m : ℕ) → m < 34359738368 → length (high_digits m m []) ≤ 5
+few_five = few_next 268435456 4 (few_next 2097152 3 (few_next 16384 2 (few_next 128 1 (few_next 1 0 few_none))))
+
+few_four : (m : ℕ) → m < 268435456 → length (high_digits m m []) ≤ 4
+few_four = few_next 2097152 3 (few_next 16384 2 (few_next 128 1 (few_next 1 0 few_none)))
+
+pub tag_few : (n : ℕ) → n < 2 ^ 32 → length (base_128 n) ≤ 5
+tag_few n lt = let e = base_128_more n in let le = few_four (n / 128) (omega arith) in omega arith
+
+pub subidentifier_few : (n : ℕ) → n < 2 ^ 40 → length (base_128 n) ≤ 6
+subidentifier_few n lt = let e = base_128_more n in let le = few_five (n / 128) (omega arith) in omega arith
+
+nat_next : (x k : ℕ) → 1 ≤ k → ((m : ℕ) → m < x → length (natural_octets m m []) ≤ k) → (m : ℕ) → m < 256 * x → length (natural_octets m m []) ≤ suc k
+nat_next x k some h m lt =
+    elim (cases_lt m 128) [
+      | inl low ↦ omega (arith, nat_one m low)
+      | inr ge ↦ let less : m / 256 < x = omega arith in omega (arith, nat_more m ge, h (m / 256) less)
+    ]
+
+nat_low : (m : ℕ) → m < 128 → length (natural_octets m m []) ≤ 1
+nat_low m lt = omega (arith, nat_one m lt)
+
+natural_eight : (m : ℕ) → m < 9223372036854775808 → length (natural_octets m m []) ≤ 8
+natural_eight =
+    nat_next 36028797018963968 7 (omega arith) (nat_next 140737488355328 6 (omega arith) (nat_next 549755813888 5 (omega arith) (nat_next 2147483648 4 (omega arith)
+    (nat_next 8388608 3 (omega arith) (nat_next 32768 2 (omega arith) (nat_next 128 1 (omega arith) nat_low))))))
+
+pub natural_nine : (m : ℕ) → m < 2 ^ 64 → length (natural_octets m m []) ≤ 9
+natural_nine m lt = nat_next 9223372036854775808 8 (omega arith) natural_eight m (omega arith)

@@ -1,3 +1,7 @@
+pub mod OctetLaws
+pub mod HeadLaws
+pub mod LessLaws
+pub mod MergeLaws
 pub mod Counts
 pub mod SetCounts
 pub mod WrittenLoops

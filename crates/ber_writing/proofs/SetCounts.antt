@@ -6,10 +6,9 @@ use Rattle.asn1_types.specs.declared.row.Class.{Class}
 use Rattle.asn1_types.specs.declared.row.Class.TheVariants.{Universal, Application, Context, Private}
 use Rattle.asn1_types.specs.declared.row.Part.{Part}
 use Rattle.asn1_types.specs.Value.{Value, boolean, integer, null, octets, bits, object_id, text, parts, list, chosen, any, MaybeValues, no_parts, absent, present}
-use Rattle.ber_spelling.specs.declared.spot.Tag as tags
-use Rattle.ber_spelling.specs.Fields.{class_of}
-use Rattle.ber_spelling.specs.Order.{rank, ranks, front_number, front_rank}
-use Rattle.ber_spelling.specs.Writing.{Writer, parts_contents, sequence_contents, of_rank, risen_parts, set_parts, identifier, length_octets, definite}
+use Rattle.asn1_types.specs.declared.row.Tag as tags
+use Rattle.asn1_types.specs.Writing.{Writer, parts_contents, sequence_contents, of_rank, risen_parts, set_parts, identifier, length_octets, definite}
+use Rattle.asn1_types.specs.Tags.{class_of, rank, ranks, front_number, front_rank}
 use Rattle.ber_spelling.proofs.WriteLaws.{risen_next}
 
 -- ---- each rank is one
@@ -105,11 +104,11 @@ module _ (f : ℕ → Writer) where
       let d = length-append l (parts_contents f ps vs) in
       omega arith
 
-  set_length : (ps : List Part) (vs : MaybeValues) → length (set_parts f ps vs) ≡ length (parts_contents f ps vs)
+  pub set_length : (ps : List Part) (vs : MaybeValues) → length (set_parts f ps vs) ≡ length (parts_contents f ps vs)
   unfolding set_parts
   set_length ps vs = risen_length ranks front_below ps vs
 
-  contents_length : (ps : List Part) (v : Value) → length (sequence_contents (set_parts f ps) v) ≡ length (sequence_contents (parts_contents f ps) v)
+  pub contents_length : (ps : List Part) (v : Value) → length (sequence_contents (set_parts f ps) v) ≡ length (sequence_contents (parts_contents f ps) v)
   contents_length ps (parts vs) = set_length ps vs
   contents_length ps null = refl
   contents_length ps (boolean b) = refl

@@ -1,7 +1,7 @@
 -- Writing from the last octet to the first.
 use Rattle.std.proofs.Common.{◌≡◌, ℕ, ◌+◌, ◌-◌, ◌/◌, ◌%◌, ◌<◌, ◌≤◌, List, [], ◌∷◌, ◌++◌, sym, ap, ◌∙◌, arith, append_assoc}
 use Rattle.std.proofs.lemmas.List.{map-append}
-use Rattle.ber_spelling.specs.Writing.{high_digits, base_128, digits_256, base_256, natural_octets}
+use Rattle.asn1_types.specs.Writing.{high_digits, base_128, digits_256, base_256, natural_octets}
 use Rattle.ber_spelling.proofs.Digits.{high_step, high_append, low_step, low_append, nat_step, nat_append, nat_last}
 use Rattle.ber_spelling.proofs.WrittenFields.{turned}
 

@@ -5,14 +5,13 @@ ghost use Rattle.std.specs.List.{AllByRecursion, flat_map};
 ghost use Rattle.asn1_types.specs.Rows.{rows_of_parts};
 ghost use Rattle.asn1_types.specs.Table.{IsSound};
 ghost use Rattle.asn1_types.specs.ValueView.{parts_of, values_of};
-ghost use Rattle.ber_spelling.specs.Spelling.{subidentifiers};
-ghost use Rattle.ber_spelling.specs.Writing.{saturated, base_128, base_256, natural_octets, integer_octets, identifier, length_octets, definite, boolean_contents, integer_contents, octets_contents, text_contents, bits_contents, object_id_contents, values_contents, list_contents, part_contents, parts_contents, sequence_contents, alternative_written, choice_written, any_written, under, write_by, writes, written};
+ghost use Rattle.asn1_types.specs.Writing.{saturated, base_128, base_256, natural_octets, integer_octets, identifier, length_octets, definite, boolean_contents, integer_contents, octets_contents, text_contents, bits_contents, object_id_contents, values_contents, list_contents, part_contents, parts_contents, sequence_contents, alternative_written, choice_written, any_written, under, write_by, writes, written, subidentifiers};
 
 use asn1_types::{Class, Node, Part, Parts, TypeId, TypeRow, TypeTable, Val, text_number};
 use ber_spelling::{Tag, tag_or};
 
 /// The length of a number in base 128.
-fn base_128_len(number: u64) -> u64
+pub(crate) fn base_128_len(number: u64) -> u64
     ensures { result ≡ length (base_128 number) }
 {
     let mut count = 1;
@@ -39,7 +38,8 @@ fn base_256_len(number: u64) -> u64
 
 /// The length of a number from 0 on, in as few octets as hold it with bit 8 of the first clear.
 fn natural_len(number: u64) -> u64
-    ensures { result ≡ length (natural_octets number number []) }
+    ensures length { result ≡ length (natural_octets number number []) }
+    ensures few { result ≤ 9 }
 {
     let mut count = 1;
     let mut high = number;
@@ -51,9 +51,10 @@ fn natural_len(number: u64) -> u64
 }
 
 /// The length of an INTEGER's contents (X.690 8.3).
-#[tactic(auto, unfolding(ber_spelling::specs::Writing::integer_octets))]
-fn integer_len(number: i64) -> u64
-    ensures { result ≡ length (integer_octets number) }
+#[tactic(auto, unfolding(asn1_types::specs::Writing::integer_octets))]
+pub(crate) fn integer_len(number: i64) -> u64
+    ensures length { result ≡ length (integer_octets number) }
+    ensures few { result ≤ 9 }
 {
     if number < 0 {
         natural_len((-1 - number) as u64)
@@ -62,9 +63,9 @@ fn integer_len(number: i64) -> u64
     }
 }
 
-fn identifier_len(tag: Tag) -> u64
+pub(crate) fn identifier_len(tag: Tag) -> u64
     ensures length { result ≡ length (identifier tag.class false tag.number) }
-    ensures few { result ≤ 2 ^ 32 }
+    ensures few { result ≤ 6 }
 {
     if tag.number < 31 {
         return 1;
@@ -72,7 +73,7 @@ fn identifier_len(tag: Tag) -> u64
     1 + base_128_len(tag.number as u64)
 }
 
-fn length_len(count: u64) -> u64
+pub(crate) fn length_len(count: u64) -> u64
     ensures length { result ≡ length (length_octets count) }
     ensures few { result ≤ 9 }
 {
@@ -142,7 +143,7 @@ fn bits_len(tag: Tag, value: &Val) -> u64
 
 /// The length of an OBJECT IDENTIFIER's arcs (X.690 8.19), of which the first two are one
 /// subidentifier.
-fn arcs_len(arcs: &[u32]) -> u64
+pub(crate) fn arcs_len(arcs: &[u32]) -> u64
     ensures { result ≡ saturated (length (flat_map base_128 (subidentifiers arcs.now))) }
 {
     match arcs {
@@ -192,7 +193,7 @@ fn any_len(tag: Option<Tag>, value: &Val) -> u64
 
 /// The length of what is written of a value of this row, under another tag if one is given.
 #[cycle(measuring)]
-fn value_len(table: &TypeTable, of: TypeId, tag: Option<Tag>, value: &Val) -> u64
+pub(crate) fn value_len(table: &TypeTable, of: TypeId, tag: Option<Tag>, value: &Val) -> u64
     ensures { result ≡ saturated (length (writes table.now of.0 tag value.now)) }
 {
     if table.has(of) {
@@ -217,6 +218,10 @@ fn row_len(table: &TypeTable, of: TypeId, row: &TypeRow, tag: Option<Tag>, value
         TypeRow::Text(kind) => text_len(tag_or(tag, Class::Universal, text_number(*kind)), value),
         TypeRow::SequenceOf(inner) => {
             let tag = tag_or(tag, Class::Universal, 16);
+            list_len(table, of, *inner, tag, value)
+        }
+        TypeRow::SetOf(inner) => {
+            let tag = tag_or(tag, Class::Universal, 17);
             list_len(table, of, *inner, tag, value)
         }
         TypeRow::Null => definite_len(tag_or(tag, Class::Universal, 5), 0),
@@ -260,7 +265,7 @@ fn list_len(table: &TypeTable, of: TypeId, inner: TypeId, tag: Tag, value: &Val)
 }
 
 #[cycle(measuring)]
-fn values_len(table: &TypeTable, of: TypeId, inner: TypeId, values: &[Val]) -> u64
+pub(crate) fn values_len(table: &TypeTable, of: TypeId, inner: TypeId, values: &[Val]) -> u64
     requires below { inner.0 < of.0 }
     ensures { result ≡ saturated (length (values_contents (writes table.now inner.0) (values_of values.now))) }
 {
@@ -301,7 +306,7 @@ fn choice_len(
 }
 
 #[cycle(measuring)]
-fn alternative_len(table: &TypeTable, of: TypeId, alternatives: &Parts, value: &Val) -> u64
+pub(crate) fn alternative_len(table: &TypeTable, of: TypeId, alternatives: &Parts, value: &Val) -> u64
     requires below { AllByRecursion (λ m. m < of.0) (rows_of_parts alternatives.now) }
     ensures { result ≡ saturated (length (choice_written (λ which. alternative_written (writes table.now) (slice_get alternatives.now which)) value.now)) }
 {
@@ -327,7 +332,7 @@ fn sequence_len(table: &TypeTable, of: TypeId, parts: &[Part], tag: Tag, value: 
 }
 
 #[cycle(measuring)]
-fn parts_len(table: &TypeTable, of: TypeId, parts: &[Part], values: &[Option<Val>]) -> u64
+pub(crate) fn parts_len(table: &TypeTable, of: TypeId, parts: &[Part], values: &[Option<Val>]) -> u64
     requires below { AllByRecursion (λ m. m < of.0) (rows_of_parts parts.now) }
     ensures { result ≡ saturated (length (parts_contents (writes table.now) parts.now (parts_of values.now))) }
 {
@@ -341,7 +346,7 @@ fn parts_len(table: &TypeTable, of: TypeId, parts: &[Part], values: &[Option<Val
 }
 
 #[cycle(measuring)]
-fn part_len(table: &TypeTable, of: TypeId, part: &Part, value: &Option<Val>) -> u64
+pub(crate) fn part_len(table: &TypeTable, of: TypeId, part: &Part, value: &Option<Val>) -> u64
     requires below { part.now.inner.0 < of.0 }
     ensures { result ≡ saturated (length (part_contents (writes table.now) part.now value.now)) }
 {
@@ -353,7 +358,7 @@ fn part_len(table: &TypeTable, of: TypeId, part: &Part, value: &Option<Val>) -> 
 
 /// The length of the DER spelling of a value, as `ber_write` writes it. One of 2 ^ 64 or more octets
 /// gives 2 ^ 64 - 1.
-#[tactic(auto, unfolding(ber_spelling::specs::Writing::written))]
+#[tactic(auto, unfolding(asn1_types::specs::Writing::written))]
 pub fn ber_len(table: &TypeTable, of: TypeId, value: &Val) -> u64
     ensures { result ≡ min (length (written table.now of.0 value.now)) (2 ^ 64 - 1) }
 {

@@ -1,8 +1,16 @@
-//! The lengths of values of the types of `asn1_types` in DER (X.690), and writing them.
+//! The lengths of values of the types of `asn1_types` in DER (X.690), their order, which values fit,
+//! and writing them.
 #![tactic(auto)]
 
+mod fitting;
 mod length;
+mod octet;
+mod order;
+mod sort;
 mod write;
 
+pub use fitting::fits;
 pub use length::ber_len;
+pub use order::is_less;
+pub use sort::{follows_last, in_order};
 pub use write::{ber_octets, ber_write};

@@ -6,9 +6,8 @@ ghost use Rattle.std.specs.List.{AllByRecursion, flat_map};
 ghost use Rattle.asn1_types.specs.Rows.{rows_of_parts};
 ghost use Rattle.asn1_types.specs.Table.{IsSound};
 ghost use Rattle.asn1_types.specs.ValueView.{parts_of, values_of};
-ghost use Rattle.ber_spelling.specs.Spelling.{leading, subidentifiers};
-ghost use Rattle.ber_spelling.specs.Writing.{base_128, base_256, natural_octets, integer_octets, identifier, length_octets, definite, boolean_contents, integer_contents, octets_contents, text_contents, bits_contents, object_id_contents, values_contents, list_contents, part_contents, parts_contents, sequence_contents, alternative_written, choice_written, any_written, under, write_by, writes, written, of_rank, set_parts};
-ghost use Rattle.ber_spelling.specs.Order.{rank};
+ghost use Rattle.asn1_types.specs.Writing.{base_128, base_256, natural_octets, integer_octets, identifier, length_octets, definite, boolean_contents, integer_contents, octets_contents, text_contents, bits_contents, object_id_contents, values_contents, list_contents, part_contents, parts_contents, sequence_contents, alternative_written, choice_written, any_written, under, write_by, writes, written, of_rank, set_parts, subidentifiers};
+ghost use Rattle.asn1_types.specs.Tags.{leading, rank};
 
 use crate::length::ber_len;
 use asn1_types::{Class, Node, Part, Parts, TypeId, TypeRow, TypeTable, Val, text_number};
@@ -39,7 +38,7 @@ fn put_all(octets: &[u8], room: &mut [u8], end: usize) -> usize
 }
 
 /// A number in base 128, with bit 8 set in all digits but the last.
-fn put_base_128(number: u64, room: &mut [u8], end: usize) -> usize
+pub(crate) fn put_base_128(number: u64, room: &mut [u8], end: usize) -> usize
     requires room { length (base_128 number) ≤ end }
     requires end { end ≤ length room.old }
     ensures start { result + length (base_128 number) ≡ end }
@@ -71,8 +70,8 @@ fn put_base_256(number: u64, room: &mut [u8], end: usize) -> usize
 }
 
 /// An INTEGER's contents (X.690 8.3). Below 0 they are those of -1 less the number, with each bit turned.
-#[tactic(auto, unfolding(ber_spelling::specs::Writing::integer_octets))]
-fn put_integer(number: i64, room: &mut [u8], end: usize) -> usize
+#[tactic(auto, unfolding(asn1_types::specs::Writing::integer_octets))]
+pub(crate) fn put_integer(number: i64, room: &mut [u8], end: usize) -> usize
     requires room { length (integer_octets number) ≤ end }
     requires end { end ≤ length room.old }
     ensures start { result + length (integer_octets number) ≡ end }
@@ -159,7 +158,7 @@ fn put_length(count: usize, room: &mut [u8], end: usize) -> usize
 }
 
 /// Identifier and length of contents of `count` octets.
-fn put_head(tag: Tag, constructed: bool, count: usize, room: &mut [u8], end: usize) -> usize
+pub(crate) fn put_head(tag: Tag, constructed: bool, count: usize, room: &mut [u8], end: usize) -> usize
     requires room { length (identifier tag.class constructed tag.number ++ length_octets count) ≤ end }
     requires end { end ≤ length room.old }
     ensures start { result + length (identifier tag.class constructed tag.number ++ length_octets count) ≡ end }
@@ -311,7 +310,7 @@ fn put_any(tag: Option<Tag>, value: &Val, room: &mut [u8], end: usize) -> usize
 /// Puts a value of this row, under another tag if one is given. Of a value that doesn't fit the row, what
 /// doesn't fit is left out.
 #[cycle(writing)]
-fn put_value(
+pub(crate) fn put_value(
     table: &TypeTable,
     of: TypeId,
     tag: Option<Tag>,
@@ -366,6 +365,10 @@ fn put_row(
         }
         TypeRow::SequenceOf(inner) => {
             let tag = tag_or(tag, Class::Universal, 16);
+            put_list(table, of, *inner, tag, value, room, end)
+        }
+        TypeRow::SetOf(inner) => {
+            let tag = tag_or(tag, Class::Universal, 17);
             put_list(table, of, *inner, tag, value, room, end)
         }
         TypeRow::Null => put_head(tag_or(tag, Class::Universal, 5), false, 0, room, end),
@@ -693,7 +696,7 @@ fn put_if_of_rank(
 }
 
 /// One more than the highest rank below a bound that the tag of a part has; 0 where there is none.
-fn next_rank(
+pub(crate) fn next_rank(
     table: &TypeTable,
     of: TypeId,
     parts: &[Part],

@@ -1,6 +1,6 @@
-//! Reads and writes two values over and over, so that a clock outside can time it. Its words say how
-//! often: in BER, reading the sequence, writing it, reading the invocation, writing it; then the same four
-//! in the packed syntax.
+//! Reads and writes values over and over, so that a clock outside can time it. Its words say how often: in
+//! BER, reading the sequence, writing it, reading the invocation, writing it; then the same four in the
+//! packed syntax; then the same eight with the numbers in a SET OF and those in a SEQUENCE OF.
 #![tactic(auto)]
 
 mod rounds;
@@ -9,7 +9,7 @@ mod stopped;
 mod syntax;
 
 use rounds::{read_rounds, write_rounds};
-use samples::{Sample, invocation, sequence};
+use samples::{Sample, invocation, numbers, sequence};
 use std::alloc::Global;
 use std::env;
 use std::env::Env;
@@ -49,7 +49,13 @@ fn run<R: Env + Print + Alloc<A = Global>>(rt: &R) -> Result<(), Stopped> {
     bench::<Ber, R>(rt, "sequence", &sequence, count(0), count(1))?;
     bench::<Ber, R>(rt, "invocation", &invocation, count(2), count(3))?;
     bench::<Packed, R>(rt, "sequence", &sequence, count(4), count(5))?;
-    bench::<Packed, R>(rt, "invocation", &invocation, count(6), count(7))
+    bench::<Packed, R>(rt, "invocation", &invocation, count(6), count(7))?;
+    let set = numbers(rt.alloc(), true)?;
+    let list = numbers(rt.alloc(), false)?;
+    bench::<Ber, R>(rt, "set of numbers", &set, count(8), count(9))?;
+    bench::<Ber, R>(rt, "list of numbers", &list, count(10), count(11))?;
+    bench::<Packed, R>(rt, "set of numbers", &set, count(12), count(13))?;
+    bench::<Packed, R>(rt, "list of numbers", &list, count(14), count(15))
 }
 
 fn main(rt: HostRuntime) -> ExitCode {

@@ -1,4 +1,4 @@
-//! The two values, each with its type.
+//! The values, each with its type.
 
 use crate::stopped::Stopped;
 use asn1_types::{Class, Node, Part, Parts, TypeId, TypeRow, TypeTable, Val};
@@ -104,6 +104,49 @@ pub fn invocation(alloc: Global) -> Result<Sample, Stopped> {
         node: Node::Parts(values),
     };
     Ok(Sample { table, of, value })
+}
+
+/// SEQUENCE {a INTEGER DEFAULT 1, b BOOLEAN DEFAULT TRUE, c SET OF INTEGER} with 5, an absent b and the
+/// numbers from 0 to 999; or with a SEQUENCE OF the same numbers.
+pub fn numbers(alloc: Global, is_set: bool) -> Result<Sample, Stopped> {
+    let mut table = TypeTable::new(alloc);
+    let integer = table.add(any_integer())?;
+    let boolean = table.add(TypeRow::Boolean)?;
+    let items = table.add(if is_set {
+        TypeRow::SetOf(integer)
+    } else {
+        TypeRow::SequenceOf(integer)
+    })?;
+    let mut parts = ListOf::new(alloc);
+    add_default(alloc, &mut parts, "a", integer)?;
+    add_default(alloc, &mut parts, "b", boolean)?;
+    add_part(alloc, &mut parts, "c", items, false)?;
+    let of = table.add(TypeRow::Sequence(parts))?;
+    let mut rising = Vec::new(alloc);
+    for count in 0..1_000_u32 {
+        rising.push(number(count as i64))?;
+    }
+    let mut values = Vec::new(alloc);
+    values.push(Some(number(5)))?;
+    values.push(None)?;
+    values.push(Some(Val {
+        node: Node::List(rising),
+    }))?;
+    let value = Val {
+        node: Node::Parts(values),
+    };
+    Ok(Sample { table, of, value })
+}
+
+/// A part whose default is 1, or true.
+fn add_default(alloc: Global, parts: &mut Parts, name: &str, inner: TypeId) -> Result<(), Stopped> {
+    parts.push(Part {
+        name: Name::from_str(alloc, name)?,
+        inner,
+        optional: false,
+        default: Some(1),
+    })?;
+    Ok(())
 }
 
 fn tagged(number: u32, inner: TypeId) -> TypeRow {

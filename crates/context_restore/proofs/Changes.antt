@@ -1,5 +1,5 @@
 -- A version leads from its set to the next.
-use Rattle.std.proofs.Common.{◌≡◌, ℕ, ◌<◌, ◌≤◌, Bool, true, false, not, ◌&&◌, ◌||◌, nat_eq, nat_lt, if◌then◌else◌, List, [], ◌∷◌, map, Option, Some, None, is_some, filter, refl, sym, ap, ap₂, ◌∙◌, subst, arith, le_of_eq, eqb-true}
+use Rattle.std.proofs.Common.{◌≡◌, ℕ, ◌<◌, ◌≤◌, Bool, true, false, not, ◌&&◌, ◌||◌, nat_eq, nat_lt, if◌then◌else◌, List, [], ◌∷◌, length, map, Option, Some, None, is_some, filter, refl, sym, ap, ap₂, ◌∙◌, subst, arith, le_of_eq, eqb-true}
 use Rattle.std.proofs.lemmas.Bool.{eqb-false}
 use Rattle.std.proofs.lemmas.Bool.Decides.{nat_tests}
 use Rattle.std.proofs.lemmas.Slice.Eq.{bytes_eq-Decides}
@@ -175,3 +175,16 @@ applied-root set r =
     or_none : (o : Option Pair) → option_or o None ≡ o
     or_none None = refl
     or_none (Some p) = refl
+
+none_left : {X : Type 0} (xs : List X) → length xs ≡ 0 → xs ≡ []
+none_left [] e = refl
+none_left (x ∷ xs) e = absurd (omega (arith, e))
+
+-- two sets of which neither has what the other hasn't are one
+pub unchanged : (old new added lost : ContextSet) → IsRising old → IsRising new → added ≡ missing old new → lost ≡ missing new old
+    → (nat_eq (length added) 0 && nat_eq (length lost) 0) ≡ true → old ≡ new
+unchanged old new added lost r q a b none =
+    let no_more : missing old new ≡ [] = sym a ∙ none_left added (grind (arith, nat_tests, none)) in
+    let no_less : missing new old ≡ [] = sym b ∙ none_left lost (grind (arith, nat_tests, none)) in
+    let same : version old new ≡ record { added = []; removed = [] } = λ i. record { added = no_more i; removed = ap ids no_less i } in
+    sym (ap (λ (v : Version). applied v old) same) ∙ applied-version old new r q

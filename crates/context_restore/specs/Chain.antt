@@ -2,7 +2,7 @@
 use Rattle.std.specs.Prelude.{◌≡◌, ℕ, zero, suc, ◌+◌, ◌<◌, ◌≤◌, Bool, true, false, ◌&&◌, nat_eq, nat_lt, if◌then◌else◌, List, [], ◌∷◌, length, Option, Some, None}
 use Rattle.slab.specs.Slab.{Slab, get, slab_len}
 use Rattle.osi_base.specs.declared.words.SetItem.{SetItem}
-use Rattle.context_sets.specs.Sets.{ContextSet}
+use Rattle.context_sets.specs.Sets.{ContextSet, IsRising}
 use Rattle.context_sets.specs.Alterations.{is_among}
 use Rattle.context_restore.specs.declared.node.VersionNode.{VersionNode}
 use Rattle.context_restore.specs.Versions.{Version, same_pair, ids, version, applied, set_of}
@@ -104,3 +104,8 @@ pub record IsSound (nodes : Nodes) (head : Option ℕ) (newest : ContextSet) (ac
   pub is_newest : newest ≡ set_of (versions_at nodes keys)
   pub leads_back : LeadsBack nodes keys
   pub rooted : active ≡ true → 0 < length keys
+
+-- the nodes are sound, and the set from before the activity rises
+pub record IsKept (nodes : Nodes) (head : Option ℕ) (newest inter : ContextSet) (active : Bool) : Type 0 where
+  pub sound : IsSound nodes head newest active
+  pub inter_rises : IsRising inter

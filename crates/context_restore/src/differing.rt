@@ -1,12 +1,12 @@
 //! What one set has and another hasn't.
 
-ghost use Rattle.std.specs.Prelude.{◌≡◌, ◌≤◌, ◌++◌, ◌∷◌, [], if◌then◌else◌, Some, IfOk, OnOk, length, drop};
+ghost use Rattle.std.specs.Prelude.{◌≡◌, ◌≤◌, ◌++◌, ◌&&◌, ◌∷◌, [], nat_eq, unwrap_or, if◌then◌else◌, Some, IfOk, OnOk, length, drop};
 ghost use Rattle.context_sets.specs.Sets.{IsRising};
 ghost use Rattle.context_restore.specs.Versions.{same_syntax, same_pair, missing, ids, without, with_all, applied};
 ghost use Rattle.context_restore.specs.Chain.{from_id, begins_with, back_of};
 
 use crate::node::VersionNode;
-use context_sets::{put, remove};
+use context_sets::{Contexts, put, remove};
 use osi_base::{Copied, ListOf, NoMemory, Pair, SetItem, SetList, Syntax};
 use std::alloc::Global;
 
@@ -84,6 +84,40 @@ pub(crate) fn missing(
         push_missing(alloc, &mut list, item, has_at(other, place, item))?;
     }
     Ok(list)
+}
+
+/// Whether a node adds nothing and takes nothing out.
+fn leads_nowhere(node: &VersionNode) -> bool
+    ensures { result ≡ (nat_eq (length node.now.added) 0 && nat_eq (length node.now.lost) 0) }
+{
+    node.added.len() == 0 && node.lost.len() == 0
+}
+
+/// A copy of a set to which a node leads from the newest one. A set that hasn't changed isn't copied.
+pub(crate) fn changed_set(
+    node: &VersionNode,
+    newest: &[SetItem],
+    set: &Contexts,
+) -> Result<Option<SetList>, NoMemory>
+    requires newest_rises { IsRising newest.now }
+    requires rises { IsRising set.now.set }
+    requires added { node.now.added ≡ missing newest.now set.now.set }
+    requires lost { node.now.lost ≡ missing set.now.set newest.now }
+    ensures { IfOk result (λ changed. unwrap_or changed newest.now ≡ set.now.set) }
+{
+    if leads_nowhere(node) {
+        return Ok(None);
+    }
+    Ok(Some(set.list()?))
+}
+
+/// Puts the set that there is now in the place of the newest one, where it has changed.
+pub(crate) fn renew(newest: &mut SetList, changed: Option<SetList>)
+    ensures { newest.new ≡ unwrap_or changed newest.old }
+{
+    if let Some(list) = changed {
+        *newest = list;
+    }
 }
 
 /// Takes the identifiers of these contexts out of a set.

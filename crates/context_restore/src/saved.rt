@@ -7,7 +7,7 @@ ghost use Rattle.context_restore.specs.declared.refusal.SaveRefusal.TheVariants.
 ghost use Rattle.context_restore.specs.SavedSets.{marks_of, next_number, mark_refusal, restart_refusal, resume_refusal, leave_refusal, resumed_set, resumed_nodes, IsRefused};
 
 use crate::chain::{drop_newest, insert_node, rooted, set_back};
-use crate::differing::missing;
+use crate::differing::{changed_set, missing, renew};
 use crate::node::VersionNode;
 use crate::refusal::SaveRefusal;
 use context_sets::Contexts;
@@ -32,7 +32,7 @@ pub struct Saved {
 
 impl Model for Saved {
     ghost use Rattle.context_restore.specs.SavedSets.{SavedSets};
-    ghost use Rattle.context_restore.specs.Chain.{versions, IsSound};
+    ghost use Rattle.context_restore.specs.Chain.{versions, IsKept};
 
     ghost Value = { SavedSets };
 
@@ -42,7 +42,7 @@ impl Model for Saved {
       active = saved.active;
     } };
 
-    ghost invariant = { λ saved. IsSound saved.nodes saved.head saved.newest saved.active };
+    ghost invariant = { λ saved. IsKept saved.nodes saved.head saved.newest saved.inter saved.active };
 }
 
 impl Saved {
@@ -129,10 +129,10 @@ impl Saved {
             added: missing(self.alloc, self.newest.as_slice(), set.items())?,
             lost: missing(self.alloc, set.items(), self.newest.as_slice())?,
         };
-        let newest = set.list()?;
+        let changed = changed_set(&node, self.newest.as_slice(), set)?;
         let key = insert_node(&mut self.nodes, node)?;
         self.head = Some(key);
-        self.newest = newest;
+        renew(&mut self.newest, changed);
         Ok(())
     }
 
@@ -188,6 +188,7 @@ impl Saved {
     pub fn end(&mut self) -> Result<SetList, SaveRefusal>
         ensures refused { MatchResult result (λ _. leave_refusal self.old ≡ None) (IsRefused (leave_refusal self.old)) }
         ensures list { IfOk result (λ list. list ≡ self.old.inter) }
+        ensures rises { IfOk result (λ list. IsRising list) }
         ensures ok { OnOk result (self.new ≡ record self.old { active = false }) }
         ensures err { OnErr result (self.new ≡ self.old) }
     {
@@ -200,6 +201,7 @@ impl Saved {
     pub fn interrupt(&mut self) -> Result<SetList, SaveRefusal>
         ensures refused { MatchResult result (λ _. leave_refusal self.old ≡ None) (IsRefused (leave_refusal self.old)) }
         ensures list { IfOk result (λ list. list ≡ self.old.inter) }
+        ensures rises { IfOk result (λ list. IsRising list) }
         ensures ok { OnOk result (self.new ≡ record self.old { active = false }) }
         ensures err { OnErr result (self.new ≡ self.old) }
     {
@@ -210,6 +212,7 @@ impl Saved {
     pub fn discard(&mut self) -> Result<SetList, SaveRefusal>
         ensures refused { MatchResult result (λ _. leave_refusal self.old ≡ None) (IsRefused (leave_refusal self.old)) }
         ensures list { IfOk result (λ list. list ≡ self.old.inter) }
+        ensures rises { IfOk result (λ list. IsRising list) }
         ensures ok { OnOk result (self.new ≡ record self.old { nodes = []; active = false }) }
         ensures err { OnErr result (self.new ≡ self.old) }
     {
@@ -225,6 +228,7 @@ impl Saved {
     fn left_set(&self) -> Result<SetList, SaveRefusal>
         ensures refused { MatchResult result (λ _. leave_refusal self.now ≡ None) (IsRefused (leave_refusal self.now)) }
         ensures list { IfOk result (λ list. list ≡ self.now.inter) }
+        ensures rises { IfOk result (λ list. IsRising list) }
     {
         if !self.is_active() {
             return Err(SaveRefusal::NoActivity);

@@ -17,7 +17,7 @@ mod syntaxes;
 pub use alteration::Alteration;
 pub use contexts::Contexts;
 pub use fault::{SetFault, SetRefusal};
-pub use laws::{agree_again, answers_fit, crossing_agrees};
+pub use laws::{agree_again, answers_fit, crossing_agrees, settle_between};
 pub use results::accepted_list;
 pub use rules::{Rejection, Rules};
 pub use sets::{pair_of, put, remove};

@@ -1,1 +1,3 @@
+pub mod Connecting
 pub mod Refusing
+pub mod Proposing

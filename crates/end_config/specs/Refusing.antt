@@ -1,6 +1,5 @@
--- Which configurations an end refuses in any mode for their values, and why: the first row that holds decides. The last
--- row, the length of a CP, stands elsewhere.
-use Rattle.std.specs.Prelude.{ℕ, ◌%◌, List, [], ◌∷◌, ◌++◌, length, Bool, ◌&&◌, ◌||◌, nat_eq, nat_lt, Option, Some, None, if◌then◌else◌}
+-- Which configurations an end refuses in any mode, and why: the first row that holds decides.
+use Rattle.std.specs.Prelude.{ℕ, ◌%◌, List, [], ◌∷◌, ◌++◌, length, Bool, true, false, not, ◌&&◌, ◌||◌, nat_eq, nat_lt, Option, Some, None, if◌then◌else◌}
 use Rattle.std.specs.List.{list_any}
 use Rattle.osi_base.specs.declared.words.Proposal.{Proposal}
 use Rattle.dialogue.specs.declared.config.Config.{Config}
@@ -8,8 +7,9 @@ use Rattle.dialogue.specs.declared.config.Mode.{Mode}
 use Rattle.dialogue.specs.declared.config.ConfigRefusal.{ConfigRefusal}
 use Rattle.dialogue.specs.declared.config.ConfigRefusal.TheVariants as refusals
 use Rattle.dialogue.specs.Config as values
-use Rattle.end_rules.specs.Base.{is_reliable}
+use Rattle.end_rules.specs.Base.{is_bare, is_reliable}
 use Rattle.end_rules.specs.State.{is_empty}
+use Rattle.end_config.specs.Connecting.{connect_octets}
 
 -- ---- contexts
 
@@ -28,6 +28,11 @@ abbrev pub bad_context : Mode → List Proposal → List Proposal → Option ℕ
 bad_context mode before [] = None
 bad_context mode before (p ∷ ps) = if is_bad_context mode before p then Some p.id else bad_context mode (before ++ p ∷ []) ps
 
+-- ---- the octets of CP: a CONNECT carries 10,240 octets of user data (X.225 8.3.1.20)
+
+abbrev pub is_too_long : Config → Bool
+is_too_long config = nat_lt 10240 (length (connect_octets config false)) || nat_lt 10240 (length (connect_octets config true))
+
 -- ---- the rows
 
 abbrev pub or_refusal : Option ConfigRefusal → Option ConfigRefusal → Option ConfigRefusal
@@ -38,7 +43,17 @@ abbrev pub context_refusal : Option ℕ → ℕ → Option ConfigRefusal
 context_refusal (Some id) count = Some (refusals.BadContext id)
 context_refusal None count = if nat_lt 62 count then Some refusals.TooManyContexts else None
 
--- contexts, selectors, references, checkpoint and window
-abbrev pub values_refusal : Config → Option ConfigRefusal
-values_refusal config =
+-- what is refused without a look at CP: contexts, selectors, references, checkpoint and window
+abbrev pub early_refusal : Config → Option ConfigRefusal
+early_refusal config =
     or_refusal (context_refusal (bad_context config.mode [] config.contexts) (length config.contexts)) (values.config_refusal config)
+
+-- an initiator opens by a CP, but not in bare mode
+abbrev pub has_connect : Config → Bool
+has_connect config = config.initiator && not (is_bare config.mode)
+
+abbrev pub late_refusal : Config → Option ConfigRefusal
+late_refusal config = if has_connect config && is_too_long config then Some refusals.TooLong else None
+
+abbrev pub config_refusal : Config → Option ConfigRefusal
+config_refusal config = or_refusal (early_refusal config) (late_refusal config)

@@ -1,15 +1,29 @@
 //! The rows by which a configuration is refused.
 
-ghost use Rattle.std.specs.Prelude.{◌≡◌, []};
+ghost use Rattle.std.specs.Prelude.{◌≡◌, ◌≢◌, [], IfOk, Err, None, true};
 ghost use Rattle.dialogue.specs.Config.{refused_if};
-ghost use Rattle.end_rules.specs.Base.{is_reliable};
-ghost use Rattle.end_config.specs.Refusing.{is_taken, is_bad_context, bad_context, values_refusal};
+ghost use Rattle.dialogue.specs.declared.config.ConfigRefusal.TheVariants as refusals;
+ghost use Rattle.end_rules.specs.Base.{is_bare, is_reliable};
+ghost use Rattle.end_config.specs.Refusing.{is_taken, is_bad_context, bad_context, is_too_long, has_connect, early_refusal, late_refusal, config_refusal};
 
+use crate::connecting::connect_octets;
 use dialogue::{Config, ConfigRefusal, Mode};
-use osi_base::Proposal;
+use osi_base::{NoMemory, Proposal};
 use std::alloc::Global;
 
-/// Whether transfers are reliable.
+/// The most octets of a CP.
+const MOST_OCTETS: usize = 10_240;
+
+fn is_bare(mode: Mode) -> bool
+    ensures { result ≡ is_bare mode }
+{
+    match mode {
+        Mode::Bare => true,
+        Mode::Direct => false,
+        Mode::Reliable => false,
+    }
+}
+
 fn is_reliable(mode: Mode) -> bool
     ensures { result ≡ is_reliable mode }
 {
@@ -52,11 +66,18 @@ fn bad_context(mode: Mode, contexts: &[Proposal]) -> Option<u32>
     None
 }
 
-/// Whether an end would refuse the values of a configuration, in any mode: by the first row that
-/// holds of bad contexts, more than 62 contexts, bad selectors, bad references, and a bad checkpoint
-/// or window. The length of a CP isn't looked at. No memory is taken.
-pub fn check_values(alloc: Global, config: &Config) -> Result<(), ConfigRefusal>
-    ensures { result ≡ refused_if (values_refusal config.now) }
+/// Whether the CP that opens an association, or the one that recovers it, is too long.
+fn is_too_long(alloc: Global, config: &Config) -> Result<bool, NoMemory>
+    ensures { IfOk result (λ long. long ≡ is_too_long config.now) }
+{
+    let opening = connect_octets(alloc, config, false)?;
+    let recovery = connect_octets(alloc, config, true)?;
+    Ok(opening.len() > MOST_OCTETS || recovery.len() > MOST_OCTETS)
+}
+
+/// What is refused without a look at the CP.
+fn check_early(alloc: Global, config: &Config) -> Result<(), ConfigRefusal>
+    ensures { result ≡ refused_if (early_refusal config.now) }
 {
     if let Some(id) = bad_context(config.mode, config.contexts.as_slice()) {
         return Err(ConfigRefusal::BadContext(id));
@@ -65,4 +86,34 @@ pub fn check_values(alloc: Global, config: &Config) -> Result<(), ConfigRefusal>
         return Err(ConfigRefusal::TooManyContexts);
     }
     dialogue::check_config(alloc, config)
+}
+
+/// What is refused for the octets of the CP.
+fn check_late(alloc: Global, config: &Config) -> Result<(), ConfigRefusal>
+    ensures exact { (result ≢ Err refusals.NoMemory)
+        → result ≡ refused_if (late_refusal config.now) }
+    ensures memory { result ≡ Err refusals.NoMemory → has_connect config.now ≡ true }
+{
+    if !config.initiator || is_bare(config.mode) {
+        return Ok(());
+    }
+    match is_too_long(alloc, config) {
+        Ok(true) => Err(ConfigRefusal::TooLong),
+        Ok(false) => Ok(()),
+        Err(NoMemory) => Err(ConfigRefusal::NoMemory),
+    }
+}
+
+/// Whether an end would refuse the configuration, in any mode: by the first row that holds of bad
+/// contexts, more than 62 contexts, bad selectors, bad references, a bad checkpoint or window, and
+/// a CP of more than 10,240 octets, for an opening or for a recovery. Only an initiator has a CP,
+/// and not in bare mode. Memory is taken to write that CP alone, once all other rows passed.
+pub fn check_config(alloc: Global, config: &Config) -> Result<(), ConfigRefusal>
+    ensures exact { (result ≢ Err refusals.NoMemory)
+        → result ≡ refused_if (config_refusal config.now) }
+    ensures memory { result ≡ Err refusals.NoMemory
+        → (early_refusal config.now ≡ None) × (has_connect config.now ≡ true) }
+{
+    check_early(alloc, config)?;
+    check_late(alloc, config)
 }

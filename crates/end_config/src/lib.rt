@@ -1,6 +1,10 @@
-//! Which configurations an end refuses in any mode for their values.
+//! Which configurations an end refuses, in any mode.
 #![tactic(auto)]
 
 mod checking;
+mod connecting;
+mod laws;
 
-pub use checking::check_values;
+pub use checking::check_config;
+pub use connecting::connect_octets;
+pub use laws::{connect_is_of_rules, proposed_contexts_are_right};

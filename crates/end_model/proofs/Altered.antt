@@ -9,7 +9,7 @@ use Rattle.osi_base.specs.declared.words.Answers.{Answers}
 use Rattle.end_rules.specs.Sets.{Alteration, put, without_context, pair_accepted, put_accepted, with_added, with_deleted, altered, fits_proposal, fit_proposals, fit_alteration}
 use Rattle.agreement.specs.Sets.{Item, Result, ContextSet, put as model_put, remove, changed, altered as model_altered}
 use Rattle.agreement.specs.Sets.Item.{Addition, Deletion}
-use Rattle.agreement.specs.Sets.Result.{Rejected, Accepted, AcceptedAs}
+use Rattle.agreement.specs.Sets.Result.{Rejected, AcceptedAs, Accepted, Kept}
 use Rattle.end_model.specs.Seen.{pair_seen, context_seen, set_seen, addition_seen, items_seen}
 use Rattle.end_model.specs.Words.{result_with, added_seen, deleted_seen, results_seen}
 use Rattle.end_model.proofs.Restarts.{if-map}
@@ -54,7 +54,7 @@ added-altered (p ∷ ps) (answer ∷ answers) rest more set h =
 deleted-changed : (k answer : ℕ) (set : List SetItem) → changed (Deletion k) (deleted_seen answer) (set_seen set) ≡ set_seen (if nat_eq answer 0 then without_context k set else set)
 deleted-changed k answer set = go (nat_eq answer 0)
   where
-    go : (b : Bool) → changed (Deletion k) (if b then Accepted else Rejected) (set_seen set) ≡ set_seen (if b then without_context k set else set)
+    go : (b : Bool) → changed (Deletion k) (if b then Accepted else Kept) (set_seen set) ≡ set_seen (if b then without_context k set else set)
     go true = sym (without-seen k set)
     go false = refl
 

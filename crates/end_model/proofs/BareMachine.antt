@@ -18,7 +18,7 @@ use Rattle.end_rules.specs.State.{Body, is_up, cut_all, new_body}
 use Rattle.end_rules.specs.Faults.{or_fault, fault_if, session_fault}
 use Rattle.end_rules.specs.InPlace.{is_in_place}
 use Rattle.end_rules.specs.Calling.{can_call, is_of_bare_mode, is_phase_for}
-use Rattle.end_rules.specs.Requesting.{after_call, due_of}
+use Rattle.end_rules.specs.Requesting.{after_call, after_sent, due_of}
 use Rattle.end_rules.specs.Reacting.{Reaction, Passes, Takes, Fails, react, react_bare, on_word, fault_above, word_fault, after_word, answers_to_word, shown_of_word}
 use Rattle.end_rules.specs.History.{after_broke}
 use Rattle.agreement.specs.Sets.{Role, ContextSet, other, is_initiator}
@@ -44,6 +44,7 @@ use Rattle.end_model.specs.Rows.{at}
 use Rattle.end_model.specs.Opens.{IsProper}
 use Rattle.end_model.specs.Words.{data_word, IsOurs, AreOurs}
 use Rattle.end_model.specs.Acting.{HandsIn, IsSound, HasBareSet, ReadsBack}
+use Rattle.end_model.specs.Requests.{sent_all, after_called}
 use Rattle.end_model.specs.Heard.{IsExpected, MayThen, then_acted, sent_then, HeardAs}
 use Rattle.end_model.specs.Pairs.{Common, base_at, config_at, Two, two_new, body_at, coming_to, stepped, both_broke, Reached, begins, calls, takes as reached_takes, passes as reached_passes, fails, breaks as reached_breaks, setup_of, AreComing, SideOf, ModelOf, bare_pair, WritesAll, BareModelled, BareTakes}
 use Rattle.end_model.proofs.Facts.{is-up, up-there}
@@ -233,7 +234,14 @@ same-phase setup state Aborts apdu h = cc
 same-phase setup state Withdraws apdu h = cc
 same-phase setup state model_fails apdu h = cc
 
-pub called-so : (free : Free) (tables : Tables) (spellings : Spellings) (a b : Config) (role : Role) (two : Two) (call : Call) (answer : Option ℤ) → WritesAll free → ReadsBack (base_at Initiator (bare_pair tables spellings a b)) → ModelOf free (bare_pair tables spellings a b) two → can_call (base_at role (bare_pair tables spellings a b)) (body_at role two) call ≡ Ok answer → ModelOf free (bare_pair tables spellings a b) (stepped role (after_call (base_at role (bare_pair tables spellings a b)) (body_at role two) call (Ok answer)) (coming_to role two) (due_of (base_at role (bare_pair tables spellings a b)) (body_at role two) call (Ok answer)) two)
+-- data that are sent change no body
+bare-sent : (base : Base) (sent : List Message) (meant : List model.Message) → AreOurs base sent meant → (body : Body) → sent_all Bare body sent ≡ body
+bare-sent base [] [] h body = refl
+bare-sent base [] (m ∷ ms) h body = absurd h
+bare-sent base (message ∷ sent) [] h body = absurd h
+bare-sent base (message ∷ sent) (m ∷ ms) h body = ap (λ x. sent_all Bare (after_sent Bare body x) sent) h.0.is_data ∙ bare-sent base sent ms h.1 body
+
+pub called-so : (free : Free) (tables : Tables) (spellings : Spellings) (a b : Config) (role : Role) (two : Two) (call : Call) (answer : Option ℤ) → WritesAll free → ReadsBack (base_at Initiator (bare_pair tables spellings a b)) → ModelOf free (bare_pair tables spellings a b) two → can_call (base_at role (bare_pair tables spellings a b)) (body_at role two) call ≡ Ok answer → ModelOf free (bare_pair tables spellings a b) (stepped role (after_called Bare (base_at role (bare_pair tables spellings a b)) (body_at role two) call answer) (coming_to role two) (due_of (base_at role (bare_pair tables spellings a b)) (body_at role two) call (Ok answer)) two)
 called-so free tables spellings a b role two call answer writes back m h =
     let common : Common = bare_pair tables spellings a b in
     let base : Base = base_at role common in
@@ -246,6 +254,7 @@ called-so free tables spellings a b role two call answer writes back m h =
     let due : List Message = due_of base body call (Ok answer) in
     let setup : model.Setup = setup_of free common in
     let phase : (seen base later).phase ≡ model_up = ap (λ (x : states.State). x.phase) x.acts.acts.after ∙ same-phase setup (seen base body) x.act (apdu_seen base x.apdu) x.hands ∙ ap (phase_seen body.link.stage) up in
-    from-sides free common role two (By role (Acts x.act) ∷ s.world) later (coming_to role two) due
+    subst (λ (y : Body). ModelOf free common (stepped role y (coming_to role two) due two)) (sym (bare-sent base due (sent_by setup (seen base body) x.act) x.acts.ours later))
+    (from-sides free common role two (By role (Acts x.act) ∷ s.world) later (coming_to role two) due
     (acting free tables spellings a b s.world role body later (coming_to role two) (body_at (other role) two) (coming_to (other role) two) due x.act s.sides
-    (subst (λ r. MayAct setup r (seen base body) x.act) (role-back role) x.acts.acts.may) x.acts.acts.after x.acts.ours x.acts.sound (inl (up-there later.link.stage later.link.phase phase)))
+    (subst (λ r. MayAct setup r (seen base body) x.act) (role-back role) x.acts.acts.may) x.acts.acts.after x.acts.ours x.acts.sound (inl (up-there later.link.stage later.link.phase phase))))

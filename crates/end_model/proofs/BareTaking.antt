@@ -49,7 +49,7 @@ use Rattle.end_model.proofs.BareMachine.{role-back, ours-coming, coming-append, 
 -- ---- what the model gives
 
 -- an outcome of an open invocation is one that its operation has
-expected : (setup : model.Setup) (world : World) (role : Role) (value : model.Value) (state : states.State) → IsRun setup (By role (model_takes (Data value) Nothing) ∷ world) → state_of setup role world ≡ state → IsExpected setup state.calls value.apdu
+pub expected : (setup : model.Setup) (world : World) (role : Role) (value : model.Value) (state : states.State) → IsRun setup (By role (model_takes (Data value) Nothing) ∷ world) → state_of setup role world ≡ state → IsExpected setup state.calls value.apdu
 expected setup world role value state run now = go value.apdu refl
   where
     go : (apdu : model.Apdu) → value.apdu ≡ apdu → IsExpected setup state.calls apdu

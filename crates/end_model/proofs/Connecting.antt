@@ -156,7 +156,7 @@ aborts-act mode free base proposed body answer associated stage h =
       means = subst (λ ms. AreMeant proposed (at mode base) ms (model_user_abort ∷ [])) (sym due) (refl, tt);
     }
 
-withdraw-phase : (role : Role) (stage : Stage) → is_carrying stage ≡ false → MayWithdrawIn role (phase_seen stage phases.Opening)
+pub withdraw-phase : (role : Role) (stage : Stage) → is_carrying stage ≡ false → MayWithdrawIn role (phase_seen stage phases.Opening)
 withdraw-phase role Unused h = tt
 withdraw-phase role Asked h = tt
 withdraw-phase role Joined h = tt

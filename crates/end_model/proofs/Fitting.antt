@@ -11,13 +11,13 @@ use Rattle.osi_base.specs.declared.words.SetItem.{SetItem}
 use Rattle.osi_base.specs.declared.words.Proposal.{Proposal}
 use Rattle.osi_base.specs.declared.words.AddAnswer.{AddAnswer}
 use Rattle.osi_base.specs.declared.words.Answers.{Answers}
-use Rattle.end_rules.specs.Base.{Base, most_contexts}
+use Rattle.end_rules.specs.Base.{Base, ber_name, most_contexts}
 use Rattle.end_rules.specs.State.{Body}
 use Rattle.end_rules.specs.Sets.{Alteration, same_name, syntax_named, accepted_pair, named_syntax, pair_accepted, is_offered, fits_proposal, fit_proposals, fit_alteration, count_added}
-use Rattle.end_rules.specs.Policy.{is_taken, takes_syntax, acceptance, rejection, answer_within, answer_to_addition, counted_with, answers_to_additions, answer_to_deletion, policy}
+use Rattle.end_rules.specs.Policy.{is_association, is_taken, takes_syntax, acceptance, rejection, answer_within, answer_to_addition, counted_with, answers_to_additions, answer_to_deletion, policy}
 use Rattle.agreement.specs.Sets.{Item, Result, Pair as ModelPair, FitsItem, Fits, IsKnown, AreKnown}
 use Rattle.agreement.specs.Sets.Item.{Addition, Deletion}
-use Rattle.agreement.specs.Sets.Result.{Rejected, Accepted, AcceptedAs}
+use Rattle.agreement.specs.Sets.Result.{Rejected, AcceptedAs, Accepted, Kept}
 use Rattle.end_model.specs.Seen.{pair_seen, offers_seen, addition_seen, items_seen}
 use Rattle.end_model.specs.Words.{result_with, added_seen, deleted_seen, results_seen}
 
@@ -85,7 +85,7 @@ pub and-left : (p q : Bool) → (p && q) ≡ true → p ≡ true
 and-left true q h = refl
 and-left false q h = cc
 
-and-right : (p q : Bool) → (p && q) ≡ true → q ≡ true
+pub and-right : (p q : Bool) → (p && q) ≡ true → q ≡ true
 and-right true q h = h
 and-right false q h = cc
 
@@ -93,7 +93,7 @@ record FitsSeen (p : Proposal) (pair : Option Pair) : Type 0 where
   fits : FitsItem (addition_seen p) (result_with pair)
   known : IsKnown (λ name. is_some (syntax_named name)) (result_with pair)
 
-known-syntax : (syntax : Syntax) → is_some (syntax_named (name_of syntax)) ≡ true
+pub known-syntax : (syntax : Syntax) → is_some (syntax_named (name_of syntax)) ≡ true
 known-syntax Ber = refl
 known-syntax Der = refl
 known-syntax Packed = refl
@@ -124,7 +124,7 @@ pub record AllFit (items : List Item) (results : List Result) : Type 0 where
 deletion-fits : (k answer : ℕ) → FitsItem (Deletion k) (deleted_seen answer) × IsKnown (λ name. is_some (syntax_named name)) (deleted_seen answer)
 deletion-fits k answer = go (nat_eq answer 0)
   where
-    go : (b : Bool) → FitsItem (Deletion k) (if b then Accepted else Rejected) × IsKnown (λ name. is_some (syntax_named name)) (if b then Accepted else Rejected)
+    go : (b : Bool) → FitsItem (Deletion k) (if b then Accepted else Kept) × IsKnown (λ name. is_some (syntax_named name)) (if b then Accepted else Kept)
     go true = (tt, tt)
     go false = (tt, tt)
 
@@ -179,24 +179,32 @@ found-offered test (n ∷ names) name h = go (λ k. found-offered test names nam
         let k = later h in
         (rw k.0 (or-true (same_name name n)), k.1)
 
-policy-answer : (base : Base) (count : ℕ) (p : Proposal) → fits_proposal p (answer_to_addition base false count p) ≡ true
-policy-answer base count p = go (is_taken base false p.abstract_name) (find (takes_syntax base false p.abstract_name) p.transfers) refl
+-- a syntax that is taken is one of the three
+known-taken : (base : Base) (connecting : Bool) (name syntax : List ℕ) → takes_syntax base connecting name syntax ≡ true → is_some (syntax_named syntax) ≡ true
+known-taken base connecting name syntax h = go (connecting && is_association base name) h
   where
-    within : (syntax : List ℕ) (b : Bool) → find (takes_syntax base false p.abstract_name) p.transfers ≡ Some syntax → fits_proposal p (if b then acceptance syntax else rejection 3) ≡ true
+    go : (b : Bool) → (if b then same_name syntax ber_name else is_some (syntax_named syntax) && list_any (same_name syntax) base.config.accepts) ≡ true → is_some (syntax_named syntax) ≡ true
+    go true e = ap (λ n. is_some (syntax_named n)) (one-name syntax ber_name e)
+    go false e = and-left (is_some (syntax_named syntax)) (list_any (same_name syntax) base.config.accepts) e
+
+policy-answer : (base : Base) (connecting : Bool) (count : ℕ) (p : Proposal) → fits_proposal p (answer_to_addition base connecting count p) ≡ true
+policy-answer base connecting count p = go (is_taken base connecting p.abstract_name) (find (takes_syntax base connecting p.abstract_name) p.transfers) refl
+  where
+    within : (syntax : List ℕ) (b : Bool) → find (takes_syntax base connecting p.abstract_name) p.transfers ≡ Some syntax → fits_proposal p (if b then acceptance syntax else rejection 3) ≡ true
     within syntax true e =
-        let f = found-offered (takes_syntax base false p.abstract_name) p.transfers syntax e in
-        rw (f.0, and-left (is_some (syntax_named syntax)) (list_any (same_name syntax) base.config.accepts) f.1) refl
+        let f = found-offered (takes_syntax base connecting p.abstract_name) p.transfers syntax e in
+        rw (f.0, known-taken base connecting p.abstract_name syntax f.1) refl
     within syntax false e = refl
 
-    go : (b : Bool) (f : Option (List ℕ)) → find (takes_syntax base false p.abstract_name) p.transfers ≡ f → fits_proposal p (if not b then rejection 1 else answer_within count f) ≡ true
+    go : (b : Bool) (f : Option (List ℕ)) → find (takes_syntax base connecting p.abstract_name) p.transfers ≡ f → fits_proposal p (if not b then rejection 1 else answer_within count f) ≡ true
     go false f e = refl
     go true None e = refl
     go true (Some syntax) e = within syntax (nat_lt count most_contexts) e
 
-additions-answered : (base : Base) (count : ℕ) (add : List Proposal) → fit_proposals add (answers_to_additions base false count add) ≡ true
-additions-answered base count [] = refl
-additions-answered base count (p ∷ ps) =
-    rw (policy-answer base count p) (additions-answered base (counted_with count (answer_to_addition base false count p)) ps)
+pub additions-answered : (base : Base) (connecting : Bool) (count : ℕ) (add : List Proposal) → fit_proposals add (answers_to_additions base connecting count add) ≡ true
+additions-answered base connecting count [] = refl
+additions-answered base connecting count (p ∷ ps) =
+    rw (policy-answer base connecting count p) (additions-answered base connecting (counted_with count (answer_to_addition base connecting count p)) ps)
 
 same-length : (body : Body) (delete : List ℕ) → length delete ≡ length (map (answer_to_deletion body) delete)
 same-length body [] = refl

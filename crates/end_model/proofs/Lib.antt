@@ -1,3 +1,11 @@
+pub mod DirectLaws
+pub mod Joint
+pub mod DirectMachine
+pub mod DirectOpening
+pub mod DirectCalling
+pub mod DirectTaking
+pub mod DirectWords
+pub mod AnswersFit
 pub mod Marks
 pub mod Transfers
 pub mod PurgedWords

@@ -59,32 +59,32 @@ means-for common proposed Responder (OfActivities word) message h = h
 
 -- ---- what is sent is on its way
 
-on-way : (common : Common) (proposed : List Proposal) (role : Role) (shared : ContextSet) (messages : List Message) (meant : List model.Message) → AreMeant proposed (base_at role common) messages meant → AreOnWay proposed (base_at Initiator common) messages (sendings shared meant)
+pub on-way : (common : Common) (proposed : List Proposal) (role : Role) (shared : ContextSet) (messages : List Message) (meant : List model.Message) → AreMeant proposed (base_at role common) messages meant → AreOnWay proposed (base_at Initiator common) messages (sendings shared meant)
 on-way common proposed role shared [] [] h = tt
 on-way common proposed role shared [] (m ∷ ms) h = absurd h
 on-way common proposed role shared (Transport unit ∷ messages) meant h = on-way common proposed role shared messages meant h
 on-way common proposed role shared (Session word ∷ messages) [] h = absurd h
 on-way common proposed role shared (Session word ∷ messages) (m ∷ ms) h = (means-for common proposed role word m h.0, on-way common proposed role shared messages ms h.1)
 
-way-append : (proposed : List Proposal) (base : Base) (xs ys : List Message) (ss ts : List Sending) → AreOnWay proposed base xs ss → AreOnWay proposed base ys ts → AreOnWay proposed base (xs ++ ys) (ss ++ ts)
+pub way-append : (proposed : List Proposal) (base : Base) (xs ys : List Message) (ss ts : List Sending) → AreOnWay proposed base xs ss → AreOnWay proposed base ys ts → AreOnWay proposed base (xs ++ ys) (ss ++ ts)
 way-append proposed base (Transport unit ∷ xs) ys ss ts h k = way-append proposed base xs ys ss ts h k
 way-append proposed base [] ys [] ts h k = k
 way-append proposed base [] ys (s ∷ ss) ts h k = absurd h
 way-append proposed base (Session word ∷ xs) ys [] ts h k = absurd h
 way-append proposed base (Session word ∷ xs) ys (s ∷ ss) ts h k = (h.0, way-append proposed base xs ys ss ts h.1 k)
 
-record NextWord (proposed : List Proposal) (base : Base) (word : Word) (left : List Message) (flight : List Sending) : Type 0 where
-  first : Sending
-  rest : List Sending
-  is_it : flight ≡ first ∷ rest
-  means : Means proposed base word first.message
-  later : AreOnWay proposed base left rest
+pub record NextWord (proposed : List Proposal) (base : Base) (word : Word) (left : List Message) (flight : List Sending) : Type 0 where
+  pub first : Sending
+  pub rest : List Sending
+  pub is_it : flight ≡ first ∷ rest
+  pub means : Means proposed base word first.message
+  pub later : AreOnWay proposed base left rest
 
-next-word : (proposed : List Proposal) (base : Base) (word : Word) (left : List Message) (flight : List Sending) → AreOnWay proposed base (Session word ∷ left) flight → NextWord proposed base word left flight
+pub next-word : (proposed : List Proposal) (base : Base) (word : Word) (left : List Message) (flight : List Sending) → AreOnWay proposed base (Session word ∷ left) flight → NextWord proposed base word left flight
 next-word proposed base word left [] h = absurd h
 next-word proposed base word left (s ∷ ss) h = record { first = s; rest = ss; is_it = refl; means = h.0; later = h.1 }
 
-append-nil : {X : Type 0} (xs : List X) → xs ++ [] ≡ xs
+pub append-nil : {X : Type 0} (xs : List X) → xs ++ [] ≡ xs
 append-nil [] = refl
 append-nil (x ∷ xs) = ap (λ ys. x ∷ ys) (append-nil xs)
 
@@ -132,6 +132,7 @@ takes-kept free common proposed world role body word left peer to_peer choice s 
     let after_it : taken setup (role_seen (is_initiator role)) (seen base body) message choice ≡ taken setup role (seen base body) message choice = ap (λ r. taken setup r (seen base body) message choice) (role-back role) in
     record {
       message = message;
+      means = n.means;
       no_fault = a.no_fault;
       ends =
           record {

@@ -127,7 +127,7 @@ alter-direct add delete free base proposed body sound joined may =
       no_fault = fine (at Direct base) body (OfData (AlterContext add delete)) (rw (up, joined.selected) refl) (rw (joined.manages, no-faulty_proposal base.initiator body.sets.held a may.once may.may_be_asked) refl);
       chosen = record { fits = all.fits; is_known = all.known };
       after = ap put (policied Direct base body a);
-      means = ((a, refl), tt);
+      means = ((a, policy-fits (at Direct base) body a, refl), tt);
     }
 
 pub alter-reliable : (add : List Proposal) (delete : List ℕ) → TakenWhere Reliable (OfData (AlterContext add delete)) (model_alter (items_seen (alteration add delete))) (by_policy Reliable (alteration add delete))
@@ -140,7 +140,7 @@ alter-reliable add delete free base proposed body sound joined may =
       no_fault = fine (at Reliable base) body (OfData (AlterContext add delete)) (rw (up, joined.selected) refl) (rw (joined.manages, may.in_mode, no-faulty_proposal base.initiator body.sets.held a may.once may.may_be_asked) refl);
       chosen = record { fits = all.fits; is_known = all.known };
       after = ap put (policied Reliable base body a);
-      means = ((a, refl), tt);
+      means = ((a, policy-fits (at Reliable base) body a, refl), tt);
     }
 
 settled-so : (mode : Mode) (base : Base) (body : Body) (a : Alteration) (own : List Alteration) (answers : Answers) → fit_proposals a.add answers.added ≡ true → seen (at mode base) (settled (a ∷ own) answers body) ≡ record (seen (at mode base) body) { sets = record { held = sets.altered (items_seen a) (results_seen a answers) (set_seen body.sets.held); inter = set_seen body.sets.inter; own = map items_seen own } }

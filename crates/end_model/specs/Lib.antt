@@ -13,3 +13,5 @@ pub mod Connections
 pub mod OwnActs
 pub mod Faultless
 pub mod Steps
+pub mod DirectPairs
+pub mod Sharing

@@ -12,7 +12,7 @@ use Rattle.end_rules.specs.Base.{Base, Spellings, Fault}
 use Rattle.end_rules.specs.Messages.{Message}
 use Rattle.end_rules.specs.State.{Body, new_body}
 use Rattle.end_rules.specs.Calling.{can_call}
-use Rattle.end_rules.specs.Requesting.{after_call, due_of}
+use Rattle.end_rules.specs.Requesting.{due_of}
 use Rattle.end_rules.specs.Reacting.{Reaction, Passes, Takes, Fails, react}
 use Rattle.end_rules.specs.History.{after_broke}
 use Rattle.agreement.specs.Sets.{Role, is_initiator}
@@ -22,6 +22,7 @@ use Rattle.agreement.specs.Worlds.{Sending, World, IsRun, state_of, flight_to}
 use Rattle.end_model.specs.Seen.{Free, seen, setup_seen}
 use Rattle.end_model.specs.Words.{IsOurs}
 use Rattle.end_model.specs.Acting.{IsSound, ReadsBack}
+use Rattle.end_model.specs.Requests.{after_called}
 
 -- what two ends have in common, and the configuration of each
 pub record Common : Type 0 where
@@ -67,13 +68,13 @@ abbrev pub both_broke : Common → Two → Two
 both_broke common two =
     record { a = after_broke (base_at Initiator common) two.a; b = after_broke (base_at Responder common) two.b; to_a = []; to_b = [] }
 
--- What two ends reach outside reliable mode, where what is sent changes no body: an accepted call sends what it makes due;
--- a message that comes is taken and answered, passed over, or ends the association by an abort; a connection breaks.
+-- What two ends reach outside reliable mode, where an end sends nothing by itself: an accepted call sends what it makes
+-- due; a message that comes is taken and answered, passed over, or ends the association by an abort; a connection breaks.
 pub data Reached (common : Common) : Two → Type 0 where
   begins : Reached common (two_new common)
   calls : (two : Two) (role : Role) (call : Call) (answer : Option ℤ) → Reached common two
       → can_call (base_at role common) (body_at role two) call ≡ Ok answer
-      → Reached common (stepped role (after_call (base_at role common) (body_at role two) call (Ok answer)) (coming_to role two) (due_of (base_at role common) (body_at role two) call (Ok answer)) two)
+      → Reached common (stepped role (after_called common.mode (base_at role common) (body_at role two) call answer) (coming_to role two) (due_of (base_at role common) (body_at role two) call (Ok answer)) two)
   takes : (two : Two) (role : Role) (message : Message) (left : List Message) (body : Body) (answers : List Message) (shown : List Indication) → Reached common two
       → coming_to role two ≡ message ∷ left → react (base_at role common) (body_at role two) message ≡ Takes body answers shown
       → Reached common (stepped role body left answers two)

@@ -49,6 +49,7 @@ ActsKept =
 -- may be taken in every run, and with that the word is taken as the message.
 pub record TookIt (free : Free) (common : Common) (proposed : List Proposal) (world : World) (role : Role) (body : Body) (word : Word) (left : List Message) (peer : Body) (to_peer : List Message) (choice : Choice) : Type 0 where
   pub message : ModelMessage
+  pub means : Means proposed (base_at Initiator common) word message
   pub no_fault : word_fault (base_at role common) body word ≡ None
   pub ends : BothEnds free common proposed (By role (Takes message choice) ∷ world) role (after_word (base_at role common) body word) left peer (to_peer ++ answers_to_word (base_at role common) body word)
 

@@ -1,5 +1,5 @@
 -- Which message of the model a message is: also of openings, values and alterations, where it depends on what they answer.
-use Rattle.std.specs.Prelude.{◌≡◌, ℕ, List, [], ◌∷◌, ◌++◌, map, Bool, nat_eq, if◌then◌else◌, Option, Some, None}
+use Rattle.std.specs.Prelude.{◌≡◌, ℕ, List, [], ◌∷◌, ◌++◌, map, Bool, true, nat_eq, if◌then◌else◌, Option, Some, None}
 use Rattle.osi_base.specs.declared.words.Proposal.{Proposal}
 use Rattle.osi_base.specs.declared.words.AddAnswer.{AddAnswer}
 use Rattle.osi_base.specs.declared.words.Answers.{Answers}
@@ -7,12 +7,12 @@ use Rattle.osi_base.specs.declared.syntax.Pair.{Pair}
 use Rattle.dialogue.specs.declared.config.Mode.{Mode}
 use Rattle.dialogue.specs.declared.config.Mode.TheVariants.{Bare, Direct, Reliable}
 use Rattle.end_rules.specs.Base.{Base, Item}
-use Rattle.end_rules.specs.Sets.{Alteration, pair_accepted, accepted_set}
+use Rattle.end_rules.specs.Sets.{Alteration, pair_accepted, accepted_set, fit_alteration}
 use Rattle.end_rules.specs.Connecting.{recovers_in}
 use Rattle.end_rules.specs.TakesData.{alteration}
 use Rattle.end_rules.specs.Messages.{AssociationWord, DataWord, Message, Word, Value, Transport, Session, OfAssociation, OfData, OfMarks, OfActivities, Connect, Accept, Refuse, Finish, Disconnect, Abort, AbortAccept, Values, AlterContext, AlterContextAck, Remote, Part}
 use Rattle.agreement.specs.Sets.{Result}
-use Rattle.agreement.specs.Sets.Result.{Rejected, Accepted, AcceptedAs}
+use Rattle.agreement.specs.Sets.Result.{Rejected, AcceptedAs, Accepted, Kept}
 use Rattle.agreement.specs.Messages.{Message as ModelMessage}
 use Rattle.agreement.specs.Messages.Message.{Connect as model_connect, Recover as model_recover, Accept as model_accept, Refuse as model_refuse, Release as model_release, ReleaseAnswer as model_release_answer, UserAbort as model_abort, Data as model_data, Chunk as model_chunk, Alter as model_alter, AlterAnswer as model_alter_answer}
 use Rattle.end_model.specs.Seen.{pair_seen, set_seen, item_seen, items_seen}
@@ -31,7 +31,7 @@ added_seen (p ∷ ps) [] = []
 added_seen (p ∷ ps) (answer ∷ answers) = result_with (pair_accepted p answer) ∷ added_seen ps answers
 
 abbrev pub deleted_seen : ℕ → Result
-deleted_seen answer = if nat_eq answer 0 then Accepted else Rejected
+deleted_seen answer = if nat_eq answer 0 then Accepted else Kept
 
 -- the results that the answers to an alteration are
 abbrev pub results_seen : Alteration → Answers → List Result
@@ -62,7 +62,8 @@ ValuesMean Reliable base values message = IsChunk values message
 abbrev pub DataMeans : Base → DataWord → ModelMessage → Type 0
 DataMeans base (Values values) message = ValuesMean base.mode base values message
 DataMeans base (AlterContext add delete) message = message ≡ model_alter (items_seen (alteration add delete))
-DataMeans base (AlterContextAck answers) message = (asked : Alteration) × (message ≡ model_alter_answer (results_seen asked answers))
+DataMeans base (AlterContextAck answers) message =
+    (asked : Alteration) × (fit_alteration asked answers ≡ true) × (message ≡ model_alter_answer (results_seen asked answers))
 
 abbrev pub AssociationMeans : List Proposal → Base → AssociationWord → ModelMessage → Type 0
 AssociationMeans proposed base (Connect session presentation values) message =

@@ -10,7 +10,10 @@ mod takings;
 pub use acting::{
     alters_act, calls_act, calls_unseen, connections_act, data_heard, handed_in, own_acts,
 };
-pub use pairs::{bare_pairs_are_modelled, steps_keep_the_run};
+pub use pairs::{
+    bare_pairs_are_modelled, direct_pairs_are_modelled, direct_turn_has_one_holder,
+    direct_values_are_as_sent, steps_keep_the_run,
+};
 pub use rows::{
     activities_sent, activities_taken, alterations_sent, answered, association_taken, breaks,
     connections, givings_taken, marks_sent, marks_taken, purged, purged_others, restarts_answered,

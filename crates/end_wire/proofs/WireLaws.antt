@@ -8,7 +8,7 @@ use Rattle.asn1_types.specs.Whole.{is_whole}
 use Rattle.asn1_types.specs.Fits.{fits}
 use Rattle.ber_spelling.specs.Octets.{AreOctets}
 use Rattle.ber_spelling.specs.Spelling as spelling
-use Rattle.ber_spelling.specs.Writing.{written as written_value}
+use Rattle.asn1_types.specs.Writing.{written as written_value}
 use Rattle.ber_spelling.proofs.WholeSpelled.{der_is_whole}
 use Rattle.stub_tables.specs.declared.tables.Tables.{Tables}
 use Rattle.stub_tables.specs.declared.apdu.Apdu.{Apdu}
@@ -23,7 +23,7 @@ use Rattle.stub_tables.specs.Readable.{IsReadable}
 use Rattle.stub_tables.specs.Apdus.{IsWhole}
 use Rattle.stub_tables.specs.Heads as values
 use Rattle.stub_tables.proofs.Readings as values_sound
-use Rattle.ber_spelling.specs.Writing.{writes}
+use Rattle.asn1_types.specs.Writing.{writes}
 use Rattle.ber_spelling.proofs.Written.{written_spelled as value_spelled}
 use Rattle.ber_spelling.proofs.Wholes.{whole_is}
 use Rattle.apdu_spelling.specs.Heads as heads

@@ -13,3 +13,5 @@ mod packed;
 mod packets;
 #[cfg(test)]
 mod session_units;
+#[cfg(test)]
+mod sets_of;

@@ -211,7 +211,7 @@ plain_row scope inner bits = add rows.BitString
 plain_row scope inner object_id = add rows.ObjectId
 plain_row scope inner (text kind) = add_if (kind_of kind) rows.Text
 plain_row scope inner (sequence_of item) = inner item >>= λ of. add (rows.SequenceOf of)
-plain_row scope inner (set_of item) = none
+plain_row scope inner (set_of item) = inner item >>= λ of. add (rows.SetOf of)
 plain_row scope inner (sequence ps) = parts_of inner [] ps >>= λ parts. add (rows.Sequence parts)
 plain_row scope inner (set ps) = parts_of inner [] ps >>= λ parts. add (rows.Set parts)
 plain_row scope inner (choice ps) = parts_of inner [] ps >>= λ parts. add (rows.Choice parts)

@@ -35,8 +35,6 @@ pub enum TableKind {
     /// A default of a type other than BOOLEAN, INTEGER and ENUMERATED, or one that doesn't fit its
     /// type.
     BadDefault,
-    /// A SET OF, which has no row in a table of types yet.
-    Unsupported,
 }
 
 /// Why a module has no tables.

@@ -18,7 +18,6 @@ pub(crate) fn rank(kind: TableKind) -> u8 {
         TableKind::BadRange => 9,
         TableKind::Contradiction => 10,
         TableKind::BadDefault => 11,
-        TableKind::Unsupported => 12,
     }
 }
 

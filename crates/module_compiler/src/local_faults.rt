@@ -159,15 +159,6 @@ fn of_type(
     if levels == 0 {
         return Ok(());
     }
-    if let PlainText::SetOf(_) = &of.plain {
-        least.note(
-            Place {
-                line: of.line,
-                column: of.column,
-            },
-            TableKind::Unsupported,
-        );
-    }
     tag(of, &of.tag, least);
     of_plain(alloc, scope, levels - 1, &of.plain, least)
 }

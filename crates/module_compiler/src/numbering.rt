@@ -370,7 +370,10 @@ impl Numbering {
                 let of = self.walk(alloc, scope, turns, item)?;
                 self.add(TypeRow::SequenceOf(of))
             }
-            PlainText::SetOf(_) => Err(Halt::NoTables),
+            PlainText::SetOf(item) => {
+                let of = self.walk(alloc, scope, turns, item)?;
+                self.add(TypeRow::SetOf(of))
+            }
             PlainText::Sequence(texts) => {
                 let parts = self.parts(alloc, scope, turns, texts)?;
                 self.add(TypeRow::Sequence(parts))

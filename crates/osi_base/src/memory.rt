@@ -10,6 +10,7 @@ ghost use Rattle.osi_base.specs.Memory.{contents_in};
 use crate::copied::Copied;
 use crate::failing::FailingCalls;
 use crate::files::{FILE_MOST, FileFault, Files};
+use crate::line::Outcome;
 use crate::list::ListOf;
 use crate::name::Name;
 use crate::octets::Octets;
@@ -127,20 +128,20 @@ impl Files for MemFiles {
         ensures missing_asked { IsErrOf result FileFault.Missing → self.new.asked.items ≡ self.old.asked.items ++ name.now ∷ [] }
 
         // An allocation was refused
-        ensures no_memory { IsErrOf result FileFault.NoMemory → self.new.failing.faults ≡ self.old.failing.faults }
+        ensures no_memory { IsErrOf result FileFault.NoMemory → self.new.failing ≡ self.old.failing }
         ensures no_memory_asked { IsErrOf result FileFault.NoMemory → self.new.asked.items ≡ self.old.asked.items }
     {
         let title = name.copy(alloc)?;
         self.asked.reserve(1)?;
-        if self.failing.is_next() {
-            self.asked.push(title)?;
-            return Err(FileFault::Failed);
-        }
-        let contents = read_in(self.files.as_slice(), alloc, name);
+        let contents = match self.failing.next_outcome() {
+            Outcome::Failed => Err(FileFault::Failed),
+            Outcome::Done => read_in(self.files.as_slice(), alloc, name),
+        };
         if let Err(FileFault::NoMemory) = contents {
             return Err(FileFault::NoMemory);
         }
         self.asked.push(title)?;
+        self.failing.is_next();
         contents
     }
 }
@@ -223,14 +224,19 @@ impl Sink for MemSink {
         // It fails exactly where it is to
         ensures passes { OnOk result (Passes self.old.failing self.new.failing) }
         ensures failed { IsErrOf result SinkFault.Failed → Fails self.old.failing self.new.failing }
-        ensures no_memory { IsErrOf result SinkFault.NoMemory → self.new.failing.faults ≡ self.old.failing.faults }
+        ensures no_memory { IsErrOf result SinkFault.NoMemory → self.new.failing ≡ self.old.failing }
     {
-        let taken = self.most.min(bytes.len());
-        if self.failing.is_next() {
-            return Err(SinkFault::Failed);
-        }
+        let outcome = self.failing.next_outcome();
+        let taken = match outcome {
+            Outcome::Failed => 0,
+            Outcome::Done => self.most.min(bytes.len()),
+        };
         self.written.extend(&bytes[..taken])?;
-        Ok(taken)
+        self.failing.is_next();
+        match outcome {
+            Outcome::Failed => Err(SinkFault::Failed),
+            Outcome::Done => Ok(taken),
+        }
     }
 }
 

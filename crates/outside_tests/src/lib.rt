@@ -10,4 +10,6 @@ mod lines;
 #[cfg(test)]
 mod memory;
 #[cfg(test)]
+mod received;
+#[cfg(test)]
 mod tcp;

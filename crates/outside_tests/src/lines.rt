@@ -1,5 +1,6 @@
 //! Lines in memory.
 
+use crate::received::received;
 use osi_base::{Failed, FailingCalls, Line, LineFault, MemLine, Name, NoMemory, Octets, SureLine};
 use std::alloc::Global;
 use std::collections::VecDeque;
@@ -17,6 +18,28 @@ fn peers(alloc: Global) -> Result<VecDeque<Octets>, NoMemory> {
 /// most.
 fn mem_line(alloc: Global, numbers: Vec<u64>) -> Result<MemLine, NoMemory> {
     Ok(MemLine::new(alloc, peers(alloc)?, 2, FailingCalls::new(numbers)))
+}
+
+#[test]
+fn a_line_in_memory_gives_what_its_peer_says(rt: HostRuntime) -> Result<(), Fail> {
+    let alloc = rt.alloc();
+    let mut line = mem_line(alloc, Vec::new(alloc))?;
+    line.accept(alloc, 102)?;
+    assert!(rt; received(alloc, &mut line)?.as_slice() == b"ab".as_slice());
+    assert!(rt; received(alloc, &mut line)?.as_slice() == b"c".as_slice());
+    assert!(rt; received(alloc, &mut line)?.is_empty());
+    Ok(())
+}
+
+#[test]
+fn the_next_connection_is_to_the_next_peer(rt: HostRuntime) -> Result<(), Fail> {
+    let alloc = rt.alloc();
+    let mut line = mem_line(alloc, Vec::new(alloc))?;
+    line.accept(alloc, 102)?;
+    line.accept(alloc, 102)?;
+    assert!(rt; received(alloc, &mut line)?.as_slice() == b"de".as_slice());
+    assert!(rt; line.octets_read == 2);
+    Ok(())
 }
 
 #[test]

@@ -13,7 +13,9 @@ use Rattle.packed_codec.specs.declared.fault.PackedFault.TheVariants as faults
 use Rattle.packed_codec.specs.Reading.{Spot, Reading, ◌>>=◌, within}
 use Rattle.packed_codec.specs.Fields.{announced_at, field_at, octet_at, count_at}
 use Rattle.packed_codec.specs.Numbers.{is_size}
-use Rattle.packed_codec.specs.Rules.{Reader, judge, boolean_rule, boolean_at, null_at, sized_at, number_at, string_at, bits_at, bits_size, bits_rule, present_at, marked_at, part_at, parts_at, sequence_at, items_at, spent, list_at, alternative_at, choice_at, dead, read_by}
+use Rattle.packed_codec.specs.Rules.{Reader, judge, boolean_rule, boolean_at, null_at, sized_at, number_at, string_at, bits_at, bits_size, bits_rule, present_at, marked_at, part_at, parts_at, sequence_at, items_at, spent, list_at, alternative_at, choice_at, dead, read_by, set_item_at, set_items_at, set_of_at}
+use Rattle.asn1_types.specs.Writing.{written}
+use Rattle.asn1_types.specs.Rising.{behind_last}
 
 abbrev pub grown : List ℕ → Spot → Spot
 grown more s = record { place = s.place; rest = s.rest ++ more; left = s.left }
@@ -170,7 +172,32 @@ list_grows r h = record {
       (Grows-bind (with_spot more) (with_spot more) (items_at r n.0 limit (spent n.0 n.1)) (items_at r n.0 limit (grown more (spent n.0 n.1))) _ _ (items_grow r h n.0 limit (spent n.0 n.1) more) (λ y e. refl)));
 }
 
-module _ (inner : ℕ → Reader) (h : (n : ℕ) → GrowsRun (inner n)) where
+set_item_grows : (spell : Value → List ℕ) (r : Reader) → GrowsRun r → (before : List Value) → GrowsRun (set_item_at spell r before)
+unfolding set_item_at
+set_item_grows spell r h before = record {
+  grows = λ limit s more.
+      Grows-bind (with_spot more) (with_spot more) (r limit s) (r limit (grown more s)) _ _ (h.grows limit s more) (λ v e.
+      Grows-cond (with_spot more) (behind_last spell before v.0) _ _ _ _ refl refl);
+}
+
+set_items_grow : (step : List Value → Reader) → ((before : List Value) → GrowsRun (step before)) → (before : List Value) (n limit : ℕ) (s : Spot) (more : List ℕ) → Grows (with_spot more) (set_items_at step before n limit s) (set_items_at step before n limit (grown more s))
+unfolding set_items_at
+set_items_grow step h before zero limit s more = refl
+set_items_grow step h before (suc n) limit s more =
+    Grows-bind (with_spot more) (with_spot more) (step before limit s) (step before limit (grown more s)) _ _ ((h before).grows limit s more) (λ x e.
+    Grows-bind (with_spot more) (with_spot more) (set_items_at step (before ++ x.0 ∷ []) n limit x.1) (set_items_at step (before ++ x.0 ∷ []) n limit (grown more x.1)) _ _ (set_items_grow step h (before ++ x.0 ∷ []) n limit x.1 more) (λ y e. refl))
+
+set_of_grows : (spell : Value → List ℕ) (r : Reader) → GrowsRun r → GrowsRun (set_of_at spell r)
+unfolding set_of_at
+set_of_grows spell r h = record {
+  grows = λ limit s more.
+      Grows-bind (with_spot more) (with_spot more) (count_at limit s) (count_at limit (grown more s)) _ _ (count_grows limit s more) (λ n e.
+      Grows-cond (with_spot more) (nat_lt n.1.left n.0) _ _ _ _ refl
+      (Grows-bind (with_spot more) (with_spot more) (set_items_at (set_item_at spell r) [] n.0 limit (spent n.0 n.1)) (set_items_at (set_item_at spell r) [] n.0 limit (grown more (spent n.0 n.1))) _ _
+      (set_items_grow (set_item_at spell r) (set_item_grows spell r h) [] n.0 limit (spent n.0 n.1) more) (λ y e. refl)));
+}
+
+module _ (spell : ℕ → Value → List ℕ) (inner : ℕ → Reader) (h : (n : ℕ) → GrowsRun (inner n)) where
   parts_grow : (ps : List Part) (limit : ℕ) (s : Spot) (more : List ℕ) → Grows (with_spot more) (parts_at inner limit s ps) (parts_at inner limit (grown more s) ps)
   unfolding parts_at
   parts_grow [] limit s more = refl
@@ -198,7 +225,7 @@ module _ (inner : ℕ → Reader) (h : (n : ℕ) → GrowsRun (inner n)) where
         alternative_grows s.place o.0 (slice_get ps o.0) limit o.1 more);
   }
 
-  row_grows : (r : TypeRow) → GrowsRun (read_by inner r)
+  row_grows : (r : TypeRow) → GrowsRun (read_by spell inner r)
   row_grows row.Boolean = boolean_grows
   row_grows (row.Integer low high) = number_grows _
   row_grows (row.Enumerated items) = number_grows _
@@ -210,16 +237,17 @@ module _ (inner : ℕ → Reader) (h : (n : ℕ) → GrowsRun (inner n)) where
   row_grows (row.Sequence ps) = sequence_grows ps
   row_grows (row.Set ps) = sequence_grows ps
   row_grows (row.SequenceOf of) = list_grows (inner of.0) (h of.0)
+  row_grows (row.SetOf of) = set_of_grows (spell of.0) (inner of.0) (h of.0)
   row_grows (row.Choice ps) = choice_grows ps
   row_grows (row.Tagged class number explicit of) = h of.0
   row_grows row.Any = record { grows = λ limit s more. refl }
 
 -- ---- down the table
 
-of_row_grows : (rows : List TypeRow) (turns : ℕ) → ((m : ℕ) → GrowsRun (along dead read_by rows turns m)) → (o : Option TypeRow) → GrowsRun (of_row dead (read_by (along dead read_by rows turns)) o)
+of_row_grows : (rows : List TypeRow) (turns : ℕ) → ((m : ℕ) → GrowsRun (along dead (read_by (written rows)) rows turns m)) → (o : Option TypeRow) → GrowsRun (of_row dead (read_by (written rows) (along dead (read_by (written rows)) rows turns)) o)
 of_row_grows rows turns h None = record { grows = λ limit s more. refl }
-of_row_grows rows turns h (Some r) = row_grows (along dead read_by rows turns) h r
+of_row_grows rows turns h (Some r) = row_grows (written rows) (along dead (read_by (written rows)) rows turns) h r
 
-pub along_grows : (rows : List TypeRow) (turns n : ℕ) → GrowsRun (along dead read_by rows turns n)
+pub along_grows : (rows : List TypeRow) (turns n : ℕ) → GrowsRun (along dead (read_by (written rows)) rows turns n)
 along_grows rows zero n = record { grows = λ limit s more. refl }
 along_grows rows (suc turns) n = of_row_grows rows turns (λ m. along_grows rows turns m) (slice_get rows n)

@@ -1,6 +1,6 @@
 -- Reading stays inside the octets: what is left ends where they end, and a fault stands at one of their places or at their
 -- end. The reading function has no want of memory.
-use Rattle.std.proofs.Common.{◌≡◌, ℕ, zero, suc, ◌+◌, ◌≤◌, Bool, true, false, cond, List, [], ◌∷◌, length, take, Option, Some, None, Ok, Err, arith, inl, inr}
+use Rattle.std.proofs.Common.{◌≡◌, ℕ, zero, suc, ◌+◌, ◌≤◌, Bool, true, false, cond, List, [], ◌∷◌, ◌++◌, length, take, Option, Some, None, Ok, Err, arith, inl, inr}
 use Rattle.std.specs.Prelude.{nat_lt, nat_eq, slice_get}
 use Rattle.std.proofs.lemmas.Bool.{cases_lt, lt-ltb, le-ltb}
 use Rattle.std.proofs.lemmas.List.{length-drop}
@@ -14,7 +14,9 @@ use Rattle.packed_codec.specs.declared.fault.PackedFault.TheVariants as faults
 use Rattle.packed_codec.specs.Reading.{Spot, Reading, ◌>>=◌, within}
 use Rattle.packed_codec.specs.Fields.{moved, announced_at, field_at, octet_at, count_at}
 use Rattle.packed_codec.specs.Numbers.{is_size}
-use Rattle.packed_codec.specs.Rules.{Reader, judge, boolean_rule, boolean_at, null_at, sized_at, number_at, string_at, bits_at, bits_size, bits_rule, present_at, part_at, parts_at, sequence_at, items_at, spent, list_at, alternative_at, choice_at, dead, read_by}
+use Rattle.packed_codec.specs.Rules.{Reader, judge, boolean_rule, boolean_at, null_at, sized_at, number_at, string_at, bits_at, bits_size, bits_rule, present_at, part_at, parts_at, sequence_at, items_at, spent, list_at, alternative_at, choice_at, dead, read_by, set_item_at, set_items_at, set_of_at}
+use Rattle.asn1_types.specs.Writing.{written}
+use Rattle.asn1_types.specs.Rising.{behind_last}
 
 -- where the octets end
 abbrev pub end_of : Spot → ℕ
@@ -161,11 +163,35 @@ list_inside r h = record {
       (then_inside second second end (items_at r n.0 limit (spent n.0 n.1)) _ (items_inside r h n.0 limit (spent n.0 n.1) end d) (λ y g. g)));
 }
 
+set_item_inside : (spell : Value → List ℕ) (r : Reader) → StaysInside r → (before : List Value) → StaysInside (set_item_at spell r before)
+unfolding set_item_at
+set_item_inside spell r h before = record {
+  each = λ limit s end e.
+      then_inside second second end (r limit s) _ (h.each limit s end e) (λ v d.
+      either_inside second end (behind_last spell before v.0) _ _ d (starts_inside s end e));
+}
+
+set_items_inside : (step : List Value → Reader) → ((before : List Value) → StaysInside (step before)) → (before : List Value) (n limit : ℕ) (s : Spot) (end : ℕ) → end_of s ≡ end → Inside second end (set_items_at step before n limit s)
+unfolding set_items_at
+set_items_inside step h before zero limit s end e = e
+set_items_inside step h before (suc n) limit s end e =
+    then_inside second second end (step before limit s) _ ((h before).each limit s end e) (λ x d.
+    then_inside second second end (set_items_at step (before ++ x.0 ∷ []) n limit x.1) _ (set_items_inside step h (before ++ x.0 ∷ []) n limit x.1 end d) (λ y g. g))
+
+set_of_inside : (spell : Value → List ℕ) (r : Reader) → StaysInside r → StaysInside (set_of_at spell r)
+unfolding set_of_at
+set_of_inside spell r h = record {
+  each = λ limit s end e.
+      then_inside second second end (count_at limit s) _ (count_inside limit s end e) (λ n d.
+      either_inside second end (nat_lt n.1.left n.0) _ _ (starts_inside s end e)
+      (then_inside second second end (set_items_at (set_item_at spell r) [] n.0 limit (spent n.0 n.1)) _ (set_items_inside (set_item_at spell r) (set_item_inside spell r h) [] n.0 limit (spent n.0 n.1) end d) (λ y g. g)));
+}
+
 -- nothing is read
 dead_inside : StaysInside dead
 dead_inside = record { each = λ limit s end e. starts_inside s end e }
 
-module _ (inner : ℕ → Reader) (h : (n : ℕ) → StaysInside (inner n)) where
+module _ (spell : ℕ → Value → List ℕ) (inner : ℕ → Reader) (h : (n : ℕ) → StaysInside (inner n)) where
   parts_inside : (ps : List Part) (limit : ℕ) (s : Spot) (end : ℕ) → end_of s ≡ end → Inside second end (parts_at inner limit s ps)
   unfolding parts_at
   parts_inside [] limit s end e = e
@@ -191,7 +217,7 @@ module _ (inner : ℕ → Reader) (h : (n : ℕ) → StaysInside (inner n)) wher
         alternative_inside s.place o.0 (slice_get ps o.0) limit o.1 end d (starts_inside s end e));
   }
 
-  row_inside : (r : TypeRow) → StaysInside (read_by inner r)
+  row_inside : (r : TypeRow) → StaysInside (read_by spell inner r)
   row_inside row.Boolean = boolean_inside
   row_inside (row.Integer low high) = number_inside _
   row_inside (row.Enumerated items) = number_inside _
@@ -203,16 +229,17 @@ module _ (inner : ℕ → Reader) (h : (n : ℕ) → StaysInside (inner n)) wher
   row_inside (row.Sequence ps) = sequence_inside ps
   row_inside (row.Set ps) = sequence_inside ps
   row_inside (row.SequenceOf of) = list_inside (inner of.0) (h of.0)
+  row_inside (row.SetOf of) = set_of_inside (spell of.0) (inner of.0) (h of.0)
   row_inside (row.Choice ps) = choice_inside ps
   row_inside (row.Tagged class number explicit of) = h of.0
   row_inside row.Any = dead_inside
 
 -- ---- down the table
 
-of_row_inside : (rows : List TypeRow) (turns : ℕ) → ((m : ℕ) → StaysInside (along dead read_by rows turns m)) → (o : Option TypeRow) → StaysInside (of_row dead (read_by (along dead read_by rows turns)) o)
+of_row_inside : (rows : List TypeRow) (turns : ℕ) → ((m : ℕ) → StaysInside (along dead (read_by (written rows)) rows turns m)) → (o : Option TypeRow) → StaysInside (of_row dead (read_by (written rows) (along dead (read_by (written rows)) rows turns)) o)
 of_row_inside rows turns h None = dead_inside
-of_row_inside rows turns h (Some r) = row_inside (along dead read_by rows turns) h r
+of_row_inside rows turns h (Some r) = row_inside (written rows) (along dead (read_by (written rows)) rows turns) h r
 
-pub along_inside : (rows : List TypeRow) (turns n : ℕ) → StaysInside (along dead read_by rows turns n)
+pub along_inside : (rows : List TypeRow) (turns n : ℕ) → StaysInside (along dead (read_by (written rows)) rows turns n)
 along_inside rows zero n = dead_inside
 along_inside rows (suc turns) n = of_row_inside rows turns (λ m. along_inside rows turns m) (slice_get rows n)

@@ -5,7 +5,7 @@ use Rattle.packed_codec.specs.declared.spot.Spot as code
 use Rattle.packed_codec.specs.declared.fault.PackedFault.{PackedFault}
 use Rattle.packed_codec.specs.declared.fault.PackedFault.TheVariants as faults
 use Rattle.packed_codec.specs.Reading.{GoesOn, Spot, Reading, ◌>>=◌, Fails}
-use Rattle.packed_codec.specs.Rules.{Reader, items_at}
+use Rattle.packed_codec.specs.Rules.{Reader, items_at, set_items_at}
 
 -- what was found before, and what is still found
 abbrev pub behind : {X : Type 0} → List X → Reading (List X × Spot) → Reading (List X × Spot)
@@ -42,6 +42,27 @@ items_fail e inner limit n i front s total lt h so_far =
     let F : ℕ → Type 0 = λ k. Fails e (items_at inner k limit s) in
     let R : Reading (List Value × Spot) → Type 0 = λ r. Fails e r in
     subst R so_far (Fails-bind e (items_at inner (n - i) limit s) _ (subst F (sym cell) one))
+
+pub set_items_go_on : (step : List Value → Reader) (limit n i : ℕ) (front : List Value) (s : Spot) (v : Value) (next : Spot) (total : Reading (List Value × Spot))
+    → i < n → step front limit s ≡ Ok (v, next)
+    → behind front (set_items_at step front (n - i) limit s) ≡ total
+    → behind (front ++ v ∷ []) (set_items_at step (front ++ v ∷ []) (n - (i + 1)) limit next) ≡ total
+unfolding set_items_at
+set_items_go_on step limit n i front s v next total lt read so_far =
+    let cell : n - i ≡ suc (n - (i + 1)) = omega arith in
+    let one : behind front (set_items_at step front (n - i) limit s) ≡ behind (front ++ v ∷ []) (set_items_at step (front ++ v ∷ []) (n - (i + 1)) limit next) =
+    rw (cell, read) (regroup front v (set_items_at step (front ++ v ∷ []) (n - (i + 1)) limit next)) in
+    sym one ∙ so_far
+
+pub set_items_fail : (e : PackedFault) (step : List Value → Reader) (limit n i : ℕ) (front : List Value) (s : Spot) (total : Reading (List Value × Spot))
+    → i < n → Fails e (step front limit s) → behind front (set_items_at step front (n - i) limit s) ≡ total → Fails e total
+unfolding set_items_at
+set_items_fail e step limit n i front s total lt h so_far =
+    let cell : n - i ≡ suc (n - (i + 1)) = omega arith in
+    let one : Fails e (set_items_at step front (suc (n - (i + 1))) limit s) = Fails-bind e (step front limit s) _ h in
+    let F : ℕ → Type 0 = λ k. Fails e (set_items_at step front k limit s) in
+    let R : Reading (List Value × Spot) → Type 0 = λ r. Fails e r in
+    subst R so_far (Fails-bind e (set_items_at step front (n - i) limit s) _ (subst F (sym cell) one))
 
 pub goes_then : {place len : ℕ} {mid to : code.Spot} → GoesOn place len mid → GoesOn mid.place (length mid.rest.now) to → GoesOn place len to
 goes_then a b = record { whole = omega (arith, a.whole, b.whole); onward = omega (arith, a.onward, b.onward) }

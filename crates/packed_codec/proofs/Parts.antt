@@ -12,10 +12,12 @@ use Rattle.packed_codec.specs.declared.fault.PackedFault.TheVariants as faults
 use Rattle.packed_codec.specs.Octets.{AreOctets}
 use Rattle.packed_codec.specs.Reading.{Spot, ◌>>=◌, refuse}
 use Rattle.packed_codec.specs.Fields.{octet_at, count_at}
-use Rattle.packed_codec.specs.Rules.{Reader, last_size, present_at, marked_at, part_at, parts_at, sequence_at, items_at, spent, list_at, alternative_at, choice_at}
+use Rattle.packed_codec.specs.Rules.{Reader, last_size, present_at, marked_at, part_at, parts_at, sequence_at, items_at, spent, list_at, alternative_at, choice_at, set_item_at, set_items_at, set_of_at}
 use Rattle.packed_codec.specs.Writing.{Writer, part_written, parts_written, sequence_written, how_many, values_written, list_written, alternative_written, choice_written, items, items_of_parts, items_of_values}
 use Rattle.packed_codec.proofs.Taking.{bind_ok, unless_ok, if_ok, chosen_ok, ok_is, octets_right, Took, took_octets, octet_found, count_found}
 use Rattle.packed_codec.proofs.Spelled.{ReadAs, Found}
+use Rattle.asn1_types.specs.Rising.{behind_last, any_length, set_rises}
+use Rattle.ber_spelling.proofs.RisingLaws.{GoOn, up_after, goes_rise}
 
 -- what was read at a spot: octets, a fitting value, and how many items its lists have
 pub record Read (limit : ℕ) (s : Spot) (c : List ℕ) (count : ℕ) (fit : Bool) (to : Spot) : Type 0 where
@@ -196,6 +198,53 @@ module _ (test : ℕ → Value → Bool) (write : ℕ → Writer) (inner : ℕ �
           inside = g.0.inside;
           spent = omega (arith, t.left, g.0.spent);
           fit = g.0.fits;
+        });
+  }
+
+  set_items_found : (spell : Value → List ℕ) (n : ℕ) (before : List Value) (k limit : ℕ) (s : Spot) (vs : List Value) (to : Spot) → AreOctets s.rest → s.place ≤ limit → set_items_at (set_item_at spell (inner n)) before k limit s ≡ Ok (vs, to)
+      → ItemsAs n limit s vs to × (how_many (values_of vs) ≡ k) × GoOn spell before (values_of vs)
+  unfolding set_items_at set_item_at
+  set_items_found spell n before zero limit s vs to are here e =
+      let same = ok_is {A = List Value × Spot} ([], s) (vs, to) e in
+      subst (λ (y : List Value × Spot). ItemsAs n limit s y.0 y.1 × (how_many (values_of y.0) ≡ 0) × GoOn spell before (values_of y.0)) same (nothing_read limit s here, refl, tt)
+  set_items_found spell n before (suc k) limit s vs to are here e =
+      let b = bind_ok (set_item_at spell (inner n) before limit s) _ (vs, to) e in
+      let a = bind_ok (inner n limit s) _ b.0 b.1 in
+      let w = if_ok (behind_last spell before a.0.0) (faults.NotSpelled s.place _) (Ok a.0) b.0 a.2 in
+      let same_item = ok_is {A = Value × Spot} a.0 b.0 w.1 in
+      let mid : Spot = b.0.1 in
+      let read : inner n limit s ≡ Ok (b.0.0, mid) = a.1 ∙ ap (λ (x : Value × Spot). Ok x) same_item in
+      let stands : behind_last spell before b.0.0 ≡ true = ap (λ (x : Value × Spot). behind_last spell before x.0) (sym same_item) ∙ w.0 in
+      let c = bind_ok (set_items_at (set_item_at spell (inner n)) (before ++ b.0.0 ∷ []) k limit mid) (λ more. Ok (b.0.0 ∷ more.0, more.1)) (vs, to) b.2 in
+      let same = ok_is {A = List Value × Spot} (b.0.0 ∷ c.0.0, c.0.1) (vs, to) c.2 in
+      let f = of_read (test n) (write n) limit s b.0.0 mid ((h n).found limit s b.0.0 mid are here read) in
+      let g = set_items_found spell n (before ++ b.0.0 ∷ []) k limit mid c.0.0 c.0.1 (read_octets limit s mid _ _ _ f are) f.inside c.1 in
+      subst (λ (y : List Value × Spot). ItemsAs n limit s y.0 y.1 × (how_many (values_of y.0) ≡ suc k) × GoOn spell before (values_of y.0)) same
+      (read_then limit s mid c.0.1 (write n b.0.0) (values_written (write n) (values_of c.0.0)) (items b.0.0) (items_of_values (values_of c.0.0)) (test n b.0.0) (values_fit (test n) (values_of c.0.0)) f g.0, ap suc g.1,
+      (stands, up_after spell before b.0.0 (values_of c.0.0) g.2))
+
+  pub set_of_found : (spell : Value → List ℕ) (n : ℕ) → Found (λ v. list_fits (test n) v && set_rises any_length spell v) (list_written (write n)) (set_of_at spell (inner n))
+  unfolding set_of_at
+  set_of_found spell n = record {
+    found = λ limit s v to are here e.
+        let b = bind_ok (count_at limit s) _ (v, to) e in
+        let k : ℕ = b.0.0 in
+        let mid : Spot = b.0.1 in
+        let t = count_found limit s mid k are b.1 in
+        let u = unless_ok (nat_lt mid.left k) (faults.NotSpelled s.place _) (set_items_at (set_item_at spell (inner n)) [] k limit (spent k mid) >>= λ found. Ok (list (values_of found.0), found.1)) (v, to) b.2 in
+        let c = bind_ok (set_items_at (set_item_at spell (inner n)) [] k limit (spent k mid)) (λ found. Ok (list (values_of found.0), found.1)) (v, to) u.1 in
+        let same = ok_is {A = Value × Spot} (list (values_of c.0.0), c.0.1) (v, to) c.2 in
+        let enough : k ≤ mid.left = ltb-false mid.left k u.0 in
+        let g = set_items_found spell n [] k limit (spent k mid) c.0.0 c.0.1 (took_octets limit s mid (big_bytes 4 k) t are) t.inside c.1 in
+        let many : how_many (values_of c.0.0) ≡ k = g.1 in
+        let texts : List ℕ = values_written (write n) (values_of c.0.0) in
+        subst (λ (y : Value × Spot). ReadAs (λ v. list_fits (test n) v && set_rises any_length spell v) (list_written (write n)) limit s y.0 y.1) same
+        (record {
+          parts = t.parts ∙ ap (λ (x : List ℕ). big_bytes 4 k ++ x) g.0.parts ∙ ap (λ (j : ℕ). (big_bytes 4 j ++ texts) ++ c.0.1.rest) (sym many);
+          onward = omega (arith, t.onward, g.0.onward);
+          inside = g.0.inside;
+          spent = omega (arith, t.left, g.0.spent);
+          fit = rw (g.0.fits, goes_rise spell (values_of c.0.0) g.2) refl;
         });
   }
 

@@ -9,11 +9,13 @@ use Rattle.asn1_types.specs.Fits.{part_fits, parts_fit, sequence_fits, values_fi
 use Rattle.asn1_types.specs.Value.{Value, boolean, integer, null, octets, bits, object_id, text, parts, list, chosen, any, MaybeValues, no_parts, absent, present, Values, no_values, value}
 use Rattle.packed_codec.specs.Reading.{Spot, Reading, ◌>>=◌}
 use Rattle.asn1_types.specs.Limits.{most_items}
-use Rattle.packed_codec.specs.Rules.{Reader, present_at, part_at, parts_at, sequence_at, items_at, list_at, choice_at}
+use Rattle.packed_codec.specs.Rules.{Reader, present_at, part_at, parts_at, sequence_at, items_at, list_at, choice_at, set_item_at, set_items_at, set_of_at}
 use Rattle.packed_codec.specs.Writing.{Writer, part_written, parts_written, sequence_written, how_many, values_written, list_written, alternative_written, choice_written, items, items_of_parts, items_of_values}
 use Rattle.packed_codec.proofs.Taking.{octet_again, count_again}
 use Rattle.packed_codec.proofs.Spelled.{at_spot, Only}
 use Rattle.packed_codec.proofs.Parts.{items_of_part, list_of, parts_list, items_list, values_list}
+use Rattle.asn1_types.specs.Rising.{any_length, rise, set_rises}
+use Rattle.ber_spelling.proofs.RisingLaws.{GoOn, go_on, rising_goes}
 
 -- a text with what follows it, cut in two
 pub cut : (a b rest : List ℕ) → (a ++ b) ++ rest ≡ a ++ (b ++ rest)
@@ -150,6 +152,49 @@ module _ (test : ℕ → Value → Bool) (write : ℕ → Writer) (inner : ℕ �
   list_back n place left (parts ps) rest f le few most = absurd cc
   list_back n place left (chosen m v) rest f le few most = absurd cc
   list_back n place left (any os) rest f le few most = absurd cc
+
+  set_items_back : (spell : Value → List ℕ) (n : ℕ) (before : List Value) (place left : ℕ) (vs : Values) (rest : List ℕ) → values_fit (test n) vs ≡ true → GoOn spell before vs → place + length (values_written (write n) vs) ≤ limit → items_of_values vs ≤ left → left ≤ most_items
+      → set_items_at (set_item_at spell (inner n)) before (how_many vs) limit (at_spot place (values_written (write n) vs ++ rest) left) ≡ Ok (items_list vs, at_spot (place + length (values_written (write n) vs)) rest (left - items_of_values vs))
+  unfolding set_items_at set_item_at
+  set_items_back spell n before place left no_values rest f up le few most =
+      let to : place ≡ place + 0 = omega arith in
+      let kept : left ≡ left - 0 = omega arith in
+      λ i. Ok ([], at_spot (to i) rest (kept i))
+  set_items_back spell n before place left (value v vs) rest f up le few most =
+      let t = and_parts (test n v) (values_fit (test n) vs) f in
+      let a : List ℕ = write n v in
+      let b : List ℕ = values_written (write n) vs in
+      let len = length-append a b in
+      let first = (h n).only limit place left v (b ++ rest) t.0 lt (omega arith) (omega arith) most in
+      let step : set_item_at spell (inner n) before limit (at_spot place (a ++ (b ++ rest)) left) ≡ Ok (v, at_spot (place + length a) (b ++ rest) (left - items v)) = rw (first, up.0) refl in
+      let others = set_items_back spell n (before ++ v ∷ []) (place + length a) (left - items v) vs rest t.1 (go_on spell before v vs up.1) (omega arith) (omega arith) (omega arith) in
+      step_back (set_item_at spell (inner n) before limit) (λ x. set_items_at (set_item_at spell (inner n)) (before ++ x.0 ∷ []) (how_many vs) limit x.1 >>= λ more. Ok (x.0 ∷ more.0, more.1)) place left (items v) (items_of_values vs) a b rest v (items_list vs) few step (rw others refl)
+
+  pub set_of_back : (spell : Value → List ℕ) (n place left : ℕ) (v : Value) (rest : List ℕ) → (list_fits (test n) v && set_rises any_length spell v) ≡ true → place + length (list_written (write n) v) ≤ limit → items v ≤ left → left ≤ most_items
+      → set_of_at spell (inner n) limit (at_spot place (list_written (write n) v ++ rest) left) ≡ Ok (v, at_spot (place + length (list_written (write n) v)) rest (left - items v))
+  unfolding set_of_at
+  set_of_back spell n place left (list vs) rest f le few most =
+      let t = and_parts (values_fit (test n) vs) (rise any_length spell vs) f in
+      let k : ℕ = how_many vs in
+      let b : List ℕ = values_written (write n) vs in
+      let small : k < 2 ^ 32 = omega arith in
+      let enough : k ≤ left = omega arith in
+      let len = length-append (big_bytes 4 k) b in
+      let others = set_items_back spell n [] (place + 4) (left - k) vs rest t.0 (rising_goes spell any_length vs t.1) (omega arith) (omega arith) (omega arith) in
+      let to : place + 4 + length b ≡ place + length (big_bytes 4 k ++ b) = omega arith in
+      let kept : left - k - items_of_values vs ≡ left - (k + items_of_values vs) = omega arith in
+      rw (count_again limit place left k (b ++ rest) small (omega arith), le-ltb left k enough, others)
+      (λ i. Ok (list (values_list vs i), at_spot (to i) rest (kept i)))
+  set_of_back spell n place left null rest f le few most = absurd cc
+  set_of_back spell n place left (boolean b) rest f le few most = absurd cc
+  set_of_back spell n place left (integer z) rest f le few most = absurd cc
+  set_of_back spell n place left (octets os) rest f le few most = absurd cc
+  set_of_back spell n place left (bits os m) rest f le few most = absurd cc
+  set_of_back spell n place left (object_id os) rest f le few most = absurd cc
+  set_of_back spell n place left (text os) rest f le few most = absurd cc
+  set_of_back spell n place left (parts ps) rest f le few most = absurd cc
+  set_of_back spell n place left (chosen m v) rest f le few most = absurd cc
+  set_of_back spell n place left (any os) rest f le few most = absurd cc
 
   pub choice_back : (ps : List Part) (place left : ℕ) (v : Value) (rest : List ℕ) → choice_fits (λ m. alternative_fits test (slice_get ps m)) v ≡ true → place + length (choice_written write ps v) ≤ limit → items v ≤ left → left ≤ most_items
       → choice_at inner ps limit (at_spot place (choice_written write ps v ++ rest) left) ≡ Ok (v, at_spot (place + length (choice_written write ps v)) rest (left - items v))

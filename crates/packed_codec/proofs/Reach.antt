@@ -1,5 +1,5 @@
 -- Values that end too early have no octet past the limit, and what is read is within it.
-use Rattle.std.proofs.Common.{◌≡◌, ℕ, zero, suc, ◌+◌, ◌≤◌, Bool, true, false, cond, List, [], ◌∷◌, length, take, Option, Some, None, Ok, Err, refl, subst, arith, inl, inr}
+use Rattle.std.proofs.Common.{◌++◌, ◌≡◌, ℕ, zero, suc, ◌+◌, ◌≤◌, Bool, true, false, cond, List, [], ◌∷◌, length, take, Option, Some, None, Ok, Err, refl, subst, arith, inl, inr}
 use Rattle.std.specs.Prelude.{nat_lt, nat_eq, slice_get}
 use Rattle.std.proofs.lemmas.Bool.{cases_lt, lt-ltb, le-ltb, eqb-true, ltb-false}
 use Rattle.std.proofs.lemmas.List.{length-drop}
@@ -14,7 +14,9 @@ use Rattle.packed_codec.specs.Reading.{Spot, Reading, ◌>>=◌, within}
 use Rattle.packed_codec.specs.Fields.{moved, announced_at, field_at, octet_at, count_at}
 use Rattle.packed_codec.specs.Numbers.{is_size}
 use Rattle.packed_codec.specs.Laws.{ShortIsWithin}
-use Rattle.packed_codec.specs.Rules.{start, reads, read_at, Reader, judge, boolean_rule, boolean_at, null_at, sized_at, number_at, string_at, bits_at, bits_size, bits_rule, present_at, part_at, parts_at, sequence_at, items_at, spent, list_at, alternative_at, choice_at, dead, read_by}
+use Rattle.packed_codec.specs.Rules.{start, reads, read_at, Reader, judge, boolean_rule, boolean_at, null_at, sized_at, number_at, string_at, bits_at, bits_size, bits_rule, present_at, part_at, parts_at, sequence_at, items_at, spent, list_at, alternative_at, choice_at, dead, read_by, set_item_at, set_items_at, set_of_at}
+use Rattle.asn1_types.specs.Writing.{written}
+use Rattle.asn1_types.specs.Rising.{behind_last}
 
 -- where the octets end
 abbrev end_of : Spot → ℕ
@@ -171,11 +173,35 @@ list_bounded r h = record {
       (then_bounded second second limit end (items_at r n.0 limit (spent n.0 n.1)) _ (items_bounded r h n.0 limit (spent n.0 n.1) end (record { ends = d.ends; short = d.short })) (λ y g. g)));
 }
 
+set_item_bounded : (spell : Value → List ℕ) (r : Reader) → StaysBounded r → (before : List Value) → StaysBounded (set_item_at spell r before)
+unfolding set_item_at
+set_item_bounded spell r h before = record {
+  each = λ limit s end e.
+      then_bounded second second limit end (r limit s) _ (h.each limit s end e) (λ v d.
+      either_bounded second limit end (behind_last spell before v.0) _ _ d tt);
+}
+
+set_items_bounded : (step : List Value → Reader) → ((before : List Value) → StaysBounded (step before)) → (before : List Value) (n limit : ℕ) (s : Spot) (end : ℕ) → Held limit end s → Bounded second limit end (set_items_at step before n limit s)
+unfolding set_items_at
+set_items_bounded step h before zero limit s end e = e
+set_items_bounded step h before (suc n) limit s end e =
+    then_bounded second second limit end (step before limit s) _ ((h before).each limit s end e) (λ x d.
+    then_bounded second second limit end (set_items_at step (before ++ x.0 ∷ []) n limit x.1) _ (set_items_bounded step h (before ++ x.0 ∷ []) n limit x.1 end d) (λ y g. g))
+
+set_of_bounded : (spell : Value → List ℕ) (r : Reader) → StaysBounded r → StaysBounded (set_of_at spell r)
+unfolding set_of_at
+set_of_bounded spell r h = record {
+  each = λ limit s end e.
+      then_bounded second second limit end (count_at limit s) _ (count_bounded limit s end e) (λ n d.
+      either_bounded second limit end (nat_lt n.1.left n.0) _ _ tt
+      (then_bounded second second limit end (set_items_at (set_item_at spell r) [] n.0 limit (spent n.0 n.1)) _ (set_items_bounded (set_item_at spell r) (set_item_bounded spell r h) [] n.0 limit (spent n.0 n.1) end (record { ends = d.ends; short = d.short })) (λ y g. g)));
+}
+
 -- nothing is read
 dead_bounded : StaysBounded dead
 dead_bounded = record { each = λ limit s end e. tt }
 
-module _ (inner : ℕ → Reader) (h : (n : ℕ) → StaysBounded (inner n)) where
+module _ (spell : ℕ → Value → List ℕ) (inner : ℕ → Reader) (h : (n : ℕ) → StaysBounded (inner n)) where
   parts_bounded : (ps : List Part) (limit : ℕ) (s : Spot) (end : ℕ) → Held limit end s → Bounded second limit end (parts_at inner limit s ps)
   unfolding parts_at
   parts_bounded [] limit s end e = e
@@ -201,7 +227,7 @@ module _ (inner : ℕ → Reader) (h : (n : ℕ) → StaysBounded (inner n)) whe
         alternative_bounded s.place o.0 (slice_get ps o.0) limit o.1 end d);
   }
 
-  row_bounded : (r : TypeRow) → StaysBounded (read_by inner r)
+  row_bounded : (r : TypeRow) → StaysBounded (read_by spell inner r)
   row_bounded row.Boolean = boolean_bounded
   row_bounded (row.Integer low high) = number_bounded _
   row_bounded (row.Enumerated items) = number_bounded _
@@ -213,17 +239,18 @@ module _ (inner : ℕ → Reader) (h : (n : ℕ) → StaysBounded (inner n)) whe
   row_bounded (row.Sequence ps) = sequence_bounded ps
   row_bounded (row.Set ps) = sequence_bounded ps
   row_bounded (row.SequenceOf of) = list_bounded (inner of.0) (h of.0)
+  row_bounded (row.SetOf of) = set_of_bounded (spell of.0) (inner of.0) (h of.0)
   row_bounded (row.Choice ps) = choice_bounded ps
   row_bounded (row.Tagged class number explicit of) = h of.0
   row_bounded row.Any = dead_bounded
 
 -- ---- down the table
 
-of_row_bounded : (rows : List TypeRow) (turns : ℕ) → ((m : ℕ) → StaysBounded (along dead read_by rows turns m)) → (o : Option TypeRow) → StaysBounded (of_row dead (read_by (along dead read_by rows turns)) o)
+of_row_bounded : (rows : List TypeRow) (turns : ℕ) → ((m : ℕ) → StaysBounded (along dead (read_by (written rows)) rows turns m)) → (o : Option TypeRow) → StaysBounded (of_row dead (read_by (written rows) (along dead (read_by (written rows)) rows turns)) o)
 of_row_bounded rows turns h None = dead_bounded
-of_row_bounded rows turns h (Some r) = row_bounded (along dead read_by rows turns) h r
+of_row_bounded rows turns h (Some r) = row_bounded (written rows) (along dead (read_by (written rows)) rows turns) h r
 
-along_bounded : (rows : List TypeRow) (turns n : ℕ) → StaysBounded (along dead read_by rows turns n)
+along_bounded : (rows : List TypeRow) (turns n : ℕ) → StaysBounded (along dead (read_by (written rows)) rows turns n)
 along_bounded rows zero n = dead_bounded
 along_bounded rows (suc turns) n = of_row_bounded rows turns (λ m. along_bounded rows turns m) (slice_get rows n)
 
@@ -240,7 +267,7 @@ pub used_within : (rows : List TypeRow) (n limit : ℕ) (bytes : List ℕ) (v : 
 unfolding read_at reads
 used_within rows n limit bytes v used e =
     subst (λ (r : Reading (Value × ℕ)). EndsWithin limit r) e
-    (ends_within limit (length bytes) (along dead read_by rows (length rows) n limit (start bytes)) ((along_bounded rows (length rows) n).each limit (start bytes) (length bytes) (record { ends = omega arith; short = omega arith })))
+    (ends_within limit (length bytes) (along dead (read_by (written rows)) rows (length rows) n limit (start bytes)) ((along_bounded rows (length rows) n).each limit (start bytes) (length bytes) (record { ends = omega arith; short = omega arith })))
 
 abbrev Told : ℕ → ℕ → Reading (Value × ℕ) → Type 0
 Told limit end (Ok x) = Unit {0}
@@ -260,4 +287,4 @@ pub short_is_within : ShortIsWithin
 unfolding read_at reads
 short_is_within rows n limit bytes e =
     subst (λ (r : Reading (Value × ℕ)). Told limit (length bytes) r) e
-    (told limit (length bytes) (along dead read_by rows (length rows) n limit (start bytes)) ((along_bounded rows (length rows) n).each limit (start bytes) (length bytes) (record { ends = omega arith; short = omega arith })))
+    (told limit (length bytes) (along dead (read_by (written rows)) rows (length rows) n limit (start bytes)) ((along_bounded rows (length rows) n).each limit (start bytes) (length bytes) (record { ends = omega arith; short = omega arith })))

@@ -1,5 +1,5 @@
 -- Under a larger limit all stays but what was too long.
-use Rattle.std.proofs.Common.{◌≡◌, ◌≢◌, sym, ap, ◌∙◌, ◌<◌, ℕ, zero, suc, ◌+◌, ◌≤◌, Bool, true, false, cond, List, [], ◌∷◌, length, take, Option, Some, None, Ok, Err, refl, subst, arith, inl, inr}
+use Rattle.std.proofs.Common.{◌++◌, ◌≡◌, ◌≢◌, sym, ap, ◌∙◌, ◌<◌, ℕ, zero, suc, ◌+◌, ◌≤◌, Bool, true, false, cond, List, [], ◌∷◌, length, take, Option, Some, None, Ok, Err, refl, subst, arith, inl, inr}
 use Rattle.std.specs.Prelude.{nat_lt, nat_eq, slice_get}
 use Rattle.std.proofs.lemmas.Bool.{lt-ltb, le-ltb, ltb-false}
 use Rattle.std.proofs.lemmas.List.{length-drop}
@@ -15,7 +15,9 @@ use Rattle.packed_codec.specs.Fields.{moved, announced_at, field_at, octet_at, c
 use Rattle.packed_codec.specs.Numbers.{is_size}
 use Rattle.packed_codec.specs.Laws.{WiderStays, WiderIsLong}
 use Rattle.packed_codec.proofs.Reach.{used_within}
-use Rattle.packed_codec.specs.Rules.{start, reads, read_at, Reader, judge, boolean_rule, boolean_at, null_at, sized_at, number_at, string_at, bits_at, bits_size, bits_rule, present_at, marked_at, part_at, parts_at, sequence_at, items_at, spent, list_at, alternative_at, choice_at, dead, read_by}
+use Rattle.packed_codec.specs.Rules.{start, reads, read_at, Reader, judge, boolean_rule, boolean_at, null_at, sized_at, number_at, string_at, bits_at, bits_size, bits_rule, present_at, marked_at, part_at, parts_at, sequence_at, items_at, spent, list_at, alternative_at, choice_at, dead, read_by, set_item_at, set_items_at, set_of_at}
+use Rattle.asn1_types.specs.Writing.{written}
+use Rattle.asn1_types.specs.Rising.{behind_last}
 
 -- what was read, and what is read under a larger limit
 abbrev Wider : {A : Type 0} → Reading A → Reading A → Type 0
@@ -142,10 +144,30 @@ list_wider r h = record {
       (then_wider (items_at r n.0 limit (spent n.0 n.1)) (items_at r n.0 more (spent n.0 n.1)) _ _ (items_wider r h n.0 limit more (spent n.0 n.1) le) (λ y. refl)));
 }
 
+set_item_wider : (spell : Value → List ℕ) (r : Reader) → GoesWider r → (before : List Value) → GoesWider (set_item_at spell r before)
+unfolding set_item_at
+set_item_wider spell r h before = record { each = λ limit more s le. then_wider (r limit s) (r more s) _ _ (h.each limit more s le) (λ v. still_wider _) }
+
+set_items_wider : (step : List Value → Reader) → ((before : List Value) → GoesWider (step before)) → (before : List Value) (n limit more : ℕ) (s : Spot) → limit ≤ more → Wider (set_items_at step before n limit s) (set_items_at step before n more s)
+unfolding set_items_at
+set_items_wider step h before zero limit more s le = refl
+set_items_wider step h before (suc n) limit more s le =
+    then_wider (step before limit s) (step before more s) _ _ ((h before).each limit more s le) (λ x.
+    then_wider (set_items_at step (before ++ x.0 ∷ []) n limit x.1) (set_items_at step (before ++ x.0 ∷ []) n more x.1) _ _ (set_items_wider step h (before ++ x.0 ∷ []) n limit more x.1 le) (λ y. refl))
+
+set_of_wider : (spell : Value → List ℕ) (r : Reader) → GoesWider r → GoesWider (set_of_at spell r)
+unfolding set_of_at
+set_of_wider spell r h = record {
+  each = λ limit more s le.
+      then_wider (count_at limit s) (count_at more s) _ _ (count_wider limit more s le) (λ n.
+      either_wider (nat_lt n.1.left n.0) _ _ _ _ refl
+      (then_wider (set_items_at (set_item_at spell r) [] n.0 limit (spent n.0 n.1)) (set_items_at (set_item_at spell r) [] n.0 more (spent n.0 n.1)) _ _ (set_items_wider (set_item_at spell r) (set_item_wider spell r h) [] n.0 limit more (spent n.0 n.1) le) (λ y. refl)));
+}
+
 dead_wider : GoesWider dead
 dead_wider = record { each = λ limit more s le. refl }
 
-module _ (inner : ℕ → Reader) (h : (n : ℕ) → GoesWider (inner n)) where
+module _ (spell : ℕ → Value → List ℕ) (inner : ℕ → Reader) (h : (n : ℕ) → GoesWider (inner n)) where
   parts_wider : (ps : List Part) (limit more : ℕ) (s : Spot) → limit ≤ more → Wider (parts_at inner limit s ps) (parts_at inner more s ps)
   unfolding parts_at
   parts_wider [] limit more s le = refl
@@ -167,7 +189,7 @@ module _ (inner : ℕ → Reader) (h : (n : ℕ) → GoesWider (inner n)) where
     each = λ limit more s le. then_wider (octet_at limit s) (octet_at more s) _ _ (octet_wider limit more s le) (λ o. alternative_wider s.place o.0 (slice_get ps o.0) limit more o.1 le);
   }
 
-  row_wider : (r : TypeRow) → GoesWider (read_by inner r)
+  row_wider : (r : TypeRow) → GoesWider (read_by spell inner r)
   row_wider row.Boolean = boolean_wider
   row_wider (row.Integer low high) = number_wider _
   row_wider (row.Enumerated items) = number_wider _
@@ -179,24 +201,25 @@ module _ (inner : ℕ → Reader) (h : (n : ℕ) → GoesWider (inner n)) where
   row_wider (row.Sequence ps) = sequence_wider ps
   row_wider (row.Set ps) = sequence_wider ps
   row_wider (row.SequenceOf of) = list_wider (inner of.0) (h of.0)
+  row_wider (row.SetOf of) = set_of_wider (spell of.0) (inner of.0) (h of.0)
   row_wider (row.Choice ps) = choice_wider ps
   row_wider (row.Tagged class number explicit of) = h of.0
   row_wider row.Any = dead_wider
 
 -- ---- down the table
 
-of_row_wider : (rows : List TypeRow) (turns : ℕ) → ((m : ℕ) → GoesWider (along dead read_by rows turns m)) → (o : Option TypeRow) → GoesWider (of_row dead (read_by (along dead read_by rows turns)) o)
+of_row_wider : (rows : List TypeRow) (turns : ℕ) → ((m : ℕ) → GoesWider (along dead (read_by (written rows)) rows turns m)) → (o : Option TypeRow) → GoesWider (of_row dead (read_by (written rows) (along dead (read_by (written rows)) rows turns)) o)
 of_row_wider rows turns h None = dead_wider
-of_row_wider rows turns h (Some r) = row_wider (along dead read_by rows turns) h r
+of_row_wider rows turns h (Some r) = row_wider (written rows) (along dead (read_by (written rows)) rows turns) h r
 
-along_wider : (rows : List TypeRow) (turns n : ℕ) → GoesWider (along dead read_by rows turns n)
+along_wider : (rows : List TypeRow) (turns n : ℕ) → GoesWider (along dead (read_by (written rows)) rows turns n)
 along_wider rows zero n = dead_wider
 along_wider rows (suc turns) n = of_row_wider rows turns (λ m. along_wider rows turns m) (slice_get rows n)
 
 read_wider : (rows : List TypeRow) (n limit more : ℕ) (bytes : List ℕ) → limit ≤ more → Wider (read_at rows n limit bytes) (read_at rows n more bytes)
 unfolding read_at reads
 read_wider rows n limit more bytes le =
-    then_wider (along dead read_by rows (length rows) n limit (start bytes)) (along dead read_by rows (length rows) n more (start bytes)) _ _ ((along_wider rows (length rows) n).each limit more (start bytes) le) (λ x. refl)
+    then_wider (along dead (read_by (written rows)) rows (length rows) n limit (start bytes)) (along dead (read_by (written rows)) rows (length rows) n more (start bytes)) _ _ ((along_wider rows (length rows) n).each limit more (start bytes) le) (λ x. refl)
 
 stays : (r s : Reading (Value × ℕ)) → ((place : ℕ) → r ≢ Err (faults.TooLong place)) → Wider r s → s ≡ r
 stays (Ok x) s ne h = h

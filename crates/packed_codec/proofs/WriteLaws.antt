@@ -4,7 +4,7 @@ use Rattle.std.specs.Prelude.{slice_get}
 use Rattle.std.specs.List.{AllByRecursion, flat_map}
 use Rattle.asn1_types.specs.declared.row.Part.{Part}
 use Rattle.asn1_types.specs.declared.row.TypeRow.{TypeRow}
-use Rattle.asn1_types.specs.declared.row.TypeRow.TheVariants.{Boolean, Integer, Enumerated, Null, OctetString, BitString, ObjectId, Text, Sequence, Set, SequenceOf, Choice, Tagged, Any}
+use Rattle.asn1_types.specs.declared.row.TypeRow.TheVariants.{Boolean, Integer, Enumerated, Null, OctetString, BitString, ObjectId, Text, Sequence, Set, SequenceOf, SetOf, Choice, Tagged, Any}
 use Rattle.asn1_types.specs.Rows.{along, names_of, rows_of_parts}
 use Rattle.asn1_types.specs.Table.{IsSound}
 use Rattle.asn1_types.specs.Value.{Value, boolean, integer, null, octets, bits, object_id, text, parts, list, chosen, any, MaybeValues, no_parts, absent, present}
@@ -65,6 +65,7 @@ write_cong (Text kind) f g h = refl
 write_cong (Sequence ps) f g h = λ i v. sequence_same f g ps h v i
 write_cong (Set ps) f g h = λ i v. sequence_same f g ps h v i
 write_cong (SequenceOf inner) f g h = ap list_written h.0
+write_cong (SetOf inner) f g h = ap list_written h.0
 write_cong (Choice ps) f g h = λ i v. choice_same f g ps h v i
 write_cong (Tagged class number explicit inner) f g h = h.0
 write_cong Any f g h = refl

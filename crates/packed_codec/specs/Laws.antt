@@ -3,7 +3,7 @@ use Rattle.std.specs.Prelude.{◌≡◌, ◌≢◌, ℕ, ◌<◌, ◌≤◌, ◌
 use Rattle.asn1_types.specs.declared.row.TypeRow.{TypeRow}
 use Rattle.asn1_types.specs.declared.row.TypeRow.TheVariants as row
 use Rattle.asn1_types.specs.Rows.{along}
-use Rattle.asn1_types.specs.Fits.{fits_by, nothing_fits, fits}
+use Rattle.asn1_types.specs.Fits.{fits_by, nothing_fits, has_form}
 use Rattle.asn1_types.specs.Value.{Value}
 use Rattle.packed_codec.specs.declared.fault.PackedFault.{PackedFault}
 use Rattle.packed_codec.specs.declared.fault.PackedFault.TheVariants.{NotSpelled, Short, TooLong, NoMemory}
@@ -12,17 +12,19 @@ use Rattle.packed_codec.specs.Octets.{AreOctets}
 use Rattle.asn1_types.specs.Limits.{most_items}
 use Rattle.packed_codec.specs.Rules.{read_at}
 use Rattle.packed_codec.specs.Writing.{packed, items}
+use Rattle.asn1_types.specs.Writing.{written}
+use Rattle.asn1_types.specs.Rising.{any_length}
 
 -- ---- spellings
 
--- as values fit, but for an `Any`, which has no packed spelling
-abbrev pub packs_by : (ℕ → Value → Bool) → TypeRow → Value → Bool
-packs_by inner row.Any v = false
-packs_by inner r v = fits_by inner r v
+-- as values have the form of their rows, but for an `Any`, which has no packed spelling
+abbrev pub packs_by : (ℕ → Value → List ℕ) → (ℕ → Value → Bool) → TypeRow → Value → Bool
+packs_by spell inner row.Any v = false
+packs_by spell inner r v = fits_by any_length spell inner r v
 
--- a value fits row n of a table, and no `Any` stands in it
+-- a value has the form of row n of a table, and no `Any` stands in it
 unfoldable pub packs : List TypeRow → ℕ → Value → Bool
-packs rows n = along nothing_fits packs_by rows (length rows) n
+packs rows n = along nothing_fits (packs_by (written rows)) rows (length rows) n
 
 -- octets spell a value of row n of a table, within a limit on their number
 pub record Packed (rows : List TypeRow) (n : ℕ) (limit : ℕ) (v : Value) (spelled : List ℕ) : Type 0 where
@@ -119,6 +121,6 @@ WrittenIsRead = (rows : List TypeRow) (n limit : ℕ) (v : Value) (rest : List �
     → packs rows n v ≡ true → length (packed rows n v) ≤ limit → items v ≤ most_items
     → read_at rows n limit (packed rows n v ++ rest) ≡ Ok (v, length (packed rows n v))
 
--- in a table without `Any` each value that fits has a spelling
+-- in a table without `Any` each value that has the form of its row has a spelling
 abbrev pub FittingPacks : Type 0
-FittingPacks = (rows : List TypeRow) (n : ℕ) (v : Value) → HasNoAny rows → packs rows n v ≡ fits rows n v
+FittingPacks = (rows : List TypeRow) (n : ℕ) (v : Value) → HasNoAny rows → packs rows n v ≡ has_form rows n v

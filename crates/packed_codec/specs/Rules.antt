@@ -1,5 +1,5 @@
 -- What each row is read as, from what the rows that it names are read as.
-use Rattle.std.specs.Prelude.{ℕ, zero, suc, ◌-◌, ℤ, Bool, true, false, not, ◌&&◌, ◌||◌, Option, Some, None, option_map, List, [], ◌∷◌, length, Ok, nat_lt, nat_le, nat_eq, int_lt, slice_get, if◌then◌else◌}
+use Rattle.std.specs.Prelude.{ℕ, zero, suc, ◌-◌, ℤ, Bool, true, false, not, ◌&&◌, ◌||◌, Option, Some, None, option_map, List, [], ◌∷◌, ◌++◌, length, Ok, nat_lt, nat_le, nat_eq, int_lt, slice_get, if◌then◌else◌}
 use Rattle.asn1_types.specs.declared.row.Part.{Part}
 use Rattle.asn1_types.specs.declared.row.TextKind.{TextKind}
 use Rattle.asn1_types.specs.declared.row.TypeRow.{TypeRow}
@@ -14,6 +14,8 @@ use Rattle.packed_codec.specs.Reading.{Spot, Reading, ◌>>=◌, refuse}
 use Rattle.packed_codec.specs.Fields.{announced_at, octet_at, count_at}
 use Rattle.packed_codec.specs.Numbers.{is_size, integer_of, integer_octets}
 use Rattle.packed_codec.specs.ObjectIds.{arcs_of}
+use Rattle.asn1_types.specs.Writing.{written}
+use Rattle.asn1_types.specs.Rising.{behind_last}
 
 -- what stands at a spot, within a limit on the octets of the whole value
 abbrev pub Reader : Type 0
@@ -155,6 +157,30 @@ list_at inner limit s = do
         found ← items_at inner n.0 limit (spent n.0 n.1)
         Ok (list (values_of found.0), found.1))
 
+-- ---- SET OF: as a SEQUENCE OF, each item behind the one before
+
+-- one item, at fault from its first octet on if it is less than the last before it, once it is whole
+unfoldable pub set_item_at : (Value → List ℕ) → Reader → List Value → Reader
+set_item_at spell inner before limit s = do
+  v ← inner limit s
+  if behind_last spell before v.0 then Ok v else refuse s.place
+
+-- that many items behind others
+unfoldable pub set_items_at : (List Value → Reader) → List Value → ℕ → ℕ → Spot → Reading (List Value × Spot)
+set_items_at step before zero limit s = Ok ([], s)
+set_items_at step before (suc n) limit s = do
+  x ← step before limit s
+  more ← set_items_at step (before ++ x.0 ∷ []) n limit x.1
+  Ok (x.0 ∷ more.0, more.1)
+
+unfoldable pub set_of_at : (Value → List ℕ) → Reader → Reader
+set_of_at spell inner limit s = do
+  n ← count_at limit s
+  if nat_lt n.1.left n.0 then refuse s.place
+      else (do
+        found ← set_items_at (set_item_at spell inner) [] n.0 limit (spent n.0 n.1)
+        Ok (list (values_of found.0), found.1))
+
 abbrev pub alternative_at : (ℕ → Reader) → ℕ → ℕ → Option Part → ℕ → Spot → Reading (Value × Spot)
 alternative_at inner place which None limit s = refuse place
 alternative_at inner place which (Some p) limit s = do
@@ -173,24 +199,25 @@ choice_at inner ps limit s = do
 abbrev pub dead : Reader
 dead limit s = refuse s.place
 
-abbrev pub read_by : (ℕ → Reader) → TypeRow → Reader
-read_by inner row.Boolean = boolean_at
-read_by inner (row.Integer low high) = number_at (number_rule (in_range low high))
-read_by inner (row.Enumerated items) = number_at (number_rule (is_item items))
-read_by inner row.Null = null_at
-read_by inner (row.OctetString most) = string_at (at_most most) octets_rule
-read_by inner row.BitString = bits_at
-read_by inner row.ObjectId = string_at any_size object_id_rule
-read_by inner (row.Text kind) = string_at any_size (text_rule kind)
-read_by inner (row.Sequence ps) = sequence_at inner ps
-read_by inner (row.Set ps) = sequence_at inner ps
-read_by inner (row.SequenceOf of) = list_at (inner of.0)
-read_by inner (row.Choice ps) = choice_at inner ps
-read_by inner (row.Tagged class number explicit of) = inner of.0
-read_by inner row.Any = dead
+abbrev pub read_by : (ℕ → Value → List ℕ) → (ℕ → Reader) → TypeRow → Reader
+read_by spell inner row.Boolean = boolean_at
+read_by spell inner (row.Integer low high) = number_at (number_rule (in_range low high))
+read_by spell inner (row.Enumerated items) = number_at (number_rule (is_item items))
+read_by spell inner row.Null = null_at
+read_by spell inner (row.OctetString most) = string_at (at_most most) octets_rule
+read_by spell inner row.BitString = bits_at
+read_by spell inner row.ObjectId = string_at any_size object_id_rule
+read_by spell inner (row.Text kind) = string_at any_size (text_rule kind)
+read_by spell inner (row.Sequence ps) = sequence_at inner ps
+read_by spell inner (row.Set ps) = sequence_at inner ps
+read_by spell inner (row.SequenceOf of) = list_at (inner of.0)
+read_by spell inner (row.SetOf of) = set_of_at (spell of.0) (inner of.0)
+read_by spell inner (row.Choice ps) = choice_at inner ps
+read_by spell inner (row.Tagged class number explicit of) = inner of.0
+read_by spell inner row.Any = dead
 
 unfoldable pub reads : List TypeRow → ℕ → Reader
-reads rows n = along dead read_by rows (length rows) n
+reads rows n = along dead (read_by (written rows)) rows (length rows) n
 
 abbrev pub start : List ℕ → Spot
 start bytes = record { place = 0; rest = bytes; left = most_items }

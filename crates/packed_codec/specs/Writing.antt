@@ -100,6 +100,7 @@ write_by inner (row.Text kind) = text_written
 write_by inner (row.Sequence ps) = sequence_written inner ps
 write_by inner (row.Set ps) = sequence_written inner ps
 write_by inner (row.SequenceOf of) = list_written (inner of.0)
+write_by inner (row.SetOf of) = list_written (inner of.0)
 write_by inner (row.Choice ps) = choice_written inner ps
 write_by inner (row.Tagged class number explicit of) = inner of.0
 write_by inner row.Any = nothing_written

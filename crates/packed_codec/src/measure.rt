@@ -131,6 +131,7 @@ fn of_row(table: &TypeTable, of: TypeId, row: &TypeRow, value: &Val) -> u64
         TypeRow::Sequence(parts) => of_sequence(table, of, parts, value),
         TypeRow::Set(parts) => of_sequence(table, of, parts, value),
         TypeRow::SequenceOf(inner) => of_list(table, of, *inner, value),
+        TypeRow::SetOf(inner) => of_list(table, of, *inner, value),
         TypeRow::Choice(alternatives) => of_choice(table, of, alternatives, value),
         TypeRow::Tagged { inner, .. } => packed_len(table, *inner, value),
         TypeRow::Null | TypeRow::Any => 0,

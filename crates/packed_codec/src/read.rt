@@ -1,11 +1,12 @@
 //! Reading values, row by row.
 
-ghost use Rattle.std.specs.Prelude.{◌≡◌, ◌+◌, ◌≤◌, ◌<◌, ◌^◌, length, Some, None, slice_get, IfOk};
+ghost use Rattle.std.specs.Prelude.{◌≡◌, [], ◌+◌, ◌≤◌, ◌<◌, ◌^◌, length, Some, None, slice_get, IfOk};
 ghost use Rattle.std.specs.List.{AllByRecursion};
 ghost use Rattle.asn1_types.specs.Rows.{rows_of_parts};
 ghost use Rattle.asn1_types.specs.Table.{IsSound};
+ghost use Rattle.asn1_types.specs.Writing.{written};
 ghost use Rattle.packed_codec.specs.Reading.{Gives, spot_of, GoesOn};
-ghost use Rattle.packed_codec.specs.Rules.{last_size, part_at, present_at, parts_at, sequence_at, items_at, list_at, choice_at, read_by, reads};
+ghost use Rattle.packed_codec.specs.Rules.{last_size, part_at, present_at, parts_at, sequence_at, items_at, list_at, set_item_at, set_items_at, set_of_at, choice_at, read_by, reads};
 
 use crate::fault::PackedFault;
 use crate::fields::{count, octet, refusal};
@@ -18,6 +19,7 @@ use asn1_types::{
     MaybeVals, Node, Part, Parts, TypeId, TypeRow, TypeTable, Val, Vals, has_default_value,
     may_be_absent,
 };
+use ber_writing::follows_last;
 use std::alloc::Global;
 
 /// What stands here, as a value of this row.
@@ -49,7 +51,7 @@ fn value_as<'a>(
     requires row { slice_get table.now of.0 ≡ Some row.now }
     requires sound { IsSound table.now }
     requires whole { spot.place + length spot.rest.now < 2 ^ 63 }
-    ensures gives { Gives (λ x. (x.0, spot_of x.1)) result (read_by (reads table.now) row.now limit (spot_of spot.entry)) }
+    ensures gives { Gives (λ x. (x.0, spot_of x.1)) result (read_by (written table.now) (reads table.now) row.now limit (spot_of spot.entry)) }
     ensures stops { IfOk result (λ x. GoesOn spot.entry.place (length spot.entry.rest.now) x.1) }
 {
     match row {
@@ -64,6 +66,7 @@ fn value_as<'a>(
         TypeRow::Sequence(parts) => sequence(alloc, table, of, parts, limit, spot),
         TypeRow::Set(parts) => sequence(alloc, table, of, parts, limit, spot),
         TypeRow::SequenceOf(inner) => list(alloc, table, of, *inner, limit, spot),
+        TypeRow::SetOf(inner) => set_of(alloc, table, of, *inner, limit, spot),
         TypeRow::Choice(alternatives) => choice(alloc, table, of, alternatives, limit, spot),
         TypeRow::Tagged { inner, .. } => tagged(alloc, table, of, *inner, limit, spot),
         TypeRow::Any => Err(refusal(spot.place)),
@@ -277,4 +280,92 @@ fn items_of<'a>(
         spot = next;
     }
     Ok((found, spot))
+}
+
+/// A SET OF, spelled as a SEQUENCE OF, whose items rise by their DER spellings (X.690 11.6).
+#[cycle(reading)]
+#[tactic(auto, unfolding(crate::specs::Rules::set_of_at))]
+fn set_of<'a>(
+    alloc: Global,
+    table: &TypeTable,
+    of: TypeId,
+    inner: TypeId,
+    limit: u32,
+    spot: Spot<'a>,
+) -> Result<(Val, Spot<'a>), PackedFault>
+    requires below { inner.0 < of.0 }
+    requires row { of.0 ≤ length table.now }
+    requires whole { spot.place + length spot.rest.now < 2 ^ 63 }
+    ensures gives { Gives (λ x. (x.0, spot_of x.1)) result (set_of_at (written table.now inner.0) (reads table.now inner.0) limit (spot_of spot.entry)) }
+    ensures stops { IfOk result (λ x. GoesOn spot.entry.place (length spot.entry.rest.now) x.1) }
+{
+    let (number, ahead) = count(limit, spot)?;
+    if ahead.left < number {
+        return Err(refusal(spot.place));
+    }
+    let first = Spot {
+        place: ahead.place,
+        rest: ahead.rest,
+        left: ahead.left - number,
+    };
+    let (found, after) = set_items(alloc, table, of, inner, number, limit, first)?;
+    Ok((
+        Val {
+            node: Node::List(found),
+        },
+        after,
+    ))
+}
+
+/// So many items, each behind the one before. Memory is taken for each as it is read.
+#[cycle(reading)]
+#[tactic(auto, unfolding(crate::specs::Rules::set_items_at))]
+fn set_items<'a>(
+    alloc: Global,
+    table: &TypeTable,
+    of: TypeId,
+    inner: TypeId,
+    number: u32,
+    limit: u32,
+    spot: Spot<'a>,
+) -> Result<(Vals, Spot<'a>), PackedFault>
+    requires below { inner.0 < of.0 }
+    requires row { of.0 ≤ length table.now }
+    requires whole { spot.place + length spot.rest.now < 2 ^ 63 }
+    ensures gives { Gives (λ x. (x.0.items, spot_of x.1)) result (set_items_at (set_item_at (written table.now inner.0) (reads table.now inner.0)) [] number limit (spot_of spot.entry)) }
+    ensures stops { IfOk result (λ x. GoesOn spot.entry.place (length spot.entry.rest.now) x.1) }
+{
+    let mut found = Vec::new(alloc);
+    let mut spot = spot;
+    for _index in 0..number {
+        let (value, next) = set_item(alloc, table, of, inner, &found, limit, spot)?;
+        found.push(value)?;
+        spot = next;
+    }
+    Ok((found, spot))
+}
+
+/// One item of a SET OF, which may not be less than the last before it.
+#[cycle(reading)]
+#[tactic(auto, unfolding(crate::specs::Rules::set_item_at))]
+fn set_item<'a>(
+    alloc: Global,
+    table: &TypeTable,
+    of: TypeId,
+    inner: TypeId,
+    before: &[Val],
+    limit: u32,
+    spot: Spot<'a>,
+) -> Result<(Val, Spot<'a>), PackedFault>
+    requires below { inner.0 < of.0 }
+    requires row { of.0 ≤ length table.now }
+    requires whole { spot.place + length spot.rest.now < 2 ^ 63 }
+    ensures gives { Gives (λ x. (x.0, spot_of x.1)) result (set_item_at (written table.now inner.0) (reads table.now inner.0) before.now limit (spot_of spot.entry)) }
+    ensures stops { IfOk result (λ x. GoesOn spot.entry.place (length spot.entry.rest.now) x.1) }
+{
+    let (value, after) = value(alloc, table, inner, limit, spot)?;
+    if !follows_last(alloc, table, inner, before, &value)? {
+        return Err(refusal(spot.place));
+    }
+    Ok((value, after))
 }

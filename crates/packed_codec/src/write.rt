@@ -56,6 +56,7 @@ fn put_row(
         TypeRow::Sequence(parts) => put_sequence(table, of, parts, value, out, at),
         TypeRow::Set(parts) => put_sequence(table, of, parts, value, out, at),
         TypeRow::SequenceOf(inner) => put_list(table, of, *inner, value, out, at),
+        TypeRow::SetOf(inner) => put_list(table, of, *inner, value, out, at),
         TypeRow::Choice(alternatives) => put_choice(table, of, alternatives, value, out, at),
         TypeRow::Tagged { inner, .. } => put_value(table, *inner, value, out, at),
         TypeRow::Null | TypeRow::Any => at,

@@ -11,7 +11,7 @@ use Rattle.asn1_types.specs.Value.{Value, any, boolean, integer, null, octets, b
 use Rattle.asn1_types.specs.Value as tree
 use Rattle.ber_spelling.specs.declared.fault.ReadFault.TheVariants as faults
 use Rattle.ber_spelling.specs.declared.spot.Scope.{Scope}
-use Rattle.ber_spelling.specs.declared.spot.Tag as tags
+use Rattle.asn1_types.specs.declared.row.Tag as tags
 use Rattle.ber_spelling.specs.Octets.{AreOctets}
 use Rattle.ber_spelling.specs.Fields.{identifier_at}
 use Rattle.ber_spelling.specs.Reading.{Spot, Reading, Opened}

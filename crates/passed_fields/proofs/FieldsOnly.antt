@@ -8,7 +8,7 @@ use Rattle.asn1_types.specs.Rows.{is_no_tag, same_class}
 use Rattle.asn1_types.specs.Table.{IsSound}
 use Rattle.asn1_types.specs.Value.{Value}
 use Rattle.ber_spelling.specs.declared.spot.Scope.{Scope}
-use Rattle.ber_spelling.specs.declared.spot.Tag as tags
+use Rattle.asn1_types.specs.declared.row.Tag as tags
 use Rattle.ber_spelling.specs.Reading.{Spot, Reading, Opened}
 use Rattle.ber_spelling.specs.Rules.{plain, reads, list_item_at, all_items_at, constructed_at, any_at, whole_at}
 use Rattle.ber_spelling.specs.Spelling.{AnyIs, ListStep, ItemsAre, SpelledBy, IsConstructed}

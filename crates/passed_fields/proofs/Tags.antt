@@ -6,9 +6,10 @@ use Rattle.osi_base.specs.declared.words.Kind.TheVariants.{Tag}
 use Rattle.asn1_types.specs.declared.row.Class.{Class}
 use Rattle.ber_spelling.specs.declared.fault.ReadFault.TheVariants as faults
 use Rattle.ber_spelling.specs.declared.spot.Scope.{Scope}
-use Rattle.ber_spelling.specs.declared.spot.Tag as tags
+use Rattle.asn1_types.specs.declared.row.Tag as tags
 use Rattle.ber_spelling.specs.Reading.{Spot, Opened, within}
-use Rattle.ber_spelling.specs.Fields.{class_of, identifier_at, high_at, digits_at, is_lax, opened_at}
+use Rattle.asn1_types.specs.Tags.{class_of}
+use Rattle.ber_spelling.specs.Fields.{identifier_at, high_at, digits_at, is_lax, opened_at}
 use Rattle.ber_spelling.specs.Spelling.{IsIdentifier, IsConstructed, IsWhole}
 use Rattle.ber_spelling.proofs.Identifiers.{bind_ok, chosen_ok, unless_ok, ok_is}
 use Rattle.ber_spelling.proofs.Heads.{Headed}

@@ -7,7 +7,7 @@ use Rattle.asn1_types.specs.Limits.{most_levels}
 use Rattle.asn1_types.specs.Value.{Value, parts, list}
 use Rattle.asn1_types.specs.ValueView.{parts_of, values_of}
 use Rattle.ber_spelling.specs.declared.spot.Scope.{Scope}
-use Rattle.ber_spelling.specs.declared.spot.Tag as tags
+use Rattle.asn1_types.specs.declared.row.Tag as tags
 use Rattle.ber_spelling.specs.Reading.{Spot, Opened, Reading, ◌>>=◌, refuse}
 use Rattle.ber_spelling.specs.Rules.{Reader, plain, constructed_at, all_items_at, list_item_at, whole_at, any_at, reads}
 use Rattle.passed_fields.specs.declared.field.Field as known

@@ -5,8 +5,8 @@ use Rattle.asn1_types.specs.declared.row.Class.{Class}
 use Rattle.asn1_types.specs.declared.row.TypeRow.{TypeRow}
 use Rattle.asn1_types.specs.Limits.{most_levels}
 use Rattle.asn1_types.specs.Value.{Value}
-use Rattle.ber_spelling.specs.declared.spot.Tag as tags
-use Rattle.ber_spelling.specs.Fields.{class_of}
+use Rattle.asn1_types.specs.declared.row.Tag as tags
+use Rattle.asn1_types.specs.Tags.{class_of}
 use Rattle.ber_spelling.specs.Rules.{plain}
 use Rattle.ber_spelling.specs.Spelling.{IsConstructed, ItemsAre, ListStep, AnyIs, IsWhole, SpelledBy}
 use Rattle.passed_fields.specs.declared.field.Field as known

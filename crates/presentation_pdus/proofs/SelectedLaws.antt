@@ -9,7 +9,7 @@ use Rattle.asn1_types.specs.Rows.{same_class}
 use Rattle.asn1_types.specs.Value.{Value}
 use Rattle.ber_spelling.specs.declared.fault.ReadFault.TheVariants as faults
 use Rattle.ber_spelling.specs.declared.spot.Scope.{Scope}
-use Rattle.ber_spelling.specs.declared.spot.Tag as tags
+use Rattle.asn1_types.specs.declared.row.Tag as tags
 use Rattle.ber_spelling.specs.Octets.{AreOctets}
 use Rattle.ber_spelling.specs.Fields.{identifier_at}
 use Rattle.ber_spelling.specs.Reading.{Spot, Opened, Reading}

@@ -11,7 +11,7 @@ use Rattle.asn1_types.specs.declared.row.Class.TheVariants.{Universal, Applicati
 use Rattle.asn1_types.specs.Rows.{same_class, is_no_tag, openings, allows, begins, tag}
 use Rattle.asn1_types.specs.Value.{Value, chosen}
 use Rattle.ber_spelling.specs.declared.spot.Scope.{Scope}
-use Rattle.ber_spelling.specs.declared.spot.Tag as tags
+use Rattle.asn1_types.specs.declared.row.Tag as tags
 use Rattle.ber_spelling.specs.Octets.{AreOctets}
 use Rattle.ber_spelling.specs.Fields.{identifier_at}
 use Rattle.ber_spelling.specs.Reading.{Spot, Opened, Reading}

@@ -7,7 +7,7 @@ use Rattle.osi_base.specs.declared.presentation_word.PresentationWord as units
 use Rattle.osi_base.specs.declared.presentation_word.PresentationWord.TheVariants as unit
 use Rattle.asn1_types.specs.Value.{Value, integer, octets, parts}
 use Rattle.asn1_types.specs.ValueView.{parts_of}
-use Rattle.ber_spelling.specs.Writing.{written}
+use Rattle.asn1_types.specs.Writing.{written}
 use Rattle.presentation_pdus.specs.Rows.{connect_row, accept_row, reject_row, alter_row, alter_ack_row, restart_row, user_abort_row, provider_abort_row, data_row, ppdu_rows}
 use Rattle.presentation_pdus.specs.Items.{number_value, bits_value, list_value, some_list, definition_value, answer_value, restored_value, pdv_value}
 

@@ -5,7 +5,7 @@ ghost use Rattle.std.specs.Option.{option_map};
 ghost use Rattle.asn1_types.specs.Value.{any, integer, chosen, parts as tree_parts, present, no_parts};
 ghost use Rattle.asn1_types.specs.ValueView.{parts_of};
 ghost use Rattle.rose.specs.Pieces.{result_head};
-ghost use Rattle.ber_spelling.specs.Writing.{written};
+ghost use Rattle.asn1_types.specs.Writing.{written};
 ghost use Rattle.osi_base.specs.declared.syntax.Syntax.TheVariants.{Ber};
 ghost use Rattle.stub_tables.specs.Heads.{code_value, invoke_value, result_value, error_value, head_rows, apdu_row};
 ghost use Rattle.stub_tables.specs.Apdus.{written_carried, written_apdu, operation_coded, error_coded, IsIdentifier, invoke_apdu, result_apdu, error_apdu};

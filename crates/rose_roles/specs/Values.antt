@@ -9,11 +9,6 @@ use Rattle.stub_tables.specs.Uses.{is_carried}
 use Rattle.apdu_spelling.specs.Spellings.{SpelledAs, CarriedAs}
 use Rattle.rose_roles.specs.Heads.{room_in}
 
--- The octets spell this value, which fits, or none.
-abbrev pub IsReadExactly : Syntax → TypeTable → ℕ → ℕ → List ℕ → Option Val → Type 0
-IsReadExactly syntax types room of octets (Some value) = SpelledAs syntax types (room_in syntax room) of value octets × (fits types of value ≡ true)
-IsReadExactly syntax types room of octets None = (value : Val) → SpelledAs syntax types (room_in syntax room) of value octets → ⊥
-
 -- They spell this value, which fits, or none that does.
 abbrev pub IsReadAs : Syntax → TypeTable → ℕ → ℕ → List ℕ → Option Val → Type 0
 IsReadAs syntax types room of octets (Some value) = SpelledAs syntax types (room_in syntax room) of value octets × (fits types of value ≡ true)

@@ -2,16 +2,17 @@
 
 ghost use Rattle.std.specs.Prelude.{◌≡◌, ◌<◌, length, IfOk, Some, true, false};
 ghost use Rattle.osi_base.specs.declared.syntax.Syntax.TheVariants as syntaxes;
-ghost use Rattle.rose_roles.specs.Values.{IsReadExactly, IsReadAs, IsAllowedIn};
+ghost use Rattle.rose_roles.specs.Values.{IsReadAs, IsAllowedIn};
 
-use asn1_types::{TypeId, TypeTable, Val, fits};
+use asn1_types::{TypeId, TypeTable, Val};
 use ber_reading::{ReadFault, ber_read, der_read};
+use ber_writing::fits;
 use osi_base::{NoMemory, Octets, Syntax};
 use packed_codec::{PackedFault, packed_read_within};
 use std::alloc::Global;
 use stub_tables::Use;
 
-/// The value that all of these octets spell in BER.
+/// The value that fits and that all of these octets spell in BER.
 fn ber_value(
     alloc: Global,
     types: &TypeTable,
@@ -20,11 +21,11 @@ fn ber_value(
     room: u32,
 ) -> Result<Option<Val>, NoMemory>
     requires { of.0 < length types.now }
-    ensures { IfOk result (IsReadExactly syntaxes.Ber types.now room of.0 octets.now) }
+    ensures { IfOk result (IsReadAs syntaxes.Ber types.now room of.0 octets.now) }
 {
     match ber_read(alloc, types, of, octets) {
         Ok(read) => {
-            if read.used == octets.len() {
+            if read.used == octets.len() && fits(types, of, &read.value) {
                 Ok(Some(read.value))
             } else {
                 Ok(None)
@@ -35,7 +36,7 @@ fn ber_value(
     }
 }
 
-/// The value that all of these octets spell in DER.
+/// The value that fits and that all of these octets spell in DER.
 fn der_value(
     alloc: Global,
     types: &TypeTable,
@@ -44,11 +45,11 @@ fn der_value(
     room: u32,
 ) -> Result<Option<Val>, NoMemory>
     requires { of.0 < length types.now }
-    ensures { IfOk result (IsReadExactly syntaxes.Der types.now room of.0 octets.now) }
+    ensures { IfOk result (IsReadAs syntaxes.Der types.now room of.0 octets.now) }
 {
     match der_read(alloc, types, of, octets) {
         Ok(read) => {
-            if read.used == octets.len() {
+            if read.used == octets.len() && fits(types, of, &read.value) {
                 Ok(Some(read.value))
             } else {
                 Ok(None)

@@ -9,7 +9,7 @@ use Rattle.asn1_types.specs.Value.{Value, integer, octets, bits, object_id, part
 use Rattle.asn1_types.specs.ValueView.{parts_of}
 use Rattle.ber_spelling.specs.Octets.{AreOctets}
 use Rattle.ber_spelling.specs.Spelling.{Spells}
-use Rattle.ber_spelling.specs.Writing.{written}
+use Rattle.asn1_types.specs.Writing.{written}
 use Rattle.fixed_tables.specs.declared.pdu.PduFault as units
 use Rattle.fixed_tables.specs.Values.{part_in, small_or, octets_in, maybe_arcs, maybe_bits, alternative, inside}
 use Rattle.fixed_tables.specs.Whole.{whole_at}

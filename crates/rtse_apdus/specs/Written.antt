@@ -8,7 +8,7 @@ use Rattle.osi_base.specs.declared.rtse_word.Rtse.TheVariants as apdu
 use Rattle.asn1_types.specs.Fits.{is_number, octets_fit}
 use Rattle.asn1_types.specs.Value.{octets}
 use Rattle.asn1_types.specs.Whole.{is_whole}
-use Rattle.ber_spelling.specs.Writing.{written}
+use Rattle.asn1_types.specs.Writing.{written}
 use Rattle.rtse_apdus.specs.Rows.{rtse_row, rtse_rows}
 use Rattle.rtse_apdus.specs.Words.{value_of}
 use Rattle.rtse_apdus.specs.Reading.{limit_of}

@@ -2,7 +2,8 @@
 
 ghost use Rattle.std.specs.Prelude.{◌≡◌};
 
-use asn1_types::{TypeId, TypeTable, Val, fits};
+use asn1_types::{TypeId, TypeTable, Val};
+use ber_writing::fits;
 use osi_base::{Copied, Indices, ListOf, Name, NoMemory, Oid};
 use std::alloc::Global;
 

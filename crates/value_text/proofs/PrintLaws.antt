@@ -5,7 +5,7 @@ use Rattle.std.specs.List.{AllByRecursion}
 use Rattle.asn1_types.specs.declared.row.Item.{Item}
 use Rattle.asn1_types.specs.declared.row.Part.{Part}
 use Rattle.asn1_types.specs.declared.row.TypeRow.{TypeRow}
-use Rattle.asn1_types.specs.declared.row.TypeRow.TheVariants.{Boolean, Integer, Enumerated, Null, OctetString, BitString, ObjectId, Text, Sequence, Set, SequenceOf, Choice, Tagged, Any}
+use Rattle.asn1_types.specs.declared.row.TypeRow.TheVariants.{Boolean, Integer, Enumerated, Null, OctetString, BitString, ObjectId, Text, Sequence, Set, SequenceOf, SetOf, Choice, Tagged, Any}
 use Rattle.asn1_types.specs.Rows.{along, names_of, rows_of_parts}
 use Rattle.asn1_types.specs.Table.{IsSound}
 use Rattle.asn1_types.specs.Value.{Value, boolean, integer, null, octets, bits, object_id, text, parts, list, chosen, any, MaybeValues, no_parts, absent, present, Values, no_values, value}
@@ -67,6 +67,7 @@ text_cong (Text kind) f g h = refl
 text_cong (Sequence ps) f g h = λ i v. sequence_same f g ps h v i
 text_cong (Set ps) f g h = λ i v. sequence_same f g ps h v i
 text_cong (SequenceOf inner) f g h = λ i v. list_text (h.0 i) v
+text_cong (SetOf inner) f g h = λ i v. list_text (h.0 i) v
 text_cong (Choice ps) f g h = λ i v. choice_same f g ps h v i
 text_cong (Tagged class number explicit inner) f g h = λ i v. h.0 i v
 text_cong Any f g h = refl

@@ -66,6 +66,7 @@ text_by inner (row.Enumerated items) v = item_text items v
 text_by inner (row.Sequence ps) v = sequence_text inner ps v
 text_by inner (row.Set ps) v = sequence_text inner ps v
 text_by inner (row.SequenceOf of) v = list_text (inner of.0) v
+text_by inner (row.SetOf of) v = list_text (inner of.0) v
 text_by inner (row.Choice ps) v = choice_text inner ps v
 text_by inner (row.Tagged class number explicit of) v = inner of.0 v
 text_by inner r v = value_text v

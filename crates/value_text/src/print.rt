@@ -61,6 +61,7 @@ fn put_row(
         TypeRow::Sequence(parts) => put_sequence(text, table, of, parts, value),
         TypeRow::Set(parts) => put_sequence(text, table, of, parts, value),
         TypeRow::SequenceOf(inner) => put_list(text, table, of, *inner, value),
+        TypeRow::SetOf(inner) => put_list(text, table, of, *inner, value),
         TypeRow::Choice(alternatives) => put_choice(text, table, of, alternatives, value),
         TypeRow::Tagged { inner, .. } => put_tagged(text, table, of, *inner, value),
         _ => put_value(text, value),

@@ -3,7 +3,7 @@ use Rattle.std.specs.Prelude.{Bool, Some, None, false}
 use Rattle.std.proofs.lemmas.Option.{slice_get_within}
 use Rattle.asn1_types.specs.declared.row.TypeRow.TheVariants.{Sequence, Tagged}
 use Rattle.asn1_types.proofs.Sound.{down_as}
-use Rattle.ber_spelling.specs.declared.spot.Tag as tags
+use Rattle.asn1_types.specs.declared.row.Tag as tags
 use Rattle.ber_spelling.specs.Rules.{Reader, plain, under}
 use Rattle.ber_reading.proofs.Rows.{reads_at}
 use Rattle.ber_reading.proofs.public.sequence_of.Goals as goal

@@ -4,14 +4,13 @@ use Rattle.std.proofs.lemmas.Option.{slice_get_within}
 use Rattle.std.proofs.lemmas.List.{take_rest, length-drop, drop-drop}
 use Rattle.asn1_types.specs.Value.{Value}
 use Rattle.osi_base.specs.declared.words.Kind.TheVariants.{Extra}
-use Rattle.ber_spelling.specs.Order.{rank}
-use Rattle.asn1_types.specs.declared.row.TypeRow.TheVariants.{Sequence, SequenceOf, Set, Choice, Tagged}
+use Rattle.asn1_types.specs.declared.row.TypeRow.TheVariants.{Sequence, SequenceOf, SetOf, Set, Choice, Tagged}
 use Rattle.asn1_types.specs.declared.row.Part.{Part}
 use Rattle.asn1_types.specs.Rows.{begins}
 use Rattle.ber_reading.specs.Parts.{parts_from, parts_behind}
 use Rattle.asn1_types.proofs.Sound.{each_part, down_as, choice_few, later_parts}
 use Rattle.ber_spelling.specs.Reading.{opened_of, spot_of, ahead_of, LiesIn}
-use Rattle.ber_spelling.specs.Rules.{items_at, list_item_at, list_done, reads, slot_at, set_done, is_free, is_filled, plain, bare}
+use Rattle.ber_spelling.specs.Rules.{items_at, list_item_at, list_done, set_item_at, set_of_done, reads, slot_at, set_done, is_free, is_filled, plain, bare}
 use Rattle.ber_reading.proofs.Slots.{none_length, set_length, slot_taken, slot_fails, slot_gives, set_full, set_lacks, turns_lack, late_fails}
 use Rattle.ber_reading.proofs.Rows.{reads_at}
 use Rattle.ber_reading.proofs.AtOnce.{reads_it, lower}
@@ -22,6 +21,8 @@ use mir.Syntax.{w64}
 use mir.Val.{SFits}
 use Rattle.asn1_types.specs.Value as tree
 use Rattle.asn1_types.specs.ValueView.{parts_of}
+use Rattle.asn1_types.specs.Writing.{written}
+use Rattle.asn1_types.specs.Tags.{rank}
 use Rattle.ber_spelling.proofs.Loops.{goes_then}
 use Rattle.ber_reading.proofs.PartsFrom.{part_fails, part_goes_on, end_fails, end_gives, sequence_fails, sequence_gives}
 use Rattle.ber_spelling.proofs.Steps.{Fails-bind}
@@ -129,6 +130,49 @@ items-loop-turn-preserved t c =
 pub items-returns-clause-gives : goal.items-returns-clause-gives
 items-returns-clause-gives t c =
     no_turns (list_item_at (reads c.args.table.now c.args.inner.0)) list_done (length c.args.spot.rest.now + 1 - c.loop-turn._turn) c.loop-turn.found.items c.args.scope.now (spot_of c.loop-turn.spot) _ (omega arith) c.loop-turn.invariant.so_far
+
+-- ---- SET OF
+
+pub value_as-set_of-requires : goal.value_as-set_of-requires
+value_as-set_of-requires t c =
+    let lt = slice_get_within c.args.table.now c.args.of.0 c.args.row.now c.requires.row in
+    let down = down_as c.args.table.now c.args.of.0 c.args.row.now (SetOf c.in-SetOf.inner) c.requires.sound c.requires.row c.in-SetOf.is in
+    let below : c.in-SetOf.inner.0 < c.args.of.0 = down.0 in
+    (omega arith, (below, (omega arith, c.requires.whole)))
+
+pub set_items-returns-in_err-after-clause-gives : goal.set_items-returns-in_err-after-clause-gives
+set_items-returns-in_err-after-clause-gives t c =
+    let h = look_fails (set_item_at (written c.args.table.now c.args.inner.0) (reads c.args.table.now c.args.inner.0)) (set_of_done (written c.args.table.now c.args.inner.0)) c.in_err-after.field-0.0 (length c.args.spot.rest.now + 1 - c.loop-turn._turn) c.loop-turn.found.items c.args.scope.now (spot_of c.loop-turn.spot) _ (omega arith) c.loop-turn.invariant.so_far c.in_err-after.ensures.gives in
+    search rules
+
+pub set_items-returns-in-Ended-clause-gives : goal.set_items-returns-in-Ended-clause-gives
+set_items-returns-in-Ended-clause-gives t c =
+    turns_end (set_item_at (written c.args.table.now c.args.inner.0) (reads c.args.table.now c.args.inner.0)) (set_of_done (written c.args.table.now c.args.inner.0)) c.loop-turn.found.items _ c.args.scope.now (spot_of c.loop-turn.spot) (length c.args.spot.rest.now + 1 - c.loop-turn._turn) c.in-Ended.place (spot_of c.in-Ended.after) _ (omega arith) c.loop-turn.invariant.so_far
+    (c.in_ok-after.ensures.gives ∙ ap (λ a. Ok (ahead_of a)) c.in-Ended.is) refl
+
+pub set_items-returns-in_err-item-in-Begun-clause-gives : goal.set_items-returns-in_err-item-in-Begun-clause-gives
+set_items-returns-in_err-item-in-Begun-clause-gives t c =
+    let h = step_fails (set_item_at (written c.args.table.now c.args.inner.0) (reads c.args.table.now c.args.inner.0)) (set_of_done (written c.args.table.now c.args.inner.0)) c.in_err-item-in-Begun.field-0.0 (length c.args.spot.rest.now + 1 - c.loop-turn._turn) c.loop-turn.found.items c.args.scope.now (spot_of c.loop-turn.spot) (opened_of c.in-Begun.opened) (spot_of c.in-Begun.after) _ (omega arith) c.loop-turn.invariant.so_far
+    (c.in_ok-after.ensures.gives ∙ ap (λ a. Ok (ahead_of a)) c.in-Begun.is) (rw c.deref.ensures.value at c.in_err-item-in-Begun.ensures.gives) in
+    search rules
+
+pub set_items-loop-turn-preserved : goal.set_items-loop-turn-preserved
+set_items-loop-turn-preserved t c =
+    let opens = subst (LiesIn c.loop-turn.spot.place (length c.loop-turn.spot.rest.now)) c.in-Begun.is c.in_ok-after.ensures.stops in
+    let less : length c.args.spot.rest.now + 1 - c.loop-turn._turn - 1 ≡ length c.args.spot.rest.now + 1 - (c.loop-turn._turn + 1) = omega arith in
+    let more = c.loop-turn.found.items ++ c.in_ok-item-in-Begun.item.0 ∷ [] in
+    let goes = step_goes (set_item_at (written c.args.table.now c.args.inner.0) (reads c.args.table.now c.args.inner.0)) (set_of_done (written c.args.table.now c.args.inner.0)) (length c.args.spot.rest.now + 1 - c.loop-turn._turn) c.loop-turn.found.items more c.args.scope.now (spot_of c.loop-turn.spot) (opened_of c.in-Begun.opened) (spot_of c.in-Begun.after) (spot_of c.in_ok-item-in-Begun.item.1) _ (omega arith) c.loop-turn.invariant.so_far
+    (c.in_ok-after.ensures.gives ∙ ap (λ a. Ok (ahead_of a)) c.in-Begun.is)
+    (rw c.deref.ensures.value at c.in_ok-item-in-Begun.ensures.gives) in
+    record {
+      onward = goes_then c.loop-turn.invariant.onward (goes_then opens.behind c.in_ok-item-in-Begun.ensures.stops);
+      so_far = ap (λ found. items_at (set_item_at (written c.args.table.now c.args.inner.0) (reads c.args.table.now c.args.inner.0)) (set_of_done (written c.args.table.now c.args.inner.0)) (length c.args.spot.rest.now + 1 - (c.loop-turn._turn + 1)) found c.args.scope.now (spot_of c.in_ok-item-in-Begun.item.1)) c.in_ok-push-in-Begun.ensures.items
+          ∙ ap (λ k. items_at (set_item_at (written c.args.table.now c.args.inner.0) (reads c.args.table.now c.args.inner.0)) (set_of_done (written c.args.table.now c.args.inner.0)) k more c.args.scope.now (spot_of c.in_ok-item-in-Begun.item.1)) (sym less) ∙ goes;
+    }
+
+pub set_items-returns-clause-gives : goal.set_items-returns-clause-gives
+set_items-returns-clause-gives t c =
+    no_turns (set_item_at (written c.args.table.now c.args.inner.0) (reads c.args.table.now c.args.inner.0)) (set_of_done (written c.args.table.now c.args.inner.0)) (length c.args.spot.rest.now + 1 - c.loop-turn._turn) c.loop-turn.found.items c.args.scope.now (spot_of c.loop-turn.spot) _ (omega arith) c.loop-turn.invariant.so_far
 
 -- ---- SET
 

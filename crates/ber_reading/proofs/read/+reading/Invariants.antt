@@ -1,8 +1,9 @@
 use Rattle.std.proofs.Common.{◌≡◌, ◌≤◌, ◌+◌, ◌-◌, ◌*◌, [], drop, length}
 use Rattle.std.specs.Vec.{vec_len, vec_capacity}
 use Rattle.asn1_types.specs.Rows.{begins}
+use Rattle.asn1_types.specs.Writing.{written}
 use Rattle.ber_spelling.specs.Reading.{opened_of, spot_of, GoesOn}
-use Rattle.ber_spelling.specs.Rules.{items_at, all_items_at, list_item_at, list_done, choice_at, reads, slot_at, set_done, nothing_filled}
+use Rattle.ber_spelling.specs.Rules.{items_at, all_items_at, list_item_at, list_done, set_item_at, set_of_done, choice_at, reads, slot_at, set_done, nothing_filled}
 use Rattle.ber_reading.specs.Parts.{parts_from, parts_behind}
 use Rattle.ber_reading.proofs.read.+reading.Given as goal
 
@@ -31,6 +32,21 @@ abbrev pub invariant-items-loop-turn : goal.invariant-items-loop-turn
 invariant-items-loop-turn l = record {
   onward : GoesOn l.fn.spot.place (length l.fn.spot.rest.now) l.spot;
   so_far : items_at (list_item_at (reads l.table l.inner.0)) list_done (l._turn-end - l._turn) l.found.items l.scope (spot_of l.spot) ≡ all_items_at (list_item_at (reads l.table l.inner.0)) list_done [] l.scope (spot_of l.fn.spot);
+}
+
+abbrev pub decreases-set_of : goal.decreases-set_of
+decreases-set_of l = 8 * l.of.0 + 5
+
+abbrev pub decreases-set_items : goal.decreases-set_items
+decreases-set_items l = 8 * l.of.0 + 4
+
+abbrev pub decreases-set_item : goal.decreases-set_item
+decreases-set_item l = 8 * l.of.0 + 3
+
+abbrev pub invariant-set_items-loop-turn : goal.invariant-set_items-loop-turn
+invariant-set_items-loop-turn l = record {
+  onward : GoesOn l.fn.spot.place (length l.fn.spot.rest.now) l.spot;
+  so_far : items_at (set_item_at (written l.table l.inner.0) (reads l.table l.inner.0)) (set_of_done (written l.table l.inner.0)) (l._turn-end - l._turn) l.found.items l.scope (spot_of l.spot) ≡ all_items_at (set_item_at (written l.table l.inner.0) (reads l.table l.inner.0)) (set_of_done (written l.table l.inner.0)) [] l.scope (spot_of l.fn.spot);
 }
 
 abbrev pub decreases-sequence : goal.decreases-sequence

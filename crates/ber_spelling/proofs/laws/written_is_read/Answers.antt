@@ -1,7 +1,7 @@
 use Rattle.ber_spelling.proofs.Wholes.{whole_is}
 use Rattle.ber_spelling.proofs.WholeValues.{spelled_is_read}
 use Rattle.ber_spelling.proofs.Written.{written_spelled}
-use Rattle.ber_spelling.specs.Writing.{written}
+use Rattle.asn1_types.specs.Writing.{written}
 use Rattle.ber_spelling.proofs.laws.written_is_read.Goals as goal
 
 pub returns : goal.returns

@@ -5,11 +5,11 @@ use Rattle.std.proofs.lemmas.Option.{slice_get_within}
 use Rattle.asn1_types.specs.declared.row.TypeRow.TheVariants.{Choice}
 use Rattle.asn1_types.proofs.Sound.{down_as}
 use Rattle.asn1_types.proofs.FitLaws.{each_slot}
-use Rattle.ber_spelling.specs.Order.{rank}
 use Rattle.ber_spelling.proofs.WriteLaws.{writes_at}
 use Rattle.asn1_types.specs.declared.row.Class.TheVariants.{Universal}
 use Rattle.asn1_types.specs.Rows.{text_number}
-use Rattle.ber_spelling.specs.Writing.{boolean_contents, integer_contents, octets_contents, bits_contents, object_id_contents, text_contents, sequence_contents, parts_contents, set_parts, list_contents, writes}
+use Rattle.asn1_types.specs.Writing.{boolean_contents, integer_contents, octets_contents, bits_contents, object_id_contents, text_contents, sequence_contents, parts_contents, set_parts, list_contents, writes}
+use Rattle.asn1_types.specs.Tags.{rank}
 use Rattle.ber_spelling.proofs.Orders.{definite_rank}
 use Rattle.ber_spelling.proofs.Ranks.{tagged_rank, ranked_as}
 use Rattle.ber_spelling.proofs.order.+ranking.Goals as goal
@@ -77,3 +77,7 @@ rank_by-returns-in-SequenceOf t c =
 pub rank_by-returns-in-Set : goal.rank_by-returns-in-Set
 rank_by-returns-in-Set t c =
     ranked_as (writes c.args.table.now) c.args.row.now _ c.args.value.now _ _ c.in-Set.is c.rank-in-Set.ensures.value (definite_rank true (record { class = Universal; number = 17 }) (sequence_contents (set_parts (writes c.args.table.now) c.in-Set.field-0) c.args.value.now))
+
+pub rank_by-returns-in-SetOf : goal.rank_by-returns-in-SetOf
+rank_by-returns-in-SetOf t c =
+    ranked_as (writes c.args.table.now) c.args.row.now _ c.args.value.now _ _ c.in-SetOf.is c.rank-in-SetOf.ensures.value (definite_rank true (record { class = Universal; number = 17 }) (list_contents (writes c.args.table.now c.in-SetOf.field-0.0) c.args.value.now))

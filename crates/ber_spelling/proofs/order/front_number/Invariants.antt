@@ -1,6 +1,6 @@
 use Rattle.std.proofs.Common.{◌≡◌, ◌≤◌, ◌^◌, drop}
-use Rattle.ber_spelling.specs.Order.{front_number}
 use Rattle.ber_spelling.proofs.order.front_number.Given as goal
+use Rattle.asn1_types.specs.Tags.{front_number}
 
 abbrev pub invariant-loop-digit : goal.invariant-loop-digit
 invariant-loop-digit l = record {

@@ -1,10 +1,10 @@
 use Rattle.std.proofs.Common.{◌≡◌, ◌<◌, ◌-◌, sym, ap, ◌∙◌, arith, length, Some}
 use Rattle.std.specs.Prelude.{slice_get}
 use Rattle.std.specs.Option.{option_copied}
-use Rattle.asn1_types.specs.declared.row.TypeRow.TheVariants.{Sequence, SequenceOf, Set, Choice, Tagged}
+use Rattle.asn1_types.specs.declared.row.TypeRow.TheVariants.{Sequence, SequenceOf, SetOf, Set, Choice, Tagged}
 use Rattle.asn1_types.proofs.Sound.{each_part, down_as}
 use Rattle.asn1_types.proofs.FitLaws.{not_within, false_not, each_slot}
-use Rattle.ber_spelling.specs.Writing.{saturated, writes}
+use Rattle.asn1_types.specs.Writing.{saturated, writes}
 use Rattle.ber_writing.proofs.SetCounts.{as_sequence}
 use Rattle.ber_spelling.proofs.WriteLaws.{parts_past, writes_at, writes_past}
 use Rattle.ber_writing.proofs.length.+measuring.Goals as goal
@@ -21,6 +21,12 @@ pub row_len-list_len-requires : goal.row_len-list_len-requires
 row_len-list_len-requires t c =
     let down = down_as c.args.table.now c.args.of.0 c.args.row.now (SequenceOf c.in-SequenceOf.inner) c.requires.sound c.requires.row c.in-SequenceOf.is in
     let below : c.in-SequenceOf.inner.0 < c.args.of.0 = down.0 in
+    (omega arith, below)
+
+pub row_len-list_len-requires-in-SetOf : goal.row_len-list_len-requires-in-SetOf
+row_len-list_len-requires-in-SetOf t c =
+    let down = down_as c.args.table.now c.args.of.0 c.args.row.now (SetOf c.in-SetOf.inner) c.requires.sound c.requires.row c.in-SetOf.is in
+    let below : c.in-SetOf.inner.0 < c.args.of.0 = down.0 in
     (omega arith, below)
 
 pub row_len-sequence_len-requires : goal.row_len-sequence_len-requires

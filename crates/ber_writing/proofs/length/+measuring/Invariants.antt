@@ -1,6 +1,6 @@
 use Rattle.std.proofs.Common.{◌≡◌, ◌≤◌, ◌+◌, ◌*◌, drop, length}
 use Rattle.asn1_types.specs.ValueView.{parts_of, values_of}
-use Rattle.ber_spelling.specs.Writing.{saturated, parts_contents, values_contents, writes}
+use Rattle.asn1_types.specs.Writing.{saturated, parts_contents, values_contents, writes}
 use Rattle.ber_writing.proofs.length.+measuring.Given as goal
 
 abbrev pub decreases-value_len : goal.decreases-value_len

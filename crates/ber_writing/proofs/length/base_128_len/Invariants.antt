@@ -1,5 +1,5 @@
 use Rattle.std.proofs.Common.{◌≡◌, ◌+◌, [], length}
-use Rattle.ber_spelling.specs.Writing.{high_digits, base_128}
+use Rattle.asn1_types.specs.Writing.{high_digits, base_128}
 use Rattle.ber_writing.proofs.length.base_128_len.Given as goal
 
 abbrev pub decreases-loop-high : goal.decreases-loop-high

@@ -1,5 +1,5 @@
 use Rattle.std.proofs.Common.{◌≡◌, ◌+◌, [], length}
-use Rattle.ber_spelling.specs.Writing.{digits_256, base_256}
+use Rattle.asn1_types.specs.Writing.{digits_256, base_256}
 use Rattle.ber_writing.proofs.length.base_256_len.Given as goal
 
 abbrev pub decreases-loop-high : goal.decreases-loop-high

@@ -1,5 +1,5 @@
 use Rattle.std.proofs.Common.{◌≡◌, ◌+◌, [], length}
-use Rattle.ber_spelling.specs.Writing.{natural_octets}
+use Rattle.asn1_types.specs.Writing.{natural_octets}
 use Rattle.ber_writing.proofs.length.natural_len.Given as goal
 
 abbrev pub decreases-loop-high : goal.decreases-loop-high

@@ -3,12 +3,12 @@ use Rattle.std.specs.Prelude.{slice_get}
 use Rattle.std.specs.Option.{option_copied}
 use Rattle.std.proofs.lemmas.Grind.{common_steps}
 use Rattle.std.proofs.lemmas.Option.{slice_get_within}
-use Rattle.asn1_types.specs.declared.row.TypeRow.TheVariants.{Sequence, SequenceOf, Set, Choice, Tagged}
+use Rattle.asn1_types.specs.declared.row.TypeRow.TheVariants.{Sequence, SequenceOf, SetOf, Set, Choice, Tagged}
 use Rattle.asn1_types.proofs.Sound.{each_part, down_as}
 use Rattle.asn1_types.proofs.FitLaws.{not_within, false_not, each_slot}
 use Rattle.asn1_types.specs.ValueView.{parts_of}
-use Rattle.ber_spelling.specs.Order.{ranks}
-use Rattle.ber_spelling.specs.Writing.{Writer, of_rank, parts_contents, risen_parts, writes}
+use Rattle.asn1_types.specs.Writing.{Writer, of_rank, parts_contents, risen_parts, writes}
+use Rattle.asn1_types.specs.Tags.{ranks}
 use Rattle.ber_writing.proofs.Counts.{parts_room, values_room}
 use Rattle.ber_writing.proofs.SetCounts.{risen_room}
 use Rattle.ber_spelling.proofs.WriteLaws.{parts_past, risen_begin, risen_next, risen_end, writes_at, writes_past}
@@ -40,6 +40,12 @@ put_row-put_list-requires t c =
     let down = down_as c.args.table.now c.args.of.0 c.args.row.now (SequenceOf c.in-SequenceOf.inner) c.requires.sound c.requires.row c.in-SequenceOf.is in
     let below : c.in-SequenceOf.inner.0 < c.args.of.0 = down.0 in
     (omega arith, (below, (rw c.tag_or-tag-in-SequenceOf.ensures (rw c.in-SequenceOf.is at c.requires.room), c.requires.end)))
+
+pub put_row-put_list-requires-in-SetOf : goal.put_row-put_list-requires-in-SetOf
+put_row-put_list-requires-in-SetOf t c =
+    let down = down_as c.args.table.now c.args.of.0 c.args.row.now (SetOf c.in-SetOf.inner) c.requires.sound c.requires.row c.in-SetOf.is in
+    let below : c.in-SetOf.inner.0 < c.args.of.0 = down.0 in
+    (omega arith, (below, (rw c.tag_or-tag-in-SetOf.ensures (rw c.in-SetOf.is at c.requires.room), c.requires.end)))
 
 pub put_row-put_sequence-requires : goal.put_row-put_sequence-requires
 put_row-put_sequence-requires t c =

@@ -1,7 +1,7 @@
 use Rattle.std.proofs.Common.{◌≡◌, ◌≤◌, ◌+◌, ◌-◌, ◌*◌, ◌++◌, drop, length}
 use Rattle.asn1_types.specs.ValueView.{parts_of, values_of}
-use Rattle.ber_spelling.specs.Order.{ranks}
-use Rattle.ber_spelling.specs.Writing.{parts_contents, values_contents, of_rank, risen_parts, writes}
+use Rattle.asn1_types.specs.Writing.{parts_contents, values_contents, of_rank, risen_parts, writes}
+use Rattle.asn1_types.specs.Tags.{ranks}
 use Rattle.ber_writing.proofs.write.+writing.Given as goal
 
 abbrev pub decreases-put_value : goal.decreases-put_value

@@ -1,5 +1,5 @@
 use Rattle.std.proofs.Common.{◌≡◌, ℕ, sym, ap, ◌∙◌, arith, drop}
-use Rattle.ber_spelling.specs.Writing.{written}
+use Rattle.asn1_types.specs.Writing.{written}
 use Rattle.ber_writing.proofs.write.ber_write.Goals as goal
 
 pub put_value-requires-clause-room : goal.put_value-requires-clause-room

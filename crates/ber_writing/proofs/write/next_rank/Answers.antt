@@ -1,6 +1,6 @@
 use Rattle.std.proofs.Common.{◌<◌, ◌-◌, arith, length}
 use Rattle.asn1_types.proofs.Sound.{each_part}
-use Rattle.ber_spelling.specs.Writing.{of_rank, writes}
+use Rattle.asn1_types.specs.Writing.{of_rank, writes}
 use Rattle.ber_spelling.proofs.WriteLaws.{parts_past, parts_still}
 use Rattle.ber_writing.proofs.write.next_rank.Goals as goal
 

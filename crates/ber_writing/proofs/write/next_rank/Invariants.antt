@@ -1,6 +1,6 @@
 use Rattle.std.proofs.Common.{◌≡◌, ℕ, ◌≤◌, ◌<◌, [], drop, length}
 use Rattle.asn1_types.specs.ValueView.{parts_of}
-use Rattle.ber_spelling.specs.Writing.{parts_contents, of_rank, writes}
+use Rattle.asn1_types.specs.Writing.{parts_contents, of_rank, writes}
 use Rattle.ber_writing.proofs.write.next_rank.Given as goal
 
 abbrev pub decreases-loop-index : goal.decreases-loop-index

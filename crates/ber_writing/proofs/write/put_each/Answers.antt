@@ -1,5 +1,5 @@
 use Rattle.std.proofs.Common.{◌-◌, arith}
-use Rattle.ber_spelling.specs.Writing.{base_128}
+use Rattle.asn1_types.specs.Writing.{base_128}
 use Rattle.ber_writing.proofs.Counts.{each_room}
 use Rattle.ber_writing.proofs.write.put_each.Goals as goal
 

@@ -1,5 +1,5 @@
 use Rattle.std.proofs.Common.{arith, drop, []}
-use Rattle.ber_spelling.specs.Writing.{natural_octets}
+use Rattle.asn1_types.specs.Writing.{natural_octets}
 use Rattle.ber_writing.proofs.Counts.{nat_more, nat_one, turned_length}
 use Rattle.ber_writing.proofs.WrittenLoops.{turned_put, turned_end}
 use Rattle.ber_writing.proofs.write.put_negative.Goals as goal

@@ -1,7 +1,7 @@
 use Rattle.std.proofs.Common.{◌≡◌, ◌<◌, length, sym, ap, ◌∙◌, arith, Some}
 use Rattle.std.specs.Prelude.{slice_get}
 use Rattle.std.specs.Option.{option_copied}
-use Rattle.asn1_types.specs.declared.row.TypeRow.TheVariants.{Sequence, Set, SequenceOf, Choice, Tagged}
+use Rattle.asn1_types.specs.declared.row.TypeRow.TheVariants.{Sequence, Set, SequenceOf, SetOf, Choice, Tagged}
 use Rattle.asn1_types.proofs.Sound.{each_part, down_as}
 use Rattle.asn1_types.proofs.FitLaws.{each_slot, not_within, false_not}
 use Rattle.packed_codec.specs.Writing.{packed}
@@ -31,6 +31,12 @@ pub of_row-of_list-requires : goal.of_row-of_list-requires
 of_row-of_list-requires t c =
     let down = down_as c.args.table.now c.args.of.0 c.args.row.now (SequenceOf c.in-SequenceOf.inner) c.requires.sound c.requires.row c.in-SequenceOf.is in
     let below : c.in-SequenceOf.inner.0 < c.args.of.0 = down.0 in
+    (omega arith, below)
+
+pub of_row-of_list-requires-in-SetOf : goal.of_row-of_list-requires-in-SetOf
+of_row-of_list-requires-in-SetOf t c =
+    let down = down_as c.args.table.now c.args.of.0 c.args.row.now (SetOf c.in-SetOf.inner) c.requires.sound c.requires.row c.in-SetOf.is in
+    let below : c.in-SetOf.inner.0 < c.args.of.0 = down.0 in
     (omega arith, below)
 
 pub of_row-of_choice-requires : goal.of_row-of_choice-requires

@@ -3,13 +3,14 @@ use Rattle.std.specs.Prelude.{slice_get}
 use Rattle.std.specs.Option.{option_copied}
 use Rattle.std.proofs.lemmas.Option.{slice_get_within}
 use Rattle.std.proofs.lemmas.Result.{err_from_is_err_and}
-use Rattle.asn1_types.specs.declared.row.TypeRow.TheVariants.{Sequence, Set, SequenceOf, Choice, Tagged}
+use Rattle.asn1_types.specs.declared.row.TypeRow.TheVariants.{Sequence, Set, SequenceOf, SetOf, Choice, Tagged}
 use Rattle.asn1_types.proofs.Sound.{each_part, down_as}
 use Rattle.asn1_types.proofs.FitLaws.{each_slot}
 use Rattle.packed_codec.specs.Reading.{spot_of}
-use Rattle.packed_codec.specs.Rules.{reads}
+use Rattle.packed_codec.specs.Rules.{set_item_at, reads}
+use Rattle.asn1_types.specs.Writing.{written}
 use Rattle.packed_codec.proofs.Rows.{reads_at}
-use Rattle.packed_codec.proofs.Loops.{items_go_on, items_fail, goes_then}
+use Rattle.packed_codec.proofs.Loops.{items_go_on, items_fail, set_items_go_on, set_items_fail, goes_then}
 use Rattle.packed_codec.proofs.read.+reading.Goals as goal
 
 pub value-returns-clause-gives : goal.value-returns-clause-gives
@@ -63,9 +64,27 @@ value_as-list-requires t c =
     let below : c.in-SequenceOf.inner.0 < c.args.of.0 = down.0 in
     (omega arith, (below, (omega arith, c.requires.whole)))
 
+pub value_as-set_of-requires : goal.value_as-set_of-requires
+value_as-set_of-requires t c =
+    let lt = slice_get_within c.args.table.now c.args.of.0 c.args.row.now c.requires.row in
+    let down = down_as c.args.table.now c.args.of.0 c.args.row.now (SetOf c.in-SetOf.inner) c.requires.sound c.requires.row c.in-SetOf.is in
+    let below : c.in-SetOf.inner.0 < c.args.of.0 = down.0 in
+    (omega arith, (below, (omega arith, c.requires.whole)))
+
 pub value_as-tagged-requires : goal.value_as-tagged-requires
 value_as-tagged-requires t c =
     let lt = slice_get_within c.args.table.now c.args.of.0 c.args.row.now c.requires.row in
     let down = down_as c.args.table.now c.args.of.0 c.args.row.now (Tagged c.in-Tagged.class c.in-Tagged.number c.in-Tagged.explicit c.in-Tagged.inner) c.requires.sound c.requires.row c.in-Tagged.is in
     let below : c.in-Tagged.inner.0 < c.args.of.0 = down.0 in
     (omega arith, (below, (omega arith, c.requires.whole)))
+
+pub set_items-returns-in_err-value-clause-gives : goal.set_items-returns-in_err-value-clause-gives
+set_items-returns-in_err-value-clause-gives t c =
+    let p = err_from_is_err_and c.from_residual.result c.from_residual.ensures.1 in
+    rw (p.1, p.2) (set_items_fail _ (set_item_at (written c.args.table.now c.args.inner.0) (reads c.args.table.now c.args.inner.0)) c.args.limit c.args.number c.loop-index._index c.loop-index.found.items (spot_of c.loop-index.spot) _ c.loop-index-test.true (rw c.deref.ensures.value at c.in_err-value.ensures.gives) c.loop-index.invariant.so_far)
+
+pub set_items-loop-index-preserved : goal.set_items-loop-index-preserved
+set_items-loop-index-preserved t c = record {
+  onward = goes_then c.loop-index.invariant.onward c.in_ok-value.ensures.stops;
+  so_far = rw c.in_ok-push.ensures.items (set_items_go_on (set_item_at (written c.args.table.now c.args.inner.0) (reads c.args.table.now c.args.inner.0)) c.args.limit c.args.number c.loop-index._index c.loop-index.found.items (spot_of c.loop-index.spot) c.in_ok-value.value (spot_of c.in_ok-value.next) _ c.loop-index-test.true (rw c.deref.ensures.value at c.in_ok-value.ensures.gives) c.loop-index.invariant.so_far);
+}

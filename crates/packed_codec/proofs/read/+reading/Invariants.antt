@@ -1,6 +1,7 @@
-use Rattle.std.proofs.Common.{◌≡◌, ◌+◌, ◌-◌, ◌*◌, drop, length}
+use Rattle.std.proofs.Common.{◌≡◌, ◌+◌, ◌-◌, ◌*◌, [], drop, length}
 use Rattle.packed_codec.specs.Reading.{spot_of, GoesOn}
-use Rattle.packed_codec.specs.Rules.{parts_at, items_at, reads}
+use Rattle.packed_codec.specs.Rules.{parts_at, items_at, set_item_at, set_items_at, reads}
+use Rattle.asn1_types.specs.Writing.{written}
 use Rattle.packed_codec.proofs.Loops.{behind}
 use Rattle.packed_codec.proofs.read.+reading.Given as goal
 
@@ -41,4 +42,19 @@ abbrev pub invariant-items_of-loop-index : goal.invariant-items_of-loop-index
 invariant-items_of-loop-index l = record {
   onward : GoesOn l.fn.spot.place (length l.fn.spot.rest.now) l.spot;
   so_far : behind l.found.items (items_at (reads l.table l.inner.0) (l.number - l._index) l.limit (spot_of l.spot)) ≡ items_at (reads l.table l.inner.0) l.number l.limit (spot_of l.fn.spot);
+}
+
+abbrev pub decreases-set_of : goal.decreases-set_of
+decreases-set_of l = 6 * l.of.0 + 3
+
+abbrev pub decreases-set_items : goal.decreases-set_items
+decreases-set_items l = 6 * l.of.0 + 2
+
+abbrev pub decreases-set_item : goal.decreases-set_item
+decreases-set_item l = 6 * l.of.0 + 1
+
+abbrev pub invariant-set_items-loop-index : goal.invariant-set_items-loop-index
+invariant-set_items-loop-index l = record {
+  onward : GoesOn l.fn.spot.place (length l.fn.spot.rest.now) l.spot;
+  so_far : behind l.found.items (set_items_at (set_item_at (written l.table l.inner.0) (reads l.table l.inner.0)) l.found.items (l.number - l._index) l.limit (spot_of l.spot)) ≡ set_items_at (set_item_at (written l.table l.inner.0) (reads l.table l.inner.0)) [] l.number l.limit (spot_of l.fn.spot);
 }

@@ -1,7 +1,7 @@
 use Rattle.std.proofs.Common.{◌≡◌, ◌<◌, ◌++◌, [], length, refl, sym, ap, ◌∙◌, arith, Some, append_assoc, codes}
 use Rattle.std.specs.Prelude.{slice_get}
 use Rattle.std.specs.Option.{option_copied}
-use Rattle.asn1_types.specs.declared.row.TypeRow.TheVariants.{Sequence, Set, SequenceOf, Choice, Tagged}
+use Rattle.asn1_types.specs.declared.row.TypeRow.TheVariants.{Sequence, Set, SequenceOf, SetOf, Choice, Tagged}
 use Rattle.asn1_types.specs.ValueView.{parts_of, values_of, value_of}
 use Rattle.asn1_types.proofs.Sound.{each_part, down_as}
 use Rattle.asn1_types.proofs.FitLaws.{each_slot, not_within, false_not}
@@ -28,6 +28,11 @@ put_row-put_sequence-requires-in-Set t c =
 pub put_row-put_list-requires : goal.put_row-put_list-requires
 put_row-put_list-requires t c =
     let down = down_as c.args.table.now c.args.of.0 c.args.row.now (SequenceOf c.in-SequenceOf.inner) c.requires.sound c.requires.row c.in-SequenceOf.is in
+    (omega arith, down.0)
+
+pub put_row-put_list-requires-in-SetOf : goal.put_row-put_list-requires-in-SetOf
+put_row-put_list-requires-in-SetOf t c =
+    let down = down_as c.args.table.now c.args.of.0 c.args.row.now (SetOf c.in-SetOf.inner) c.requires.sound c.requires.row c.in-SetOf.is in
     (omega arith, down.0)
 
 pub put_row-put_choice-requires : goal.put_row-put_choice-requires

@@ -11,7 +11,7 @@ pub returns-clause-list : goal.returns-clause-list
 returns-clause-list c =
     c.from_vec.ensures ∙ c.in_ok-set.ensures
     ∙ ap (λ (x : ContextSet). set_back c.self.inside.nodes c.saturating_sub-dropped.result c.self.inside.head x) c.in_ok-newest.ensures
-    ∙ set-below c.self.inside.nodes c.self.inside.head c.self.inside.newest c.self.inside.active c.args.count c.saturating_sub-dropped.result c.self.invariant
+    ∙ set-below c.self.inside.nodes c.self.inside.head c.self.inside.newest c.self.inside.active c.args.count c.saturating_sub-dropped.result c.self.invariant.sound
     (c.saturating_sub-dropped.ensures ∙ ap (λ n. n - c.args.count) c.len.ensures) c.requires
     ∙ ap (λ (x : SavedSets). set_of (below c.args.count x.nodes)) c.self.view_is
 

@@ -10,4 +10,7 @@ invariant_of-self c =
     let cut = ap (λ (x : SavedSets). length x.nodes) c.in_ok-list-2.ensures.ok in
     let count = c.nodes.ensures.count in
     let len = length-below (c.args.n + 1) c.args.self.now.nodes (omega arith) in
-    sound_active c.self.inside.nodes c.self.inside.head c.self.inside.newest c.self.inside.active c.self.invariant (omega arith)
+    record {
+      sound = sound_active c.self.inside.nodes c.self.inside.head c.self.inside.newest c.self.inside.active c.self.invariant.sound (omega arith);
+      inter_rises = c.in_ok-inter.ensures.rises;
+    }

@@ -1,0 +1,11 @@
+-- What an initiator proposes whose configuration isn't refused.
+use Rattle.std.specs.Prelude.{◌≡◌, [], ◌++◌, true, false, None}
+use Rattle.dialogue.specs.declared.config.Config.{Config}
+use Rattle.end_rules.specs.Policy.{is_faulty_proposal}
+use Rattle.end_rules.specs.Writing.{own_proposals}
+use Rattle.end_config.specs.Refusing.{config_refusal}
+
+-- Its own contexts and those of the configuration come once each and have an initiator's parity (X.226 8.4.2).
+abbrev pub ProposesRightly : Type 0
+ProposesRightly =
+    (config : Config) → config_refusal config ≡ None → is_faulty_proposal true [] (own_proposals config.mode ++ config.contexts) ≡ false

@@ -1,0 +1,13 @@
+//! What stands first in octets that come bit by bit: one whole value of any type (X.690 8.1). A
+//! scanner looks at each octet once and keeps where it stands, so that what was seen isn't read
+//! again, however the octets are cut.
+#![tactic(auto)]
+
+mod front;
+mod laws;
+mod scanner;
+mod steps;
+
+pub use front::Front;
+pub use laws::seen_stays_seen;
+pub use scanner::{Scanner, Stage};

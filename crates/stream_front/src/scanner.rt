@@ -1,0 +1,115 @@
+//! A scanner of octets that come bit by bit.
+
+ghost use Rattle.std.specs.Prelude.{◌≡◌, ◌<◌, ◌^◌, ℕ, Bool, List, length};
+ghost use Rattle.stream_front.specs.Fronts.{front_at};
+ghost use Rattle.stream_front.specs.Resuming.{HasSeen, is_done, told};
+
+use crate::front::Front;
+use crate::steps::step;
+
+/// What stands next in the value that is scanned.
+#[derive(Clone, Copy, Debug)]
+pub enum Stage {
+    /// A value or an end-of-contents.
+    Next,
+    /// Behind one zero octet, which may begin an end-of-contents (X.690 8.1.5).
+    Zero,
+    /// The first digit of a high tag number (X.690 8.1.2.4).
+    High {
+        constructed: bool,
+    },
+    /// A further digit; `padded` where the first one was a leading zero.
+    Digits {
+        constructed: bool,
+        padded: bool,
+        number: u64,
+    },
+    /// A length (X.690 8.1.3).
+    Length {
+        constructed: bool,
+    },
+    /// So many of the octets of a length in the long form (X.690 8.1.3.5).
+    Size {
+        size: u8,
+        left: u8,
+        number: u64,
+    },
+    /// So many octets of contents.
+    Contents {
+        left: u64,
+    },
+    /// Anything: one whole value was seen.
+    Whole,
+    /// Anything: the field at this place breaks the rules.
+    Faulty {
+        place: usize,
+    },
+}
+
+/// Where the scanning of octets stands that come bit by bit.
+#[derive(Clone, Copy, Debug)]
+pub struct Scanner {
+    /// How many octets were seen.
+    pub(crate) seen: usize,
+    /// Where the field begins that is scanned.
+    pub(crate) field: usize,
+    /// How many indefinite lengths are open.
+    pub(crate) depth: u32,
+    /// What stands next.
+    pub(crate) stage: Stage,
+}
+
+impl Scanner {
+    /// A scanner that has seen no octet.
+    pub fn new() -> Scanner
+        ensures { (octets : List ℕ) → HasSeen result octets }
+    {
+        Scanner {
+            seen: 0,
+            field: 0,
+            depth: 0,
+            stage: Stage::Next,
+        }
+    }
+
+    /// How many octets were seen.
+    pub fn seen(&self) -> usize
+        ensures { result ≡ self.now.seen }
+    {
+        self.seen
+    }
+
+    /// What these octets begin with, the first of which were seen before. It looks at those behind
+    /// them alone, up to the end of the first value or of the octets.
+    pub fn front(&mut self, octets: &[u8]) -> Front
+        requires seen { HasSeen self.old octets.now }
+        ensures front { (strict : Bool) → result ≡ front_at strict octets.now }
+        ensures seen { HasSeen self.new octets.now }
+    {
+        while let Some(octet) = octets.get(self.seen) {
+            if self.is_done() {
+                return self.told();
+            }
+            *self = step(*self, *octet);
+        }
+        self.told()
+    }
+
+    /// Whether the octets that were seen say what stands first.
+    fn is_done(&self) -> bool
+        ensures { result ≡ is_done self.now.stage }
+    {
+        matches!(self.stage, Stage::Whole | Stage::Faulty { .. })
+    }
+
+    /// What the octets that were seen begin with.
+    fn told(&self) -> Front
+        ensures { result ≡ told self.now.stage self.now.seen }
+    {
+        match self.stage {
+            Stage::Whole => Front::Whole(self.seen),
+            Stage::Faulty { place } => Front::Faulty(place),
+            _ => Front::Short,
+        }
+    }
+}
