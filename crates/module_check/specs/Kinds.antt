@@ -27,7 +27,6 @@ table_word tables.NotError = codes "NotError"
 table_word tables.BadRange = codes "BadRange"
 table_word tables.Contradiction = codes "Contradiction"
 table_word tables.BadDefault = codes "BadDefault"
-table_word tables.Unsupported = codes "Unsupported"
 
 abbrev pub kind_word : Kind → List ℕ
 kind_word fields.Tag = codes "Tag"

@@ -37,7 +37,6 @@ pub(crate) fn table_word(kind: TableKind) -> &'static str
         TableKind::BadRange => "BadRange",
         TableKind::Contradiction => "Contradiction",
         TableKind::BadDefault => "BadDefault",
-        TableKind::Unsupported => "Unsupported",
     }
 }
 

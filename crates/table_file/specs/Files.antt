@@ -76,6 +76,7 @@ row_file (rows.Set parts) = 9 ∷ [] ++ list_file part_file parts
 row_file (rows.SequenceOf inner) = 10 ∷ [] ++ number_file inner.0
 row_file (rows.Choice parts) = 11 ∷ [] ++ list_file part_file parts
 row_file (rows.Tagged class number explicit inner) = 12 ∷ [] ++ number_file (class_number class) ++ number_file number ++ truth_file explicit ++ number_file inner.0
+row_file (rows.SetOf inner) = 13 ∷ [] ++ number_file inner.0
 row_file rows.Any = []
 
 -- ---- errors and operations

@@ -11,6 +11,7 @@ use Rattle.asn1_types.specs.declared.row.TypeRow.TheVariants as rows
 use Rattle.asn1_types.specs.declared.refusal.RowRefusal.{RowRefusal}
 use Rattle.asn1_types.specs.Table.{refusal}
 use Rattle.table_file.specs.declared.row_parts.Version.{Version}
+use Rattle.table_file.specs.declared.row_parts.Version.TheVariants as versions
 use Rattle.table_file.specs.declared.rows.Made.{Made}
 use Rattle.table_file.specs.declared.rows.Made.TheVariants as makes
 use Rattle.table_file.specs.Reading.{Spot, Reading, ◌>>=◌, refuse}
@@ -75,6 +76,13 @@ sequence_of_at s = do
   i ← row_number_at s
   Ok (option_map rows.SequenceOf i.0, i.1)
 
+-- a SET OF, which only version 2 has
+unfoldable pub set_of_at : Version → ℕ → RowReader
+set_of_at versions.One place s = refuse place
+set_of_at versions.Two place s = do
+  i ← row_number_at s
+  Ok (option_map rows.SetOf i.0, i.1)
+
 -- a type of parts, made by this
 unfoldable pub of_parts_at : Version → (List Part → TypeRow) → RowReader
 of_parts_at version made s = do
@@ -101,7 +109,8 @@ row_behind version place (suc (suc (suc (suc (suc (suc (suc (suc (suc zero))))))
 row_behind version place (suc (suc (suc (suc (suc (suc (suc (suc (suc (suc zero)))))))))) s = sequence_of_at s
 row_behind version place (suc (suc (suc (suc (suc (suc (suc (suc (suc (suc (suc zero))))))))))) s = of_parts_at version (made_row makes.Choice) s
 row_behind version place (suc (suc (suc (suc (suc (suc (suc (suc (suc (suc (suc (suc zero)))))))))))) s = tagged_at s
-row_behind version place (suc (suc (suc (suc (suc (suc (suc (suc (suc (suc (suc (suc (suc n))))))))))))) s = refuse place
+row_behind version place (suc (suc (suc (suc (suc (suc (suc (suc (suc (suc (suc (suc (suc zero))))))))))))) s = set_of_at version place s
+row_behind version place (suc (suc (suc (suc (suc (suc (suc (suc (suc (suc (suc (suc (suc (suc n)))))))))))))) s = refuse place
 
 unfoldable pub row_at : Version → RowReader
 row_at version s = do

@@ -197,6 +197,30 @@ fn list<'a>(
     }
 }
 
+/// A SET OF, which only version 2 has.
+#[tactic(auto, unfolding(crate::specs::Rows::set_of_at))]
+fn set_of<'a>(
+    alloc: Global,
+    fields: &TypeTable,
+    version: Version,
+    place: usize,
+    spot: Spot<'a>,
+) -> Result<(Option<TypeRow>, Spot<'a>), Stop>
+    requires { fields.now ≡ field_types }
+    ensures { Gives (λ x. (x.0, spot_of x.1)) result (found.set_of_at version place (spot_of spot.entry)) }
+{
+    match version {
+        Version::One => Err(Stop::Bad(place)),
+        Version::Two => {
+            let (found, after) = row_number(alloc, fields, spot)?;
+            match found {
+                Some(inner) => Ok((Some(TypeRow::SetOf(inner)), after)),
+                None => Ok((None, after)),
+            }
+        }
+    }
+}
+
 /// A row, if its names and numbers have their forms.
 #[tactic(auto, unfolding(crate::specs::Rows::row_at))]
 fn row<'a>(
@@ -223,6 +247,7 @@ fn row<'a>(
         10 => list(alloc, fields, behind),
         11 => of_parts(alloc, fields, version, Made::Choice, behind),
         12 => tagged(alloc, fields, behind),
+        13 => set_of(alloc, fields, version, spot.place, behind),
         _ => Err(Stop::Bad(spot.place)),
     }
 }

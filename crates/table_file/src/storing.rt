@@ -150,6 +150,10 @@ fn put_row(fields: &TypeTable, row: &TypeRow, out: &mut Octets) -> Result<(), No
             put_truth(out, *explicit)?;
             put_number(fields, inner.0, out)
         }
+        TypeRow::SetOf(inner) => {
+            out.push(13)?;
+            put_number(fields, inner.0, out)
+        }
         TypeRow::Any => Ok(()),
     }
 }
