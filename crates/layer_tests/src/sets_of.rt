@@ -119,6 +119,7 @@ fn any_order_is_read_and_rising_order_written(rt: HostRuntime) -> Result<(), Fai
     let alloc = rt.alloc();
     let table = table(alloc)?;
     for (of, octets, form, written) in ROWS {
+        assert!(rt; (of as usize) < table.len());
         let read = ber_read(alloc, &table, TypeId(of), octets)?;
         assert_eq!(rt; read.used, octets.len());
         assert!(rt; fits(&table, TypeId(of), &read.value));
@@ -164,6 +165,7 @@ fn the_packed_syntax_has_them_rising(rt: HostRuntime) -> Result<(), Fail> {
     let alloc = rt.alloc();
     let table = table(alloc)?;
     let value = numbers(alloc, &[1, 3])?;
+    assert_eq!(rt; table.len(), 7);
     let mut room = [0xAA; 9];
     assert_eq!(rt; packed_len(&table, TypeId(NUMBERS), &value), 8);
     assert_eq!(rt; packed_write(&table, TypeId(NUMBERS), &value, &mut room), 8);
@@ -186,6 +188,7 @@ fn the_packed_syntax_has_them_rising(rt: HostRuntime) -> Result<(), Fail> {
 fn long_items_are_compared_to_their_ends(rt: HostRuntime) -> Result<(), Fail> {
     let alloc = rt.alloc();
     let table = table(alloc)?;
+    assert_eq!(rt; table.len(), 7);
     let mut items = Vec::new(alloc);
     for last in [7, 9] {
         let mut octets = vec![in alloc; 5; 300]?;
@@ -200,11 +203,12 @@ fn long_items_are_compared_to_their_ends(rt: HostRuntime) -> Result<(), Fail> {
     assert!(rt; fits(&table, TypeId(TEXTS), &value));
     let mut written = ber_octets(alloc, &table, TypeId(TEXTS), &value)?.into_vec();
     let end = written.len();
+    assert!(rt; end > 0);
     assert_eq!(rt; written[end - 1], 9);
     written[end - 1] = 6;
     let read = ber_read(alloc, &table, TypeId(TEXTS), &written)?;
     let back = ber_octets(alloc, &table, TypeId(TEXTS), &read.value)?;
-    assert_eq!(rt; back.as_slice()[end - 1], 7);
+    assert_eq!(rt; back.as_slice().get(end - 1).copied(), Some(7));
     assert!(rt; fits(&table, TypeId(TEXTS), &read.value));
     Ok(())
 }
