@@ -2,10 +2,10 @@
 
 use apdu_codec::{ApduHead, ApduKind, HeadFault, read_apdu, write_apdu};
 use asn1_types::TypeTable;
-use osi_base::{ListOf, Name, NoMemory, Octets, Oid, Problem, ProblemKind, Syntax};
+use osi_base::{Name, NoMemory, Octets, Oid, Problem, ProblemKind, Syntax};
 use std::alloc::Global;
 use std::test::*;
-use stub_tables::{Apdu, Code, Tables};
+use stub_tables::{Apdu, Code, ErrorRows, Operations, Tables};
 
 /// Whether this is the head of an invocation of the operation 1 with these octets.
 fn invokes(head: &ApduHead, octets: &[u8]) -> bool {
@@ -76,8 +76,8 @@ fn no_tables(alloc: Global) -> Result<Tables, NoMemory> {
         name: Name::from_str(alloc, "None")?,
         name_oid: Oid::from_slice(alloc, &[2, 999, 7, 3])?,
         types: TypeTable::new(alloc),
-        operations: ListOf::new(alloc),
-        errors: ListOf::new(alloc),
+        operations: Operations::new(alloc),
+        errors: ErrorRows::new(alloc),
     })
 }
 

@@ -1,5 +1,5 @@
 -- A call that was checked got the answer that can be given.
-use Rattle.std.proofs.Common.{◌≡◌, ℕ, suc, ℤ, Bool, true, false, not, ◌&&◌, if◌then◌else◌, List, [], ◌∷◌, map, Option, Some, None, Result, Ok, Err, nat_le, length, refl, sym, ap, subst, ◌∙◌}
+use Rattle.std.proofs.Common.{◌≡◌, ℕ, suc, ℤ, Bool, true, false, not, ◌&&◌, if◌then◌else◌, List, ◌∷◌, map, Option, Some, None, Result, Ok, Err, nat_le, length, refl, sym, ap, subst, ◌∙◌}
 use Rattle.std.specs.Prelude.{MatchBool, IfOk}
 use Rattle.osi_base.specs.declared.fault.NoMemory.{NoMemory}
 use Rattle.asn1_types.specs.declared.value.Val.{Val}
@@ -15,7 +15,6 @@ use Rattle.dialogue.specs.declared.call.Call.{Call}
 use Rattle.dialogue.specs.declared.call.Call.TheVariants as the_calls
 use Rattle.dialogue.specs.declared.call.CallRefusal.{CallRefusal}
 use Rattle.dialogue.specs.declared.call.CallRefusal.TheVariants as refusals
-use Rattle.end_rules.specs.Base.{Base}
 use Rattle.end_rules.specs.State.{Body, OpenCall, opened_with, opens_of, close}
 use Rattle.end_rules.specs.Invoking.{Reply, is_too_long, can_send_outcome, next_id, is_on_module, linking_refusal, unless_refused, operation_of, invoke_apdu, result_apdu, error_apdu, can_send_invoke, can_invoke, can_invoke_operation, can_answer, can_answer_open, can_refuse, can_refuse_open}
 use Rattle.dialogue.specs.declared.config.Phase.TheVariants.{Dead}
@@ -23,7 +22,6 @@ use Rattle.end_rules.specs.Calling.{can_call, can_by_rows, is_dead, is_initiator
 use Rattle.end_rules.specs.Hearing.{opening}
 use Rattle.end_rules.specs.Requesting.{due_of, after_refused}
 use Rattle.end_rules.specs.History.{called, sent}
-use Rattle.end_wire.specs.Line.{End}
 use Rattle.bare_end.specs.declared.sending.Checked as checkeds
 use Rattle.bare_end.specs.declared.sending.Checked.TheVariants as checked
 use Rattle.bare_end.specs.Checking.{IsChecked, IsNumbered, HasRoom, can_refuse_with}

@@ -1,6 +1,6 @@
 -- What stood first was taken, or ended the reading.
-use Rattle.std.proofs.Common.{◌≡◌, ℕ, ◌<◌, ◌≤◌, Bool, true, false, cond, if◌then◌else◌, List, [], ◌∷◌, ◌++◌, length, map, take, drop, Result, Ok, Err, refl, sym, ap, subst, ◌∙◌, arith, append_assoc}
-use Rattle.std.proofs.lemmas.List.{append-nil, length-drop}
+use Rattle.std.proofs.Common.{◌≡◌, ℕ, ◌≤◌, Bool, true, false, if◌then◌else◌, List, [], ◌∷◌, ◌++◌, length, map, Result, Ok, Err, refl, sym, ap, subst, ◌∙◌, arith, append_assoc}
+use Rattle.std.proofs.lemmas.List.{append-nil}
 use Rattle.std.specs.Prelude.{OnErr}
 use Rattle.osi_base.specs.declared.fault.NoMemory.{NoMemory}
 use Rattle.osi_base.specs.declared.words.Layer.TheVariants.{Rose}
@@ -11,15 +11,15 @@ use Rattle.end_rules.specs.Base.{Base}
 use Rattle.end_rules.specs.State.{Calls, OpenCall, post_order, passes_over}
 use Rattle.end_rules.specs.Faults.{cut_of, fault_at, shown_at_fault}
 use Rattle.end_rules.specs.History.{Step, fed, fault, feed_end}
-use Rattle.end_wire.specs.Bare.{Short, Faulty, first_at, bare_message}
+use Rattle.end_wire.specs.Bare.{Faulty, first_at, bare_message}
 use Rattle.end_rules.specs.State.{bare_set}
 use Rattle.end_wire.specs.Line.{End, after, after_all}
 use Rattle.end_wire.specs.Feeding.{Reads, passes, waits, takes, fails, taking}
 use Rattle.bare_end.specs.View.{EndView, base, body, seen, Stepped, Keeps, with_calls}
-use Rattle.bare_end.specs.declared.feeding.Front as fronts
-use Rattle.bare_end.specs.declared.feeding.Front.TheVariants as found
+use Rattle.stream_front.specs.declared.front.Front as fronts
+use Rattle.stream_front.specs.declared.front.Front.TheVariants as found
 use Rattle.bare_end.specs.First.{IsShortFirst, IsWholeFirst, IsFirst}
-use Rattle.bare_end.specs.Feed.{TookOne, ReadAll, Fed, KeepsDue, DiedFed}
+use Rattle.bare_end.specs.Feed.{TookOne, ReadAll, Fed, Begins, nothing_taken, one_taken, KeepsDue, DiedFed}
 use Rattle.bare_end.proofs.Histories.{same_base, stands_on, stepped_on}
 
 pub nothing_made : (e : EndView) → Stepped e e (feed_end ∷ [])
@@ -72,6 +72,7 @@ pub record ReadsOn (old now : EndView) (before shown : List Indication) : Type 0
   pub due : List ℕ
   pub waiting : now.waiting ≡ old.waiting ++ due
   pub goes_on : (more : List Step) (later : List Indication) → Reads (base now) (seen now) more later → Reads (base old) (seen old) (steps ++ more) (told ++ later)
+  pub begins_on : (more : List Step) (later : List Indication) → Begins (base now) (seen now) more later → Begins (base old) (seen old) (steps ++ more) (told ++ later)
 
 pub reads_on_start : (e : EndView) (before : List Indication) → passes_over e.phase ≡ false → ReadsOn e e before before
 reads_on_start e before up = record {
@@ -83,7 +84,17 @@ reads_on_start e before up = record {
   due = [];
   waiting = sym (append-nil e.waiting);
   goes_on = λ more later r. r;
+  begins_on = λ more later r. r;
 }
+
+-- what is so of the next end is so of the one before with its steps
+moved_back : (now next : EndView) (steps : List Step) → Stepped now next steps → (P : Base → End → Type 0) → P (base next) (seen next) → P (base now) (after_all (base now) (seen now) steps)
+moved_back now next steps s P p = subst (P (base now)) s.end (subst (λ (b : Base). P b (seen next)) (same_base now next steps s) p)
+
+-- what is so of steps in two pieces is so of all
+joined : (P : List Step → List Indication → Type 0) (xs ys zs : List Step) (ts us vs : List Indication) → P (xs ++ (ys ++ zs)) (ts ++ (us ++ vs)) → P ((xs ++ ys) ++ zs) ((ts ++ us) ++ vs)
+joined P xs ys zs ts us vs p =
+    subst (λ (l : List Step). P l ((ts ++ us) ++ vs)) (sym (append_assoc xs ys zs)) (subst (P (xs ++ (ys ++ zs))) (sym (append_assoc ts us vs)) p)
 
 pub reads_on_more : (old now next : EndView) (before shown later_shown : List Indication) → ReadsOn old now before shown → TookOne now next shown later_shown → ReadsOn old next before later_shown
 reads_on_more old now next before shown later_shown h one =
@@ -97,12 +108,15 @@ reads_on_more old now next before shown later_shown h one =
       due = h.due ++ one.due;
       waiting = one.waiting ∙ ap (λ (s : List ℕ). s ++ one.due) h.waiting ∙ append_assoc old.waiting h.due one.due;
       goes_on = λ more later r.
-          let moved : Reads (base now) (seen next) more later = subst (λ (b : Base). Reads b (seen next) more later) (same_base now next steps one.steps) r in
-          let here : Reads (base now) (after_all (base now) (seen now) steps) more later = subst (λ (e : End). Reads (base now) e more later) one.steps.end moved in
-          let taken : Reads (base now) (seen now) (steps ++ more) (one.told ++ later) = takes one.used one.content one.left one.answers one.told h.up one.first one.is one.reacts here in
-          subst (λ (xs : List Step). Reads (base old) (seen old) xs ((h.told ++ one.told) ++ later)) (sym (append_assoc h.steps steps more))
-          (subst (λ (ts : List Indication). Reads (base old) (seen old) (h.steps ++ (steps ++ more)) ts) (sym (append_assoc h.told one.told later))
-          (h.goes_on (steps ++ more) (one.told ++ later) taken));
+          let next_steps : List Step = taking (bare_message (bare_set now.tables) one.content) one.answers in
+          let here : Reads (base now) (after_all (base now) (seen now) next_steps) more later = moved_back now next next_steps one.steps (λ (b : Base) (e : End). Reads b e more later) r in
+          let taken : Reads (base now) (seen now) (next_steps ++ more) (one.told ++ later) = takes one.used one.content one.left one.answers one.told h.up one.first one.is one.reacts here in
+          joined (λ (xs : List Step) (ts : List Indication). Reads (base old) (seen old) xs ts) h.steps next_steps more h.told one.told later (h.goes_on (next_steps ++ more) (one.told ++ later) taken);
+      begins_on = λ more later r.
+          let next_steps : List Step = taking (bare_message (bare_set now.tables) one.content) one.answers in
+          let here : Begins (base now) (after_all (base now) (seen now) next_steps) more later = moved_back now next next_steps one.steps (λ (b : Base) (e : End). Begins b e more later) r in
+          let taken : Begins (base now) (seen now) (next_steps ++ more) (one.told ++ later) = one_taken one.used one.content one.left one.answers one.told h.up one.first one.is one.reacts here in
+          joined (λ (xs : List Step) (ts : List Indication). Begins (base old) (seen old) xs ts) h.steps next_steps more h.told one.told later (h.begins_on (next_steps ++ more) (one.told ++ later) taken);
     }
 
 pub reads_on_end : (old now next : EndView) (before shown later_shown : List Indication) → ReadsOn old now before shown → ReadAll now next shown later_shown → ReadAll old next before later_shown
@@ -115,22 +129,38 @@ reads_on_end old now next before shown later_shown h last = record {
   few = last.few;
 }
 
-pub reads_on_kept : (old now next : EndView) (before shown : List Indication) → ReadsOn old now before shown → Keeps now next → KeepsDue old next
+-- what stands after reading that began, as it ends with nothing more
+all_begun : (old now : EndView) (before shown : List Indication) (h : ReadsOn old now before shown) → Begins (base old) (seen old) h.steps h.told
+all_begun old now before shown h =
+    subst (λ (xs : List Step). Begins (base old) (seen old) xs h.told) (append-nil h.steps)
+    (subst (Begins (base old) (seen old) (h.steps ++ [])) (append-nil h.told) (h.begins_on [] [] nothing_taken))
+
+pub reads_on_kept : (old now next : EndView) (before shown : List Indication) → ReadsOn old now before shown → Keeps now next → KeepsDue old next (seen old)
 reads_on_kept old now next before shown h k = record {
   tables = k.tables ∙ h.made.tables;
   config = k.config ∙ h.made.config;
   more = h.due;
   waiting = k.waiting ∙ h.waiting;
+  steps = h.steps;
+  told = h.told;
+  begins = all_begun old now before shown h;
+  due = k.waiting ∙ ap (λ (e : End). e.line.waiting) h.made.end;
 }
 
 -- ---- a feed
+
+-- with what came
+abbrev came : EndView → List ℕ → EndView
+came e octets = record e { rest = e.rest ++ octets }
+
+came_fed : (old : EndView) (octets : List ℕ) → passes_over old.phase ≡ false → seen (came old octets) ≡ after (base old) (seen old) (fed octets)
+came_fed old octets up = ap (λ (b : Bool). record (seen old) { line = record (seen old).line { rest = if b then [] else old.rest ++ octets } }) (sym up)
 
 -- what came while the end was up
 pub fed_up : (old new : EndView) (octets : List ℕ) (shown : List Indication) → passes_over old.phase ≡ false
     → ReadAll (record old { rest = old.rest ++ octets }) new [] shown → Fed old new octets shown
 fed_up old new octets shown up r =
-    let state_is : seen (record old { rest = old.rest ++ octets }) ≡ after (base old) (seen old) (fed octets)
-    = ap (λ (b : Bool). record (seen old) { line = record (seen old).line { rest = if b then [] else old.rest ++ octets } }) (sym up) in
+    let state_is : seen (came old octets) ≡ after (base old) (seen old) (fed octets) = came_fed old octets up in
     let made : Stepped old new (fed octets ∷ r.steps)
     = record { tables = r.made.tables; config = r.made.config; end = r.made.end ∙ ap (λ (e : End). after_all (base old) e r.steps) state_is } in
     record {
@@ -163,24 +193,45 @@ fed_over old new octets over e =
 
 -- ---- want of memory
 
-pub kept_none : (old new : EndView) → Keeps old new → KeepsDue old new
-kept_none old new k = record { tables = k.tables; config = k.config; more = []; waiting = k.waiting ∙ sym (append-nil old.waiting) }
-
-pub kept_from : (old middle new : EndView) (rest : List ℕ) → middle ≡ record old { rest = rest } → KeepsDue middle new → KeepsDue old new
-kept_from old middle new rest is k = record {
-  tables = k.tables ∙ ap (λ (e : EndView). e.tables) is;
-  config = k.config ∙ ap (λ (e : EndView). e.config) is;
-  more = k.more;
-  waiting = k.waiting ∙ ap (λ (e : EndView). e.waiting ++ k.more) is;
+pub kept_none : (old new : EndView) (octets : List ℕ) → Keeps old new → KeepsDue old new (after (base old) (seen old) (fed octets))
+kept_none old new octets k = record {
+  tables = k.tables;
+  config = k.config;
+  more = [];
+  waiting = k.waiting ∙ sym (append-nil old.waiting);
+  steps = [];
+  told = [];
+  begins = nothing_taken;
+  due = k.waiting;
 }
 
-pub died_fed : (old now new : EndView) → KeepsDue old now → new ≡ record now { phase = Dead } → DiedFed old new
-died_fed old now new k is = record {
+-- reading began with what came
+pub kept_fed : (old middle new : EndView) (octets : List ℕ) → passes_over old.phase ≡ false → middle ≡ record old { rest = old.rest ++ octets }
+    → KeepsDue middle new (seen middle) → KeepsDue old new (after (base old) (seen old) (fed octets))
+kept_fed old middle new octets up is k =
+    let from : KeepsDue (came old octets) new (seen (came old octets)) = subst (λ (m : EndView). KeepsDue m new (seen m)) is k in
+    record {
+      tables = from.tables;
+      config = from.config;
+      more = from.more;
+      waiting = from.waiting;
+      steps = from.steps;
+      told = from.told;
+      begins = subst (λ (e : End). Begins (base old) e from.steps from.told) (came_fed old octets up) from.begins;
+      due = from.due ∙ ap (λ (e : End). (after_all (base old) e from.steps).line.waiting) (came_fed old octets up);
+    }
+
+pub died_fed : (old now new : EndView) (octets : List ℕ) → KeepsDue old now (after (base old) (seen old) (fed octets)) → new ≡ record now { phase = Dead } → DiedFed old new octets
+died_fed old now new octets k is = record {
   kept = record {
     tables = ap (λ (e : EndView). e.tables) is ∙ k.tables;
     config = ap (λ (e : EndView). e.config) is ∙ k.config;
     more = k.more;
     waiting = ap (λ (e : EndView). e.waiting) is ∙ k.waiting;
+    steps = k.steps;
+    told = k.told;
+    begins = k.begins;
+    due = ap (λ (e : EndView). e.waiting) is ∙ k.due;
   };
   phase = ap (λ (e : EndView). e.phase) is;
 }

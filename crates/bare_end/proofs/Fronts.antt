@@ -1,53 +1,61 @@
 -- What the scanner found, as what stands first.
-use Rattle.std.proofs.Common.{◌≡◌, ℕ, ◌<◌, ◌≤◌, false, List, ◌++◌, length, take, drop, Some, None, Result, Ok, Err, refl, sym, ap, subst, ◌∙◌, arith}
-use Rattle.std.proofs.lemmas.List.{take-append-drop, length-take}
+use Rattle.std.proofs.Common.{◌≡◌, ℕ, zero, suc, ◌<◌, false, List, [], take, Result, Ok, Err, refl, sym, ap, subst, ◌∙◌, arith}
+use Rattle.asn1_types.specs.Value.{Value}
 use Rattle.ber_spelling.specs.declared.fault.ReadFault.{ReadFault}
 use Rattle.ber_spelling.specs.declared.fault.ReadFault.TheVariants as faults
+use Rattle.ber_spelling.specs.Octets.{AreOctets}
+use Rattle.ber_spelling.specs.Rules.{read_at}
+use Rattle.ber_spelling.specs.Spelling.{Ber}
+use Rattle.ber_spelling.proofs.FirstFaults.{fault_is_first}
 use Rattle.ber_spelling.proofs.Limits.{short_is_within}
+use Rattle.ber_spelling.proofs.WholeValues.{read_is_spelled, spelled_is_read}
 use Rattle.stub_tables.specs.Heads.{head_rows, any_row}
-use Rattle.stub_tables.specs.declared.tables.Tables.{Tables}
-use Rattle.stub_tables.specs.Apdus.{IsWhole, IsShort, IsFaulty, place_of}
-use Rattle.rose.specs.First.{IsFirst as IsFirstIn, Stands}
-use Rattle.rose.specs.declared.first.Content as contents
-use Rattle.rose.specs.declared.first.First as firsts
-use Rattle.rose.specs.declared.first.First.TheVariants as found
-use Rattle.end_wire.specs.Bare.{First, Short, Whole, Faulty, first_of, first_at}
-use Rattle.end_wire.proofs.FirstLaws.{whole_first}
-use Rattle.bare_end.specs.First.{IsShortFirst, IsWholeFirst}
+use Rattle.stub_tables.specs.Apdus.{IsShort}
+use Rattle.stub_tables.proofs.Readings.{heads_sound, nothing_short}
+use Rattle.stream_front.specs.declared.front.Front.{Front}
+use Rattle.stream_front.specs.Fronts.{front_at, front_of}
+use Rattle.end_wire.specs.Bare.{first_of, first_at}
+use Rattle.bare_end.specs.First.{IsFirst}
 
-pub short_first : (octets : List ℕ) → IsShort octets → IsShortFirst octets
-unfolding IsShort first_at
-short_first octets p = record { first = ap first_of p; few = short_is_within head_rows any_row false 262144 octets p }
+abbrev Read : Type 0
+Read = Result (Value × ℕ) ReadFault
 
-some_is : (a b : ℕ) → Some a ≡ Some b → a ≡ b
-some_is a b e = cc
+abbrev read_any : List ℕ → Read
+read_any octets = read_at head_rows any_row false 262144 octets
 
-placed : (f : ReadFault) (place : ℕ) → place_of f ≡ Some place → first_of (Err f) ≡ Faulty place
-placed (faults.NotSpelled at kind) place e = ap Faulty (some_is at place e)
-placed faults.Short place e = absurd cc
-placed (faults.TooDeep at) place e = ap Faulty (some_is at place e)
-placed (faults.TooLong at) place e = ap Faulty (some_is at place e)
-placed faults.NoMemory place e = absurd cc
+abbrev done : Value × ℕ → Read
+done x = Ok x
 
-pub faulty_first : (octets : List ℕ) (place : ℕ) → IsFaulty octets place → first_at octets ≡ Faulty place
-unfolding IsFaulty first_at
-faulty_first octets place p = ap first_of p.1 ∙ placed p.0 place p.2
+abbrev failed : ReadFault → Read
+failed f = Err f
 
-pub whole_so : (t : Tables) (c : contents.Content) (used : ℕ) (octets : List ℕ) → IsFirstIn t c used octets → IsWholeFirst octets used
-whole_so t c used octets p =
-    let n : length (take used octets) ≡ used = omega (arith, length-take {A = ℕ}, p.within) in
-    record {
-      first = ap first_at (sym (take-append-drop used octets)) ∙ whole_first (take used octets) (drop used octets) p.whole ∙ ap Whole n;
-      some = p.some;
-      within = p.within;
-    }
+read_nothing : read_any [] ≡ failed faults.Short
+unfolding IsShort
+read_nothing = nothing_short
 
--- once what the scanner answered is known
-pub is_short : (t : Tables) (octets : List ℕ) (f : firsts.First) → f ≡ found.Short → Stands t octets f → IsShortFirst octets
-is_short t octets f e h = short_first octets (subst (Stands t octets) e h)
+-- no value is spelled by no octets
+nothing_spelled : (v : Value) → Ber head_rows any_row v [] → ⊥
+nothing_spelled v p =
+    let no : done (v, 0) ≡ failed faults.Short = sym (spelled_is_read head_rows any_row false 262144 v [] [] heads_sound p) ∙ read_nothing in
+    cc
 
-pub is_faulty : (t : Tables) (octets : List ℕ) (f : firsts.First) (place : ℕ) → f ≡ found.Faulty place → Stands t octets f → first_at octets ≡ Faulty place
-is_faulty t octets f place e h = faulty_first octets place (subst (Stands t octets) e h)
+some_used : (octets : List ℕ) (v : Value) (used : ℕ) → Ber head_rows any_row v (take used octets) → 0 < used
+some_used octets v zero p = absurd (nothing_spelled v p)
+some_used octets v (suc n) p = omega arith
 
-pub is_whole : (t : Tables) (octets : List ℕ) (f : firsts.First) (c : contents.Content) (used : ℕ) → f ≡ found.Whole c used → Stands t octets f → IsWholeFirst octets used
-is_whole t octets f c used e h = whole_so t c used octets (subst (Stands t octets) e h)
+module _ (octets : List ℕ) (are : AreOctets octets) where
+  by_read : (r : Read) → read_any octets ≡ r → IsFirst octets (front_of r)
+  unfolding first_at
+  by_read (Ok x) e =
+      let found = read_is_spelled head_rows any_row false 262144 octets x.0 x.1 are e in
+      record { first = ap first_of e; some = some_used octets x.0 x.1 found.1; within = found.0 }
+  by_read (Err faults.Short) e = record { first = ap first_of e; few = short_is_within head_rows any_row false 262144 octets e }
+  by_read (Err (faults.NotSpelled place kind)) e = ap first_of e
+  by_read (Err (faults.TooDeep place)) e = ap first_of e
+  by_read (Err (faults.TooLong place)) e = ap first_of e
+  by_read (Err faults.NoMemory) e = absurd (fault_is_first head_rows any_row false 262144 octets faults.NoMemory (λ q. cc) e).1
+
+  -- what the scanner says of octets is what stands first in them
+  pub first_found : (front : Front) → front ≡ front_at false octets → IsFirst octets front
+  unfolding front_at
+  first_found front e = subst (IsFirst octets) (sym e) (by_read (read_any octets) refl)

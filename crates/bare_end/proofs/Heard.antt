@@ -1,5 +1,5 @@
 -- What the code hears in octets is what they say.
-use Rattle.std.proofs.Common.{◌≡◌, ℕ, List, [], Option, Some, None, Result, Ok, Err, refl, sym, ap, subst, ◌∙◌}
+use Rattle.std.proofs.Common.{◌≡◌, ℕ, List, Result, Ok, Err, refl, sym, ap, ◌∙◌}
 use Rattle.osi_base.specs.declared.syntax.Syntax.TheVariants.{Ber}
 use Rattle.osi_base.specs.declared.fault.NoMemory.{NoMemory}
 use Rattle.ber_spelling.specs.Octets.{AreOctets}
@@ -10,9 +10,7 @@ use Rattle.apdu_codec.specs.declared.fault.HeadFault.TheVariants as fault
 use Rattle.apdu_codec.specs.HeadsRead.{HasFields, HasNone, IsRefused}
 use Rattle.rose_roles.specs.declared.taken.RoseTaken as roses
 use Rattle.rose_roles.specs.Hearing.{heard_with, refused_as}
-use Rattle.end_rules.specs.Base.{Head}
 use Rattle.end_rules.specs.State.{Calls}
-use Rattle.end_rules.specs.Hearing as rules
 use Rattle.end_rules.specs.Hearing.{hear}
 use Rattle.end_wire.specs.Heads.{head_at, refused}
 use Rattle.end_wire.specs.Values.{IsContent, content_at}

@@ -2,11 +2,8 @@
 use Rattle.std.proofs.Common.{◌≡◌, Bool, true, false, List, [], ◌∷◌, ◌++◌, map, refl, sym, ap, subst, ◌∙◌}
 use Rattle.std.specs.Prelude.{MatchBool}
 use Rattle.std.specs.Bool.{OnFalse}
-use Rattle.stub_tables.specs.declared.tables.Tables.{Tables}
 use Rattle.dialogue.specs.declared.call.Call.{Call}
-use Rattle.dialogue.specs.declared.config.Config.{Config}
 use Rattle.end_rules.specs.Base.{Base}
-use Rattle.end_rules.specs.State.{Body}
 use Rattle.end_rules.specs.Invoking.{Reply}
 use Rattle.end_rules.specs.Calling.{can_call}
 use Rattle.end_rules.specs.Requesting.{due_of}

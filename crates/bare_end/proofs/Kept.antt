@@ -1,11 +1,10 @@
 -- What is kept of invocations as they are opened, closed and taken.
-use Rattle.std.proofs.Common.{◌≡◌, ℕ, suc, ◌+◌, ◌<◌, ◌≤◌, ℤ, pos, Bool, true, false, not, ◌&&◌, cond, List, [], ◌∷◌, ◌++◌, map, filter, Option, Some, None, Result, Ok, Err, is_some, refl, sym, ap, subst, ◌∙◌, arith}
+use Rattle.std.proofs.Common.{◌≡◌, ℕ, ◌+◌, ◌<◌, ◌≤◌, ℤ, pos, Bool, true, false, not, ◌&&◌, cond, List, [], ◌∷◌, ◌++◌, map, filter, Option, Some, None, Result, Ok, Err, is_some, refl, sym, ap, subst, ◌∙◌, arith}
 use Rattle.std.specs.Option.{option_map}
 use Rattle.std.specs.Prelude.{IfOk, OnOk, OnErr}
 use Rattle.osi_base.specs.declared.fault.NoMemory.{NoMemory}
 use Rattle.std.specs.Ordering.{int_eq}
 use Rattle.osi_base.specs.declared.syntax.Syntax.TheVariants.{Ber}
-use Rattle.osi_base.specs.declared.words.ProblemKind.{ProblemKind}
 use Rattle.osi_base.specs.declared.words.Problem.{Problem}
 use Rattle.stub_tables.specs.declared.tables.Tables.{Tables}
 use Rattle.stub_tables.specs.declared.operation.Code.{Code}
@@ -13,7 +12,6 @@ use Rattle.dialogue.specs.declared.config.Mode.TheVariants.{Bare}
 use Rattle.dialogue.specs.declared.config.Config.{Config}
 use Rattle.dialogue.specs.declared.indication.Indication.TheVariants as indications
 use Rattle.apdu_spelling.specs.declared.head.ApduHead.{ApduHead}
-use Rattle.linked_ops.specs.declared.key.Key.{Key}
 use Rattle.linked_ops.specs.Entries.{Entry, is_open, is_open_or_none}
 use Rattle.end_rules.specs.Base.{Base, Carried, Head, General, BadReject, InvokeHead, ResultHead, ErrorHead, RejectHead}
 use Rattle.end_rules.specs.State as ends
@@ -24,7 +22,7 @@ use Rattle.rose_roles.specs.declared.called.Called.{Called}
 use Rattle.rose_roles.specs.declared.taken.RoseTaken as takens
 use Rattle.rose_roles.specs.declared.taken.RoseTaken.TheVariants as taken
 use Rattle.rose_roles.specs.Calls.{Kept, Invoking, Performing, called, side, key_of, AreOpen, opens_in, calls_of}
-use Rattle.rose_roles.specs.Heads.{HeadCarries, said_by}
+use Rattle.rose_roles.specs.Heads.{said_by}
 use Rattle.rose_roles.specs.Hearing.{Hears, heard_with}
 use Rattle.rose_roles.proofs.Keys.{bool_cases, ids_are}
 use Rattle.rose_roles.proofs.Opens.{found}

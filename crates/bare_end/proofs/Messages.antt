@@ -1,5 +1,5 @@
 -- The head that is read says what its octets say, whatever it carries.
-use Rattle.std.proofs.Common.{◌≡◌, ℕ, ◌^◌, ◌<◌, Bool, true, false, nat_eq, if◌then◌else◌, List, length, Option, Some, None, Result, Ok, Err, refl, sym, ap, subst, ◌∙◌, arith, option_map}
+use Rattle.std.proofs.Common.{◌≡◌, ℕ, Bool, true, false, nat_eq, if◌then◌else◌, List, length, Option, Some, None, Result, Ok, Err, refl, sym, ap, subst, ◌∙◌, arith, option_map}
 use Rattle.osi_base.specs.declared.syntax.Syntax.TheVariants.{Ber}
 use Rattle.ber_spelling.specs.Octets.{AreOctets}
 use Rattle.ber_spelling.specs.declared.fault.ReadFault.{ReadFault}
@@ -11,7 +11,6 @@ use Rattle.asn1_types.specs.declared.row.TypeId.{TypeId}
 use Rattle.asn1_types.specs.Table.{IsSound}
 use Rattle.stub_tables.specs.declared.tables.Tables.{Tables}
 use Rattle.stub_tables.specs.declared.operation.Use.{Use}
-use Rattle.stub_tables.specs.declared.operation.Code.TheVariants.{Local, Global}
 use Rattle.stub_tables.specs.Readable.{IsReadable}
 use Rattle.stub_tables.specs.Apdus.{argument_of, result_of, parameter_of, operation_coded, error_coded}
 use Rattle.apdu_spelling.specs.declared.head.ApduHead.{ApduHead}
@@ -23,7 +22,7 @@ use Rattle.apdu_codec.specs.Refusals.{refusal_of}
 use Rattle.apdu_codec.specs.HeadsRead.{HasFields, HasNone}
 use Rattle.rose_roles.specs.Heads.{Carries, HeadCarries, said_by}
 use Rattle.end_rules.specs.Base.{Carried, Absent, Spelled, Unspelled, Head}
-use Rattle.end_rules.specs.Messages.{Content, Unread}
+use Rattle.end_rules.specs.Messages.{Unread}
 use Rattle.end_wire.specs.Heads.{whole_value, value_at, typed_at, carried_at, value_or_lack, said, refused, said_or_refused, head_at, apdu_of}
 use Rattle.end_wire.specs.Values.{IsContent, content_of, content_at}
 use Rattle.end_wire.proofs.HeadLaws.{head_read, no_head}

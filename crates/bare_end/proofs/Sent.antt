@@ -17,13 +17,13 @@ use Rattle.dialogue.specs.declared.call.Call.TheVariants as the_calls
 use Rattle.osi_base.specs.declared.syntax.Pair.{Pair}
 use Rattle.ber_spelling.proofs.Steady.{eqb_itself}
 use Rattle.end_rules.specs.Messages.{Message}
-use Rattle.end_rules.specs.Sets.{same_name, has_abstract, lowest_with, pair_of, carrier}
-use Rattle.end_rules.specs.State.{Calls, OpenCall, bare_set, opened_with, close}
+use Rattle.end_rules.specs.Sets.{same_name, has_abstract, lowest_with, pair_of}
+use Rattle.end_rules.specs.State.{OpenCall, bare_set, opened_with, close}
 use Rattle.end_rules.specs.Hearing.{data_on, syntax_of, opening}
 use Rattle.end_rules.specs.Invoking.{invoke_apdu, result_apdu, error_apdu, carrier_in}
 use Rattle.end_rules.specs.Requesting.{due_of, due_invoke, due_outcome, after_invoke, after_outcome, result_for, error_for, sent_at_once, operation_opened}
 use Rattle.end_rules.specs.History.{called, sent}
-use Rattle.end_wire.specs.Line.{End, after, after_all}
+use Rattle.end_wire.specs.Line.{End, after_all}
 use Rattle.end_wire.specs.Bare.{written}
 use Rattle.bare_end.specs.View.{EndView, base, body, seen, Stepped, with_calls, with_waiting}
 

@@ -1,10 +1,10 @@
 -- A message that was heard was taken, as the rules have it.
-use Rattle.std.proofs.Common.{◌≡◌, ℕ, ◌<◌, ◌≤◌, Bool, true, false, if◌then◌else◌, List, [], ◌∷◌, ◌++◌, length, take, drop, map, Option, Some, None, refl, sym, ap, subst, ◌∙◌}
+use Rattle.std.proofs.Common.{◌≡◌, ℕ, ◌<◌, ◌≤◌, Bool, false, if◌then◌else◌, List, [], ◌++◌, length, take, drop, map, refl, sym, ap, ◌∙◌}
 use Rattle.std.proofs.lemmas.List.{append-nil}
 use Rattle.osi_base.specs.declared.syntax.Syntax.TheVariants.{Ber}
 use Rattle.stub_tables.specs.Readable.{IsReadable}
 use Rattle.dialogue.specs.declared.indication.Indication.{Indication}
-use Rattle.end_rules.specs.Base.{Base, Head}
+use Rattle.end_rules.specs.Base.{Head}
 use Rattle.end_rules.specs.State.{Body, Calls, bare_set, passes_over}
 use Rattle.end_rules.specs.Messages.{Content, Remote, Unread, Association, Plea, Part, Message}
 use Rattle.end_rules.specs.Hearing.{Heard, Taken, hear, on_heard, take_head, head_of, reject_apdu}
@@ -13,7 +13,7 @@ use Rattle.end_rules.specs.History.{Step, took as took_step, answered, after_tak
 use Rattle.apdu_spelling.specs.Writing.{written_apdu}
 use Rattle.end_wire.specs.Heads.{head_at}
 use Rattle.end_wire.specs.Values.{IsContent, content_at}
-use Rattle.end_wire.specs.Bare.{First, Whole, first_at, front, behind, bare_message, bare_value, written}
+use Rattle.end_wire.specs.Bare.{First, Whole, first_at, behind, bare_message, bare_value}
 use Rattle.end_wire.specs.Line.{End, after, after_all}
 use Rattle.end_wire.specs.Feeding.{taking}
 use Rattle.end_wire.proofs.ContentLaws.{content_says}

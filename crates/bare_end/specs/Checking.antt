@@ -1,5 +1,5 @@
 -- What a call that may be made sends, and why one that may not is refused.
-use Rattle.std.specs.Prelude.{◌≡◌, ℕ, ◌<◌, ℤ, not, Bool, true, false, List, length, Option, Some, None, Ok, Err, if◌then◌else◌}
+use Rattle.std.specs.Prelude.{◌≡◌, ℕ, ◌<◌, ℤ, not, true, false, List, length, Option, Some, None, Ok, Err, if◌then◌else◌}
 use Rattle.osi_base.specs.declared.syntax.Syntax.TheVariants.{Ber}
 use Rattle.asn1_types.specs.declared.value.Val.{Val}
 use Rattle.stub_tables.specs.declared.apdu.Apdu.{Apdu}

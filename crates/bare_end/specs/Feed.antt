@@ -1,16 +1,18 @@
 -- What a feed does.
-use Rattle.std.specs.Prelude.{◌≡◌, ℕ, ◌<◌, ◌≤◌, List, [], ◌∷◌, ◌++◌, length, drop, Bool, true, false}
-use Rattle.stub_tables.specs.Apdus.{IsWhole, IsShort, IsFaulty}
+use Rattle.std.specs.Prelude.{◌≡◌, ℕ, ◌<◌, ◌≤◌, List, [], ◌++◌, length, drop, Bool, true, false}
 use Rattle.dialogue.specs.declared.config.Phase.TheVariants.{Dead}
 use Rattle.dialogue.specs.declared.indication.Indication.{Indication}
 use Rattle.osi_base.specs.declared.syntax.Syntax.TheVariants.{Ber}
-use Rattle.end_rules.specs.State.{Body, bare_set}
+use Rattle.end_rules.specs.Base.{Base}
+use Rattle.end_rules.specs.State.{Body, bare_set, passes_over}
+use Rattle.end_rules.specs.Sets.{pair_of}
+use Rattle.end_rules.specs.Hearing.{syntax_of}
 use Rattle.end_rules.specs.Messages.{Message, Content}
 use Rattle.end_rules.specs.Reacting.{react, Takes}
-use Rattle.end_rules.specs.History.{Step, History}
+use Rattle.end_rules.specs.History.{Step, History, fed}
 use Rattle.end_wire.specs.Values.{IsContent}
 use Rattle.end_wire.specs.Bare.{Whole, first_at, front, bare_message}
-use Rattle.end_wire.specs.Line.{after_all, going_on}
+use Rattle.end_wire.specs.Line.{End, after, after_all, going_on}
 use Rattle.end_wire.specs.Feeding.{Reads, Feeds, taking}
 use Rattle.bare_end.specs.View.{EndView, base, body, seen, Stepped, StandsFor}
 
@@ -57,14 +59,30 @@ pub record Fed (old new : EndView) (octets : List ℕ) (shown : List Indication)
   -- where it stood for a history, it stands for it with these steps
   pub stands : (h : History) → StandsFor old h → StandsFor new (going_on h steps)
 
--- what waits is what waited, and some of the answers that were due
-pub record KeepsDue (old new : EndView) : Type 0 where
+-- From the end, reading what came begins with these steps, and shows these indications: so many whole messages are taken,
+-- each with what is answered to it.
+pub data Begins (base : Base) : End → List Step → List Indication → Type 0 where
+  nothing_taken : {end : End} → Begins base end [] []
+  one_taken : {end : End} {steps : List Step} {shown : List Indication} (used : ℕ) (content : Content) (body : Body) (answers : List Message) (told : List Indication)
+      → passes_over end.body.link.phase ≡ false → first_at end.line.rest ≡ Whole used
+      → IsContent base.tables (syntax_of (pair_of end.body.sets.held 0)) (front (Whole used) end.line.rest) content
+      → react base end.body (bare_message end.body.sets.held content) ≡ Takes body answers told
+      → Begins base (after_all base end (taking (bare_message end.body.sets.held content) answers)) steps shown
+      → Begins base end (taking (bare_message end.body.sets.held content) answers ++ steps) (told ++ shown)
+
+-- Reading began from this end. What waits is what waited and the answers to the messages that were taken, each whole: a
+-- beginning of what was due.
+pub record KeepsDue (old new : EndView) (from : End) : Type 0 where
   pub tables : new.tables ≡ old.tables
   pub config : new.config ≡ old.config
   pub more : List ℕ
   pub waiting : new.waiting ≡ old.waiting ++ more
+  pub steps : List Step
+  pub told : List Indication
+  pub begins : Begins (base old) from steps told
+  pub due : new.waiting ≡ (after_all (base old) from steps).line.waiting
 
--- An allocation was refused within the feed: the end is dead.
-pub record DiedFed (old new : EndView) : Type 0 where
-  pub kept : KeepsDue old new
+-- An allocation was refused as these octets were fed: the end is dead.
+pub record DiedFed (old new : EndView) (octets : List ℕ) : Type 0 where
+  pub kept : KeepsDue old new (after (base old) (seen old) (fed octets))
   pub phase : new.phase ≡ Dead

@@ -1,7 +1,7 @@
 -- What stands first in octets, as an end sees it.
 use Rattle.std.specs.Prelude.{◌≡◌, ℕ, ◌≤◌, ◌<◌, List, length}
-use Rattle.bare_end.specs.declared.feeding.Front as fronts
-use Rattle.bare_end.specs.declared.feeding.Front.TheVariants as front
+use Rattle.stream_front.specs.declared.front.Front as fronts
+use Rattle.stream_front.specs.declared.front.Front.TheVariants as front
 use Rattle.end_wire.specs.Bare.{Short, Whole, Faulty, first_at}
 
 -- one whole value, with some octets of those that are there

@@ -3,6 +3,7 @@
 ghost use Rattle.std.specs.Prelude.{◌≡◌, ◌≢◌, ℕ, List, [], ◌∷◌, ◌++◌, length, min, take, drop, IfOk, IfErr, OnOk, true, Some, None, is_some};
 
 use crate::gate::{broken, is_up};
+use crate::intake::Intake;
 use crate::invocations::Invocations;
 use crate::queue::{OctetQueue, copy_front};
 use apdu_codec::Heads;
@@ -18,12 +19,11 @@ pub struct End<'t> {
     pub(crate) alloc: Global,
     pub(crate) tables: &'t Tables,
     pub(crate) config: Config,
-    pub(crate) stream: rose::Heads,
     pub(crate) heads: Heads,
     pub(crate) phase: Phase,
     pub(crate) invocations: Invocations,
     pub(crate) waiting: OctetQueue,
-    pub(crate) rest: OctetQueue,
+    pub(crate) rest: Intake,
     pair: Pair,
 }
 
@@ -61,9 +61,6 @@ impl<'t> End<'t> {
         ensures refused { IfErr result (λ refusal. (refusal ≢ config_refusals.NoMemory) → config_refusal config ≡ Some refusal) }
     {
         check_config(alloc, &config)?;
-        let Ok(stream) = rose::Heads::new(alloc) else {
-            return Err(ConfigRefusal::NoMemory);
-        };
         let Ok(heads) = Heads::new(alloc) else {
             return Err(ConfigRefusal::NoMemory);
         };
@@ -78,12 +75,11 @@ impl<'t> End<'t> {
             alloc,
             tables,
             config,
-            stream,
             heads,
             phase: Phase::Up,
             invocations: Invocations::new(alloc),
             waiting: OctetQueue::new(alloc),
-            rest: OctetQueue::new(alloc),
+            rest: Intake::new(alloc),
             pair,
         })
     }

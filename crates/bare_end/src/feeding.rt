@@ -6,57 +6,29 @@ ghost use Rattle.osi_base.specs.declared.words.Layer.TheVariants.{Rose};
 ghost use Rattle.stub_tables.specs.Readable.{IsReadable};
 ghost use Rattle.end_rules.specs.State.{passes_over};
 ghost use Rattle.end_rules.specs.Faults.{fault_at, shown_at_fault};
-ghost use Rattle.end_rules.specs.History.{fault, feed_end};
+ghost use Rattle.end_rules.specs.History.{fault, fed, feed_end};
 ghost use Rattle.end_wire.specs.Heads.{head_at};
 ghost use Rattle.end_wire.specs.Values.{IsContent, content_at};
 ghost use Rattle.end_wire.specs.Bare.{first_at, Whole};
-ghost use Rattle.bare_end.specs.View.{EndView, body, Stepped, Keeps};
+ghost use Rattle.end_wire.specs.Line.{after};
+ghost use Rattle.bare_end.specs.View.{EndView, base, body, seen, Stepped, Keeps};
 ghost use Rattle.bare_end.specs.Feed.{TookOne, ReadAll, Goes, Fed, KeepsDue, DiedFed};
 ghost use Rattle.bare_end.specs.First.{IsFirst};
-ghost use Rattle.rose.specs.First.{Stands};
-ghost use Rattle.stub_tables.specs.declared.tables.Tables.{Tables};
 
 use crate::end::End;
 use crate::gate::passes_over;
 use crate::order::tell_cuts;
 use dialogue::{Indication, Indications, Phase};
 use osi_base::{Layer, ListOf, NoMemory};
-use rose::First;
-
-/// What stands first in octets.
-#[derive(Clone, Copy, Debug)]
-pub enum Front {
-    /// Less than one whole value.
-    Short,
-    /// One whole value, with so many octets.
-    Whole(usize),
-    /// No value, however it goes on: the field at this place breaks the rules.
-    Faulty(usize),
-}
-
-/// What stands first, whatever it says.
-fn front_of(first: First) -> Front
-    ensures { (tables : Tables) (octets : List ℕ) → Stands tables octets first → IsFirst octets result }
-{
-    match first {
-        First::Short => Front::Short,
-        First::Whole { content, used } => {
-            drop(content);
-            Front::Whole(used)
-        }
-        First::Faulty { place } => Front::Faulty(place),
-    }
-}
+use stream_front::Front;
 
 impl<'t> End<'t> {
     /// What stands first in what came.
-    fn front(&self) -> Result<Front, NoMemory>
-        ensures { IfOk result (IsFirst self.now.rest) }
+    fn front(&mut self) -> Front
+        ensures first { IsFirst self.old.rest result }
+        ensures same { self.new ≡ self.old }
     {
-        let first = self
-            .stream
-            .first(self.alloc, self.tables, self.rest.as_slice())?;
-        Ok(front_of(first))
+        self.rest.first()
     }
 
     /// Takes the first octets off what came.
@@ -103,12 +75,12 @@ impl<'t> End<'t> {
         Ok(())
     }
 
-    /// Reads what stands first, and answers whether more may follow.
-    fn read_next(&mut self, shown: &mut Indications) -> Result<bool, NoMemory>
-        requires { passes_over self.old.phase ≡ false }
+    /// Does what is to be done with what stands first, and answers whether more may follow.
+    fn read(&mut self, front: Front, shown: &mut Indications) -> Result<bool, NoMemory>
+        requires first { IsFirst self.old.rest front }
+        requires up { passes_over self.old.phase ≡ false }
         ensures { MatchResult result (λ more. Goes more self.old self.new shown.old shown.new) (λ _. Keeps self.old self.new) }
     {
-        let front = self.front()?;
         match front {
             Front::Short => Ok(false),
             Front::Whole(used) => {
@@ -122,11 +94,20 @@ impl<'t> End<'t> {
         }
     }
 
+    /// Reads what stands first, and answers whether more may follow.
+    fn read_next(&mut self, shown: &mut Indications) -> Result<bool, NoMemory>
+        requires { passes_over self.old.phase ≡ false }
+        ensures { MatchResult result (λ more. Goes more self.old self.new shown.old shown.new) (λ _. Keeps self.old self.new) }
+    {
+        let front = self.front();
+        self.read(front, shown)
+    }
+
     /// Reads what came, message by message.
     fn read_all(&mut self, shown: &mut Indications) -> Result<(), NoMemory>
         requires { passes_over self.old.phase ≡ false }
         ensures ok { OnOk result (ReadAll self.old self.new shown.old shown.new) }
-        ensures err { OnErr result (KeepsDue self.old self.new) }
+        ensures err { OnErr result (KeepsDue self.old self.new (seen self.old)) }
     {
         loop {
             let more = self.read_next(shown)?;
@@ -168,7 +149,7 @@ impl<'t> End<'t> {
 
     /// Takes octets, unless memory is refused.
     fn feed_now(&mut self, bytes: &[u8]) -> Result<Indications, NoMemory>
-        ensures { MatchResult result (λ shown. Fed self.old self.new bytes.now shown) (λ _. KeepsDue self.old self.new) }
+        ensures { MatchResult result (λ shown. Fed self.old self.new bytes.now shown) (λ _. KeepsDue self.old self.new (after (base self.old) (seen self.old) (fed bytes.now))) }
     {
         let mut shown = self.nothing_shown();
         if self.is_over() {
@@ -181,9 +162,11 @@ impl<'t> End<'t> {
     }
 
     /// Takes octets that came, and answers the indications of all messages that became whole with
-    /// them. After want of memory the end is dead.
+    /// them. After want of memory the end is dead, and what waits is what waited and what was due
+    /// for the messages that it took before. Each octet is looked at a bounded number of times,
+    /// however the octets are cut.
     pub fn feed(&mut self, bytes: &[u8]) -> Result<Indications, NoMemory>
-        ensures { MatchResult result (λ shown. Fed self.old self.new bytes.now shown) (λ _. DiedFed self.old self.new) }
+        ensures { MatchResult result (λ shown. Fed self.old self.new bytes.now shown) (λ _. DiedFed self.old self.new bytes.now) }
     {
         match self.feed_now(bytes) {
             Ok(shown) => Ok(shown),

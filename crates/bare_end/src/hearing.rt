@@ -15,6 +15,7 @@ ghost use Rattle.bare_end.specs.Told.{heard_as, HoldsOctets, Heard, HeardIn, tol
 ghost use Rattle.bare_end.specs.View.{base, with_calls, with_waiting};
 
 use crate::end::End;
+use crate::intake::are_octets;
 use apdu_codec::HeadFault;
 use apdu_spelling::ApduHead;
 use dialogue::{Indication, Indications};
@@ -64,13 +65,6 @@ fn as_taken(taken: RoseTaken) -> Taken
         RoseTaken::BadReject => Taken::Told(Indication::BadReject),
         RoseTaken::Reject { id, problem } => Taken::Rejects { id, problem },
     }
-}
-
-/// Does nothing. Its contract says that octets are numbers below 256.
-fn are_octets(octets: &[u8])
-    ensures { AreOctets octets.now }
-{
-    let _octets = octets;
 }
 
 /// Does nothing. Its contract says that octets, where there are some, are numbers below 256.

@@ -155,9 +155,10 @@ impl Invocations {
     pub fn opens(&self) -> Result<Vec<OpenCall>, NoMemory>
         ensures { IfOk result (λ opens. opens.items ≡ self.now.opens) }
     {
+        let entries = self.forest.entries()?;
         opens_in(
             self.alloc,
-            self.forest.as_slice(),
+            entries.as_slice(),
             &self.invoker,
             &self.performer,
         )

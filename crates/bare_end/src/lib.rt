@@ -7,6 +7,7 @@ mod end;
 mod feeding;
 mod gate;
 mod hearing;
+mod intake;
 mod invocations;
 mod invoking;
 mod listing;

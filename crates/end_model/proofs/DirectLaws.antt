@@ -82,13 +82,13 @@ same-syntax Der Packed e = cc
 same-syntax Packed Ber e = cc
 same-syntax Packed Der e = cc
 
-same-pair : (x y : Pair) → pair_seen x ≡ pair_seen y → x ≡ y
+pub same-pair : (x y : Pair) → pair_seen x ≡ pair_seen y → x ≡ y
 same-pair x y e =
     let names : x.abstract_name ≡ y.abstract_name = ap (λ (p : ModelPair). p.abstract_syntax) e in
     let syntaxes : x.transfer ≡ y.transfer = same-syntax x.transfer y.transfer (ap (λ (p : ModelPair). p.transfer_syntax) e) in
     λ i. record { abstract_name = names i; transfer = syntaxes i }
 
-found-back : (set : List SetItem) (k : ℕ) (pair : Pair) → lookup (set_seen set) k ≡ Some (pair_seen pair) → pair_of set k ≡ Some pair
+pub found-back : (set : List SetItem) (k : ℕ) (pair : Pair) → lookup (set_seen set) k ≡ Some (pair_seen pair) → pair_of set k ≡ Some pair
 found-back set k pair h = go (pair_of set k) (sym (lookup-seen set k) ∙ h)
   where
     go : (p : Option Pair) → option_map pair_seen p ≡ Some (pair_seen pair) → p ≡ Some pair
@@ -279,7 +279,7 @@ direct-takes free tables spellings a b writes back list two role message left fa
 
 -- ---- who holds the turn
 
-holds-so : (base : Base) (body : Body) → holds_turn body ≡ true → HoldsTurn (seen base body)
+pub holds-so : (base : Base) (body : Body) → holds_turn body ≡ true → HoldsTurn (seen base body)
 holds-so base body h = go body.link.turn refl body.link.awaits refl h
   where
     go : (turn : Bool) → body.link.turn ≡ turn → (awaited : Awaited) → body.link.awaits ≡ awaited → (turn && is_up body.link.phase && not (is_restarting awaited)) ≡ true → HoldsTurn (seen base body)

@@ -70,47 +70,47 @@ use Rattle.end_model.proofs.TransferRows.{joined-seen}
 
 -- ---- tests
 
-record Both (a b : Bool) : Type 0 where
-  left : a ≡ true
-  right : b ≡ true
+pub record Both (a b : Bool) : Type 0 where
+  pub left : a ≡ true
+  pub right : b ≡ true
 
-both : (a b : Bool) → (a && b) ≡ true → Both a b
+pub both : (a b : Bool) → (a && b) ≡ true → Both a b
 both true true h = record { left = refl; right = refl }
 both true false h = cc
 both false b h = cc
 
-record Neither (a b : Bool) : Type 0 where
-  left : a ≡ false
-  right : b ≡ false
+pub record Neither (a b : Bool) : Type 0 where
+  pub left : a ≡ false
+  pub right : b ≡ false
 
-neither : (a b : Bool) → (a || b) ≡ false → Neither a b
+pub neither : (a b : Bool) → (a || b) ≡ false → Neither a b
 neither false false h = record { left = refl; right = refl }
 neither false true h = cc
 neither true b h = cc
 
-is-false : (b : Bool) → not b ≡ true → b ≡ false
+pub is-false : (b : Bool) → not b ≡ true → b ≡ false
 is-false false h = refl
 is-false true h = cc
 
-is-true : (b : Bool) → not b ≡ false → b ≡ true
+pub is-true : (b : Bool) → not b ≡ false → b ≡ true
 is-true true h = refl
 is-true false h = cc
 
-equal : (m n : ℕ) → nat_eq m n ≡ true → m ≡ n
+pub equal : (m n : ℕ) → nat_eq m n ≡ true → m ≡ n
 equal m n h = grind (arith, nat_tests)
 
-at-most : (m n : ℕ) → nat_le m n ≡ true → m ≤ n
+pub at-most : (m n : ℕ) → nat_le m n ≡ true → m ≤ n
 at-most m n h = grind (arith, nat_tests)
 
 not-more : (m n : ℕ) → nat_lt m n ≡ false → n ≤ m
 not-more m n h = grind (arith, nat_tests)
 
 -- in place, and nothing wrong above
-record Fine (base : Base) (body : Body) (word : Word) : Type 0 where
-  in_place : is_in_place base body (unit_of word) ≡ true
-  above : fault_above base body word ≡ None
+pub record Fine (base : Base) (body : Body) (word : Word) : Type 0 where
+  pub in_place : is_in_place base body (unit_of word) ≡ true
+  pub above : fault_above base body word ≡ None
 
-fine : (base : Base) (body : Body) (word : Word) → word_fault base body word ≡ None → Fine base body word
+pub fine : (base : Base) (body : Body) (word : Word) → word_fault base body word ≡ None → Fine base body word
 fine base body word h = go (is_in_place base body (unit_of word)) refl (fault_above base body word) refl h
   where
     go : (b : Bool) → is_in_place base body (unit_of word) ≡ b → (x : Option Fault) → fault_above base body word ≡ x → or_fault (fault_if (not b) session_fault) x ≡ None → Fine base body word
@@ -118,22 +118,22 @@ fine base body word h = go (is_in_place base body (unit_of word)) refl (fault_ab
     go true e (Some fault) f h = cc
     go false e x f h = cc
 
-no-fault_if : (b : Bool) (fault : Fault) (x : Option Fault) → or_fault (fault_if b fault) x ≡ None → (b ≡ false) × (x ≡ None)
+pub no-fault_if : (b : Bool) (fault : Fault) (x : Option Fault) → or_fault (fault_if b fault) x ≡ None → (b ≡ false) × (x ≡ None)
 no-fault_if true fault x h = cc
 no-fault_if false fault x h = (refl, h)
 
-no-fault : (b : Bool) (fault : Fault) → fault_if b fault ≡ None → b ≡ false
+pub no-fault : (b : Bool) (fault : Fault) → fault_if b fault ≡ None → b ≡ false
 no-fault true fault h = cc
 no-fault false fault h = refl
 
-up-at : (base : Base) (body : Body) → is_up body.link.phase ≡ true → (seen base body).phase ≡ model_up
+pub up-at : (base : Base) (body : Body) → is_up body.link.phase ≡ true → (seen base body).phase ≡ model_up
 up-at base body h = up-seen body.link.stage body.link.phase h
 
-record Peers (body : Body) : Type 0 where
-  up : is_up body.link.phase ≡ true
-  turn : body.link.turn ≡ false
+pub record Peers (body : Body) : Type 0 where
+  pub up : is_up body.link.phase ≡ true
+  pub turn : body.link.turn ≡ false
 
-peers : (body : Body) → is_peers body ≡ true → Peers body
+pub peers : (body : Body) → is_peers body ≡ true → Peers body
 peers body h =
     let b = both (is_up body.link.phase) (not body.link.turn) h in
     record { up = b.left; turn = is-false body.link.turn b.right }
@@ -382,11 +382,11 @@ discard-reliable reason free base body h =
 
 -- ---- release
 
-responds : (initiator : Bool) → not initiator ≡ true → role_seen initiator ≡ Responder
+pub responds : (initiator : Bool) → not initiator ≡ true → role_seen initiator ≡ Responder
 responds true h = cc
 responds false h = refl
 
-not-reliable : mode_seen Direct ≡ model_reliable → ⊥
+pub not-reliable : mode_seen Direct ≡ model_reliable → ⊥
 not-reliable e = cc
 
 finish-direct : (transport : Option ℕ) (values : List Value) → Faultless Direct (OfAssociation (Finish transport values)) model_release

@@ -35,7 +35,8 @@ use Rattle.end_model.specs.Rows.{at}
 use Rattle.end_model.specs.Opens.{IsNumber, IsProper, IsReadBack, AreNumbered, Numbered}
 use Rattle.end_model.specs.Opens.{fits_argument, operation_of_code}
 use Rattle.end_model.specs.Words.{IsData, AreOurs}
-use Rattle.end_model.specs.Acting.{ActsAs, HandsActs, SetsIn, IsSound, HandingIn}
+use Rattle.end_model.specs.Acting.{ActsAs, HandsActs, SetsIn, IsSound, HandingIn, apdus_of}
+use Rattle.end_model.specs.Acting.{invoked_as}
 use Rattle.end_model.proofs.Marks.{map-snoc}
 use Rattle.end_model.proofs.Facts.{up-seen, free-seen}
 use Rattle.end_model.proofs.Held.{found-pair, some-deletes}
@@ -144,7 +145,7 @@ invoke-steps free mode base proposed body context place argument linked operatio
     let one = subst (λ o. HandsActs free mode base proposed body (after_invoke (at mode base) body context place (next_id body) linked o argument) (due_invoke (at mode base) body context (next_id body) linked o argument) act) (sym known) h in
     subst (λ a. HandsActs free mode base proposed body (after_call (at mode base) body (the_calls.Invoke context place argument linked) (Ok a)) (due_of (at mode base) body (the_calls.Invoke context place argument linked) (Ok a)) act) (sym next) one
 
-next-is : (body : Body) → nat_le last_invocation body.calls.made ≡ false → next_id body ≡ pos (suc body.calls.made)
+pub next-is : (body : Body) → nat_le last_invocation body.calls.made ≡ false → next_id body ≡ pos (suc body.calls.made)
 next-is body h = ap pos (number-next body h)
 
 invoked-sound : (mode : Mode) (base : Base) (body : Body) (context place : ℕ) (linked : Option ℤ) → nat_le last_invocation body.calls.made ≡ false → IsSound mode base body → Numbered (invoking (at mode base) context place (next_id body) linked body).calls
@@ -169,6 +170,11 @@ invoke-in Bare context place argument linked free base proposed body answer writ
     let calm : is_free body.link.awaits ≡ true = ap is_free sound.calm in
     record {
       apdu = item.apdu;
+      of_call = ap (λ a. apdus_of (at Bare base) body (the_calls.Invoke context place argument linked) a) i.sends.next ∙ ap (invoked_as (next_id body) linked argument) i.is_it;
+      context = context;
+      sending =
+          ap (λ a. (after_call (at Bare base) body (the_calls.Invoke context place argument linked) (Ok a)).sending) i.sends.next ∙
+          ap (λ o. (after_invoke (at Bare base) body context place (next_id body) linked o argument).sending) i.is_it;
       is_proper = r.proper;
       is_short = i.sends.short;
       act = Says (item_seen (at Bare base) item);
@@ -190,6 +196,11 @@ invoke-in Direct context place argument linked free base proposed body answer wr
     let item : Item = record { id = context; pair = p.0; apdu = invoke_apdu i.operation (next_id body) linked argument } in
     record {
       apdu = item.apdu;
+      of_call = ap (λ a. apdus_of (at Direct base) body (the_calls.Invoke context place argument linked) a) i.sends.next ∙ ap (invoked_as (next_id body) linked argument) i.is_it;
+      context = context;
+      sending =
+          ap (λ a. (after_call (at Direct base) body (the_calls.Invoke context place argument linked) (Ok a)).sending) i.sends.next ∙
+          ap (λ o. (after_invoke (at Direct base) body context place (next_id body) linked o argument).sending) i.is_it;
       is_proper = r.proper;
       is_short = i.sends.short;
       act = Says (item_seen (at Direct base) item);
@@ -210,6 +221,11 @@ invoke-in Reliable context place argument linked free base proposed body answer 
     let apdu : Apdu = invoke_apdu i.operation (next_id body) linked argument in
     record {
       apdu = apdu;
+      of_call = ap (λ a. apdus_of (at Reliable base) body (the_calls.Invoke context place argument linked) a) i.sends.next ∙ ap (invoked_as (next_id body) linked argument) i.is_it;
+      context = context;
+      sending =
+          ap (λ a. (after_call (at Reliable base) body (the_calls.Invoke context place argument linked) (Ok a)).sending) i.sends.next ∙
+          ap (λ o. (after_invoke (at Reliable base) body context place (next_id body) linked o argument).sending) i.is_it;
       is_proper = r.proper;
       is_short = i.sends.short;
       act = Queues context (apdu_seen (at Reliable base) apdu);

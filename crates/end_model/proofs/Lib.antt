@@ -40,3 +40,4 @@ pub mod EndRows
 pub mod OwnActs
 pub mod Faultless
 pub mod Machine
+pub mod FaultlessOthers

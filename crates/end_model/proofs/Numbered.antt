@@ -46,7 +46,7 @@ or-assoc : (a b c : Bool) → (a || (b || c)) ≡ ((a || b) || c)
 or-assoc true b c = refl
 or-assoc false b c = refl
 
-or-none : (b : Bool) → (b || false) ≡ b
+pub or-none : (b : Bool) → (b || false) ≡ b
 or-none true = refl
 or-none false = refl
 
@@ -72,11 +72,11 @@ whose-way false false = refl
 key-way : (x o : OpenCall) → IsNumber x.id → IsNumber o.id → is_key x.own x.id o ≡ is_key o.own o.id x
 key-way x o h k = ap (λ b. b && int_eq o.id x.id) (whose-way x.own o.own) ∙ ap (λ b. is_whose o.own x && b) (same-way o.id x.id k h)
 
-or-first : (a b : Bool) → (a || b) ≡ false → a ≡ false
+pub or-first : (a b : Bool) → (a || b) ≡ false → a ≡ false
 or-first false b h = refl
 or-first true b h = cc
 
-or-second : (a b : Bool) → (a || b) ≡ false → b ≡ false
+pub or-second : (a b : Bool) → (a || b) ≡ false → b ≡ false
 or-second false b h = h
 or-second true b h = cc
 
@@ -90,13 +90,13 @@ numbered-snoc made (x ∷ os) o h i fresh =
 
 -- ---- one that leaves
 
-same-own : (own : Bool) (i : ℤ) (o : OpenCall) → (orphaned own i o).own ≡ o.own
+pub same-own : (own : Bool) (i : ℤ) (o : OpenCall) → (orphaned own i o).own ≡ o.own
 same-own own i o = grind (arith)
 
-same-id : (own : Bool) (i : ℤ) (o : OpenCall) → (orphaned own i o).id ≡ o.id
+pub same-id : (own : Bool) (i : ℤ) (o : OpenCall) → (orphaned own i o).id ≡ o.id
 same-id own i o = grind (arith)
 
-same-key : (own w : Bool) (i j : ℤ) (o : OpenCall) → is_key w j (orphaned own i o) ≡ is_key w j o
+pub same-key : (own w : Bool) (i j : ℤ) (o : OpenCall) → is_key w j (orphaned own i o) ≡ is_key w j o
 same-key own w i j o =
     ap (λ (x : Bool). (if w then x else not x) && int_eq (orphaned own i o).id j) (same-own own i o) ∙ ap (λ (x : ℤ). is_whose w o && int_eq x j) (same-id own i o)
 

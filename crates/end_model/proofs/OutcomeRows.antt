@@ -41,7 +41,8 @@ use Rattle.end_model.specs.Seen.{is_outcome, seen, setup_seen}
 use Rattle.end_model.specs.Rows.{at}
 use Rattle.end_model.specs.Opens.{IsNumber, IsProper, IsReadBack, AreNumbered, fits_result}
 use Rattle.end_model.specs.Opens.{fits_parameter, operation_of_code, error_of_code}
-use Rattle.end_model.specs.Acting.{HandsActs, IsSound, HasBareSet, HandingIn}
+use Rattle.end_model.specs.Acting.{HandsActs, IsSound, HasBareSet, HandingIn, WritesIn, as_list}
+use Rattle.end_model.specs.Acting.{handing}
 use Rattle.end_model.proofs.Ladder.{passed, called}
 use Rattle.end_model.proofs.InvokeRungs.{answerable, refusable, Outgoing}
 use Rattle.end_model.proofs.Numbered.{numbered-closed}
@@ -152,7 +153,7 @@ has-carrier : (c : Option ℕ) → is_none c ≡ false → (k : ℕ) × (c ≡ S
 has-carrier None h = cc
 has-carrier (Some k) h = (k, refl)
 
-pub outcome-acts : (free : Free) (mode : Mode) (base : Base) (proposed : List Proposal) (body : Body) (id : ℤ) (o : OpenCall) (apdu : Apdu) (answer : Option ℤ) → ((value : model.Value) → free.codec.may_write value ≡ true) → base.spellings.head Der (base.spellings.apdu Der apdu) ≡ head_of_apdu apdu → IsSound mode base body → is_up body.link.phase ≡ true → is_stopped (at mode base) body ≡ false → IsNumber id → IsOutcome (at mode base) body id o apdu → IsProper (at mode base) apdu → IsReadBack (at mode base) apdu → Outgoing (at mode base) body o apdu answer → OutcomeActs free mode base proposed body id o apdu
+pub outcome-acts : (free : Free) (mode : Mode) (base : Base) (proposed : List Proposal) (body : Body) (id : ℤ) (o : OpenCall) (apdu : Apdu) (answer : Option ℤ) → WritesIn mode free → base.spellings.head Der (base.spellings.apdu Der apdu) ≡ head_of_apdu apdu → IsSound mode base body → is_up body.link.phase ≡ true → is_stopped (at mode base) body ≡ false → IsNumber id → IsOutcome (at mode base) body id o apdu → IsProper (at mode base) apdu → IsReadBack (at mode base) apdu → Outgoing (at mode base) body o apdu answer → OutcomeActs free mode base proposed body id o apdu
 outcome-acts free Bare base proposed body id o apdu answer writes back sound up goes i h proper read out =
     let k = bare-carrier base body o.context sound.sets in
     on-bare free base proposed body id o apdu k.0 writes back sound.numbered up (ap is_free sound.calm) i h proper read sound k.1
@@ -170,6 +171,12 @@ outcome-acts free Reliable base proposed body id o apdu answer writes back sound
             sound = record { numbered = numbered-closed body.calls.made false id body.calls.opens sound.numbered; calm = tt; sets = tt; queues = tt };
           };
     }
+
+-- what is handed in goes at once, or is queued
+handed-sending : (mode : Mode) (base : Base) (body : Body) (id : ℤ) (o : OpenCall) (apdu : Apdu) → (after_outcome (at mode base) body id (Some o) (Some apdu)).sending ≡ handing mode o.context apdu body.sending
+handed-sending Bare base body id o apdu = refl
+handed-sending Direct base body id o apdu = refl
+handed-sending Reliable base body id o apdu = refl
 
 -- ---- Answer
 
@@ -193,6 +200,12 @@ answer-in mode id result free base proposed body answer writes back sound h =
     let one = subst (λ p. HandsActs free mode base proposed body (after_outcome (at mode base) body id (Some x.invocation) (result_for id result p)) (due_outcome (at mode base) body (Some x.invocation) (result_for id result p)) a.act) (sym known) a.acts in
     record {
       apdu = apdu;
+      of_call = ap (λ o. as_list (result_for id result (operation_opened (at mode base) o))) x.is_its ∙ ap (λ p. as_list (result_for id result p)) known;
+      context = x.invocation.context;
+      sending =
+          ap (λ o. (after_outcome (at mode base) body id o (result_for id result (operation_opened (at mode base) o))).sending) x.is_its ∙
+          ap (λ p. (after_outcome (at mode base) body id (Some x.invocation) (result_for id result p)).sending) known ∙
+          handed-sending mode base body id x.invocation apdu;
       is_proper = proper;
       is_short = x.sends.short;
       act = a.act;
@@ -221,6 +234,12 @@ refuse-in mode id error parameter free base proposed body answer writes back sou
     let one = subst (λ e. HandsActs free mode base proposed body (after_outcome (at mode base) body id (Some x.invocation) (error_for id parameter e)) (due_outcome (at mode base) body (Some x.invocation) (error_for id parameter e)) a.act) (sym x.is_error) a.acts in
     record {
       apdu = apdu;
+      of_call = ap (λ e. as_list (error_for id parameter e)) x.is_error;
+      context = x.invocation.context;
+      sending =
+          ap (λ o. (after_outcome (at mode base) body id o (error_for id parameter (error_at base.tables error))).sending) x.is_its ∙
+          ap (λ e. (after_outcome (at mode base) body id (Some x.invocation) (error_for id parameter e)).sending) x.is_error ∙
+          handed-sending mode base body id x.invocation apdu;
       is_proper = proper;
       is_short = x.sends.short;
       act = a.act;

@@ -28,7 +28,7 @@ use Rattle.end_model.specs.Seen.{Free, pair_seen, set_seen, progress_seen, queue
 use Rattle.end_model.specs.Seen.{encoded_seen, current_seen, transfer_seen, seen}
 use Rattle.end_model.specs.Rows.{at}
 use Rattle.end_model.specs.Acting.{ActsAs}
-use Rattle.end_model.specs.OwnActs.{ByItselfActs}
+use Rattle.end_model.specs.OwnActs.{MayBeWritten, ByItselfActs}
 use Rattle.end_model.proofs.Held.{lookup-seen}
 use Rattle.end_model.proofs.Handing.{carrier-sends}
 use Rattle.end_model.proofs.Requests.{leads-there}
@@ -44,11 +44,11 @@ and-right : (a b : Bool) → (a && b) ≡ true → b ≡ true
 and-right true b h = h
 and-right false b h = cc
 
-record Leading (base : Base) (body : Body) (act : OwnAct) : Type 0 where
-  leads_so : Leads (seen (at Reliable base) body)
-  next : next_in (at Reliable base) body body.sending.current ≡ Some act
+pub record Leading (base : Base) (body : Body) (act : OwnAct) : Type 0 where
+  pub leads_so : Leads (seen (at Reliable base) body)
+  pub next : next_in (at Reliable base) body body.sending.current ≡ Some act
 
-leading : (base : Base) (body : Body) (act : OwnAct) → next_own (at Reliable base) body ≡ Some act → Leading base body act
+pub leading : (base : Base) (body : Body) (act : OwnAct) → next_own (at Reliable base) body ≡ Some act → Leading base body act
 leading base body act h = go (leads (at Reliable base) body) refl h
   where
     go : (b : Bool) → leads (at Reliable base) body ≡ b → (if b then next_in (at Reliable base) body body.sending.current else None) ≡ Some act → Leading base body act
@@ -101,7 +101,7 @@ none-started : (base : Base) (body : Body) (context : ℕ) (queue : List Queued)
 none-started base body context [] h = cc
 none-started base body context (item ∷ items) h = no-start context body.sending.started (is_some (carrier_in (at Reliable base) body item.context) && nat_lt body.sending.started last_activity) h
 
-on-carrier : (context : ℕ) (c : Option ℕ) → encodes_on c ≡ Some (EncodesOn context) → c ≡ Some context
+pub on-carrier : (context : ℕ) (c : Option ℕ) → encodes_on c ≡ Some (EncodesOn context) → c ≡ Some context
 on-carrier context None h = cc
 on-carrier context (Some k) h = let s : k ≡ context = cc in ap (λ (j : ℕ). Some j) s
 
@@ -126,7 +126,7 @@ value-seen : (base : Base) (body : Body) (context : ℕ) (item : Queued) (p : Op
 value-seen base body context item None = refl
 value-seen base body context item (Some pair) = refl
 
-encodes-act : (context : ℕ) (free : Free) (base : Base) (proposed : List Proposal) (body : Body) → ((value : model.Value) → free.codec.may_write value ≡ true) → next_own (at Reliable base) body ≡ Some (EncodesOn context) → ActsAs free Reliable base proposed body (encoding (at Reliable base) context body) [] (Encodes context)
+encodes-act : (context : ℕ) (free : Free) (base : Base) (proposed : List Proposal) (body : Body) → MayBeWritten free base body → next_own (at Reliable base) body ≡ Some (EncodesOn context) → ActsAs free Reliable base proposed body (encoding (at Reliable base) context body) [] (Encodes context)
 encodes-act context free base proposed body writes h =
     let l = leading base body (EncodesOn context) h in
     let x = encoding-so base body context body.sending.current refl l.next in
@@ -140,7 +140,7 @@ encodes-act context free base proposed body writes h =
             by_transfers = refl;
             leads = l.leads_so;
             is_due = subst IsUnencoded (sym current) (running-seen x.transfer.progress x.runs, ap (encoded_seen (at Reliable base)) x.is_due);
-            is_writable = subst (MayEncode free.codec context (set_seen body.sets.held)) (sym current) (subst (λ p. IsWritable free.codec (value_on context (queued_seen (at Reliable base) x.transfer.item) p)) (sym held) (writes _));
+            is_writable = subst (MayEncode free.codec context (set_seen body.sets.held)) (sym current) (subst (λ p. IsWritable free.codec (value_on context (queued_seen (at Reliable base) x.transfer.item) p)) (sym held) (writes x.transfer (record { id = context; pair = m.pair; apdu = x.transfer.item.apdu }) x.is_it refl));
           };
       after =
           ap put

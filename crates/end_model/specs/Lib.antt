@@ -15,3 +15,4 @@ pub mod Faultless
 pub mod Steps
 pub mod DirectPairs
 pub mod Sharing
+pub mod FaultlessOthers

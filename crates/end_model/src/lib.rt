@@ -20,6 +20,7 @@ pub use rows::{
     restarts_taken, resumptions, sent, transfers_sent, transfers_taken,
 };
 pub use takings::{
-    answers_may_be_taken, answers_taken, direct_may_be_taken, direct_taken, discards_taken,
-    ends_taken, openings_taken, reliable_may_be_taken, reliable_taken, transfer_words_taken,
+    answers_may_be_taken, answers_taken, data_may_be_taken, direct_may_be_taken, direct_taken,
+    discards_taken, ends_taken, openings_may_be_taken, openings_taken, reliable_may_be_taken,
+    reliable_taken, transfer_words_taken, transfers_may_be_taken,
 };

@@ -3,6 +3,8 @@
 
 ghost use Rattle.end_model.specs.Faultless.{AnswersMayBeTaken, DirectMayBeTaken};
 ghost use Rattle.end_model.specs.Faultless.{ReliableMayBeTaken};
+ghost use Rattle.end_model.specs.FaultlessOthers.{DataMayBeTaken, OpeningsMayBeTaken};
+ghost use Rattle.end_model.specs.FaultlessOthers.{TransfersMayBeTaken};
 ghost use Rattle.end_model.specs.Openings.{OpeningsTaken};
 ghost use Rattle.end_model.specs.Takings.{AnswersTaken, DirectTaken, DiscardsTaken, EndsTaken};
 ghost use Rattle.end_model.specs.Takings.{ReliableTaken, TransferWordsTaken};
@@ -57,4 +59,21 @@ pub fn reliable_may_be_taken()
 /// An answer to the oldest own alteration without a fault is one that the model may take.
 pub fn answers_may_be_taken()
     ensures rows { AnswersMayBeTaken }
+{}
+
+/// A CN, an AC, an RF or the answer to a release without a fault is one that the model may take.
+pub fn openings_may_be_taken()
+    ensures rows { OpeningsMayBeTaken }
+{}
+
+/// Data with one APDU under the pair of the held set, without a fault, is one that the model may
+/// take, in direct mode.
+pub fn data_may_be_taken()
+    ensures rows { DataMayBeTaken }
+{}
+
+/// A resumption, the end of the peer's activity, and the answers to an own end, interrupt or
+/// discard without a fault are ones that the model may take.
+pub fn transfers_may_be_taken()
+    ensures rows { TransfersMayBeTaken }
 {}

@@ -3,7 +3,7 @@
 use asn1_types::{Node, TypeId, TypeRow, TypeTable, Val};
 use osi_base::{ListOf, Name, NoMemory, Oid};
 use std::alloc::Global;
-use stub_tables::{Code, ErrorRow, Operation, Tables, Use};
+use stub_tables::{Code, ErrorRow, ErrorRows, Operation, Operations, Tables, Use};
 
 /// A value of INTEGER.
 pub(crate) fn integer(number: i64) -> Option<Val> {
@@ -51,9 +51,9 @@ pub(crate) fn module(alloc: Global) -> Result<Tables, NoMemory> {
     }) else {
         return Err(NoMemory);
     };
-    let mut operations = ListOf::new(alloc);
+    let mut operations = Operations::new(alloc);
     operations.push(add(alloc)?)?;
-    let mut errors = ListOf::new(alloc);
+    let mut errors = ErrorRows::new(alloc);
     errors.push(ErrorRow {
         name: Name::from_str(alloc, "overflow")?,
         code: Code::Local(7),

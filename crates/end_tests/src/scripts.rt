@@ -5,11 +5,11 @@ use asn1_types::{Node, TypeTable, Val};
 use dialogue::{
     Call, CallRefusal, Carried, Entries, Entry, Indication, Indications, Mode, Phase, Transcript,
 };
-use osi_base::{Indices, ListOf, Name, NoMemory, Octets, Oid, Side};
+use osi_base::{Indices, Name, NoMemory, Octets, Oid, Side};
 use script_text::{ScriptFault, ScriptKind, read_schedule, transcript_text};
 use std::alloc::Global;
 use std::test::Fail;
-use stub_tables::{Code, Operation, Operations, Tables, Use};
+use stub_tables::{Code, ErrorRows, Operation, Operations, Tables, Use};
 
 /// The operation `add`. What it carries is not judged here.
 fn add(alloc: Global) -> Result<Operation, NoMemory> {
@@ -38,7 +38,7 @@ fn tables(alloc: Global) -> Result<Tables, NoMemory> {
         name_oid: Oid::from_slice(alloc, &[2, 999, 7, 4])?,
         types: TypeTable::new(alloc),
         operations,
-        errors: ListOf::new(alloc),
+        errors: ErrorRows::new(alloc),
     })
 }
 

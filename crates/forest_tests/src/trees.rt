@@ -96,3 +96,30 @@ fn the_children_of_what_is_closed_are_roots(rt: HostRuntime) -> Result<(), Fail>
     assert!(rt; !twice);
     Ok(())
 }
+
+#[test]
+fn siblings_stay_in_order_where_one_is_closed(rt: HostRuntime) -> Result<(), Fail> {
+    let mut forest = family(rt.alloc())?;
+    put(&mut forest, peer(3), Some(own(1)))?;
+    let closed = forest.close(peer(2));
+    assert!(rt; closed);
+    put(&mut forest, peer(4), Some(own(1)))?;
+    let mut children = forest.children(own(1));
+    assert!(rt; matches!(children.next(), Some(Key { own: false, id: 1 })));
+    assert!(rt; matches!(children.next(), Some(Key { own: false, id: 3 })));
+    assert!(rt; matches!(children.next(), Some(Key { own: false, id: 4 })));
+    assert!(rt; children.next().is_none());
+    Ok(())
+}
+
+#[test]
+fn a_key_that_is_opened_again_has_no_children(rt: HostRuntime) -> Result<(), Fail> {
+    let mut forest = family(rt.alloc())?;
+    let closed = forest.close(own(1));
+    assert!(rt; closed);
+    put(&mut forest, own(1), None)?;
+    assert!(rt; forest.parent(peer(1)).is_none());
+    let mut children = forest.children(own(1));
+    assert!(rt; children.next().is_none());
+    Ok(())
+}

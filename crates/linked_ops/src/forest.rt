@@ -3,23 +3,38 @@
 ghost use Rattle.std.specs.Prelude.{◌≡◌, [], IfOk, ℕ};
 ghost use Rattle.linked_ops.specs.Entries.{is_open, parent_of, children_of, closed, post_order_of, IsForest};
 ghost use Rattle.linked_ops.specs.Opening.{IsOpened};
+ghost use Rattle.linked_ops.specs.Along.{children_left};
 
 use crate::children::Children;
 use crate::key::{ForestRefusal, Key};
+use crate::links::first_child;
+use crate::node::Node;
+use crate::numbers::Numbers;
+use crate::openings::{Openings, above, enter, entries, leave, place_with};
 use crate::rows;
-use crate::rows::Entry;
 use osi_base::{ListOf, NoMemory};
+use slab::Slab;
 use std::alloc::Global;
+use std::collections::BTreeMap;
 use std::marker::Model;
 
 /// Keys, as a list.
 pub type Keys = ListOf<Key>;
 
-/// The open invocations of both ends, in order of opening.
+/// Keys, each with the key above it.
+pub type Entries = ListOf<(Key, Option<Key>)>;
+
+/// The open invocations of both ends, in order of opening: nodes in a slab, linked by places, which
+/// a key finds by the number of its opening. All calls but `post_order` and `entries` cost at most
+/// the logarithm of what is open, and what they answer.
 #[derive(Drop)]
 pub struct Forest {
     alloc: Global,
-    entries: Vec<Entry>,
+    nodes: Slab<Node>,
+    numbers: Numbers,
+    openings: Openings,
+    /// The number of the next opening.
+    made: u64,
 }
 
 impl Model for Forest {
@@ -28,11 +43,12 @@ impl Model for Forest {
 
     ghost Value = { List (Key × Option Key) };
 
-    ghost use Rattle.linked_ops.specs.Entries.{IsForest};
+    ghost use Rattle.linked_ops.specs.Rows.{entries};
+    ghost use Rattle.linked_ops.specs.Kept.{IsKept};
 
-    ghost view = { λ f. f.entries.items };
+    ghost view = { λ f. entries f.openings.entries };
 
-    ghost invariant = { λ f. IsForest f.entries.items };
+    ghost invariant = { λ f. IsKept f.openings.entries f.nodes f.numbers f.made };
 }
 
 impl Forest {
@@ -42,7 +58,10 @@ impl Forest {
     {
         Forest {
             alloc,
-            entries: Vec::new(alloc),
+            nodes: Slab::new(alloc),
+            numbers: Numbers::new(alloc),
+            openings: BTreeMap::new(alloc),
+            made: 0,
         }
     }
 
@@ -51,29 +70,39 @@ impl Forest {
     pub fn is_forest(&self)
         ensures { IsForest self.now }
     {
-        let _entries = &self.entries;
+        let _openings = &self.openings;
     }
 
     /// Whether the key is open.
     pub fn is_open(&self, key: Key) -> bool
         ensures { result ≡ is_open key self.now }
     {
-        rows::is_open(self.entries.as_slice(), &key)
+        self.numbers.get(&key).is_some()
     }
 
     /// Opens a key, as a root or under an open one. A refusal changes nothing.
     pub fn open(&mut self, key: Key, parent: Option<Key>) -> Result<(), ForestRefusal>
         ensures { IsOpened key parent self.old self.new result }
     {
-        if self.is_open(key) {
+        if self.numbers.get(&key).is_some() {
             return Err(ForestRefusal::Present(key));
         }
-        if let Some(above) = parent {
-            if !self.is_open(above) {
-                return Err(ForestRefusal::ParentAbsent(above));
-            }
+        let under = match self.numbers.above(parent) {
+            Ok(under) => under,
+            Err(parent) => return Err(ForestRefusal::ParentAbsent(parent)),
+        };
+        if self.made == u64::MAX {
+            return Err(ForestRefusal::NoMemory);
         }
-        rows::put(&mut self.entries, key, parent)?;
+        enter(
+            &mut self.openings,
+            &mut self.nodes,
+            &mut self.numbers,
+            self.made,
+            key,
+            under,
+        )?;
+        self.made += 1;
         Ok(())
     }
 
@@ -83,31 +112,45 @@ impl Forest {
         ensures answer { result ≡ is_open key self.old }
         ensures after { self.new ≡ closed key self.old }
     {
-        rows::close_key(&mut self.entries, &key)
+        match self.numbers.take(&key) {
+            None => false,
+            Some(number) => {
+                leave(&mut self.openings, &mut self.nodes, number);
+                true
+            }
+        }
     }
 
     /// The key above this one; none where it is a root or isn't open.
     pub fn parent(&self, key: Key) -> Option<Key>
         ensures { result ≡ parent_of key self.now }
     {
-        rows::parent_of(self.entries.as_slice(), &key)
+        match self.numbers.get(&key) {
+            None => None,
+            Some(number) => above(&self.openings, number),
+        }
     }
 
     /// The keys right under this one, in order of opening.
     pub fn children(&self, key: Key) -> Children<'_>
-        ensures { children_of result.of result.rest.now ≡ children_of key self.now }
+        ensures { children_left result ≡ children_of key self.now }
     {
         Children {
-            of: key,
-            rest: self.entries.as_slice(),
+            nodes: &self.nodes,
+            at: first_child(
+                &self.nodes,
+                place_with(&self.openings, self.numbers.get(&key)),
+            ),
+            left: self.openings.len(),
         }
     }
 
     /// All keys in order of opening, each with the key above it.
-    pub fn as_slice(&self) -> &[(Key, Option<Key>)]
-        ensures { result.now ≡ self.now }
+    pub fn entries(&self) -> Result<Entries, NoMemory>
+        ensures { IfOk result (λ list. list ≡ self.now) }
     {
-        self.entries.as_slice()
+        let list = entries(self.alloc, &self.openings)?;
+        Ok(ListOf::from_vec(list))
     }
 
     /// All keys, each behind those under it; roots, and the children of one key, in order of
@@ -115,8 +158,9 @@ impl Forest {
     pub fn post_order(&self) -> Result<Keys, NoMemory>
         ensures { IfOk result (λ keys. keys ≡ post_order_of self.now) }
     {
+        let list = entries(self.alloc, &self.openings)?;
         let mut told = Vec::new(self.alloc);
-        rows::put_all(self.entries.as_slice(), &mut told)?;
+        rows::put_all(list.as_slice(), &mut told)?;
         Ok(ListOf::from_vec(told))
     }
 }

@@ -5,8 +5,12 @@
 mod children;
 mod forest;
 mod key;
+mod links;
+mod node;
+mod numbers;
+mod openings;
 mod rows;
 
 pub use children::Children;
-pub use forest::{Forest, Keys};
+pub use forest::{Entries, Forest, Keys};
 pub use key::{ForestRefusal, Key};

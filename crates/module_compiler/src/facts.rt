@@ -31,6 +31,8 @@ enum Base<'m> {
     Integer { low: i64, high: i64 },
     Enumerated(&'m [ItemText]),
     Other,
+    /// Of a name that is unknown or reaches itself; its defaults aren't judged.
+    Unknown,
 }
 
 /// What is known of a type.
@@ -46,7 +48,7 @@ fn nothing<'m>(alloc: Global) -> Facts<'m> {
     Facts {
         nesting: 0,
         tags: Vec::new(alloc),
-        base: Base::Other,
+        base: Base::Unknown,
     }
 }
 
@@ -77,7 +79,7 @@ fn has_item(items: &[ItemText], name: &Name) -> bool {
     items.iter().any(|item| item.name.text.is(name))
 }
 
-/// Whether a type has this default.
+/// Whether a type has this default, as far as it is known.
 fn takes(base: Base<'_>, value: &DfltValue) -> bool {
     match (base, value) {
         (Base::Boolean, DfltValue::Truth(_)) => true,
@@ -85,6 +87,7 @@ fn takes(base: Base<'_>, value: &DfltValue) -> bool {
             low <= *number && *number <= high
         }
         (Base::Enumerated(items), DfltValue::Item(name)) => has_item(items, name),
+        (Base::Unknown, _) => true,
         _ => false,
     }
 }

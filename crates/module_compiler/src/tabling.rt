@@ -12,7 +12,7 @@ use crate::scope::Scope;
 use asn1_types::TypeTable;
 use notation_tokens::Located;
 use operation_notation::{Assignment, Body, CodeText, ErrText, OpText};
-use osi_base::{Copied, Indices, ListOf};
+use osi_base::{Copied, Indices};
 use std::alloc::Global;
 use stub_tables::{Code, ErrorRow, ErrorRows, Operation, Operations};
 
@@ -251,8 +251,8 @@ pub(crate) fn tabled(alloc: Global, scope: &Scope<'_>) -> Result<Whole, Halt>
     let numbers = numbers(alloc, assignments)?;
     let mut numbering = Numbering::new(alloc, assignments.len())?;
     let mut made = Made {
-        operations: ListOf::new(alloc),
-        errors: ListOf::new(alloc),
+        operations: Operations::new(alloc),
+        errors: ErrorRows::new(alloc),
     };
     assign_all(alloc, scope, &numbers, &mut numbering, &mut made)?;
     Ok(Whole {

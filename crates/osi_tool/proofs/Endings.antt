@@ -5,7 +5,7 @@ use Rattle.osi_base.specs.declared.words.Status.{Status}
 use Rattle.osi_base.specs.declared.words.Status.TheVariants.{Done, Usage, ReadFault, WriteFault, LineFault, ModuleRefused, ScriptRefused, Ended, Spent, NoMemory}
 use Rattle.osi_tool.specs.declared.answers.Answer.{Answer}
 use Rattle.osi_tool.specs.Answers.{is_read_fault, KeepsCount, Ends, whole, failed, no_memory}
-use Rattle.osi_tool.specs.TopCall.{IsAnswer, IsUnless, IsUnreadBegun, CountsFiles, CountsWrites}
+use Rattle.osi_tool.specs.TopCall.{IsAnswer, IsUnless, CountsFiles, CountsWrites}
 
 -- the statuses of a write that isn't whole
 abbrev pub is_writes : Status → Bool
@@ -41,7 +41,7 @@ counts_writes old new before after answer _ (failed rose part) = inl refl
 counts_writes old new before after answer _ (no_memory same part) = inr same
 
 -- The files' count is as it was, unless the answer is that a file isn't read.
-same_or_unread : (old new : ℕ) (answer : Answer) (status : Status) → answer.status ≡ status → KeepsCount old new answer → (new ≡ old) ⊎ (answer.status ≡ ReadFault)
+pub same_or_unread : (old new : ℕ) (answer : Answer) (status : Status) → answer.status ≡ status → KeepsCount old new answer → (new ≡ old) ⊎ (answer.status ≡ ReadFault)
 same_or_unread old new answer ReadFault is counts = inr is
 same_or_unread old new answer WriteFault is counts = inl (counts (ap is_read_fault is))
 same_or_unread old new answer NoMemory is counts = inl (counts (ap is_read_fault is))

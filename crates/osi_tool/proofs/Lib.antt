@@ -8,3 +8,7 @@ pub mod Answering
 pub mod Closing
 pub mod Only
 pub mod Asked
+pub mod TraceWords
+pub mod TraceAnswers
+pub mod TraceCases
+pub mod TraceEnding

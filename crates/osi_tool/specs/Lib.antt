@@ -5,5 +5,6 @@ pub mod Answers
 pub mod Preparing
 pub mod Replaying
 pub mod TopCall
+pub mod Tracing
 pub mod Process
 pub mod Laws

@@ -3,7 +3,7 @@ use Rattle.std.specs.Prelude.{ℕ, ◌≡◌, ◌≤◌, ◌⊎◌, List, length
 use Rattle.osi_base.specs.Limits.{file_most}
 use Rattle.osi_base.specs.Outside.{Rose, FileMap, Lacks, logged}
 use Rattle.osi_base.specs.declared.words.Status.{Status}
-use Rattle.osi_base.specs.declared.words.Status.TheVariants.{Done, ReadFault, ModuleRefused, ScriptRefused}
+use Rattle.osi_base.specs.declared.words.Status.TheVariants.{Done, ReadFault, WriteFault, ModuleRefused, ScriptRefused, NoMemory as refused_memory}
 use Rattle.stub_tables.specs.declared.tables.Tables.{Tables}
 use Rattle.script_text.specs.declared.fault.ScriptFault.{ScriptFault}
 use Rattle.script_text.specs.declared.fault.ScriptFault.TheVariants.{At, NoMemory}
@@ -48,15 +48,27 @@ Asks told old new before after None = after ≡ before
 Asks told old new before after (Some command) = MayAsk command.«module» before after
     ⊎ (IsKnownRead told old new command.«module» × (after ≡ logged command.schedule (logged command.«module» before)))
 
+-- the module was asked for, and the schedule behind it or not
+abbrev pub AskedOneOrBoth : Command → Option (List (List ℕ)) → Option (List (List ℕ)) → Type 0
+AskedOneOrBoth command before after = (after ≡ logged command.«module» before) ⊎ (after ≡ logged command.schedule (logged command.«module» before))
+
 -- Which files were asked for, by the status of what is answered: none where the words are no command, the module
--- alone, or behind it the schedule. Of other statuses, which aren't those of an answer to a command, nothing is said.
+-- alone, or behind it the schedule. A command has no answer of another status.
 abbrev pub AskedBy : Option Command → Option (List (List ℕ)) → Option (List (List ℕ)) → Status → Type 0
 AskedBy None before after status = after ≡ before
-AskedBy (Some command) before after ReadFault = (after ≡ logged command.«module» before) ⊎ (after ≡ logged command.schedule (logged command.«module» before))
+AskedBy (Some command) before after ReadFault = AskedOneOrBoth command before after
 AskedBy (Some command) before after ModuleRefused = after ≡ logged command.«module» before
 AskedBy (Some command) before after ScriptRefused = after ≡ logged command.schedule (logged command.«module» before)
 AskedBy (Some command) before after Done = after ≡ logged command.schedule (logged command.«module» before)
-AskedBy (Some command) before after status = Unit {0}
+AskedBy (Some command) before after status = ⊥
+
+-- The same of the status with which the program ends: where writing failed there was an answer, so one file or both
+-- were asked for; where memory was refused it may have been before the first.
+abbrev pub AskedAtEnd : Option Command → Option (List (List ℕ)) → Option (List (List ℕ)) → Status → Type 0
+AskedAtEnd None before after status = after ≡ before
+AskedAtEnd (Some command) before after WriteFault = AskedOneOrBoth command before after
+AskedAtEnd (Some command) before after refused_memory = (after ≡ before) ⊎ AskedOneOrBoth command before after
+AskedAtEnd (Some command) before after status = AskedBy (Some command) before after status
 
 -- the same of what was prepared, where a schedule that is ready is on its way to be done
 abbrev pub AskedFor : Option Command → Option (List (List ℕ)) → Option (List (List ℕ)) → Prepared → Type 0

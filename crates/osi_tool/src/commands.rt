@@ -13,7 +13,7 @@ pub struct Replay<'a> {
 }
 
 /// Whether a word may be a name: it doesn't begin with `-`, or is `-` alone.
-fn is_name(word: &Name) -> bool
+pub(crate) fn is_name(word: &Name) -> bool
     ensures { result ≡ is_name word.now }
 {
     match word.as_bytes() {
@@ -23,7 +23,7 @@ fn is_name(word: &Name) -> bool
 }
 
 /// Whether the name has this text.
-fn is_word(name: &Name, word: &str) -> bool
+pub(crate) fn is_word(name: &Name, word: &str) -> bool
     ensures { result ≡ bytes_eq name.now word.now }
 {
     name.as_bytes() == word.as_bytes()

@@ -4,9 +4,9 @@ ghost use Rattle.std.specs.Prelude.{◌≡◌, ◌∷◌, [], IfOk, pos, codes};
 ghost use Rattle.osi_tool.specs.Known.{is_one_module, integer_type, add_operation, one_tables};
 
 use asn1_types::{TypeId, TypeRow, TypeTable};
-use osi_base::{Indices, ListOf, Name, NoMemory, Oid};
+use osi_base::{Indices, Name, NoMemory, Oid};
 use std::alloc::Global;
-use stub_tables::{Code, Operation, Operations, Tables, Use};
+use stub_tables::{Code, ErrorRows, Operation, Operations, Tables, Use};
 
 /// The text of the one module that is known.
 pub const ONE_MODULE: &str =
@@ -42,7 +42,7 @@ fn one_operations(alloc: Global) -> Result<Operations, NoMemory>
         inner: Some(TypeId(0)),
         optional: false,
     };
-    let mut operations = ListOf::new(alloc);
+    let mut operations = Operations::new(alloc);
     operations.push(Operation {
         name: Name::from_str(alloc, "add")?,
         code: Code::Local(1),
@@ -65,6 +65,6 @@ pub fn one_tables(alloc: Global) -> Result<Tables, NoMemory>
         name_oid: Oid::from_slice(alloc, &[2, 999, 7, 4])?,
         types: one_types(alloc)?,
         operations: one_operations(alloc)?,
-        errors: ListOf::new(alloc),
+        errors: ErrorRows::new(alloc),
     })
 }

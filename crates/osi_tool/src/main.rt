@@ -12,6 +12,9 @@ mod statuses;
 #[cfg(test)]
 mod tests;
 mod top;
+#[cfg(test)]
+mod trace_tests;
+mod tracing;
 
 use osi_base::{DiskFiles, StdSink, TcpLine};
 use process::{Arguments, run_process};

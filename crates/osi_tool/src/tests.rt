@@ -9,7 +9,8 @@ use osi_base::{
 use std::alloc::Global;
 use std::test::Fail;
 
-fn words(alloc: Global, texts: &[&str]) -> Result<Words, NoMemory> {
+/// Words of these texts.
+pub(crate) fn words(alloc: Global, texts: &[&str]) -> Result<Words, NoMemory> {
     let mut words = Words::new(alloc);
     for text in texts {
         words.push(Name::from_str(alloc, text)?)?;
@@ -18,7 +19,11 @@ fn words(alloc: Global, texts: &[&str]) -> Result<Words, NoMemory> {
 }
 
 /// Files of these names and contents. The calls of `read` with these numbers fail.
-fn files(alloc: Global, texts: &[(&str, &str)], numbers: Vec<u64>) -> Result<MemFiles, NoMemory> {
+pub(crate) fn files(
+    alloc: Global,
+    texts: &[(&str, &str)],
+    numbers: Vec<u64>,
+) -> Result<MemFiles, NoMemory> {
     let mut files = ListOf::new(alloc);
     for (name, contents) in texts {
         files.push(MemFile {

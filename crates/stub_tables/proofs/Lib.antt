@@ -1,3 +1,4 @@
+pub mod CodePlaces
 pub mod OwnCodes
 pub mod Readings
 pub mod WrittenApdus

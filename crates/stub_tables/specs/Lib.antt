@@ -1,4 +1,5 @@
 pub mod Codes
+pub mod Places
 pub mod Lookup
 pub mod Uses
 pub mod Heads

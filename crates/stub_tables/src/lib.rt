@@ -2,13 +2,16 @@
 #![tactic(auto)]
 
 mod apdu;
+mod code_places;
 mod laws;
 mod lookup;
 mod operation;
 mod readable;
+mod rows;
 mod tables;
 
 pub use apdu::{Apdu, Returned};
 pub use laws::{one_apdu, written_apdu_is_spelled};
-pub use operation::{Code, ErrorRow, ErrorRows, Operation, Operations, Use};
+pub use operation::{Code, ErrorRow, Operation, Use};
+pub use rows::{ErrorRows, Operations};
 pub use tables::Tables;

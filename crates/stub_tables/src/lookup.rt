@@ -1,29 +1,10 @@
 //! Look-ups in the tables of a module.
 
-ghost use Rattle.std.specs.Prelude.{◌≡◌, ◌<◌, length, IfSome};
+ghost use Rattle.std.specs.Prelude.{◌≡◌};
 ghost use Rattle.std.specs.Option.{option_copied};
-ghost use Rattle.stub_tables.specs.Codes.{place_with};
 
 use crate::operation::{Code, ErrorRow, Operation};
 use crate::tables::Tables;
-
-/// The place of the first operation with this code.
-fn operation_place(operations: &[Operation], code: &Code) -> Option<usize>
-    ensures place { result ≡ place_with (λ o. o.code) code.now operations.now }
-    ensures bound { IfSome result (λ place. place < length operations.now) }
-{
-    operations
-        .iter()
-        .position(|operation| operation.code.is(code))
-}
-
-/// The place of the first error with this code.
-fn error_place(errors: &[ErrorRow], code: &Code) -> Option<usize>
-    ensures place { result ≡ place_with (λ e. e.code) code.now errors.now }
-    ensures bound { IfSome result (λ place. place < length errors.now) }
-{
-    errors.iter().position(|error| error.code.is(code))
-}
 
 impl Tables {
     ghost use Rattle.stub_tables.specs.Lookup.{operation_at, error_at, operation_with, error_with};
@@ -46,7 +27,7 @@ impl Tables {
     pub fn operation_with(&self, code: &Code) -> Option<u32>
         ensures { result ≡ operation_with self.now code.now }
     {
-        match operation_place(self.operations.as_slice(), code) {
+        match self.operations.place(code) {
             Some(place) => Some(place as u32),
             None => None,
         }
@@ -56,7 +37,7 @@ impl Tables {
     pub fn error_with(&self, code: &Code) -> Option<u32>
         ensures { result ≡ error_with self.now code.now }
     {
-        match error_place(self.errors.as_slice(), code) {
+        match self.errors.place(code) {
             Some(place) => Some(place as u32),
             None => None,
         }

@@ -4,7 +4,7 @@ ghost use Rattle.std.specs.Prelude.{◌≡◌};
 
 use asn1_types::{TypeId, TypeTable, Val};
 use ber_writing::fits;
-use osi_base::{Copied, Indices, ListOf, Name, NoMemory, Oid};
+use osi_base::{Copied, Indices, Name, NoMemory, Oid};
 use std::alloc::Global;
 
 /// What an operation or an error carries: a value of a type, or nothing.
@@ -47,12 +47,6 @@ pub struct ErrorRow {
     pub code: Code,
     pub parameter: Use,
 }
-
-/// The operations of a module, in the order of its text.
-pub type Operations = ListOf<Operation>;
-
-/// The errors of a module, in the order of its text.
-pub type ErrorRows = ListOf<ErrorRow>;
 
 impl Copied for Code {
     fn copy(&self, alloc: Global) -> Result<Code, NoMemory> {

@@ -3,7 +3,7 @@
 ghost use Rattle.std.specs.Prelude.{◌≡◌, ◌<◌, ◌^◌, length, IsTrue};
 ghost use Rattle.stub_tables.specs.Codes.{have_own_codes};
 
-use crate::operation::{ErrorRows, Operations};
+use crate::rows::{ErrorRows, Operations};
 use asn1_types::TypeTable;
 use osi_base::{Name, Oid};
 

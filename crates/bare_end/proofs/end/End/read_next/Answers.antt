@@ -1,18 +1,17 @@
-use Rattle.bare_end.proofs.Fed.{read_short, whole_first, read_faulty}
+use Rattle.std.proofs.Common.{Bool, ap, sym, ◌∙◌, subst}
+use Rattle.std.specs.Prelude.{MatchResult}
+use Rattle.end_rules.specs.State.{passes_over}
+use Rattle.bare_end.specs.First.{IsFirst}
+use Rattle.bare_end.specs.View.{EndView, Keeps}
+use Rattle.bare_end.specs.Feed.{Goes}
 use Rattle.bare_end.proofs.end.End.read_next.Goals as goal
 
-pub returns-in-Short : goal.returns-in-Short
-returns-in-Short c = read_short c.args.self.now c.args.shown.now c.in_ok-front.front c.requires c.in_ok-front.ensures c.in-Short.is
+pub read-requires-clause-first : goal.read-requires-clause-first
+read-requires-clause-first c = subst (λ (e : EndView). IsFirst e.rest c.front-front.result) (sym c.front-front.ensures.same) c.front-front.ensures.first
 
-pub take-requires-clause-first : goal.take-requires-clause-first
-take-requires-clause-first c = (whole_first c.args.self.now.rest c.in_ok-front.front c.in-Whole.used c.in_ok-front.ensures c.in-Whole.is).first
+pub read-requires-clause-up : goal.read-requires-clause-up
+read-requires-clause-up c = ap (λ (e : EndView). passes_over e.phase) c.front-front.ensures.same ∙ c.requires
 
-pub take-requires-clause-some : goal.take-requires-clause-some
-take-requires-clause-some c = (whole_first c.args.self.now.rest c.in_ok-front.front c.in-Whole.used c.in_ok-front.ensures c.in-Whole.is).some
-
-pub take-requires-clause-within : goal.take-requires-clause-within
-take-requires-clause-within c = (whole_first c.args.self.now.rest c.in_ok-front.front c.in-Whole.used c.in_ok-front.ensures c.in-Whole.is).within
-
-pub returns-in_ok-abort-in-Faulty : goal.returns-in_ok-abort-in-Faulty
-returns-in_ok-abort-in-Faulty c =
-    read_faulty c.args.self.now c.abort.new.self c.args.shown.now c.abort.new.shown c.in_ok-front.front c.in-Faulty.place c.requires c.in_ok-front.ensures c.in-Faulty.is c.in_ok-abort-in-Faulty.ensures.ok c.in_ok-abort-in-Faulty.ensures.shown
+pub returns : goal.returns
+returns c =
+    subst (λ (e : EndView). MatchResult c.read.result (λ (more : Bool). Goes more e c.read.new.self c.args.shown.now c.read.new.shown) (λ _. Keeps e c.read.new.self)) c.front-front.ensures.same c.read.ensures

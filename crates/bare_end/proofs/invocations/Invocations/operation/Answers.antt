@@ -1,4 +1,4 @@
-use Rattle.std.proofs.Common.{Option, sym, ap, ◌∙◌}
+use Rattle.std.proofs.Common.{sym, ap, ◌∙◌}
 use Rattle.std.specs.Option.{option_map}
 use Rattle.end_rules.specs.State.{Calls, opened_with}
 use Rattle.rose_roles.specs.declared.called.Called.{Called}

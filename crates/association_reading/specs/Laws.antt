@@ -1,0 +1,150 @@
+-- The laws of messages of an association in octets: what is written of a word stands first, whatever follows, and what is
+-- meant under the sets of an end is read back as itself.
+use Rattle.osi_base.specs.declared.acse_word.Acse.{Acse}
+use Rattle.acse.specs.Written.{IsWritable as IsWritableAcse}
+use Rattle.rtse_apdus.specs.Written.{IsWritable as IsWritableRtse}
+use Rattle.osi_base.specs.declared.rtse_word.Rtse.TheVariants as rtse
+use Rattle.tpkt.specs.Wire.{IsTwo, tsdu_limit}
+use Rattle.tpkt.specs.Written.{HasRoom}
+use Rattle.association_wire.specs.Written.{request_ends, confirm_ends, written_unit, with_user, session_units, tsdu_of, written}
+use Rattle.end_rules.specs.Messages.{Association, Plea, Part, TransportUnit, ConnectionRequest, ConnectionConfirm, DisconnectRequest, Remote, Value, NoData, Word, OfAssociation, Refuse, Finish, Disconnect, Abort, AbortAccept, OfData, Values, AlterContext, AlterContextAck, OfMarks, Mark, MarkAck, Restart, RestartAck, Give, Please, GiveConfirm, GiveAck, OfActivities, Session, unit_of}
+use Rattle.association_reading.specs.Front.{OfTransport, OfSession, first_in, with_octets, nothing_came}
+use Rattle.association_reading.specs.Values.{without_user, content_under}
+use Rattle.std.specs.Prelude.{◌≡◌, ℕ, ◌≤◌, List, [], ◌∷◌, ◌++◌, length, true, false, Option, Some, None, Ok}
+use Rattle.osi_base.specs.declared.syntax.Pair.{Pair}
+use Rattle.osi_base.specs.declared.words.SetItem.{SetItem}
+use Rattle.osi_base.specs.declared.words.Proposal.{Proposal}
+use Rattle.osi_base.specs.declared.words.Answers.{Answers}
+use Rattle.osi_base.specs.declared.words.RestoredItem.{RestoredItem}
+use Rattle.osi_base.specs.declared.presentation_word.PresentationWord.{PresentationWord}
+use Rattle.osi_base.specs.declared.presentation_word.PresentationWord.TheVariants as ppdus
+use Rattle.stub_tables.specs.declared.tables.Tables.{Tables}
+use Rattle.stub_tables.specs.declared.apdu.Apdu.{Apdu}
+use Rattle.stub_tables.specs.Readable.{IsReadable}
+use Rattle.apdu_spelling.specs.Writing.{IsWritable}
+use Rattle.tpkt.specs.Stream.{IsOctets}
+use Rattle.spdu_codec.specs.Written.{AreWritable}
+use Rattle.presentation_pdus.specs.declared.place.PpduPlace.{PpduPlace}
+use Rattle.presentation_pdus.specs.declared.place.PpduPlace.TheVariants as place
+use Rattle.presentation_pdus.specs.Words.{written_ppdu}
+use Rattle.presentation_pdus.specs.Units.{ppdu_at}
+use Rattle.end_rules.specs.Base.{Base, acse_name, rtse_name}
+use Rattle.end_rules.specs.Sets.{same_name, pair_of}
+use Rattle.end_rules.specs.State.{Body}
+use Rattle.association_wire.specs.Values.{content_octets, pdvs_of}
+use Rattle.association_wire.specs.Units.{user_octets}
+use Rattle.association_reading.specs.Contexts.{is_carried}
+use Rattle.association_reading.specs.Meaning.{meaning, carried_by_data}
+
+-- ---- what stands first
+
+-- the units of the session may be written, and their octets are those of one TSDU
+pub record IsSendable (tables : Tables) (word : Word) : Type 0 where
+  pub units : AreWritable (session_units tables word)
+  pub octets : IsOctets (tsdu_of tables word)
+  pub within : length (tsdu_of tables word) ≤ tsdu_limit
+
+-- What is written of a word stands first on a line, whatever follows.
+abbrev pub WrittenStandsFirst : Type 0
+WrittenStandsFirst =
+    (tables : Tables) (size : ℕ) (word : Word) (more : List ℕ) → 128 ≤ size → size ≤ 65531 → IsSendable tables word →
+    (start : ℕ) × (first_in (with_octets (written tables size (Session word) ++ more) nothing_came) ≡ OfSession (with_user (user_octets tables word) (unit_of word)) start)
+
+-- ---- what it means
+
+-- In these words the end has nothing to ask of a set of contexts, and nothing of the presentation.
+abbrev pub IsOfSession : Word → Type 0
+IsOfSession (OfAssociation (Refuse transport reason None [])) = Unit {0}
+IsOfSession (OfAssociation (Abort transport NoData)) = Unit {0}
+IsOfSession (OfAssociation AbortAccept) = Unit {0}
+IsOfSession (OfMarks (Mark number)) = Unit {0}
+IsOfSession (OfMarks (MarkAck number)) = Unit {0}
+IsOfSession (OfMarks (Give tokens)) = Unit {0}
+IsOfSession (OfMarks (Please tokens [])) = Unit {0}
+IsOfSession (OfMarks GiveConfirm) = Unit {0}
+IsOfSession (OfMarks GiveAck) = Unit {0}
+IsOfSession (OfActivities word) = Unit {0}
+IsOfSession word = ⊥
+
+abbrev pub IsReadAs : Word → Type 0
+IsReadAs word =
+    (base : Base) (body : Body) (start : ℕ) → meaning base body (with_user (user_octets base.tables word) (unit_of word)) start ≡ Ok word
+
+abbrev pub SessionWordsAreReadBack : Type 0
+SessionWordsAreReadBack = (word : Word) → IsOfSession word → IsReadAs word
+
+-- the octets of a unit of the presentation are read back in what carries it
+abbrev pub IsReadBackIn : PpduPlace → PresentationWord → Type 0
+IsReadBackIn carrier unit = ppdu_at carrier (written_ppdu unit) ≡ Ok unit
+
+-- alterations, restarts and their answers, where their units of the presentation are read back
+pub record AlterationsAreReadBack : Type 0 where
+  pub alter : (add : List Proposal) (delete : List ℕ) → IsReadBackIn place.Td (ppdus.Alter add delete) → IsReadAs (OfData (AlterContext add delete))
+  pub alter_ack : (answers : Answers) → IsReadBackIn place.Td (ppdus.AlterAck answers) → IsReadAs (OfData (AlterContextAck answers))
+  pub restart : (number : ℕ) (list : Option (List RestoredItem)) → IsReadBackIn place.Rs (ppdus.Resynchronize list) → IsReadAs (OfMarks (Restart number list))
+  pub restart_ack : (number : ℕ) (list : Option (List RestoredItem)) → IsReadBackIn place.Ra (ppdus.ResynchronizeAck list) → IsReadAs (OfMarks (RestartAck number list))
+
+-- ---- values
+
+-- a value is meant under a set in a message that carries values of this abstract syntax: its pair is that of its context,
+-- and its content is what its octets are under the pair
+pub record IsMeant (tables : Tables) (set : List SetItem) (carried : List ℕ) (value : Value) : Type 0 where
+  pub pair : Pair
+  pub has_pair : value.pair ≡ Some pair
+  pub in_set : pair_of set value.id ≡ Some pair
+  pub carries : is_carried carried pair.abstract_name ≡ true
+  pub content : content_under tables pair (content_octets tables pair.transfer value.content) ≡ Ok value.content
+
+abbrev pub AreMeantIn : Tables → List SetItem → List ℕ → List Value → Type 0
+AreMeantIn tables set carried [] = Unit {0}
+AreMeantIn tables set carried (value ∷ values) = IsMeant tables set carried value × AreMeantIn tables set carried values
+
+-- data, pleas, releases and their answers, where their units are read back and their values are meant under the held set
+pub record DataAreReadBack : Type 0 where
+  pub values : (base : Base) (body : Body) (start : ℕ) (value : Value) (values : List Value) →
+      IsReadBackIn place.Dt (ppdus.Data (pdvs_of base.tables (value ∷ values))) → AreMeantIn base.tables body.sets.held (carried_by_data base) (value ∷ values) →
+      meaning base body (with_user (user_octets base.tables (OfData (Values (value ∷ values)))) (unit_of (OfData (Values (value ∷ values))))) start ≡ Ok (OfData (Values (value ∷ values)))
+  pub please : (base : Base) (body : Body) (start : ℕ) (tokens : ℕ) (value : Value) (values : List Value) →
+      IsReadBackIn place.Pt (ppdus.Data (pdvs_of base.tables (value ∷ values))) → AreMeantIn base.tables body.sets.held rtse_name (value ∷ values) →
+      meaning base body (with_user (user_octets base.tables (OfMarks (Please (Some tokens) (value ∷ values)))) (unit_of (OfMarks (Please (Some tokens) (value ∷ values))))) start ≡ Ok (OfMarks (Please (Some tokens) (value ∷ values)))
+  pub finish : (base : Base) (body : Body) (start : ℕ) (transport : Option ℕ) (value : Value) (values : List Value) →
+      IsReadBackIn place.Fn (ppdus.Data (pdvs_of base.tables (value ∷ values))) → AreMeantIn base.tables body.sets.held acse_name (value ∷ values) →
+      meaning base body (with_user (user_octets base.tables (OfAssociation (Finish transport (value ∷ values)))) (unit_of (OfAssociation (Finish transport (value ∷ values))))) start ≡ Ok (OfAssociation (Finish transport (value ∷ values)))
+  pub disconnect : (base : Base) (body : Body) (start : ℕ) (value : Value) (values : List Value) →
+      IsReadBackIn place.Dn (ppdus.Data (pdvs_of base.tables (value ∷ values))) → AreMeantIn base.tables body.sets.held acse_name (value ∷ values) →
+      meaning base body (with_user (user_octets base.tables (OfAssociation (Disconnect (value ∷ values)))) (unit_of (OfAssociation (Disconnect (value ∷ values))))) start ≡ Ok (OfAssociation (Disconnect (value ∷ values)))
+
+-- An APDU of the module that may be written is what its octets are, on a context of neither association control nor
+-- reliable transfer.
+abbrev pub RemoteIsReadBack : Type 0
+RemoteIsReadBack =
+    (tables : Tables) (pair : Pair) (apdu : Apdu) → IsReadable tables → IsWritable tables pair.transfer apdu →
+    same_name pair.abstract_name acse_name ≡ false → same_name pair.abstract_name rtse_name ≡ false →
+    content_under tables pair (content_octets tables pair.transfer (Remote apdu)) ≡ Ok (Remote apdu)
+
+-- An APDU of association control without user information that may be written is what its octets are, on a context of
+-- association control.
+abbrev pub AssociationIsReadBack : Type 0
+AssociationIsReadBack =
+    (tables : Tables) (pair : Pair) (apdu : Acse) → IsWritableAcse (without_user apdu) → same_name pair.abstract_name acse_name ≡ true →
+    content_under tables pair (content_octets tables pair.transfer (Association (without_user apdu) [])) ≡ Ok (Association (without_user apdu) [])
+
+-- So are a plea and a part of a transfer on a context of reliable transfer.
+pub record TransferWordsAreReadBack : Type 0 where
+  pub plea : (tables : Tables) (pair : Pair) (priority : ℕ) → IsWritableRtse (rtse.TurnPlease priority) →
+      same_name pair.abstract_name acse_name ≡ false → same_name pair.abstract_name rtse_name ≡ true →
+      content_under tables pair (content_octets tables pair.transfer (Plea priority)) ≡ Ok (Plea priority)
+  pub part : (tables : Tables) (pair : Pair) (octets : List ℕ) → IsWritableRtse (rtse.Transfer octets) →
+      same_name pair.abstract_name acse_name ≡ false → same_name pair.abstract_name rtse_name ≡ true →
+      content_under tables pair (content_octets tables pair.transfer (Part octets)) ≡ Ok (Part octets)
+
+-- ---- transport units: a CR, a CC and a DR to an initiator stand first, whatever follows
+
+abbrev pub StandsFirst : TransportUnit → Type 0
+StandsFirst unit = (more : List ℕ) → IsOctets (written_unit unit) → first_in (with_octets (written_unit unit ++ more) nothing_came) ≡ OfTransport unit
+
+pub record TransportUnitsStandFirst : Type 0 where
+  pub request : (source : ℕ) (size : Option ℕ) (calling called : List ℕ) → IsTwo source → HasRoom (request_ends source size calling called) →
+      StandsFirst (ConnectionRequest source size calling called)
+  pub confirm : (destination : ℕ) (size : Option ℕ) → IsTwo destination → HasRoom (confirm_ends destination size) → StandsFirst (ConnectionConfirm destination size)
+  pub refuse : StandsFirst (DisconnectRequest 1)

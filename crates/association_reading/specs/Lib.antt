@@ -1,0 +1,10 @@
+pub mod Front
+pub mod Places
+pub mod Contexts
+pub mod Values
+pub mod Association
+pub mod Meaning
+pub mod Transfers
+pub mod Reacting
+pub mod Cases
+pub mod Laws

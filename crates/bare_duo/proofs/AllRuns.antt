@@ -1,0 +1,372 @@
+-- Every run of two ends in bare mode keeps the laws.
+use Rattle.std.proofs.Common.{◌≡◌, refl, false, ◌∙◌, sym, ap, subst, ℕ, zero, suc, List, [], ◌∷◌, ◌++◌, length, drop, take, append_assoc}
+use Rattle.std.specs.Prelude.{Option, Some, None}
+use Rattle.osi_base.specs.declared.words.Side.{Side}
+use Rattle.osi_base.specs.declared.words.Side.TheVariants.{A, B}
+use Rattle.stub_tables.specs.declared.tables.Tables.{Tables}
+use Rattle.stub_tables.specs.Readable.{IsReadable}
+use Rattle.dialogue.specs.declared.config.Config.{Config}
+use Rattle.dialogue.specs.declared.event.Event.{Event}
+use Rattle.dialogue.specs.declared.event.Entry.{Entry}
+use Rattle.dialogue.specs.declared.event.Entry.TheVariants as entries
+use Rattle.dialogue.specs.declared.indication.Indication.{Indication}
+use Rattle.dialogue.specs.declared.call.Call.{Call}
+use Rattle.end_rules.specs.Base.{Base}
+use Rattle.end_rules.specs.Messages.{Message}
+use Rattle.end_rules.specs.State.{passes_over}
+use Rattle.end_rules.specs.Invoking.{Reply}
+use Rattle.end_rules.specs.Calling.{can_call}
+use Rattle.end_rules.specs.Requesting.{due_of}
+use Rattle.end_rules.specs.History.{Step, fed, gave, broke, call_steps}
+use Rattle.end_rules.specs.World.{World, Ends}
+use Rattle.end_wire.specs.Bare.{Short, first_at}
+use Rattle.end_wire.specs.Line.{End, after}
+use Rattle.end_wire.specs.Feeding.{Reads}
+use Rattle.end_wire.specs.Laws.{WrittenIsFirst, OneContent}
+use Rattle.agreement.specs.Sets.{Role}
+use Rattle.agreement.specs.Sets.Role.{Initiator, Responder}
+use Rattle.end_model.specs.Seen.{Free}
+use Rattle.end_model.specs.Acting.{ReadsBack}
+use Rattle.end_model.specs.Pairs.{base_at, two_new, begins, WritesAll, BareModelled}
+use Rattle.bare_duo.specs.Shows.{shown_by, shown_all}
+use Rattle.bare_duo.specs.Worlds.{end_at, stepping, first_octets, Runs, rests, calls, carries, breaks}
+use Rattle.bare_duo.specs.Laws.{sent_by, taken_by, NothingWrong, NothingWholeWaits, shown_to, indications_at}
+use Rattle.bare_duo.proofs.Fronts.{nothing_first}
+use Rattle.bare_duo.proofs.Kept.{View, moved_all, AllCalm, pair, at_role, Holds, carried, both_lost, holds_called, call_took, call_rest, call_up, holds_carried, holds_broke, reads_so, peer_stays, peer_took_stays, calm_sent}
+
+append-nil : {X : Type 0} (xs : List X) → xs ++ [] ≡ xs
+append-nil [] = refl
+append-nil (x ∷ xs) = ap (λ ys. x ∷ ys) (append-nil xs)
+
+shown-append : (t : Tables) (ms ns : List Message) → shown_all t (ms ++ ns) ≡ shown_all t ms ++ shown_all t ns
+shown-append t [] ns = refl
+shown-append t (m ∷ ms) ns = ap (λ (l : List Indication). shown_by t m ++ l) (shown-append t ms ns) ∙ sym (append_assoc (shown_by t m) (shown_all t ms) (shown_all t ns))
+
+-- the first octets, and the others
+first_some : (most : Option ℕ) (octets : List ℕ) → octets ≡ first_octets most octets ++ drop (length (first_octets most octets)) octets
+first_some None octets = sym (ap (λ (l : List ℕ). octets ++ l) (drop_all octets) ∙ append-nil octets)
+  where
+    drop_all : (l : List ℕ) → drop (length l) l ≡ []
+    drop_all [] = refl
+    drop_all (x ∷ l) = drop_all l
+first_some (Some n) octets = go n octets
+  where
+    go : (n : ℕ) (l : List ℕ) → l ≡ take n l ++ drop (length (take n l)) l
+    go zero l = refl
+    go (suc n) [] = refl
+    go (suc n) (x ∷ l) = ap (λ (k : List ℕ). x ∷ k) (go n l)
+
+indications-append : (side : Side) (one more : List Entry) → indications_at side (one ++ more) ≡ indications_at side one ++ indications_at side more
+indications-append side [] more = refl
+indications-append side (e ∷ es) more =
+    ap (λ (l : List Indication). shown_to side e ++ l) (indications-append side es more) ∙ sym (append_assoc (shown_to side e) (indications_at side es) (indications_at side more))
+
+-- calm steps leave a world calm
+calm_on : (side : Side) (w : World) (steps : List Step) → AllCalm steps → NothingWrong w → NothingWrong (stepping side w steps)
+calm_on side w [] h k = k
+calm_on side w (x ∷ xs) h k = calm_on side (record { side = side; step = x } ∷ w) xs h.1 (h.0, k)
+
+module _ (t : Tables) (ca cb : Config) (free : Free) (readable : IsReadable t) (writes : WritesAll free) (modelled : BareModelled) (first_law : WrittenIsFirst) (one_content : OneContent) (back : ReadsBack (base_at Initiator (pair t ca cb free readable writes modelled first_law one_content))) where
+  abbrev pub base : Role → Base
+  base role = at_role t ca cb free readable writes modelled first_law one_content role
+
+  abbrev pub ends : Ends
+  ends = record { a = base Initiator; b = base Responder }
+
+  abbrev HoldsAt : Role → View → Type 0
+  HoldsAt role v = Holds t ca cb free readable writes modelled first_law one_content role v
+
+  -- two ends as one of them sees it
+  abbrev view_a : World → View
+  view_a w = record { own = end_at ends A w; peer = end_at ends B w; own_sent = sent_by A w; own_took = taken_by A w; peer_sent = sent_by B w; peer_took = taken_by B w }
+
+  abbrev view_b : World → View
+  view_b w = record { own = end_at ends B w; peer = end_at ends A w; own_sent = sent_by B w; own_took = taken_by B w; peer_sent = sent_by A w; peer_took = taken_by A w }
+
+  to_b : (w : World) → HoldsAt Initiator (view_a w) → HoldsAt Responder (view_b w)
+  to_b w h = record { two = h.two; reached = h.reached; own_is = h.peer_is; peer_is = h.own_is; from = h.to; to = h.from }
+
+  to_a : (w : World) → HoldsAt Responder (view_b w) → HoldsAt Initiator (view_a w)
+  to_a w h = record { two = h.two; reached = h.reached; own_is = h.peer_is; peer_is = h.own_is; from = h.to; to = h.from }
+
+  steps_a : (w : World) (steps : List Step) → view_a (stepping A w steps) ≡ moved_all (base Initiator) (view_a w) steps
+  steps_a w [] = refl
+  steps_a w (x ∷ xs) = steps_a (record { side = A; step = x } ∷ w) xs
+
+  steps_b : (w : World) (steps : List Step) → view_b (stepping B w steps) ≡ moved_all (base Responder) (view_b w) steps
+  steps_b w [] = refl
+  steps_b w (x ∷ xs) = steps_b (record { side = B; step = x } ∷ w) xs
+
+  -- ---- what is kept between events
+
+  pub record Kept (w : World) : Type 0 where
+    pub holds : HoldsAt Initiator (view_a w)
+    pub calm : NothingWrong w
+    pub whole : NothingWholeWaits ends w
+
+  -- what an event adds to what the ends took, and what it shows
+  pub record Added (w v : World) (told : List Entry) : Type 0 where
+    pub kept : Kept v
+    pub new_a : List Message
+    pub new_b : List Message
+    pub took_a : taken_by A v ≡ taken_by A w ++ new_a
+    pub took_b : taken_by B v ≡ taken_by B w ++ new_b
+    pub shown_a : indications_at A told ≡ shown_all t new_a
+    pub shown_b : indications_at B told ≡ shown_all t new_b
+
+  pub first_kept : Kept []
+  first_kept = record {
+    holds = record {
+      two = two_new (pair t ca cb free readable writes modelled first_law one_content);
+      reached = begins;
+      own_is = refl;
+      peer_is = refl;
+      from = record { octets = λ up. refl; good = tt; all = tt; gone = []; kept = refl; none_gone = λ up. refl };
+      to = record { octets = λ up. refl; good = tt; all = tt; gone = []; kept = refl; none_gone = λ up. refl };
+    };
+    calm = tt;
+    whole = first_whole;
+  }
+    where
+      first_whole : NothingWholeWaits ends []
+      first_whole A n = nothing_first
+      first_whole B n = nothing_first
+
+  -- ---- calls
+
+  call_at_a : (w : World) (call : Call) → Kept w → Kept (stepping A w (call_steps (base Initiator) (end_at ends A w).body call))
+  call_at_a w call k =
+      let reply : Reply = can_call (base Initiator) (end_at ends A w).body call in
+      let steps : List Step = call_steps (base Initiator) (end_at ends A w).body call in
+      let is = steps_a w steps in
+      record {
+        holds = subst (λ (x : View). HoldsAt Initiator x) (sym is) (holds_called t ca cb free readable writes modelled first_law one_content back Initiator (view_a w) call reply k.holds refl);
+        calm = calm_on A w steps (tt, calm_sent (due_of (base Initiator) (end_at ends A w).body call reply)) k.calm;
+        whole = wholes;
+      }
+    where
+      wholes : NothingWholeWaits ends (stepping A w (call_steps (base Initiator) (end_at ends A w).body call))
+      wholes A n =
+          let reply : Reply = can_call (base Initiator) (end_at ends A w).body call in
+          let is = steps_a w (call_steps (base Initiator) (end_at ends A w).body call) in
+          let up = call_up t ca cb free readable writes modelled first_law one_content Initiator (view_a w) call reply refl (sym (ap (λ (x : View). passes_over x.own.body.link.phase) is) ∙ n) in
+          ap (λ (x : View). first_at x.own.line.rest) is ∙ ap first_at (call_rest t ca cb free readable writes modelled first_law one_content Initiator (view_a w) call reply) ∙ k.whole A up
+      wholes B n =
+          let is = ap (λ (x : View). x.peer) (steps_a w (call_steps (base Initiator) (end_at ends A w).body call)) ∙ peer_stays (base Initiator) (view_a w) (call_steps (base Initiator) (end_at ends A w).body call) in
+          ap (λ (x : End). first_at x.line.rest) is ∙ k.whole B (sym (ap (λ (x : End). passes_over x.body.link.phase) is) ∙ n)
+
+  call_at_b : (w : World) (call : Call) → Kept w → Kept (stepping B w (call_steps (base Responder) (end_at ends B w).body call))
+  call_at_b w call k =
+      let reply : Reply = can_call (base Responder) (end_at ends B w).body call in
+      let steps : List Step = call_steps (base Responder) (end_at ends B w).body call in
+      let is = steps_b w steps in
+      record {
+        holds = to_a (stepping B w steps) (subst (λ (x : View). HoldsAt Responder x) (sym is) (holds_called t ca cb free readable writes modelled first_law one_content back Responder (view_b w) call reply (to_b w k.holds) refl));
+        calm = calm_on B w steps (tt, calm_sent (due_of (base Responder) (end_at ends B w).body call reply)) k.calm;
+        whole = wholes;
+      }
+    where
+      wholes : NothingWholeWaits ends (stepping B w (call_steps (base Responder) (end_at ends B w).body call))
+      wholes B n =
+          let reply : Reply = can_call (base Responder) (end_at ends B w).body call in
+          let is = steps_b w (call_steps (base Responder) (end_at ends B w).body call) in
+          let up = call_up t ca cb free readable writes modelled first_law one_content Responder (view_b w) call reply refl (sym (ap (λ (x : View). passes_over x.own.body.link.phase) is) ∙ n) in
+          ap (λ (x : View). first_at x.own.line.rest) is ∙ ap first_at (call_rest t ca cb free readable writes modelled first_law one_content Responder (view_b w) call reply) ∙ k.whole B up
+      wholes A n =
+          let is = ap (λ (x : View). x.peer) (steps_b w (call_steps (base Responder) (end_at ends B w).body call)) ∙ peer_stays (base Responder) (view_b w) (call_steps (base Responder) (end_at ends B w).body call) in
+          ap (λ (x : End). first_at x.line.rest) is ∙ k.whole A (sym (ap (λ (x : End). passes_over x.body.link.phase) is) ∙ n)
+
+  added_by_a : (w : World) (call : Call) (answer : Reply) → Kept w → Added w (stepping A w (call_steps (base Initiator) (end_at ends A w).body call)) (entries.Call A call answer ∷ [])
+  added_by_a w call answer k =
+      let reply : Reply = can_call (base Initiator) (end_at ends A w).body call in
+      let steps : List Step = call_steps (base Initiator) (end_at ends A w).body call in
+      let is = steps_a w steps in
+      record {
+        kept = call_at_a w call k;
+        new_a = [];
+        new_b = [];
+        took_a = ap (λ (x : View). x.own_took) is ∙ call_took t ca cb free readable writes modelled first_law one_content Initiator (view_a w) call reply ∙ sym (append-nil (taken_by A w));
+        took_b = ap (λ (x : View). x.peer_took) is ∙ peer_took_stays (base Initiator) (view_a w) steps ∙ sym (append-nil (taken_by B w));
+        shown_a = refl;
+        shown_b = refl;
+      }
+
+  added_by_b : (w : World) (call : Call) (answer : Reply) → Kept w → Added w (stepping B w (call_steps (base Responder) (end_at ends B w).body call)) (entries.Call B call answer ∷ [])
+  added_by_b w call answer k =
+      let reply : Reply = can_call (base Responder) (end_at ends B w).body call in
+      let steps : List Step = call_steps (base Responder) (end_at ends B w).body call in
+      let is = steps_b w steps in
+      record {
+        kept = call_at_b w call k;
+        new_a = [];
+        new_b = [];
+        took_b = ap (λ (x : View). x.own_took) is ∙ call_took t ca cb free readable writes modelled first_law one_content Responder (view_b w) call reply ∙ sym (append-nil (taken_by B w));
+        took_a = ap (λ (x : View). x.peer_took) is ∙ peer_took_stays (base Responder) (view_b w) steps ∙ sym (append-nil (taken_by A w));
+        shown_a = refl;
+        shown_b = refl;
+      }
+
+  -- ---- carries
+
+  abbrev given_to_b : World → ℕ → List ℕ → World
+  given_to_b w n octets = record { side = B; step = fed octets } ∷ record { side = A; step = gave n } ∷ w
+
+  abbrev given_to_a : World → ℕ → List ℕ → World
+  given_to_a w n octets = record { side = A; step = fed octets } ∷ record { side = B; step = gave n } ∷ w
+
+  carry_to_b : (w : World) (octets : List ℕ) → Kept w → (end_at ends A w).line.waiting ≡ octets ++ drop (length octets) (end_at ends A w).line.waiting → HoldsAt Responder (view_b (given_to_b w (length octets) octets))
+  carry_to_b w octets k e =
+      let n : ℕ = length octets in
+      let h = holds_carried t ca cb free readable writes modelled first_law one_content Initiator (view_a w) n octets k.holds e in
+      let is : view_a (given_to_b w n octets) ≡ carried t ca cb free readable writes modelled first_law one_content (base Initiator) (base Responder) (view_a w) n octets = λ i. record {
+        own = end_at ends A (given_to_b w n octets);
+        peer = end_at ends B (given_to_b w n octets);
+        own_sent = append-nil (sent_by A w) i;
+        own_took = append-nil (taken_by A w) i;
+        peer_sent = append-nil (sent_by B w) i;
+        peer_took = append-nil (taken_by B w) i;
+      } in
+      to_b (given_to_b w n octets) (subst (λ (x : View). HoldsAt Initiator x) (sym is) h)
+
+  carry_to_a : (w : World) (octets : List ℕ) → Kept w → (end_at ends B w).line.waiting ≡ octets ++ drop (length octets) (end_at ends B w).line.waiting → HoldsAt Initiator (view_a (given_to_a w (length octets) octets))
+  carry_to_a w octets k e =
+      let n : ℕ = length octets in
+      let h = holds_carried t ca cb free readable writes modelled first_law one_content Responder (view_b w) n octets (to_b w k.holds) e in
+      let is : view_b (given_to_a w n octets) ≡ carried t ca cb free readable writes modelled first_law one_content (base Responder) (base Initiator) (view_b w) n octets = λ i. record {
+        own = end_at ends B (given_to_a w n octets);
+        peer = end_at ends A (given_to_a w n octets);
+        own_sent = append-nil (sent_by B w) i;
+        own_took = append-nil (taken_by B w) i;
+        peer_sent = append-nil (sent_by A w) i;
+        peer_took = append-nil (taken_by A w) i;
+      } in
+      to_a (given_to_a w n octets) (subst (λ (x : View). HoldsAt Responder x) (sym is) h)
+
+  added_to_b : (w : World) (most : Option ℕ) (octets : List ℕ) (reading : List Step) (shown : List Indication) → Kept w → (end_at ends A w).line.waiting ≡ octets ++ drop (length octets) (end_at ends A w).line.waiting
+      → Reads (base Responder) (after (base Responder) (end_at ends B w) (fed octets)) reading shown
+      → Added w (stepping B (given_to_b w (length octets) octets) reading) (entries.Carry A most (record { octets = octets; shown = shown }) ∷ [])
+  added_to_b w most octets reading shown k e reads =
+      let u : World = given_to_b w (length octets) octets in
+      let r = reads_so t ca cb free readable writes modelled first_law one_content back Responder (view_b u) (after (base Responder) (end_at ends B w) (fed octets)) reading shown reads refl (carry_to_b w octets k e) in
+      let is = steps_b u reading in
+      record {
+        kept = record {
+          holds = to_a (stepping B u reading) (subst (λ (x : View). HoldsAt Responder x) (sym is) r.holds);
+          calm = calm_on B u reading r.calm (tt, (tt, k.calm));
+          whole = wholes (stepping B u reading) (λ n. ap (λ (x : View). first_at x.own.line.rest) is ∙ r.whole (sym (ap (λ (x : View). passes_over x.own.body.link.phase) is) ∙ n)) (ap (λ (x : View). x.peer) is ∙ peer_stays (base Responder) (view_b u) reading);
+        };
+        new_a = [];
+        new_b = r.new;
+        took_a = ap (λ (x : View). x.peer_took) is ∙ peer_took_stays (base Responder) (view_b u) reading;
+        took_b = ap (λ (x : View). x.own_took) is ∙ r.took_is ∙ ap (λ (ms : List Message). ms ++ r.new) (append-nil (taken_by B w));
+        shown_a = refl;
+        shown_b = append-nil shown ∙ r.shown_is;
+      }
+    where
+      wholes : (v : World) → (passes_over (end_at ends B v).body.link.phase ≡ false → first_at (end_at ends B v).line.rest ≡ Short) → end_at ends A v ≡ end_at ends A (given_to_b w (length octets) octets) → NothingWholeWaits ends v
+      wholes v f same A n = ap (λ (x : End). first_at x.line.rest) same ∙ k.whole A (sym (ap (λ (x : End). passes_over x.body.link.phase) same) ∙ n)
+      wholes v f same B n = f n
+
+  added_to_a : (w : World) (most : Option ℕ) (octets : List ℕ) (reading : List Step) (shown : List Indication) → Kept w → (end_at ends B w).line.waiting ≡ octets ++ drop (length octets) (end_at ends B w).line.waiting
+      → Reads (base Initiator) (after (base Initiator) (end_at ends A w) (fed octets)) reading shown
+      → Added w (stepping A (given_to_a w (length octets) octets) reading) (entries.Carry B most (record { octets = octets; shown = shown }) ∷ [])
+  added_to_a w most octets reading shown k e reads =
+      let u : World = given_to_a w (length octets) octets in
+      let r = reads_so t ca cb free readable writes modelled first_law one_content back Initiator (view_a u) (after (base Initiator) (end_at ends A w) (fed octets)) reading shown reads refl (carry_to_a w octets k e) in
+      let is = steps_a u reading in
+      record {
+        kept = record {
+          holds = subst (λ (x : View). HoldsAt Initiator x) (sym is) r.holds;
+          calm = calm_on A u reading r.calm (tt, (tt, k.calm));
+          whole = wholes (stepping A u reading) (λ n. ap (λ (x : View). first_at x.own.line.rest) is ∙ r.whole (sym (ap (λ (x : View). passes_over x.own.body.link.phase) is) ∙ n)) (ap (λ (x : View). x.peer) is ∙ peer_stays (base Initiator) (view_a u) reading);
+        };
+        new_a = r.new;
+        new_b = [];
+        took_b = ap (λ (x : View). x.peer_took) is ∙ peer_took_stays (base Initiator) (view_a u) reading;
+        took_a = ap (λ (x : View). x.own_took) is ∙ r.took_is ∙ ap (λ (ms : List Message). ms ++ r.new) (append-nil (taken_by A w));
+        shown_b = refl;
+        shown_a = append-nil shown ∙ r.shown_is;
+      }
+    where
+      wholes : (v : World) → (passes_over (end_at ends A v).body.link.phase ≡ false → first_at (end_at ends A v).line.rest ≡ Short) → end_at ends B v ≡ end_at ends B (given_to_a w (length octets) octets) → NothingWholeWaits ends v
+      wholes v f same B n = ap (λ (x : End). first_at x.line.rest) same ∙ k.whole B (sym (ap (λ (x : End). passes_over x.body.link.phase) same) ∙ n)
+      wholes v f same A n = f n
+
+  -- ---- breaks
+
+  abbrev broken_world : World → World
+  broken_world w = record { side = B; step = broke } ∷ record { side = A; step = broke } ∷ w
+
+  added_by_break : (w : World) → Kept w → Added w (broken_world w) (entries.Break ∷ [])
+  added_by_break w k =
+      let h = holds_broke t ca cb free readable writes modelled first_law one_content back Initiator (view_a w) k.holds in
+      let is : view_a (broken_world w) ≡ both_lost t ca cb free readable writes modelled first_law one_content (base Initiator) (base Responder) (view_a w) = λ i. record {
+        own = end_at ends A (broken_world w);
+        peer = end_at ends B (broken_world w);
+        own_sent = append-nil (sent_by A w) i;
+        own_took = append-nil (taken_by A w) i;
+        peer_sent = append-nil (sent_by B w) i;
+        peer_took = append-nil (taken_by B w) i;
+      } in
+      record {
+        kept = record { holds = subst (λ (x : View). HoldsAt Initiator x) (sym is) h; calm = (tt, (tt, k.calm)); whole = wholes };
+        new_a = [];
+        new_b = [];
+        took_a = refl;
+        took_b = refl;
+        shown_a = refl;
+        shown_b = refl;
+      }
+    where
+      wholes : NothingWholeWaits ends (broken_world w)
+      wholes A n = nothing_first
+      wholes B n = nothing_first
+
+  -- ---- one event after another
+
+  then_added : (w u v : World) (one more : List Entry) → Added w u one → Added u v more → Added w v (one ++ more)
+  then_added w u v one more x y = record {
+    kept = y.kept;
+    new_a = x.new_a ++ y.new_a;
+    new_b = x.new_b ++ y.new_b;
+    took_a = y.took_a ∙ ap (λ (ms : List Message). ms ++ y.new_a) x.took_a ∙ append_assoc (taken_by A w) x.new_a y.new_a;
+    took_b = y.took_b ∙ ap (λ (ms : List Message). ms ++ y.new_b) x.took_b ∙ append_assoc (taken_by B w) x.new_b y.new_b;
+    shown_a = indications-append A one more ∙ (λ i. x.shown_a i ++ y.shown_a i) ∙ sym (shown-append t x.new_a y.new_a);
+    shown_b = indications-append B one more ∙ (λ i. x.shown_b i ++ y.shown_b i) ∙ sym (shown-append t x.new_b y.new_b);
+  }
+
+  pub runs_keep : (w v : World) (all : List Event) (told : List Entry) → Runs ends w all told v → Kept w → Added w v told
+  runs_keep w v all told rests k = record {
+    kept = k;
+    new_a = [];
+    new_b = [];
+    took_a = sym (append-nil (taken_by A w));
+    took_b = sym (append-nil (taken_by B w));
+    shown_a = refl;
+    shown_b = refl;
+  }
+  runs_keep w v all told (calls {more = more} {told = later} A call next) k =
+      let one = added_by_a w call (can_call (base Initiator) (end_at ends A w).body call) k in
+      then_added w (stepping A w (call_steps (base Initiator) (end_at ends A w).body call)) v (entries.Call A call (can_call (base Initiator) (end_at ends A w).body call) ∷ []) later one
+      (runs_keep (stepping A w (call_steps (base Initiator) (end_at ends A w).body call)) v more later next one.kept)
+  runs_keep w v all told (calls {more = more} {told = later} B call next) k =
+      let one = added_by_b w call (can_call (base Responder) (end_at ends B w).body call) k in
+      then_added w (stepping B w (call_steps (base Responder) (end_at ends B w).body call)) v (entries.Call B call (can_call (base Responder) (end_at ends B w).body call) ∷ []) later one
+      (runs_keep (stepping B w (call_steps (base Responder) (end_at ends B w).body call)) v more later next one.kept)
+  runs_keep w v all told (carries {more = more} {told = later} A most steps shown fd next) k =
+      let octets : List ℕ = first_octets most (end_at ends A w).line.waiting in
+      let one = added_to_b w most octets fd.reading shown k (first_some most (end_at ends A w).line.waiting) fd.reads in
+      let u : World = stepping B (given_to_b w (length octets) octets) fd.reading in
+      let same : stepping B (record { side = A; step = gave (length octets) } ∷ w) steps ≡ u = ap (λ (xs : List Step). stepping B (record { side = A; step = gave (length octets) } ∷ w) xs) fd.all in
+      then_added w u v (entries.Carry A most (record { octets = octets; shown = shown }) ∷ []) later one
+      (subst (λ (x : World). Added x v later) same (runs_keep (stepping B (record { side = A; step = gave (length octets) } ∷ w) steps) v more later next (subst Kept (sym same) one.kept)))
+  runs_keep w v all told (carries {more = more} {told = later} B most steps shown fd next) k =
+      let octets : List ℕ = first_octets most (end_at ends B w).line.waiting in
+      let one = added_to_a w most octets fd.reading shown k (first_some most (end_at ends B w).line.waiting) fd.reads in
+      let u : World = stepping A (given_to_a w (length octets) octets) fd.reading in
+      let same : stepping A (record { side = B; step = gave (length octets) } ∷ w) steps ≡ u = ap (λ (xs : List Step). stepping A (record { side = B; step = gave (length octets) } ∷ w) xs) fd.all in
+      then_added w u v (entries.Carry B most (record { octets = octets; shown = shown }) ∷ []) later one
+      (subst (λ (x : World). Added x v later) same (runs_keep (stepping A (record { side = B; step = gave (length octets) } ∷ w) steps) v more later next (subst Kept (sym same) one.kept)))
+  runs_keep w v all told (breaks {more = more} {told = later} next) k =
+      let one = added_by_break w k in
+      then_added w (broken_world w) v (entries.Break ∷ []) later one (runs_keep (broken_world w) v more later next one.kept)

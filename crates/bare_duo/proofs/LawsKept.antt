@@ -1,0 +1,200 @@
+-- The laws of every run, from what two ends keep.
+use Rattle.std.proofs.Common.{◌≡◌, refl, true, false, ◌∙◌, sym, ap, subst, List, [], ◌∷◌, ◌++◌, map, ℕ, Option}
+use Rattle.std.proofs.Math.Logic.{∥∥₁_elim}
+use Rattle.std.proofs.Math.Bool.{Bool-set}
+use Rattle.osi_base.specs.declared.words.Side.{Side}
+use Rattle.osi_base.specs.declared.words.Side.TheVariants.{A, B}
+use Rattle.osi_base.specs.declared.words.SetItem.{SetItem}
+use Rattle.stub_tables.specs.declared.tables.Tables.{Tables}
+use Rattle.stub_tables.specs.Readable.{IsReadable}
+use Rattle.apdu_spelling.specs.Laws.{WrittenIsSpelled}
+use Rattle.dialogue.specs.declared.config.Config.{Config}
+use Rattle.dialogue.specs.declared.config.Mode.TheVariants.{Bare}
+use Rattle.dialogue.specs.Config.{IsBare}
+use Rattle.dialogue.specs.declared.setup.Setup.{Setup}
+use Rattle.dialogue.specs.declared.event.Event.{Event}
+use Rattle.dialogue.specs.declared.event.Event.TheVariants as events
+use Rattle.dialogue.specs.declared.event.Entry.TheVariants as entries
+use Rattle.dialogue.specs.declared.event.Carried.{Carried}
+use Rattle.dialogue.specs.declared.event.Entry.{Entry}
+use Rattle.end_rules.specs.Base.{Base}
+use Rattle.end_rules.specs.Sets.{pair_of}
+use Rattle.end_rules.specs.Messages.{Message, Value, Remote}
+use Rattle.end_rules.specs.State.{bare_set}
+use Rattle.end_rules.specs.History.{Step, called, sent, encoded, fed, took, answered, passed, fault, aborted, feed_end, gave, broke}
+use Rattle.end_rules.specs.World.{World, Ends, Shared, base_at as base_of, shared_at, shared_after}
+use Rattle.end_wire.specs.Bare.{bare_message}
+use Rattle.end_wire.specs.Values.{bare_spellings}
+use Rattle.end_wire.specs.Laws.{WrittenIsFirst, OneContent, ContentSays}
+use Rattle.agreement.specs.Sets.Role.{Initiator, Responder}
+use Rattle.end_model.specs.Seen.{Free}
+use Rattle.end_model.specs.Acting.{ReadsBack}
+use Rattle.end_model.specs.Pairs.{base_at, bare_pair, HasCodec, BareModelled, WritesAll}
+use Rattle.bare_duo.specs.Worlds.{ends_of, Runs}
+use Rattle.bare_duo.specs.Laws.{sent_in, sent_by, taken_by, as_read, at_sending, values_in, sendings, TakenAsSent, IsCalm, NothingWrong, ShownAsTaken, KeepsLaws, EveryRunKeepsLaws, ShowsItsTakings, EachCarryShows}
+use Rattle.bare_duo.specs.Shows.{shown_all}
+use Rattle.bare_duo.proofs.Flights.{IsSent, AllSent}
+use Rattle.bare_duo.proofs.Writable.{reads_back}
+use Rattle.bare_duo.proofs.AllRuns.{Added, first_kept, runs_keep}
+
+map-append : {X Y : Type 0} (f : X → Y) (xs ys : List X) → map f (xs ++ ys) ≡ map f xs ++ map f ys
+map-append f [] ys = refl
+map-append f (x ∷ xs) ys = ap (λ zs. f x ∷ zs) (map-append f xs ys)
+
+append-nil : {X : Type 0} (xs : List X) → xs ++ [] ≡ xs
+append-nil [] = refl
+append-nil (x ∷ xs) = ap (λ ys. x ∷ ys) (append-nil xs)
+
+record Parts (t : Tables) (ms ns : List Message) : Type 0 where
+  front : AllSent t ms
+  back : AllSent t ns
+
+parts : (t : Tables) (ms ns : List Message) → AllSent t (ms ++ ns) → Parts t ms ns
+parts t [] ns h = record { front = tt; back = h }
+parts t (m ∷ ms) ns h = let k = parts t ms ns h.1 in record { front = (h.0, k.front); back = k.back }
+
+-- ---- the one shared set stays, so each value has its pair
+
+module _ (t : Tables) (ends : Ends) (first : (shared_at ends []).set ≡ bare_set t) (a_bare : ends.a.mode ≡ Bare) (b_bare : ends.b.mode ≡ Bare) where
+  -- what is sent changes nothing of it
+  sent_still : (base : Base) (side : Side) (m : Message) (shared : Shared) → IsSent t m → shared_after base side (sent m) shared ≡ shared
+  sent_still base side m shared s = ap (λ (k : Message). shared_after base side (sent k) shared) s.is_its
+
+  step_still : (base : Base) (side : Side) (x : Step) (shared : Shared) → IsCalm x → AllSent t (sent_in x) → shared_after base side x shared ≡ shared
+  step_still base side (sent m) shared c s = sent_still base side m shared s.0
+  step_still base side (called call reply) shared c s = refl
+  step_still base side (fed octets) shared c s = refl
+  step_still base side (took m) shared c s = refl
+  step_still base side feed_end shared c s = refl
+  step_still base side (gave n) shared c s = refl
+  step_still base side broke shared c s = refl
+  step_still base side (answered to m) shared c s = absurd c
+  step_still base side (aborted m) shared c s = absurd c
+  step_still base side passed shared c s = absurd c
+  step_still base side (fault layer place reason) shared c s = absurd c
+  step_still base side (encoded context) shared c s = absurd c
+
+  record Sends (w : World) : Type 0 where
+    of_a : AllSent t (sent_by A w)
+    of_b : AllSent t (sent_by B w)
+
+  one_step : (w : World) (side : Side) (x : Step) → (shared_at ends w).set ≡ bare_set t → IsCalm x → AllSent t (sent_in x) → (shared_after (base_of ends side) side x (shared_at ends w)).set ≡ bare_set t
+  one_step w side x h c s = ap (λ (k : Shared). k.set) (step_still (base_of ends side) side x (shared_at ends w) c s) ∙ h
+
+  step_shared : (w : World) (side : Side) (x : Step) → (Sends w → (shared_at ends w).set ≡ bare_set t) → IsCalm x → Sends (record { side = side; step = x } ∷ w) → (shared_at ends (record { side = side; step = x } ∷ w)).set ≡ bare_set t
+  step_shared w A x ih c s =
+      let p = parts t (sent_by A w) (sent_in x) s.of_a in one_step w A x (ih (record { of_a = p.front; of_b = s.of_b })) c p.back
+  step_shared w B x ih c s =
+      let p = parts t (sent_by B w) (sent_in x) s.of_b in one_step w B x (ih (record { of_a = s.of_a; of_b = p.front })) c p.back
+
+  shared_stays : (w : World) → NothingWrong w → Sends w → (shared_at ends w).set ≡ bare_set t
+  shared_stays [] c s = first
+  shared_stays (m ∷ w) c s = step_shared w m.side m.step (shared_stays w c.1) c.0 s
+
+  -- each value has at its sending the pair under which it is read
+  same_pair : (w : World) (m : Message) → (shared_at ends w).set ≡ bare_set t → IsSent t m → at_sending ends w m ≡ as_read m
+  same_pair w m h s =
+      ap (at_sending ends w) s.is_its
+      ∙ ap (λ (set : List SetItem). record { message = bare_message (bare_set t) (Remote s.apdu); pairs = map (λ (v : Value). pair_of set v.id) (values_in (bare_message (bare_set t) (Remote s.apdu))) }) h
+      ∙ ap as_read (sym s.is_its)
+
+  same_pairs : (w : World) (ms : List Message) → (shared_at ends w).set ≡ bare_set t → AllSent t ms → map (at_sending ends w) ms ≡ map as_read ms
+  same_pairs w [] h s = refl
+  same_pairs w (m ∷ ms) h s = λ i. same_pair w m h s.0 i ∷ same_pairs w ms h s.1 i
+
+  step_a : (w : World) (side : Side) (x : Step) → (Sends w → sendings ends A w ≡ map as_read (sent_by A w)) → NothingWrong w → Sends (record { side = side; step = x } ∷ w) → sendings ends A (record { side = side; step = x } ∷ w) ≡ map as_read (sent_by A (record { side = side; step = x } ∷ w))
+  step_a w A x ih c s =
+      let p = parts t (sent_by A w) (sent_in x) s.of_a in
+      let k : Sends w = record { of_a = p.front; of_b = s.of_b } in
+      (λ i. ih k i ++ same_pairs w (sent_in x) (shared_stays w c k) p.back i) ∙ sym (map-append as_read (sent_by A w) (sent_in x))
+  step_a w B x ih c s =
+      let p = parts t (sent_by B w) (sent_in x) s.of_b in ih (record { of_a = s.of_a; of_b = p.front })
+
+  sendings_a : (w : World) → NothingWrong w → Sends w → sendings ends A w ≡ map as_read (sent_by A w)
+  sendings_a [] c s = refl
+  sendings_a (m ∷ w) c s = step_a w m.side m.step (sendings_a w c.1) c.1 s
+
+  step_b : (w : World) (side : Side) (x : Step) → (Sends w → sendings ends B w ≡ map as_read (sent_by B w)) → NothingWrong w → Sends (record { side = side; step = x } ∷ w) → sendings ends B (record { side = side; step = x } ∷ w) ≡ map as_read (sent_by B (record { side = side; step = x } ∷ w))
+  step_b w B x ih c s =
+      let p = parts t (sent_by B w) (sent_in x) s.of_b in
+      let k : Sends w = record { of_a = s.of_a; of_b = p.front } in
+      (λ i. ih k i ++ same_pairs w (sent_in x) (shared_stays w c k) p.back i) ∙ sym (map-append as_read (sent_by B w) (sent_in x))
+  step_b w A x ih c s =
+      let p = parts t (sent_by A w) (sent_in x) s.of_a in ih (record { of_a = p.front; of_b = s.of_b })
+
+  sendings_b : (w : World) → NothingWrong w → Sends w → sendings ends B w ≡ map as_read (sent_by B w)
+  sendings_b [] c s = refl
+  sendings_b (m ∷ w) c s = step_b w m.side m.step (sendings_b w c.1) c.1 s
+
+-- ---- the laws of ends of the model
+
+abbrev model_of : Tables → Config → Config → Ends
+model_of t ca cb = record { a = base_at Initiator (bare_pair t (bare_spellings t) ca cb); b = base_at Responder (bare_pair t (bare_spellings t) ca cb) }
+
+module _ (t : Tables) (ca cb : Config) (free : Free) (readable : IsReadable t) (writes : WritesAll free) (modelled : BareModelled) (first_law : WrittenIsFirst) (one_content : OneContent) (back : ReadsBack (base_at Initiator (bare_pair t (bare_spellings t) ca cb))) where
+  model_laws : (all : List Event) (told : List Entry) (w : World) → Runs (model_of t ca cb) [] all told w → KeepsLaws t (model_of t ca cb) told w
+  model_laws all told w r =
+      let x = runs_keep t ca cb free readable writes modelled first_law one_content back [] w all told r (first_kept t ca cb free readable writes modelled first_law one_content back) in
+      let h = x.kept.holds in
+      record {
+        taken_as_sent = as_sent x;
+        nothing_wrong = x.kept.calm;
+        nothing_whole_waits = x.kept.whole;
+        shown_as_taken = shown x;
+      }
+    where
+      as_sent : Added t ca cb free readable writes modelled first_law one_content back [] w told → TakenAsSent (model_of t ca cb) w
+      as_sent x A =
+          let h = x.kept.holds in
+          let s = sendings_a t (model_of t ca cb) refl refl refl w x.kept.calm (record { of_a = h.from.all; of_b = h.to.all }) in
+          record { more = map as_read (h.from.gone ++ h.two.to_b); whole = s ∙ ap (λ (ms : List Message). map as_read ms) h.from.kept ∙ map-append as_read (taken_by B w) (h.from.gone ++ h.two.to_b) }
+      as_sent x B =
+          let h = x.kept.holds in
+          let s = sendings_b t (model_of t ca cb) refl refl refl w x.kept.calm (record { of_a = h.from.all; of_b = h.to.all }) in
+          record { more = map as_read (h.to.gone ++ h.two.to_a); whole = s ∙ ap (λ (ms : List Message). map as_read ms) h.to.kept ∙ map-append as_read (taken_by A w) (h.to.gone ++ h.two.to_a) }
+
+      shown : Added t ca cb free readable writes modelled first_law one_content back [] w told → ShownAsTaken t told w
+      shown x A = x.shown_a ∙ ap (shown_all t) (sym x.took_a)
+      shown x B = x.shown_b ∙ ap (shown_all t) (sym x.took_b)
+
+  model_carry : (all : List Event) (told : List Entry) (before later : World) (from : Side) (most : Option ℕ) (carried : Carried) → Runs (model_of t ca cb) [] all told before → Runs (model_of t ca cb) before (events.Carry from most ∷ []) (entries.Carry from most carried ∷ []) later → ShowsItsTakings t from before later carried
+  model_carry all told before later from most carried r one = go from one
+    where
+      x : Added t ca cb free readable writes modelled first_law one_content back [] before told
+      x = runs_keep t ca cb free readable writes modelled first_law one_content back [] before all told r (first_kept t ca cb free readable writes modelled first_law one_content back)
+
+      go : (from : Side) → Runs (model_of t ca cb) before (events.Carry from most ∷ []) (entries.Carry from most carried ∷ []) later → ShowsItsTakings t from before later carried
+      go A one =
+          let y = runs_keep t ca cb free readable writes modelled first_law one_content back before later (events.Carry A most ∷ []) (entries.Carry A most carried ∷ []) one x.kept in
+          record { new = y.new_b; took = y.took_b; shown = sym (append-nil carried.shown) ∙ y.shown_b }
+      go B one =
+          let y = runs_keep t ca cb free readable writes modelled first_law one_content back before later (events.Carry B most ∷ []) (entries.Carry B most carried ∷ []) one x.kept in
+          record { new = y.new_a; took = y.took_a; shown = sym (append-nil carried.shown) ∙ y.shown_a }
+
+-- ---- the laws of ends of a setup
+
+initiator_is : (setup : Setup) → setup.a.initiator ≡ true
+initiator_is setup = ∥∥₁_elim setup.initiator (Bool-set setup.a.initiator true) (λ (is : IsBare true setup.a). is.side)
+
+responder_is : (setup : Setup) → setup.b.initiator ≡ false
+responder_is setup = ∥∥₁_elim setup.responder (Bool-set setup.b.initiator false) (λ (is : IsBare false setup.b). is.side)
+
+same_ends : (t : Tables) (setup : Setup) → model_of t setup.a setup.b ≡ ends_of setup t
+same_ends t setup = λ i. record {
+  a = record { tables = t; config = setup.a; initiator = sym (initiator_is setup) i; mode = Bare; spellings = bare_spellings t };
+  b = record { tables = t; config = setup.b; initiator = sym (responder_is setup) i; mode = Bare; spellings = bare_spellings t };
+}
+
+pub every_run_keeps_laws : HasCodec → BareModelled → WrittenIsFirst → OneContent → ContentSays → WrittenIsSpelled → EveryRunKeepsLaws
+every_run_keeps_laws codec modelled first_law one_content says spelled tables setup all told w readable =
+    let pair = bare_pair tables (bare_spellings tables) setup.a setup.b in
+    let back : ReadsBack (base_at Initiator pair) = reads_back tables setup.a (base_at Initiator pair) readable refl refl spelled says in
+    subst (λ (e : Ends). Runs e [] all told w → KeepsLaws tables e told w) (same_ends tables setup)
+    (model_laws tables setup.a setup.b codec.0 readable codec.1 modelled first_law one_content back all told w)
+
+pub each_carry_shows : HasCodec → BareModelled → WrittenIsFirst → OneContent → ContentSays → WrittenIsSpelled → EachCarryShows
+each_carry_shows codec modelled first_law one_content says spelled tables setup all told before later from most carried readable =
+    let pair = bare_pair tables (bare_spellings tables) setup.a setup.b in
+    let back : ReadsBack (base_at Initiator pair) = reads_back tables setup.a (base_at Initiator pair) readable refl refl spelled says in
+    subst (λ (e : Ends). Runs e [] all told before → Runs e before (events.Carry from most ∷ []) (entries.Carry from most carried ∷ []) later → ShowsItsTakings tables from before later carried) (same_ends tables setup)
+    (model_carry tables setup.a setup.b codec.0 readable codec.1 modelled first_law one_content back all told before later from most carried)

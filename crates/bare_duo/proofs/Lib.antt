@@ -1,0 +1,13 @@
+pub mod Given
+pub mod Runs
+pub mod Fronts
+pub mod Flights
+pub mod Live
+pub mod BareLive
+pub mod Writable
+pub mod Calm
+pub mod Due
+pub mod Kept
+pub mod AllRuns
+pub mod LawsKept
+pub mod Unique

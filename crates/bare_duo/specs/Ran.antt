@@ -1,0 +1,40 @@
+-- What a run of two ends comes to.
+use Rattle.std.specs.Prelude.{◌≡◌, List, []}
+use Rattle.osi_base.specs.declared.words.Side.{Side}
+use Rattle.osi_base.specs.declared.words.Side.TheVariants.{A, B}
+use Rattle.stub_tables.specs.declared.tables.Tables.{Tables}
+use Rattle.stub_tables.specs.Readable.{IsReadable}
+use Rattle.dialogue.specs.declared.setup.Setup.{Setup}
+use Rattle.dialogue.specs.declared.event.Event.{Event}
+use Rattle.dialogue.specs.declared.event.Entry.{Entry}
+use Rattle.dialogue.specs.declared.event.Transcript.{Transcript}
+use Rattle.end_rules.specs.World.{World, history_of}
+use Rattle.bare_end.specs.View.{EndView, StandsFor}
+use Rattle.bare_duo.specs.Worlds.{config_at, ends_of, end_at, Runs}
+use Rattle.bare_duo.specs.Laws.{KeepsLaws}
+
+-- The end of this side has these tables and its configuration of the setup, and stands for its own history.
+pub record StandsAt (setup : Setup) (tables : Tables) (side : Side) (w : World) (e : EndView) : Type 0 where
+  pub tables_are : e.tables ≡ tables
+  pub config_is : e.config ≡ config_at setup side
+  pub stands : StandsFor e (history_of side w)
+
+pub record Stand (setup : Setup) (tables : Tables) (w : World) (a b : EndView) : Type 0 where
+  pub a_stands : StandsAt setup tables A w a
+  pub b_stands : StandsAt setup tables B w b
+
+-- From the world, the events made these entries, and the ends stand for the world that they lead to.
+pub record Ran (setup : Setup) (tables : Tables) (w : World) (all : List Event) (told : List Entry) (a b : EndView) : Type 0 where
+  pub world : World
+  pub runs : Runs (ends_of setup tables) w all told world
+  pub stand : Stand setup tables world a b
+
+-- The run of two ends that had made no step keeps the laws, and the transcript tells it. The tables are readable, as
+-- all tables are.
+pub record RanFromStart (setup : Setup) (tables : Tables) (all : List Event) (transcript : Transcript) (a b : EndView) : Type 0 where
+  pub readable : IsReadable tables
+  pub ran : Ran setup tables [] all transcript.entries a b
+  pub laws : KeepsLaws tables (ends_of setup tables) transcript.entries ran.world
+  pub mode : transcript.mode ≡ setup.a.mode
+  pub a_phase : transcript.a ≡ (end_at (ends_of setup tables) A ran.world).body.link.phase
+  pub b_phase : transcript.b ≡ (end_at (ends_of setup tables) B ran.world).body.link.phase

@@ -1,0 +1,41 @@
+-- What the events of a run do to two ends.
+use Rattle.std.specs.Prelude.{◌≡◌, ℕ, List, [], ◌∷◌, length, Option}
+use Rattle.osi_base.specs.declared.words.Side.{Side}
+use Rattle.osi_base.specs.declared.words.Side.TheVariants.{A, B}
+use Rattle.stub_tables.specs.declared.tables.Tables.{Tables}
+use Rattle.dialogue.specs.declared.call.Call.{Call}
+use Rattle.dialogue.specs.declared.setup.Setup.{Setup}
+use Rattle.dialogue.specs.declared.event.Event.{Event}
+use Rattle.dialogue.specs.declared.event.Entry.{Entry}
+use Rattle.dialogue.specs.declared.event.Carried.{Carried}
+use Rattle.end_rules.specs.Invoking.{Reply}
+use Rattle.end_rules.specs.Calling.{can_call}
+use Rattle.end_rules.specs.History.{gave}
+use Rattle.end_rules.specs.World.{World}
+use Rattle.bare_end.specs.View.{EndView, base, body, Stepped, Answered}
+use Rattle.bare_end.specs.Feed.{Fed}
+use Rattle.bare_duo.specs.Worlds.{first_octets}
+use Rattle.bare_duo.specs.Ran.{Stand, Ran}
+
+-- From every world for which the ends stand, the events ran.
+abbrev pub RunsOn : List Event → List Entry → EndView → EndView → EndView → EndView → Type 0
+RunsOn all told a b a_after b_after = (setup : Setup) (tables : Tables) (w : World) → Stand setup tables w a b → Ran setup tables w all told a_after b_after
+
+-- One end answered a call, and the other is as it was.
+pub record AnsweredOne (call : Call) (answer : Reply) (end rest end_after rest_after : EndView) : Type 0 where
+  pub answered : Answered (can_call (base end) (body end) call) end end_after call answer
+  pub kept : rest_after ≡ rest
+
+abbrev pub AnsweredAt : Side → Call → Reply → EndView → EndView → EndView → EndView → Type 0
+AnsweredAt A call answer a b a_after b_after = AnsweredOne call answer a b a_after b_after
+AnsweredAt B call answer a b a_after b_after = AnsweredOne call answer b a b_after a_after
+
+-- The first octets that waited at one end were fed to another.
+pub record CarriedOver (most : Option ℕ) (carried : Carried) (from to from_after to_after : EndView) : Type 0 where
+  pub octets_are : carried.octets ≡ first_octets most from.waiting
+  pub gives : Stepped from from_after (gave (length carried.octets) ∷ [])
+  pub feeds : Fed to to_after carried.octets carried.shown
+
+abbrev pub CarriedFrom : Side → Option ℕ → Carried → EndView → EndView → EndView → EndView → Type 0
+CarriedFrom A most carried a b a_after b_after = CarriedOver most carried a b a_after b_after
+CarriedFrom B most carried a b a_after b_after = CarriedOver most carried b a b_after a_after

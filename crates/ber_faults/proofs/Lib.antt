@@ -1,0 +1,16 @@
+pub mod Steps
+pub mod Digits
+pub mod Identifiers
+pub mod Lengths
+pub mod Ends
+pub mod Readers
+pub mod Items
+pub mod Strings
+pub mod Lists
+pub mod Sequences
+pub mod SetSteps
+pub mod Sets
+pub mod Wholes
+pub mod Rows
+pub mod FirstFaults
+pub mod WorkedFaults

@@ -1,0 +1,5 @@
+use Rattle.ber_faults.proofs.WorkedFaults.{items_fall}
+use Rattle.ber_faults.proofs.examples.items_fall.Goals as goal
+
+pub returns : goal.returns
+returns c = items_fall

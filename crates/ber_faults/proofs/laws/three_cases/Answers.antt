@@ -1,0 +1,5 @@
+use Rattle.ber_faults.proofs.FirstFaults.{three_cases}
+use Rattle.ber_faults.proofs.laws.three_cases.Goals as goal
+
+pub returns : goal.returns
+returns c = three_cases

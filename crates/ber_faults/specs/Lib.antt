@@ -1,0 +1,5 @@
+pub mod Fields
+pub mod Values
+pub mod FirstFault
+pub mod Laws
+pub mod Examples

@@ -1,0 +1,89 @@
+//! APDUs, and feeding them to an end.
+
+use crate::sample::{config, module};
+use crate::stopped::Stopped;
+use bare_end::End;
+use std::alloc::Global;
+use stub_tables::Tables;
+
+/// An invocation that has no outcome, of about so many octets: its argument is an OCTET STRING.
+fn long(alloc: Global, size: u64) -> Result<Vec<u8>, Stopped> {
+    let inside = size.saturating_sub(16).min(0xFF_FFFF) as u32;
+    let mut octets = Vec::new(alloc);
+    octets.push(0xA1)?;
+    push_length(&mut octets, inside + 11)?;
+    for octet in &[2u8, 1, 1, 2, 1, 1, 4] {
+        octets.push(*octet)?;
+    }
+    push_length(&mut octets, inside)?;
+    for _ in 0..inside {
+        octets.push(0)?;
+    }
+    Ok(octets)
+}
+
+/// A length of three octets in the long form.
+fn push_length(octets: &mut Vec<u8>, length: u32) -> Result<(), Stopped> {
+    octets.push(0x83)?;
+    octets.push((length / 65_536 % 256) as u8)?;
+    octets.push((length / 256 % 256) as u8)?;
+    octets.push((length % 256) as u8)?;
+    Ok(())
+}
+
+/// So many octets of invocations that have no outcome, each of ten octets.
+fn short(alloc: Global, size: u64) -> Result<Vec<u8>, Stopped> {
+    let mut octets = Vec::new(alloc);
+    for _ in 0..size / 10 {
+        for octet in &[0xA1u8, 8, 2, 1, 1, 2, 1, 1, 4, 0] {
+            octets.push(*octet)?;
+        }
+    }
+    Ok(octets)
+}
+
+/// An end that has taken nothing.
+fn end(alloc: Global, tables: &Tables) -> Result<End<'_>, Stopped> {
+    match End::new(alloc, tables, config(alloc)?) {
+        Ok(end) => Ok(end),
+        Err(_) => Err(Stopped),
+    }
+}
+
+/// How many APDUs are told of octets that come one by one.
+fn told_one_by_one(mut end: End<'_>, octets: &[u8]) -> Result<u64, Stopped> {
+    let mut told = 0u64;
+    for place in 0..octets.len() {
+        let shown = end.feed(&octets[place..place + 1])?;
+        told = told.wrapping_add(shown.len() as u64);
+    }
+    Ok(told)
+}
+
+/// How many APDUs are told of octets that come at once.
+fn told_at_once(mut end: End<'_>, octets: &[u8]) -> Result<u64, Stopped> {
+    let shown = end.feed(octets)?;
+    Ok(shown.len() as u64)
+}
+
+/// How many long APDUs are told in so many rounds, each to an end of its own, octet by octet.
+pub fn one_by_one(alloc: Global, size: u64, rounds: u64) -> Result<u64, Stopped> {
+    let tables = module(alloc)?;
+    let octets = long(alloc, size)?;
+    let mut told = 0u64;
+    for _ in 0..rounds {
+        told = told.wrapping_add(told_one_by_one(end(alloc, &tables)?, octets.as_slice())?);
+    }
+    Ok(told)
+}
+
+/// How many short APDUs are told in so many rounds, each to an end of its own, all at once.
+pub fn at_once(alloc: Global, size: u64, rounds: u64) -> Result<u64, Stopped> {
+    let tables = module(alloc)?;
+    let octets = short(alloc, size)?;
+    let mut told = 0u64;
+    for _ in 0..rounds {
+        told = told.wrapping_add(told_at_once(end(alloc, &tables)?, octets.as_slice())?);
+    }
+    Ok(told)
+}

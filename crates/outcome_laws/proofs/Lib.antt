@@ -1,0 +1,12 @@
+pub mod Places
+pub mod Shown
+pub mod Open
+pub mod Hearing
+pub mod Words
+pub mod Once
+pub mod Writers
+pub mod Answering
+pub mod Sources
+pub mod Transferred
+pub mod Worked
+pub mod Links

@@ -1,0 +1,5 @@
+pub mod Deals
+pub mod Outcomes
+pub mod Links
+pub mod Transferred
+pub mod Worked

@@ -1,0 +1,37 @@
+-- Linked invocations that an end is shown: each is linked to an own invocation, whose operation may have it linked (X.880 8.3).
+use Rattle.std.specs.Prelude.{◌≡◌, ℕ, ℤ, List, [], ◌∷◌, ◌++◌, true, Some}
+use Rattle.stub_tables.specs.declared.tables.Tables.{Tables}
+use Rattle.stub_tables.specs.Lookup.{operation_at}
+use Rattle.dialogue.specs.declared.indication.Indication.{Indication}
+use Rattle.dialogue.specs.declared.indication.Indication.TheVariants as indications
+use Rattle.end_rules.specs.Invoking.{is_linked_to}
+use Rattle.agreement.specs.Sets.{Role}
+use Rattle.outcome_laws.specs.Deals.{Asked, dealt_of, EverDeals}
+use Rattle.outcome_laws.specs.Outcomes.{IsIn}
+
+-- to which invocation one of this operation is linked
+pub record Link : Type 0 where
+  pub linked : ℤ
+  pub place : ℕ
+
+abbrev pub link_in : Indication → List Link
+link_in (indications.Invoked id place (Some linked) value) = record { linked = linked; place = place } ∷ []
+link_in indication = []
+
+abbrev pub links_in : List Indication → List Link
+links_in [] = []
+links_in (indication ∷ shown) = link_in indication ++ links_in shown
+
+pub record Fits (tables : Tables) (asked : List Asked) (link : Link) : Type 0 where
+  pub invocation : Asked
+  pub is_own : IsIn invocation asked
+  pub is_named : invocation.id ≡ link.linked
+  pub may_link : is_linked_to (operation_at tables invocation.operation) link.place ≡ true
+
+abbrev pub AllFit : Tables → List Asked → List Link → Type 0
+AllFit tables asked [] = Unit {0}
+AllFit tables asked (link ∷ links) = Fits tables asked link × AllFit tables asked links
+
+abbrev pub LinksAreAllowed : Type 0
+LinksAreAllowed =
+    EverDeals (λ tables two ledger dealings. (role : Role) → AllFit tables (dealt_of role dealings).asked (links_in (dealt_of role dealings).shown))

@@ -1,0 +1,27 @@
+-- A worked history of two ends of bare mode: one invokes, the other answers, and the first is told of it once.
+use Rattle.std.specs.Prelude.{◌≡◌, ℤ, pos, List, [], ◌∷◌, true, false, None}
+use Rattle.stub_tables.specs.declared.apdu.Apdu.TheVariants as apdus
+use Rattle.stub_tables.specs.declared.operation.Code.TheVariants.{Local}
+use Rattle.dialogue.specs.declared.config.Mode.TheVariants.{Bare}
+use Rattle.end_rules.specs.Cases.{calc, plain_spellings, config_of}
+use Rattle.end_rules.specs.Messages.{Message}
+use Rattle.end_model.specs.Pairs.{Common, Two}
+use Rattle.reliable_model.specs.Goes.{Ledger}
+use Rattle.outcome_laws.specs.Deals.{outcomes_in, Asked, Dealings, Deals}
+
+abbrev pub bare_calc : Common
+bare_calc =
+    record { tables = calc; spellings = plain_spellings; mode = Bare; of_initiator = config_of true Bare; of_responder = config_of false Bare }
+
+-- add is invoked and answered: what each wrote, what was asked for, what was told, and what is still on its way
+pub record OneAnswer : Type 0 where
+  pub two : Two
+  pub ledger : Ledger
+  pub dealings : Dealings
+  pub deals : Deals bare_calc two ledger dealings
+  pub asked : dealings.a.asked ≡ record { id = pos 1; operation = 0 } ∷ []
+  pub invoked : dealings.a.wrote ≡ apdus.Invoke (pos 1) None (Local (pos 1)) None ∷ []
+  pub answered : dealings.b.wrote ≡ apdus.Result (pos 1) None ∷ []
+  pub told : outcomes_in dealings.a.shown ≡ pos 1 ∷ []
+  pub untold : outcomes_in dealings.b.shown ≡ []
+  pub coming : two.to_a ≡ []

@@ -1,0 +1,5 @@
+use Rattle.packed_faults.proofs.FirstFaults.{first_is_given}
+use Rattle.packed_faults.proofs.laws.first_is_given.Goals as goal
+
+pub returns : goal.returns
+returns c = first_is_given

@@ -1,0 +1,4 @@
+pub mod Values
+pub mod FirstFault
+pub mod Laws
+pub mod Examples

@@ -1,0 +1,5 @@
+pub mod Aligned
+pub mod BackValues
+pub mod SaidBack
+pub mod SetBack
+pub mod UnitsBack

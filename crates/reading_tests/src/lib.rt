@@ -1,0 +1,5 @@
+//! Tests of `value_reading`.
+#![tactic(auto)]
+
+#[cfg(test)]
+mod values;

@@ -1,0 +1,202 @@
+//! Values that are read and printed again, and texts that are no values.
+
+use asn1_types::{Item, Named, Part, Parts, TextKind, TypeId, TypeRow, TypeTable, Val};
+use osi_base::{ListOf, Name};
+use std::alloc::Global;
+use std::test::Fail;
+use value_reading::{Front, read_form, read_typed};
+use value_text::{Text, put_typed, put_value};
+
+fn part(
+    alloc: Global,
+    name: &str,
+    inner: u32,
+    optional: bool,
+    default: Option<i64>,
+) -> Result<Part, Fail> {
+    Ok(Part {
+        name: Name::from_str(alloc, name)?,
+        inner: TypeId(inner),
+        optional,
+        default,
+    })
+}
+
+fn items(alloc: Global) -> Result<Named, Fail> {
+    let mut items = ListOf::new(alloc);
+    items.push(Item {
+        name: Name::from_str(alloc, "red")?,
+        number: 0,
+    })?;
+    items.push(Item {
+        name: Name::from_str(alloc, "light-blue")?,
+        number: -7,
+    })?;
+    Ok(items)
+}
+
+/// Of a SEQUENCE, a SET and a CHOICE.
+fn parts(alloc: Global) -> Result<Parts, Fail> {
+    let mut parts = ListOf::new(alloc);
+    parts.push(part(alloc, "a", 0, false, None)?)?;
+    parts.push(part(alloc, "b", 1, true, None)?)?;
+    parts.push(part(alloc, "c", 2, false, Some(0))?)?;
+    Ok(parts)
+}
+
+/// 0 INTEGER, 1 IA5String, 2 ENUMERATED, 3 SEQUENCE, 4 SEQUENCE OF 3, 5 CHOICE, 6 BIT STRING, 7
+/// OBJECT IDENTIFIER, 8 OCTET STRING, 9 SET, 10 BOOLEAN, 11 NULL, 12 SET OF 0.
+fn table(alloc: Global) -> Result<TypeTable, Fail> {
+    let mut table = TypeTable::new(alloc);
+    let high = 1_000_000;
+    let mut choice = ListOf::new(alloc);
+    choice.push(part(alloc, "one", 0, false, None)?)?;
+    choice.push(part(alloc, "many", 4, false, None)?)?;
+    for row in [
+        TypeRow::Integer { low: -5, high },
+        TypeRow::Text(TextKind::Ia5),
+        TypeRow::Enumerated(items(alloc)?),
+        TypeRow::Sequence(parts(alloc)?),
+        TypeRow::SequenceOf(TypeId(3)),
+        TypeRow::Choice(choice),
+        TypeRow::BitString,
+        TypeRow::ObjectId,
+        TypeRow::OctetString { most: 3 },
+        TypeRow::Set(parts(alloc)?),
+        TypeRow::Boolean,
+        TypeRow::Null,
+        TypeRow::SetOf(TypeId(0)),
+    ] {
+        table.add(row).ok();
+    }
+    Ok(table)
+}
+
+/// The value that a whole text is, if it is one.
+fn whole<'a>(front: Option<Front<'a>>) -> Option<Val> {
+    let Front { value, rest } = front?;
+    if rest.is_empty() { Some(value) } else { None }
+}
+
+fn printed(alloc: Global, table: &TypeTable, of: u32, value: &Val) -> Result<Text, Fail> {
+    let mut text = Text::new(alloc);
+    put_typed(&mut text, table, TypeId(of), value)?;
+    Ok(text)
+}
+
+#[test]
+fn values_are_read_and_printed_again(rt: HostRuntime) -> Result<(), Fail> {
+    let alloc = rt.alloc();
+    let table = table(alloc)?;
+    for (of, text, again) in [
+        (0, "5", "5"),
+        (0, "-5", "-5"),
+        (1, "\"a, {b} \"\"c\"\"\"", "\"a, {b} \"\"c\"\"\""),
+        (1, "\"\"", "\"\""),
+        (2, "light-blue", "light-blue"),
+        (3, "{a 1}", "{a 1}"),
+        (
+            3,
+            "{ a 1 , b \"x,y\" , c light-blue }",
+            "{a 1, b \"x,y\", c light-blue}",
+        ),
+        (3, "{a 1, c red}", "{a 1}"),
+        (4, "{}", "{}"),
+        (4, "{{a 1},{a 2, b \"}\"}}", "{{a 1}, {a 2, b \"}\"}}"),
+        (5, "one : 7", "one : 7"),
+        (5, "many:{{a 1}}", "many : {{a 1}}"),
+        (6, "'0101'B", "'0101'B"),
+        (6, "''B", "''B"),
+        (6, "'10101010'B", "'10101010'B"),
+        (6, "'101010101'B", "'101010101'B"),
+        (7, "{2 999 1}", "{2 999 1}"),
+        (7, "{  2   999 1 }", "{2 999 1}"),
+        (8, "'0aF0'H", "'0AF0'H"),
+        (9, "{b \"x\", a 1}", "{a 1, b \"x\"}"),
+        (10, "TRUE", "TRUE"),
+        (11, "NULL", "NULL"),
+        (12, "{300, -1,2 , 2}", "{2, 2, -1, 300}"),
+    ] {
+        let Some(value) = whole(read_typed(alloc, &table, TypeId(of), text.as_bytes())?) else {
+            assert!(rt; false, "{text} isn't read");
+            return Ok(());
+        };
+        let octets = printed(alloc, &table, of, &value)?.into_octets();
+        assert!(rt; octets.as_slice() == again.as_bytes(), "{text}");
+    }
+    Ok(())
+}
+
+#[test]
+fn other_texts_are_no_values(rt: HostRuntime) -> Result<(), Fail> {
+    let alloc = rt.alloc();
+    let table = table(alloc)?;
+    for (of, text) in [
+        (0, ""),
+        (0, "05"),
+        (0, "-0"),
+        (0, "+1"),
+        (0, "-6"),
+        (0, "TRUE"),
+        (1, "\"a\"b\""),
+        (1, "\""),
+        (2, "green"),
+        (3, "{}"),
+        (3, "{a 1,}"),
+        (3, "{b \"x\", a 1}"),
+        (3, "{a 1, a 1}"),
+        (3, "{a1}"),
+        (4, "{{a 1} {a 1}}"),
+        (5, "two : 7"),
+        (5, "one 7"),
+        (6, "'012'B"),
+        (7, "{2 999 01}"),
+        (7, "{3 1}"),
+        (8, "'0'H"),
+        (8, "'00000000'H"),
+        (9, "{a 1, a 2}"),
+        (9, "{a 1, d 1}"),
+        (10, "true"),
+        (5, " one : 7"),
+        (3, "{a\t1}"),
+        (12, "{1, TRUE}"),
+    ] {
+        let read = read_typed(alloc, &table, TypeId(of), text.as_bytes())?;
+        assert!(rt; whole(read).is_none(), "{text}");
+    }
+    Ok(())
+}
+
+#[test]
+fn forms_are_read_without_a_type(rt: HostRuntime) -> Result<(), Fail> {
+    let alloc = rt.alloc();
+    for text in ["TRUE", "NULL", "-3", "'0A'H", "'01'B", "\"x\"", "{1 2 3}"] {
+        let Some(value) = whole(read_form(alloc, text.as_bytes())?) else {
+            assert!(rt; false, "{text} isn't read");
+            return Ok(());
+        };
+        let mut again = Text::new(alloc);
+        put_value(&mut again, &value)?;
+        assert!(rt; again.into_octets().as_slice() == text.as_bytes(), "{text}");
+    }
+    Ok(())
+}
+
+#[test]
+fn what_follows_is_left(rt: HostRuntime) -> Result<(), Fail> {
+    let alloc = rt.alloc();
+    let table = table(alloc)?;
+    for (of, text, rest) in [
+        (0, "5 linked 1", " linked 1"),
+        (3, "{a 1} 7", " 7"),
+        (1, "\"a\"\"b\" x", " x"),
+        (2, "red linked 3", " linked 3"),
+    ] {
+        let Some(front) = read_typed(alloc, &table, TypeId(of), text.as_bytes())? else {
+            assert!(rt; false, "{text} isn't read");
+            return Ok(());
+        };
+        assert!(rt; front.rest == rest.as_bytes(), "{text}");
+    }
+    Ok(())
+}

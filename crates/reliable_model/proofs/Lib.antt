@@ -1,0 +1,13 @@
+pub mod Transferring
+pub mod Words
+pub mod OwnRows
+pub mod Ledgers
+pub mod Rejects
+pub mod Taking
+pub mod Calling
+pub mod Contexts
+pub mod Opening
+pub mod Phases
+pub mod Machine
+pub mod SameApdus
+pub mod Laws

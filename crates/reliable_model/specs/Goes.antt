@@ -1,0 +1,157 @@
+-- What two ends reach, in every mode: by calls, by what they do by themselves, by takings and by breaks; with what they share,
+-- and a ledger of what each started, encoded and was handed up.
+use Rattle.std.specs.Prelude.{◌≡◌, ℕ, ℤ, List, [], ◌∷◌, ◌++◌, Bool, not, ◌||◌, if◌then◌else◌, Option, Some, None, Ok}
+use Rattle.osi_base.specs.declared.syntax.Pair.{Pair}
+use Rattle.osi_base.specs.declared.words.SetItem.{SetItem}
+use Rattle.stub_tables.specs.declared.apdu.Apdu.{Apdu}
+use Rattle.dialogue.specs.declared.call.Call.{Call}
+use Rattle.dialogue.specs.declared.indication.Indication.{Indication}
+use Rattle.end_rules.specs.Base.{Base, Fault}
+use Rattle.end_rules.specs.Sets.{pair_of}
+use Rattle.end_rules.specs.Messages.{Message, Session, Transport, OfAssociation, OfData, OfMarks, OfActivities, Connect, Start, End}
+use Rattle.end_rules.specs.State.{Body, Queued, Transfer}
+use Rattle.end_rules.specs.Connecting.{is_refused, recovers_in}
+use Rattle.end_rules.specs.Calling.{can_call}
+use Rattle.end_rules.specs.Requesting.{due_of}
+use Rattle.end_rules.specs.ByItself.{OwnAct, SendsNow, EncodesOn, next_own}
+use Rattle.end_rules.specs.Reacting.{Passes, Takes, Fails, react}
+use Rattle.end_rules.specs.History.{after_step, step_of}
+use Rattle.end_rules.specs.World.{Shared, shared_first}
+use Rattle.agreement.specs.Sets.{Role}
+use Rattle.agreement.specs.Sets.Role.{Initiator, Responder}
+use Rattle.end_model.specs.Requests.{after_called}
+use Rattle.end_model.specs.Pairs.{Common, base_at, Two, two_new, body_at, coming_to, stepped, both_broke}
+use Rattle.end_model.specs.Sharing.{side_of, shared_all_sent, shared_all_answered}
+
+-- the messages that an end sends by itself in this step
+abbrev pub own_messages : OwnAct → List Message
+own_messages (SendsNow message) = message ∷ []
+own_messages (EncodesOn context) = []
+
+-- an item as it was encoded: its activity, its context, the pair that the shared set gave the context just then, its APDU
+pub record Encoding : Type 0 where
+  pub activity : ℕ
+  pub id : ℕ
+  pub pair : Option Pair
+  pub apdu : Apdu
+
+-- Of one end, the newest first: the items that it started, the k-th in its activity k; what it encoded; and the activities of
+-- the other whose transfers were handed up to it since its association began.
+pub record Deeds : Type 0 where
+  pub started : List Queued
+  pub encoded : List Encoding
+  pub arrived : List ℕ
+
+pub record BothDeeds : Type 0 where
+  pub a : Deeds
+  pub b : Deeds
+
+pub record Ledger : Type 0 where
+  pub shared : Shared
+  pub deeds : BothDeeds
+
+abbrev pub no_deeds : Deeds
+no_deeds = record { started = []; encoded = []; arrived = [] }
+
+abbrev pub first_ledger : Common → Ledger
+first_ledger common = record { shared = shared_first (base_at Initiator common); deeds = record { a = no_deeds; b = no_deeds } }
+
+abbrev pub deeds_of : Role → BothDeeds → Deeds
+deeds_of Initiator deeds = deeds.a
+deeds_of Responder deeds = deeds.b
+
+abbrev pub on_deeds : Role → (Deeds → Deeds) → BothDeeds → BothDeeds
+on_deeds Initiator change deeds = record deeds { a = change deeds.a }
+on_deeds Responder change deeds = record deeds { b = change deeds.b }
+
+-- ---- what each step adds
+
+abbrev pub first_of : List Queued → List Queued
+first_of [] = []
+first_of (item ∷ items) = item ∷ []
+
+abbrev pub encoding_of : Option Transfer → ℕ → List SetItem → ℕ → List Encoding
+encoding_of None activity set context = []
+encoding_of (Some transfer) activity set context =
+    record { activity = activity; id = context; pair = pair_of set context; apdu = transfer.item.apdu } ∷ []
+
+abbrev pub started_by : Body → OwnAct → List Queued
+started_by body (SendsNow (Session (OfActivities (Start activity)))) = first_of body.sending.queue
+started_by body own = []
+
+abbrev pub encoded_by : Body → List SetItem → OwnAct → List Encoding
+encoded_by body set (EncodesOn context) = encoding_of body.sending.current body.sending.started set context
+encoded_by body set (SendsNow message) = []
+
+-- a CN that is accepted, and recovers nothing, begins an association anew
+abbrev pub anew : Bool → Bool → List ℕ → List ℕ
+anew refused recovers arrived = if refused || recovers then arrived else []
+
+abbrev pub items_anew : Bool → Bool → List Queued → List Queued
+items_anew refused recovers items = if refused || recovers then items else []
+
+abbrev pub arrived_at_end : Body → List ℕ
+arrived_at_end body = if body.receiving.was_handed then [] else body.receiving.last ∷ []
+
+abbrev pub arrived_by : Base → Body → Message → List ℕ → List ℕ
+arrived_by base body (Session (OfActivities (End number))) arrived = arrived_at_end body ++ arrived
+arrived_by base body (Session (OfAssociation (Connect session presentation values))) arrived =
+    anew (is_refused base body session presentation values) (recovers_in base values) arrived
+arrived_by base body message arrived = arrived
+
+abbrev pub items_by : Base → Body → Message → List Queued → List Queued
+items_by base body (Session (OfAssociation (Connect session presentation values))) items =
+    items_anew (is_refused base body session presentation values) (recovers_in base values) items
+items_by base body message items = items
+
+-- ---- the ledger after a step
+
+abbrev pub after_sending : Common → Role → List Message → Ledger → Ledger
+after_sending common role sent ledger = record ledger { shared = shared_all_sent common.mode (side_of role) sent ledger.shared }
+
+abbrev pub more_deeds : List Queued → List Encoding → Deeds → Deeds
+more_deeds items encodings deeds = record deeds { started = items ++ deeds.started; encoded = encodings ++ deeds.encoded }
+
+abbrev pub after_acting : Common → Role → List Message → List Queued → List Encoding → Ledger → Ledger
+after_acting common role sent items encodings ledger =
+    record {
+      shared = shared_all_sent common.mode (side_of role) sent ledger.shared;
+      deeds = on_deeds role (more_deeds items encodings) ledger.deeds;
+    }
+
+abbrev pub after_own : Common → Role → Body → OwnAct → Ledger → Ledger
+after_own common role body own ledger =
+    after_acting common role (own_messages own) (started_by body own) (encoded_by body ledger.shared.set own) ledger
+
+abbrev pub deeds_taken : Base → Body → Message → Deeds → Deeds
+deeds_taken base body message deeds =
+    record deeds { started = items_by base body message deeds.started; arrived = arrived_by base body message deeds.arrived }
+
+abbrev pub after_taking : Common → Role → Body → Message → List Message → Ledger → Ledger
+after_taking common role body message answers ledger =
+    record {
+      shared = shared_all_answered (base_at role common) message answers ledger.shared;
+      deeds = on_deeds role (deeds_taken (base_at role common) body message) ledger.deeds;
+    }
+
+-- ---- what is reached
+
+pub data Goes (common : Common) : Two → Ledger → Type 0 where
+  begins : Goes common (two_new common) (first_ledger common)
+  calls : (two : Two) (ledger : Ledger) (role : Role) (call : Call) (answer : Option ℤ) → Goes common two ledger
+      → can_call (base_at role common) (body_at role two) call ≡ Ok answer
+      → Goes common (stepped role (after_called common.mode (base_at role common) (body_at role two) call answer) (coming_to role two) (due_of (base_at role common) (body_at role two) call (Ok answer)) two)
+      (after_sending common role (due_of (base_at role common) (body_at role two) call (Ok answer)) ledger)
+  acts : (two : Two) (ledger : Ledger) (role : Role) (own : OwnAct) → Goes common two ledger
+      → next_own (base_at role common) (body_at role two) ≡ Some own
+      → Goes common (stepped role (after_step (base_at role common) (body_at role two) (step_of own)) (coming_to role two) (own_messages own) two) (after_own common role (body_at role two) own ledger)
+  takes : (two : Two) (ledger : Ledger) (role : Role) (message : Message) (left : List Message) (body : Body) (answers : List Message) (shown : List Indication) → Goes common two ledger
+      → coming_to role two ≡ message ∷ left → react (base_at role common) (body_at role two) message ≡ Takes body answers shown
+      → Goes common (stepped role body left answers two) (after_taking common role (body_at role two) message answers ledger)
+  passes : (two : Two) (ledger : Ledger) (role : Role) (message : Message) (left : List Message) → Goes common two ledger
+      → coming_to role two ≡ message ∷ left → react (base_at role common) (body_at role two) message ≡ Passes
+      → Goes common (stepped role (body_at role two) left [] two) ledger
+  fails : (two : Two) (ledger : Ledger) (role : Role) (message : Message) (left : List Message) (fault : Fault) (body : Body) (aborts : List Message) (shown : List Indication) → Goes common two ledger
+      → coming_to role two ≡ message ∷ left → react (base_at role common) (body_at role two) message ≡ Fails fault body aborts shown
+      → Goes common (stepped role body left aborts two) (after_sending common role aborts ledger)
+  breaks : (two : Two) (ledger : Ledger) → Goes common two ledger → Goes common (both_broke common two) ledger

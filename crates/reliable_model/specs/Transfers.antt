@@ -1,0 +1,80 @@
+-- Transfers between two ends of reliable mode: they arrive whole and at most once, and are taken as sent (X.228 7).
+use Rattle.std.specs.Prelude.{◌≡◌, ℕ, suc, nat_eq, length, List, [], ◌∷◌, ◌++◌, false, Option, Some, None, Ok, if◌then◌else◌}
+use Rattle.dialogue.specs.declared.config.Config.{Config}
+use Rattle.dialogue.specs.declared.indication.Indication.{Indication}
+use Rattle.stub_tables.specs.declared.tables.Tables.{Tables}
+use Rattle.stub_tables.specs.declared.apdu.Apdu.{Apdu}
+use Rattle.end_rules.specs.Base.{Spellings, Item, Whole}
+use Rattle.end_rules.specs.Sets.{pair_of}
+use Rattle.end_rules.specs.Messages.{Message, Session, OfActivities, End}
+use Rattle.end_rules.specs.State.{Body, Queued}
+use Rattle.end_rules.specs.TakesActivities.{arrived_now}
+use Rattle.end_rules.specs.Reacting.{Takes, react}
+use Rattle.agreement.specs.Sets.{Role, other}
+use Rattle.agreement.specs.Sets.Role.{Initiator}
+use Rattle.agreement.specs.Laws.{AreFalling}
+use Rattle.end_model.specs.Seen.{Free}
+use Rattle.end_model.specs.Pairs.{Common, base_at, Two, body_at, coming_to}
+use Rattle.reliable_model.specs.Codecs.{Carries}
+use Rattle.reliable_model.specs.Goes.{Encoding, Deeds, deeds_of, Ledger, Goes}
+use Rattle.reliable_model.specs.ReliablePairs.{reliable_pair, IsFit}
+
+-- in every pair of ends of reliable mode this holds of whatever they reach
+abbrev pub EverReliable : (Common → Two → Ledger → Type 0) → Type 0
+EverReliable Law =
+    (free : Free) (tables : Tables) (spellings : Spellings) (a b : Config) → Carries free (base_at Initiator (reliable_pair tables spellings a b)) →
+    IsFit (reliable_pair tables spellings a b) → (two : Two) (ledger : Ledger) → Goes (reliable_pair tables spellings a b) two ledger →
+    Law (reliable_pair tables spellings a b) two ledger
+
+-- the end of this role takes the end of a transfer whose number wasn't handed up
+pub record Ends (common : Common) (two : Two) (role : Role) : Type 0 where
+  pub number : ℕ
+  pub left : List Message
+  pub body : Body
+  pub answers : List Message
+  pub shown : List Indication
+  pub comes : coming_to role two ≡ Session (OfActivities (End number)) ∷ left
+  pub taken : react (base_at role common) (body_at role two) (Session (OfActivities (End number))) ≡ Takes body answers shown
+  pub is_new : (body_at role two).receiving.was_handed ≡ false
+
+-- what was encoded last
+abbrev pub IsNewest : Encoding → List Encoding → Type 0
+IsNewest encoding [] = ⊥
+IsNewest encoding (first ∷ rest) = first ≡ encoding
+
+-- What arrives is the item that the other end encoded last, for the activity of that number, on its context.
+pub record ArrivesWhole (common : Common) (two : Two) (ledger : Ledger) (role : Role) : Type 0 where
+  pub item : Item
+  pub arrived : arrived_now (base_at role common) (body_at role two) ≡ Ok (Whole item)
+  pub encoded : IsNewest (record { activity = (body_at role two).receiving.last; id = item.id; pair = Some item.pair; apdu = item.apdu }) (deeds_of (other role) ledger.deeds).encoded
+
+abbrev pub ReliableArriveWhole : Type 0
+ReliableArriveWhole = EverReliable (λ common two ledger. (role : Role) → Ends common two role → ArrivesWhole common two ledger role)
+
+-- Taken as sent: what arrives has the pair that the taker's own set gives its context, and that is the pair that the
+-- shared set gave it as the other end encoded the item.
+abbrev pub ReliableAsSent : Type 0
+ReliableAsSent =
+    EverReliable (λ common two ledger. (role : Role) (item : Item) → Ends common two role →
+    arrived_now (base_at role common) (body_at role two) ≡ Ok (Whole item) →
+    (pair_of (body_at role two).sets.held item.id ≡ Some item.pair) ×
+    IsNewest (record { activity = (body_at role two).receiving.last; id = item.id; pair = pair_of (body_at role two).sets.held item.id; apdu = item.apdu }) (deeds_of (other role) ledger.deeds).encoded)
+
+-- the k-th item that was started, of a list with the newest first
+abbrev pub item_of : ℕ → List Queued → Option Queued
+item_of k [] = None
+item_of k (item ∷ items) = if nat_eq k (suc (length items)) then Some item else item_of k items
+
+abbrev pub IsOf : Apdu → Option Queued → Type 0
+IsOf apdu None = ⊥
+IsOf apdu (Some item) = item.apdu ≡ apdu
+
+-- what was encoded last for an activity is the item that was started as that activity
+abbrev pub ReliableItems : Type 0
+ReliableItems =
+    EverReliable (λ common two ledger. (role : Role) (encoding : Encoding) → IsNewest encoding (deeds_of role ledger.deeds).encoded →
+    IsOf encoding.apdu (item_of encoding.activity (deeds_of role ledger.deeds).started))
+
+-- the numbers of the transfers that are handed up rise
+abbrev pub ReliableArriveOnce : Type 0
+ReliableArriveOnce = EverReliable (λ common two ledger. (role : Role) → AreFalling (deeds_of role ledger.deeds).arrived)

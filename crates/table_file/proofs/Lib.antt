@@ -1,0 +1,15 @@
+pub mod Folding
+pub mod Seen
+pub mod Sizes
+pub mod Places
+pub mod OwnCodes
+pub mod RowsPut
+pub mod Limits
+pub mod Names
+pub mod Spots
+pub mod FieldLaws
+pub mod ListLaws
+pub mod RowBack
+pub mod RowFound
+pub mod SectionLaws
+pub mod FileLaws

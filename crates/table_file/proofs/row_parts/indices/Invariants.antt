@@ -1,0 +1,8 @@
+use Rattle.std.proofs.Common.{Some, []}
+use Rattle.table_file.specs.Reading.{spot_of}
+use Rattle.table_file.specs.RowParts.{joins, index_at}
+use Rattle.table_file.proofs.Folding.{Goes}
+use Rattle.table_file.proofs.row_parts.indices.Given as goal
+
+abbrev pub invariant-loop-index : goal.invariant-loop-index
+invariant-loop-index l = Goes (λ n. joins (index_at l.most)) (Some []) (spot_of l.fn.spot) l.number l._index l.all (spot_of l.spot)

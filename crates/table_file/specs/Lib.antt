@@ -1,0 +1,13 @@
+pub mod FieldTypes
+pub mod Contents
+pub mod Files
+pub mod Reading
+pub mod Fields
+pub mod RowParts
+pub mod Rows
+pub mod Sections
+pub mod Known
+pub mod Kept
+pub mod Loading
+pub mod Sound
+pub mod Laws

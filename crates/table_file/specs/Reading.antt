@@ -1,0 +1,50 @@
+-- Reading from the left: what the readers give is a function of the octets.
+use Rattle.std.specs.Prelude.{◌≡◌, ℕ, zero, suc, ◌+◌, ◌-◌, List, drop, Result, Ok, Err}
+use Rattle.table_file.specs.declared.fault.Stop.{Stop}
+use Rattle.table_file.specs.declared.fault.Stop.TheVariants as stops
+use Rattle.table_file.specs.declared.spot.Spot as code
+
+-- a place, the octets from there on, and how many items of lists may still be counted
+pub record Spot : Type 0 where
+  pub place : ℕ
+  pub rest : List ℕ
+  pub left : ℕ
+
+abbrev pub spot_of : code.Spot → Spot
+spot_of s = record { place = s.place; rest = s.rest.now; left = s.left }
+
+abbrev pub moved : ℕ → Spot → Spot
+moved n s = record { place = s.place + n; rest = drop n s.rest; left = s.left }
+
+-- the spot, once that many more items are counted
+abbrev pub spent : ℕ → Spot → Spot
+spent n s = record { place = s.place; rest = s.rest; left = s.left - n }
+
+abbrev pub Reading : Type 0 → Type 0
+Reading A = Result A Stop
+
+infixl 10 ◌>>=◌
+abbrev pub ◌>>=◌ : {A B : Type 0} → Reading A → (A → Reading B) → Reading B
+(Ok x) >>= f = f x
+(Err e) >>= f = Err e
+
+-- the field or the row at this place breaks its rule
+abbrev pub refuse : {A : Type 0} → ℕ → Reading A
+refuse place = Err (stops.Bad place)
+
+-- so many steps, each from what the one before gave
+unfoldable pub fold_at : {A : Type 0} → (A → Spot → Reading (A × Spot)) → ℕ → A → Spot → Reading (A × Spot)
+fold_at step zero a s = Ok (a, s)
+fold_at step (suc n) a s = do
+  x ← step a s
+  fold_at step n x.0 x.1
+
+-- What a function returned, seen by view, is what reading gives, unless memory ran out.
+abbrev pub Fails : {Y : Type 0} → Stop → Reading Y → Type 0
+Fails stops.Cut read = read ≡ Err stops.Cut
+Fails (stops.Bad place) read = read ≡ Err (stops.Bad place)
+Fails stops.NoMemory read = Unit {0}
+
+abbrev pub Gives : {X Y : Type 0} → (X → Y) → Result X Stop → Reading Y → Type 0
+Gives view (Ok x) read = read ≡ Ok (view x)
+Gives view (Err e) read = Fails e read

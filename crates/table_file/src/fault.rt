@@ -1,0 +1,62 @@
+//! Why octets aren't a table file.
+
+ghost use Rattle.std.specs.Prelude.{◌≡◌};
+ghost use Rattle.table_file.specs.declared.fault.LoadFault.TheVariants as faults;
+ghost use Rattle.table_file.specs.declared.fault.Stop.TheVariants as stops;
+
+use osi_base::{Kind, NoMemory};
+use std::alloc::{AllocError, AllocFailed};
+
+/// Why octets aren't a table file.
+#[derive(Clone, Copy, Debug, PartialEq, Eq)]
+pub enum LoadFault {
+    /// What stands at this place, counted in octets from 0: `Content` where a field or a row breaks
+    /// its rule, `Missing` where the octets end too early, `Extra` where they go on after the value
+    /// or past the limit.
+    At { place: usize, kind: Kind },
+    /// An allocation was refused.
+    NoMemory,
+}
+
+/// Why reading stops.
+#[derive(Clone, Copy, Debug, PartialEq, Eq)]
+pub(crate) enum Stop {
+    /// The octets end before the value does.
+    Cut,
+    /// The field or the row at this place breaks its rule.
+    Bad(usize),
+    /// An allocation was refused.
+    NoMemory,
+}
+
+impl From<NoMemory> for LoadFault {
+    ghost from_gives = { λ _ e. e ≡ faults.NoMemory };
+
+    fn from(_error: NoMemory) -> LoadFault {
+        LoadFault::NoMemory
+    }
+}
+
+impl From<NoMemory> for Stop {
+    ghost from_gives = { λ _ e. e ≡ stops.NoMemory };
+
+    fn from(_error: NoMemory) -> Stop {
+        Stop::NoMemory
+    }
+}
+
+impl From<AllocError> for Stop {
+    ghost from_gives = { λ _ e. e ≡ stops.NoMemory };
+
+    fn from(_error: AllocError) -> Stop {
+        Stop::NoMemory
+    }
+}
+
+impl<T: Drop> From<AllocFailed<T>> for Stop {
+    ghost from_gives = { λ _ e. e ≡ stops.NoMemory };
+
+    fn from(_error: AllocFailed<T>) -> Stop {
+        Stop::NoMemory
+    }
+}

@@ -1,0 +1,22 @@
+//! Table files: the tables of a module as octets, in the packed syntax of one value.
+#![tactic(auto)]
+
+mod fault;
+mod field_types;
+mod fields;
+mod known;
+mod laws;
+mod loading;
+mod migrating;
+mod putting;
+mod row_parts;
+mod rows;
+mod sections;
+mod spot;
+mod storing;
+
+pub use fault::LoadFault;
+pub use laws::{files_are_loaded, loaded_are_files, migrated_is_loaded, stored_is_loaded};
+pub use loading::{MOST_OCTETS, load};
+pub use migrating::migrate;
+pub use storing::store;
