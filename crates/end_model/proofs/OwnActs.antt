@@ -86,12 +86,12 @@ next-other body t e left = go (ends_in_octets t.pieces && not (is_empty left)) (
     go false false false = tt
 
 -- the transfer is to be encoded on the carrier of its item's context
-record Encoding (base : Base) (body : Body) (context : ℕ) : Type 0 where
-  transfer : Transfer
-  is_it : body.sending.current ≡ Some transfer
-  runs : is_running transfer.progress ≡ true
-  is_due : transfer.encoded ≡ None
-  carrier : carrier_in (at Reliable base) body transfer.item.context ≡ Some context
+pub record Encoding (base : Base) (body : Body) (context : ℕ) : Type 0 where
+  pub transfer : Transfer
+  pub is_it : body.sending.current ≡ Some transfer
+  pub runs : is_running transfer.progress ≡ true
+  pub is_due : transfer.encoded ≡ None
+  pub carrier : carrier_in (at Reliable base) body transfer.item.context ≡ Some context
 
 no-start : (context started : ℕ) (b : Bool) → (if b then Some (SendsNow (Session (OfActivities (Start (suc started))))) else None) ≡ Some (EncodesOn context) → ⊥
 no-start context started true h = cc
@@ -105,7 +105,7 @@ pub on-carrier : (context : ℕ) (c : Option ℕ) → encodes_on c ≡ Some (Enc
 on-carrier context None h = cc
 on-carrier context (Some k) h = let s : k ≡ context = cc in ap (λ (j : ℕ). Some j) s
 
-encoding-so : (base : Base) (body : Body) (context : ℕ) (current : Option Transfer) → body.sending.current ≡ current → next_in (at Reliable base) body current ≡ Some (EncodesOn context) → Encoding base body context
+pub encoding-so : (base : Base) (body : Body) (context : ℕ) (current : Option Transfer) → body.sending.current ≡ current → next_in (at Reliable base) body current ≡ Some (EncodesOn context) → Encoding base body context
 encoding-so base body context None e h = absurd (none-started base body context body.sending.queue h)
 encoding-so base body context (Some t) e h = go (is_running t.progress) refl t.encoded refl h
   where
@@ -114,7 +114,7 @@ encoding-so base body context (Some t) e h = go (is_running t.progress) refl t.e
     go true r None d h = record { transfer = t; is_it = e; runs = r; is_due = d; carrier = on-carrier context (carrier_in (at Reliable base) body t.item.context) h }
     go true r (Some x) d h = absurd (subst AllOther h (next-other body t x (left_of t x)))
 
-running-seen : (p : Progress) → is_running p ≡ true → progress_seen p ≡ model_running
+pub running-seen : (p : Progress) → is_running p ≡ true → progress_seen p ≡ model_running
 running-seen Running h = refl
 running-seen Ending h = cc
 running-seen Suspended h = cc
@@ -126,7 +126,7 @@ value-seen : (base : Base) (body : Body) (context : ℕ) (item : Queued) (p : Op
 value-seen base body context item None = refl
 value-seen base body context item (Some pair) = refl
 
-encodes-act : (context : ℕ) (free : Free) (base : Base) (proposed : List Proposal) (body : Body) → MayBeWritten free base body → next_own (at Reliable base) body ≡ Some (EncodesOn context) → ActsAs free Reliable base proposed body (encoding (at Reliable base) context body) [] (Encodes context)
+encodes-act : (context : ℕ) (free : Free) (base : Base) (proposed : List Proposal) (body : Body) → MayBeWritten free base body context → next_own (at Reliable base) body ≡ Some (EncodesOn context) → ActsAs free Reliable base proposed body (encoding (at Reliable base) context body) [] (Encodes context)
 encodes-act context free base proposed body writes h =
     let l = leading base body (EncodesOn context) h in
     let x = encoding-so base body context body.sending.current refl l.next in
@@ -140,7 +140,7 @@ encodes-act context free base proposed body writes h =
             by_transfers = refl;
             leads = l.leads_so;
             is_due = subst IsUnencoded (sym current) (running-seen x.transfer.progress x.runs, ap (encoded_seen (at Reliable base)) x.is_due);
-            is_writable = subst (MayEncode free.codec context (set_seen body.sets.held)) (sym current) (subst (λ p. IsWritable free.codec (value_on context (queued_seen (at Reliable base) x.transfer.item) p)) (sym held) (writes x.transfer (record { id = context; pair = m.pair; apdu = x.transfer.item.apdu }) x.is_it refl));
+            is_writable = subst (MayEncode free.codec context (set_seen body.sets.held)) (sym current) (subst (λ p. IsWritable free.codec (value_on context (queued_seen (at Reliable base) x.transfer.item) p)) (sym held) (writes x.transfer (record { id = context; pair = m.pair; apdu = x.transfer.item.apdu }) x.is_it refl refl m.there));
           };
       after =
           ap put

@@ -1,6 +1,6 @@
 -- Two ends of reliable mode: accepted calls of an end whose association stands, and what it does by itself.
 use Rattle.std.proofs.Common.{◌≡◌, refl, true, false, ◌∙◌, sym, ap, subst, ℕ, List, [], ◌∷◌, ◌++◌, ◌⊎◌, inl, inr}
-use Rattle.std.specs.Prelude.{ℤ, Bool, Option, Some, None, Ok, Err, if◌then◌else◌}
+use Rattle.std.specs.Prelude.{ℤ, Option, Some, None, Ok, Err, if◌then◌else◌}
 use Rattle.osi_base.specs.declared.words.Proposal.{Proposal}
 use Rattle.osi_base.specs.declared.words.SetItem.{SetItem}
 use Rattle.asn1_types.specs.declared.value.Val.{Val}
@@ -37,9 +37,9 @@ use Rattle.agreement.specs.Worlds.Step.{Acts}
 use Rattle.agreement.specs.Worlds.Moment.{By}
 use Rattle.agreement.specs.Laws.{handed_by}
 use Rattle.agreement.proofs.Interface.{laws}
-use Rattle.end_model.specs.Seen.{Free, apdu_seen, seen}
+use Rattle.end_model.specs.Seen.{Free, seen}
 use Rattle.end_model.specs.Opens.{IsProper, Numbered}
-use Rattle.end_model.specs.Acting.{as_list, invoked_as, apdus_of, handing, HandsIn, ActsAs, IsSound, ReadsBack}
+use Rattle.end_model.specs.Acting.{as_list, invoked_as, HandsIn, ActsAs, IsSound, ReadsBack}
 use Rattle.end_model.specs.Requests.{sent_all, after_called}
 use Rattle.end_model.proofs.Ladder.{called}
 use Rattle.end_model.proofs.HandingRows.{invoke-in}
@@ -49,9 +49,10 @@ use Rattle.end_model.proofs.Requests.{give_all-acts, please_with-acts, interrupt
 use Rattle.end_model.proofs.Requests.{release_in_turn-acts}
 use Rattle.end_model.proofs.Connecting.{connections-act}
 use Rattle.reliable_model.specs.Codecs.{IsShort, IsTransferable, SpellsTransfers, IsTransferOf, Carries}
-use Rattle.reliable_model.specs.Transferring.{AreTransferable, OnEncoded, IsCurrent, OnCurrent, IsSending}
+use Rattle.reliable_model.specs.Transferring.{AreTransferable, OnCurrent, IsSending}
 use Rattle.reliable_model.specs.Goes.{first_of, encoding_of, Encoding, Ledger, after_sending, own_messages, after_own, started_by, encoded_by}
 use Rattle.reliable_model.proofs.Transferring.{queue-append, kept-current, with-confirmed, resumed-current}
+use Rattle.reliable_model.specs.OwnRows.{EncodesInPlace}
 use Rattle.reliable_model.proofs.OwnRows.{own-rows, Leaves, leaves}
 use Rattle.reliable_model.proofs.Ledgers as ledgers
 use Rattle.reliable_model.proofs.Ledgers.{AreEncodable}
@@ -170,19 +171,19 @@ module _ (free : Free) (tables : Tables) (spellings : Spellings) (a b : Config) 
   spells-at Initiator h = h
   spells-at Responder h =
       record {
-        within = λ item t. h.within item (transferable-for item.apdu t);
-        reads = λ set item t there. h.reads set item (transferable-for item.apdu t) there;
+        within = λ item t placed. h.within item (transferable-for item.apdu t) placed;
+        reads = λ set item t placed there. h.reads set item (transferable-for item.apdu t) placed there;
       }
 
   transfer-of : (octets : List ℕ) (value : model.Value) → IsTransferOf (base Initiator) octets value → IsTransferOf (base Responder) octets value
-  transfer-of octets value x = record { item = x.item; transferable = transferable-back x.item.apdu x.transferable; spelled = x.spelled; is_its = x.is_its }
+  transfer-of octets value x = record { item = x.item; transferable = transferable-back x.item.apdu x.transferable; placed = x.placed; spelled = x.spelled; is_its = x.is_its }
 
   pub carries-at : (role : Role) → Carries free (base Initiator) → Carries free (base role)
   carries-at Initiator h = h
   carries-at Responder h =
       record {
-        writes = λ item t. h.writes item (transferable-for item.apdu t);
-        written = λ item t. h.written item (transferable-for item.apdu t);
+        writes = λ item t placed. h.writes item (transferable-for item.apdu t) placed;
+        written = λ item t placed. h.written item (transferable-for item.apdu t) placed;
         reads = λ set octets value e. transfer-of octets value (h.reads set octets value e);
       }
 
@@ -372,9 +373,9 @@ module _ (free : Free) (tables : Tables) (spellings : Spellings) (a b : Config) 
     pub live : Live (after_step (base role) body (step_of own))
     pub words : AreOwn (own_messages own)
 
-  pub own-so : (world : World) (role : Role) (body : Body) (own : OwnAct) (coming : List Message) (peer : Body) (to_peer : List Message) (ledger : Ledger) → SpellsTransfers (base Initiator) → Carries free (base Initiator) → Ends world role body coming peer to_peer ledger → IsSound Reliable (base role) body → IsSending (base role) body.sending → Live body → next_own (base role) body ≡ Some own → OwnTo role body own coming peer to_peer ledger
-  own-so world role body own coming peer to_peer ledger spells carries j sound sending live h =
-      let x = own-rows.acts free (base role) proposed body own (spells-at role spells) (carries-at role carries) sending h in
+  pub own-so : (world : World) (role : Role) (body : Body) (own : OwnAct) (coming : List Message) (peer : Body) (to_peer : List Message) (ledger : Ledger) → SpellsTransfers (base Initiator) → Carries free (base Initiator) → Ends world role body coming peer to_peer ledger → IsSound Reliable (base role) body → IsSending (base role) body.sending → Live body → next_own (base role) body ≡ Some own → EncodesInPlace (base role) body own → OwnTo role body own coming peer to_peer ledger
+  own-so world role body own coming peer to_peer ledger spells carries j sound sending live h placed =
+      let x = own-rows.acts free (base role) proposed body own (spells-at role spells) (carries-at role carries) sending h placed in
       let l : Leaves (base role) body own = leaves (base role) body own h in
       let later : Body = after_step (base role) body (step_of own) in
       record {

@@ -1,7 +1,7 @@
 -- The contexts of an opening in reliable mode: association control and reliable transfer are accepted under what is proposed, and
 -- the lowest context with an abstract syntax has it.
-use Rattle.std.proofs.Common.{◌≡◌, refl, true, false, ◌∙◌, sym, ap, subst, arith, ℕ, suc, ◌<◌, List, [], ◌∷◌, ◌++◌}
-use Rattle.std.specs.Prelude.{Bool, not, ◌&&◌, ◌||◌, Option, Some, None, is_some, find, nat_eq, nat_lt, if◌then◌else◌}
+use Rattle.std.proofs.Common.{◌≡◌, refl, true, false, ◌∙◌, ap, subst, arith, ℕ, ◌<◌, List, [], ◌∷◌}
+use Rattle.std.specs.Prelude.{Bool, not, ◌&&◌, ◌||◌, Option, Some, None, nat_eq, nat_lt, if◌then◌else◌}
 use Rattle.std.proofs.lemmas.Bool.Decides.{nat_tests}
 use Rattle.osi_base.specs.declared.syntax.Pair.{Pair}
 use Rattle.osi_base.specs.declared.syntax.Syntax.TheVariants.{Ber}
@@ -10,18 +10,17 @@ use Rattle.osi_base.specs.declared.words.Proposal.{Proposal}
 use Rattle.osi_base.specs.declared.words.AddAnswer.{AddAnswer}
 use Rattle.dialogue.specs.declared.config.Mode.TheVariants.{Reliable}
 use Rattle.end_rules.specs.Base.{Base, acse_name, rtse_name, ber_name}
-use Rattle.end_rules.specs.Sets.{same_name, is_among, pair_of, put, put_accepted, pair_accepted, with_added, accepted_set}
+use Rattle.end_rules.specs.Sets.{Alteration, same_name, is_among, pair_of, put, put_accepted, pair_accepted, with_added, accepted_set}
 use Rattle.end_rules.specs.Sets.{proposed_ids, has_abstract, lowest_with, is_deleted_in}
 use Rattle.end_rules.specs.Altering.{has_double}
 use Rattle.end_rules.specs.Writing.{proposal_in_ber}
 use Rattle.end_rules.specs.Policy.{acceptance, rejection, answer_within, answer_to_addition, answers_to_additions, opening_policy}
-use Rattle.end_rules.specs.Policy.{takes_syntax}
 use Rattle.agreement.specs.Sets.{AllAbove, IsRising}
 use Rattle.end_model.specs.Seen.{set_seen}
 
 -- ---- what an addition leaves alone
 
-other-put : (j k : ℕ) (p : Pair) (set : List SetItem) → nat_eq j k ≡ false → pair_of (put j p set) k ≡ pair_of set k
+pub other-put : (j k : ℕ) (p : Pair) (set : List SetItem) → nat_eq j k ≡ false → pair_of (put j p set) k ≡ pair_of set k
 other-put j k p [] e = rw e refl
 other-put j k p (item ∷ items) e = go (other-put j k p items e) (nat_lt j item.id) (nat_eq j item.id) refl (nat_eq item.id k) refl
   where
@@ -53,7 +52,7 @@ or-second false q h = h
 eq-sym : (a b : ℕ) → nat_eq a b ≡ false → nat_eq b a ≡ false
 eq-sym a b h = grind (arith, nat_tests)
 
-others-added : (ps : List Proposal) (answers : List AddAnswer) (set : List SetItem) (k : ℕ) → is_among k (proposed_ids ps) ≡ false → pair_of (with_added ps answers set) k ≡ pair_of set k
+pub others-added : (ps : List Proposal) (answers : List AddAnswer) (set : List SetItem) (k : ℕ) → is_among k (proposed_ids ps) ≡ false → pair_of (with_added ps answers set) k ≡ pair_of set k
 others-added [] answers set k h = refl
 others-added (p ∷ ps) [] set k h = refl
 others-added (p ∷ ps) (answer ∷ answers) set k h =
@@ -105,23 +104,30 @@ on-three base contexts h =
 eq-refl : (n : ℕ) → nat_eq n n ≡ true
 eq-refl n = grind (arith, nat_tests)
 
-lowest-above : (name : List ℕ) (j k : ℕ) (set : List SetItem) → AllAbove j (set_seen set) → lowest_with name [] set ≡ Some k → j < k
-lowest-above name j k [] above h = cc
-lowest-above name j k (item ∷ items) above h = go (lowest-above name j k items above.1) (same_name item.pair.abstract_name name && not (is_deleted_in [] item.id)) h
+lowest-above : (name : List ℕ) (own : List Alteration) (j k : ℕ) (set : List SetItem) → AllAbove j (set_seen set) → lowest_with name own set ≡ Some k → j < k
+lowest-above name own j k [] above h = cc
+lowest-above name own j k (item ∷ items) above h = go (lowest-above name own j k items above.1) (same_name item.pair.abstract_name name && not (is_deleted_in own item.id)) h
   where
-    go : (lowest_with name [] items ≡ Some k → j < k) → (b : Bool) → (if b then Some item.id else lowest_with name [] items) ≡ Some k → j < k
+    go : (lowest_with name own items ≡ Some k → j < k) → (b : Bool) → (if b then Some item.id else lowest_with name own items) ≡ Some k → j < k
     go later true h = let s : item.id ≡ k = cc in subst (λ n. j < n) s above.0
     go later false h = later h
 
-pub lowest-has : (name : List ℕ) (k : ℕ) (set : List SetItem) → IsRising (set_seen set) → lowest_with name [] set ≡ Some k → has_abstract name (pair_of set k) ≡ true
-lowest-has name k [] rising h = cc
-lowest-has name k (item ∷ items) rising h = go (lowest-has name k items rising.1) (same_name item.pair.abstract_name name) refl h
+pub lowest-found : (name : List ℕ) (own : List Alteration) (k : ℕ) (set : List SetItem) → IsRising (set_seen set) → lowest_with name own set ≡ Some k → has_abstract name (pair_of set k) ≡ true
+lowest-found name own k [] rising h = cc
+lowest-found name own k (item ∷ items) rising h = go (lowest-found name own k items rising.1) (same_name item.pair.abstract_name name) refl (not (is_deleted_in own item.id)) h
   where
     apart : (m n : ℕ) → m < n → nat_eq m n ≡ false
     apart m n h = grind (arith, nat_tests)
 
-    go : (lowest_with name [] items ≡ Some k → has_abstract name (pair_of items k) ≡ true) → (b : Bool) → same_name item.pair.abstract_name name ≡ b → (if b && not (is_deleted_in [] item.id) then Some item.id else lowest_with name [] items) ≡ Some k → has_abstract name (if nat_eq item.id k then Some item.pair else pair_of items k) ≡ true
-    go later true e h =
+    later-so : (lowest_with name own items ≡ Some k → has_abstract name (pair_of items k) ≡ true) → lowest_with name own items ≡ Some k → has_abstract name (if nat_eq item.id k then Some item.pair else pair_of items k) ≡ true
+    later-so later h = rw (apart item.id k (lowest-above name own item.id k items rising.0 h)) (later h)
+
+    go : (lowest_with name own items ≡ Some k → has_abstract name (pair_of items k) ≡ true) → (b : Bool) → same_name item.pair.abstract_name name ≡ b → (d : Bool) → (if b && d then Some item.id else lowest_with name own items) ≡ Some k → has_abstract name (if nat_eq item.id k then Some item.pair else pair_of items k) ≡ true
+    go later true e true h =
         let s : item.id ≡ k = cc in
         subst (λ n. has_abstract name (if nat_eq item.id n then Some item.pair else pair_of items n) ≡ true) s (rw (eq-refl item.id) e)
-    go later false e h = rw (apart item.id k (lowest-above name item.id k items rising.0 h)) (later h)
+    go later true e false h = later-so later h
+    go later false e d h = later-so later h
+
+pub lowest-has : (name : List ℕ) (k : ℕ) (set : List SetItem) → IsRising (set_seen set) → lowest_with name [] set ≡ Some k → has_abstract name (pair_of set k) ≡ true
+lowest-has name k set rising h = lowest-found name [] k set rising h

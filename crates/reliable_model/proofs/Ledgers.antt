@@ -1,6 +1,6 @@
 -- Two ends of reliable mode beside the model, with what they share and their ledger: each step of the model keeps it.
 use Rattle.std.proofs.Common.{◌≡◌, refl, true, false, ◌∙◌, sym, ap, subst, ℕ, zero, suc, List, [], ◌∷◌, ◌++◌, map}
-use Rattle.std.specs.Prelude.{Bool, Option, Some, None, option_map, if◌then◌else◌}
+use Rattle.std.specs.Prelude.{Bool, if◌then◌else◌}
 use Rattle.std.proofs.lemmas.List.{map-append}
 use Rattle.osi_base.specs.declared.words.Proposal.{Proposal}
 use Rattle.osi_base.specs.declared.words.SetItem.{SetItem}
@@ -32,7 +32,7 @@ use Rattle.agreement.specs.Worlds.{World, Step, state_of, shared_at}
 use Rattle.agreement.specs.Worlds.Step.{Acts, Takes, Passes}
 use Rattle.agreement.specs.Worlds.Moment.{By, Break}
 use Rattle.agreement.specs.Laws as laws
-use Rattle.end_model.specs.Seen.{Free, pair_seen, set_seen, saved_seen, apdu_seen, queued_seen, seen}
+use Rattle.end_model.specs.Seen.{Free, set_seen, saved_seen, queued_seen, seen}
 use Rattle.end_model.specs.Rows.{at}
 use Rattle.end_model.specs.Words.{Means, AreMeant}
 use Rattle.end_model.specs.Acting.{ActsAs}

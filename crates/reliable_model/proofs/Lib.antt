@@ -11,3 +11,10 @@ pub mod Phases
 pub mod Machine
 pub mod SameApdus
 pub mod Laws
+pub mod Leading
+pub mod Fixed
+pub mod Firm
+pub mod FirmSteps
+pub mod Arriving
+pub mod OnWay
+pub mod Placing

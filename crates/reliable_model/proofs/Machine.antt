@@ -42,7 +42,8 @@ use Rattle.end_model.proofs.Connecting.{withdraw-phase}
 use Rattle.end_model.proofs.Machine.{append-nil, passes-kept}
 use Rattle.end_model.proofs.DirectOpening.{At}
 use Rattle.reliable_model.specs.Codecs.{Carries}
-use Rattle.reliable_model.specs.Goes.{Ledger, first_ledger, deeds_of, own_messages, after_sending, after_own, after_taking, Goes, begins, calls, acts, takes, passes, fails, breaks}
+use Rattle.reliable_model.specs.Goes.{Ledger, first_ledger, deeds_of, own_messages, after_sending, after_own, after_taking}
+use Rattle.reliable_model.specs.OwnRows.{EncodesInPlace}
 use Rattle.reliable_model.specs.ReliablePairs.{reliable_pair, IsFit}
 use Rattle.reliable_model.proofs.Transferring.{kept-current, with-progress}
 use Rattle.reliable_model.proofs.Ledgers as ledgers
@@ -561,8 +562,8 @@ module _ (free : Free) (tables : Tables) (spellings : Spellings) (a b : Config) 
   over-own : Over ≡ Up → ⊥
   over-own e = cc
 
-  acts-a : (two : Two) (ledger : Ledger) (own : OwnAct) → Presumed → Kept two ledger → next_own (base Initiator) two.a ≡ Some own → OwnA two ledger own
-  acts-a two ledger own p k h = go k.opened
+  acts-a : (two : Two) (ledger : Ledger) (own : OwnAct) → Presumed → Kept two ledger → next_own (base Initiator) two.a ≡ Some own → EncodesInPlace (base Initiator) two.a own → OwnA two ledger own
+  acts-a two ledger own p k h placed = go k.opened
     where
       not-at : (phase : Phase) (stage : Stage) → At phase stage two.a → (phase ≡ Up → ⊥) → ⊥
       not-at phase stage at idle = idle (sym at.phase_is ∙ own-up (base Initiator) two.a own h)
@@ -582,13 +583,13 @@ module _ (free : Free) (tables : Tables) (spellings : Spellings) (a b : Config) 
       go (Deaf way q d) = absurd (deaf way d)
       go (Gone q l) = absurd (over-own (sym q ∙ own-up (base Initiator) two.a own h))
       go (Standing (Stands live o) s) =
-          let c = calling.own-so free tables spellings a b k.world Initiator two.a own two.to_a two.b two.to_b ledger p.fit.spells p.carries k.joint k.good_a.sound k.good_a.sending live h in
+          let c = calling.own-so free tables spellings a b k.world Initiator two.a own two.to_a two.b two.to_b ledger p.fit.spells p.carries k.joint k.good_a.sound k.good_a.sending live h placed in
           keep-a two c.world (after_step (base Initiator) two.a (step_of own)) two.to_a (own_messages own) (after_own common Initiator two.a own ledger) c.ends (record { sound = c.sound; sending = c.sending }) k.good_b
           (Standing (Stands c.live o) (side-more two.b two.to_b (own_messages own) c.words s))
       go (Standing (IsOver q) s) = absurd (over-own (sym q ∙ own-up (base Initiator) two.a own h))
 
-  acts-b : (two : Two) (ledger : Ledger) (own : OwnAct) → Presumed → Kept two ledger → next_own (base Responder) two.b ≡ Some own → OwnB two ledger own
-  acts-b two ledger own p k h = go k.opened
+  acts-b : (two : Two) (ledger : Ledger) (own : OwnAct) → Presumed → Kept two ledger → next_own (base Responder) two.b ≡ Some own → EncodesInPlace (base Responder) two.b own → OwnB two ledger own
+  acts-b two ledger own p k h placed = go k.opened
     where
       not-at : (phase : Phase) (stage : Stage) → At phase stage two.b → (phase ≡ Up → ⊥) → ⊥
       not-at phase stage at idle = idle (sym at.phase_is ∙ own-up (base Responder) two.b own h)
@@ -607,7 +608,7 @@ module _ (free : Free) (tables : Tables) (spellings : Spellings) (a b : Config) 
 
       stood : Live two.b → AreOwn two.to_b → ((later : Body) → Live later → AreOwn (own_messages own) → Opened two.a later (two.to_a ++ own_messages own) two.to_b) → OwnB two ledger own
       stood live o opened =
-          let c = calling.own-so free tables spellings a b k.world Responder two.b own two.to_b two.a two.to_a ledger p.fit.spells p.carries (flip k.joint) k.good_b.sound k.good_b.sending live h in
+          let c = calling.own-so free tables spellings a b k.world Responder two.b own two.to_b two.a two.to_a ledger p.fit.spells p.carries (flip k.joint) k.good_b.sound k.good_b.sending live h placed in
           keep-b two c.world (after_step (base Responder) two.b (step_of own)) two.to_b (own_messages own) (after_own common Responder two.b own ledger) c.ends (record { sound = c.sound; sending = c.sending }) k.good_a
           (opened _ c.live c.words)
 
@@ -697,7 +698,7 @@ module _ (free : Free) (tables : Tables) (spellings : Spellings) (a b : Config) 
   both-broken two ledger k (EndsBroken x e) (EndsOver y f) = broke two ledger k x y (Deaf Again f (DeafRest (is-broken Initiator two.a e) refl))
   both-broken two ledger k (EndsBroken x e) (EndsBroken y f) = broke two ledger k x y (Resting Again (is-broken Initiator two.a e) (is-broken Responder two.b f) refl refl)
 
-  breaks-all : (two : Two) (ledger : Ledger) → Kept two ledger → Kept (both_broke common two) ledger
+  pub breaks-all : (two : Two) (ledger : Ledger) → Kept two ledger → Kept (both_broke common two) ledger
   breaks-all two ledger k = go k.opened
     where
       calling-so : (way : Way) → At (asks way) Asked two.a → At (rests way) Unused two.b → Kept (both_broke common two) ledger
@@ -731,7 +732,7 @@ module _ (free : Free) (tables : Tables) (spellings : Spellings) (a b : Config) 
 
   -- ---- all that is reached
 
-  new-kept : Kept (two_new common) (first_ledger common)
+  pub new-kept : Kept (two_new common) (first_ledger common)
   new-kept =
       record {
         world = [];
@@ -750,19 +751,19 @@ module _ (free : Free) (tables : Tables) (spellings : Spellings) (a b : Config) 
       first-deeds Initiator = record { started = refl; encoded = refl; arrived = refl; items = tt; encodings = tt }
       first-deeds Responder = record { started = refl; encoded = refl; arrived = refl; items = tt; encodings = tt }
 
-  called-kept : (two : Two) (ledger : Ledger) (role : Role) (call : Call) (answer : Option ℤ) → Presumed → Kept two ledger → can_call (base role) (body_at role two) call ≡ Ok answer → Kept (stepped role (after_called Reliable (base role) (body_at role two) call answer) (coming_to role two) (due_of (base role) (body_at role two) call (Ok answer)) two) (after_sending common role (due_of (base role) (body_at role two) call (Ok answer)) ledger)
+  pub called-kept : (two : Two) (ledger : Ledger) (role : Role) (call : Call) (answer : Option ℤ) → Presumed → Kept two ledger → can_call (base role) (body_at role two) call ≡ Ok answer → Kept (stepped role (after_called Reliable (base role) (body_at role two) call answer) (coming_to role two) (due_of (base role) (body_at role two) call (Ok answer)) two) (after_sending common role (due_of (base role) (body_at role two) call (Ok answer)) ledger)
   called-kept two ledger Initiator call answer p k h = calls-a two ledger call answer p k h
   called-kept two ledger Responder call answer p k h = calls-b two ledger call answer p k h
 
-  own-kept : (two : Two) (ledger : Ledger) (role : Role) (own : OwnAct) → Presumed → Kept two ledger → next_own (base role) (body_at role two) ≡ Some own → Kept (stepped role (after_step (base role) (body_at role two) (step_of own)) (coming_to role two) (own_messages own) two) (after_own common role (body_at role two) own ledger)
-  own-kept two ledger Initiator own p k h = acts-a two ledger own p k h
-  own-kept two ledger Responder own p k h = acts-b two ledger own p k h
+  pub own-kept : (two : Two) (ledger : Ledger) (role : Role) (own : OwnAct) → Presumed → Kept two ledger → next_own (base role) (body_at role two) ≡ Some own → EncodesInPlace (base role) (body_at role two) own → Kept (stepped role (after_step (base role) (body_at role two) (step_of own)) (coming_to role two) (own_messages own) two) (after_own common role (body_at role two) own ledger)
+  own-kept two ledger Initiator own p k h placed = acts-a two ledger own p k h placed
+  own-kept two ledger Responder own p k h placed = acts-b two ledger own p k h placed
 
   pub handles : (two : Two) (ledger : Ledger) (role : Role) (message : Message) (left : List Message) → Presumed → Kept two ledger → coming_to role two ≡ message ∷ left → Handles two ledger role message left
   handles two ledger Initiator message left p k e = subst (HandlesNext two ledger Initiator) e (handles-a two ledger p k)
   handles two ledger Responder message left p k e = subst (HandlesNext two ledger Responder) e (handles-b two ledger p k)
 
-  took-kept : (two : Two) (ledger : Ledger) (role : Role) (message : Message) (left : List Message) (body : Body) (answers : List Message) (shown : List Indication) → Handles two ledger role message left → react (base role) (body_at role two) message ≡ Takes body answers shown → Kept (stepped role body left answers two) (after_taking common role (body_at role two) message answers ledger)
+  pub took-kept : (two : Two) (ledger : Ledger) (role : Role) (message : Message) (left : List Message) (body : Body) (answers : List Message) (shown : List Indication) → Handles two ledger role message left → react (base role) (body_at role two) message ≡ Takes body answers shown → Kept (stepped role body left answers two) (after_taking common role (body_at role two) message answers ledger)
   took-kept two ledger role message left body answers shown (Passing e k) h = let no_take : Passes ≡ Takes body answers shown = sym e ∙ h in cc
   took-kept two ledger role message left body answers shown (Taking later due told e k) h =
       let same : Takes later due told ≡ Takes body answers shown = sym e ∙ h in
@@ -771,22 +772,10 @@ module _ (free : Free) (tables : Tables) (spellings : Spellings) (a b : Config) 
       subst (λ x. Kept (stepped role x left answers two) (after_taking common role (body_at role two) message answers ledger)) bodies
       (subst (λ xs. Kept (stepped role later left xs two) (after_taking common role (body_at role two) message xs ledger)) dues k)
 
-  passed-kept : (two : Two) (ledger : Ledger) (role : Role) (message : Message) (left : List Message) → Handles two ledger role message left → react (base role) (body_at role two) message ≡ Passes → Kept (stepped role (body_at role two) left [] two) ledger
+  pub passed-kept : (two : Two) (ledger : Ledger) (role : Role) (message : Message) (left : List Message) → Handles two ledger role message left → react (base role) (body_at role two) message ≡ Passes → Kept (stepped role (body_at role two) left [] two) ledger
   passed-kept two ledger role message left (Passing e k) h = k
   passed-kept two ledger role message left (Taking later due told e k) h = let no_pass : Takes later due told ≡ Passes = sym e ∙ h in cc
 
   pub never-fails : (two : Two) (ledger : Ledger) (role : Role) (message : Message) (left : List Message) (fault : Fault) (body : Body) (aborts : List Message) (shown : List Indication) → Handles two ledger role message left → react (base role) (body_at role two) message ≡ Fails fault body aborts shown → ⊥
   never-fails two ledger role message left fault body aborts shown (Passing e k) h = let no_fault : Passes ≡ Fails fault body aborts shown = sym e ∙ h in cc
   never-fails two ledger role message left fault body aborts shown (Taking later due told e k) h = let no_fault : Takes later due told ≡ Fails fault body aborts shown = sym e ∙ h in cc
-
-  pub all-kept : Presumed → (two : Two) (ledger : Ledger) → Goes common two ledger → Kept two ledger
-  all-kept p two ledger begins = new-kept
-  all-kept p two ledger (calls x l role call answer reached h) = called-kept x l role call answer p (all-kept p x l reached) h
-  all-kept p two ledger (acts x l role own reached h) = own-kept x l role own p (all-kept p x l reached) h
-  all-kept p two ledger (takes x l role message left body answers shown reached comes h) =
-      took-kept x l role message left body answers shown (handles x l role message left p (all-kept p x l reached) comes) h
-  all-kept p two ledger (passes x l role message left reached comes h) =
-      passed-kept x l role message left (handles x l role message left p (all-kept p x l reached) comes) h
-  all-kept p two ledger (fails x l role message left fault body aborts shown reached comes h) =
-      absurd (never-fails x l role message left fault body aborts shown (handles x l role message left p (all-kept p x l reached) comes) h)
-  all-kept p two ledger (breaks x l reached) = breaks-all x l (all-kept p x l reached)

@@ -1,15 +1,13 @@
 -- Two ends of reliable mode: the transport connection, the opening and the recovery, and their refusals.
-use Rattle.std.proofs.Common.{◌≡◌, refl, true, false, ◌∙◌, sym, ap, subst, arith, ℕ, ◌≤◌, List, [], ◌∷◌, ◌++◌, map, ◌⊎◌, inl, inr}
-use Rattle.std.specs.Prelude.{Bool, not, ◌&&◌, ◌||◌, min, pos, Option, Some, None, is_some, nat_eq, unwrap_or, if◌then◌else◌}
+use Rattle.std.proofs.Common.{◌≡◌, refl, true, false, ◌∙◌, sym, ap, subst, arith, ℕ, ◌≤◌, List, [], ◌∷◌, ◌++◌, map, ◌⊎◌, inl}
+use Rattle.std.specs.Prelude.{Bool, not, ◌&&◌, ◌||◌, min, Option, Some, None, is_some, nat_eq, unwrap_or, if◌then◌else◌}
 use Rattle.std.proofs.lemmas.Bool.Decides.{nat_tests}
-use Rattle.std.specs.Ordering.{int_eq}
 use Rattle.osi_base.specs.declared.words.Proposal.{Proposal}
 use Rattle.osi_base.specs.declared.words.SetItem.{SetItem}
 use Rattle.osi_base.specs.declared.session_word.SessionConnect.{SessionConnect}
 use Rattle.osi_base.specs.declared.presentation_word.PresentationConnect.{PresentationConnect}
 use Rattle.osi_base.specs.declared.presentation_word.PresentationAccept.{PresentationAccept}
 use Rattle.osi_base.specs.declared.presentation_word.PresentationReject.{PresentationReject}
-use Rattle.osi_base.specs.declared.rtse_word.Rtse.TheVariants as rtse
 use Rattle.stub_tables.specs.declared.tables.Tables.{Tables}
 use Rattle.dialogue.specs.declared.config.Config.{Config}
 use Rattle.dialogue.specs.declared.config.Mode.TheVariants.{Reliable}
@@ -19,23 +17,22 @@ use Rattle.dialogue.specs.declared.indication.Indication.{Indication}
 use Rattle.end_rules.specs.Base.{Base, Spellings, Fault, rtse_name}
 use Rattle.end_rules.specs.Messages.{TransportUnit, ConnectionRequest, ConnectionConfirm, Value, AbortData, Word, OfAssociation}
 use Rattle.end_rules.specs.Messages.{Connect, Accept, Refuse, Abort, Accepting, Message, Transport, Session, unit_of}
-use Rattle.end_rules.specs.State.{Body, Stage, Unused, Asked, Joined, Carrying, NoAnswer, Queued, passes_over, is_joined}
+use Rattle.end_rules.specs.State.{Body, Stage, Unused, Asked, Joined, Carrying, passes_over, is_joined}
 use Rattle.end_rules.specs.State.{is_carrying, is_unused, is_asked, is_broken}
-use Rattle.end_rules.specs.Sets.{accepted_set, fit_proposals, lowest_with, has_abstract, pair_of}
+use Rattle.end_rules.specs.Sets.{fit_proposals, lowest_with, has_abstract, pair_of}
 use Rattle.end_rules.specs.Units.{selected_with, proposed_units, needed_units, has_units, has_version_two, manages_with}
-use Rattle.end_rules.specs.World.{Shared, anew}
+use Rattle.end_rules.specs.World.{Shared}
 use Rattle.end_rules.specs.Altering.{has_double}
 use Rattle.end_rules.specs.Faults.{transport_fault, invalid_ppdu, acse_fault, rtse_fault, fault_if, or_fault}
 use Rattle.end_rules.specs.Purging.{is_purged, is_transport_purged}
-use Rattle.end_rules.specs.InPlace.{is_opening, asked_to_open}
-use Rattle.end_rules.specs.Policy.{is_faulty_proposal}
+use Rattle.end_rules.specs.InPlace.{is_opening}
 use Rattle.end_rules.specs.Writing.{session_connect, presentation_connect, connect_values, connect_message, connection_request}
-use Rattle.end_rules.specs.Writing.{is_recovering, provider_refusal, refuse_message, rtse_context, context_with, connection_data, proposals}
-use Rattle.end_rules.specs.Connecting.{the_one, user_of, rtse_in, context_named, has_acse, has_rtse, set_for, results_for}
-use Rattle.end_rules.specs.Connecting.{information_fault, is_on_rtse, is_open_request, is_open_accept, lacks_accept, session_refuses}
+use Rattle.end_rules.specs.Policy.{opening_policy}
+use Rattle.end_rules.specs.Writing.{is_recovering, provider_refusal, refuse_message, rtse_context, connection_data, proposals}
+use Rattle.end_rules.specs.Connecting.{the_one, user_of, context_named, has_acse, has_rtse, set_for, results_for}
+use Rattle.end_rules.specs.Connecting.{information_fault, is_on_rtse, is_open_request, session_refuses}
 use Rattle.end_rules.specs.Connecting.{presentation_refuses, lacks_request, transfer_rejection, has_association, rejecting_information}
 use Rattle.end_rules.specs.Connecting.{is_refused, accept_fault, accepted_connect, refused_connect, refusal_message, acceptance_message}
-use Rattle.end_rules.specs.Connecting.{connect_fault}
 use Rattle.end_rules.specs.TakesTransport.{is_waiting, transport_unit_fault, after_transport, phase_asked}
 use Rattle.end_rules.specs.Reacting.{Passes, Takes, react, react_to_transport, react_to_word, on_transport, fails, on_word}
 use Rattle.end_rules.specs.Reacting.{word_fault, after_word, answers_to_word, shown_of_word}
@@ -49,7 +46,7 @@ use Rattle.agreement.specs.Messages.Act.{Connects, Recovers}
 use Rattle.agreement.specs.State as states
 use Rattle.agreement.specs.State.Phase.{Idle as model_idle, Opening as model_opening, Broken as model_broken}
 use Rattle.agreement.specs.State.Phase.{Recovering as model_recovering, Over as model_over}
-use Rattle.agreement.specs.Takings.{MayTake, IsChoice, is_purged as model_purged}
+use Rattle.agreement.specs.Takings.{IsChoice, is_purged as model_purged}
 use Rattle.agreement.specs.Worlds as worlds
 use Rattle.agreement.specs.Worlds.{World, shared_at}
 use Rattle.agreement.specs.Worlds.Step.{Acts, Takes as model_takes}
@@ -206,7 +203,7 @@ module _ (free : Free) (tables : Tables) (spellings : Spellings) (a b : Config) 
   abbrev proposed : List Proposal
   proposed = taking.proposed free tables spellings a b
 
-  abbrev setup : model.Setup
+  abbrev pub setup : model.Setup
   setup = taking.setup free tables spellings a b
 
   abbrev Ends : World → Role → Body → List Message → Body → List Message → Ledger → Type 0
@@ -326,6 +323,7 @@ module _ (free : Free) (tables : Tables) (spellings : Spellings) (a b : Config) 
     pub selected : selected_with Reliable session.requirements ≡ proposed_units Reliable
     pub manages : manages_with presentation.requirements (selected_with Reliable session.requirements) ≡ true
     pub no_fault : accept_fault (base Initiator) presentation values ≡ None
+    pub results : presentation.results ≡ opening_policy (base Responder) (proposals (base Initiator))
 
   pub record IsRefusal (word : Word) : Type 0 where
     pub transport : Option ℕ
@@ -336,13 +334,13 @@ module _ (free : Free) (tables : Tables) (spellings : Spellings) (a b : Config) 
 
   -- ---- CN
 
-  abbrev presentation : PresentationConnect
+  abbrev pub presentation : PresentationConnect
   presentation = presentation_connect (base Initiator)
 
-  abbrev session : SessionConnect
+  abbrev pub session : SessionConnect
   session = session_connect (base Initiator)
 
-  abbrev values : Way → List Value
+  abbrev pub values : Way → List Value
   values way = connect_values (base Initiator) (recovers way)
 
   abbrev held : List SetItem
@@ -437,6 +435,7 @@ module _ (free : Free) (tables : Tables) (spellings : Spellings) (a b : Config) 
               ap (λ p. or_fault (fault_if (not p) invalid_ppdu) (or_fault (or_fault (fault_if (not (is_on_rtse held (rtse_context held))) invalid_ppdu) None) (fault_if (nat_eq (min b.window a.window) 0) rtse_fault))) x.rtse_ ∙
               ap (λ p. or_fault (or_fault (fault_if (not p) invalid_ppdu) None) (fault_if (nat_eq (min b.window a.window) 0) rtse_fault)) (accept-on x.rtse_) ∙
               ap (λ p. fault_if p rtse_fault) windows;
+          results = refl;
         },
       )
 

@@ -9,9 +9,9 @@ use Rattle.osi_base.specs.declared.words.Proposal.{Proposal}
 use Rattle.dialogue.specs.declared.config.Mode.TheVariants.{Reliable}
 use Rattle.end_rules.specs.Base.{Base, most_transferred, most_marks, last_activity}
 use Rattle.end_rules.specs.Sets.{pair_of}
-use Rattle.end_rules.specs.State.{Body, Piece, Octets, Marked, Progress, Running, Ending, Suspended, Encoded, Transfer}
+use Rattle.end_rules.specs.State.{Body, Octets, Marked, Progress, Running, Ending, Suspended, Encoded, Transfer}
 use Rattle.end_rules.specs.State.{Queued, joined, highest, pieces_of, on_current, is_empty, is_running}
-use Rattle.end_rules.specs.Messages.{Session, OfData, OfMarks, OfActivities, Values, Value, Part, Mark, Start, End}
+use Rattle.end_rules.specs.Messages.{Session, OfMarks, OfActivities, Part, Mark, Start, End}
 use Rattle.end_rules.specs.Invoking.{carrier_in}
 use Rattle.end_rules.specs.Writing.{part_message, rtse_value}
 use Rattle.end_rules.specs.Requesting.{after_sent}
@@ -19,7 +19,6 @@ use Rattle.end_rules.specs.History.{after_step, step_of}
 use Rattle.end_rules.specs.ByItself.{OwnAct, SendsNow, EncodesOn, part_size, ends_in_octets, is_window_full, next_of}
 use Rattle.end_rules.specs.ByItself.{left_of, encodes_on, next_of_encoded, next_start, next_in, item_on, encoded_as, next_own}
 use Rattle.agreement.specs.Sets as model_sets
-use Rattle.agreement.specs.Messages as model
 use Rattle.agreement.specs.Messages.Act.{Marks, Ends, Sends, Starts, Encodes}
 use Rattle.agreement.specs.Messages.Message.{Mark as model_mark, End as model_end}
 use Rattle.agreement.specs.State as states
@@ -28,15 +27,14 @@ use Rattle.agreement.specs.Laws.{Encoding as ModelEncoding, first_of as model_fi
 use Rattle.agreement.specs.Acts.{Leads, OnEncoded as ModelEncoded, OnRunning, acted, pieces_of as model_pieces}
 use Rattle.end_model.specs.Seen.{Free, set_seen, apdu_seen, queued_seen, item_seen, piece_seen, progress_seen, encoded_seen, transfer_seen, seen, setup_seen}
 use Rattle.end_model.specs.Rows.{at}
-use Rattle.end_model.specs.Acting.{ActsAs}
 use Rattle.end_model.proofs.Held.{lookup-seen}
 use Rattle.end_model.proofs.OwnActs.{Leading, leading, own-acts}
 use Rattle.end_model.proofs.Transfers.{highest-seen, part-sent, end-sent, mark-in-activity}
 use Rattle.end_model.proofs.TransferRows.{joined-seen}
-use Rattle.reliable_model.specs.Codecs.{IsTransferable, SpellsTransfers, Carries}
+use Rattle.reliable_model.specs.Codecs.{IsContextOf, IsTransferable, SpellsTransfers, Carries}
 use Rattle.reliable_model.specs.Transferring.{IsBeginning, OnEncoded, IsCurrent, IsSending}
 use Rattle.reliable_model.specs.Goes.{first_of, encoding_of, own_messages}
-use Rattle.reliable_model.specs.OwnRows.{encoding_seen, OwnActsAs, OwnMessagesAct}
+use Rattle.reliable_model.specs.OwnRows.{encoding_seen, OwnActsAs, EncodesInPlace, OwnMessagesAct}
 use Rattle.reliable_model.proofs.Words.{AreOwn}
 use Rattle.reliable_model.proofs.Transferring.{changed, current-is, with-progress, begun-kept, encoded-so, not-empty}
 use Rattle.reliable_model.proofs.Transferring.{part-full, mark-room, within}
@@ -90,7 +88,7 @@ on-queue base body own (item ∷ items) e q h = go (is_some (carrier_in (at Reli
     go true h = StartsNext item items e q (some-own _ own h)
     go false h = cc
 
-kind : (base : Base) (body : Body) (own : OwnAct) (current : Option Transfer) → body.sending.current ≡ current → next_in (at Reliable base) body current ≡ Some own → Kind body own
+pub kind : (base : Base) (body : Body) (own : OwnAct) (current : Option Transfer) → body.sending.current ≡ current → next_in (at Reliable base) body current ≡ Some own → Kind body own
 kind base body own None e h = on-queue base body own body.sending.queue e refl h
 kind base body own (Some t) e h = on-transfer base body own t e h
 
@@ -120,7 +118,7 @@ begun-of base body t e h s =
 running : (P : List ℕ → List ℕ → Type 0) (free : Free) (base : Base) (body : Body) (t : Transfer) (e : Encoded) → Carries free (at Reliable base) → Sends_ body t e → Begun (at Reliable base) t e → P (joined t.pieces) e.octets → OnRunning P free.codec (transfer_seen (at Reliable base) body.sending.current)
 running P free base body t e carries s g h =
     let b = g.beginning in
-    let written : free.codec.written (item_seen (at Reliable base) e.item) ≡ e.octets = carries.written e.item g.transferable ∙ sym b.octets in
+    let written : free.codec.written (item_seen (at Reliable base) e.item) ≡ e.octets = carries.written e.item g.transferable b.placed ∙ sym b.octets in
     subst (λ c. OnRunning P free.codec (transfer_seen (at Reliable base) c)) (sym s.is_it) (
       ap progress_seen s.runs,
       subst (λ x. ModelEncoded P free.codec (map piece_seen t.pieces) (encoded_seen (at Reliable base) x)) (sym s.encoded)
@@ -166,7 +164,7 @@ marks-so free base proposed body t e spells carries h leads s ends more =
           (record {
             item = c.item;
             encoded = subst (OnEncoded (at Reliable base) t.item.apdu (Marked (suc (highest t.pieces)) body.sets.held ∷ t.pieces)) (sym s.encoded)
-                (record { same = b.same; octets = b.octets; left = b.left; begins = b.begins; full = tt });
+                (record { same = b.same; placed = b.placed; octets = b.octets; left = b.left; begins = b.begins; full = tt });
             spaced = (room, c.spaced);
           });
     }
@@ -233,7 +231,7 @@ parts-so free base proposed body t e spells carries h leads s =
           (record {
             item = c.item;
             encoded = subst (OnEncoded (at Reliable base) t.item.apdu (Octets part ∷ t.pieces)) (sym s.encoded)
-                (record { same = b.same; octets = b.octets; left = drop size left; begins = goes; full = part-full e.checkpoint t.pieces left e.octets c.spaced begins });
+                (record { same = b.same; placed = b.placed; octets = b.octets; left = drop size left; begins = goes; full = part-full e.checkpoint t.pieces left e.octets c.spaced begins });
             spaced = c.spaced;
           }));
     }
@@ -260,15 +258,16 @@ starts-so free base proposed body h next =
       sending = begun-kept (at Reliable base) body.sending.started body.sending.current body.sending.queue h.queue;
     }
 
-encodes-so : (free : Free) (base : Base) (proposed : List Proposal) (body : Body) (t : Transfer) (context : ℕ) → Carries free (at Reliable base) → IsSending (at Reliable base) body.sending → body.sending.current ≡ Some t → t.encoded ≡ None → next_own (at Reliable base) body ≡ Some (EncodesOn context) → OwnActsAs free base proposed body (EncodesOn context)
-encodes-so free base proposed body t context carries h is_it none next =
+encodes-so : (free : Free) (base : Base) (proposed : List Proposal) (body : Body) (t : Transfer) (context : ℕ) → Carries free (at Reliable base) → IsSending (at Reliable base) body.sending → body.sending.current ≡ Some t → t.encoded ≡ None → next_own (at Reliable base) body ≡ Some (EncodesOn context) → EncodesInPlace base body (EncodesOn context) → OwnActsAs free base proposed body (EncodesOn context)
+encodes-so free base proposed body t context carries h is_it none next placed =
     let c : IsCurrent (at Reliable base) t = current-is (at Reliable base) body.sending t h is_it in
     let nil : t.pieces ≡ [] = subst (OnEncoded (at Reliable base) t.item.apdu t.pieces) none c.encoded in
     record {
       act = Encodes context;
       acts =
           own-acts.encodes context free base proposed body
-          (λ u item e same. carries.writes item (subst (IsTransferable (at Reliable base)) (sym same) (current-is (at Reliable base) body.sending u h e).item)) next;
+          (λ u item e same id there. carries.writes item (subst (IsTransferable (at Reliable base)) (sym same) (current-is (at Reliable base) body.sending u h e).item)
+          (subst (λ k. IsContextOf base.tables.name_oid k item.pair) (sym id) (placed item.pair there))) next;
       starts = λ items. refl;
       encodes = λ set. encoding-so (at Reliable base) body.sending.current body.sending.started set context;
       sending =
@@ -276,22 +275,22 @@ encodes-so free base proposed body t context carries h is_it none next =
           (record {
             item = c.item;
             encoded = subst (λ ps. OnEncoded (at Reliable base) t.item.apdu ps (encoded_as (at Reliable base) body (item_on context t.item (pair_of body.sets.held context)))) (sym nil)
-                (encoded-so (at Reliable base) body t.item.apdu context t.item (pair_of body.sets.held context) refl);
+                (encoded-so (at Reliable base) body t.item.apdu context t.item (pair_of body.sets.held context) refl placed);
             spaced = c.spaced;
           });
     }
 
 -- ---- all of them
 
-own-act : (free : Free) (base : Base) (proposed : List Proposal) (body : Body) (own : OwnAct) → SpellsTransfers (at Reliable base) → Carries free (at Reliable base) → IsSending (at Reliable base) body.sending → next_own (at Reliable base) body ≡ Some own → OwnActsAs free base proposed body own
-own-act free base proposed body own spells carries h next = go (kind base body own body.sending.current refl l.next)
+own-act : (free : Free) (base : Base) (proposed : List Proposal) (body : Body) (own : OwnAct) → SpellsTransfers (at Reliable base) → Carries free (at Reliable base) → IsSending (at Reliable base) body.sending → next_own (at Reliable base) body ≡ Some own → EncodesInPlace base body own → OwnActsAs free base proposed body own
+own-act free base proposed body own spells carries h next placed = go (kind base body own body.sending.current refl l.next)
   where
     l : Leading base body own
     l = leading base body own next
 
     go : Kind body own → OwnActsAs free base proposed body own
     go (StartsNext item items e q is) = subst (OwnActsAs free base proposed body) (sym is) (starts-so free base proposed body h (next ∙ ap Some is))
-    go (EncodesIt t context e d is) = subst (OwnActsAs free base proposed body) (sym is) (encodes-so free base proposed body t context carries h e d (next ∙ ap Some is))
+    go (EncodesIt t context e d is) = subst (OwnActsAs free base proposed body) (sym is) (encodes-so free base proposed body t context carries h e d (next ∙ ap Some is) (subst (EncodesInPlace base body) is placed))
     go (MarksIt t e s ends more is) = subst (OwnActsAs free base proposed body) (sym is) (marks-so free base proposed body t e spells carries h l.leads_so s ends more)
     go (EndsIt t e s none is) = subst (OwnActsAs free base proposed body) (sym is) (ends-so free base proposed body t e carries h l.leads_so s none)
     go (GivesPart t e s more is) = subst (OwnActsAs free base proposed body) (sym is) (parts-so free base proposed body t e spells carries h l.leads_so s)

@@ -26,7 +26,6 @@ use Rattle.end_model.proofs.Facts.{up-there}
 use Rattle.end_model.proofs.Ladder.{called}
 use Rattle.end_model.proofs.OwnActs.{leading}
 use Rattle.end_model.proofs.DirectOpening.{At}
-use Rattle.reliable_model.specs.Goes.{calls, acts}
 use Rattle.reliable_model.specs.ReliablePairs.{reliable_pair}
 use Rattle.reliable_model.proofs.Words.{AreOwn, Side, Stands, IsOver}
 use Rattle.reliable_model.proofs.Opening.{Way, First, Again, rests, asks, joins}

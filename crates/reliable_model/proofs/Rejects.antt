@@ -1,6 +1,6 @@
 -- A reject that an APDU brings has a problem of X.880; what an end transfers stays transferable.
-use Rattle.std.proofs.Common.{◌≡◌, refl, true, false, ◌∙◌, sym, ap, subst, arith, ℕ, ◌≤◌, List, [], ◌∷◌, ◌++◌}
-use Rattle.std.specs.Prelude.{ℤ, Bool, not, ◌&&◌, Option, Some, None, length, nat_le, if◌then◌else◌}
+use Rattle.std.proofs.Common.{◌≡◌, refl, true, false, ◌∙◌, sym, ap, subst, arith, ℕ, ◌≤◌, List, [], ◌∷◌}
+use Rattle.std.specs.Prelude.{Bool, not, ◌&&◌, Option, Some, None, length, nat_le, if◌then◌else◌}
 use Rattle.osi_base.specs.declared.words.ProblemKind.{ProblemKind}
 use Rattle.osi_base.specs.declared.words.ProblemKind.TheVariants as problems
 use Rattle.osi_base.specs.declared.syntax.Syntax.TheVariants.{Der}
@@ -19,7 +19,7 @@ use Rattle.agreement.specs.Messages.Problem.{General as of_general, OfInvocation
 use Rattle.agreement.specs.State.{Handed}
 use Rattle.agreement.specs.Calls.{is_open, is_accepted, reject_of, rejects_of}
 use Rattle.end_model.specs.Seen.{Free, number_seen, problem_in, problem_seen, apdu_seen, calls_seen, setup_seen, outcome_due}
-use Rattle.end_model.specs.Seen.{link_due, problem_due, on_open}
+use Rattle.end_model.specs.Seen.{link_due, on_open}
 use Rattle.end_model.specs.Rows.{at}
 use Rattle.end_model.specs.Opens.{IsReadBack}
 use Rattle.end_model.specs.Acting.{ReadsBack}

@@ -6,7 +6,6 @@ use Rattle.osi_base.specs.declared.words.Proposal.{Proposal}
 use Rattle.osi_base.specs.declared.words.Answers.{Answers}
 use Rattle.osi_base.specs.declared.words.SetItem.{SetItem}
 use Rattle.stub_tables.specs.declared.tables.Tables.{Tables}
-use Rattle.stub_tables.specs.declared.apdu.Apdu.{Apdu}
 use Rattle.dialogue.specs.declared.config.Config.{Config}
 use Rattle.dialogue.specs.declared.config.Mode.TheVariants.{Reliable}
 use Rattle.dialogue.specs.declared.config.Phase.TheVariants.{Up, Releasing, Over}
@@ -15,8 +14,8 @@ use Rattle.end_rules.specs.Base.{Base, Spellings, Item, Whole}
 use Rattle.end_rules.specs.Messages.{Value, Word, OfAssociation, OfData, OfMarks, OfActivities, Finish, Disconnect, Abort}
 use Rattle.end_rules.specs.Messages.{Values, AlterContext, AlterContextAck, Part, Mark, MarkAck, Please, GiveConfirm, GiveAck}
 use Rattle.end_rules.specs.Messages.{Start, Resume, End, EndAck, Interrupt, InterruptAck, Discard, DiscardAck}
-use Rattle.end_rules.specs.Messages.{Message, Transport, Session, unit_of}
-use Rattle.end_rules.specs.State.{Body, Link, Calls, Transfer, Receiving, Suspended, joined, between, close, passes_over}
+use Rattle.end_rules.specs.Messages.{Message, Session, unit_of}
+use Rattle.end_rules.specs.State.{Body, Link, Calls, Suspended, joined, between, passes_over}
 use Rattle.end_rules.specs.State.{is_joined, is_carrying}
 use Rattle.end_rules.specs.Sets.{Alteration, fit_proposals, pair_of}
 use Rattle.end_rules.specs.World.{Shared}
@@ -28,9 +27,9 @@ use Rattle.end_rules.specs.TakesData.{alteration, settled, part_in}
 use Rattle.end_rules.specs.TakesActivities.{received, arrived_now, handed_up, values_arrived, invocation_in, cut_invocation}
 use Rattle.end_rules.specs.Reacting.{Passes, Takes, react, react_to_word, fails, on_word}
 use Rattle.end_rules.specs.Reacting.{word_fault, after_word, answers_to_word, shown_of_word}
-use Rattle.agreement.specs.Sets.{Role, other, is_initiator, lookup, Item as ModelItem, Result, Fits}
+use Rattle.agreement.specs.Sets.{Role, is_initiator, lookup, Item as ModelItem, Result, Fits}
 use Rattle.agreement.specs.Sets.{altered as model_altered}
-use Rattle.agreement.specs.Sets.Role.{Initiator, Responder}
+use Rattle.agreement.specs.Sets.Role.{Initiator}
 use Rattle.agreement.specs.Messages as model
 use Rattle.agreement.specs.Messages.Apdu.{Invoke, Outcome, Reject}
 use Rattle.agreement.specs.Messages.Message.{Mark as model_mark, MarkAnswer as model_mark_answer, Give as model_give}
@@ -46,7 +45,7 @@ use Rattle.agreement.specs.State as states
 use Rattle.agreement.specs.State.Phase.{Up as model_up, Releasing as model_releasing, Over as model_over}
 use Rattle.agreement.specs.Calls.{is_open, may_answer}
 use Rattle.agreement.specs.Takings.{MayTake, IsChoice, IsReadUnder, OnFirst, value_read, handed_up as model_handed_up}
-use Rattle.agreement.specs.Takings.{value_of, is_purged as model_purged}
+use Rattle.agreement.specs.Takings.{is_purged as model_purged}
 use Rattle.agreement.specs.Worlds as worlds
 use Rattle.agreement.specs.Worlds.{World, IsRun, ComesNext, state_of, flight_to, shared_at}
 use Rattle.agreement.specs.Worlds.Step.{Takes as model_takes, Passes as model_passes}
@@ -76,14 +75,14 @@ use Rattle.end_model.proofs.TransferRows.{discard_ack-taken}
 use Rattle.end_model.proofs.EndRows.{ends-taken}
 use Rattle.end_model.proofs.BareMachine.{role-back}
 use Rattle.end_model.proofs.Machine.{next-word, takes-kept, passes-kept}
-use Rattle.reliable_model.specs.Codecs.{IsTransferable, SpellsTransfers, IsTransferOf, Carries}
+use Rattle.reliable_model.specs.Codecs.{IsTransferable, IsPlaced, SpellsTransfers, Carries}
 use Rattle.reliable_model.specs.Transferring.{IsSending}
 use Rattle.reliable_model.specs.Goes.{Ledger, after_taking}
 use Rattle.reliable_model.specs.ReliablePairs.{reliable_pair}
 use Rattle.reliable_model.proofs.Transferring.{kept-current, with-progress, with-confirmed}
 use Rattle.reliable_model.proofs.Ledgers as ledgers
 use Rattle.reliable_model.proofs.Ledgers.{Same}
-use Rattle.reliable_model.proofs.Words.{IsPlea, OwnWord, AreOwn, purged-as, Live}
+use Rattle.reliable_model.proofs.Words.{OwnWord, AreOwn, purged-as, Live}
 use Rattle.reliable_model.proofs.Rejects.{heard-small, heard-link, heard-calls, heard-sending, read-back, proper-current}
 
 -- ---- what an end does with a word
@@ -489,6 +488,7 @@ module _ (free : Free) (tables : Tables) (spellings : Spellings) (a b : Config) 
   pub record Arrives (role : Role) (body : Body) : Type 0 where
     pub item : Item
     pub transferable : IsTransferable (base role) item.apdu
+    pub placed : IsPlaced (base role) item
     pub there : pair_of body.sets.held item.id ≡ Some item.pair
     pub arrived : arrived_now (base role) body ≡ Ok (Whole item)
     pub read : value_read setup (set_seen body.sets.held) (incoming_seen body.receiving) ≡ Some (item_seen (base role) item)
@@ -507,8 +507,9 @@ module _ (free : Free) (tables : Tables) (spellings : Spellings) (a b : Config) 
       record {
         item = x.item;
         transferable = x.transferable;
+        placed = x.placed;
         there = pair;
-        arrived = ap (spellings.arrived body.sets.held) x.spelled ∙ spells.reads body.sets.held x.item x.transferable pair;
+        arrived = ap (spellings.arrived body.sets.held) x.spelled ∙ spells.reads body.sets.held x.item x.transferable x.placed pair;
         read = s.1 ∙ ap Some x.is_its;
       }
 

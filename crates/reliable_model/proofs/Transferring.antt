@@ -1,18 +1,17 @@
 -- The transfers of an end stay sound through what is sent, confirmed, resumed and broken off.
 use Rattle.std.proofs.Common.{◌≡◌, refl, true, false, ◌∙◌, sym, ap, subst, arith, ℕ, zero, suc, ◌+◌, ◌*◌, ◌≤◌, List, []}
-use Rattle.std.proofs.Common.{◌∷◌, ◌++◌, length, take, drop, ◌⊎◌, inl, inr}
+use Rattle.std.proofs.Common.{◌∷◌, ◌++◌, length, take, ◌⊎◌, inl, inr}
 use Rattle.std.specs.Prelude.{Bool, Option, Some, None, nat_eq, nat_le, if◌then◌else◌}
 use Rattle.std.proofs.lemmas.Bool.Decides.{nat_tests}
-use Rattle.std.proofs.lemmas.List.{append-nil, append_assoc, length-append, length-take-le, take_all, take-append-drop}
+use Rattle.std.proofs.lemmas.List.{append_assoc, length-append, length-take-le, take_all}
 use Rattle.osi_base.specs.declared.syntax.Pair.{Pair}
-use Rattle.osi_base.specs.declared.words.SetItem.{SetItem}
 use Rattle.stub_tables.specs.declared.apdu.Apdu.{Apdu}
 use Rattle.end_rules.specs.Base.{Base, most_transferred}
-use Rattle.end_rules.specs.State.{Body, Piece, Octets, Marked, Progress, Running, Encoded, Transfer, Queued, Sending}
-use Rattle.end_rules.specs.State.{joined, highest, from_mark, up_to, on_current, is_empty}
+use Rattle.end_rules.specs.State.{Body, Piece, Octets, Marked, Progress, Encoded, Transfer, Queued, Sending}
+use Rattle.end_rules.specs.State.{joined, highest, from_mark, on_current, is_empty}
 use Rattle.end_rules.specs.Requesting.{begun, resumed}
 use Rattle.end_rules.specs.ByItself.{part_size, ends_in_octets, item_on, encoded_as}
-use Rattle.reliable_model.specs.Codecs.{IsTransferable, SpellsTransfers}
+use Rattle.reliable_model.specs.Codecs.{IsContextOf, IsTransferable, SpellsTransfers}
 use Rattle.reliable_model.specs.Transferring.{AreTransferable, Spaced, IsFull, IsBeginning, OnEncoded, IsCurrent}
 use Rattle.reliable_model.specs.Transferring.{OnCurrent, IsSending}
 
@@ -85,7 +84,7 @@ back-to : (base : Base) (apdu : Apdu) (n : ℕ) (pieces : List Piece) (encoded :
 back-to base apdu n pieces None h = ap (from_mark n) h
 back-to base apdu n pieces (Some e) h =
     let g = from-begins n pieces h.left e.octets h.begins in
-    record { same = h.same; octets = h.octets; left = g.left; begins = g.begins; full = from-full n pieces (length e.octets) }
+    record { same = h.same; placed = h.placed; octets = h.octets; left = g.left; begins = g.begins; full = from-full n pieces (length e.octets) }
 
 resumed-so : (base : Base) (t : Transfer) (n : ℕ) → t.confirmed ≡ n → IsCurrent base t → IsCurrent base (resumed t)
 resumed-so base t zero e h = subst (λ (c : ℕ). IsCurrent base (resumed (record t { confirmed = c }))) (sym e) (record { item = h.item; encoded = refl; spaced = tt })
@@ -98,10 +97,10 @@ resumed-current base t h = resumed-so base t t.confirmed refl h
 
 -- ---- an encoding
 
-pub encoded-so : (base : Base) (body : Body) (apdu : Apdu) (context : ℕ) (item : Queued) (p : Option Pair) → item.apdu ≡ apdu → OnEncoded base apdu [] (encoded_as base body (item_on context item p))
-encoded-so base body apdu context item None e = refl
-encoded-so base body apdu context item (Some pair) e =
-    record { same = e; octets = refl; left = base.spellings.transfer (record { id = context; pair = pair; apdu = item.apdu }); begins = refl; full = tt }
+pub encoded-so : (base : Base) (body : Body) (apdu : Apdu) (context : ℕ) (item : Queued) (p : Option Pair) → item.apdu ≡ apdu → ((pair : Pair) → p ≡ Some pair → IsContextOf base.tables.name_oid context pair) → OnEncoded base apdu [] (encoded_as base body (item_on context item p))
+encoded-so base body apdu context item None e placed = refl
+encoded-so base body apdu context item (Some pair) e placed =
+    record { same = e; placed = placed pair refl; octets = refl; left = base.spellings.transfer (record { id = context; pair = pair; apdu = item.apdu }); begins = refl; full = tt }
 
 -- ---- a part
 
@@ -155,4 +154,4 @@ mark-room (Octets octets ∷ pieces) left all (inr h) e s n = absurd (none (leng
 -- the octets of an encoding are within the limit
 pub within : (base : Base) (apdu : Apdu) (pieces : List Piece) (e : Encoded) → SpellsTransfers base → IsTransferable base apdu → IsBeginning base apdu pieces e → length e.octets ≤ most_transferred
 within base apdu pieces e spells item b =
-    subst (λ (xs : List ℕ). length xs ≤ most_transferred) (sym b.octets) (spells.within e.item (subst (IsTransferable base) (sym b.same) item))
+    subst (λ (xs : List ℕ). length xs ≤ most_transferred) (sym b.octets) (spells.within e.item (subst (IsTransferable base) (sym b.same) item) b.placed)

@@ -1,9 +1,10 @@
 -- How transfers are spelled, and the codec of the model that has these spellings.
 use Rattle.std.specs.Prelude.{◌≡◌, ℕ, ◌≤◌, List, length, true, false, Some, Ok}
+use Rattle.osi_base.specs.declared.syntax.Pair.{Pair}
 use Rattle.osi_base.specs.declared.words.SetItem.{SetItem}
 use Rattle.stub_tables.specs.declared.apdu.Apdu.{Apdu}
 use Rattle.stub_tables.specs.declared.apdu.Apdu.TheVariants as apdus
-use Rattle.end_rules.specs.Base.{Base, Item, Whole, most_transferred}
+use Rattle.end_rules.specs.Base.{Base, Item, Whole, most_transferred, highest_context}
 use Rattle.end_rules.specs.Sets.{pair_of}
 use Rattle.end_rules.specs.Invoking.{is_too_long}
 use Rattle.agreement.specs.Messages as model
@@ -26,22 +27,33 @@ pub record IsTransferable (base : Base) (apdu : Apdu) : Type 0 where
   pub proper : IsProper base apdu
   pub short : IsShort base apdu
 
+-- an identifier of a context, under a pair with this abstract syntax (X.226 8.4.2)
+pub record IsContextOf (name : List ℕ) (id : ℕ) (pair : Pair) : Type 0 where
+  pub low : 1 ≤ id
+  pub high : id ≤ highest_context
+  pub named : pair.abstract_name ≡ name
+
+-- an APDU on a context of the module
+abbrev pub IsPlaced : Base → Item → Type 0
+IsPlaced base item = IsContextOf base.tables.name_oid item.id item.pair
+
 -- The octets of such a transfer are within the limit, and under a set that gives its context its pair they are
 -- read as that APDU.
 pub record SpellsTransfers (base : Base) : Type 0 where
-  pub within : (item : Item) → IsTransferable base item.apdu → length (base.spellings.transfer item) ≤ most_transferred
-  pub reads : (set : List SetItem) (item : Item) → IsTransferable base item.apdu → pair_of set item.id ≡ Some item.pair →
+  pub within : (item : Item) → IsTransferable base item.apdu → IsPlaced base item → length (base.spellings.transfer item) ≤ most_transferred
+  pub reads : (set : List SetItem) (item : Item) → IsTransferable base item.apdu → IsPlaced base item → pair_of set item.id ≡ Some item.pair →
       base.spellings.arrived set (base.spellings.transfer item) ≡ Ok (Whole item)
 
 -- octets that are a transfer of this product, and the value that the model sees in them
 pub record IsTransferOf (base : Base) (octets : List ℕ) (value : model.Value) : Type 0 where
   pub item : Item
   pub transferable : IsTransferable base item.apdu
+  pub placed : IsPlaced base item
   pub spelled : octets ≡ base.spellings.transfer item
   pub is_its : value ≡ item_seen base item
 
 -- The codec of the model has these spellings: it may write what is transferred, writes it so, and reads nothing else.
 pub record Carries (free : Free) (base : Base) : Type 0 where
-  pub writes : (item : Item) → IsTransferable base item.apdu → free.codec.may_write (item_seen base item) ≡ true
-  pub written : (item : Item) → IsTransferable base item.apdu → free.codec.written (item_seen base item) ≡ base.spellings.transfer item
+  pub writes : (item : Item) → IsTransferable base item.apdu → IsPlaced base item → free.codec.may_write (item_seen base item) ≡ true
+  pub written : (item : Item) → IsTransferable base item.apdu → IsPlaced base item → free.codec.written (item_seen base item) ≡ base.spellings.transfer item
   pub reads : (set : List SetItem) (octets : List ℕ) (value : model.Value) → free.codec.read (set_seen set) octets ≡ Some value → IsTransferOf base octets value

@@ -1,6 +1,6 @@
 -- What two ends reach, in every mode: by calls, by what they do by themselves, by takings and by breaks; with what they share,
 -- and a ledger of what each started, encoded and was handed up.
-use Rattle.std.specs.Prelude.{◌≡◌, ℕ, ℤ, List, [], ◌∷◌, ◌++◌, Bool, not, ◌||◌, if◌then◌else◌, Option, Some, None, Ok}
+use Rattle.std.specs.Prelude.{◌≡◌, ℕ, ℤ, List, [], ◌∷◌, ◌++◌, Bool, ◌||◌, if◌then◌else◌, Option, Some, None, Ok}
 use Rattle.osi_base.specs.declared.syntax.Pair.{Pair}
 use Rattle.osi_base.specs.declared.words.SetItem.{SetItem}
 use Rattle.stub_tables.specs.declared.apdu.Apdu.{Apdu}
@@ -8,7 +8,7 @@ use Rattle.dialogue.specs.declared.call.Call.{Call}
 use Rattle.dialogue.specs.declared.indication.Indication.{Indication}
 use Rattle.end_rules.specs.Base.{Base, Fault}
 use Rattle.end_rules.specs.Sets.{pair_of}
-use Rattle.end_rules.specs.Messages.{Message, Session, Transport, OfAssociation, OfData, OfMarks, OfActivities, Connect, Start, End}
+use Rattle.end_rules.specs.Messages.{Message, Session, OfAssociation, OfActivities, Connect, Start, End}
 use Rattle.end_rules.specs.State.{Body, Queued, Transfer}
 use Rattle.end_rules.specs.Connecting.{is_refused, recovers_in}
 use Rattle.end_rules.specs.Calling.{can_call}

@@ -1,11 +1,13 @@
 -- All that an end of reliable mode does by itself, as acts of the model.
 use Rattle.std.specs.Prelude.{◌≡◌, List, ◌++◌, map, option_map, Some}
+use Rattle.osi_base.specs.declared.syntax.Pair.{Pair}
 use Rattle.osi_base.specs.declared.words.SetItem.{SetItem}
 use Rattle.osi_base.specs.declared.words.Proposal.{Proposal}
 use Rattle.dialogue.specs.declared.config.Mode.TheVariants.{Reliable}
 use Rattle.end_rules.specs.Base.{Base}
 use Rattle.end_rules.specs.State.{Body}
-use Rattle.end_rules.specs.ByItself.{OwnAct, next_own}
+use Rattle.end_rules.specs.Sets.{pair_of}
+use Rattle.end_rules.specs.ByItself.{OwnAct, SendsNow, EncodesOn, next_own}
 use Rattle.end_rules.specs.History.{after_step, step_of}
 use Rattle.agreement.specs.Messages.{Act}
 use Rattle.agreement.specs.State.{Handed}
@@ -14,7 +16,7 @@ use Rattle.agreement.specs.Laws.{Encoding as ModelEncoding, started_after, encod
 use Rattle.end_model.specs.Seen.{Free, pair_seen, set_seen, apdu_seen, queued_seen, seen}
 use Rattle.end_model.specs.Rows.{at}
 use Rattle.end_model.specs.Acting.{ActsAs}
-use Rattle.reliable_model.specs.Codecs.{SpellsTransfers, Carries}
+use Rattle.reliable_model.specs.Codecs.{IsContextOf, SpellsTransfers, Carries}
 use Rattle.reliable_model.specs.Transferring.{IsSending}
 use Rattle.reliable_model.specs.Goes.{Encoding, own_messages, started_by, encoded_by}
 
@@ -30,7 +32,13 @@ pub record OwnActsAs (free : Free) (base : Base) (proposed : List Proposal) (bod
   pub encodes : (set : List SetItem) → map (encoding_seen (at Reliable base)) (encoded_by body set own) ≡ model_encoded_by (seen (at Reliable base) body) (set_seen set) (Acts act)
   pub sending : IsSending (at Reliable base) (after_step (at Reliable base) body (step_of own)).sending
 
+-- what is encoded is encoded on a context of the module
+abbrev pub EncodesInPlace : Base → Body → OwnAct → Type 0
+EncodesInPlace base body (EncodesOn context) =
+    (pair : Pair) → pair_of body.sets.held context ≡ Some pair → IsContextOf base.tables.name_oid context pair
+EncodesInPlace base body (SendsNow message) = Unit {0}
+
 pub record OwnMessagesAct : Type 0 where
   pub acts : (free : Free) (base : Base) (proposed : List Proposal) (body : Body) (own : OwnAct) →
       SpellsTransfers (at Reliable base) → Carries free (at Reliable base) → IsSending (at Reliable base) body.sending →
-      next_own (at Reliable base) body ≡ Some own → OwnActsAs free base proposed body own
+      next_own (at Reliable base) body ≡ Some own → EncodesInPlace base body own → OwnActsAs free base proposed body own

@@ -3,7 +3,7 @@ use Rattle.std.specs.Prelude.{◌≡◌, ℕ, suc, ◌*◌, ◌≤◌, ◌⊎◌
 use Rattle.stub_tables.specs.declared.apdu.Apdu.{Apdu}
 use Rattle.end_rules.specs.Base.{Base}
 use Rattle.end_rules.specs.State.{Piece, Octets, Marked, Encoded, Transfer, Queued, Sending, joined, highest}
-use Rattle.reliable_model.specs.Codecs.{IsTransferable}
+use Rattle.reliable_model.specs.Codecs.{IsTransferable, IsPlaced}
 
 abbrev pub AreTransferable : Base → List Queued → Type 0
 AreTransferable base [] = Unit {0}
@@ -25,6 +25,7 @@ IsFull (Octets octets ∷ pieces) all =
 -- what was sent is a beginning of the encoded item
 pub record IsBeginning (base : Base) (apdu : Apdu) (pieces : List Piece) (encoded : Encoded) : Type 0 where
   pub same : encoded.item.apdu ≡ apdu
+  pub placed : IsPlaced base encoded.item
   pub octets : encoded.octets ≡ base.spellings.transfer encoded.item
   pub left : List ℕ
   pub begins : joined pieces ++ left ≡ encoded.octets

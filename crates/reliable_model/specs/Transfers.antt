@@ -1,5 +1,5 @@
 -- Transfers between two ends of reliable mode: they arrive whole and at most once, and are taken as sent (X.228 7).
-use Rattle.std.specs.Prelude.{◌≡◌, ℕ, suc, nat_eq, length, List, [], ◌∷◌, ◌++◌, false, Option, Some, None, Ok, if◌then◌else◌}
+use Rattle.std.specs.Prelude.{◌≡◌, ℕ, suc, nat_eq, length, List, [], ◌∷◌, false, Option, Some, None, Ok, if◌then◌else◌}
 use Rattle.dialogue.specs.declared.config.Config.{Config}
 use Rattle.dialogue.specs.declared.indication.Indication.{Indication}
 use Rattle.stub_tables.specs.declared.tables.Tables.{Tables}
@@ -16,7 +16,7 @@ use Rattle.agreement.specs.Laws.{AreFalling}
 use Rattle.end_model.specs.Seen.{Free}
 use Rattle.end_model.specs.Pairs.{Common, base_at, Two, body_at, coming_to}
 use Rattle.reliable_model.specs.Codecs.{Carries}
-use Rattle.reliable_model.specs.Goes.{Encoding, Deeds, deeds_of, Ledger, Goes}
+use Rattle.reliable_model.specs.Goes.{Encoding, deeds_of, Ledger, Goes}
 use Rattle.reliable_model.specs.ReliablePairs.{reliable_pair, IsFit}
 
 -- in every pair of ends of reliable mode this holds of whatever they reach
