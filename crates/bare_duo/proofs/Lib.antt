@@ -2,12 +2,17 @@ pub mod Given
 pub mod Runs
 pub mod Fronts
 pub mod Flights
+pub mod Counts
 pub mod Live
 pub mod BareLive
 pub mod Writable
 pub mod Calm
+pub mod Allowing
+pub mod Settling
+pub mod Told
 pub mod Due
 pub mod Kept
 pub mod AllRuns
+pub mod Carries
 pub mod LawsKept
 pub mod Unique
