@@ -35,6 +35,9 @@ first-none : (x rest : Option ℕ) → first_problem x rest ≡ None → (x ≡ 
 first-none None rest h = (refl, h)
 first-none (Some n) rest h = absurd cc
 
+no-problem : (n : ℕ) → Some n ≡ None → ⊥
+no-problem n e = cc
+
 not-none : (b : Bool) (n : ℕ) → problem_if (not b) n ≡ None → b ≡ true
 not-none true n h = refl
 not-none false n h = absurd cc
@@ -192,7 +195,7 @@ error-known : (base : Base) (operation : Operation) (place : ℕ) (parameter : O
 error-known base operation place parameter None e h =
     let k : first_problem (problem_if (not (is_error_of operation place)) 3) (Some 4) ≡ None = rw e at h in
     let both = first-none (problem_if (not (is_error_of operation place)) 3) (Some 4) k in
-    let no : Some 4 ≡ None = both.1 in absurd cc
+    absurd (no-problem 4 both.1)
 error-known base operation place parameter (Some row) e h =
     let k : first_problem (problem_if (not (is_error_of operation place)) 3) (problem_if (not (is_right base row.parameter (carried_in parameter))) 4) ≡ None = rw e at h in
     let both = first-none (problem_if (not (is_error_of operation place)) 3) (problem_if (not (is_right base row.parameter (carried_in parameter))) 4) k in
@@ -210,7 +213,7 @@ fails-so : (base : Base) (o : Option Operation) (place : Option ℕ) (parameter 
 fails-so base None place parameter h = absurd cc
 fails-so base (Some operation) None parameter h =
     let a = first-none (problem_if (is_empty operation.errors) 1) (Some 2) h in
-    let no : Some 2 ≡ None = a.1 in absurd cc
+    absurd (no-problem 2 a.1)
 fails-so base (Some operation) (Some place) parameter h =
     let a = first-none (problem_if (is_empty operation.errors) 1) (known_error_problem base operation (Some place) (carried_in parameter)) h in
     record { operation = operation; at = place; is_there = refl; is_at = refl; has_it = error-known base operation place parameter (error_at base.tables place) refl a.1 }

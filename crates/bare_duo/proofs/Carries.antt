@@ -94,7 +94,7 @@ module _ (t : Tables) (ca cb : Config) (free : Free) (readable : IsReadable t) (
   all-sent A w k = k.holds.from.all
   all-sent B w k = k.holds.to.all
 
-  out-of : (side : Side) (w v : World) (told : List Entry) → Adds w v told → List Message
+  abbrev out-of : (side : Side) (w v : World) (told : List Entry) → Adds w v told → List Message
   out-of A w v told x = x.out_a
   out-of B w v told x = x.out_b
 
@@ -241,9 +241,10 @@ module _ (t : Tables) (ca cb : Config) (free : Free) (readable : IsReadable t) (
       let octets : List ℕ = first_octets most (end_at two_ends A w).line.waiting in
       let one = added_to_b t ca cb free readable writes modelled first_law one_content back w most octets fd.reading shown k (first_some most (end_at two_ends A w).line.waiting) fd.reads in
       let u : World = stepping B (moved_b w octets) fd.reading in
-      let here : Runs two_ends u more later v = subst (λ (xs : List Step). Runs two_ends (stepping B (record { side = A; step = gave (length octets) } ∷ w) xs) more later v) fd.all next in
+      let same : stepping B (record { side = A; step = gave (length octets) } ∷ w) steps ≡ u = ap (λ (xs : List Step). stepping B (record { side = A; step = gave (length octets) } ∷ w) xs) fd.all in
       let went = carry-b side w octets fd.reading shown k (first_some most (end_at two_ends A w).line.waiting) fd.reads (octets_given side (moved_b w octets)) refl in
-      let rest = none-shown side u v more later here one.kept (went.phase_is ∙ over) in
+      let rest = none-shown side (stepping B (record { side = A; step = gave (length octets) } ∷ w) steps) v more later next (subst Stands (sym same) one.kept)
+      (ap (λ (x : World). passes_over (end_at two_ends (other side) x).body.link.phase) same ∙ went.phase_is ∙ over) in
       from-a side (over-shows base_r (after base_r (end_at two_ends B w) (fed octets)) fd.reading shown fd.reads) over rest
     where
       from-a : (side : Side) → (passes_over (end_at two_ends B w).body.link.phase ≡ true → shown ≡ []) → passes_over (end_at two_ends (other side) w).body.link.phase ≡ true → indications_at (other side) later ≡ []
@@ -254,9 +255,10 @@ module _ (t : Tables) (ca cb : Config) (free : Free) (readable : IsReadable t) (
       let octets : List ℕ = first_octets most (end_at two_ends B w).line.waiting in
       let one = added_to_a t ca cb free readable writes modelled first_law one_content back w most octets fd.reading shown k (first_some most (end_at two_ends B w).line.waiting) fd.reads in
       let u : World = stepping A (moved_a w octets) fd.reading in
-      let here : Runs two_ends u more later v = subst (λ (xs : List Step). Runs two_ends (stepping A (record { side = B; step = gave (length octets) } ∷ w) xs) more later v) fd.all next in
+      let same : stepping A (record { side = B; step = gave (length octets) } ∷ w) steps ≡ u = ap (λ (xs : List Step). stepping A (record { side = B; step = gave (length octets) } ∷ w) xs) fd.all in
       let went = carry-a side w octets fd.reading shown k (first_some most (end_at two_ends B w).line.waiting) fd.reads (octets_given side (moved_a w octets)) refl in
-      let rest = none-shown side u v more later here one.kept (went.phase_is ∙ over) in
+      let rest = none-shown side (stepping A (record { side = B; step = gave (length octets) } ∷ w) steps) v more later next (subst Stands (sym same) one.kept)
+      (ap (λ (x : World). passes_over (end_at two_ends (other side) x).body.link.phase) same ∙ went.phase_is ∙ over) in
       from-b side (over-shows base_i (after base_i (end_at two_ends A w) (fed octets)) fd.reading shown fd.reads) over rest
     where
       from-b : (side : Side) → (passes_over (end_at two_ends A w).body.link.phase ≡ true → shown ≡ []) → passes_over (end_at two_ends (other side) w).body.link.phase ≡ true → indications_at (other side) later ≡ []
@@ -292,41 +294,47 @@ module _ (t : Tables) (ca cb : Config) (free : Free) (readable : IsReadable t) (
       let some = first_some most (end_at two_ends A w).line.waiting in
       let one = added_to_b t ca cb free readable writes modelled first_law one_content back w most octets fd.reading shown k some fd.reads in
       let u : World = stepping B (moved_b w octets) fd.reading in
-      let here : Runs two_ends u more later v = subst (λ (xs : List Step). Runs two_ends (stepping B (record { side = A; step = gave (length octets) } ∷ w) xs) more later v) fd.all next in
+      let same : stepping B (record { side = A; step = gave (length octets) } ∷ w) steps ≡ u = ap (λ (xs : List Step). stepping B (record { side = A; step = gave (length octets) } ∷ w) xs) fd.all in
+      let here : Runs two_ends u more later v = subst (λ (x : World). Runs two_ends x more later v) same next in
       let went = carry-b A w octets fd.reading shown k some fd.reads (octets_given A w + length octets) refl in
       let rest = runs_keep t ca cb free readable writes modelled first_law one_content back u v more later here one.kept in
       let whole = then_added t ca cb free readable writes modelled first_law one_content back w u v (entries.Carry A most (record { octets = octets; shown = shown }) ∷ []) later one rest in (
         shows-its A w u v octets shown (entries.Carry A most (record { octets = octets; shown = shown }) ∷ later) later one.new_b k whole one.kept rest up went one.took_b (sym (append-nil shown) ∙ one.shown_b),
-        subst (λ (n : ℕ). CarriesShow t A (sent_by A v) n later) went.given_is (shows-on A u v more later here one.kept (went.phase_is ∙ up)),
+        subst (λ (n : ℕ). CarriesShow t A (sent_by A v) n later) (ap (octets_given A) same ∙ went.given_is)
+        (shows-on A (stepping B (record { side = A; step = gave (length octets) } ∷ w) steps) v more later next (subst Stands (sym same) one.kept) (ap (λ (x : World). passes_over (end_at two_ends B x).body.link.phase) same ∙ went.phase_is ∙ up)),
       )
   shows-on B w v all told (carries {more = more} {told = later} A most steps shown fd next) k up =
       let octets : List ℕ = first_octets most (end_at two_ends A w).line.waiting in
       let some = first_some most (end_at two_ends A w).line.waiting in
       let one = added_to_b t ca cb free readable writes modelled first_law one_content back w most octets fd.reading shown k some fd.reads in
       let u : World = stepping B (moved_b w octets) fd.reading in
-      let here : Runs two_ends u more later v = subst (λ (xs : List Step). Runs two_ends (stepping B (record { side = A; step = gave (length octets) } ∷ w) xs) more later v) fd.all next in
+      let same : stepping B (record { side = A; step = gave (length octets) } ∷ w) steps ≡ u = ap (λ (xs : List Step). stepping B (record { side = A; step = gave (length octets) } ∷ w) xs) fd.all in
       let went = carry-b B w octets fd.reading shown k some fd.reads (octets_given B w) refl in
-      (tt, subst (λ (n : ℕ). CarriesShow t B (sent_by B v) n later) went.given_is (shows-on B u v more later here one.kept (went.phase_is ∙ up)))
+      (tt, subst (λ (n : ℕ). CarriesShow t B (sent_by B v) n later) (ap (octets_given B) same ∙ went.given_is)
+        (shows-on B (stepping B (record { side = A; step = gave (length octets) } ∷ w) steps) v more later next (subst Stands (sym same) one.kept) (ap (λ (x : World). passes_over (end_at two_ends A x).body.link.phase) same ∙ went.phase_is ∙ up)))
   shows-on B w v all told (carries {more = more} {told = later} B most steps shown fd next) k up =
       let octets : List ℕ = first_octets most (end_at two_ends B w).line.waiting in
       let some = first_some most (end_at two_ends B w).line.waiting in
       let one = added_to_a t ca cb free readable writes modelled first_law one_content back w most octets fd.reading shown k some fd.reads in
       let u : World = stepping A (moved_a w octets) fd.reading in
-      let here : Runs two_ends u more later v = subst (λ (xs : List Step). Runs two_ends (stepping A (record { side = B; step = gave (length octets) } ∷ w) xs) more later v) fd.all next in
+      let same : stepping A (record { side = B; step = gave (length octets) } ∷ w) steps ≡ u = ap (λ (xs : List Step). stepping A (record { side = B; step = gave (length octets) } ∷ w) xs) fd.all in
+      let here : Runs two_ends u more later v = subst (λ (x : World). Runs two_ends x more later v) same next in
       let went = carry-a B w octets fd.reading shown k some fd.reads (octets_given B w + length octets) refl in
       let rest = runs_keep t ca cb free readable writes modelled first_law one_content back u v more later here one.kept in
       let whole = then_added t ca cb free readable writes modelled first_law one_content back w u v (entries.Carry B most (record { octets = octets; shown = shown }) ∷ []) later one rest in (
         shows-its B w u v octets shown (entries.Carry B most (record { octets = octets; shown = shown }) ∷ later) later one.new_a k whole one.kept rest up went one.took_a (sym (append-nil shown) ∙ one.shown_a),
-        subst (λ (n : ℕ). CarriesShow t B (sent_by B v) n later) went.given_is (shows-on B u v more later here one.kept (went.phase_is ∙ up)),
+        subst (λ (n : ℕ). CarriesShow t B (sent_by B v) n later) (ap (octets_given B) same ∙ went.given_is)
+        (shows-on B (stepping A (record { side = B; step = gave (length octets) } ∷ w) steps) v more later next (subst Stands (sym same) one.kept) (ap (λ (x : World). passes_over (end_at two_ends A x).body.link.phase) same ∙ went.phase_is ∙ up)),
       )
   shows-on A w v all told (carries {more = more} {told = later} B most steps shown fd next) k up =
       let octets : List ℕ = first_octets most (end_at two_ends B w).line.waiting in
       let some = first_some most (end_at two_ends B w).line.waiting in
       let one = added_to_a t ca cb free readable writes modelled first_law one_content back w most octets fd.reading shown k some fd.reads in
       let u : World = stepping A (moved_a w octets) fd.reading in
-      let here : Runs two_ends u more later v = subst (λ (xs : List Step). Runs two_ends (stepping A (record { side = B; step = gave (length octets) } ∷ w) xs) more later v) fd.all next in
+      let same : stepping A (record { side = B; step = gave (length octets) } ∷ w) steps ≡ u = ap (λ (xs : List Step). stepping A (record { side = B; step = gave (length octets) } ∷ w) xs) fd.all in
       let went = carry-a A w octets fd.reading shown k some fd.reads (octets_given A w) refl in
-      (tt, subst (λ (n : ℕ). CarriesShow t A (sent_by A v) n later) went.given_is (shows-on A u v more later here one.kept (went.phase_is ∙ up)))
+      (tt, subst (λ (n : ℕ). CarriesShow t A (sent_by A v) n later) (ap (octets_given A) same ∙ went.given_is)
+        (shows-on A (stepping A (record { side = B; step = gave (length octets) } ∷ w) steps) v more later next (subst Stands (sym same) one.kept) (ap (λ (x : World). passes_over (end_at two_ends B x).body.link.phase) same ∙ went.phase_is ∙ up)))
   shows-on side w v all told (breaks {more = more} {told = later} next) k up =
       none-shown side (broken_world t ca cb free readable writes modelled first_law one_content back w) v more later next (added_by_break t ca cb free readable writes modelled first_law one_content back w k).kept (both-over side w k)
 

@@ -156,9 +156,9 @@ module _ (t : Tables) (ca cb : Config) (free : Free) (readable : IsReadable t) (
       shown x B = x.shown_b ∙ ap (shown_all t) (sym x.took_b)
 
       -- what an end was told of is the beginning of what the other said
-      begins : {X : Type 0} (f : List Message → List X) → ((ms ns : List Message) → f (ms ++ ns) ≡ f ms ++ f ns) → (all front : List X) (sent_all took rest : List Message) → all ≡ f sent_all → sent_all ≡ took ++ rest
-          → front ≡ f took → BeginsWith all front
-      begins f splits all front sent_all took rest e k g = record { more = f rest; whole = e ∙ ap f k ∙ splits took rest ∙ ap (λ xs. xs ++ f rest) (sym g) }
+      begins : {X : Type 0} (f : List Message → List X) → ((ms ns : List Message) → f (ms ++ ns) ≡ f ms ++ f ns) → (all front : List X) (sent_all taken rest : List Message) → all ≡ f sent_all → sent_all ≡ taken ++ rest
+          → front ≡ f taken → BeginsWith all front
+      begins f splits all front sent_all taken rest e k g = record { more = f rest; whole = e ∙ ap f k ∙ splits taken rest ∙ ap (λ xs. xs ++ f rest) (sym g) }
 
       invoked : Added t ca cb free readable writes modelled first_law one_content back [] w told → (side : Side) → BeginsWith (invocations side told) (told_invocations (other side) told)
       invoked x A =

@@ -36,7 +36,7 @@ use Rattle.end_model.proofs.Ladder.{passed, called}
 use Rattle.end_model.proofs.InvokeRungs.{invokable, answerable, refusable}
 use Rattle.end_model.proofs.HandingRows.{next-is}
 use Rattle.bare_duo.specs.Shows.{value_of, shown_of, shown_invoke, shown_error, shown_all}
-use Rattle.bare_duo.specs.Outcomes.{Invocation, Outcome, result, error, has_result, has_error, invoked_by, answered_by, invocation_in, outcome_in, invocations_in, outcomes_in}
+use Rattle.bare_duo.specs.Outcomes.{Invocation, Outcome, returned, failed, has_result, has_error, invoked_by, answered_by, invocation_in, outcome_in, invocations_in, outcomes_in}
 use Rattle.bare_duo.proofs.Allowing.{opens_of_invoke, closes_of_result, closes_of_error}
 use Rattle.bare_duo.proofs.Settling.{Settled, settled-close, settled-peer, settled-own, settled-told}
 
@@ -61,18 +61,18 @@ settled_heard base calls context (apdus.Invoke id linked code argument) made tol
     subst (λ (c : Calls). Settled base.tables c made (told ++ outcomes_in (shown_invoke (operation_with base.tables code) id linked argument))) (sym o.calls_are)
     (subst (λ (os : List Outcome). Settled base.tables (opening base (record { own = false; id = id; operation = o.at; context = context; parent = linked }) calls) made os)
     (sym (ap (λ (os : List Outcome). told ++ os) quiet ∙ append-nil told)) opened)
-settled_heard base calls context (apdus.Result id returned) made told n h s =
-    let c = (closes_of_result base calls id returned h).closes in
-    let has : has_result base.tables c.operation (value_of returned) ≡ true = ap (has_result base.tables c.operation) (sym (value-back returned)) ∙ c.has_it in
-    subst (λ (x : Calls). Settled base.tables x made (told ++ result id (value_of returned) ∷ [])) (sym c.calls_are)
-    (settled-told base.tables (result id (value_of returned)) c.invocation c.operation calls made told c.is_open c.is_there has s)
+settled_heard base calls context (apdus.Result id r) made told n h s =
+    let c = (closes_of_result base calls id r h).closes in
+    let has : has_result base.tables c.operation (value_of r) ≡ true = ap (has_result base.tables c.operation) (sym (value-back r)) ∙ c.has_it in
+    subst (λ (x : Calls). Settled base.tables x made (told ++ returned id (value_of r) ∷ [])) (sym c.calls_are)
+    (settled-told base.tables (returned id (value_of r)) c.invocation c.operation calls made told c.is_open c.is_there has s)
 settled_heard base calls context (apdus.Error id code parameter) made told n h s =
     let f = closes_of_error base calls id (error_with base.tables code) parameter h in
     let c = f.closes in
-    let tells : outcomes_in (shown_error (error_with base.tables code) id parameter) ≡ error id f.at parameter ∷ [] = ap (λ (p : Option ℕ). outcomes_in (shown_error p id parameter)) f.is_at in
+    let tells : outcomes_in (shown_error (error_with base.tables code) id parameter) ≡ failed id f.at parameter ∷ [] = ap (λ (p : Option ℕ). outcomes_in (shown_error p id parameter)) f.is_at in
     subst (λ (x : Calls). Settled base.tables x made (told ++ outcomes_in (shown_error (error_with base.tables code) id parameter))) (sym c.calls_are)
     (subst (λ (os : List Outcome). Settled base.tables (close true id calls) made (told ++ os)) (sym tells)
-    (settled-told base.tables (error id f.at parameter) c.invocation c.operation calls made told c.is_open c.is_there c.has_it s))
+    (settled-told base.tables (failed id f.at parameter) c.invocation c.operation calls made told c.is_open c.is_there c.has_it s))
 settled_heard base calls context (apdus.Reject id problem) made told n h s = absurd (n id problem refl)
 
 -- ---- an accepted call
@@ -174,8 +174,8 @@ module _ (t : Tables) (ca cb : Config) where
       let s = passed (is_stopped base body) refusals.Waiting (can_answer_open base body id open_ (operation_of base open_) value) answer c.rows in
       let x = answerable base body id open_ (operation_of base open_) value answer s.later in
       let known : operation_opened base (Some x.invocation) ≡ Some x.operation = sym (ap (operation_of base) x.is_its) ∙ x.is_it in
-      let one = one_answered role body id (the_calls.Answer id value) answer x.invocation (result_apdu x.operation id value) (result id value) bare refl refl refl
-      (ap (λ (v : Option Val). result id v ∷ []) (back x.operation value)) in
+      let one = one_answered role body id (the_calls.Answer id value) answer x.invocation (result_apdu x.operation id value) (returned id value) bare refl refl refl
+      (ap (λ (v : Option Val). returned id v ∷ []) (back x.operation value)) in
       let two = subst (λ (p : Option Operation). AnsweredSo role body id (the_calls.Answer id value) answer (Some x.invocation) (result_for id value p)) (sym known) one in
       subst (λ (o : Option OpenCall). AnsweredSo role body id (the_calls.Answer id value) answer o (result_for id value (operation_opened base o))) (sym x.is_its) two
 
@@ -188,7 +188,7 @@ module _ (t : Tables) (ca cb : Config) where
       let s = passed (is_stopped base body) refusals.Waiting (can_refuse_open base body id open_ (operation_of base open_) place (error_at t place) parameter) answer c.rows in
       let x = refusable base body id open_ (operation_of base open_) place (error_at t place) parameter answer s.later in
       let code : error_with t x.error.code ≡ Some place = (own_codes t).errors place x.error x.is_error in
-      let one = one_answered role body id (the_calls.Refuse id place parameter) answer x.invocation (error_apdu x.error id parameter) (error id place parameter) bare refl refl
+      let one = one_answered role body id (the_calls.Refuse id place parameter) answer x.invocation (error_apdu x.error id parameter) (failed id place parameter) bare refl refl
       (ap (λ (p : Option ℕ). invocations_in (shown_error p id parameter)) code) (ap (λ (p : Option ℕ). outcomes_in (shown_error p id parameter)) code) in
       let two = subst (λ (e : Option ErrorRow). AnsweredSo role body id (the_calls.Refuse id place parameter) answer (Some x.invocation) (error_for id parameter e)) (sym x.is_error) one in
       subst (λ (o : Option OpenCall). AnsweredSo role body id (the_calls.Refuse id place parameter) answer o (error_for id parameter (error_at t place))) (sym x.is_its) two

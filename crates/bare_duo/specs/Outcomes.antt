@@ -31,13 +31,13 @@ pub record Invocation : Type 0 where
 
 -- an outcome: a result, an error with its place, or a reject of the invocation
 pub data Outcome : Type 0 where
-  result : ℤ → Option Val → Outcome
-  error : ℤ → ℕ → Option Val → Outcome
+  returned : ℤ → Option Val → Outcome
+  failed : ℤ → ℕ → Option Val → Outcome
   rejected : ℤ → Problem → Outcome
 
 abbrev pub id_of : Outcome → ℤ
-id_of (result id value) = id
-id_of (error id place parameter) = id
+id_of (returned id value) = id
+id_of (failed id place parameter) = id
 id_of (rejected id problem) = id
 
 -- ---- what an end invoked and answered: the calls that it accepted
@@ -47,8 +47,8 @@ invoked_by (the_calls.Invoke context operation argument linked) (Ok (Some id)) =
 invoked_by _ _ = []
 
 abbrev pub answered_by : Call → Reply → List Outcome
-answered_by (the_calls.Answer id value) (Ok answer) = result id value ∷ []
-answered_by (the_calls.Refuse id place parameter) (Ok answer) = error id place parameter ∷ []
+answered_by (the_calls.Answer id value) (Ok answer) = returned id value ∷ []
+answered_by (the_calls.Refuse id place parameter) (Ok answer) = failed id place parameter ∷ []
 answered_by _ _ = []
 
 abbrev pub called_at : {X : Type 0} → (Call → Reply → List X) → Side → Entry → List X
@@ -73,8 +73,8 @@ invocation_in (indications.Invoked id place linked argument) = record { id = id;
 invocation_in _ = []
 
 abbrev pub outcome_in : Indication → List Outcome
-outcome_in (indications.Result id value) = result id value ∷ []
-outcome_in (indications.Error id place parameter) = error id place parameter ∷ []
+outcome_in (indications.Result id value) = returned id value ∷ []
+outcome_in (indications.Error id place parameter) = failed id place parameter ∷ []
 outcome_in (indications.Rejected id problem) = rejected id problem ∷ []
 outcome_in _ = []
 
@@ -106,8 +106,8 @@ has_error tables operation place parameter = is_error_of operation place && take
 
 -- and a reject of the invocation itself
 abbrev pub has_outcome : Tables → Operation → Outcome → Bool
-has_outcome tables operation (result id value) = has_result tables operation value
-has_outcome tables operation (error id place parameter) = has_error tables operation place parameter
+has_outcome tables operation (returned id value) = has_result tables operation value
+has_outcome tables operation (failed id place parameter) = has_error tables operation place parameter
 has_outcome tables operation (rejected id problem) = is_of_invocation problem.kind
 
 -- ---- one outcome
