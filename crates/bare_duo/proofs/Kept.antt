@@ -371,7 +371,7 @@ module _ (t : Tables) (ca cb : Config) (free : Free) (readable : IsReadable t) (
   abbrev pub both_lost : Base → Base → View → View
   both_lost base there v = record v { own = after base v.own broke; peer = after there v.peer broke }
 
-  phases : (back : ReadsBack (at_role Initiator)) (role : Role) (two : Two) (body : Body) → Reached pair two → body ≡ body_at role two → (body.link.phase ≡ Up) ⊎ (body.link.phase ≡ Over)
+  pub phases : (back : ReadsBack (at_role Initiator)) (role : Role) (two : Two) (body : Body) → Reached pair two → body ≡ body_at role two → (body.link.phase ≡ Up) ⊎ (body.link.phase ≡ Over)
   phases back role two body r e = go (side back role two r).side.phase
     where
       go : ((body_at role two).link.phase ≡ Up) ⊎ ((body_at role two).link.phase ≡ Over) → (body.link.phase ≡ Up) ⊎ (body.link.phase ≡ Over)

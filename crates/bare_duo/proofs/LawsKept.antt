@@ -1,5 +1,5 @@
 -- The laws of every run, from what two ends keep.
-use Rattle.std.proofs.Common.{◌≡◌, refl, true, false, ◌∙◌, sym, ap, subst, List, [], ◌∷◌, ◌++◌, map}
+use Rattle.std.proofs.Common.{◌≡◌, refl, true, false, ◌∙◌, sym, ap, subst, List, [], ◌∷◌, ◌++◌, map, ◌⊎◌, inl, inr}
 use Rattle.std.specs.List.{AllByRecursion}
 use Rattle.std.proofs.Math.Logic.{∥∥₁_elim}
 use Rattle.std.proofs.Math.Bool.{Bool-set}
@@ -11,6 +11,9 @@ use Rattle.stub_tables.specs.Readable.{IsReadable}
 use Rattle.apdu_spelling.specs.Laws.{WrittenIsSpelled}
 use Rattle.dialogue.specs.declared.config.Config.{Config}
 use Rattle.dialogue.specs.declared.config.Mode.TheVariants.{Bare}
+use Rattle.dialogue.specs.declared.config.Phase.{Phase}
+use Rattle.dialogue.specs.declared.config.Phase.TheVariants.{Up, Over}
+use Rattle.end_rules.specs.Calling.{is_dead}
 use Rattle.dialogue.specs.Config.{IsBare}
 use Rattle.dialogue.specs.declared.setup.Setup.{Setup}
 use Rattle.dialogue.specs.declared.event.Event.{Event}
@@ -28,14 +31,14 @@ use Rattle.agreement.specs.Sets.Role.{Initiator, Responder}
 use Rattle.end_model.specs.Seen.{Free}
 use Rattle.end_model.specs.Acting.{ReadsBack}
 use Rattle.end_model.specs.Pairs.{base_at, bare_pair, HasCodec, BareModelled, WritesAll}
-use Rattle.bare_duo.specs.Worlds.{ends_of, Runs}
+use Rattle.bare_duo.specs.Worlds.{ends_of, end_at, Runs}
 use Rattle.bare_duo.specs.Passing.{sent_in, sent_by, taken_by, as_read, at_sending, values_in, sendings, BeginsWith, TakenAsSent, ShownAsTaken}
 use Rattle.bare_duo.specs.Outcomes.{Invocation, Outcome, invocations, answers, invocations_in, outcomes_in, told_invocations, outcomes, IsAllowed, AreNumbered, Differ}
-use Rattle.bare_duo.specs.Laws.{IsCalm, NothingWrong, KeepsLaws, EveryRunKeepsLaws}
+use Rattle.bare_duo.specs.Laws.{IsCalm, NothingWrong, NobodyIsDead, KeepsLaws, EveryRunKeepsLaws}
 use Rattle.bare_duo.specs.Shows.{shown_all}
 use Rattle.bare_duo.proofs.Flights.{IsSent, AllSent, parts}
 use Rattle.bare_duo.proofs.Writable.{reads_back}
-use Rattle.bare_duo.proofs.Kept.{asked, answered_in, asked-append, answered-append}
+use Rattle.bare_duo.proofs.Kept.{phases, asked, answered_in, asked-append, answered-append}
 use Rattle.bare_duo.proofs.AllRuns.{Added, first_kept, runs_keep}
 use Rattle.bare_duo.proofs.Carries.{taken_whole, carries_show}
 
@@ -135,6 +138,7 @@ module _ (t : Tables) (ca cb : Config) (free : Free) (readable : IsReadable t) (
         takes_allowed = x.kept.allowed;
         one_outcome = record { invoked = invoked x; numbered = numbered x; answered = answered_so x; once = once x; allowed = allowed x };
         nothing_wrong = x.kept.calm;
+        nobody_is_dead = nobody x;
         nothing_whole_waits = x.kept.whole;
         taken_when_whole = taken_whole t ca cb free readable writes modelled first_law one_content back w x.kept;
         shown_as_taken = shown x;
@@ -154,6 +158,18 @@ module _ (t : Tables) (ca cb : Config) (free : Free) (readable : IsReadable t) (
       shown : Added t ca cb free readable writes modelled first_law one_content back [] w told → ShownAsTaken t told w
       shown x A = x.shown_a ∙ ap (shown_all t) (sym x.took_a)
       shown x B = x.shown_b ∙ ap (shown_all t) (sym x.took_b)
+
+      not-dead : (p : Phase) → (p ≡ Up) ⊎ (p ≡ Over) → is_dead p ≡ false
+      not-dead p (inl e) = ap is_dead e
+      not-dead p (inr e) = ap is_dead e
+
+      nobody : Added t ca cb free readable writes modelled first_law one_content back [] w told → NobodyIsDead (model_of t ca cb) w
+      nobody x A =
+          let h = x.kept.holds in
+          not-dead (end_at (model_of t ca cb) A w).body.link.phase (phases t ca cb free readable writes modelled first_law one_content back Initiator h.two (end_at (model_of t ca cb) A w).body h.reached h.own_is)
+      nobody x B =
+          let h = x.kept.holds in
+          not-dead (end_at (model_of t ca cb) B w).body.link.phase (phases t ca cb free readable writes modelled first_law one_content back Responder h.two (end_at (model_of t ca cb) B w).body h.reached h.peer_is)
 
       -- what an end was told of is the beginning of what the other said
       begins : {X : Type 0} (f : List Message → List X) → ((ms ns : List Message) → f (ms ++ ns) ≡ f ms ++ f ns) → (all front : List X) (sent_all taken rest : List Message) → all ≡ f sent_all → sent_all ≡ taken ++ rest

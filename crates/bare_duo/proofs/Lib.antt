@@ -16,3 +16,4 @@ pub mod AllRuns
 pub mod Carries
 pub mod LawsKept
 pub mod Unique
+pub mod Cutting

@@ -7,6 +7,7 @@ use Rattle.dialogue.specs.declared.setup.Setup.{Setup}
 use Rattle.dialogue.specs.declared.event.Event.{Event}
 use Rattle.dialogue.specs.declared.event.Entry.{Entry}
 use Rattle.end_rules.specs.State.{passes_over}
+use Rattle.end_rules.specs.Calling.{is_dead}
 use Rattle.end_rules.specs.History.{Step, called, sent, encoded, fed, took, answered, passed, fault, aborted, feed_end, gave, broke}
 use Rattle.end_rules.specs.World.{World, Ends}
 use Rattle.end_wire.specs.Bare.{Short, first_at}
@@ -42,6 +43,10 @@ NothingWrong (m ∷ w) = IsCalm m.step × NothingWrong w
 abbrev pub NothingWholeWaits : Ends → World → Type 0
 NothingWholeWaits ends w = (side : Side) → passes_over (end_at ends side w).body.link.phase ≡ false → first_at (end_at ends side w).line.rest ≡ Short
 
+-- only want of memory makes an end dead
+abbrev pub NobodyIsDead : Ends → World → Type 0
+NobodyIsDead ends w = (side : Side) → is_dead (end_at ends side w).body.link.phase ≡ false
+
 -- ---- what every run keeps
 
 pub record KeepsLaws (tables : Tables) (ends : Ends) (told : List Entry) (w : World) : Type 0 where
@@ -53,6 +58,7 @@ pub record KeepsLaws (tables : Tables) (ends : Ends) (told : List Entry) (w : Wo
   pub one_outcome : OneOutcome tables told
   -- no end aborts of itself, and nothing is rejected
   pub nothing_wrong : NothingWrong w
+  pub nobody_is_dead : NobodyIsDead ends w
   -- nothing whole waits: an end that isn't over took what came whole, and no more
   pub nothing_whole_waits : NothingWholeWaits ends w
   pub taken_when_whole : TakenWhenWhole tables ends w

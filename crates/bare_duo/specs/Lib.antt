@@ -5,5 +5,6 @@ pub mod Outcomes
 pub mod Allowed
 pub mod Carrying
 pub mod Laws
+pub mod Cutting
 pub mod Ran
 pub mod Steps

@@ -1,5 +1,6 @@
 //! The laws of runs, each the contract of a function that does nothing but cite others.
 
+ghost use Rattle.bare_duo.specs.Cutting.{AnyCutting, OneFeed};
 ghost use Rattle.bare_duo.specs.Laws.{EveryRunKeepsLaws, OneRun};
 
 use apdu_spelling::written_apdu_is_spelled;
@@ -19,6 +20,21 @@ pub fn every_run_keeps_laws()
     one_content();
     content_says();
     written_apdu_is_spelled();
+}
+
+/// Octets that come to an end are read in one way.
+pub fn one_feed()
+    ensures { OneFeed }
+{
+    one_content();
+}
+
+/// Octets are read the same however they are cut: two feeds show together what one feed of both
+/// shows, and lead to the same end.
+pub fn any_cutting()
+    ensures { AnyCutting }
+{
+    one_content();
 }
 
 /// Events have one run from one world.
