@@ -1,2 +1,3 @@
 mod First
 mod Meant
+mod Beginnings

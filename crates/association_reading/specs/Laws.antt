@@ -8,9 +8,9 @@ use Rattle.tpkt.specs.Wire.{IsTwo, tsdu_limit}
 use Rattle.tpkt.specs.Written.{HasRoom}
 use Rattle.association_wire.specs.Written.{request_ends, confirm_ends, written_unit, with_user, session_units, tsdu_of, written}
 use Rattle.end_rules.specs.Messages.{Association, Plea, Part, TransportUnit, ConnectionRequest, ConnectionConfirm, DisconnectRequest, Remote, Value, NoData, Word, OfAssociation, Refuse, Finish, Disconnect, Abort, AbortAccept, OfData, Values, AlterContext, AlterContextAck, OfMarks, Mark, MarkAck, Restart, RestartAck, Give, Please, GiveConfirm, GiveAck, OfActivities, Session, unit_of}
-use Rattle.association_reading.specs.Front.{OfTransport, OfSession, first_in, with_octets, nothing_came}
+use Rattle.association_reading.specs.Front.{Short, OfTransport, OfSession, first_in, with_octets, nothing_came}
 use Rattle.association_reading.specs.Values.{without_user, content_under}
-use Rattle.std.specs.Prelude.{◌≡◌, ℕ, ◌≤◌, List, [], ◌∷◌, ◌++◌, length, true, false, Option, Some, None, Ok}
+use Rattle.std.specs.Prelude.{◌≡◌, ℕ, ◌<◌, ◌≤◌, List, [], ◌∷◌, ◌++◌, length, true, false, Option, Some, None, Ok}
 use Rattle.osi_base.specs.declared.syntax.Pair.{Pair}
 use Rattle.osi_base.specs.declared.words.SetItem.{SetItem}
 use Rattle.osi_base.specs.declared.words.Proposal.{Proposal}
@@ -148,3 +148,16 @@ pub record TransportUnitsStandFirst : Type 0 where
       StandsFirst (ConnectionRequest source size calling called)
   pub confirm : (destination : ℕ) (size : Option ℕ) → IsTwo destination → HasRoom (confirm_ends destination size) → StandsFirst (ConnectionConfirm destination size)
   pub refuse : StandsFirst (DisconnectRequest 1)
+
+-- ---- a proper beginning of what is written is less than a message
+
+abbrev pub BeginningsOf : List ℕ → Type 0
+BeginningsOf octets = (front back : List ℕ) → octets ≡ front ++ back → 0 < length back → first_in (with_octets front nothing_came) ≡ Short
+
+pub record BeginningsAreShort : Type 0 where
+  pub words : (tables : Tables) (size : ℕ) (word : Word) → 128 ≤ size → size ≤ 65531 → IsSendable tables word → BeginningsOf (written tables size (Session word))
+  pub request : (source : ℕ) (size : Option ℕ) (calling called : List ℕ) → IsTwo source → HasRoom (request_ends source size calling called) →
+      IsOctets (written_unit (ConnectionRequest source size calling called)) → BeginningsOf (written_unit (ConnectionRequest source size calling called))
+  pub confirm : (destination : ℕ) (size : Option ℕ) → IsTwo destination → HasRoom (confirm_ends destination size) →
+      IsOctets (written_unit (ConnectionConfirm destination size)) → BeginningsOf (written_unit (ConnectionConfirm destination size))
+  pub refuse : BeginningsOf (written_unit (DisconnectRequest 1))

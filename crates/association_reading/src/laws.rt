@@ -2,7 +2,7 @@
 
 ghost use Rattle.association_reading.specs.Laws.{AlterationsAreReadBack, DataAreReadBack};
 ghost use Rattle.association_reading.specs.Laws.{AssociationIsReadBack, TransferWordsAreReadBack};
-ghost use Rattle.association_reading.specs.Laws.{TransportUnitsStandFirst};
+ghost use Rattle.association_reading.specs.Laws.{BeginningsAreShort, TransportUnitsStandFirst};
 ghost use Rattle.association_reading.specs.Laws.{RemoteIsReadBack, SessionWordsAreReadBack};
 ghost use Rattle.association_reading.specs.Laws.{WrittenStandsFirst};
 
@@ -43,4 +43,10 @@ pub fn layers_are_read_back()
 /// A CR, a CC and a DR to an initiator stand first on a line, whatever follows.
 pub fn transport_units_stand_first()
     ensures { TransportUnitsStandFirst }
+{}
+
+/// A proper beginning of what is written of a word, a CR, a CC or a DR to an initiator is less than
+/// a message.
+pub fn beginnings_are_short()
+    ensures { BeginningsAreShort }
 {}

@@ -1,5 +1,6 @@
 -- Every run of two ends in bare mode keeps the laws.
 use Rattle.std.proofs.Common.{◌≡◌, refl, false, ◌∙◌, sym, ap, subst, ℕ, zero, suc, ◌+◌, List, [], ◌∷◌, ◌++◌, length, drop, take, append_assoc}
+use Rattle.std.proofs.lemmas.List.{append-nil}
 use Rattle.std.specs.Prelude.{Option, Some, None, Ok, Err}
 use Rattle.osi_base.specs.declared.words.Side.{Side}
 use Rattle.osi_base.specs.declared.words.Side.TheVariants.{A, B}
@@ -41,10 +42,6 @@ use Rattle.bare_duo.proofs.Settling.{settled-new}
 use Rattle.bare_duo.proofs.Told.{called_so}
 use Rattle.bare_duo.proofs.Fronts.{nothing_first}
 use Rattle.bare_duo.proofs.Kept.{View, moved_all, AllCalm, pair, at_role, Holds, carried, both_lost, holds_called, call_took, call_rest, call_up, holds_carried, holds_broke, reads_so, peer_stays, peer_took_stays, calm_sent, AllMight, asked, answered_in, shown-append, asked-append, answered-append, bare_set_at, call_sent, sent_might, peer_sent_stays}
-
-append-nil : {X : Type 0} (xs : List X) → xs ++ [] ≡ xs
-append-nil [] = refl
-append-nil (x ∷ xs) = ap (λ ys. x ∷ ys) (append-nil xs)
 
 -- the first octets, and the others
 pub first_some : (most : Option ℕ) (octets : List ℕ) → octets ≡ first_octets most octets ++ drop (length (first_octets most octets)) octets

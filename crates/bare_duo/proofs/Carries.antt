@@ -1,5 +1,6 @@
 -- An end took what came whole, and each carry shows it.
 use Rattle.std.proofs.Common.{◌≡◌, refl, true, false, ◌∙◌, sym, ap, subst, ℕ, ◌+◌, List, [], ◌∷◌, ◌++◌, length, drop, append_assoc}
+use Rattle.std.proofs.lemmas.List.{append-nil}
 use Rattle.std.specs.Prelude.{Bool, Option}
 use Rattle.osi_base.specs.declared.words.Side.{Side}
 use Rattle.osi_base.specs.declared.words.Side.TheVariants.{A, B}
@@ -35,10 +36,6 @@ use Rattle.bare_duo.proofs.Flights.{AllSent, parts, written_all}
 use Rattle.bare_duo.proofs.Counts.{taken_among}
 use Rattle.bare_duo.proofs.Kept.{Way, View, pair, at_role, call_given, call_phase, own_over, peer_over, reads_so, peer_stays, peer_given_stays}
 use Rattle.bare_duo.proofs.AllRuns.{base, ends, view_a, view_b, to_b, steps_a, steps_b, Kept, Added, first_kept, added_by_a, added_by_b, given_to_a, given_to_b, carry_to_a, carry_to_b, added_to_a, added_to_b, broken_world, added_by_break, then_added, runs_keep, first_some}
-
-append-nil : {X : Type 0} (xs : List X) → xs ++ [] ≡ xs
-append-nil [] = refl
-append-nil (x ∷ xs) = ap (λ ys. x ∷ ys) (append-nil xs)
 
 -- an end that is over is shown nothing
 over-shows : (b : Base) (e : End) (steps : List Step) (shown : List Indication) → Reads b e steps shown → passes_over e.body.link.phase ≡ true → shown ≡ []

@@ -1,6 +1,7 @@
 -- Two ends with their octets, as one of them moves: the messages on their way between them are those of the rules, and their
 -- octets are those that one has and the other still has.
 use Rattle.std.proofs.Common.{◌≡◌, refl, true, false, ◌∙◌, sym, ap, subst, ℕ, ◌+◌, List, [], ◌∷◌, ◌++◌, map, drop, length, length-append, append_assoc, arith, ◌⊎◌, inl, inr, if◌then◌else◌}
+use Rattle.std.proofs.lemmas.List.{append-nil}
 use Rattle.std.proofs.lemmas.Grind.{flat_map-append}
 use Rattle.std.specs.Prelude.{ℤ, Bool, not, ◌&&◌, Option, Some, Ok, Err}
 use Rattle.stub_tables.specs.declared.tables.Tables.{Tables}
@@ -55,10 +56,6 @@ use Rattle.bare_duo.proofs.Told.{settled_heard, called_so}
 use Rattle.bare_duo.proofs.Allowing.{quiet_allows}
 use Rattle.bare_duo.proofs.Calm.{AtSide, at_side, calmly, quiet_shows}
 use Rattle.bare_duo.proofs.Due.{AllPlain, due_plain, all_sent, refused_still}
-
-append-nil : {X : Type 0} (xs : List X) → xs ++ [] ≡ xs
-append-nil [] = refl
-append-nil (x ∷ xs) = ap (λ ys. x ∷ ys) (append-nil xs)
 
 -- ---- one way
 

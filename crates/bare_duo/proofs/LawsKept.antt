@@ -1,5 +1,6 @@
 -- The laws of every run, from what two ends keep.
 use Rattle.std.proofs.Common.{◌≡◌, refl, true, false, ◌∙◌, sym, ap, subst, List, [], ◌∷◌, ◌++◌, map, ◌⊎◌, inl, inr}
+use Rattle.std.proofs.lemmas.List.{map-append}
 use Rattle.std.specs.List.{AllByRecursion}
 use Rattle.std.proofs.Math.Logic.{∥∥₁_elim}
 use Rattle.std.proofs.Math.Bool.{Bool-set}
@@ -41,14 +42,6 @@ use Rattle.bare_duo.proofs.Writable.{reads_back}
 use Rattle.bare_duo.proofs.Kept.{phases, asked, answered_in, asked-append, answered-append}
 use Rattle.bare_duo.proofs.AllRuns.{Added, first_kept, runs_keep}
 use Rattle.bare_duo.proofs.Carries.{taken_whole, carries_show}
-
-map-append : {X Y : Type 0} (f : X → Y) (xs ys : List X) → map f (xs ++ ys) ≡ map f xs ++ map f ys
-map-append f [] ys = refl
-map-append f (x ∷ xs) ys = ap (λ zs. f x ∷ zs) (map-append f xs ys)
-
-append-nil : {X : Type 0} (xs : List X) → xs ++ [] ≡ xs
-append-nil [] = refl
-append-nil (x ∷ xs) = ap (λ ys. x ∷ ys) (append-nil xs)
 
 -- ---- the one shared set stays, so each value has its pair
 

@@ -1,5 +1,6 @@
 -- What an accepted call and what is heard without a problem change of an end's invocations and outcomes.
 use Rattle.std.proofs.Common.{◌≡◌, refl, true, false, ◌∙◌, sym, ap, subst, ℕ, suc, nat_eq, List, [], ◌∷◌, ◌++◌, if◌then◌else◌}
+use Rattle.std.proofs.lemmas.List.{append-nil}
 use Rattle.std.specs.Prelude.{ℤ, pos, Bool, not, ◌&&◌, Option, Some, None, Ok, is_some}
 use Rattle.std.specs.Cmp.Lexicographic.{pointwise}
 use Rattle.std.proofs.lemmas.Bool.{eq-eqb}
@@ -39,10 +40,6 @@ use Rattle.bare_duo.specs.Shows.{value_of, shown_of, shown_invoke, shown_error, 
 use Rattle.bare_duo.specs.Outcomes.{Invocation, Outcome, returned, failed, has_result, has_error, invoked_by, answered_by, invocation_in, outcome_in, invocations_in, outcomes_in}
 use Rattle.bare_duo.proofs.Allowing.{opens_of_invoke, closes_of_result, closes_of_error}
 use Rattle.bare_duo.proofs.Settling.{Settled, settled-close, settled-peer, settled-own, settled-told}
-
-append-nil : {X : Type 0} (xs : List X) → xs ++ [] ≡ xs
-append-nil [] = refl
-append-nil (x ∷ xs) = ap (λ ys. x ∷ ys) (append-nil xs)
 
 -- ---- what is heard
 
