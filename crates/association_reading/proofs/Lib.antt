@@ -1,3 +1,4 @@
 mod First
 mod Meant
 mod Beginnings
+mod Associating
