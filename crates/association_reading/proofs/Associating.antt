@@ -70,6 +70,10 @@ read-back accepted (Transferring id apdu ∷ more) h =
     ∙ ap (λ (r : Result Rtse PduFault). informed id (map other (map external_of more)) r) (written_rtse_is_read apdu h.1).1
     ∙ ap (λ (is : List Information). all_informed (Transferring id apdu ∷ is)) (others-back more h.2)
 
+-- user information as it is read at first
+abbrev as_octets : List Information → List Information
+as_octets user = map other (map external_of user)
+
 -- ---- one APDU
 
 alone-again : (apdu : Acse) (user : List Information) → without_user (user_put user apdu) ≡ without_user apdu
@@ -122,26 +126,23 @@ abbrev value_so : ℕ → Acse → List Information → Value
 value_so id apdu user = record { id = id; pair = Some acse_pair; content = Association apdu user }
 
 module _ (base : Base) (accepted : List SetItem) (is_kind : Acse → Bool) (keeps : KeepsUser is_kind) where
-  content-back : (values : List Value) (one : CarriesOne base accepted is_kind values) → acse_content (acse_at (written_acse (user_put one.user one.apdu))) ≡ the_content (Association one.apdu (map other (map external_of one.user)))
+  content-back : (values : List Value) (one : CarriesOne base accepted is_kind values) → acse_content (acse_at (written_acse (user_put one.user one.apdu))) ≡ the_content (Association one.apdu (as_octets one.user))
   content-back values one =
       ap acse_content (written_acse_is_read (user_put one.user one.apdu) one.writable).1
       ∙ (λ i. the_content (Association ((alone-again one.apdu one.user ∙ one.alone) i) (map other (keeps one.apdu one.user one.of_kind i))))
 
-  informed-back : (values : List Value) (one : CarriesOne base accepted is_kind values) → and_informed base accepted is_kind (the_values (value_so one.id one.apdu (map other (map external_of one.user)) ∷ [])) ≡ the_values (value_so one.id one.apdu one.user ∷ [])
+  informed-back : (values : List Value) (one : CarriesOne base accepted is_kind values) → and_informed base accepted is_kind (the_values (value_so one.id one.apdu (as_octets one.user) ∷ [])) ≡ the_values (value_so one.id one.apdu one.user ∷ [])
   informed-back values one = go (is_reliable base.mode) refl one.informed
     where
-      abbrev user' : List Information
-      user' = map other (map external_of one.user)
-
       go : (b : Bool) → is_reliable base.mode ≡ b → IsInformed (is_reliable base.mode) accepted one.user
-          → (if is_reliable base.mode then informed_value accepted is_kind (value_so one.id one.apdu user') (Association one.apdu user') else the_values (value_so one.id one.apdu user' ∷ [])) ≡ the_values (value_so one.id one.apdu one.user ∷ [])
+          → (if is_reliable base.mode then informed_value accepted is_kind (value_so one.id one.apdu (as_octets one.user)) (Association one.apdu (as_octets one.user)) else the_values (value_so one.id one.apdu (as_octets one.user) ∷ [])) ≡ the_values (value_so one.id one.apdu one.user ∷ [])
       go false e h =
-          ap (λ (b : Bool). if b then informed_value accepted is_kind (value_so one.id one.apdu user') (Association one.apdu user') else the_values (value_so one.id one.apdu user' ∷ [])) e
+          ap (λ (b : Bool). if b then informed_value accepted is_kind (value_so one.id one.apdu (as_octets one.user)) (Association one.apdu (as_octets one.user)) else the_values (value_so one.id one.apdu (as_octets one.user) ∷ [])) e
           ∙ ap (λ (is : List Information). the_values (value_so one.id one.apdu is ∷ [])) (unread-back accepted one.user (subst (λ (b : Bool). IsInformed b accepted one.user) e h))
       go true e h =
-          ap (λ (b : Bool). if b then informed_value accepted is_kind (value_so one.id one.apdu user') (Association one.apdu user') else the_values (value_so one.id one.apdu user' ∷ [])) e
-          ∙ ap (λ (b : Bool). if b then with_user (value_so one.id one.apdu user') one.apdu (first_informed accepted user') else the_values (value_so one.id one.apdu user' ∷ [])) one.of_kind
-          ∙ ap (λ (r : Result (List Information) Fault). with_user (value_so one.id one.apdu user') one.apdu r) (read-back accepted one.user (subst (λ (b : Bool). IsInformed b accepted one.user) e h))
+          ap (λ (b : Bool). if b then informed_value accepted is_kind (value_so one.id one.apdu (as_octets one.user)) (Association one.apdu (as_octets one.user)) else the_values (value_so one.id one.apdu (as_octets one.user) ∷ [])) e
+          ∙ ap (λ (b : Bool). if b then with_user (value_so one.id one.apdu (as_octets one.user)) one.apdu (first_informed accepted (as_octets one.user)) else the_values (value_so one.id one.apdu (as_octets one.user) ∷ [])) one.of_kind
+          ∙ ap (λ (r : Result (List Information) Fault). with_user (value_so one.id one.apdu (as_octets one.user)) one.apdu r) (read-back accepted one.user (subst (λ (b : Bool). IsInformed b accepted one.user) e h))
 
   -- no context is asked of it
   unasked-back : (tables : Tables) (places : List PdvPlaces) (values : List Value) (one : CarriesOne base accepted is_kind values)
@@ -155,8 +156,8 @@ module _ (base : Base) (accepted : List SetItem) (is_kind : Acse → Bool) (keep
       → and_informed base accepted is_kind (values_under tables accepted acse_name places (pdvs_of tables (value_so one.id one.apdu one.user ∷ []))) ≡ the_values (value_so one.id one.apdu one.user ∷ [])
   under-back tables places values one on_it =
       ap (λ (p : Option Pair). and_informed base accepted is_kind
-          (unless_fault (or_fault (pdv_fault acse_name (first_place places) (pdv_of tables (value_so one.id one.apdu one.user)) p) None) (before_values (value_by tables p (pdv_of tables (value_so one.id one.apdu one.user))) (the_values []))))
-          on_it
+      (unless_fault (or_fault (pdv_fault acse_name (first_place places) (pdv_of tables (value_so one.id one.apdu one.user)) p) None) (before_values (value_by tables p (pdv_of tables (value_so one.id one.apdu one.user))) (the_values []))))
+      on_it
       ∙ ap (λ (r : Result Content Fault). and_informed base accepted is_kind (before_values (with_content one.id (Some acse_pair) r) (the_values []))) (content-back values one)
       ∙ informed-back values one
 

@@ -298,7 +298,7 @@ module _ (t : Tables) (ca cb : Config) (free : Free) (readable : IsReadable t) (
       let whole = then_added t ca cb free readable writes modelled first_law one_content back w u v (entries.Carry A most (record { octets = octets; shown = shown }) ∷ []) later one rest in (
         shows-its A w u v octets shown (entries.Carry A most (record { octets = octets; shown = shown }) ∷ later) later one.new_b k whole one.kept rest up went one.took_b (sym (append-nil shown) ∙ one.shown_b),
         subst (λ (n : ℕ). CarriesShow t A (sent_by A v) n later) (ap (octets_given A) same ∙ went.given_is)
-        (shows-on A (stepping B (record { side = A; step = gave (length octets) } ∷ w) steps) v more later next (subst Stands (sym same) one.kept) (ap (λ (x : World). passes_over (end_at two_ends B x).body.link.phase) same ∙ went.phase_is ∙ up)),
+            (shows-on A (stepping B (record { side = A; step = gave (length octets) } ∷ w) steps) v more later next (subst Stands (sym same) one.kept) (ap (λ (x : World). passes_over (end_at two_ends B x).body.link.phase) same ∙ went.phase_is ∙ up)),
       )
   shows-on B w v all told (carries {more = more} {told = later} A most steps shown fd next) k up =
       let octets : List ℕ = first_octets most (end_at two_ends A w).line.waiting in
@@ -306,9 +306,11 @@ module _ (t : Tables) (ca cb : Config) (free : Free) (readable : IsReadable t) (
       let one = added_to_b t ca cb free readable writes modelled first_law one_content back w most octets fd.reading shown k some fd.reads in
       let u : World = stepping B (moved_b w octets) fd.reading in
       let same : stepping B (record { side = A; step = gave (length octets) } ∷ w) steps ≡ u = ap (λ (xs : List Step). stepping B (record { side = A; step = gave (length octets) } ∷ w) xs) fd.all in
-      let went = carry-b B w octets fd.reading shown k some fd.reads (octets_given B w) refl in
-      (tt, subst (λ (n : ℕ). CarriesShow t B (sent_by B v) n later) (ap (octets_given B) same ∙ went.given_is)
-        (shows-on B (stepping B (record { side = A; step = gave (length octets) } ∷ w) steps) v more later next (subst Stands (sym same) one.kept) (ap (λ (x : World). passes_over (end_at two_ends A x).body.link.phase) same ∙ went.phase_is ∙ up)))
+      let went = carry-b B w octets fd.reading shown k some fd.reads (octets_given B w) refl in (
+        tt,
+        subst (λ (n : ℕ). CarriesShow t B (sent_by B v) n later) (ap (octets_given B) same ∙ went.given_is)
+            (shows-on B (stepping B (record { side = A; step = gave (length octets) } ∷ w) steps) v more later next (subst Stands (sym same) one.kept) (ap (λ (x : World). passes_over (end_at two_ends A x).body.link.phase) same ∙ went.phase_is ∙ up)),
+      )
   shows-on B w v all told (carries {more = more} {told = later} B most steps shown fd next) k up =
       let octets : List ℕ = first_octets most (end_at two_ends B w).line.waiting in
       let some = first_some most (end_at two_ends B w).line.waiting in
@@ -321,7 +323,7 @@ module _ (t : Tables) (ca cb : Config) (free : Free) (readable : IsReadable t) (
       let whole = then_added t ca cb free readable writes modelled first_law one_content back w u v (entries.Carry B most (record { octets = octets; shown = shown }) ∷ []) later one rest in (
         shows-its B w u v octets shown (entries.Carry B most (record { octets = octets; shown = shown }) ∷ later) later one.new_a k whole one.kept rest up went one.took_a (sym (append-nil shown) ∙ one.shown_a),
         subst (λ (n : ℕ). CarriesShow t B (sent_by B v) n later) (ap (octets_given B) same ∙ went.given_is)
-        (shows-on B (stepping A (record { side = B; step = gave (length octets) } ∷ w) steps) v more later next (subst Stands (sym same) one.kept) (ap (λ (x : World). passes_over (end_at two_ends A x).body.link.phase) same ∙ went.phase_is ∙ up)),
+            (shows-on B (stepping A (record { side = B; step = gave (length octets) } ∷ w) steps) v more later next (subst Stands (sym same) one.kept) (ap (λ (x : World). passes_over (end_at two_ends A x).body.link.phase) same ∙ went.phase_is ∙ up)),
       )
   shows-on A w v all told (carries {more = more} {told = later} B most steps shown fd next) k up =
       let octets : List ℕ = first_octets most (end_at two_ends B w).line.waiting in
@@ -329,9 +331,11 @@ module _ (t : Tables) (ca cb : Config) (free : Free) (readable : IsReadable t) (
       let one = added_to_a t ca cb free readable writes modelled first_law one_content back w most octets fd.reading shown k some fd.reads in
       let u : World = stepping A (moved_a w octets) fd.reading in
       let same : stepping A (record { side = B; step = gave (length octets) } ∷ w) steps ≡ u = ap (λ (xs : List Step). stepping A (record { side = B; step = gave (length octets) } ∷ w) xs) fd.all in
-      let went = carry-a A w octets fd.reading shown k some fd.reads (octets_given A w) refl in
-      (tt, subst (λ (n : ℕ). CarriesShow t A (sent_by A v) n later) (ap (octets_given A) same ∙ went.given_is)
-        (shows-on A (stepping A (record { side = B; step = gave (length octets) } ∷ w) steps) v more later next (subst Stands (sym same) one.kept) (ap (λ (x : World). passes_over (end_at two_ends B x).body.link.phase) same ∙ went.phase_is ∙ up)))
+      let went = carry-a A w octets fd.reading shown k some fd.reads (octets_given A w) refl in (
+        tt,
+        subst (λ (n : ℕ). CarriesShow t A (sent_by A v) n later) (ap (octets_given A) same ∙ went.given_is)
+            (shows-on A (stepping A (record { side = B; step = gave (length octets) } ∷ w) steps) v more later next (subst Stands (sym same) one.kept) (ap (λ (x : World). passes_over (end_at two_ends B x).body.link.phase) same ∙ went.phase_is ∙ up)),
+      )
   shows-on side w v all told (breaks {more = more} {told = later} next) k up =
       none-shown side (broken_world t ca cb free readable writes modelled first_law one_content back w) v more later next (added_by_break t ca cb free readable writes modelled first_law one_content back w k).kept (both-over side w k)
 

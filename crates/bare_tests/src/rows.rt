@@ -149,10 +149,17 @@ fn rejects_that_come(rt: HostRuntime) -> Result<(), Fail> {
         kind: ProblemKind::Invoke,
         number: 1,
     };
-    assert!(rt; matches!(told.as_slice(), [Indication::Rejected { id: 1, problem }] if *problem == unrecognized));
+    assert!(rt;
+        matches!(told.as_slice(), [Indication::Rejected { id: 1, problem }] if *problem == unrecognized)
+    );
     assert!(rt; !a.is_open(true, 1));
     let told = a.feed(&[0xA4, 6, 2, 1, 1, 0x81, 1, 1])?;
-    assert!(rt; matches!(told.as_slice(), [Indication::RejectTaken { id: Some(1), .. }]));
+    assert!(rt;
+        matches!(
+            told.as_slice(),
+            [Indication::RejectTaken { id: Some(1), .. }]
+        )
+    );
     Ok(())
 }
 
@@ -181,7 +188,16 @@ fn note_has_no_outcome(rt: HostRuntime) -> Result<(), Fail> {
     assert!(rt; matches!(a.call(call), Ok(Some(1))));
     assert!(rt; gives_out(&mut a, NOTE));
     let told = b.feed(NOTE)?;
-    assert!(rt; matches!(told.as_slice(), [Indication::Invoked { id: 1, operation: 1, .. }]));
+    assert!(rt;
+        matches!(
+            told.as_slice(),
+            [Indication::Invoked {
+                id: 1,
+                operation: 1,
+                ..
+            }]
+        )
+    );
     assert!(rt; !a.is_open(true, 1) && !b.is_open(false, 1));
     Ok(())
 }
@@ -225,7 +241,11 @@ fn asked<'t>(alloc: Global, tables: &'t Tables) -> Result<Option<End<'t>>, Fail>
         return Ok(None);
     }
     let told = a.feed(ASK)?;
-    Ok(if is_asked(told.as_slice()) { Some(a) } else { None })
+    Ok(if is_asked(told.as_slice()) {
+        Some(a)
+    } else {
+        None
+    })
 }
 
 /// Octets that are no value end the association: children are cut before their parents. `00` with
@@ -243,7 +263,12 @@ fn cuts_children_before_parents(rt: HostRuntime) -> Result<(), Fail> {
             [
                 Indication::Cut { own: false, id: 1 },
                 Indication::Cut { own: true, id: 1 },
-                Indication::Aborted { own: true, layer: Layer::Rose, reason: 0, .. },
+                Indication::Aborted {
+                    own: true,
+                    layer: Layer::Rose,
+                    reason: 0,
+                    ..
+                },
             ]
         )
     );

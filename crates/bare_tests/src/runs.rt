@@ -76,7 +76,13 @@ fn carries_the_last(transcript: &Transcript) -> bool {
 /// Whether the calls were answered: the first is made, and the second refused after the break.
 fn answers_calls(transcript: &Transcript) -> bool {
     let entries = transcript.entries.as_slice();
-    let first = matches!(entries.get(0), Some(Entry::Call { answer: Ok(Some(1)), .. }));
+    let first = matches!(
+        entries.get(0),
+        Some(Entry::Call {
+            answer: Ok(Some(1)),
+            ..
+        })
+    );
     let second = matches!(
         entries.get(4),
         Some(Entry::Call {
@@ -100,7 +106,9 @@ fn a_run_with_a_break(rt: HostRuntime) -> Result<(), Fail> {
     assert!(rt; carries_unseen(&transcript, 1, &ADD[..10]));
     assert!(rt; carries_the_last(&transcript));
     assert!(rt; carries_unseen(&transcript, 5, &[]));
-    assert!(rt; are_over(&a, &b) && matches!((transcript.a, transcript.b), (Phase::Over, Phase::Over)));
+    assert!(rt;
+        are_over(&a, &b) && matches!((transcript.a, transcript.b), (Phase::Over, Phase::Over))
+    );
     Ok(())
 }
 
