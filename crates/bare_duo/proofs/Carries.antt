@@ -1,7 +1,7 @@
 -- An end took what came whole, and each carry shows it.
-use Rattle.std.proofs.Common.{◌≡◌, refl, true, false, ◌∙◌, sym, ap, subst, ℕ, ◌+◌, List, [], ◌∷◌, ◌++◌, length, drop, append_assoc}
+use Rattle.std.proofs.Common.{◌≡◌, refl, true, false, ◌∙◌, sym, ap, subst, ℕ, ◌+◌, List, [], ◌∷◌, ◌++◌, length, drop}
 use Rattle.std.proofs.lemmas.List.{append-nil}
-use Rattle.std.specs.Prelude.{Bool, Option}
+use Rattle.std.specs.Prelude.{Bool}
 use Rattle.osi_base.specs.declared.words.Side.{Side}
 use Rattle.osi_base.specs.declared.words.Side.TheVariants.{A, B}
 use Rattle.stub_tables.specs.declared.tables.Tables.{Tables}
@@ -9,20 +9,18 @@ use Rattle.stub_tables.specs.Readable.{IsReadable}
 use Rattle.dialogue.specs.declared.config.Config.{Config}
 use Rattle.dialogue.specs.declared.call.Call.{Call}
 use Rattle.dialogue.specs.declared.event.Event.{Event}
-use Rattle.dialogue.specs.declared.event.Carried.{Carried}
 use Rattle.dialogue.specs.declared.event.Entry.{Entry}
 use Rattle.dialogue.specs.declared.event.Entry.TheVariants as entries
 use Rattle.dialogue.specs.declared.indication.Indication.{Indication}
 use Rattle.end_rules.specs.Base.{Base}
 use Rattle.end_rules.specs.Messages.{Message}
 use Rattle.end_rules.specs.State.{passes_over}
-use Rattle.end_rules.specs.Invoking.{Reply}
 use Rattle.end_rules.specs.Calling.{can_call}
-use Rattle.end_rules.specs.History.{Step, fed, gave, broke, call_steps}
-use Rattle.end_rules.specs.World.{World, Ends, base_at as base_of, other}
+use Rattle.end_rules.specs.History.{Step, fed, gave, call_steps}
+use Rattle.end_rules.specs.World.{World, Ends, other}
 use Rattle.end_wire.specs.Bare.{Short, first_at}
 use Rattle.end_wire.specs.Line.{End, after}
-use Rattle.end_wire.specs.Feeding.{Reads, Feeds, passes, waits, takes, fails}
+use Rattle.end_wire.specs.Feeding.{Reads, passes, waits, takes, fails}
 use Rattle.end_wire.specs.Laws.{WrittenIsFirst, OneContent}
 use Rattle.agreement.specs.Sets.Role.{Initiator, Responder}
 use Rattle.end_model.specs.Seen.{Free}
@@ -34,7 +32,7 @@ use Rattle.bare_duo.specs.Passing.{sent_by, taken_by, indications_at}
 use Rattle.bare_duo.specs.Carrying.{octets_given, whole_within, TakenWhenWhole, ShowsItsMessages, CarriesShow, EachCarryShows}
 use Rattle.bare_duo.proofs.Flights.{AllSent, parts, written_all}
 use Rattle.bare_duo.proofs.Counts.{taken_among}
-use Rattle.bare_duo.proofs.Kept.{Way, View, pair, at_role, call_given, call_phase, own_over, peer_over, reads_so, peer_stays, peer_given_stays}
+use Rattle.bare_duo.proofs.Kept.{Way, View, pair, call_given, call_phase, own_over, peer_over, reads_so, peer_stays, peer_given_stays}
 use Rattle.bare_duo.proofs.AllRuns.{base, ends, view_a, view_b, to_b, steps_a, steps_b, Kept, Added, first_kept, added_by_a, added_by_b, given_to_a, given_to_b, carry_to_a, carry_to_b, added_to_a, added_to_b, broken_world, added_by_break, then_added, runs_keep, first_some}
 
 -- an end that is over is shown nothing

@@ -5,11 +5,11 @@ use Rattle.std.proofs.lemmas.Bool.{ltb-true, ltb-false, lt-leb, le-leb}
 use Rattle.stub_tables.specs.declared.tables.Tables.{Tables}
 use Rattle.stub_tables.specs.Readable.{IsReadable}
 use Rattle.end_rules.specs.Messages.{Message}
-use Rattle.end_wire.specs.Bare.{First, Short, Whole, first_at, written}
+use Rattle.end_wire.specs.Bare.{Short, Whole, first_at, written}
 use Rattle.end_wire.specs.Laws.{WrittenIsFirst}
 use Rattle.bare_duo.specs.Carrying.{whole_within}
 use Rattle.bare_duo.proofs.Fronts.{nothing_first}
-use Rattle.bare_duo.proofs.Flights.{IsSent, AllSent, sent-append, written_all, written-append, Cut, cut}
+use Rattle.bare_duo.proofs.Flights.{IsSent, AllSent, written_all, written-append, cut}
 
 module _ (t : Tables) where
   pub length-written : (ms ns : List Message) → length (written_all t (ms ++ ns)) ≡ length (written_all t ms) + length (written_all t ns)

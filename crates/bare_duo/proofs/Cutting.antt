@@ -1,10 +1,9 @@
 -- Octets are read in one way, however they are cut.
-use Rattle.std.proofs.Common.{◌≡◌, ℕ, ◌+◌, ◌≤◌, Bool, true, false, List, [], ◌∷◌, ◌++◌, map, length, take, drop, Ok, Err, refl, sym, ap, subst, ◌∙◌, arith, append_assoc}
+use Rattle.std.proofs.Common.{◌≡◌, ℕ, ◌≤◌, Bool, true, false, List, [], ◌∷◌, ◌++◌, map, length, take, Ok, refl, sym, ap, subst, ◌∙◌, arith, append_assoc}
 use Rattle.std.specs.Prelude.{Option, Some, None, if◌then◌else◌}
 use Rattle.std.proofs.lemmas.List.{append-nil, take-append-le, drop-append-le}
 use Rattle.osi_base.specs.declared.words.Layer.TheVariants.{Rose}
 use Rattle.asn1_types.specs.Value.{Value}
-use Rattle.ber_spelling.specs.declared.fault.ReadFault.{ReadFault}
 use Rattle.ber_spelling.specs.Fields.{identifier_at}
 use Rattle.ber_spelling.specs.Reading.{Reading}
 use Rattle.ber_spelling.specs.Rules.{reads, value_at, read_at, outermost, plain}
@@ -16,18 +15,17 @@ use Rattle.stub_tables.specs.Heads.{head_rows, any_row}
 use Rattle.stub_tables.specs.Readable.{IsReadable}
 use Rattle.dialogue.specs.declared.config.Config.{Config}
 use Rattle.dialogue.specs.declared.indication.Indication.{Indication}
-use Rattle.end_rules.specs.Base.{Base, Head}
+use Rattle.end_rules.specs.Base.{Base}
 use Rattle.end_rules.specs.Faults.{fault_at, shown_at_fault}
 use Rattle.end_rules.specs.Messages.{Message, Content, Value as PresentationValue}
 use Rattle.end_rules.specs.State.{Body, Link, passes_over}
 use Rattle.end_rules.specs.Invoking.{carrier_in}
 use Rattle.end_rules.specs.Hearing.{Rejecting, Heard, hear, head_of, with_reject, sent_on, syntax_of}
 use Rattle.end_rules.specs.Sets.{pair_of}
-use Rattle.end_rules.specs.Reacting.{Takes, react}
 use Rattle.end_rules.specs.History.{Step, fed, took, answered, fault, feed_end, after_taken}
 use Rattle.end_wire.specs.Values.{IsContent}
-use Rattle.end_wire.specs.Bare.{Short, Whole, Faulty, first_of, first_at, front, behind, bare_base, bare_value, bare_message}
-use Rattle.end_wire.specs.Line.{End, Line, after, after_all}
+use Rattle.end_wire.specs.Bare.{Whole, first_of, first_at, front, behind, bare_base, bare_value, bare_message}
+use Rattle.end_wire.specs.Line.{End, after, after_all}
 use Rattle.end_wire.specs.Feeding.{Reads, passes, waits, takes, fails, taking, Feeds}
 use Rattle.end_wire.specs.Laws.{OneContent}
 use Rattle.bare_duo.specs.Cutting.{OneFeed, AnyCutting}

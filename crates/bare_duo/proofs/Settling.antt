@@ -1,7 +1,7 @@
 -- One end's invocations and what it was told of them: what is open was made, nothing that was told is open, and of no
 -- invocation two outcomes were told.
 use Rattle.std.proofs.Common.{◌≡◌, refl, true, false, ◌∙◌, sym, ap, subst, arith, ℕ, suc, ◌+◌, ◌≤◌, List, [], ◌∷◌, ◌++◌, length, inl, inr, length-append}
-use Rattle.std.specs.Prelude.{◌≢◌, ℤ, pos, Bool, not, ◌&&◌, ◌||◌, Option, Some, None, is_some, if◌then◌else◌, ◌⊎◌}
+use Rattle.std.specs.Prelude.{◌≢◌, ℤ, pos, Bool, ◌&&◌, ◌||◌, Some, is_some, if◌then◌else◌}
 use Rattle.std.specs.Ordering.{int_eq}
 use Rattle.std.specs.List.{AllByRecursion}
 use Rattle.std.proofs.lemmas.Bool.Decides.{nat_tests, Decides-int_eq}

@@ -1,7 +1,7 @@
 -- What an accepted call and what is heard without a problem change of an end's invocations and outcomes.
 use Rattle.std.proofs.Common.{◌≡◌, refl, true, false, ◌∙◌, sym, ap, subst, ℕ, suc, nat_eq, List, [], ◌∷◌, ◌++◌, if◌then◌else◌}
 use Rattle.std.proofs.lemmas.List.{append-nil}
-use Rattle.std.specs.Prelude.{ℤ, pos, Bool, not, ◌&&◌, Option, Some, None, Ok, is_some}
+use Rattle.std.specs.Prelude.{ℤ, pos, Bool, ◌&&◌, Option, Some, None, Ok}
 use Rattle.std.specs.Cmp.Lexicographic.{pointwise}
 use Rattle.std.proofs.lemmas.Bool.{eq-eqb}
 use Rattle.osi_base.specs.declared.words.Problem.{Problem}
@@ -20,12 +20,11 @@ use Rattle.dialogue.specs.declared.config.Mode.TheVariants.{Bare}
 use Rattle.dialogue.specs.declared.call.Call.{Call}
 use Rattle.dialogue.specs.declared.call.Call.TheVariants as the_calls
 use Rattle.dialogue.specs.declared.call.CallRefusal.TheVariants as refusals
-use Rattle.dialogue.specs.declared.indication.Indication.{Indication}
 use Rattle.end_rules.specs.Base.{Base}
-use Rattle.end_rules.specs.Sets.{Alteration, may_send, lowest_with, carrier, same_name}
+use Rattle.end_rules.specs.Sets.{Alteration, may_send, lowest_with, carrier}
 use Rattle.end_rules.specs.Messages.{Message}
 use Rattle.end_rules.specs.State.{Body, Calls, OpenCall, bare_set, opened_with, close}
-use Rattle.end_rules.specs.Invoking.{Reply, next_id, is_stopped, can_invoke_operation, can_answer_open, can_refuse_open, operation_of, returned_with, invoke_apdu, result_apdu, error_apdu}
+use Rattle.end_rules.specs.Invoking.{Reply, next_id, is_stopped, can_invoke_operation, can_answer_open, can_refuse_open, operation_of, returned_with, result_apdu, error_apdu}
 use Rattle.end_rules.specs.Calling.{can_call}
 use Rattle.end_rules.specs.Hearing.{hear, head_of_apdu, value_in, value_returned, opening}
 use Rattle.end_rules.specs.Requesting.{due_of, after_call, due_invoke, after_invoke, due_outcome, after_outcome, result_for, error_for, operation_opened, sent_at_once}
@@ -37,7 +36,7 @@ use Rattle.end_model.proofs.Ladder.{passed, called}
 use Rattle.end_model.proofs.InvokeRungs.{invokable, answerable, refusable}
 use Rattle.end_model.proofs.HandingRows.{next-is}
 use Rattle.bare_duo.specs.Shows.{value_of, shown_of, shown_invoke, shown_error, shown_all}
-use Rattle.bare_duo.specs.Outcomes.{Invocation, Outcome, returned, failed, has_result, has_error, invoked_by, answered_by, invocation_in, outcome_in, invocations_in, outcomes_in}
+use Rattle.bare_duo.specs.Outcomes.{Invocation, Outcome, returned, failed, has_result, invoked_by, answered_by, invocations_in, outcomes_in}
 use Rattle.bare_duo.proofs.Allowing.{opens_of_invoke, closes_of_result, closes_of_error}
 use Rattle.bare_duo.proofs.Settling.{Settled, settled-close, settled-peer, settled-own, settled-told}
 

@@ -1,5 +1,5 @@
 -- Events have one run.
-use Rattle.std.proofs.Common.{◌≡◌, refl, true, false, ◌∙◌, sym, ap, subst, ℕ, List, [], ◌∷◌, ◌++◌, length, take, Option}
+use Rattle.std.proofs.Common.{◌≡◌, refl, true, false, ◌∙◌, sym, ap, subst, ℕ, List, [], ◌∷◌, ◌++◌, length}
 use Rattle.osi_base.specs.declared.words.Side.{Side}
 use Rattle.osi_base.specs.declared.words.Side.TheVariants.{A, B}
 use Rattle.osi_base.specs.declared.words.Layer.TheVariants.{Rose}
@@ -10,7 +10,7 @@ use Rattle.dialogue.specs.declared.event.Entry.TheVariants as entries
 use Rattle.dialogue.specs.declared.indication.Indication.{Indication}
 use Rattle.end_rules.specs.Base.{Base}
 use Rattle.end_rules.specs.Sets.{pair_of}
-use Rattle.end_rules.specs.Messages.{Message, Content}
+use Rattle.end_rules.specs.Messages.{Message}
 use Rattle.end_rules.specs.State.{Body, passes_over}
 use Rattle.end_rules.specs.Faults.{fault_at, shown_at_fault}
 use Rattle.end_rules.specs.Hearing.{syntax_of}
@@ -18,7 +18,7 @@ use Rattle.end_rules.specs.Reacting.{Takes, react}
 use Rattle.end_rules.specs.Calling.{can_call}
 use Rattle.end_rules.specs.History.{Step, fed, fault, feed_end, gave, broke, call_steps}
 use Rattle.end_rules.specs.World.{World, Ends, base_at, other}
-use Rattle.end_wire.specs.Bare.{First, Short, Whole, Faulty, first_at, front, bare_message}
+use Rattle.end_wire.specs.Bare.{Short, Whole, Faulty, first_at, front, bare_message}
 use Rattle.end_wire.specs.Values.{IsContent}
 use Rattle.end_wire.specs.Line.{End, after, after_all}
 use Rattle.end_wire.specs.Feeding.{Reads, Feeds, passes, waits, takes, fails, taking}
