@@ -1,4 +1,2 @@
 mod First
 mod Meant
-mod Beginnings
-mod Associating

@@ -8,4 +8,3 @@ pub mod Transfers
 pub mod Reacting
 pub mod Cases
 pub mod Laws
-pub mod Associating
