@@ -55,7 +55,7 @@ unpadded-are (x ∷ xs) h = go (unpadded-are xs (and_parts (is_octet x) (list_al
     go later true = later
     go later false = h
 
-unpadded-short : (xs : List ℕ) → length (unpadded xs) ≤ length xs
+pub unpadded-short : (xs : List ℕ) → length (unpadded xs) ≤ length xs
 unpadded-short [] = omega arith
 unpadded-short (x ∷ xs) = go (unpadded-short xs) (is_padded (x ∷ xs))
   where
