@@ -8,4 +8,7 @@ pub use examples::{
     contents_cut_a_field, default_is_written, items_fall, mark_passes_the_limit,
     part_comes_twice_in_another_form,
 };
-pub use laws::{first_is_given, given_is_first, one_first, three_cases};
+pub use laws::{
+    first_is_given, given_is_first, one_first, short_exactly, spelled_is_value, three_cases,
+    too_deep_is_full,
+};
