@@ -32,8 +32,9 @@ use Rattle.ber_spelling.proofs.RowLaws.{OkTag, tag_ok}
 use Rattle.ber_faults.specs.Fields.{IsWithin, Crosses, DigitsFault, IdentifierFault, LengthFault, ExtentFault, MarkFault, AheadFault, Opens, Begins, Extends, Stands}
 use Rattle.ber_faults.specs.Values.{Wrong, WrongAs, WrongIn, PrimitiveFault, BodyFault, ConstructedFault, ItemsFault, item_ahead, item_lacks, item_inside, item_behind, every_state, SegmentContents, SegmentFault, SegmentsFault, StringContents, StringFault, ListFault, SetItemFault, SetOfFault, CloseFault, OneFault, ExplicitFault, PartsFault, part_ahead, part_extra, part_missing, part_inside, part_left_out, part_behind, LateFault, FillFault, SlotFault, SetFault, ChoiceFault, WholeStep, WholeFault, OrExplicitFault, RowFault, BooleanContents, IntegerContents, EnumeratedContents, NullContents, ObjectIdContents}
 use Rattle.ber_faults.specs.FirstFault.{RowFaultOr, FaultBy, FirstFault}
-use Rattle.ber_faults.specs.Nesting.{IsValue, AreOpen, HasMore, HasAny, IsFull}
-use Rattle.ber_faults.proofs.WholeTexts.{AreWhole, any_length, all_whole, segment_value, any_value, chosen_value}
+use Rattle.ber_laws.specs.Values.{IsValue}
+use Rattle.ber_faults.specs.Nesting.{AreOpen, HasMore, HasAny, IsFull}
+use Rattle.ber_laws.proofs.WholeTexts.{AreWhole, any_length, all_whole, segment_value, any_value, chosen_value}
 
 -- a fault of this kind is another
 other_fault : {C : Type 0} (place at : ℕ) (kind : Kind) → TooDeep place ≡ NotSpelled at kind → C

@@ -15,10 +15,9 @@ use Rattle.ber_spelling.proofs.FirstFaults.{fault_is_first}
 use Rattle.ber_spelling.proofs.WholeValues.{one_of_three}
 use Rattle.ber_faults.specs.Fields.{Opens}
 use Rattle.ber_faults.specs.FirstFault.{HasPlace, ValueFault}
-use Rattle.ber_faults.specs.Laws.{GivenIsFirst, FirstIsGiven, OneFirst, ThreeCases, ShortExactly, TooDeepIsFull, SpelledIsValue}
+use Rattle.ber_faults.specs.Laws.{GivenIsFirst, FirstIsGiven, OneFirst, ThreeCases, ShortExactly, TooDeepIsFull}
 use Rattle.ber_faults.proofs.Steps.{bind_err, bind_fails, bind_goes, failed, err_is, not_err, in_within}
 use Rattle.ber_faults.proofs.Identifiers.{identifier_err, identifier_fails, opens_found, opens_read}
-use Rattle.ber_faults.proofs.WholeTexts.{spelled_whole}
 use Rattle.ber_faults.proofs.Depths.{first_deep}
 use Rattle.ber_faults.proofs.Rows.{row_fault_found, row_fault_told}
 
@@ -101,6 +100,3 @@ short_exactly rows n strict limit bytes sound are = (
 
 pub too_deep_is_full : TooDeepIsFull
 too_deep_is_full rows n strict limit bytes place sound h = first_deep rows sound n strict limit bytes place h
-
-pub spelled_is_value : SpelledIsValue
-spelled_is_value rows n strict limit v spelled sound h = spelled_whole rows sound n strict limit v spelled h

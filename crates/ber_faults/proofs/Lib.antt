@@ -13,7 +13,6 @@ pub mod SetSteps
 pub mod Sets
 pub mod Wholes
 pub mod Rows
-pub mod WholeTexts
 pub mod Depths
 pub mod FirstFaults
 pub mod WorkedFaults

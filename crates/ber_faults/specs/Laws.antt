@@ -2,15 +2,13 @@
 use Rattle.std.specs.Prelude.{◌≡◌, ◌≢◌, ℕ, ◌⊎◌, ◌↔◌, Bool, List, Err}
 use Rattle.asn1_types.specs.declared.row.TypeRow.{TypeRow}
 use Rattle.asn1_types.specs.Table.{IsSound}
-use Rattle.asn1_types.specs.Value.{Value}
 use Rattle.ber_spelling.specs.declared.fault.ReadFault.{ReadFault}
 use Rattle.ber_spelling.specs.declared.fault.ReadFault.TheVariants.{Short, TooDeep}
 use Rattle.ber_spelling.specs.Octets.{AreOctets}
 use Rattle.ber_spelling.specs.Rules.{read_at}
-use Rattle.ber_spelling.specs.Spelling.{Spells}
 use Rattle.ber_spelling.specs.Laws.{BeginsSpelled}
 use Rattle.ber_faults.specs.FirstFault.{FirstFault}
-use Rattle.ber_faults.specs.Nesting.{IsValue, IsFull}
+use Rattle.ber_faults.specs.Nesting.{IsFull}
 
 -- a fault that reading gives is a first fault, unless it is that the octets are too short
 abbrev pub GivenIsFirst : Type 0
@@ -50,8 +48,3 @@ ShortExactly = (rows : List TypeRow) (n : ℕ) (strict : Bool) (limit : ℕ) (by
 abbrev pub TooDeepIsFull : Type 0
 TooDeepIsFull = (rows : List TypeRow) (n : ℕ) (strict : Bool) (limit : ℕ) (bytes : List ℕ) (place : ℕ) → IsSound rows
     → FirstFault rows n strict limit bytes (TooDeep place) → IsFull rows bytes place
-
--- what spells a value is one whole value of any type
-abbrev pub SpelledIsValue : Type 0
-SpelledIsValue = (rows : List TypeRow) (n : ℕ) (strict : Bool) (limit : ℕ) (v : Value) (spelled : List ℕ) → IsSound rows
-    → Spells rows n strict limit v spelled → IsValue spelled

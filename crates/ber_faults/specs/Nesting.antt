@@ -5,11 +5,8 @@ use Rattle.asn1_types.specs.declared.row.Class.{Class}
 use Rattle.asn1_types.specs.declared.row.TypeRow.{TypeRow}
 use Rattle.asn1_types.specs.declared.row.TypeRow.TheVariants.{Any}
 use Rattle.asn1_types.specs.Limits.{most_levels}
-use Rattle.ber_spelling.specs.Spelling.{IsIdentifier, IsLength, AreAll, IsWhole}
-
--- one whole value of any type, with however many values inside one another
-abbrev pub IsValue : List ℕ → Type 0
-IsValue spelled = (levels : ℕ) × IsWhole levels spelled
+use Rattle.ber_spelling.specs.Spelling.{IsIdentifier, IsLength, AreAll}
+use Rattle.ber_laws.specs.Values.{IsValue}
 
 -- behind a length of either form so many octets of contents stand, and more are to come
 abbrev pub HasMore : List ℕ → ℕ → Type 0

@@ -1,6 +1,6 @@
 //! The laws of first faults, each the contract of a function that does nothing.
 
-ghost use Rattle.ber_faults.specs.Laws.{GivenIsFirst, FirstIsGiven, OneFirst, ThreeCases, ShortExactly, TooDeepIsFull, SpelledIsValue};
+ghost use Rattle.ber_faults.specs.Laws.{GivenIsFirst, FirstIsGiven, OneFirst, ThreeCases, ShortExactly, TooDeepIsFull};
 
 /// A fault that reading gives is a first fault by the grammar.
 pub fn given_is_first()
@@ -34,9 +34,4 @@ pub fn short_exactly()
 /// levels. With `given_is_first` this holds of what is read.
 pub fn too_deep_is_full()
     ensures { TooDeepIsFull }
-{}
-
-/// What spells a value, in BER or DER, is one whole value of any type: all its octets, and no more.
-pub fn spelled_is_value()
-    ensures { SpelledIsValue }
 {}

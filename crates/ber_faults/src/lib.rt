@@ -9,6 +9,5 @@ pub use examples::{
     part_comes_twice_in_another_form,
 };
 pub use laws::{
-    first_is_given, given_is_first, one_first, short_exactly, spelled_is_value, three_cases,
-    too_deep_is_full,
+    first_is_given, given_is_first, one_first, short_exactly, three_cases, too_deep_is_full,
 };

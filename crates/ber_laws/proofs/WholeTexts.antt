@@ -21,7 +21,8 @@ use Rattle.ber_spelling.specs.Rules.{Guise, bare, plain, under, always, segment_
 use Rattle.ber_spelling.specs.Spelling.{IsLength, IsDefinite, IsIndefinite, IsPrimitive, IsConstructed, AreAll, IsWhole, Spelled, Steps, ItemsAre, SegmentIs, StringIs, PartIs, PartsAre, SequenceIs, ListStep, ListIs, SetItemStep, SetOfIs, SetStep, SetIs, ChoiceIs, OrExplicit, BooleanIs, IntegerIs, EnumeratedIs, NullIs, ObjectIdIs, IsOther, AnyIs, RowIs, RowOr, SpelledBy, Spells}
 use Rattle.ber_spelling.proofs.Lax.{lax_length}
 use Rattle.ber_spelling.proofs.RowLaws.{OkTag, tag_ok, text_tag}
-use Rattle.ber_faults.specs.Nesting.{IsValue}
+use Rattle.ber_laws.specs.Values.{IsValue}
+use Rattle.ber_laws.specs.Laws.{SpelledIsValue}
 
 -- ---- more levels do no harm
 
@@ -265,3 +266,6 @@ module _ (rows : List TypeRow) (sound : IsSound rows) where
 
   pub spelled_whole : (n : ℕ) (strict : Bool) (limit : ℕ) (v : Value) (s : List ℕ) → Spells rows n strict limit v s → IsValue s
   spelled_whole n strict limit v s p = (all_whole (length rows) n).is plain strict most_levels v s tt p.by
+
+pub spelled_is_value : SpelledIsValue
+spelled_is_value rows n strict limit v spelled sound h = spelled_whole rows sound n strict limit v spelled h
