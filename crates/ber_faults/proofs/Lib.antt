@@ -4,6 +4,7 @@ pub mod Identifiers
 pub mod Lengths
 pub mod Ends
 pub mod Readers
+pub mod Alone
 pub mod Items
 pub mod Strings
 pub mod Lists
@@ -12,5 +13,6 @@ pub mod SetSteps
 pub mod Sets
 pub mod Wholes
 pub mod Rows
+pub mod Depths
 pub mod FirstFaults
 pub mod WorkedFaults

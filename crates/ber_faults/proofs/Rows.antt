@@ -34,6 +34,7 @@ use Rattle.ber_spelling.proofs.RowLaws.{Allowed, OkTag, along_found, along_only}
 use Rattle.ber_faults.specs.Values.{Wrong, WrongAs, BooleanContents, IntegerContents, EnumeratedContents, NullContents, ObjectIdContents, PartsFault, SetFault, ListFault, SetOfFault, ChoiceFault, WholeFault, OrExplicitFault, RowFault}
 use Rattle.ber_faults.specs.FirstFault.{NoRowFault, RowFaultOr, FaultBy}
 use Rattle.ber_faults.proofs.Readers.{Finds, Tells, refused, refusal_is, primitive_finds, primitive_tells, constructed_finds, constructed_tells}
+use Rattle.ber_faults.proofs.Alone.{TellsAlone, alone_of, constructed_alone, explicit_alone, or_alone, choice_alone}
 use Rattle.ber_faults.proofs.Strings.{string_finds, string_tells}
 use Rattle.ber_faults.proofs.Lists.{list_finds, list_tells, set_of_finds, set_of_tells, explicit_finds, explicit_tells}
 use Rattle.ber_faults.proofs.Sequences.{sequence_finds, sequence_tells, choice_finds, choice_tells}
@@ -90,6 +91,30 @@ object_id_right strict c v are e k = (v, object_id_sound c v are e)
 object_id_back : (strict : Bool) (c : List ℕ) → ObjectIdContents strict c → (v : Value) × (object_id_rule c ≡ Some v) × (strict ≡ true → always c ≡ true)
 object_id_back strict c p = (p.0, object_id_complete c p.0 p.1, λ k. refl)
 
+-- ---- an identifier alone
+
+module _ (rows : List TypeRow) (inner : ℕ → Reader) (rel : ℕ → Spelled) (W : ℕ → WrongAs) (each : (n : ℕ) (t : Guise) → TellsAlone (inner n t) (W n t)) where
+  row_alone : (r : TypeRow) (t : Guise) → TellsAlone (read_by (begins rows) (written rows) inner r t) (RowFault (begins rows) (written rows) rel W r t)
+  unfolding sequence_at
+  row_alone row.Boolean t = alone_of _ _ (primitive_tells boolean_rule (boolean_canonical t.default) (BooleanContents t.default) (boolean_right t.default) (boolean_back t.default) (tag_or t.tag Universal 1))
+  row_alone (row.Integer low high) t =
+      alone_of _ _ (primitive_tells (integer_rule low high) (λ c. is_other t.default (integer_rule low high c)) (IntegerContents low high t.default) (integer_right t.default low high) (integer_back t.default low high) (tag_or t.tag Universal 2))
+  row_alone (row.Enumerated items) t =
+      alone_of _ _ (primitive_tells (enumerated_rule items) (λ c. is_other t.default (enumerated_rule items c)) (EnumeratedContents items t.default) (enumerated_right t.default items) (enumerated_back t.default items) (tag_or t.tag Universal 10))
+  row_alone row.Null t = alone_of _ _ (primitive_tells null_rule always NullContents null_right null_back (tag_or t.tag Universal 5))
+  row_alone (row.OctetString most) t = alone_of _ _ (string_tells OfOctets (whole_octets most) always (tag_or t.tag Universal 4))
+  row_alone row.BitString t = alone_of _ _ (string_tells OfBits whole_bits has_zero_bits (tag_or t.tag Universal 3))
+  row_alone row.ObjectId t = alone_of _ _ (primitive_tells object_id_rule always ObjectIdContents object_id_right object_id_back (tag_or t.tag Universal 6))
+  row_alone (row.Text kind) t = alone_of _ _ (string_tells OfOctets (whole_text kind) always (tag_or t.tag Universal (text_number kind)))
+  row_alone (row.Sequence ps) t = constructed_alone (sequence_body (begins rows) inner ps) (tag_or t.tag Universal 16) (λ x b f. PartsFault (begins rows) rel W x ps b f)
+  row_alone (row.Set ps) t = constructed_alone (all_items_at (slot_at (begins rows) inner 0 ps) (set_done ps) (nothing_filled ps)) (tag_or t.tag Universal 17) (SetFault (begins rows) rel W ps)
+  row_alone (row.SequenceOf of) t = constructed_alone (all_items_at (list_item_at (inner of.0)) list_done []) (tag_or t.tag Universal 16) (ListFault (rel of.0) (W of.0))
+  row_alone (row.SetOf of) t = constructed_alone (all_items_at (set_item_at (written rows of.0) (inner of.0)) (set_of_done (written rows of.0)) []) (tag_or t.tag Universal 17) (SetOfFault (written rows of.0) (rel of.0) (W of.0))
+  row_alone (row.Choice ps) t = or_alone (choice_at (begins rows) inner 0 ps) (ChoiceIs rel ps) (ChoiceFault (begins rows) W ps) t.tag (choice_alone (begins rows) inner W (λ n. each n plain) 0 ps)
+  row_alone (row.Tagged class number true of) t = explicit_alone (inner of.0 (bare t.default)) (rel of.0 (bare t.default)) (W of.0 (bare t.default)) (tag_or t.tag class number)
+  row_alone (row.Tagged class number false of) t = each of.0 (under (Some (tag_or t.tag class number)) t.default)
+  row_alone row.Any t = or_alone any_at (λ strict. AnyIs) (WholeFault 32) t.tag (alone_of any_at (WholeFault 32) any_tells)
+
 -- ---- what is read is a fault by the grammar
 
 or_finds : (run : Run) (P : Relation) (W : Wrong) (t : Option tags.Tag) → Found run P → Finds run W → Finds (or_explicit run t) (OrExplicitFault P W t)
@@ -107,32 +132,32 @@ dead_tells : (t : Guise) → Tells (dead t) (NoRowFault t)
 dead_tells t = record { tells = λ scope o s f are here w. refused {A = Value × Spot} o.start.place Tag f w }
 
 module _ (rows : List TypeRow) (inner : ℕ → Reader) (rel : ℕ → Spelled) (W : ℕ → WrongAs) (finds : (n : ℕ) (t : Guise) → Finds (inner n t) (W n t)) (heads : (n : ℕ) → AreHeaded (rel n)) where
-  row_finds : ((n : ℕ) (t : Guise) → Found (inner n t) (rel n t)) → ((n : ℕ) (t : Guise) → Tells (inner n t) (W n t)) → (r : TypeRow) (t : Guise) → Finds (read_by (begins rows) (written rows) inner r t) (RowFault (begins rows) (written rows) rel W r t)
+  row_finds : ((n : ℕ) (t : Guise) → Found (inner n t) (rel n t)) → ((n : ℕ) (t : Guise) → TellsAlone (inner n t) (W n t)) → (r : TypeRow) (t : Guise) → Finds (read_by (begins rows) (written rows) inner r t) (RowFault (begins rows) (written rows) rel W r t)
   unfolding sequence_at
-  row_finds found tells row.Boolean t = primitive_finds boolean_rule (boolean_canonical t.default) (BooleanContents t.default) (boolean_right t.default) (boolean_back t.default) (tag_or t.tag Universal 1)
-  row_finds found tells (row.Integer low high) t = primitive_finds (integer_rule low high) (λ c. is_other t.default (integer_rule low high c)) (IntegerContents low high t.default) (integer_right t.default low high) (integer_back t.default low high) (tag_or t.tag Universal 2)
-  row_finds found tells (row.Enumerated items) t = primitive_finds (enumerated_rule items) (λ c. is_other t.default (enumerated_rule items c)) (EnumeratedContents items t.default) (enumerated_right t.default items) (enumerated_back t.default items) (tag_or t.tag Universal 10)
-  row_finds found tells row.Null t = primitive_finds null_rule always NullContents null_right null_back (tag_or t.tag Universal 5)
-  row_finds found tells (row.OctetString most) t = string_finds OfOctets (whole_octets most) always (tag_or t.tag Universal 4)
-  row_finds found tells row.BitString t = string_finds OfBits whole_bits has_zero_bits (tag_or t.tag Universal 3)
-  row_finds found tells row.ObjectId t = primitive_finds object_id_rule always ObjectIdContents object_id_right object_id_back (tag_or t.tag Universal 6)
-  row_finds found tells (row.Text kind) t = string_finds OfOctets (whole_text kind) always (tag_or t.tag Universal (text_number kind))
-  row_finds found tells (row.Sequence ps) t = constructed_finds (sequence_body (begins rows) inner ps) (tag_or t.tag Universal 16) (λ x b f. PartsFault (begins rows) rel W x ps b f) (sequence_finds (begins rows) inner rel W found finds ps)
-  row_finds found tells (row.Set ps) t =
-      constructed_finds (all_items_at (slot_at (begins rows) inner 0 ps) (set_done ps) (nothing_filled ps)) (tag_or t.tag Universal 17) (SetFault (begins rows) rel W ps) (set_finds (begins rows) inner rel W finds tells found heads ps)
-  row_finds found tells (row.SequenceOf of) t =
+  row_finds found single row.Boolean t = primitive_finds boolean_rule (boolean_canonical t.default) (BooleanContents t.default) (boolean_right t.default) (boolean_back t.default) (tag_or t.tag Universal 1)
+  row_finds found single (row.Integer low high) t = primitive_finds (integer_rule low high) (λ c. is_other t.default (integer_rule low high c)) (IntegerContents low high t.default) (integer_right t.default low high) (integer_back t.default low high) (tag_or t.tag Universal 2)
+  row_finds found single (row.Enumerated items) t = primitive_finds (enumerated_rule items) (λ c. is_other t.default (enumerated_rule items c)) (EnumeratedContents items t.default) (enumerated_right t.default items) (enumerated_back t.default items) (tag_or t.tag Universal 10)
+  row_finds found single row.Null t = primitive_finds null_rule always NullContents null_right null_back (tag_or t.tag Universal 5)
+  row_finds found single (row.OctetString most) t = string_finds OfOctets (whole_octets most) always (tag_or t.tag Universal 4)
+  row_finds found single row.BitString t = string_finds OfBits whole_bits has_zero_bits (tag_or t.tag Universal 3)
+  row_finds found single row.ObjectId t = primitive_finds object_id_rule always ObjectIdContents object_id_right object_id_back (tag_or t.tag Universal 6)
+  row_finds found single (row.Text kind) t = string_finds OfOctets (whole_text kind) always (tag_or t.tag Universal (text_number kind))
+  row_finds found single (row.Sequence ps) t = constructed_finds (sequence_body (begins rows) inner ps) (tag_or t.tag Universal 16) (λ x b f. PartsFault (begins rows) rel W x ps b f) (sequence_finds (begins rows) inner rel W found finds ps)
+  row_finds found single (row.Set ps) t =
+      constructed_finds (all_items_at (slot_at (begins rows) inner 0 ps) (set_done ps) (nothing_filled ps)) (tag_or t.tag Universal 17) (SetFault (begins rows) rel W ps) (set_finds (begins rows) inner rel W finds single found heads ps)
+  row_finds found single (row.SequenceOf of) t =
       constructed_finds (all_items_at (list_item_at (inner of.0)) list_done []) (tag_or t.tag Universal 16) (ListFault (rel of.0) (W of.0)) (list_finds (inner of.0) (rel of.0) (W of.0) (found of.0 plain) (finds of.0 plain))
-  row_finds found tells (row.SetOf of) t =
+  row_finds found single (row.SetOf of) t =
       constructed_finds (all_items_at (set_item_at (written rows of.0) (inner of.0)) (set_of_done (written rows of.0)) []) (tag_or t.tag Universal 17) (SetOfFault (written rows of.0) (rel of.0) (W of.0)) (set_of_finds (written rows of.0) (inner of.0) (rel of.0) (W of.0) (found of.0 plain) (finds of.0 plain))
-  row_finds found tells (row.Choice ps) t =
+  row_finds found single (row.Choice ps) t =
       or_finds (choice_at (begins rows) inner 0 ps) (ChoiceIs rel ps) (ChoiceFault (begins rows) W ps) t.tag
       (choice_at_found (begins rows) inner rel found ps ps 0 (λ i p e. let none : 0 + i ≡ i = omega arith in ap (slice_get ps) none ∙ e)) (choice_finds (begins rows) inner rel W finds 0 ps)
-  row_finds found tells (row.Tagged class number true of) t = explicit_finds (inner of.0 (bare t.default)) (rel of.0 (bare t.default)) (W of.0 (bare t.default)) (tag_or t.tag class number) (found of.0 (bare t.default)) (finds of.0 (bare t.default))
-  row_finds found tells (row.Tagged class number false of) t = finds of.0 (under (Some (tag_or t.tag class number)) t.default)
-  row_finds found tells row.Any t = or_finds any_at (λ strict. AnyIs) (WholeFault 32) t.tag any_found any_finds
+  row_finds found single (row.Tagged class number true of) t = explicit_finds (inner of.0 (bare t.default)) (rel of.0 (bare t.default)) (W of.0 (bare t.default)) (tag_or t.tag class number) (found of.0 (bare t.default)) (finds of.0 (bare t.default))
+  row_finds found single (row.Tagged class number false of) t = finds of.0 (under (Some (tag_or t.tag class number)) t.default)
+  row_finds found single row.Any t = or_finds any_at (λ strict. AnyIs) (WholeFault 32) t.tag any_found any_finds
 
 -- Tags of rows that stand under others are no UNIVERSAL 0 where the table is sound.
-module _ (rows : List TypeRow) (inner : ℕ → Reader) (rel : ℕ → Spelled) (W : ℕ → WrongAs) (finds : (n : ℕ) (t : Guise) → Finds (inner n t) (W n t)) (tells : (n : ℕ) (t : Guise) → Tells (inner n t) (W n t)) (heads : (n : ℕ) → AreHeaded (rel n)) (only : (m : ℕ) (t : Guise) → OkTag t.tag → Only (Allowed rows m t.tag) (inner m t) (rel m t)) where
+module _ (rows : List TypeRow) (inner : ℕ → Reader) (rel : ℕ → Spelled) (W : ℕ → WrongAs) (finds : (n : ℕ) (t : Guise) → Finds (inner n t) (W n t)) (single : (n : ℕ) (t : Guise) → TellsAlone (inner n t) (W n t)) (tells : (n : ℕ) (t : Guise) → Tells (inner n t) (W n t)) (heads : (n : ℕ) → AreHeaded (rel n)) (only : (m : ℕ) (t : Guise) → OkTag t.tag → Only (Allowed rows m t.tag) (inner m t) (rel m t)) where
   row_tells : (n : ℕ) (r : TypeRow) → IsSoundRow rows n r → (t : Guise) → Tells (read_by (begins rows) (written rows) inner r t) (RowFault (begins rows) (written rows) rel W r t)
   unfolding sequence_at
   row_tells n row.Boolean s t = primitive_tells boolean_rule (boolean_canonical t.default) (BooleanContents t.default) (boolean_right t.default) (boolean_back t.default) (tag_or t.tag Universal 1)
@@ -146,7 +171,7 @@ module _ (rows : List TypeRow) (inner : ℕ → Reader) (rel : ℕ → Spelled) 
   row_tells n (row.Sequence ps) s t = constructed_tells (sequence_body (begins rows) inner ps) (tag_or t.tag Universal 16) (λ x b f. PartsFault (begins rows) rel W x ps b f) (sequence_tells (begins rows) inner rel W (λ m d. only m (bare d) tt) tells ps)
   row_tells n (row.Set ps) s t =
       constructed_tells (all_items_at (slot_at (begins rows) inner 0 ps) (set_done ps) (nothing_filled ps)) (tag_or t.tag Universal 17) (SetFault (begins rows) rel W ps)
-      (set_tells (openings rows) inner rel W finds tells (λ m d. only m (bare d) tt) heads ps s.apart)
+      (set_tells (openings rows) inner rel W finds single tells (λ m d. only m (bare d) tt) heads ps s.apart)
   row_tells n (row.SequenceOf of) s t =
       constructed_tells (all_items_at (list_item_at (inner of.0)) list_done []) (tag_or t.tag Universal 16) (ListFault (rel of.0) (W of.0)) (list_tells (Allowed rows of.0 None) (inner of.0) (rel of.0) (W of.0) (only of.0 plain tt) (tells of.0 plain))
   row_tells n (row.SetOf of) s t =
@@ -161,22 +186,39 @@ module _ (rows : List TypeRow) (inner : ℕ → Reader) (rel : ℕ → Spelled) 
 
 -- ---- the table
 
--- A fault of reading is one by the grammar, and one by the grammar is read, row by row down a sound table.
-pub record Agrees (rows : List TypeRow) (turns n : ℕ) (t : Guise) : Type 0 where
-  pub finds : Finds (along dead (read_by (begins rows) (written rows)) rows turns n t) (FaultBy rows turns n t)
-  pub tells : Tells (along dead (read_by (begins rows) (written rows)) rows turns n t) (FaultBy rows turns n t)
+dead_alone : (t : Guise) → TellsAlone (dead t) (NoRowFault t)
+dead_alone t = alone_of (dead t) (NoRowFault t) (dead_tells t)
+
+module _ (rows : List TypeRow) where
+  of_alone : (turns : ℕ) → ((m : ℕ) (u : Guise) → TellsAlone (along dead (read_by (begins rows) (written rows)) rows turns m u) (FaultBy rows turns m u)) → (o : Option TypeRow) (t : Guise)
+      → TellsAlone (of_row dead (read_by (begins rows) (written rows) (along dead (read_by (begins rows) (written rows)) rows turns)) o t) (RowFaultOr (RowFault (begins rows) (written rows) (SpelledBy rows turns) (FaultBy rows turns)) o t)
+  of_alone turns h None t = dead_alone t
+  of_alone turns h (Some r) t = row_alone rows (along dead (read_by (begins rows) (written rows)) rows turns) (SpelledBy rows turns) (FaultBy rows turns) h r t
+
+  all_alone : (turns n : ℕ) (t : Guise) → TellsAlone (along dead (read_by (begins rows) (written rows)) rows turns n t) (FaultBy rows turns n t)
+  all_alone zero n t = dead_alone t
+  all_alone (suc turns) n t = of_alone turns (λ m u. all_alone turns m u) (slice_get rows n) t
+
+  of_finds : (turns : ℕ) → ((m : ℕ) (u : Guise) → Finds (along dead (read_by (begins rows) (written rows)) rows turns m u) (FaultBy rows turns m u)) → (o : Option TypeRow) (t : Guise)
+      → Finds (of_row dead (read_by (begins rows) (written rows) (along dead (read_by (begins rows) (written rows)) rows turns)) o t) (RowFaultOr (RowFault (begins rows) (written rows) (SpelledBy rows turns) (FaultBy rows turns)) o t)
+  of_finds turns h None t = dead_finds t
+  of_finds turns h (Some r) t =
+      row_finds rows (along dead (read_by (begins rows) (written rows)) rows turns) (SpelledBy rows turns) (FaultBy rows turns) h (λ m. along_headed rows turns m) (λ m u. along_found rows turns m u) (λ m u. all_alone turns m u) r t
+
+  -- a fault of reading is one by the grammar, whatever the table
+  pub row_fault_found : (turns n : ℕ) (t : Guise) → Finds (along dead (read_by (begins rows) (written rows)) rows turns n t) (FaultBy rows turns n t)
+  row_fault_found zero n t = dead_finds t
+  row_fault_found (suc turns) n t = of_finds turns (λ m u. row_fault_found turns m u) (slice_get rows n) t
 
 module _ (rows : List TypeRow) (sound : IsSound rows) where
-  of_agrees : (turns : ℕ) → ((m : ℕ) (u : Guise) → Agrees rows turns m u) → (n : ℕ) (o : Option TypeRow) → slice_get rows n ≡ o → (t : Guise)
-      → Finds (of_row dead (read_by (begins rows) (written rows) (along dead (read_by (begins rows) (written rows)) rows turns)) o t) (RowFaultOr (RowFault (begins rows) (written rows) (SpelledBy rows turns) (FaultBy rows turns)) o t)
-      × Tells (of_row dead (read_by (begins rows) (written rows) (along dead (read_by (begins rows) (written rows)) rows turns)) o t) (RowFaultOr (RowFault (begins rows) (written rows) (SpelledBy rows turns) (FaultBy rows turns)) o t)
-  of_agrees turns h n None e t = (dead_finds t, dead_tells t)
-  of_agrees turns h n (Some r) e t =
-      let inner = along dead (read_by (begins rows) (written rows)) rows turns in (
-        row_finds rows inner (SpelledBy rows turns) (FaultBy rows turns) (λ m u. (h m u).finds) (λ m. along_headed rows turns m) (λ m u. along_found rows turns m u) (λ m u. (h m u).tells) r t,
-        row_tells rows inner (SpelledBy rows turns) (FaultBy rows turns) (λ m u. (h m u).finds) (λ m u. (h m u).tells) (λ m. along_headed rows turns m) (λ m u ok. along_only rows sound turns m u ok) n r (sound_row rows sound n r e) t,
-      )
+  of_tells : (turns : ℕ) → ((m : ℕ) (u : Guise) → Tells (along dead (read_by (begins rows) (written rows)) rows turns m u) (FaultBy rows turns m u)) → (n : ℕ) (o : Option TypeRow) → slice_get rows n ≡ o → (t : Guise)
+      → Tells (of_row dead (read_by (begins rows) (written rows) (along dead (read_by (begins rows) (written rows)) rows turns)) o t) (RowFaultOr (RowFault (begins rows) (written rows) (SpelledBy rows turns) (FaultBy rows turns)) o t)
+  of_tells turns h n None e t = dead_tells t
+  of_tells turns h n (Some r) e t =
+      row_tells rows (along dead (read_by (begins rows) (written rows)) rows turns) (SpelledBy rows turns) (FaultBy rows turns) (λ m u. row_fault_found rows turns m u) (λ m u. all_alone rows turns m u) h
+      (λ m. along_headed rows turns m) (λ m u ok. along_only rows sound turns m u ok) n r (sound_row rows sound n r e) t
 
-  pub agrees : (turns n : ℕ) (t : Guise) → Agrees rows turns n t
-  agrees zero n t = record { finds = dead_finds t; tells = dead_tells t }
-  agrees (suc turns) n t = let x = of_agrees turns (λ m u. agrees turns m u) n (slice_get rows n) refl t in record { finds = x.0; tells = x.1 }
+  -- a fault by the grammar is read, row by row down a sound table
+  pub row_fault_told : (turns n : ℕ) (t : Guise) → Tells (along dead (read_by (begins rows) (written rows)) rows turns n t) (FaultBy rows turns n t)
+  row_fault_told zero n t = dead_tells t
+  row_fault_told (suc turns) n t = of_tells turns (λ m u. row_fault_told turns m u) n (slice_get rows n) refl t

@@ -1,17 +1,18 @@
 -- The laws of first faults.
-use Rattle.std.specs.Prelude.{◌≡◌, ◌≢◌, ℕ, ◌⊎◌, Bool, List, Err}
+use Rattle.std.specs.Prelude.{◌≡◌, ◌≢◌, ℕ, ◌⊎◌, ◌↔◌, Bool, List, Err}
 use Rattle.asn1_types.specs.declared.row.TypeRow.{TypeRow}
 use Rattle.asn1_types.specs.Table.{IsSound}
 use Rattle.ber_spelling.specs.declared.fault.ReadFault.{ReadFault}
-use Rattle.ber_spelling.specs.declared.fault.ReadFault.TheVariants.{Short}
+use Rattle.ber_spelling.specs.declared.fault.ReadFault.TheVariants.{Short, TooDeep}
 use Rattle.ber_spelling.specs.Octets.{AreOctets}
 use Rattle.ber_spelling.specs.Rules.{read_at}
 use Rattle.ber_spelling.specs.Laws.{BeginsSpelled}
 use Rattle.ber_faults.specs.FirstFault.{FirstFault}
+use Rattle.ber_faults.specs.Nesting.{IsFull}
 
 -- a fault that reading gives is a first fault, unless it is that the octets are too short
 abbrev pub GivenIsFirst : Type 0
-GivenIsFirst = (rows : List TypeRow) (n : ℕ) (strict : Bool) (limit : ℕ) (bytes : List ℕ) (f : ReadFault) → IsSound rows → AreOctets bytes
+GivenIsFirst = (rows : List TypeRow) (n : ℕ) (strict : Bool) (limit : ℕ) (bytes : List ℕ) (f : ReadFault) → AreOctets bytes
     → f ≢ Short → read_at rows n strict limit bytes ≡ Err f → FirstFault rows n strict limit bytes f
 
 -- a first fault is what reading gives
@@ -37,3 +38,13 @@ ThreeCases = (rows : List TypeRow) (n : ℕ) (strict : Bool) (limit : ℕ) (byte
     → (BeginsSpelled rows n strict limit bytes × (HasFirst rows n strict limit bytes → ⊥))
     ⊎ (((BeginsSpelled rows n strict limit bytes → ⊥) × HasFirst rows n strict limit bytes)
     ⊎ (AreShort rows n strict limit bytes × (read_at rows n strict limit bytes ≡ Err Short)))
+
+-- Octets are too short exactly where no spelling begins them and they have no first fault.
+abbrev pub ShortExactly : Type 0
+ShortExactly = (rows : List TypeRow) (n : ℕ) (strict : Bool) (limit : ℕ) (bytes : List ℕ) → IsSound rows → AreOctets bytes
+    → (read_at rows n strict limit bytes ≡ Err Short) ↔ AreShort rows n strict limit bytes
+
+-- Octets are too deep only at an identifier around which as many values stand open as may be.
+abbrev pub TooDeepIsFull : Type 0
+TooDeepIsFull = (rows : List TypeRow) (n : ℕ) (strict : Bool) (limit : ℕ) (bytes : List ℕ) (place : ℕ) → IsSound rows
+    → FirstFault rows n strict limit bytes (TooDeep place) → IsFull rows bytes place

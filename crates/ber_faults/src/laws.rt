@@ -1,6 +1,6 @@
 //! The laws of first faults, each the contract of a function that does nothing.
 
-ghost use Rattle.ber_faults.specs.Laws.{GivenIsFirst, FirstIsGiven, OneFirst, ThreeCases};
+ghost use Rattle.ber_faults.specs.Laws.{GivenIsFirst, FirstIsGiven, OneFirst, ThreeCases, ShortExactly, TooDeepIsFull};
 
 /// A fault that reading gives is a first fault by the grammar.
 pub fn given_is_first()
@@ -21,4 +21,17 @@ pub fn one_first()
 /// they are too short.
 pub fn three_cases()
     ensures { ThreeCases }
+{}
+
+/// Octets are `Short` exactly where no spelling begins them and they have no first fault.
+pub fn short_exactly()
+    ensures { ShortExactly }
+{}
+
+/// `TooDeep` comes only where 32 values stand open, one inside the other, and one more would begin:
+/// of each of them the identifier and the length stand in front, with whole values behind them, and
+/// its contents go on. More than 32 may be open only in a table with an `Any`, which counts its own
+/// levels. With `given_is_first` this holds of what is read.
+pub fn too_deep_is_full()
+    ensures { TooDeepIsFull }
 {}

@@ -41,6 +41,10 @@ const TAGGED: u32 = 9;
 
 const SWITCHED: u32 = 10;
 
+const BIT_LISTS: u32 = 11;
+
+const FLAGGED: u32 = 12;
+
 /// A part with a default.
 fn with_default(alloc: Global, name: &str, inner: u32, default: i64) -> Result<Part, NoMemory> {
     let mut part = part(alloc, name, inner)?;
@@ -57,8 +61,10 @@ fn part(alloc: Global, name: &str, inner: u32) -> Result<Part, NoMemory> {
     })
 }
 
-/// Octets of a type: what they are read as in BER and in DER, and how their value is written.
-const ROWS: [(u32, &'static [u8], Outcome, Outcome, &'static [u8]); 34] = [
+/// Octets of a type: what they are read as in BER and in DER, and how their value is written. Each
+/// follows from the section of X.690 that is named above it, and its place from counting octets.
+const ROWS: [(u32, &'static [u8], Outcome, Outcome, &'static [u8]); 38] = [
+    // 8.3.2: a number has no more octets than it needs; 8.1.3.5, 10.1: DER's length neither.
     (
         INTEGER,
         &[2, 2, 0, 5],
@@ -81,6 +87,8 @@ const ROWS: [(u32, &'static [u8], Outcome, Outcome, &'static [u8]); 34] = [
         At(1, Kind::Form),
         &[2, 1, 5],
     ),
+    // 8.6.2.3, 11.2.1: unused bits may have any values, in DER they are zeros; so too inside a value
+    // and in segments (8.6.4).
     (
         BITS,
         &[3, 2, 4, 0x5F],
@@ -88,6 +96,28 @@ const ROWS: [(u32, &'static [u8], Outcome, Outcome, &'static [u8]); 34] = [
         At(2, Kind::Form),
         &[3, 2, 4, 0x50],
     ),
+    (
+        BITS,
+        &[0x23, 8, 3, 2, 0, 0xAA, 3, 2, 4, 0x5F],
+        Used(10),
+        At(0, Kind::Form),
+        &[3, 3, 4, 0xAA, 0x50],
+    ),
+    (
+        BIT_LISTS,
+        &[0x30, 4, 3, 2, 4, 0x5F],
+        Used(6),
+        At(4, Kind::Form),
+        &[0x30, 4, 3, 2, 4, 0x50],
+    ),
+    (
+        BIT_LISTS,
+        &[0x30, 8, 3, 2, 1, 0xFF, 3, 2, 7, 0xFF],
+        Used(10),
+        At(4, Kind::Form),
+        &[0x30, 8, 3, 2, 1, 0xFE, 3, 2, 7, 0x80],
+    ),
+    // 8.7.3, 10.2: segments up to end-of-contents (8.1.5), one in DER.
     (
         OCTETS,
         &[0x24, 0x80, 4, 1, 0x0A, 4, 1, 0x0B, 0, 0],
@@ -111,6 +141,7 @@ const ROWS: [(u32, &'static [u8], Outcome, Outcome, &'static [u8]); 34] = [
         At(0, Kind::Form),
         &[0x16, 3, 0x61, 0x62, 0x63],
     ),
+    // 8.11, 10.3: the parts of a SET in any order, in DER by rising tag; 8.2.2, 11.1: TRUE.
     (
         SET,
         &[0x31, 6, 2, 1, 7, 1, 1, 5],
@@ -161,6 +192,13 @@ const ROWS: [(u32, &'static [u8], Outcome, Outcome, &'static [u8]); 34] = [
         &[],
     ),
     (
+        FLAGGED,
+        &[0x31, 6, 2, 1, 7, 0x22, 1, 5],
+        At(5, Kind::Tag),
+        At(5, Kind::Tag),
+        &[],
+    ),
+    (
         SET,
         &[0x31, 3, 2, 1, 7],
         At(5, Kind::Missing),
@@ -168,6 +206,7 @@ const ROWS: [(u32, &'static [u8], Outcome, Outcome, &'static [u8]); 34] = [
         &[],
     ),
     (SET, &[0x31, 6, 2, 1, 7, 1], Short, At(5, Kind::Form), &[]),
+    // 8.1.1 to 8.1.5: any one whole value.
     (
         ANY,
         &[0x30, 0x80, 2, 1, 5, 0, 0],
@@ -197,6 +236,7 @@ const ROWS: [(u32, &'static [u8], Outcome, Outcome, &'static [u8]); 34] = [
         At(1, Kind::Length),
         &[],
     ),
+    // 11.5, and X.680 25.9: a default's value stands for the absent part, in DER it isn't spelled.
     (
         COUNTED,
         &[0x30, 3, 2, 1, 5],
@@ -288,6 +328,7 @@ fn table(alloc: Global) -> Result<TypeTable, RowRefusal> {
     table.add(TypeRow::Set(parts(alloc, "b")?))?;
     add_octets(&mut table)?;
     add_defaults(alloc, &mut table)?;
+    add_nested(alloc, &mut table)?;
     Ok(table)
 }
 
@@ -319,6 +360,18 @@ fn add_defaults(alloc: Global, table: &mut TypeTable) -> Result<(), RowRefusal> 
     let mut switched = Parts::new(alloc);
     switched.push(with_default(alloc, "d", BOOLEAN, 1)?)?;
     table.add(TypeRow::Set(switched))?;
+    Ok(())
+}
+
+/// SEQUENCE OF BIT STRING, and SET {a INTEGER, b BOOLEAN OPTIONAL}.
+fn add_nested(alloc: Global, table: &mut TypeTable) -> Result<(), RowRefusal> {
+    table.add(TypeRow::SequenceOf(TypeId(BITS)))?;
+    let mut flagged = Parts::new(alloc);
+    flagged.push(part(alloc, "a", INTEGER)?)?;
+    let mut flag = part(alloc, "b", BOOLEAN)?;
+    flag.optional = true;
+    flagged.push(flag)?;
+    table.add(TypeRow::Set(flagged))?;
     Ok(())
 }
 

@@ -1,0 +1,2 @@
+pub mod WholeTexts
+pub mod UnusedInside
