@@ -1,9 +1,8 @@
 -- Openings, acceptances, refusals and aborts are read back.
 use Rattle.std.proofs.Common.{◌≡◌, refl, sym, ap, subst, ◌∙◌, ℕ, true, false, List, [], ◌∷◌, map, Option, Some, None, Ok, if◌then◌else◌}
-use Rattle.std.specs.Prelude.{ℤ, pos, Bool, ◌&&◌, option_map, Result}
+use Rattle.std.specs.Prelude.{pos, Bool, option_map, Result}
 use Rattle.osi_base.specs.declared.syntax.Pair.{Pair}
 use Rattle.osi_base.specs.declared.words.SetItem.{SetItem}
-use Rattle.osi_base.specs.declared.acse_word.External.{External}
 use Rattle.osi_base.specs.declared.acse_word.Acse.{Acse}
 use Rattle.osi_base.specs.declared.acse_word.Acse.TheVariants as acse
 use Rattle.osi_base.specs.declared.rtse_word.Rtse.{Rtse}
@@ -20,7 +19,6 @@ use Rattle.acse.proofs.PlainLaws.{written_acse_is_read}
 use Rattle.rtse_apdus.specs.Reading.{rtse_at}
 use Rattle.rtse_apdus.specs.Written.{written_rtse}
 use Rattle.rtse_apdus.proofs.RtseLaws.{written_rtse_is_read}
-use Rattle.presentation_pdus.specs.declared.place.PpduPlace.{PpduPlace}
 use Rattle.presentation_pdus.specs.declared.place.PpduPlace.TheVariants as place
 use Rattle.presentation_pdus.specs.declared.place.PpduFault.{PpduFault}
 use Rattle.presentation_pdus.specs.Words.{written_ppdu}
@@ -32,13 +30,13 @@ use Rattle.end_rules.specs.State.{Body}
 use Rattle.end_rules.specs.Faults.{or_fault}
 use Rattle.end_rules.specs.Messages.{Information, Transferring, Other, Content, Association, Value, Accepting, UserValues, ProviderReason, Word, OfAssociation, Connect, Accept, Refuse, Abort}
 use Rattle.end_rules.specs.Writing.{acse_pair}
-use Rattle.end_rules.specs.Connecting.{is_on_rtse, set_for, set_accepted, has_acse}
+use Rattle.end_rules.specs.Connecting.{set_for, set_accepted, has_acse}
 use Rattle.end_rules.specs.Policy.{is_faulty_proposal}
 use Rattle.association_wire.specs.Values.{with_user as user_put, external_of, pdv_of, pdvs_of}
 use Rattle.association_reading.specs.Places.{PdvPlaces, pdv_places}
 use Rattle.association_reading.specs.Contexts.{pdv_fault, first_place}
-use Rattle.association_reading.specs.Values.{without_user, externals_of, other, associated, acse_content, with_content, value_by, before_values, unless_fault, values_under, informed, first_informed, with_user, informed_value, and_informed}
-use Rattle.association_reading.specs.Association.{is_aarq, is_acceptance, is_response, is_abort, connect_values, accept_values, stands, set_refused, unasked_values, left_values}
+use Rattle.association_reading.specs.Values.{without_user, externals_of, other, acse_content, with_content, value_by, before_values, unless_fault, values_under, informed, first_informed, with_user, informed_value, and_informed}
+use Rattle.association_reading.specs.Association.{is_aarq, is_acceptance, is_response, is_abort, stands, set_refused, unasked_values, left_values}
 use Rattle.association_reading.specs.Meaning.{on_ppdu, with_values, connect_meaning, accept_meaning, refuse_meaning, abort_meaning, natural}
 use Rattle.association_reading.specs.Laws.{IsWrittenIn}
 use Rattle.association_reading.proofs.Meant.{read_in}
