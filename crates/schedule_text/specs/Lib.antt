@@ -1,0 +1,7 @@
+pub mod Meeting
+pub mod Settings
+pub mod Calls
+pub mod Alterations
+pub mod Events
+pub mod SetupLines
+pub mod Schedules

@@ -1,0 +1,5 @@
+pub mod Lines
+pub mod Reading
+pub mod Fields
+pub mod Syntaxes
+pub mod Values
