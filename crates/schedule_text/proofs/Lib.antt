@@ -1,1 +1,4 @@
 pub mod Drafts
+pub mod Turns
+pub mod LineLaws
+pub mod Bare

@@ -1,6 +1,5 @@
 -- Calls as fields.
-use Rattle.std.specs.Prelude.{ℕ, ℤ, zero, suc, pos, negsuc, ◌^◌, Bool, true, false, if◌then◌else◌, List, [], ◌∷◌, Option, None, Some, option_and_then, slice_get, position, Result, Ok, Err, codes, bytes_eq}
-use Rattle.asn1_types.specs.declared.row.TypeId.{TypeId}
+use Rattle.std.specs.Prelude.{ℕ, ℤ, ◌^◌, Bool, true, false, if◌then◌else◌, List, Option, None, Some, option_and_then, position, Result, Ok, Err, codes, bytes_eq}
 use Rattle.stub_tables.specs.declared.operation.ErrorRow.{ErrorRow}
 use Rattle.stub_tables.specs.declared.operation.Operation.{Operation}
 use Rattle.stub_tables.specs.declared.operation.Use.{Use}
@@ -12,6 +11,7 @@ use Rattle.value_text.specs.Numbers.{kept_below}
 use Rattle.script_lines.specs.declared.fault.ScriptKind.TheVariants.{UnknownWord, BadName, BadField}
 use Rattle.script_lines.specs.Reading.{Reading, ◌>>=◌, or_kind}
 use Rattle.script_lines.specs.Fields.{is_over, field_at, number_at, identifier_at, if_over}
+use Rattle.script_lines.specs.Invoked.{result_type}
 use Rattle.script_lines.specs.Values.{used_at, result_at}
 use Rattle.schedule_text.specs.Alterations.{alter_at}
 
@@ -74,23 +74,6 @@ refuse_at tables text = do
   if_over (calls.Refuse id.0 error parameter.0) parameter.1
 
 -- ---- answer ID [VALUE]
-
-abbrev pub less_one : ℕ → Option ℕ
-less_one zero = None
-less_one (suc n) = Some n
-
--- the place of the invocation with this identifier among all of an end, which begin with 1
-abbrev pub place_of_id : ℤ → Option ℕ
-place_of_id (pos n) = less_one n
-place_of_id (negsuc n) = None
-
-abbrev pub result_of : Option Operation → Option TypeId
-result_of None = None
-result_of (Some operation) = operation.result.inner
-
--- the type of the result of the operation that the line with this number invoked
-abbrev pub result_type : Tables → List ℕ → ℤ → Option TypeId
-result_type tables invoked id = result_of (option_and_then (operation_at tables) (option_and_then (slice_get invoked) (place_of_id id)))
 
 unfoldable pub answer_at : Tables → List ℕ → List ℕ → Reading Call
 answer_at tables invoked text = do

@@ -1,18 +1,17 @@
 -- Events as fields, and what the lines of a schedule say so far.
 use Rattle.std.specs.Prelude.{ℕ, nat_le, Bool, true, false, ◌||◌, if◌then◌else◌, List, [], ◌∷◌, ◌++◌, length, Option, None, Some, option_map, Result, Ok, Err, codes, bytes_eq}
-use Rattle.std.specs.Option.{option_to_list}
 use Rattle.osi_base.specs.declared.words.Side.{Side}
 use Rattle.osi_base.specs.declared.words.Side.TheVariants.{A, B}
 use Rattle.osi_base.specs.Limits.{event_most}
 use Rattle.stub_tables.specs.declared.tables.Tables.{Tables}
-use Rattle.dialogue.specs.declared.call.Call.{Call}
-use Rattle.dialogue.specs.declared.call.Call.TheVariants.{Invoke}
 use Rattle.dialogue.specs.declared.event.Event.{Event}
 use Rattle.dialogue.specs.declared.event.Event.TheVariants as events
 use Rattle.value_text.specs.Numbers.{number_of}
 use Rattle.script_lines.specs.declared.fault.ScriptKind.TheVariants.{UnknownWord, BadNumber, TooMany}
 use Rattle.script_lines.specs.Reading.{Reading, ◌>>=◌, or_kind}
 use Rattle.script_lines.specs.Fields.{field_at, if_over}
+use Rattle.script_lines.specs.Operations.{Operations}
+use Rattle.script_lines.specs.Invoked.{no_operations, operations_of, named_in}
 use Rattle.schedule_text.specs.declared.draft.Draft.{Draft}
 use Rattle.schedule_text.specs.Settings.{start}
 use Rattle.schedule_text.specs.Calls.{call_of}
@@ -21,33 +20,23 @@ use Rattle.schedule_text.specs.Calls.{call_of}
 
 -- before any line
 abbrev pub no_draft : Draft
-no_draft = record { setting = start; events = []; invoked_by_a = []; invoked_by_b = [] }
+no_draft = record { setting = start; events = []; invoked = no_operations }
 
-abbrev pub operation_of : Call → Option ℕ
-operation_of (Invoke context operation argument linked) = Some operation
-operation_of call = None
-
--- the operation that an event at this side invokes
-abbrev pub operation_in : Side → Event → Option ℕ
-operation_in A (events.Call A call) = operation_of call
-operation_in B (events.Call B call) = operation_of call
-operation_in by event = None
-
-abbrev pub invoked_by : Side → Event → List ℕ
-invoked_by by event = option_to_list (operation_in by event)
+abbrev pub named_by : Operations → Event → Operations
+named_by o (events.Call side call) = named_in o side call
+named_by o event = o
 
 -- one event more
 abbrev pub with_event : Draft → Event → Draft
-with_event draft event = record draft {
-  events = draft.events ++ event ∷ [];
-  invoked_by_a = draft.invoked_by_a ++ invoked_by A event;
-  invoked_by_b = draft.invoked_by_b ++ invoked_by B event;
-}
+with_event draft event = record draft { events = draft.events ++ event ∷ []; invoked = named_by draft.invoked event }
+
+abbrev pub peer_of : Side → Side
+peer_of A = B
+peer_of B = A
 
 -- what lines of the other end invoked so far
 abbrev pub peer_invoked : Draft → Side → List ℕ
-peer_invoked draft A = draft.invoked_by_b
-peer_invoked draft B = draft.invoked_by_a
+peer_invoked draft side = operations_of draft.invoked (peer_of side)
 
 -- ---- fields
 

@@ -5,3 +5,4 @@ pub mod Alterations
 pub mod Events
 pub mod SetupLines
 pub mod Schedules
+pub mod Laws

@@ -51,6 +51,7 @@ fn addition<'a>(
 }
 
 /// The additions, each behind the word `add`.
+#[tactic(auto, using(crate::proofs::Turns::additions_end, crate::proofs::Turns::additions_more, crate::proofs::Turns::additions_bad, crate::proofs::Turns::additions_over))]
 fn additions<'a>(
     alloc: Global,
     tables: &Tables,
@@ -72,6 +73,7 @@ fn additions<'a>(
 }
 
 /// The numbers up to the end of the line.
+#[tactic(auto, using(crate::proofs::Turns::numbers_end, crate::proofs::Turns::numbers_more, crate::proofs::Turns::numbers_bad, crate::proofs::Turns::numbers_over))]
 fn more_numbers(alloc: Global, text: &[u8]) -> Result<(Ids, &[u8]), LineFault>
     ensures { Gives (λ x. (x.0, x.1.now)) result (more_numbers (length text.now) [] text.now) }
 {

@@ -3,15 +3,16 @@
 ghost use Rattle.std.specs.Prelude.{◌≡◌, ◌<◌, ◌^◌, ◌-◌, IfOk, IfSome, bytes_eq, position, length, codes, Some, None};
 ghost use Rattle.std.specs.Option.{option_copied};
 ghost use Rattle.stub_tables.specs.Lookup.{operation_at, error_at};
+ghost use Rattle.script_lines.specs.Invoked.{result_type};
 ghost use Rattle.script_lines.specs.Reading.{Gives, or_kind};
-ghost use Rattle.schedule_text.specs.Calls.{operation_named, error_named, argument_of, parameter_of, linked_here, linked_at, invoke_at, refuse_at, result_type, answer_at, please_at, resync_at, plain_call, long_call, call_of, no_use, linked_word};
+ghost use Rattle.schedule_text.specs.Calls.{operation_named, error_named, argument_of, parameter_of, linked_here, linked_at, invoke_at, refuse_at, answer_at, please_at, resync_at, plain_call, long_call, call_of, no_use, linked_word};
 ghost use Rattle.schedule_text.specs.Calls.{narrowed};
 
 use crate::alter::alter;
-use asn1_types::TypeId;
 use dialogue::Call;
 use script_lines::{
-    LineFault, ScriptKind, field, identifier, is_over, number, over, used_value, value_of_result,
+    LineFault, ScriptKind, field, identifier, is_over, number, over, result_type, used_value,
+    value_of_result,
 };
 use std::alloc::Global;
 use stub_tables::{ErrorRow, Operation, Tables, Use};
@@ -155,17 +156,6 @@ fn refuse(alloc: Global, tables: &Tables, text: &[u8]) -> Result<Call, LineFault
         },
         rest,
     )
-}
-
-/// The type of the result of the invocation with this identifier, where the line of such a number
-/// names an operation that has one.
-fn result_type(tables: &Tables, invoked: &[u32], id: i64) -> Option<TypeId>
-    ensures { result ≡ result_type tables.now invoked.now id }
-{
-    let number = u64::try_from(id).ok()?;
-    let place = number.checked_sub(1)?;
-    let operation = invoked.get(place as usize)?;
-    tables.operation(*operation)?.result.inner
 }
 
 /// What follows the word `answer`.

@@ -1,13 +1,13 @@
 //! What the lines of a schedule say so far.
 
 ghost use Rattle.std.specs.Prelude.{◌≡◌, ◌++◌, ◌∷◌, OnOk, IfOk, [], List};
-ghost use Rattle.osi_base.specs.declared.words.Side.TheVariants.{A, B};
 ghost use Rattle.script_lines.specs.Reading.{Gives};
-ghost use Rattle.schedule_text.specs.Events.{no_draft, operation_in, invoked_by, with_event};
+ghost use Rattle.schedule_text.specs.Events.{no_draft, named_by, with_event};
 
 use crate::setting::Setting;
-use dialogue::{Call, Event, Events};
-use osi_base::{Ids, ListOf, NoMemory, Side};
+use dialogue::{Event, Events};
+use osi_base::{ListOf, NoMemory};
+use script_lines::InvokedOperations;
 use std::alloc::Global;
 
 /// What the lines of a schedule say so far.
@@ -15,10 +15,8 @@ use std::alloc::Global;
 pub struct Draft {
     pub setting: Setting,
     pub events: Events,
-    /// The operations that lines of A invoked, in their order.
-    pub invoked_by_a: Ids,
-    /// The operations that lines of B invoked, in their order.
-    pub invoked_by_b: Ids,
+    /// The operations that the lines invoked.
+    pub invoked: InvokedOperations,
 }
 
 /// Before any line.
@@ -35,31 +33,17 @@ pub(crate) fn no_draft(alloc: Global) -> Draft
             accepted_by_b: None,
         },
         events: ListOf::new(alloc),
-        invoked_by_a: ListOf::new(alloc),
-        invoked_by_b: ListOf::new(alloc),
-    }
-}
-
-/// The operation that an event at this side invokes.
-fn operation_in(event: &Event, by: Side) -> Option<u32>
-    ensures { result ≡ operation_in by event.now }
-{
-    match event {
-        Event::Call {
-            side,
-            call: Call::Invoke { operation, .. },
-        } if *side == by => Some(*operation),
-        _ => None,
+        invoked: InvokedOperations::new(alloc),
     }
 }
 
 /// Puts what an event invokes behind what was invoked before.
-fn push_invoked(invoked: &mut Ids, event: &Event, by: Side) -> Result<(), NoMemory>
-    ensures { OnOk result (invoked.new ≡ invoked.old ++ invoked_by by event.now) }
+fn name(invoked: &mut InvokedOperations, event: &Event) -> Result<(), NoMemory>
+    ensures { OnOk result (invoked.new ≡ named_by invoked.old event.now) }
 {
-    match operation_in(event, by) {
-        Some(operation) => invoked.push(operation),
-        None => Ok(()),
+    match event {
+        Event::Call { side, call } => invoked.name(*side, call),
+        _ => Ok(()),
     }
 }
 
@@ -68,8 +52,7 @@ pub(crate) fn with_event(draft: Draft, event: Event) -> Result<Draft, NoMemory>
     ensures { IfOk result (λ after. after ≡ with_event draft event) }
 {
     let mut draft = draft;
-    push_invoked(&mut draft.invoked_by_a, &event, Side::A)?;
-    push_invoked(&mut draft.invoked_by_b, &event, Side::B)?;
+    name(&mut draft.invoked, &event)?;
     draft.events.push(event)?;
     Ok(draft)
 }

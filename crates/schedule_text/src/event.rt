@@ -77,8 +77,8 @@ fn peer_invoked(draft: &Draft, side: Side) -> &[u32]
     ensures { result.now ≡ peer_invoked draft.now side }
 {
     match side {
-        Side::A => draft.invoked_by_b.as_slice(),
-        Side::B => draft.invoked_by_a.as_slice(),
+        Side::A => draft.invoked.of(Side::B),
+        Side::B => draft.invoked.of(Side::A),
     }
 }
 

@@ -5,12 +5,14 @@ mod alter;
 mod call;
 mod draft;
 mod event;
+mod laws;
 mod schedule;
 mod setting;
 mod setup;
 mod setup_line;
 
 pub use draft::Draft;
+pub use laws::{every_text_has_one_reading, setups_of_bare_mode};
 pub use schedule::{Schedule, read_schedule};
 pub use setting::{Modes, Setting};
 pub use setup::Setup;

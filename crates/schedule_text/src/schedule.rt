@@ -51,15 +51,13 @@ fn setup_in_draft(
     let Draft {
         setting,
         events,
-        invoked_by_a,
-        invoked_by_b,
+        invoked,
     } = draft;
     let setting = setup_line(alloc, modes, tables, setting, word, rest)?;
     Ok(Draft {
         setting,
         events,
-        invoked_by_a,
-        invoked_by_b,
+        invoked,
     })
 }
 

@@ -3,3 +3,5 @@ pub mod Reading
 pub mod Fields
 pub mod Syntaxes
 pub mod Values
+pub mod Operations
+pub mod Invoked

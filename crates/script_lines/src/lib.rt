@@ -3,15 +3,17 @@
 #![tactic(auto)]
 
 mod fault;
-mod field;
+mod fields;
+mod invoked;
 mod line_fault;
-mod lines;
+mod splitting;
 mod syntax;
 mod value;
 
 pub use fault::{ScriptFault, ScriptKind};
-pub use field::{field, identifier, is_next, is_over, number, over, skip};
+pub use fields::{field, identifier, is_next, is_over, number, over, skip};
+pub use invoked::{InvokedOperations, result_type};
 pub use line_fault::LineFault;
-pub use lines::Lines;
+pub use splitting::Lines;
 pub use syntax::{EndsBefore, object_identifier, syntaxes};
 pub use value::{used_value, value_of_result};

@@ -8,7 +8,7 @@ ghost use Rattle.script_lines.specs.Reading.{Gives, or_kind};
 ghost use Rattle.script_lines.specs.Syntaxes.{identifier_found, found_or, identifier_here, object_identifier_at, syntax_named, begins_braced, word_syntax, syntax_at, are_over, more_syntaxes, syntaxes_at};
 
 use crate::fault::ScriptKind;
-use crate::field::{field, is_next, is_over, is_parted};
+use crate::fields::{field, is_next, is_over, is_parted};
 use crate::line_fault::LineFault;
 use asn1_types::{Node, TextKind, Val, is_text};
 use osi_base::{ListOf, Oid, Oids, Syntax};
@@ -25,11 +25,7 @@ pub enum EndsBefore {
 }
 
 /// The object identifier that a value is, where it is parted from what follows it.
-fn identifier_found(
-    value: Val,
-    rest: &[u8],
-    kind: ScriptKind,
-) -> Result<(Oid, &[u8]), LineFault>
+fn identifier_found(value: Val, rest: &[u8], kind: ScriptKind) -> Result<(Oid, &[u8]), LineFault>
     ensures { Gives (λ x. (x.0, x.1.now)) result (identifier_found kind value rest.now) }
 {
     match value.node {
@@ -40,7 +36,7 @@ fn identifier_found(
 
 /// The object identifier that a value found is.
 fn found_or(front: Option<Front<'_>>, kind: ScriptKind) -> Result<(Oid, &[u8]), LineFault>
-    ensures { Gives (λ x. (x.0, x.1.now)) result (found_or kind (found front)) }
+    ensures { Gives (λ x. (x.0, x.1.now)) result (found_or kind (found front.entry)) }
 {
     match front {
         Some(Front { value, rest }) => identifier_found(value, rest, kind),
@@ -131,11 +127,8 @@ fn are_over(before: EndsBefore, text: &[u8]) -> bool
 }
 
 /// The syntaxes up to the end of their list.
-fn more_syntaxes(
-    alloc: Global,
-    before: EndsBefore,
-    text: &[u8],
-) -> Result<(Oids, &[u8]), LineFault>
+#[tactic(auto, using(crate::proofs::Turns::syntaxes_end, crate::proofs::Turns::syntaxes_more, crate::proofs::Turns::syntaxes_bad, crate::proofs::Turns::syntaxes_over))]
+fn more_syntaxes(alloc: Global, before: EndsBefore, text: &[u8]) -> Result<(Oids, &[u8]), LineFault>
     ensures { Gives (λ x. (x.0, x.1.now)) result (more_syntaxes before (length text.now) [] text.now) }
 {
     let mut names = ListOf::new(alloc);
@@ -155,11 +148,7 @@ fn more_syntaxes(
 /// `packed` or an object identifier. An unknown word or a malformed object identifier is a
 /// `BadName`; none at all is a `BadField`, and so is what isn't UTF-8.
 #[tactic(auto, unfolding(crate::specs::Syntaxes::syntaxes_at))]
-pub fn syntaxes(
-    alloc: Global,
-    before: EndsBefore,
-    text: &[u8],
-) -> Result<(Oids, &[u8]), LineFault>
+pub fn syntaxes(alloc: Global, before: EndsBefore, text: &[u8]) -> Result<(Oids, &[u8]), LineFault>
     ensures { Gives (λ x. (x.0, x.1.now)) result (syntaxes_at before text.now) }
 {
     if are_over(before, text) {

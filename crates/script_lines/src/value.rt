@@ -6,7 +6,7 @@ ghost use Rattle.script_lines.specs.Reading.{Gives};
 ghost use Rattle.script_lines.specs.Values.{typed_at, bad_value, if_parted, may_lack, no_value, value_is_over, used_found, used_at, form_found, by_form, result_found, result_at};
 
 use crate::fault::ScriptKind;
-use crate::field::{is_next, is_parted};
+use crate::fields::{is_next, is_parted};
 use crate::line_fault::LineFault;
 use asn1_types::{TextKind, TypeId, TypeTable, Val, is_text};
 use osi_base::NoMemory;
@@ -146,8 +146,14 @@ fn result_found<'a>(
     ensures { Gives (λ x. (x.0, x.1.now)) result (result_found here.now (found front.entry)) }
 {
     match front {
-        Some(Front { value, rest }) if is_parted(rest) => Ok((Some(value), rest)),
-        _ => by_form(alloc, here),
+        Some(Front { value, rest }) => {
+            if is_parted(rest) {
+                Ok((Some(value), rest))
+            } else {
+                by_form(alloc, here)
+            }
+        }
+        None => by_form(alloc, here),
     }
 }
 
