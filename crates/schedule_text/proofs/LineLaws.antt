@@ -147,6 +147,6 @@ first_fault modes tables text direct short =
       broken = λ number kind e. broken_so modes tables lines number kind r tells (sym whole ∙ e);
       all_said = λ read a. whole ∙ ap (then_finished modes tables) (all_read modes tables no_draft a.draft 1 lines a.fine) ∙ ap (at_line 1) a.said ∙ told_is read;
       breaks = λ before kind b. let place : 1 + before ≡ suc before = omega arith in
-      whole ∙ ap (then_finished modes tables) (first_read modes tables no_draft 1 lines before kind (record { draft = b.draft; line = b.line; fine = b.fine; stands = b.stands; breaks = b.breaks }))
-      ∙ ap (λ n. Err (At n kind)) place;
+          whole ∙ ap (then_finished modes tables) (first_read modes tables no_draft 1 lines before kind (record { draft = b.draft; line = b.line; fine = b.fine; stands = b.stands; breaks = b.breaks }))
+          ∙ ap (λ n. Err (At n kind)) place;
     }

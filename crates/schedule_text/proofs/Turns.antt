@@ -1,24 +1,11 @@
 -- Turns of the loops over an alteration that are left.
-use Rattle.std.proofs.Common.{◌≡◌, ℕ, zero, suc, ◌+◌, ◌-◌, ◌<◌, ◌≤◌, true, false, List, [], ◌∷◌, ◌++◌, refl, arith, Result, Ok, Err, if◌then◌else◌, codes}
+use Rattle.std.proofs.Common.{◌≡◌, ℕ, ◌+◌, ◌-◌, ◌<◌, ◌≤◌, true, false, List, [], ◌∷◌, ◌++◌, refl, Result, Ok, Err, if◌then◌else◌, codes}
 use Rattle.osi_base.specs.declared.words.Proposal.{Proposal}
 use Rattle.stub_tables.specs.declared.tables.Tables.{Tables}
 use Rattle.script_lines.specs.declared.fault.ScriptKind.{ScriptKind}
-use Rattle.script_lines.specs.declared.line_fault.LineFault.{LineFault}
-use Rattle.script_lines.specs.declared.line_fault.LineFault.TheVariants as faults
-use Rattle.script_lines.specs.Reading.{Reading, Fails}
+use Rattle.script_lines.proofs.Turns.{one_more, none_left}
 use Rattle.script_lines.specs.Fields.{is_over, is_next, skip, number_at}
 use Rattle.schedule_text.specs.Alterations.{addition_at, then_addition, more_additions, then_number, more_numbers}
-
--- a fault of one reading is one of another that fails as it does
-pub fails_so : {X Y : Type 0} (fault : LineFault) (r : Reading X) (s : Reading Y) → ((kind : ScriptKind) → r ≡ Err kind → s ≡ Err kind) → Fails fault r → Fails fault s
-fails_so (faults.Kind kind) r s h e = h kind e
-fails_so faults.NoMemory r s h e = tt
-
-one_more : (n turn : ℕ) → turn < n → n - turn ≡ suc (n - (turn + 1))
-one_more n turn h = omega arith
-
-none_left : (n turn : ℕ) → n ≤ turn → n - turn ≡ zero
-none_left n turn h = omega arith
 
 -- ---- additions
 

@@ -45,8 +45,8 @@ told (Err kind) = Err (At 1 kind)
 pub record FirstFault (modes : Modes) (tables : Tables) (text : List ℕ) : Type 0 where
   pub said : (s : Said) → schedule_of modes tables text ≡ Ok s → SaysAll modes tables (lines_of text) (Ok s)
   pub broken : (number : ℕ) (kind : ScriptKind) → schedule_of modes tables text ≡ Err (At number kind)
-    → ((before : ℕ) × (number ≡ suc before) × BreaksFirst modes tables (lines_of text) before kind)
-    ⊎ ((number ≡ 1) × SaysAll modes tables (lines_of text) (Err kind))
+      → ((before : ℕ) × (number ≡ suc before) × BreaksFirst modes tables (lines_of text) before kind)
+      ⊎ ((number ≡ 1) × SaysAll modes tables (lines_of text) (Err kind))
   pub all_said : (read : Reading Said) → SaysAll modes tables (lines_of text) read → schedule_of modes tables text ≡ told read
   pub breaks : (before : ℕ) (kind : ScriptKind) → BreaksFirst modes tables (lines_of text) before kind → schedule_of modes tables text ≡ Err (At (suc before) kind)
 

@@ -160,12 +160,7 @@ fn refuse(alloc: Global, tables: &Tables, text: &[u8]) -> Result<Call, LineFault
 
 /// What follows the word `answer`.
 #[tactic(auto, unfolding(crate::specs::Calls::answer_at))]
-fn answer(
-    alloc: Global,
-    tables: &Tables,
-    invoked: &[u32],
-    text: &[u8],
-) -> Result<Call, LineFault>
+fn answer(alloc: Global, tables: &Tables, invoked: &[u32], text: &[u8]) -> Result<Call, LineFault>
     ensures { Gives (λ x. x) result (answer_at tables.now invoked.now text.now) }
 {
     let (id, rest) = identifier(text)?;

@@ -75,9 +75,7 @@ fn mode_fields(text: &[u8]) -> Result<ModeLine, LineFault>
 fn has_lines(setting: &Setting) -> bool
     ensures { result ≡ has_lines setting.now }
 {
-    setting.contexts.len() > 0
-        || setting.accepted_by_a.is_some()
-        || setting.accepted_by_b.is_some()
+    setting.contexts.len() > 0 || setting.accepted_by_a.is_some() || setting.accepted_by_b.is_some()
 }
 
 /// The setting, where the ends run it and don't refuse it.

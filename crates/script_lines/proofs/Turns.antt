@@ -12,10 +12,10 @@ pub fails_so : {X Y : Type 0} (fault : LineFault) (r : Reading X) (s : Reading Y
 fails_so (faults.Kind kind) r s h e = h kind e
 fails_so faults.NoMemory r s h e = tt
 
-one_more : (n turn : ℕ) → turn < n → n - turn ≡ suc (n - (turn + 1))
+pub one_more : (n turn : ℕ) → turn < n → n - turn ≡ suc (n - (turn + 1))
 one_more n turn h = omega arith
 
-none_left : (n turn : ℕ) → n ≤ turn → n - turn ≡ zero
+pub none_left : (n turn : ℕ) → n ≤ turn → n - turn ≡ zero
 none_left n turn h = omega arith
 
 syntaxes_turn : (before : EndsBefore) (n turn : ℕ) (names : List (List ℕ)) (text : List ℕ) → turn < n

@@ -1,5 +1,5 @@
 -- Summaries of transcripts.
-use Rattle.std.specs.Prelude.{ℕ, ℤ, ◌+◌, ◌-◌, ◌^◌, min, List, [], ◌∷◌, ◌++◌, length, Bool, true, false, Result, Ok, Err, Option, count_by, codes, decimal}
+use Rattle.std.specs.Prelude.{ℕ, ℤ, ◌+◌, ◌-◌, ◌^◌, min, List, [], ◌∷◌, ◌++◌, length, Bool, true, false, Result, Ok, Err, Option, codes, decimal}
 use Rattle.osi_base.specs.declared.words.Side.{Side}
 use Rattle.osi_base.specs.declared.words.Side.TheVariants.{A, B}
 use Rattle.dialogue.specs.declared.call.CallRefusal.{CallRefusal}
@@ -78,18 +78,34 @@ plus a b = min (a + b) (2 ^ 64 - 1)
 abbrev pub none_counted : Counts
 none_counted = record { events = 0; from_a = 0; from_b = 0; values = 0; outcomes = 0; rejects = 0; cut = 0; refused = 0 }
 
--- the counts with one entry more
-abbrev pub counted : Counts → Entry → Counts
-counted c entry = record {
+abbrev pub one_if : ℕ → Bool → ℕ
+one_if n true = plus n 1
+one_if n false = n
+
+-- the counts with one indication more
+abbrev pub with_one : Counts → Indication → Counts
+with_one c i = record c {
+  values = one_if c.values (is_value i);
+  outcomes = one_if c.outcomes (is_outcome i);
+  rejects = one_if c.rejects (is_reject_sent i);
+  cut = one_if c.cut (is_cut i);
+}
+
+abbrev pub with_shown : Counts → List Indication → Counts
+with_shown c [] = c
+with_shown c (i ∷ is) = with_shown (with_one c i) is
+
+-- the counts with one entry more, but for its indications
+abbrev pub with_entry : Counts → Entry → Counts
+with_entry c entry = record c {
   events = plus c.events 1;
   from_a = plus c.from_a (octets_from A entry);
   from_b = plus c.from_b (octets_from B entry);
-  values = plus c.values (count_by is_value (shown_by entry));
-  outcomes = plus c.outcomes (count_by is_outcome (shown_by entry));
-  rejects = plus c.rejects (count_by is_reject_sent (shown_by entry));
-  cut = plus c.cut (count_by is_cut (shown_by entry));
   refused = plus c.refused (refused_in entry);
 }
+
+abbrev pub counted : Counts → Entry → Counts
+counted c entry = with_shown (with_entry c entry) (shown_by entry)
 
 abbrev pub counted_all : Counts → List Entry → Counts
 counted_all c [] = c

@@ -1,7 +1,7 @@
 //! Summaries of transcripts.
 
-ghost use Rattle.std.specs.Prelude.{◌≡◌, ◌++◌, ◌+◌, ◌-◌, ◌^◌, min, ◌∷◌, OnOk, IfOk, [], List, length, count_by, codes, decimal};
-ghost use Rattle.transcript_text.specs.Counts.{is_outcome, is_reject_sent, is_value, is_cut, shown_by, from_side, octets_from, is_refused, refused_in, if_reliable, plus, none_counted, counted, counted_all, number_line, counts_text, summary_of};
+ghost use Rattle.std.specs.Prelude.{◌≡◌, ◌++◌, ◌+◌, ◌-◌, ◌^◌, min, ◌∷◌, OnOk, IfOk, [], List, length, codes, decimal};
+ghost use Rattle.transcript_text.specs.Counts.{is_outcome, is_reject_sent, is_value, is_cut, shown_by, from_side, octets_from, is_refused, refused_in, if_reliable, plus, one_if, with_one, with_shown, with_entry, none_counted, counted, counted_all, number_line, counts_text, summary_of};
 
 use crate::transcript::put_end;
 use dialogue::{Entry, Indication, Mode, Transcript};
@@ -83,31 +83,6 @@ fn is_cut(indication: &Indication) -> bool
     }
 }
 
-/// How many indications are values, outcomes, rejects sent and cuts.
-fn values(shown: &[Indication]) -> usize
-    ensures { result ≡ count_by is_value shown.now }
-{
-    shown.iter().filter(|i| is_value(i)).count()
-}
-
-fn outcomes(shown: &[Indication]) -> usize
-    ensures { result ≡ count_by is_outcome shown.now }
-{
-    shown.iter().filter(|i| is_outcome(i)).count()
-}
-
-fn rejects(shown: &[Indication]) -> usize
-    ensures { result ≡ count_by is_reject_sent shown.now }
-{
-    shown.iter().filter(|i| is_reject_sent(i)).count()
-}
-
-fn cuts(shown: &[Indication]) -> usize
-    ensures { result ≡ count_by is_cut shown.now }
-{
-    shown.iter().filter(|i| is_cut(i)).count()
-}
-
 /// The indications of a carry.
 fn shown_in(entry: &Entry) -> &[Indication]
     ensures { result.now ≡ shown_by entry.now }
@@ -123,13 +98,7 @@ fn octets_from(by: Side, entry: &Entry) -> usize
     ensures { result ≡ octets_from by entry.now }
 {
     match entry {
-        Entry::Carry { side, carried, .. } => {
-            if by == *side {
-                carried.octets.len()
-            } else {
-                0
-            }
-        }
+        Entry::Carry { side, carried, .. } => { if by == *side { carried.octets.len() } else { 0 } }
         _ => 0,
     }
 }
@@ -138,13 +107,7 @@ fn refused_in(entry: &Entry) -> usize
     ensures { result ≡ refused_in entry.now }
 {
     match entry {
-        Entry::Call { answer, .. } => {
-            if answer.is_err() {
-                1
-            } else {
-                0
-            }
-        }
+        Entry::Call { answer, .. } => { if answer.is_err() { 1 } else { 0 } }
         _ => 0,
     }
 }
@@ -156,21 +119,62 @@ fn plus(count: u64, more: usize) -> u64
     count.saturating_add(more as u64)
 }
 
-/// The counts with one entry more.
-fn counted(counts: Counts, entry: &Entry) -> Counts
-    ensures { result ≡ counted counts entry.now }
+/// One more, where this holds.
+fn one_if(count: u64, holds: bool) -> u64
+    ensures { result ≡ one_if count holds }
 {
-    let shown = shown_in(entry);
+    if holds { plus(count, 1) } else { count }
+}
+
+/// The counts with one indication more.
+fn with_one(counts: Counts, indication: &Indication) -> Counts
+    ensures { result ≡ with_one counts indication.now }
+{
+    Counts {
+        events: counts.events,
+        from_a: counts.from_a,
+        from_b: counts.from_b,
+        values: one_if(counts.values, is_value(indication)),
+        outcomes: one_if(counts.outcomes, is_outcome(indication)),
+        rejects: one_if(counts.rejects, is_reject_sent(indication)),
+        cut: one_if(counts.cut, is_cut(indication)),
+        refused: counts.refused,
+    }
+}
+
+/// The counts with all these indications.
+#[tactic(auto, using(crate::proofs::Counting::one_shown, crate::proofs::Counting::all_shown))]
+fn with_shown(counts: Counts, shown: &[Indication]) -> Counts
+    ensures { result ≡ with_shown counts shown.now }
+{
+    let mut counts = counts;
+    for indication in shown {
+        counts = with_one(counts, indication);
+    }
+    counts
+}
+
+/// The counts with one entry more, but for its indications.
+fn with_entry(counts: Counts, entry: &Entry) -> Counts
+    ensures { result ≡ with_entry counts entry.now }
+{
     Counts {
         events: plus(counts.events, 1),
         from_a: plus(counts.from_a, octets_from(Side::A, entry)),
         from_b: plus(counts.from_b, octets_from(Side::B, entry)),
-        values: plus(counts.values, values(shown)),
-        outcomes: plus(counts.outcomes, outcomes(shown)),
-        rejects: plus(counts.rejects, rejects(shown)),
-        cut: plus(counts.cut, cuts(shown)),
+        values: counts.values,
+        outcomes: counts.outcomes,
+        rejects: counts.rejects,
+        cut: counts.cut,
         refused: plus(counts.refused, refused_in(entry)),
     }
+}
+
+/// The counts with one entry more.
+fn counted(counts: Counts, entry: &Entry) -> Counts
+    ensures { result ≡ counted counts entry.now }
+{
+    with_shown(with_entry(counts, entry), shown_in(entry))
 }
 
 #[tactic(auto, using(crate::proofs::Counting::one_more, crate::proofs::Counting::all_counted))]

@@ -9,6 +9,6 @@ mod typed;
 mod words;
 
 pub use call::{put_answer, put_call, put_event};
+pub use counts::summary_text;
 pub use indication::put_indication;
 pub use transcript::transcript_text;
-pub use counts::summary_text;

@@ -9,8 +9,8 @@ use crate::indication::put_indication;
 use crate::words::{mode_word, peer_of, phase_word, side_word};
 use dialogue::{Call, CallRefusal, Entry, Indication, Mode, Phase, Transcript};
 use osi_base::{NoMemory, Octets, Side};
-use std::alloc::Global;
 use script_lines::InvokedOperations;
+use std::alloc::Global;
 use stub_tables::Tables;
 use value_text::Text;
 

@@ -15,12 +15,7 @@ use stub_tables::Tables;
 use value_text::{Text, put_typed, put_value};
 
 /// A value by a type where it fits it, else by its form.
-fn put_by_type(
-    text: &mut Text,
-    types: &TypeTable,
-    of: TypeId,
-    value: &Val,
-) -> Result<(), NoMemory>
+fn put_by_type(text: &mut Text, types: &TypeTable, of: TypeId, value: &Val) -> Result<(), NoMemory>
     ensures { OnOk result (text.new ≡ text.old ++ by_type types.now of.0 value.now) }
 {
     if fits(types, of, value) {
@@ -115,5 +110,10 @@ pub(crate) fn put_result(
     ensures { OnOk result (text.new ≡ text.old
         ++ field_by tables.now.types (result_type tables.now operations.now id) value.now) }
 {
-    put_field_by(text, &tables.types, result_type(tables, operations, id), value)
+    put_field_by(
+        text,
+        &tables.types,
+        result_type(tables, operations, id),
+        value,
+    )
 }
