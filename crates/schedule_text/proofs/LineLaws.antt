@@ -82,7 +82,7 @@ first_read modes tables start number (line ∷ lines) zero kind b =
     let d : start ≡ b.draft = ap (ok_or start) b.fine in
     let l : line ≡ b.line = ap (some_or line) b.stands in
     let place : number ≡ number + 0 = omega arith in
-    let e : after_line modes tables start line ≡ Err kind = rw (d, l) b.breaks in
+    let e : after_line modes tables start line ≡ Err kind = ap (λ x. after_line modes tables x line) d ∙ ap (after_line modes tables b.draft) l ∙ b.breaks in
     rw e (ap (λ n. Err (At n kind)) place)
 first_read modes tables start number (line ∷ lines) (suc before) kind b =
     let f = bind_ok (after_line modes tables start line) (λ after. said_by modes tables after (take before lines)) b.draft b.fine in

@@ -8,10 +8,13 @@ use Rattle.osi_base.specs.Syntax.{name_of}
 use Rattle.stub_tables.specs.declared.tables.Tables.{Tables}
 use Rattle.dialogue.specs.declared.config.Config.{Config}
 use Rattle.dialogue.specs.declared.config.ConfigRefusal.{ConfigRefusal}
+use Rattle.dialogue.specs.declared.config.ConfigRefusal.TheVariants as refusals
 use Rattle.dialogue.specs.declared.config.Mode.{Mode}
 use Rattle.dialogue.specs.declared.config.Mode.TheVariants.{Bare, Direct, Reliable}
 use Rattle.end_config.specs.Refusing.{config_refusal}
 use Rattle.script_lines.specs.declared.fault.ScriptKind.TheVariants.{BadSetup}
+use Rattle.script_lines.specs.declared.line_fault.LineFault.{LineFault}
+use Rattle.script_lines.specs.declared.line_fault.LineFault.TheVariants as faults
 use Rattle.script_lines.specs.Reading.{Reading, ◌>>=◌}
 use Rattle.schedule_text.specs.declared.setting.Modes.{Modes}
 use Rattle.schedule_text.specs.declared.setting.Setting.{Setting}
@@ -65,7 +68,7 @@ abbrev pub names_for : Setting → Side → Option (List (List ℕ))
 names_for s A = s.accepted_by_a
 names_for s B = s.accepted_by_b
 
-abbrev pub config_of : Tables → Bool → Setting → Config
+unfoldable pub config_of : Tables → Bool → Setting → Config
 config_of tables initiator s = record {
   initiator = initiator;
   mode = mode_of s;
@@ -79,17 +82,26 @@ config_of tables initiator s = record {
   window = s.window;
 }
 
+-- want of memory is no refusal
+abbrev pub fault_of : ConfigRefusal → LineFault
+fault_of refusals.NoMemory = faults.NoMemory
+fault_of refusal = faults.Kind BadSetup
+
 abbrev pub unless_refused : Option ConfigRefusal → Reading (Unit {0})
 unless_refused None = Ok tt
 unless_refused (Some refusal) = Err BadSetup
 
 -- no end refuses the configuration
-abbrev pub accepted : Config → Reading (Unit {0})
+unfoldable pub accepted : Config → Reading (Unit {0})
 accepted config = unless_refused (config_refusal config)
 
+-- the configuration of an end, where none refuses it
+abbrev pub accepted_config : Tables → Bool → Setting → Reading Config
+accepted_config tables initiator s = accepted (config_of tables initiator s) >>= λ _. Ok (config_of tables initiator s)
+
 -- both configurations, where the ends run the mode and refuse neither
-abbrev pub settled : Modes → Tables → Setting → Reading (Config × Config)
+unfoldable pub settled : Modes → Tables → Setting → Reading (Config × Config)
 settled modes tables s =
     if runs modes (mode_of s)
-    then (accepted (config_of tables true s) >>= λ _. accepted (config_of tables false s) >>= λ _. Ok (config_of tables true s, config_of tables false s))
+    then (accepted_config tables true s >>= λ a. accepted_config tables false s >>= λ b. Ok (a, b))
     else Err BadSetup

@@ -4,6 +4,7 @@ ghost use Rattle.std.specs.Prelude.{◌≡◌, ◌≢◌, ◌∷◌, ◌+◌, �
 ghost use Rattle.script_lines.specs.Lines.{lines_of};
 ghost use Rattle.script_lines.specs.Reading.{Gives};
 ghost use Rattle.script_lines.specs.declared.fault.ScriptFault.TheVariants.{NoMemory as no_room, At};
+ghost use Rattle.schedule_text.specs.Events.{no_draft};
 ghost use Rattle.schedule_text.specs.SetupLines.{is_setup_word};
 ghost use Rattle.schedule_text.specs.Schedules.{Said, said, setup_in_draft, line_of_word, after_line, at_line, lines_read, finished, names_a_mode, lacks_mode, first_or_lack, schedule_of, TellsOf, is_blank};
 

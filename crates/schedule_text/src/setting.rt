@@ -3,7 +3,7 @@
 ghost use Rattle.std.specs.Prelude.{◌≡◌, ◌∷◌, [], IfOk, ◌≢◌, OnOk, None};
 ghost use Rattle.script_lines.specs.Reading.{Gives};
 ghost use Rattle.end_config.specs.Refusing.{config_refusal};
-ghost use Rattle.schedule_text.specs.Settings.{runs, mode_of, is_bare_mode, default_context, contexts_of, all_syntaxes, accepted_of, accepts_of, config_of, accepted, settled, names_for};
+ghost use Rattle.schedule_text.specs.Settings.{runs, mode_of, is_bare_mode, default_context, contexts_of, all_syntaxes, accepted_of, accepts_of, config_of, fault_of, accepted, accepted_config, settled, names_for};
 
 use dialogue::{Config, ConfigRefusal, Mode};
 use end_config::check_config;
@@ -134,7 +134,8 @@ fn accepts_of(alloc: Global, initiator: bool, setting: &Setting) -> Result<Oids,
 }
 
 /// The configuration of an end.
-pub(crate) fn config_of(
+#[tactic(auto, unfolding(crate::specs::Settings::config_of))]
+fn config_of(
     alloc: Global,
     tables: &Tables,
     initiator: bool,
@@ -156,19 +157,43 @@ pub(crate) fn config_of(
     })
 }
 
+/// The fault of a configuration that an end refuses. Want of memory is no refusal.
+fn fault_of(refusal: ConfigRefusal) -> LineFault
+    ensures { result ≡ fault_of refusal }
+{
+    match refusal {
+        ConfigRefusal::NoMemory => LineFault::NoMemory,
+        _ => LineFault::Kind(ScriptKind::BadSetup),
+    }
+}
+
 /// Whether no end refuses a configuration; else a `BadSetup`.
 fn accepted(alloc: Global, config: &Config) -> Result<(), LineFault>
     ensures { Gives (λ x. x) result (accepted config.now) }
 {
     match check_config(alloc, config) {
         Ok(()) => Ok(()),
-        Err(ConfigRefusal::NoMemory) => Err(LineFault::NoMemory),
-        Err(_) => Err(LineFault::Kind(ScriptKind::BadSetup)),
+        Err(refusal) => Err(fault_of(refusal)),
     }
+}
+
+/// The configuration of an end, where none refuses it; else a `BadSetup`.
+fn accepted_config(
+    alloc: Global,
+    tables: &Tables,
+    initiator: bool,
+    setting: &Setting,
+) -> Result<Config, LineFault>
+    ensures { Gives (λ x. x) result (accepted_config tables.now initiator setting.now) }
+{
+    let config = config_of(alloc, tables, initiator, setting)?;
+    accepted(alloc, &config)?;
+    Ok(config)
 }
 
 /// The two configurations of a setting, where the ends run its mode and don't refuse them; else a
 /// `BadSetup`.
+#[tactic(auto, unfolding(crate::specs::Settings::settled))]
 pub(crate) fn settled(
     alloc: Global,
     modes: Modes,
@@ -180,10 +205,8 @@ pub(crate) fn settled(
     if !runs(modes, mode_of(setting)) {
         return Err(LineFault::Kind(ScriptKind::BadSetup));
     }
-    let a = config_of(alloc, tables, true, setting)?;
-    accepted(alloc, &a)?;
-    let b = config_of(alloc, tables, false, setting)?;
-    accepted(alloc, &b)?;
+    let a = accepted_config(alloc, tables, true, setting)?;
+    let b = accepted_config(alloc, tables, false, setting)?;
     Ok((a, b))
 }
 

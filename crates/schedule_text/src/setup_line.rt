@@ -3,7 +3,7 @@
 ghost use Rattle.std.specs.Prelude.{◌≡◌, IfOk, bytes_eq, Some, None, is_some, ◌++◌, ◌∷◌, [], length, OnOk};
 ghost use Rattle.std.specs.List.{list_any};
 ghost use Rattle.script_lines.specs.Reading.{Gives, or_kind};
-ghost use Rattle.schedule_text.specs.SetupLines.{reliable_at, mode_named, mode_at, has_lines, with_mode, mode_line, is_named, with_context, context_line, with_accepted, accepts_line, kept_settled, setup_line};
+ghost use Rattle.schedule_text.specs.SetupLines.{reliable_at, mode_named, mode_at, has_lines, with_mode, mode_line, is_named, with_context, new_context, context_line, with_accepted, new_accepted, accepts_fields, accepts_line, kept_settled, setup_line};
 
 use crate::event::side_or_unknown;
 use crate::setting::{Modes, Setting, is_bare_mode, mode_of, names_for, settled};
@@ -141,6 +141,25 @@ fn with_context(
     Ok(setting)
 }
 
+/// A context with its transfer syntaxes, unless a line named it.
+fn new_context(
+    alloc: Global,
+    modes: Modes,
+    tables: &Tables,
+    setting: Setting,
+    id: u32,
+    rest: &[u8],
+) -> Result<Setting, LineFault>
+    ensures { Gives (λ x. x) result (new_context modes tables.now setting id rest.now) }
+{
+    if is_named(id, setting.contexts.as_slice()) {
+        return Err(LineFault::Kind(ScriptKind::BadSetup));
+    }
+    let (transfers, _over) = syntaxes(alloc, EndsBefore::Nothing, rest)?;
+    let setting = with_context(alloc, tables, setting, id, transfers)?;
+    kept_settled(alloc, modes, tables, setting)
+}
+
 /// A line that begins with `context`.
 fn context_line(
     alloc: Global,
@@ -155,12 +174,7 @@ fn context_line(
         return Err(LineFault::Kind(ScriptKind::BadSetup));
     }
     let (id, rest) = number(text)?;
-    if is_named(id, setting.contexts.as_slice()) {
-        return Err(LineFault::Kind(ScriptKind::BadSetup));
-    }
-    let (transfers, _over) = syntaxes(alloc, EndsBefore::Nothing, rest)?;
-    let setting = with_context(alloc, tables, setting, id, transfers)?;
-    kept_settled(alloc, modes, tables, setting)
+    new_context(alloc, modes, tables, setting, id, rest)
 }
 
 /// The syntaxes that an end accepts.
@@ -173,6 +187,39 @@ fn with_accepted(setting: Setting, side: Side, names: Oids) -> Setting
         Side::B => setting.accepted_by_b = Some(names),
     }
     setting
+}
+
+/// What an end accepts, unless a line named it.
+fn new_accepted(
+    alloc: Global,
+    modes: Modes,
+    tables: &Tables,
+    setting: Setting,
+    side: Side,
+    rest: &[u8],
+) -> Result<Setting, LineFault>
+    ensures { Gives (λ x. x) result (new_accepted modes tables.now setting side rest.now) }
+{
+    if names_for(&setting, side).is_some() {
+        return Err(LineFault::Kind(ScriptKind::BadSetup));
+    }
+    let (names, _over) = syntaxes(alloc, EndsBefore::Nothing, rest)?;
+    kept_settled(alloc, modes, tables, with_accepted(setting, side, names))
+}
+
+/// The fields of a line that begins with `accepts`.
+fn accepts_fields(
+    alloc: Global,
+    modes: Modes,
+    tables: &Tables,
+    setting: Setting,
+    text: &[u8],
+) -> Result<Setting, LineFault>
+    ensures { Gives (λ x. x) result (accepts_fields modes tables.now setting text.now) }
+{
+    let (letter, rest) = field(text)?;
+    let side = side_or_unknown(letter)?;
+    new_accepted(alloc, modes, tables, setting, side, rest)
 }
 
 /// A line that begins with `accepts`.
@@ -188,13 +235,7 @@ fn accepts_line(
     if is_bare_mode(mode_of(&setting)) {
         return Err(LineFault::Kind(ScriptKind::BadSetup));
     }
-    let (letter, rest) = field(text)?;
-    let side = side_or_unknown(letter)?;
-    if names_for(&setting, side).is_some() {
-        return Err(LineFault::Kind(ScriptKind::BadSetup));
-    }
-    let (names, _over) = syntaxes(alloc, EndsBefore::Nothing, rest)?;
-    kept_settled(alloc, modes, tables, with_accepted(setting, side, names))
+    accepts_fields(alloc, modes, tables, setting, text)
 }
 
 /// A line of the setup, of which the first word and what follows it are given.

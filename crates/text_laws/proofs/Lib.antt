@@ -6,3 +6,9 @@ pub mod Bits
 pub mod Characters
 pub mod Arcs
 pub mod Forms
+pub mod Starts
+pub mod Items
+pub mod Lists
+pub mod Parts
+pub mod Choices
+pub mod Typed

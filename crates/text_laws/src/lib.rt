@@ -3,4 +3,4 @@
 
 mod laws;
 
-pub use laws::printed_forms_are_read_back;
+pub use laws::{printed_forms_are_read_back, printed_values_are_read_back};
