@@ -52,7 +52,7 @@ pub record Inner (fit : Value → Bool) (text : Value → List ℕ) (read : Read
 -- ---- names that differ
 
 by_bytes : (a b : List ℕ) (t : Bool) → Decides t (a ≡ b) → same_name a b ≡ false → t ≡ false
-by_bytes a b true d h = absurd (let same : true ≡ same_name a b = same_name_is a b true ((λ _. d.0 refl), (λ _. tt)) in let no : ⊥ = cc in no)
+by_bytes a b true d h = absurd (let same : true ≡ same_name a b = same_name_is a b true ((λ _. d.0 refl), (λ _. refl)) in let no : ⊥ = cc in no)
 by_bytes a b false d h = refl
 
 pub other_bytes : (a b : List ℕ) → same_name a b ≡ false → bytes_eq a b ≡ false

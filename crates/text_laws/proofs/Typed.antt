@@ -217,7 +217,7 @@ module _ (rows : List TypeRow) (sound : IsSound rows) (noted : list_all has_nota
       let re = read_at rows sound n r e in
       record {
         back = λ v rest f m. ap (λ (g : Value → List ℕ). read_as rows n (g v ++ rest)) pe ∙ ap (λ (g : Reader). g (text_by (printed rows) r v ++ rest)) re
-        ∙ row.back v rest (ap (λ (g : Value → Bool). g v) (sym fe) ∙ f) m;
+            ∙ row.back v rest (ap (λ (g : Value → Bool). g v) (sym fe) ∙ f) m;
         start = λ v f. ap (λ (g : Value → List ℕ). starts (g v)) pe ∙ row.start v (ap (λ (g : Value → Bool). g v) (sym fe) ∙ f);
       }
 
