@@ -1,0 +1,142 @@
+//! The contexts of an opening: what an initiator proposes, and which stand as one is answered.
+
+ghost use Rattle.std.specs.Prelude.{◌≡◌, ◌++◌, ◌∷◌, [], true, IfOk};
+ghost use Rattle.end_rules.specs.Base.{Spellings, base_of};
+ghost use Rattle.end_rules.specs.Sets.{is_among, proposed_ids, accepted_set};
+ghost use Rattle.end_rules.specs.Altering.{has_double};
+ghost use Rattle.end_rules.specs.Policy.{opening_policy, is_faulty_proposal};
+ghost use Rattle.end_rules.specs.Writing.{own_proposals, proposals};
+ghost use Rattle.end_rules.specs.Connecting.{set_for, set_accepted};
+ghost use Rattle.set_rules.specs.Plain.{plain_base};
+
+use crate::answering::plain_answers;
+use crate::names::{acse_name, is_reliable, rtse_name};
+use crate::sets::{accepted_set, pair_of};
+use dialogue::Config;
+use osi_base::{
+    AddAnswer, AddAnswers, Copied, ListOf, NoMemory, Oid, Oids, PresentationAccept,
+    PresentationConnect, Proposal, Proposals, SetItem, SetList,
+};
+use std::alloc::Global;
+use stub_tables::Tables;
+
+/// The answers to the list of an opening.
+pub fn opening_policy(
+    alloc: Global,
+    tables: &Tables,
+    config: &Config,
+    proposals: &[Proposal],
+) -> Result<AddAnswers, NoMemory>
+    ensures { (spellings : Spellings) → IfOk result (λ answers. answers ≡ opening_policy (base_of tables.now config.now spellings) proposals.now) }
+{
+    plain_answers(alloc, tables, config, true, 0, proposals)
+}
+
+/// The contexts that stand as a CN is answered.
+pub fn set_for(
+    alloc: Global,
+    tables: &Tables,
+    config: &Config,
+    presentation: &PresentationConnect,
+) -> Result<SetList, NoMemory>
+    ensures { (spellings : Spellings) → IfOk result (λ set. set ≡ set_for (base_of tables.now config.now spellings) presentation.now) }
+{
+    let proposals = presentation.definitions.as_slice();
+    let answers = plain_answers(alloc, tables, config, true, 0, proposals)?;
+    accepted_set(alloc, proposals, answers.as_slice())
+}
+
+/// A proposed context in BER.
+fn proposal_in_ber(alloc: Global, id: u32, name: &[u32]) -> Result<Proposal, NoMemory> {
+    let mut transfers: Oids = ListOf::new(alloc);
+    transfers.push(Oid::from_slice(alloc, &[2, 1, 1])?)?;
+    Ok(Proposal {
+        id,
+        abstract_name: Oid::from_slice(alloc, name)?,
+        transfers,
+    })
+}
+
+/// The contexts that an initiator proposes for the association itself.
+fn own_proposals(alloc: Global, config: &Config) -> Result<Proposals, NoMemory>
+    ensures { IfOk result (λ own. own ≡ own_proposals config.now.mode) }
+{
+    let mut own: Proposals = ListOf::new(alloc);
+    own.push(proposal_in_ber(alloc, 1, acse_name())?)?;
+    if is_reliable(config.mode) {
+        own.push(proposal_in_ber(alloc, 3, rtse_name())?)?;
+    }
+    Ok(own)
+}
+
+/// The contexts that an initiator proposes: those of the association, then those of its
+/// configuration.
+pub fn proposals(alloc: Global, config: &Config) -> Result<Proposals, NoMemory>
+    ensures { IfOk result (λ all. all ≡ own_proposals config.now.mode ++ config.now.contexts) }
+{
+    let mut all = own_proposals(alloc, config)?;
+    for proposal in config.contexts.as_slice() {
+        all.push(proposal.copy(alloc)?)?;
+    }
+    Ok(all)
+}
+
+/// The contexts of which these results accept the own proposals.
+pub fn accepted_for(
+    alloc: Global,
+    config: &Config,
+    results: &[AddAnswer],
+) -> Result<SetList, NoMemory>
+    ensures { IfOk result (λ set. set ≡ accepted_set (own_proposals config.now.mode ++ config.now.contexts) results.now) }
+{
+    let proposals = proposals(alloc, config)?;
+    accepted_set(alloc, proposals.as_slice(), results)
+}
+
+/// The contexts that an AC accepts.
+pub fn set_accepted(
+    alloc: Global,
+    tables: &Tables,
+    config: &Config,
+    presentation: &PresentationAccept,
+) -> Result<SetList, NoMemory>
+    ensures { (spellings : Spellings) → IfOk result (λ set. set ≡ set_accepted (base_of tables.now config.now spellings) presentation.now) }
+{
+    let _tables = tables;
+    accepted_for(alloc, config, presentation.results.as_slice())
+}
+
+/// Whether an identifier is of the parity of this proposer.
+fn has_parity(initiator: bool, id: u32) -> bool {
+    id % 2 == if initiator { 1 } else { 0 }
+}
+
+/// Whether what is proposed may not be: an identifier comes twice, is in the set, or is one of the
+/// other end (X.226 8.4.2).
+pub fn is_faulty_proposal(initiates: bool, held: &[SetItem], add: &[Proposal]) -> bool
+    ensures { result ≡ is_faulty_proposal initiates held.now add.now }
+{
+    for (place, proposal) in add.iter().enumerate() {
+        if is_proposed(proposal.id, &add[place + 1..]) {
+            return true;
+        }
+    }
+    for proposal in add {
+        if pair_of(held, proposal.id).is_some() || !has_parity(initiates, proposal.id) {
+            return true;
+        }
+    }
+    false
+}
+
+/// Whether one of these proposals has the identifier.
+fn is_proposed(id: u32, add: &[Proposal]) -> bool
+    ensures { result ≡ is_among id (proposed_ids add.now) }
+{
+    for proposal in add {
+        if proposal.id == id {
+            return true;
+        }
+    }
+    false
+}
