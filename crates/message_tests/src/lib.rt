@@ -4,6 +4,8 @@
 #[cfg(test)]
 mod intake;
 #[cfg(test)]
+mod meant;
+#[cfg(test)]
 mod sample;
 #[cfg(test)]
 mod sets;
