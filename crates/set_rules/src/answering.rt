@@ -3,7 +3,7 @@
 ghost use Rattle.std.specs.Prelude.{◌≡◌, ◌≤◌, ◌+◌, find, IfOk, ◌<◌, ◌^◌};
 ghost use Rattle.std.specs.Option.{option_copied, option_map};
 ghost use Rattle.end_rules.specs.Base.{Spellings, base_of};
-ghost use Rattle.end_rules.specs.Policy.{is_association, is_taken, takes_syntax, answer_within, answer_to_addition, counted_with, answers_to_additions};
+ghost use Rattle.end_rules.specs.Policy.{is_association, is_taken, takes_syntax, rejection, answer_within, answer_to_addition, counted_with, answers_to_additions};
 ghost use Rattle.set_rules.specs.Plain.{plain_base};
 
 use crate::names::{acse_name, is_named, is_reliable, rtse_name, same_name, syntax_named};
@@ -61,7 +61,9 @@ fn first_taken<'a>(
 }
 
 /// Rejected by the provider, for this reason.
-fn rejection(reason: u8) -> AddAnswer {
+fn rejection(reason: u8) -> AddAnswer
+    ensures { result ≡ rejection reason }
+{
     AddAnswer {
         result: 2,
         transfer: None,

@@ -2,12 +2,14 @@
 
 ghost use Rattle.std.specs.Prelude.{◌≡◌, ◌++◌, ◌∷◌, [], true, IfOk};
 ghost use Rattle.end_rules.specs.Base.{Spellings, base_of};
-ghost use Rattle.end_rules.specs.Sets.{is_among, proposed_ids, accepted_set};
+ghost use Rattle.std.specs.List.{list_any};
+ghost use Rattle.osi_base.specs.Oid.{IsOid};
+ghost use Rattle.end_rules.specs.Sets.{is_among, proposed_ids, accepted_set, has_parity};
 ghost use Rattle.end_rules.specs.Altering.{has_double};
 ghost use Rattle.end_rules.specs.Policy.{opening_policy, is_faulty_proposal};
-ghost use Rattle.end_rules.specs.Writing.{own_proposals, proposals};
+ghost use Rattle.end_rules.specs.Writing.{proposal_in_ber, own_proposals, proposals};
 ghost use Rattle.end_rules.specs.Connecting.{set_for, set_accepted};
-ghost use Rattle.set_rules.specs.Plain.{plain_base};
+ghost use Rattle.set_rules.specs.Plain.{plain_base, is_taken_id};
 
 use crate::answering::plain_answers;
 use crate::names::{acse_name, is_reliable, rtse_name};
@@ -47,7 +49,10 @@ pub fn set_for(
 }
 
 /// A proposed context in BER.
-fn proposal_in_ber(alloc: Global, id: u32, name: &[u32]) -> Result<Proposal, NoMemory> {
+fn proposal_in_ber(alloc: Global, id: u32, name: &[u32]) -> Result<Proposal, NoMemory>
+    requires { IsOid name.now }
+    ensures { IfOk result (λ p. p ≡ proposal_in_ber id name.now) }
+{
     let mut transfers: Oids = ListOf::new(alloc);
     transfers.push(Oid::from_slice(alloc, &[2, 1, 1])?)?;
     Ok(Proposal {
@@ -107,26 +112,10 @@ pub fn set_accepted(
 }
 
 /// Whether an identifier is of the parity of this proposer.
-fn has_parity(initiator: bool, id: u32) -> bool {
-    id % 2 == if initiator { 1 } else { 0 }
-}
-
-/// Whether what is proposed may not be: an identifier comes twice, is in the set, or is one of the
-/// other end (X.226 8.4.2).
-pub fn is_faulty_proposal(initiates: bool, held: &[SetItem], add: &[Proposal]) -> bool
-    ensures { result ≡ is_faulty_proposal initiates held.now add.now }
+fn has_parity(initiator: bool, id: u32) -> bool
+    ensures { result ≡ has_parity initiator id }
 {
-    for (place, proposal) in add.iter().enumerate() {
-        if is_proposed(proposal.id, &add[place + 1..]) {
-            return true;
-        }
-    }
-    for proposal in add {
-        if pair_of(held, proposal.id).is_some() || !has_parity(initiates, proposal.id) {
-            return true;
-        }
-    }
-    false
+    if initiator { id % 2 == 1 } else { id % 2 == 0 }
 }
 
 /// Whether one of these proposals has the identifier.
@@ -134,9 +123,48 @@ fn is_proposed(id: u32, add: &[Proposal]) -> bool
     ensures { result ≡ is_among id (proposed_ids add.now) }
 {
     for proposal in add {
-        if proposal.id == id {
+        if id == proposal.id {
             return true;
         }
     }
     false
+}
+
+/// Whether some identifier comes twice.
+fn has_double(add: &[Proposal]) -> bool
+    ensures { result ≡ has_double (proposed_ids add.now) }
+{
+    for (place, proposal) in add.iter().enumerate() {
+        if is_proposed(proposal.id, &add[place + 1..]) {
+            return true;
+        }
+    }
+    false
+}
+
+/// Whether the identifier is in the set, or of the other end.
+fn is_taken(initiates: bool, held: &[SetItem], id: u32) -> bool
+    ensures { result ≡ is_taken_id initiates held.now id }
+{
+    pair_of(held, id).is_some() || !has_parity(initiates, id)
+}
+
+/// Whether one of these identifiers is in the set, or of the other end.
+fn is_any_taken(initiates: bool, held: &[SetItem], add: &[Proposal]) -> bool
+    ensures { result ≡ list_any (is_taken_id initiates held.now) (proposed_ids add.now) }
+{
+    for proposal in add {
+        if is_taken(initiates, held, proposal.id) {
+            return true;
+        }
+    }
+    false
+}
+
+/// Whether what is proposed may not be: an identifier comes twice, is in the set, or is one of the
+/// other end (X.226 8.4.2).
+pub fn is_faulty_proposal(initiates: bool, held: &[SetItem], add: &[Proposal]) -> bool
+    ensures { result ≡ is_faulty_proposal initiates held.now add.now }
+{
+    has_double(add) || is_any_taken(initiates, held, add)
 }
