@@ -4,16 +4,18 @@ use crate::contexts::{Carrier, Wrong, check, form_wrong, pdv_wrong};
 use crate::ground::{Ground, Halt};
 use crate::informed::{AcseKind, and_informed};
 use crate::layers::{acse_content, associated};
+use crate::names::{acse_name, rtse_name};
 use crate::values::{value_in, values_under};
 use acse::AcseFault;
+use association_ground::{is_reliable, same_name};
+use association_sets::{fit_proposals, pair_of};
 use association_words::{Content, Value, Values};
 use osi_base::{
     Acse, ListOf, NoMemory, Octets, Oid, Pair, Pdv, PresentationAccept, PresentationConnect,
     PresentationReject, Proposal, SetItem, SetList, Syntax,
 };
 use set_rules::{
-    accepted_for, acse_name, fit_proposals, has_context_of, is_faulty_proposal, is_reliable,
-    pair_of, proposals, rtse_name, same_name, set_accepted, set_for,
+    accepted_for, has_context_of, is_faulty_proposal, proposals, set_accepted, set_for,
 };
 
 /// Whether the value stands on a proposed context of association control.

@@ -1,10 +1,12 @@
 //! Whether presentation data values may stand where they came (X.226 8.4.2).
 
 use crate::ground::{Ground, Halt, fault_at};
+use crate::names::acse_name;
+use association_ground::same_name;
+use association_sets::pair_of;
 use osi_base::{Layer, Oid, Pair, Pdv, PdvContent, SetItem, Syntax};
 use pdv_places::{PdvField, field_place};
 use presentation_pdus::PpduPlace;
-use set_rules::{acse_name, pair_of, same_name};
 
 /// Where values stand: in what kind of unit of the session, where its user data begin in the TSDU,
 /// and the octets of the user data.

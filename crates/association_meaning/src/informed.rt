@@ -3,9 +3,11 @@
 
 use crate::ground::{Ground, Halt};
 use crate::layers::rtse_at;
+use crate::names::rtse_name;
+use association_ground::is_reliable;
+use association_sets::{has_abstract, pair_of};
 use association_words::{Content, Information, UserInformation, Value, Values};
 use osi_base::{Acse, ListOf, SetItem};
-use set_rules::{has_abstract, is_reliable, pair_of, rtse_name};
 
 /// The APDU of association control that a message carries.
 #[derive(Clone, Copy, Debug, PartialEq, Eq)]
@@ -29,7 +31,7 @@ fn is_of(kind: AcseKind, apdu: &Acse) -> bool {
 
 /// Whether the context is an accepted one of reliable transfer.
 fn is_on_rtse(accepted: &[SetItem], id: u32) -> bool {
-    has_abstract(rtse_name(), pair_of(accepted, id))
+    has_abstract(pair_of(accepted, id), rtse_name())
 }
 
 /// An item that is read where its context is an accepted one of reliable transfer.

@@ -2,11 +2,12 @@
 
 use crate::contents::content_at;
 use crate::ground::{Ground, Halt, fault_at};
+use crate::names::{acse_name, rtse_name};
 use acse::AcseFault;
+use association_ground::same_name;
 use association_words::{Content, Information, UserInformation};
 use fixed_tables::PduFault;
 use osi_base::{Acse, Copied, External, Layer, ListOf, NoMemory, Octets, Pair, Rtse};
-use set_rules::{acse_name, rtse_name, same_name};
 use std::alloc::Global;
 
 /// User information whose values aren't read.

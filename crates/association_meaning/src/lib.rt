@@ -10,6 +10,7 @@ mod informed;
 mod layers;
 mod meaning;
 mod module_values;
+mod names;
 mod transfers;
 mod values;
 

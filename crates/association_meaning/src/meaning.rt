@@ -3,7 +3,9 @@
 use crate::association::{abort_values, accept_values, connect_values, refuse_values};
 use crate::contexts::Carrier;
 use crate::ground::{Ground, Halt, fault_at, invalid_ppdu};
+use crate::names::{acse_name, rtse_name};
 use crate::values::values_under;
+use association_ground::is_reliable;
 use association_words::{
     AbortData, Accepting, ActivityWord, AssociationWord, DataWord, MarkWord, Values, Word,
 };
@@ -11,7 +13,6 @@ use osi_base::{
     Copied, Layer, ListOf, NoMemory, Octets, PresentationWord, SessionConnect, SessionWord, SetItem,
 };
 use presentation_pdus::{PpduFault, PpduPlace};
-use set_rules::{acse_name, is_reliable, rtse_name};
 use std::alloc::Global;
 
 /// The unit of the presentation that user data are. The place of a fault counts from the TSDU.

@@ -3,11 +3,11 @@
 use crate::contexts::pdv_wrong;
 use crate::ground::{Ground, Halt, fault_at};
 use crate::layers::content_under;
+use association_sets::pair_of;
 use association_words::{Arrived, Content, Item};
 use fixed_tables::PduFault;
 use osi_base::{Copied, Layer, Pair, Pdv, SetItem};
 use pdv_places::{PdvField, transfer_place};
-use set_rules::pair_of;
 
 /// An invalid unit (6) at the place of a field of the value, counted in the octets of the transfer.
 fn invalid_at<T>(ground: &Ground<'_>, octets: &[u8], field: PdvField) -> Result<T, Halt> {

@@ -3,9 +3,9 @@
 use crate::contexts::{Carrier, check, first_wrong};
 use crate::ground::{Ground, Halt};
 use crate::layers::content_by;
+use association_sets::pair_of;
 use association_words::{Value, Values};
 use osi_base::{Copied, ListOf, Pair, Pdv, SetItem};
-use set_rules::pair_of;
 
 /// A value under the pair of its context, where there is one.
 fn value_by(ground: &Ground<'_>, pair: Option<&Pair>, pdv: &Pdv) -> Result<Value, Halt> {

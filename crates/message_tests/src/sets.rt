@@ -1,7 +1,7 @@
 //! Sets and the policy.
 
-use osi_base::{Oid, Pair, SetItem, Syntax};
-use set_rules::{pair_of, put};
+use association_sets::{pair_of, put};
+use osi_base::{Oid, Pair, Syntax};
 use std::test::Fail;
 
 #[test]
@@ -12,7 +12,7 @@ fn a_context_is_put(rt: HostRuntime) -> Result<(), Fail> {
         abstract_name: Oid::from_slice(alloc, &[2, 1, 1])?,
         transfer: Syntax::Ber,
     };
-    put(&mut set, SetItem { id: 3, pair })?;
+    put(&mut set, 3, pair)?;
     assert!(rt; pair_of(&set, 3).is_some());
     assert!(rt; pair_of(&set, 1).is_none());
     Ok(())

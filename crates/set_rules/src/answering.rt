@@ -6,7 +6,8 @@ ghost use Rattle.end_rules.specs.Base.{Spellings, base_of};
 ghost use Rattle.end_rules.specs.Policy.{is_association, is_taken, takes_syntax, rejection, answer_within, answer_to_addition, counted_with, answers_to_additions};
 ghost use Rattle.set_rules.specs.Plain.{plain_base};
 
-use crate::names::{acse_name, is_named, is_reliable, rtse_name, same_name, syntax_named};
+use association_ground::{is_acse, is_ber, is_reliable, is_rtse, same_name, syntax_named};
+use association_sets::is_listed;
 use dialogue::Config;
 use osi_base::{AddAnswer, AddAnswers, Copied, ListOf, NoMemory, Oid, Proposal};
 use std::alloc::Global;
@@ -16,7 +17,7 @@ use stub_tables::Tables;
 fn is_association(tables: &Tables, config: &Config, name: &[u32]) -> bool
     ensures { result ≡ is_association (plain_base tables.now config.now) name.now }
 {
-    same_name(name, acse_name()) || is_reliable(config.mode) && same_name(name, rtse_name())
+    is_acse(name) || is_reliable(config.mode) && is_rtse(name)
 }
 
 /// Whether an abstract syntax is taken: the module's, and at an opening those of the association.
@@ -37,9 +38,9 @@ fn takes_syntax(
     ensures { result ≡ takes_syntax (plain_base tables.now config.now) connecting name.now syntax.now }
 {
     if connecting && is_association(tables, config, name) {
-        return same_name(syntax, &[2, 1, 1]);
+        return is_ber(syntax);
     }
-    syntax_named(syntax).is_some() && is_named(syntax, config.accepts.as_slice())
+    syntax_named(syntax).is_some() && is_listed(syntax, config.accepts.as_slice())
 }
 
 /// The first transfer syntax of a proposal that is taken.

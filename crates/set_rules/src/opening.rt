@@ -1,10 +1,10 @@
 //! The contexts of an opening: what an initiator proposes, and which stand as one is answered.
 
-ghost use Rattle.std.specs.Prelude.{◌≡◌, ◌++◌, ◌∷◌, [], true, IfOk};
+ghost use Rattle.std.specs.Prelude.{◌≡◌, ◌++◌, ◌∷◌, [], true, IfOk, is_some};
 ghost use Rattle.end_rules.specs.Base.{Spellings, base_of};
 ghost use Rattle.std.specs.List.{list_any};
 ghost use Rattle.osi_base.specs.Oid.{IsOid};
-ghost use Rattle.end_rules.specs.Sets.{is_among, proposed_ids, accepted_set, has_parity};
+ghost use Rattle.end_rules.specs.Sets.{is_among, proposed_ids, accepted_set, lowest_with};
 ghost use Rattle.end_rules.specs.Altering.{has_double};
 ghost use Rattle.end_rules.specs.Policy.{opening_policy, is_faulty_proposal};
 ghost use Rattle.end_rules.specs.Writing.{proposal_in_ber, own_proposals, proposals};
@@ -12,8 +12,8 @@ ghost use Rattle.end_rules.specs.Connecting.{set_for, set_accepted};
 ghost use Rattle.set_rules.specs.Plain.{plain_base, is_taken_id};
 
 use crate::answering::plain_answers;
-use crate::names::{acse_name, is_reliable, rtse_name};
-use crate::sets::{accepted_set, pair_of};
+use association_ground::is_reliable;
+use association_sets::{accepted_set, has_name, has_parity, pair_of};
 use dialogue::Config;
 use osi_base::{
     AddAnswer, AddAnswers, Copied, ListOf, NoMemory, Oid, Oids, PresentationAccept,
@@ -67,9 +67,9 @@ fn own_proposals(alloc: Global, config: &Config) -> Result<Proposals, NoMemory>
     ensures { IfOk result (λ own. own ≡ own_proposals config.now.mode) }
 {
     let mut own: Proposals = ListOf::new(alloc);
-    own.push(proposal_in_ber(alloc, 1, acse_name())?)?;
+    own.push(proposal_in_ber(alloc, 1, &[2, 2, 1, 0, 1])?)?;
     if is_reliable(config.mode) {
-        own.push(proposal_in_ber(alloc, 3, rtse_name())?)?;
+        own.push(proposal_in_ber(alloc, 3, &[2, 999, 5, 2])?)?;
     }
     Ok(own)
 }
@@ -109,13 +109,6 @@ pub fn set_accepted(
 {
     let _tables = tables;
     accepted_for(alloc, config, presentation.results.as_slice())
-}
-
-/// Whether an identifier is of the parity of this proposer.
-fn has_parity(initiator: bool, id: u32) -> bool
-    ensures { result ≡ has_parity initiator id }
-{
-    if initiator { id % 2 == 1 } else { id % 2 == 0 }
 }
 
 /// Whether one of these proposals has the identifier.
@@ -167,4 +160,16 @@ pub fn is_faulty_proposal(initiates: bool, held: &[SetItem], add: &[Proposal]) -
     ensures { result ≡ is_faulty_proposal initiates held.now add.now }
 {
     has_double(add) || is_any_taken(initiates, held, add)
+}
+
+/// Whether a context of the set has this abstract syntax.
+pub fn has_context_of(name: &[u32], set: &[SetItem]) -> bool
+    ensures { result ≡ is_some (lowest_with name.now [] set.now) }
+{
+    for item in set {
+        if has_name(&item.pair, name) {
+            return true;
+        }
+    }
+    false
 }
