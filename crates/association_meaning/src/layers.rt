@@ -1,12 +1,12 @@
 //! APDUs of association control and of reliable transfer among values (X.227 9, X.228 9).
 
-use crate::contents::content_at;
 use crate::ground::{Ground, Halt, fault_at};
 use crate::names::{acse_name, rtse_name};
 use acse::AcseFault;
 use association_ground::same_name;
 use association_words::{Content, Information, UserInformation};
 use fixed_tables::PduFault;
+use module_contents::content_at;
 use osi_base::{Acse, Copied, External, Layer, ListOf, NoMemory, Octets, Pair, Rtse};
 use std::alloc::Global;
 
@@ -108,7 +108,13 @@ pub(crate) fn content_under(
     } else if same_name(name, rtse_name()) {
         rtse_content(ground, octets)
     } else {
-        Ok(content_at(ground, pair.transfer, octets)?)
+        Ok(content_at(
+            ground.alloc,
+            &ground.codecs.heads,
+            ground.tables,
+            pair.transfer,
+            octets,
+        )?)
     }
 }
 

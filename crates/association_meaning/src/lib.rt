@@ -3,13 +3,11 @@
 #![tactic(auto)]
 
 mod association;
-mod contents;
 mod contexts;
 mod ground;
 mod informed;
 mod layers;
 mod meaning;
-mod module_values;
 mod names;
 mod transfers;
 mod values;

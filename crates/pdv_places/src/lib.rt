@@ -3,6 +3,5 @@
 
 mod places;
 mod spots;
-mod wholes;
 
 pub use places::{PdvField, PdvPlaces, field_place, transfer_place};

@@ -5,9 +5,9 @@ ghost use Rattle.asn1_types.specs.Whole.{behind_identifier, behind_whole, is_end
 ghost use Rattle.association_reading.specs.Places as reading;
 ghost use Rattle.pdv_places.specs.Seen.{spot_of, IsWithin};
 
-use crate::wholes::{behind_identifier, behind_whole, is_ended};
 use osi_base::NoMemory;
 use std::alloc::Global;
+use whole_values::{behind_identifier, behind_whole, is_ended};
 
 /// The octets from a place on.
 #[derive(Clone, Copy, Debug)]

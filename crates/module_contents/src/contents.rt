@@ -1,8 +1,16 @@
 //! Octets of the module's abstract syntax: an APDU that they spell, or they themselves (X.882 9).
 
-use crate::ground::Ground;
+ghost use Rattle.std.specs.Prelude.{◌≡◌, IfOk};
+ghost use Rattle.std.specs.Option.{option_copied, option_map};
+ghost use Rattle.ber_spelling.specs.Octets.{AreOctets};
+ghost use Rattle.stub_tables.specs.Apdus as uses;
+ghost use Rattle.end_wire.specs.Heads.{head_at, apdu_of};
+ghost use Rattle.end_wire.specs.Values as values;
+ghost use Rattle.association_words.specs.Seen.{seen_content};
+ghost use Rattle.module_contents.specs.Said.{invoke_by, result_by, error_by, reject_by, apdu_by};
+
 use crate::module_values::{carried, needed};
-use apdu_codec::HeadFault;
+use apdu_codec::{HeadFault, Heads};
 use apdu_spelling::{ApduHead, ApduKind};
 use association_words::Content;
 use osi_base::{NoMemory, Octets, Syntax};
@@ -10,7 +18,9 @@ use std::alloc::Global;
 use stub_tables::{Apdu, Code, Returned, Tables, Use};
 
 /// How the argument of the operation with this code is used.
-fn argument_of<'t>(tables: &'t Tables, code: &Code) -> Option<&'t Use> {
+fn argument_of<'t>(tables: &'t Tables, code: &Code) -> Option<&'t Use>
+    ensures { option_copied result ≡ option_map uses.argument_of (uses.operation_coded tables.now code.now) }
+{
     match tables.operation(tables.operation_with(code)?) {
         Some(operation) => Some(&operation.argument),
         None => None,
@@ -18,7 +28,9 @@ fn argument_of<'t>(tables: &'t Tables, code: &Code) -> Option<&'t Use> {
 }
 
 /// How the result of the operation with this code is used.
-fn result_of<'t>(tables: &'t Tables, code: &Code) -> Option<&'t Use> {
+fn result_of<'t>(tables: &'t Tables, code: &Code) -> Option<&'t Use>
+    ensures { option_copied result ≡ option_map uses.result_of (uses.operation_coded tables.now code.now) }
+{
     match tables.operation(tables.operation_with(code)?) {
         Some(operation) => Some(&operation.result),
         None => None,
@@ -26,7 +38,9 @@ fn result_of<'t>(tables: &'t Tables, code: &Code) -> Option<&'t Use> {
 }
 
 /// How the parameter of the error with this code is used.
-fn parameter_of<'t>(tables: &'t Tables, code: &Code) -> Option<&'t Use> {
+fn parameter_of<'t>(tables: &'t Tables, code: &Code) -> Option<&'t Use>
+    ensures { option_copied result ≡ option_map uses.parameter_of (uses.error_coded tables.now code.now) }
+{
     match tables.error(tables.error_with(code)?) {
         Some(error) => Some(&error.parameter),
         None => None,
@@ -39,7 +53,9 @@ fn invocation(
     syntax: Syntax,
     tables: &Tables,
     head: ApduHead,
-) -> Result<Option<Apdu>, NoMemory> {
+) -> Result<Option<Apdu>, NoMemory>
+    ensures { IfOk result (λ apdu. apdu ≡ invoke_by tables.now syntax head head.id head.code) }
+{
     let (Some(id), Some(code)) = (head.id, head.code) else {
         return Ok(None);
     };
@@ -61,7 +77,9 @@ fn result(
     syntax: Syntax,
     tables: &Tables,
     head: ApduHead,
-) -> Result<Option<Apdu>, NoMemory> {
+) -> Result<Option<Apdu>, NoMemory>
+    ensures { IfOk result (λ apdu. apdu ≡ result_by tables.now syntax head head.id head.code) }
+{
     let Some(id) = head.id else { return Ok(None) };
     let Some(code) = head.code else {
         return Ok(Some(Apdu::Result { id, returned: None }));
@@ -82,7 +100,9 @@ fn error(
     syntax: Syntax,
     tables: &Tables,
     head: ApduHead,
-) -> Result<Option<Apdu>, NoMemory> {
+) -> Result<Option<Apdu>, NoMemory>
+    ensures { IfOk result (λ apdu. apdu ≡ error_by tables.now syntax head head.id head.code) }
+{
     let (Some(id), Some(code)) = (head.id, head.code) else {
         return Ok(None);
     };
@@ -98,7 +118,9 @@ fn error(
 }
 
 /// The reject that a head says.
-fn reject(head: ApduHead) -> Option<Apdu> {
+fn reject(head: ApduHead) -> Option<Apdu>
+    ensures { result ≡ reject_by head.id head.problem }
+{
     match head.problem {
         None => None,
         Some(problem) => Some(Apdu::Reject {
@@ -114,7 +136,9 @@ fn said(
     syntax: Syntax,
     tables: &Tables,
     head: ApduHead,
-) -> Result<Option<Apdu>, NoMemory> {
+) -> Result<Option<Apdu>, NoMemory>
+    ensures { IfOk result (λ apdu. apdu ≡ apdu_by tables.now syntax head head.kind) }
+{
     match head.kind {
         ApduKind::Invoke => invocation(alloc, syntax, tables, head),
         ApduKind::Result => result(alloc, syntax, tables, head),
@@ -124,22 +148,45 @@ fn said(
 }
 
 /// The APDU that octets spell.
-fn spelled(ground: &Ground<'_>, syntax: Syntax, octets: &[u8]) -> Result<Option<Apdu>, NoMemory> {
-    match ground.codecs.heads.read(ground.alloc, syntax, octets) {
-        Ok(head) => said(ground.alloc, syntax, ground.tables, head),
+fn spelled(
+    alloc: Global,
+    heads: &Heads,
+    tables: &Tables,
+    syntax: Syntax,
+    octets: &[u8],
+) -> Result<Option<Apdu>, NoMemory>
+    requires { AreOctets octets.now }
+    ensures { IfOk result (λ apdu. apdu ≡ apdu_of tables.now (head_at tables.now syntax octets.now)) }
+{
+    tables.is_readable();
+    match heads.read(alloc, syntax, octets) {
+        Ok(head) => said(alloc, syntax, tables, head),
         Err(HeadFault::NoMemory) => Err(NoMemory),
         Err(_) => Ok(None),
     }
 }
 
-/// What octets of the module's abstract syntax are.
-pub(crate) fn content_at(
-    ground: &Ground<'_>,
+/// Does nothing. Its contract says that octets are numbers below 256.
+fn are_octets(octets: &[u8])
+    ensures { AreOctets octets.now }
+{
+    let _octets = octets;
+}
+
+/// What octets of the module's abstract syntax are: the APDU that they spell in a syntax, with its value
+/// read by the tables of the module, or the octets.
+pub fn content_at(
+    alloc: Global,
+    heads: &Heads,
+    tables: &Tables,
     syntax: Syntax,
     octets: &[u8],
-) -> Result<Content, NoMemory> {
-    match spelled(ground, syntax, octets)? {
+) -> Result<Content, NoMemory>
+    ensures { IfOk result (λ content. seen_content content ≡ values.content_at tables.now syntax octets.now) }
+{
+    are_octets(octets);
+    match spelled(alloc, heads, tables, syntax, octets)? {
         Some(apdu) => Ok(Content::Remote(apdu)),
-        None => Ok(Content::Unread(Octets::from_slice(ground.alloc, octets)?)),
+        None => Ok(Content::Unread(Octets::from_slice(alloc, octets)?)),
     }
 }
