@@ -1,6 +1,7 @@
 //! The unit of the session that each word is (X.225 8.3), with its user data.
 
 ghost use Rattle.std.specs.Prelude.{◌≡◌, [], IfOk, unwrap_or};
+ghost use Rattle.osi_base.specs.declared.session_word.SessionWord.TheVariants as words;
 ghost use Rattle.end_rules.specs.Messages as meant;
 ghost use Rattle.spdu_codec.specs.Written.{stands_alone};
 ghost use Rattle.association_words.specs.Seen.{seen_association, seen_data, seen_marks, seen_activities, seen_word};
@@ -44,7 +45,7 @@ fn connect_with(
 
 /// AC with these user data.
 fn accept_with(alloc: Global, user: Option<Octets>, session: Accepting) -> SessionWord
-    ensures { result ≡ units.Accept session.options session.version session.initial session.requirements (unwrap_or user []) }
+    ensures { result ≡ words.Accept session.options session.version session.initial session.requirements (unwrap_or user []) }
 {
     SessionWord::Accept {
         options: session.options,

@@ -1,7 +1,7 @@
 //! Transport units (X.224 13).
 
 ghost use Rattle.std.specs.Prelude.{◌≡◌, [], IfOk};
-ghost use Rattle.tpkt.specs.Written.{control_packet, connection_fields};
+ghost use Rattle.tpkt.specs.Written.{control_packet, connection_fields, HasRoom};
 ghost use Rattle.association_words.specs.Seen.{seen_transport};
 ghost use Rattle.association_wire.specs.Written.{request_ends, confirm_ends, written_unit};
 ghost use Rattle.association_writing.specs.Room.{HasRoomFor};

@@ -1,8 +1,10 @@
 //! The unit of the presentation protocol that each word carries (X.226 8.2, 8.3), and its octets.
 
-ghost use Rattle.std.specs.Prelude.{◌≡◌, IfOk};
-ghost use Rattle.association_words.specs.Seen.{seen_values, seen_abort, seen_association, seen_data, seen_marks, seen_word};
-ghost use Rattle.association_wire.specs.Units.{data_unit, abort_unit, unit_of_association, unit_of_data, unit_of_marks, presentation_unit, user_octets};
+ghost use Rattle.std.specs.Prelude.{◌≡◌, IfOk, Some, pos, option_map};
+ghost use Rattle.osi_base.specs.declared.presentation_word.PresentationWord.TheVariants as pdus;
+ghost use Rattle.association_words.specs.Seen.{natural, seen_values, seen_abort, seen_association, seen_data, seen_marks, seen_word};
+ghost use Rattle.association_wire.specs.Values.{pdvs_of};
+ghost use Rattle.association_wire.specs.Units.{data_unit, reject_unit, abort_unit, unit_of_association, unit_of_data, unit_of_marks, presentation_unit, user_octets};
 
 use crate::values::pdvs_of;
 use association_codecs::Codecs;
@@ -75,7 +77,7 @@ fn connect_unit(
     presentation: &PresentationConnect,
     values: &[Value],
 ) -> Result<Option<PresentationWord>, NoMemory>
-    ensures { IfOk result (λ unit. unit ≡ Some (ppdus.Connect (record presentation.now { user = pdvs_of tables.now (seen_values values.now) }))) }
+    ensures { IfOk result (λ unit. unit ≡ Some (pdus.Connect (record presentation.now { user = pdvs_of tables.now (seen_values values.now) }))) }
 {
     let mut unit = presentation.copy(alloc)?;
     unit.user = pdvs_of(alloc, codecs, tables, values)?;
@@ -90,7 +92,7 @@ fn accept_unit(
     presentation: &PresentationAccept,
     values: &[Value],
 ) -> Result<Option<PresentationWord>, NoMemory>
-    ensures { IfOk result (λ unit. unit ≡ Some (ppdus.Accept (record presentation.now { user = pdvs_of tables.now (seen_values values.now) }))) }
+    ensures { IfOk result (λ unit. unit ≡ Some (pdus.Accept (record presentation.now { user = pdvs_of tables.now (seen_values values.now) }))) }
 {
     let mut unit = presentation.copy(alloc)?;
     unit.user = pdvs_of(alloc, codecs, tables, values)?;

@@ -1,11 +1,15 @@
 //! Presentation data values as an association carries them (X.226 8.4.2, X.227 9, X.228 9).
 
-ghost use Rattle.std.specs.Prelude.{◌≡◌, map, IfOk};
+ghost use Rattle.std.specs.Prelude.{◌≡◌, map, IfOk, None};
+ghost use Rattle.osi_base.specs.declared.rtse_word.Rtse.TheVariants as rtses;
+ghost use Rattle.acse.specs.Written.{written_acse};
+ghost use Rattle.rtse_apdus.specs.Written.{written_rtse};
 ghost use Rattle.rtse_apdus.specs.Transfer.{written_transfer};
+ghost use Rattle.apdu_spelling.specs.Writing.{written_apdu};
 ghost use Rattle.end_rules.specs.Hearing.{syntax_of};
 ghost use Rattle.association_words.specs.Seen.{seen_information, seen_content, seen_value, seen_item};
+ghost use Rattle.association_writing.specs.Room.{item_pdv};
 ghost use Rattle.association_wire.specs.Values.{external_of, with_user, content_octets, in_form, pdv_of, pdvs_of};
-ghost use Rattle.association_writing.specs.Items.{transferred};
 
 use association_codecs::Codecs;
 use association_words::{Content, Information, Item, Value};
@@ -101,7 +105,7 @@ fn association_octets(
 
 /// The octets of a part of a transfer.
 fn part_octets(alloc: Global, codecs: &Codecs, octets: &Octets) -> Result<Octets, NoMemory>
-    ensures { IfOk result (λ text. text ≡ written_rtse (rtse.Transfer octets.now)) }
+    ensures { IfOk result (λ text. text ≡ written_rtse (rtses.Transfer octets.now)) }
 {
     let part = Rtse::Transfer {
         octets: octets.copy(alloc)?,
@@ -198,7 +202,9 @@ fn item_pdv(
     id: u32,
     syntax: Syntax,
     apdu: &Apdu,
-) -> Result<Pdv, NoMemory> {
+) -> Result<Pdv, NoMemory>
+    ensures { IfOk result (λ pdv. pdv ≡ record { transfer = None; id = id; content = in_form syntax (written_apdu tables.now syntax apdu.now) }) }
+{
     let octets = codecs.heads.write(alloc, syntax, tables, apdu)?;
     Ok(Pdv {
         transfer: None,
@@ -214,7 +220,7 @@ pub fn write_item(
     tables: &Tables,
     item: &Item,
 ) -> Result<Octets, NoMemory>
-    ensures { IfOk result (λ octets. octets ≡ transferred tables.now (seen_item item.now)) }
+    ensures { IfOk result (λ octets. octets ≡ written_transfer (item_pdv tables.now (seen_item item.now))) }
 {
     let pdv = item_pdv(
         alloc,

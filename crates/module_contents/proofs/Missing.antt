@@ -5,7 +5,7 @@ use Rattle.osi_base.specs.declared.syntax.Syntax.{Syntax}
 use Rattle.osi_base.specs.declared.syntax.Syntax.TheVariants.{Ber, Der, Packed}
 use Rattle.asn1_types.specs.declared.table.TypeTable.{TypeTable}
 use Rattle.asn1_types.proofs.FitLaws.{not_within}
-use Rattle.end_rules.specs.Base.{Carried, Unspelled}
+use Rattle.end_rules.specs.Base.{Unspelled}
 use Rattle.end_wire.specs.Heads.{value_at}
 use Rattle.module_contents.proofs.MissingBer as ber
 use Rattle.module_contents.proofs.MissingPacked as packed

@@ -1,10 +1,9 @@
 -- Octets spell no value in BER of a row that isn't there.
-use Rattle.std.proofs.Common.{◌≡◌, ℕ, zero, suc, Bool, List, length, Option, Some, None, Ok, Err, refl, ap, ◌∙◌}
+use Rattle.std.proofs.Common.{◌≡◌, ℕ, zero, suc, Bool, List, length, Option, None, Ok, Err, refl, ap, ◌∙◌}
 use Rattle.std.specs.List.{slice_get}
 use Rattle.asn1_types.specs.declared.row.TypeRow.{TypeRow}
 use Rattle.asn1_types.specs.Rows.{along, of_row, begins}
 use Rattle.asn1_types.specs.Writing.{written}
-use Rattle.asn1_types.specs.Value.{Value}
 use Rattle.ber_spelling.specs.Reading.{Spot, Opened, Reading, ◌>>=◌}
 use Rattle.ber_spelling.specs.Fields.{identifier_at}
 use Rattle.ber_spelling.specs.Rules.{Reader, plain, dead, read_by, reads, outermost, value_at as at, read_at}
@@ -25,7 +24,7 @@ refused end limit strict (Ok x) = refl
 refused end limit strict (Err f) = refl
 
 pub none_read : (rows : List TypeRow) (n : ℕ) (strict : Bool) (limit : ℕ) (octets : List ℕ) → slice_get rows n ≡ None → whole_value (length octets) (read_at rows n strict limit octets) ≡ Unspelled
-unfolding read_at, at
+unfolding read_at at
 none_read rows n strict limit octets e =
     ap (λ (f : Reader). whole_value (length octets) ((identifier_at (outermost limit strict) 0 octets >>= (λ x. f plain (outermost limit strict) x.0 x.1)) >>= (λ x. Ok (x.0, x.1.place)))) (no_reader rows n e)
     ∙ refused (length octets) limit strict (identifier_at (outermost limit strict) 0 octets)

@@ -1,5 +1,5 @@
 -- Octets spell no value in the packed syntax of a row that isn't there.
-use Rattle.std.proofs.Common.{◌≡◌, ℕ, zero, suc, List, length, Option, Some, None, Ok, Err, refl, ap, ◌∙◌}
+use Rattle.std.proofs.Common.{◌≡◌, ℕ, zero, suc, List, length, Option, None, Ok, refl, ap}
 use Rattle.std.specs.List.{slice_get}
 use Rattle.asn1_types.specs.declared.row.TypeRow.{TypeRow}
 use Rattle.asn1_types.specs.Rows.{along, of_row}

@@ -1,5 +1,5 @@
 -- The fields of a head that octets spell say what the octets say.
-use Rattle.std.proofs.Common.{◌≡◌, ℕ, ◌≤◌, ◌-◌, min, ℤ, List, length, Option, Some, None, refl, sym, ap, ◌∙◌, arith, option_map}
+use Rattle.std.proofs.Common.{◌≡◌, ℕ, ℤ, List, Option, Some, None, refl, sym, ap, subst, ◌∙◌, arith, option_map}
 use Rattle.osi_base.specs.declared.syntax.Syntax.{Syntax}
 use Rattle.osi_base.specs.declared.syntax.Syntax.TheVariants.{Ber, Der, Packed}
 use Rattle.asn1_types.specs.declared.value.Val.{Val}
@@ -7,7 +7,6 @@ use Rattle.ber_spelling.specs.Octets.{AreOctets}
 use Rattle.stub_tables.specs.declared.tables.Tables.{Tables}
 use Rattle.stub_tables.specs.declared.operation.Code.{Code}
 use Rattle.stub_tables.specs.declared.operation.Use.{Use}
-use Rattle.stub_tables.specs.declared.apdu.Apdu.{Apdu}
 use Rattle.stub_tables.specs.declared.apdu.Apdu.TheVariants as apdus
 use Rattle.stub_tables.specs.Apdus.{argument_of, result_of, parameter_of, operation_coded, error_coded}
 use Rattle.apdu_spelling.specs.declared.head.ApduHead.{ApduHead}
@@ -17,7 +16,7 @@ use Rattle.apdu_codec.specs.declared.fault.HeadFault.{HeadFault}
 use Rattle.apdu_codec.specs.declared.fault.HeadFault.TheVariants as fault
 use Rattle.apdu_codec.specs.Refusals.{refusal_of}
 use Rattle.apdu_codec.specs.HeadsRead.{HasFields, HasNone, IsRefused}
-use Rattle.end_rules.specs.Base.{Carried, Absent, Spelled, Unspelled, Head, ResultHead}
+use Rattle.end_rules.specs.Base.{Carried, Absent, Spelled, Unspelled, ResultHead}
 use Rattle.end_wire.specs.Heads.{carried_at, value_or_lack, said, said_or_refused, refused, head_at, apdu_of}
 use Rattle.end_wire.proofs.HeadLaws.{head_read, no_head}
 use Rattle.module_contents.specs.Said.{room_in, value_needed, apdu_by, returned_by}
@@ -66,7 +65,8 @@ module _ (tables : Tables) (s : Syntax) where
   no_says text are none =
       none_refused (refusal_of s text) ∙ ap (apdu_of tables) (sym (ap (said_or_refused tables s text) (no_head s text are none)))
 
-  pub refused_says : (text : List ℕ) (f : HeadFault) → AreOctets text → IsRefused s text f → (f ≡ fault.NoMemory → ⊥) → None ≡ apdu_of tables (head_at tables s text)
-  refused_says text (fault.General number) are p other = no_says text are p.0
-  refused_says text fault.BadReject are p other = no_says text are p.0
-  refused_says text fault.NoMemory are p other = absurd (other refl)
+  pub general_says : (text : List ℕ) (f : HeadFault) (n : ℕ) → f ≡ fault.General n → AreOctets text → IsRefused s text f → None ≡ apdu_of tables (head_at tables s text)
+  general_says text f n e are p = let q : IsRefused s text (fault.General n) = subst (λ (x : HeadFault). IsRefused s text x) e p in no_says text are q.0
+
+  pub bad_says : (text : List ℕ) (f : HeadFault) → f ≡ fault.BadReject → AreOctets text → IsRefused s text f → None ≡ apdu_of tables (head_at tables s text)
+  bad_says text f e are p = let q : IsRefused s text fault.BadReject = subst (λ (x : HeadFault). IsRefused s text x) e p in no_says text are q.0

@@ -1,5 +1,5 @@
 -- The APDU that the fields of a head say, with the value that its octets carry. No public clause cites this module.
-use Rattle.std.specs.Prelude.{ℕ, min, ℤ, List, Option, Some, None, option_map}
+use Rattle.std.specs.Prelude.{ℕ, min, ℤ, Option, Some, None, option_map}
 use Rattle.osi_base.specs.declared.syntax.Syntax.{Syntax}
 use Rattle.osi_base.specs.declared.syntax.Syntax.TheVariants.{Ber, Der, Packed}
 use Rattle.osi_base.specs.declared.words.Problem.{Problem}
@@ -15,7 +15,7 @@ use Rattle.apdu_spelling.specs.declared.head.ApduHead.{ApduHead}
 use Rattle.apdu_spelling.specs.declared.head.ApduKind.{ApduKind}
 use Rattle.apdu_spelling.specs.declared.head.ApduKind.TheVariants.{Invoke, Result, Error, Reject}
 use Rattle.end_rules.specs.Base.{Carried, Absent, Spelled, Unspelled}
-use Rattle.end_wire.specs.Heads.{typed_at, carried_at, value_or_lack}
+use Rattle.end_wire.specs.Heads.{carried_at, value_or_lack}
 
 -- an APDU has at most 262,144 octets, in the packed syntax with those before its value
 abbrev pub room_in : Syntax → ℕ → ℕ

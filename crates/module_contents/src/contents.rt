@@ -80,12 +80,21 @@ fn result(
 ) -> Result<Option<Apdu>, NoMemory>
     ensures { IfOk result (λ apdu. apdu ≡ result_by tables.now syntax head head.id head.code) }
 {
-    let Some(id) = head.id else { return Ok(None) };
-    let Some(code) = head.code else {
+    let ApduHead {
+        id: Some(id),
+        code,
+        rest,
+        room,
+        ..
+    } = head
+    else {
+        return Ok(None);
+    };
+    let Some(code) = code else {
         return Ok(Some(Apdu::Result { id, returned: None }));
     };
     let used = result_of(tables, &code);
-    match needed(alloc, syntax, &tables.types, used, &head.rest, head.room)? {
+    match needed(alloc, syntax, &tables.types, used, &rest, room)? {
         None => Ok(None),
         Some(value) => Ok(Some(Apdu::Result {
             id,
@@ -161,8 +170,9 @@ fn spelled(
     tables.is_readable();
     match heads.read(alloc, syntax, octets) {
         Ok(head) => said(alloc, syntax, tables, head),
+        Err(HeadFault::General(_)) => Ok(None),
+        Err(HeadFault::BadReject) => Ok(None),
         Err(HeadFault::NoMemory) => Err(NoMemory),
-        Err(_) => Ok(None),
     }
 }
 

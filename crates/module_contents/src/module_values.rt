@@ -107,7 +107,6 @@ fn row_value(
 }
 
 /// The value of a row, where there is one, that all of these octets spell.
-#[tactic(auto, using(crate::proofs::Missing::no_row))]
 fn some_row_value(
     alloc: Global,
     syntax: Syntax,

@@ -1,5 +1,10 @@
 //! The places of the fields of presentation data values (X.226 8.4.2).
 
+ghost use Rattle.std.specs.Prelude.{◌≡◌, ◌+◌, ◌++◌, ◌<◌, ◌^◌, length, map, [], ◌∷◌, IfOk, OnOk};
+ghost use Rattle.std.specs.List.{flat_map};
+ghost use Rattle.association_reading.specs.Places as reading;
+ghost use Rattle.pdv_places.specs.Seen.{spot_of, begins_with, user_data_of, Fits, AllFit, seen_places, place_in, places_at};
+
 use crate::spots::{Spot, contents_of, values_in};
 use osi_base::NoMemory;
 use presentation_pdus::PpduPlace;
@@ -22,10 +27,25 @@ pub enum PdvField {
     Form,
 }
 
-/// The place of the first value that begins with this octet, as of its contents.
-fn first_contents(first: u8, spots: &[Spot<'_>]) -> usize {
+/// Whether the value begins with this octet.
+fn begins_with(first: u8, spot: &Spot<'_>) -> bool
+    requires { 0 < first }
+    ensures { result ≡ begins_with first (spot_of spot.now) }
+{
+    match spot.rest {
+        [] => false,
+        [octet, ..] => *octet == first,
+    }
+}
+
+/// The place of the contents of the first value that begins with this octet.
+fn first_contents(first: u8, spots: &[Spot<'_>]) -> usize
+    requires some { 0 < first }
+    requires fit { AllFit spots.now }
+    ensures { result ≡ reading.first_contents (reading.beginning_with first (map spot_of spots.now)) }
+{
     for spot in spots {
-        if spot.rest.first() == Some(&first) {
+        if begins_with(first, spot) {
             return contents_of(*spot).place;
         }
     }
@@ -33,7 +53,9 @@ fn first_contents(first: u8, spots: &[Spot<'_>]) -> usize {
 }
 
 /// The place of the last value.
-fn last_start(spots: &[Spot<'_>]) -> usize {
+fn last_start(spots: &[Spot<'_>]) -> usize
+    ensures { result ≡ reading.last_start (map spot_of spots.now) }
+{
     match spots.last() {
         None => 0,
         Some(spot) => spot.place,
@@ -41,7 +63,10 @@ fn last_start(spots: &[Spot<'_>]) -> usize {
 }
 
 /// The places of a value's fields: an OBJECT IDENTIFIER, which may lack, an INTEGER and the form.
-pub(crate) fn places_of(alloc: Global, pdv: Spot<'_>) -> Result<PdvPlaces, NoMemory> {
+fn places_of(alloc: Global, pdv: Spot<'_>) -> Result<PdvPlaces, NoMemory>
+    requires { Fits pdv }
+    ensures { IfOk result (λ at. seen_places at ≡ reading.places_of (spot_of pdv.entry)) }
+{
     let fields = values_in(alloc, pdv)?;
     Ok(PdvPlaces {
         name: first_contents(6, &fields),
@@ -55,9 +80,15 @@ fn push_beginning<'a>(
     first: u8,
     spots: &[Spot<'a>],
     found: &mut Vec<Spot<'a>>,
-) -> Result<(), NoMemory> {
+) -> Result<(), NoMemory>
+    requires some { 0 < first }
+    requires fit { AllFit spots.now }
+    requires found_fit { AllFit found.old.items }
+    ensures is { OnOk result (map spot_of found.new.items ≡ map spot_of found.old.items ++ reading.beginning_with first (map spot_of spots.now)) }
+    ensures fit { OnOk result (AllFit found.new.items) }
+{
     for spot in spots {
-        if spot.rest.first() == Some(&first) {
+        if begins_with(first, spot) {
             found.push(*spot)?;
         }
     }
@@ -65,7 +96,11 @@ fn push_beginning<'a>(
 }
 
 /// User data, [APPLICATION 1], among the values in these.
-fn user_data_in<'a>(alloc: Global, spots: &[Spot<'a>]) -> Result<Vec<Spot<'a>>, NoMemory> {
+fn user_data_in<'a>(alloc: Global, spots: &[Spot<'a>]) -> Result<Vec<Spot<'a>>, NoMemory>
+    requires { AllFit spots.now }
+    ensures is { IfOk result (λ v. map spot_of v.items ≡ flat_map user_data_of (map spot_of spots.now)) }
+    ensures fit { IfOk result (λ v. AllFit v.items) }
+{
     let mut found = Vec::new(alloc);
     for spot in spots {
         let values = values_in(alloc, *spot)?;
@@ -74,12 +109,40 @@ fn user_data_in<'a>(alloc: Global, spots: &[Spot<'a>]) -> Result<Vec<Spot<'a>>, 
     Ok(found)
 }
 
-/// The fields [2] of CP and CPA.
-fn normal_fields<'a>(alloc: Global, unit: Spot<'a>) -> Result<Vec<Spot<'a>>, NoMemory> {
+/// The values in a unit that begin with this octet.
+fn fields_of<'a>(alloc: Global, first: u8, unit: Spot<'a>) -> Result<Vec<Spot<'a>>, NoMemory>
+    requires some { 0 < first }
+    requires fits { Fits unit }
+    ensures is { IfOk result (λ v. map spot_of v.items ≡ reading.beginning_with first (reading.values_in (spot_of unit.entry))) }
+    ensures fit { IfOk result (λ v. AllFit v.items) }
+{
     let values = values_in(alloc, unit)?;
     let mut found = Vec::new(alloc);
-    push_beginning(162, &values, &mut found)?;
+    push_beginning(first, &values, &mut found)?;
     Ok(found)
+}
+
+/// The unit where it is user data.
+fn whole_unit<'a>(alloc: Global, unit: Spot<'a>) -> Result<Vec<Spot<'a>>, NoMemory>
+    requires { Fits unit }
+    ensures is { IfOk result (λ v. map spot_of v.items ≡ reading.beginning_with 97 (spot_of unit.entry ∷ [])) }
+    ensures fit { IfOk result (λ v. AllFit v.items) }
+{
+    let mut found = Vec::new(alloc);
+    if begins_with(97, &unit) {
+        found.push(unit)?;
+    }
+    Ok(found)
+}
+
+/// User data in the fields [2] of CP and CPA.
+fn inner_data<'a>(alloc: Global, unit: Spot<'a>) -> Result<Vec<Spot<'a>>, NoMemory>
+    requires { Fits unit }
+    ensures is { IfOk result (λ v. map spot_of v.items ≡ flat_map user_data_of (reading.beginning_with 162 (reading.values_in (spot_of unit.entry)))) }
+    ensures fit { IfOk result (λ v. AllFit v.items) }
+{
+    let fields = fields_of(alloc, 162, unit)?;
+    user_data_in(alloc, &fields)
 }
 
 /// User data: the unit itself, a field of it, or a field of the fields [2] of CP and CPA.
@@ -87,52 +150,58 @@ fn user_data<'a>(
     alloc: Global,
     carrier: PpduPlace,
     unit: Spot<'a>,
-) -> Result<Vec<Spot<'a>>, NoMemory> {
+) -> Result<Vec<Spot<'a>>, NoMemory>
+    requires { Fits unit }
+    ensures is { IfOk result (λ v. map spot_of v.items ≡ reading.user_data carrier (spot_of unit.entry)) }
+    ensures fit { IfOk result (λ v. AllFit v.items) }
+{
     match carrier {
-        PpduPlace::Cn | PpduPlace::Ac => {
-            let fields = normal_fields(alloc, unit)?;
-            user_data_in(alloc, &fields)
-        }
-        PpduPlace::Rf | PpduPlace::Ab => {
-            let mut units = Vec::new(alloc);
-            units.push(unit)?;
-            user_data_in(alloc, &units)
-        }
-        _ => {
-            let mut units = Vec::new(alloc);
-            units.push(unit)?;
-            let mut found = Vec::new(alloc);
-            push_beginning(97, &units, &mut found)?;
-            Ok(found)
-        }
+        PpduPlace::Cn => inner_data(alloc, unit),
+        PpduPlace::Ac => inner_data(alloc, unit),
+        PpduPlace::Rf => fields_of(alloc, 97, unit),
+        PpduPlace::Ab => fields_of(alloc, 97, unit),
+        PpduPlace::Fn => whole_unit(alloc, unit),
+        PpduPlace::Dn => whole_unit(alloc, unit),
+        PpduPlace::Pt => whole_unit(alloc, unit),
+        PpduPlace::Td => whole_unit(alloc, unit),
+        PpduPlace::Dt => whole_unit(alloc, unit),
+        PpduPlace::Rs => whole_unit(alloc, unit),
+        PpduPlace::Ra => whole_unit(alloc, unit),
     }
 }
 
 /// All values in these.
-fn all_values<'a>(alloc: Global, spots: &[Spot<'a>]) -> Result<Vec<Spot<'a>>, NoMemory> {
+fn all_values<'a>(alloc: Global, spots: &[Spot<'a>]) -> Result<Vec<Spot<'a>>, NoMemory>
+    requires { AllFit spots.now }
+    ensures is { IfOk result (λ v. map spot_of v.items ≡ flat_map reading.values_in (map spot_of spots.now)) }
+    ensures fit { IfOk result (λ v. AllFit v.items) }
+{
     let mut all = Vec::new(alloc);
     for spot in spots {
         let values = values_in(alloc, *spot)?;
-        all.extend_from_slice(&values)?;
+        push_all(&values, &mut all)?;
     }
     Ok(all)
 }
 
-/// The places of the value with this number, counted from 0, of a unit that begins at this place of
-/// its TSDU; all are 0 where it has none.
-fn pdv_places(
-    alloc: Global,
-    carrier: PpduPlace,
-    start: usize,
-    octets: &[u8],
-    which: usize,
-) -> Result<PdvPlaces, NoMemory> {
-    let unit = Spot {
-        place: start,
-        rest: octets,
-    };
-    let data = user_data(alloc, carrier, unit)?;
-    let values = all_values(alloc, &data)?;
+/// Puts values behind the others.
+fn push_all<'a>(spots: &[Spot<'a>], all: &mut Vec<Spot<'a>>) -> Result<(), NoMemory>
+    requires fit { AllFit spots.now }
+    requires all_fit { AllFit all.old.items }
+    ensures is { OnOk result (map spot_of all.new.items ≡ map spot_of all.old.items ++ map spot_of spots.now) }
+    ensures fit { OnOk result (AllFit all.new.items) }
+{
+    for spot in spots {
+        all.push(*spot)?;
+    }
+    Ok(())
+}
+
+/// The places of the value with this number, counted from 0; all are 0 where there is none.
+fn places_at(alloc: Global, which: usize, values: &[Spot<'_>]) -> Result<PdvPlaces, NoMemory>
+    requires { AllFit values.now }
+    ensures { IfOk result (λ at. seen_places at ≡ places_at which (map reading.places_of (map spot_of values.now))) }
+{
     match values.get(which) {
         None => Ok(PdvPlaces {
             name: 0,
@@ -144,7 +213,9 @@ fn pdv_places(
 }
 
 /// The place of a field of these.
-fn place_in(field: PdvField, places: PdvPlaces) -> usize {
+fn place_in(field: PdvField, places: PdvPlaces) -> usize
+    ensures { result ≡ place_in field (seen_places places) }
+{
     match field {
         PdvField::Name => places.name,
         PdvField::Identifier => places.identifier,
@@ -162,12 +233,23 @@ pub fn field_place(
     octets: &[u8],
     which: usize,
     field: PdvField,
-) -> Result<usize, NoMemory> {
-    Ok(place_in(field, pdv_places(alloc, carrier, start, octets, which)?))
+) -> Result<usize, NoMemory>
+    requires { start + length octets.now < 2 ^ 63 }
+    ensures { IfOk result (λ place. place ≡ place_in field (places_at which (reading.pdv_places carrier start octets.now))) }
+{
+    let unit = Spot {
+        place: start,
+        rest: octets,
+    };
+    let data = user_data(alloc, carrier, unit)?;
+    let values = all_values(alloc, &data)?;
+    Ok(place_in(field, places_at(alloc, which, &values)?))
 }
 
 /// As `field_place`, of the value that all of these octets are, as those of a transfer are.
-pub fn transfer_place(alloc: Global, octets: &[u8], field: PdvField) -> Result<usize, NoMemory> {
+pub fn transfer_place(alloc: Global, octets: &[u8], field: PdvField) -> Result<usize, NoMemory>
+    ensures { IfOk result (λ place. place ≡ place_in field (reading.places_of (reading.spot_at 0 octets.now))) }
+{
     let value = Spot {
         place: 0,
         rest: octets,
