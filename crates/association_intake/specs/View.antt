@@ -5,7 +5,7 @@ use Rattle.tpkt.specs.declared.held.Held.{Held}
 use Rattle.association_reading.specs.Front as reading
 use Rattle.association_intake.specs.declared.front.Front.{Front}
 use Rattle.association_intake.specs.declared.intake.Parts.{Parts}
-use Rattle.association_intake.specs.Seen.{seen_fronts}
+use Rattle.association_intake.specs.Seen.{seen_fronts, ArePlaced}
 
 abbrev pub held_with : List Front → Option Held → Option reading.Intake
 held_with fronts None = None
@@ -23,3 +23,11 @@ IsFaultOf (Some held) fault = fault ≡ held.fault
 abbrev pub KnowsFault : Option Parts → Type 0
 KnowsFault None = Unit {0}
 KnowsFault (Some parts) = IsFaultOf parts.reader parts.fault
+
+abbrev pub HasPlaced : Option Parts → Type 0
+HasPlaced None = Unit {0}
+HasPlaced (Some parts) = ArePlaced parts.fronts.items
+
+pub record IsSound (parts : Option Parts) : Type 0 where
+  pub fault : KnowsFault parts
+  pub placed : HasPlaced parts

@@ -1,8 +1,9 @@
 //! What came and wasn't reacted to.
 
-ghost use Rattle.std.specs.Prelude.{◌≡◌, Some, None, option_map, IsSome, OnOk, OnErr};
+ghost use Rattle.std.specs.Prelude.{◌≡◌, Some, None, option_map, IsSome, IfOk, OnOk, OnErr};
 ghost use Rattle.association_reading.specs.Front as reading;
-ghost use Rattle.association_intake.specs.Seen.{seen_front};
+ghost use Rattle.association_intake.specs.Seen.{seen_front, IsPlaced, TakesFirst};
+ghost use Rattle.association_intake.specs.View.{view_of, IsSound};
 
 use crate::front::Front;
 use crate::packets::push_packets;
@@ -38,17 +39,20 @@ impl Model for Intake {
 
     ghost Value = { Option reading.Intake };
 
-    ghost use Rattle.association_intake.specs.View.{view_of, KnowsFault};
+    ghost use Rattle.association_intake.specs.View.{view_of, IsSound};
 
     ghost view = { λ intake. view_of intake.parts };
 
-    ghost invariant = { λ intake. KnowsFault intake.parts };
+    ghost invariant = { λ intake. IsSound intake.parts };
 }
 
 impl Parts {
     /// Takes octets that came.
     fn feed(self, alloc: Global, bytes: &[u8]) -> Result<Parts, NoMemory>
-        ensures { IfOk result (λ parts. (view_of (Some parts) ≡ option_map (reading.with_octets bytes.now) (view_of (Some self))) × KnowsFault (Some parts)) }
+        requires { IsSound (Some self) }
+        ensures is { IfOk result (λ parts. view_of (Some parts) ≡ option_map (reading.with_octets bytes.now) (view_of (Some self))) }
+        ensures up { IfOk result (λ parts. IsSome (view_of (Some parts))) }
+        ensures sound { IfOk result (λ parts. IsSound (Some parts)) }
     {
         let Parts {
             mut reader,
@@ -110,7 +114,8 @@ impl Intake {
     /// Takes off what stands first; less than a message, and a fault of the transport, stay. It
     /// takes no memory.
     pub fn take(&mut self) -> Front
-        ensures { TakesFirst self.old result self.new }
+        ensures takes { TakesFirst self.old result self.new }
+        ensures placed { IsPlaced result }
     {
         match &mut self.parts {
             None => Front::Short,

@@ -2,9 +2,12 @@
 
 ghost use Rattle.std.specs.Prelude.{◌≡◌, ◌++◌, [], ◌∷◌, map, OnOk, Ok, Err};
 ghost use Rattle.spdu_codec.specs.Reading.{units_at};
-ghost use Rattle.spdu_codec.specs.Places.{user_places};
 ghost use Rattle.association_reading.specs.Front as reading;
-ghost use Rattle.association_intake.specs.Seen.{seen_front, seen_fronts};
+ghost use Rattle.std.specs.Prelude.{IfOk, length, ◌<◌, ◌^◌};
+ghost use Rattle.spdu_codec.specs.Places.{user_places, user_of, StandsAt, HoldUser};
+ghost use Rattle.end_rules.specs.Messages as meant;
+ghost use Rattle.association_words.specs.Seen.{seen_transport};
+ghost use Rattle.association_intake.specs.Seen.{seen_front, seen_fronts, HasPlaces, IsPlaced, ArePlaced};
 
 use crate::front::Front;
 use association_words::TransportUnit;
@@ -16,7 +19,10 @@ use tpkt::{Ends, Packet};
 
 /// Puts a front behind the others.
 fn push(fronts: &mut VecDeque<Front>, front: Front) -> Result<(), NoMemory>
-    ensures { OnOk result (fronts.new.items ≡ fronts.old.items ++ front ∷ []) }
+    requires front { IsPlaced front }
+    requires fronts { ArePlaced fronts.old.items }
+    ensures is { OnOk result (seen_fronts fronts.new.items ≡ seen_fronts fronts.old.items ++ seen_front front ∷ []) }
+    ensures placed { OnOk result (ArePlaced fronts.new.items) }
 {
     fronts.push_back(front)?;
     Ok(())
@@ -25,10 +31,14 @@ fn push(fronts: &mut VecDeque<Front>, front: Front) -> Result<(), NoMemory>
 /// Puts a unit behind the others.
 fn push_unit(
     fronts: &mut VecDeque<Front>,
+    tsdu: &[u8],
     unit: SessionWord,
     place: Option<usize>,
 ) -> Result<(), NoMemory>
-    ensures { OnOk result (seen_fronts fronts.new.items ≡ seen_fronts fronts.old.items ++ reading.OfSession unit (reading.start_of place) ∷ []) }
+    requires stands { StandsAt (user_of unit) tsdu.now place }
+    requires fronts { ArePlaced fronts.old.items }
+    ensures placed { OnOk result (ArePlaced fronts.new.items) }
+    ensures is { OnOk result (seen_fronts fronts.new.items ≡ seen_fronts fronts.old.items ++ reading.OfSession unit (reading.start_of place) ∷ []) }
 {
     push(
         fronts,
@@ -43,40 +53,57 @@ fn push_unit(
 /// 6.3.7).
 fn push_leading(
     fronts: &mut VecDeque<Front>,
+    tsdu: &[u8],
     unit: SessionWord,
     place: Option<usize>,
 ) -> Result<(), NoMemory>
-    ensures { OnOk result (seen_fronts fronts.new.items ≡ seen_fronts fronts.old.items ++ reading.leading unit (reading.start_of place)) }
+    requires stands { StandsAt (user_of unit) tsdu.now place }
+    requires fronts { ArePlaced fronts.old.items }
+    ensures placed { OnOk result (ArePlaced fronts.new.items) }
+    ensures is { OnOk result (seen_fronts fronts.new.items ≡ seen_fronts fronts.old.items ++ reading.leading unit (reading.start_of place)) }
 {
     if let SessionWord::GiveTokens { tokens: None } = &unit {
         return Ok(());
     }
-    push_unit(fronts, unit, place)
+    push_unit(fronts, tsdu, unit, place)
 }
 
 /// Puts the units of a TSDU behind the others.
-fn push_units(fronts: &mut VecDeque<Front>, at: UserPlaces, units: Spdus) -> Result<(), NoMemory>
-    ensures { OnOk result (seen_fronts fronts.new.items ≡ seen_fronts fronts.old.items ++ reading.fronts_of_units at (Ok units)) }
+fn push_units(
+    fronts: &mut VecDeque<Front>,
+    tsdu: &[u8],
+    at: UserPlaces,
+    units: Spdus,
+) -> Result<(), NoMemory>
+    requires hold { HoldUser units tsdu.now at }
+    requires fronts { ArePlaced fronts.old.items }
+    ensures placed { OnOk result (ArePlaced fronts.new.items) }
+    ensures is { OnOk result (seen_fronts fronts.new.items ≡ seen_fronts fronts.old.items ++ reading.fronts_of_units at (Ok units)) }
 {
     let mut units = units.into_vec().into_iter();
     let Some(first) = units.next() else {
         return Ok(());
     };
     match units.next() {
-        None => push_unit(fronts, first, at.first),
+        None => push_unit(fronts, tsdu, first, at.first),
         Some(second) => {
-            push_leading(fronts, first, at.first)?;
-            push_unit(fronts, second, at.second)
+            push_leading(fronts, tsdu, first, at.first)?;
+            push_unit(fronts, tsdu, second, at.second)
         }
     }
 }
 
 /// Puts what a TSDU brings behind the others.
 fn push_tsdu(alloc: Global, fronts: &mut VecDeque<Front>, octets: &Octets) -> Result<(), NoMemory>
-    ensures { OnOk result (seen_fronts fronts.new.items ≡ seen_fronts fronts.old.items ++ reading.fronts_of_units (user_places octets.now) (units_at octets.now)) }
+    requires fronts { ArePlaced fronts.old.items }
+    ensures placed { OnOk result (ArePlaced fronts.new.items) }
+    ensures is { OnOk result (seen_fronts fronts.new.items ≡ seen_fronts fronts.old.items ++ reading.fronts_of_units (user_places octets.now) (units_at octets.now)) }
 {
     match read_spdus(alloc, octets.as_slice()) {
-        Ok(units) => push_units(fronts, user_places(octets.as_slice()), units),
+        Ok(units) => {
+            let at = user_places(octets.as_slice());
+            push_units(fronts, octets.as_slice(), at, units)
+        }
         Err(SFault::At { place, .. }) => push(
             fronts,
             Front::Faulty {
@@ -102,7 +129,9 @@ fn request(alloc: Global, ends: &Ends) -> Result<TransportUnit, NoMemory>
 
 /// Puts a transport unit behind the others.
 fn push_transport(fronts: &mut VecDeque<Front>, unit: TransportUnit) -> Result<(), NoMemory>
-    ensures { OnOk result (seen_fronts fronts.new.items ≡ seen_fronts fronts.old.items ++ reading.OfTransport (seen_transport unit) ∷ []) }
+    requires fronts { ArePlaced fronts.old.items }
+    ensures placed { OnOk result (ArePlaced fronts.new.items) }
+    ensures is { OnOk result (seen_fronts fronts.new.items ≡ seen_fronts fronts.old.items ++ reading.OfTransport (seen_transport unit) ∷ []) }
 {
     push(fronts, Front::OfTransport(unit))
 }
@@ -110,7 +139,9 @@ fn push_transport(fronts: &mut VecDeque<Front>, unit: TransportUnit) -> Result<(
 /// Puts what a packet, or the packets of a TSDU, bring behind the others. A DR goes to an initiator,
 /// whose reference is 1.
 fn push_packet(alloc: Global, fronts: &mut VecDeque<Front>, packet: &Packet) -> Result<(), NoMemory>
-    ensures { OnOk result (seen_fronts fronts.new.items ≡ seen_fronts fronts.old.items ++ reading.fronts_of packet.now) }
+    requires fronts { ArePlaced fronts.old.items }
+    ensures placed { OnOk result (ArePlaced fronts.new.items) }
+    ensures is { OnOk result (seen_fronts fronts.new.items ≡ seen_fronts fronts.old.items ++ reading.fronts_of packet.now) }
 {
     match packet {
         Packet::Connect(ends) => push_transport(fronts, request(alloc, ends)?),
@@ -135,7 +166,9 @@ pub(crate) fn push_packets(
     fronts: &mut VecDeque<Front>,
     packets: &[Packet],
 ) -> Result<(), NoMemory>
-    ensures { OnOk result (seen_fronts fronts.new.items ≡ seen_fronts fronts.old.items ++ reading.all_fronts packets.now) }
+    requires fronts { ArePlaced fronts.old.items }
+    ensures placed { OnOk result (ArePlaced fronts.new.items) }
+    ensures is { OnOk result (seen_fronts fronts.new.items ≡ seen_fronts fronts.old.items ++ reading.all_fronts packets.now) }
 {
     for packet in packets {
         push_packet(alloc, fronts, packet)?;

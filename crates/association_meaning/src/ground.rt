@@ -1,9 +1,12 @@
 //! What reading stands on, and why it stops.
 
+ghost use Rattle.std.specs.Prelude.{◌≡◌, ℕ, []};
+ghost use Rattle.association_meaning.specs.declared.ground.Halt.TheVariants as halts;
+
 use association_codecs::Codecs;
 use association_words::Fault;
 use dialogue::Config;
-use osi_base::{Layer, NoMemory};
+use osi_base::{Layer, ListOf, NoMemory};
 use std::alloc::Global;
 use stub_tables::Tables;
 
@@ -37,16 +40,20 @@ impl From<NoMemory> for Halt {
 }
 
 /// A fault at this place of a layer, with this reason.
-pub(crate) fn fault_at<T>(
-    alloc: Global,
-    layer: Layer,
-    place: usize,
-    reason: u8,
-) -> Result<T, Halt> {
-    Err(Halt::Faulty(Fault::at(alloc, layer, place as u64, reason)))
+pub(crate) fn fault_at<T>(alloc: Global, layer: Layer, place: usize, reason: u8) -> Result<T, Halt>
+    ensures { result ≡ Err (halts.Faulty (record { layer = layer; place = place; reason = reason; told = [] })) }
+{
+    Err(Halt::Faulty(Fault {
+        layer,
+        place: place as u64,
+        reason,
+        told: ListOf::new(alloc),
+    }))
 }
 
 /// An invalid unit of the presentation (6), with no single field at fault.
-pub(crate) fn invalid_ppdu<T>(alloc: Global) -> Result<T, Halt> {
+pub(crate) fn invalid_ppdu<T>(alloc: Global) -> Result<T, Halt>
+    ensures { result ≡ Err (halts.Faulty (record { layer = Layer.Presentation; place = 0; reason = 6; told = [] })) }
+{
     fault_at(alloc, Layer::Presentation, 0, 6)
 }

@@ -10,8 +10,9 @@ mod layers;
 mod meaning;
 mod names;
 mod transfers;
+mod units;
 mod values;
 
 pub use ground::{Ground, Halt};
-pub use meaning::meaning;
 pub use transfers::arrived_at;
+pub use units::meaning;

@@ -1,22 +1,35 @@
 //! What each unit of the session means (X.225 8.3, X.226 8.2 to 8.4).
 
+ghost use Rattle.std.specs.Prelude.{◌≡◌, ◌+◌, ◌<◌, ◌^◌, length, [], IfOk};
+ghost use Rattle.presentation_pdus.specs.declared.place.PpduPlace.TheVariants as places;
+ghost use Rattle.presentation_pdus.specs.Units.{ppdu_at};
+ghost use Rattle.association_reading.specs.Meaning as reading;
+ghost use Rattle.association_words.specs.Seen.{seen_values, seen_accepting, seen_abort, seen_word};
+ghost use Rattle.association_meaning.specs.Grounds.{association_base, GivesAs};
+ghost use Rattle.association_intake.specs.Seen.{HasPlaces};
+ghost use Rattle.association_meaning.specs.Steps as steps;
+ghost use Rattle.association_meaning.specs.Words as words;
+
 use crate::association::{abort_values, accept_values, connect_values, refuse_values};
 use crate::contexts::Carrier;
 use crate::ground::{Ground, Halt, fault_at, invalid_ppdu};
 use crate::names::{acse_name, rtse_name};
 use crate::values::values_under;
 use association_ground::is_reliable;
-use association_words::{
-    AbortData, Accepting, ActivityWord, AssociationWord, DataWord, MarkWord, Values, Word,
-};
+use association_words::{AbortData, Accepting, AssociationWord, DataWord, MarkWord, Values, Word};
 use osi_base::{
-    Copied, Layer, ListOf, NoMemory, Octets, PresentationWord, SessionConnect, SessionWord, SetItem,
+    Copied, Layer, ListOf, NoMemory, Octets, Pdvs, PresentationAccept, PresentationConnect,
+    PresentationReject, PresentationWord, SessionConnect, SessionWord, SetItem,
 };
-use presentation_pdus::{PpduFault, PpduPlace};
+use presentation_pdus::{PpduFault, PpduPlace, ppdu_fault_is_first};
 use std::alloc::Global;
 
 /// The unit of the presentation that user data are. The place of a fault counts from the TSDU.
-fn ppdu_at(ground: &Ground<'_>, carrier: &Carrier<'_>) -> Result<PresentationWord, Halt> {
+fn unit_in(ground: &Ground<'_>, carrier: &Carrier<'_>) -> Result<PresentationWord, Halt>
+    requires { carrier.now.start + length carrier.now.user.now < 2 ^ 63 }
+    ensures { GivesAs (λ unit. unit) result (steps.read_unit carrier.now.start (ppdu_at carrier.now.place carrier.now.user.now)) }
+{
+    ppdu_fault_is_first();
     match ground
         .codecs
         .ppdus
@@ -34,7 +47,9 @@ fn ppdu_at(ground: &Ground<'_>, carrier: &Carrier<'_>) -> Result<PresentationWor
 }
 
 /// A CN without its user data.
-fn without_user(alloc: Global, session: &SessionConnect) -> Result<SessionConnect, NoMemory> {
+fn without_user(alloc: Global, session: &SessionConnect) -> Result<SessionConnect, NoMemory>
+    ensures { IfOk result (λ s. s ≡ record session.now { user = [] }) }
+{
     Ok(SessionConnect {
         calling_reference: session.calling_reference.copy(alloc)?,
         common_reference: session.common_reference.copy(alloc)?,
@@ -49,131 +64,302 @@ fn without_user(alloc: Global, session: &SessionConnect) -> Result<SessionConnec
     })
 }
 
+/// CP in the user data of CN.
+fn connect_in(ground: &Ground<'_>, carrier: &Carrier<'_>) -> Result<PresentationConnect, Halt>
+    requires { carrier.now.start + length carrier.now.user.now < 2 ^ 63 }
+    ensures { GivesAs (λ p. p) result (words.connect_in carrier.now.start (ppdu_at carrier.now.place carrier.now.user.now)) }
+{
+    match unit_in(ground, carrier)? {
+        PresentationWord::Connect(presentation) => Ok(presentation),
+        PresentationWord::Accept(_) => invalid_ppdu(ground.alloc),
+        PresentationWord::Reject(_) => invalid_ppdu(ground.alloc),
+        PresentationWord::Alter { .. } => invalid_ppdu(ground.alloc),
+        PresentationWord::AlterAck { .. } => invalid_ppdu(ground.alloc),
+        PresentationWord::Resynchronize { .. } => invalid_ppdu(ground.alloc),
+        PresentationWord::ResynchronizeAck { .. } => invalid_ppdu(ground.alloc),
+        PresentationWord::UserAbort { .. } => invalid_ppdu(ground.alloc),
+        PresentationWord::ProviderAbort { .. } => invalid_ppdu(ground.alloc),
+        PresentationWord::Data { .. } => invalid_ppdu(ground.alloc),
+    }
+}
+
+/// CPA in the user data of AC.
+fn accept_in(ground: &Ground<'_>, carrier: &Carrier<'_>) -> Result<PresentationAccept, Halt>
+    requires { carrier.now.start + length carrier.now.user.now < 2 ^ 63 }
+    ensures { GivesAs (λ p. p) result (words.accept_in carrier.now.start (ppdu_at carrier.now.place carrier.now.user.now)) }
+{
+    match unit_in(ground, carrier)? {
+        PresentationWord::Accept(presentation) => Ok(presentation),
+        PresentationWord::Connect(_) => invalid_ppdu(ground.alloc),
+        PresentationWord::Reject(_) => invalid_ppdu(ground.alloc),
+        PresentationWord::Alter { .. } => invalid_ppdu(ground.alloc),
+        PresentationWord::AlterAck { .. } => invalid_ppdu(ground.alloc),
+        PresentationWord::Resynchronize { .. } => invalid_ppdu(ground.alloc),
+        PresentationWord::ResynchronizeAck { .. } => invalid_ppdu(ground.alloc),
+        PresentationWord::UserAbort { .. } => invalid_ppdu(ground.alloc),
+        PresentationWord::ProviderAbort { .. } => invalid_ppdu(ground.alloc),
+        PresentationWord::Data { .. } => invalid_ppdu(ground.alloc),
+    }
+}
+
+/// CPR in the user data of RF.
+fn reject_in(ground: &Ground<'_>, carrier: &Carrier<'_>) -> Result<PresentationReject, Halt>
+    requires { carrier.now.start + length carrier.now.user.now < 2 ^ 63 }
+    ensures { GivesAs (λ p. p) result (words.reject_in carrier.now.start (ppdu_at carrier.now.place carrier.now.user.now)) }
+{
+    match unit_in(ground, carrier)? {
+        PresentationWord::Reject(presentation) => Ok(presentation),
+        PresentationWord::Connect(_) => invalid_ppdu(ground.alloc),
+        PresentationWord::Accept(_) => invalid_ppdu(ground.alloc),
+        PresentationWord::Alter { .. } => invalid_ppdu(ground.alloc),
+        PresentationWord::AlterAck { .. } => invalid_ppdu(ground.alloc),
+        PresentationWord::Resynchronize { .. } => invalid_ppdu(ground.alloc),
+        PresentationWord::ResynchronizeAck { .. } => invalid_ppdu(ground.alloc),
+        PresentationWord::UserAbort { .. } => invalid_ppdu(ground.alloc),
+        PresentationWord::ProviderAbort { .. } => invalid_ppdu(ground.alloc),
+        PresentationWord::Data { .. } => invalid_ppdu(ground.alloc),
+    }
+}
+
+/// Values that stand alone in user data.
+fn data_in(ground: &Ground<'_>, carrier: &Carrier<'_>) -> Result<Pdvs, Halt>
+    requires { carrier.now.start + length carrier.now.user.now < 2 ^ 63 }
+    ensures { GivesAs (λ p. p) result (words.data_in carrier.now.start (ppdu_at carrier.now.place carrier.now.user.now)) }
+{
+    match unit_in(ground, carrier)? {
+        PresentationWord::Data { user } => Ok(user),
+        PresentationWord::Connect(_) => invalid_ppdu(ground.alloc),
+        PresentationWord::Accept(_) => invalid_ppdu(ground.alloc),
+        PresentationWord::Reject(_) => invalid_ppdu(ground.alloc),
+        PresentationWord::Alter { .. } => invalid_ppdu(ground.alloc),
+        PresentationWord::AlterAck { .. } => invalid_ppdu(ground.alloc),
+        PresentationWord::Resynchronize { .. } => invalid_ppdu(ground.alloc),
+        PresentationWord::ResynchronizeAck { .. } => invalid_ppdu(ground.alloc),
+        PresentationWord::UserAbort { .. } => invalid_ppdu(ground.alloc),
+        PresentationWord::ProviderAbort { .. } => invalid_ppdu(ground.alloc),
+    }
+}
+
 /// CN with CP.
-fn connect_meaning(
+pub(crate) fn connect_meaning(
     ground: &Ground<'_>,
     session: &SessionConnect,
     start: usize,
-) -> Result<AssociationWord, Halt> {
+) -> Result<Word, Halt>
+    requires { start + length session.now.user < 2 ^ 63 }
+    ensures { GivesAs seen_word result (words.connected (association_base ground.now.tables.now ground.now.config.now) session.now start (words.connect_in start (ppdu_at places.Cn session.now.user))) }
+{
     let carrier = Carrier {
         place: PpduPlace::Cn,
         start,
         user: session.user.as_slice(),
     };
-    let PresentationWord::Connect(mut presentation) = ppdu_at(ground, &carrier)? else {
-        return invalid_ppdu(ground.alloc);
-    };
+    let presentation = connect_in(ground, &carrier)?;
     let values = connect_values(ground, &presentation, &carrier)?;
-    presentation.user = ListOf::new(ground.alloc);
-    Ok(AssociationWord::Connect {
+    Ok(Word::OfAssociation(AssociationWord::Connect {
         session: without_user(ground.alloc, session)?,
-        presentation,
+        presentation: PresentationConnect {
+            user: ListOf::new(ground.alloc),
+            ..presentation
+        },
         values,
-    })
+    }))
 }
 
 /// AC with CPA.
-fn accept_meaning(
+pub(crate) fn accept_meaning(
     ground: &Ground<'_>,
     session: Accepting,
     start: usize,
     user: &[u8],
-) -> Result<AssociationWord, Halt> {
+) -> Result<Word, Halt>
+    requires { start + length user.now < 2 ^ 63 }
+    ensures { GivesAs seen_word result (words.accepted (association_base ground.now.tables.now ground.now.config.now) (seen_accepting session) start user.now (words.accept_in start (ppdu_at places.Ac user.now))) }
+{
     let carrier = Carrier {
         place: PpduPlace::Ac,
         start,
         user,
     };
-    let PresentationWord::Accept(mut presentation) = ppdu_at(ground, &carrier)? else {
-        return invalid_ppdu(ground.alloc);
-    };
+    let presentation = accept_in(ground, &carrier)?;
     let values = accept_values(ground, &presentation, &carrier)?;
-    presentation.user = ListOf::new(ground.alloc);
-    Ok(AssociationWord::Accept {
+    Ok(Word::OfAssociation(AssociationWord::Accept {
         session,
-        presentation,
+        presentation: PresentationAccept {
+            user: ListOf::new(ground.alloc),
+            ..presentation
+        },
         values,
-    })
+    }))
+}
+
+/// RF with CPR.
+fn refuse_meaning(
+    ground: &Ground<'_>,
+    transport: Option<u8>,
+    reason: Option<u8>,
+    start: usize,
+    user: &[u8],
+) -> Result<Word, Halt>
+    requires { start + length user.now < 2 ^ 63 }
+    ensures { GivesAs seen_word result (words.refused (association_base ground.now.tables.now ground.now.config.now) transport reason start user.now (words.reject_in start (ppdu_at places.Rf user.now))) }
+{
+    let carrier = Carrier {
+        place: PpduPlace::Rf,
+        start,
+        user,
+    };
+    let presentation = reject_in(ground, &carrier)?;
+    let values = refuse_values(ground, &presentation, &carrier)?;
+    Ok(Word::OfAssociation(AssociationWord::Refuse {
+        transport,
+        reason,
+        presentation: Some(PresentationReject {
+            user: ListOf::new(ground.alloc),
+            ..presentation
+        }),
+        values,
+    }))
 }
 
 /// RF with CPR, or without user data.
-fn refused_with(
+pub(crate) fn refused_with(
     ground: &Ground<'_>,
     transport: Option<u8>,
     reason: Option<u8>,
     start: usize,
     user: &Option<Octets>,
-) -> Result<AssociationWord, Halt> {
-    let Some(user) = user else {
-        return Ok(AssociationWord::Refuse {
+) -> Result<Word, Halt>
+    requires { HasPlaces start user.now }
+    ensures { GivesAs seen_word result (reading.refused_with (association_base ground.now.tables.now ground.now.config.now) transport reason start user.now) }
+{
+    match user {
+        None => Ok(Word::OfAssociation(AssociationWord::Refuse {
             transport,
             reason,
             presentation: None,
             values: ListOf::new(ground.alloc),
-        });
-    };
-    let carrier = Carrier {
-        place: PpduPlace::Rf,
-        start,
-        user: user.as_slice(),
-    };
-    let PresentationWord::Reject(mut presentation) = ppdu_at(ground, &carrier)? else {
-        return invalid_ppdu(ground.alloc);
-    };
-    let values = refuse_values(ground, &presentation, &carrier)?;
-    presentation.user = ListOf::new(ground.alloc);
-    Ok(AssociationWord::Refuse {
-        transport,
-        reason,
-        presentation: Some(presentation),
-        values,
-    })
+        })),
+        Some(user) => refuse_meaning(ground, transport, reason, start, user.as_slice()),
+    }
+}
+
+/// What ARU or ARP in the user data of AB says.
+fn abort_in(
+    ground: &Ground<'_>,
+    accepted: &[SetItem],
+    carrier: &Carrier<'_>,
+) -> Result<AbortData, Halt>
+    requires { carrier.now.start + length carrier.now.user.now < 2 ^ 63 }
+    ensures { GivesAs seen_abort result (words.abort_in (association_base ground.now.tables.now ground.now.config.now) accepted.now carrier.now.start carrier.now.user.now carrier.now.place (ppdu_at carrier.now.place carrier.now.user.now)) }
+{
+    match unit_in(ground, carrier)? {
+        PresentationWord::UserAbort { user, .. } => Ok(AbortData::UserValues(abort_values(
+            ground,
+            accepted,
+            carrier,
+            user.as_slice(),
+        )?)),
+        PresentationWord::ProviderAbort { reason, .. } => Ok(AbortData::ProviderReason { reason }),
+        PresentationWord::Connect(_) => invalid_ppdu(ground.alloc),
+        PresentationWord::Accept(_) => invalid_ppdu(ground.alloc),
+        PresentationWord::Reject(_) => invalid_ppdu(ground.alloc),
+        PresentationWord::Alter { .. } => invalid_ppdu(ground.alloc),
+        PresentationWord::AlterAck { .. } => invalid_ppdu(ground.alloc),
+        PresentationWord::Resynchronize { .. } => invalid_ppdu(ground.alloc),
+        PresentationWord::ResynchronizeAck { .. } => invalid_ppdu(ground.alloc),
+        PresentationWord::Data { .. } => invalid_ppdu(ground.alloc),
+    }
 }
 
 /// AB with ARU or ARP, or without user data.
-fn aborted_with(
+pub(crate) fn aborted_with(
     ground: &Ground<'_>,
     accepted: &[SetItem],
+    transport: Option<u8>,
     start: usize,
     user: &Option<Octets>,
-) -> Result<AbortData, Halt> {
+) -> Result<Word, Halt>
+    requires { HasPlaces start user.now }
+    ensures { GivesAs seen_word result (words.aborted_with (association_base ground.now.tables.now ground.now.config.now) accepted.now transport start user.now) }
+{
     let Some(user) = user else {
-        return Ok(AbortData::NoData);
+        return Ok(Word::OfAssociation(AssociationWord::Abort {
+            transport,
+            user: AbortData::NoData,
+        }));
     };
     let carrier = Carrier {
         place: PpduPlace::Ab,
         start,
         user: user.as_slice(),
     };
-    match ppdu_at(ground, &carrier)? {
-        PresentationWord::UserAbort { user, .. } => Ok(AbortData::UserValues(abort_values(
-            ground,
-            accepted,
-            &carrier,
-            user.as_slice(),
-        )?)),
-        PresentationWord::ProviderAbort { reason, .. } => {
-            Ok(AbortData::ProviderReason { reason })
-        }
-        _ => invalid_ppdu(ground.alloc),
-    }
+    Ok(Word::OfAssociation(AssociationWord::Abort {
+        transport,
+        user: abort_in(ground, accepted, &carrier)?,
+    }))
 }
 
-/// User data alone, with values of one abstract syntax under the held set.
-fn data_with(
+/// Values alone in user data, of one abstract syntax, under the held set.
+fn values_with(
     ground: &Ground<'_>,
     held: &[SetItem],
     carried: &[u32],
     carrier: &Carrier<'_>,
-) -> Result<Values, Halt> {
-    let PresentationWord::Data { user } = ppdu_at(ground, carrier)? else {
-        return invalid_ppdu(ground.alloc);
+) -> Result<Values, Halt>
+    requires { carrier.now.start + length carrier.now.user.now < 2 ^ 63 }
+    ensures { GivesAs seen_values result (words.values_with ground.now.tables.now held.now carried.now carrier.now.place carrier.now.start carrier.now.user.now) }
+{
+    let pdvs = data_in(ground, carrier)?;
+    values_under(ground, held, carried, carrier, pdvs.as_slice())
+}
+
+/// FN, with values of association control.
+pub(crate) fn finish_meaning(
+    ground: &Ground<'_>,
+    held: &[SetItem],
+    transport: Option<u8>,
+    start: usize,
+    user: &[u8],
+) -> Result<Word, Halt>
+    requires { start + length user.now < 2 ^ 63 }
+    ensures { GivesAs seen_word result (words.finished ground.now.tables.now held.now transport start user.now) }
+{
+    let carrier = Carrier {
+        place: PpduPlace::Fn,
+        start,
+        user,
     };
-    values_under(ground, held, carried, carrier, user.as_slice())
+    Ok(Word::OfAssociation(AssociationWord::Finish {
+        transport,
+        values: values_with(ground, held, acse_name(), &carrier)?,
+    }))
+}
+
+/// DN, with values of association control.
+pub(crate) fn disconnect_meaning(
+    ground: &Ground<'_>,
+    held: &[SetItem],
+    start: usize,
+    user: &[u8],
+) -> Result<Word, Halt>
+    requires { start + length user.now < 2 ^ 63 }
+    ensures { GivesAs seen_word result (words.disconnected ground.now.tables.now held.now start user.now) }
+{
+    let carrier = Carrier {
+        place: PpduPlace::Dn,
+        start,
+        user,
+    };
+    Ok(Word::OfAssociation(AssociationWord::Disconnect {
+        values: values_with(ground, held, acse_name(), &carrier)?,
+    }))
 }
 
 /// The abstract syntax of the values that DT carries.
-fn carried_by_data<'a>(ground: &Ground<'a>) -> &'a [u32] {
+fn carried_by_data<'a>(ground: &Ground<'a>) -> &'a [u32]
+    ensures { result.now ≡ reading.carried_by_data (association_base ground.now.tables.now ground.now.config.now) }
+{
     if is_reliable(ground.config.mode) {
         rtse_name()
     } else {
@@ -181,232 +367,199 @@ fn carried_by_data<'a>(ground: &Ground<'a>) -> &'a [u32] {
     }
 }
 
-/// PT. A plea without a token item says nothing, whatever it carries.
-fn pleaded_with(
-    ground: &Ground<'_>,
-    held: &[SetItem],
-    tokens: Option<u8>,
-    start: usize,
-    user: &Option<Octets>,
-) -> Result<MarkWord, Halt> {
-    let (Some(_), Some(user)) = (tokens, user) else {
-        return Ok(MarkWord::Please {
-            tokens,
-            values: ListOf::new(ground.alloc),
-        });
-    };
-    let carrier = Carrier {
-        place: PpduPlace::Pt,
-        start,
-        user: user.as_slice(),
-    };
-    Ok(MarkWord::Please {
-        tokens,
-        values: data_with(ground, held, rtse_name(), &carrier)?,
-    })
-}
-
-/// TD with AC or ACA.
-fn typed_meaning(ground: &Ground<'_>, start: usize, user: &[u8]) -> Result<DataWord, Halt> {
-    let carrier = Carrier {
-        place: PpduPlace::Td,
-        start,
-        user,
-    };
-    match ppdu_at(ground, &carrier)? {
-        PresentationWord::Alter { add, delete } => Ok(DataWord::AlterContext { add, delete }),
-        PresentationWord::AlterAck { answers } => Ok(DataWord::AlterContextAck { answers }),
-        _ => invalid_ppdu(ground.alloc),
-    }
-}
-
-/// RS with its list, or without user data.
-fn restarted_with(
-    ground: &Ground<'_>,
-    number: u32,
-    start: usize,
-    user: &Option<Octets>,
-) -> Result<MarkWord, Halt> {
-    let Some(user) = user else {
-        return Ok(MarkWord::Restart { number, list: None });
-    };
-    let carrier = Carrier {
-        place: PpduPlace::Rs,
-        start,
-        user: user.as_slice(),
-    };
-    let PresentationWord::Resynchronize { restored } = ppdu_at(ground, &carrier)? else {
-        return invalid_ppdu(ground.alloc);
-    };
-    Ok(MarkWord::Restart {
-        number,
-        list: restored,
-    })
-}
-
-/// RA with its list, or without user data.
-fn restart_acked_with(
-    ground: &Ground<'_>,
-    number: u32,
-    start: usize,
-    user: &Option<Octets>,
-) -> Result<MarkWord, Halt> {
-    let Some(user) = user else {
-        return Ok(MarkWord::RestartAck { number, list: None });
-    };
-    let carrier = Carrier {
-        place: PpduPlace::Ra,
-        start,
-        user: user.as_slice(),
-    };
-    let PresentationWord::ResynchronizeAck { restored } = ppdu_at(ground, &carrier)? else {
-        return invalid_ppdu(ground.alloc);
-    };
-    Ok(MarkWord::RestartAck {
-        number,
-        list: restored,
-    })
-}
-
-/// FN or DN, with values of association control.
-fn release_values(
-    ground: &Ground<'_>,
-    held: &[SetItem],
-    place: PpduPlace,
-    start: usize,
-    user: &[u8],
-) -> Result<Values, Halt> {
-    let carrier = Carrier { place, start, user };
-    data_with(ground, held, acse_name(), &carrier)
-}
-
 /// DT, with the module's values, in reliable mode with parts of transfers.
-fn data_meaning(
+pub(crate) fn data_meaning(
     ground: &Ground<'_>,
     held: &[SetItem],
     start: usize,
     user: &[u8],
-) -> Result<DataWord, Halt> {
+) -> Result<Word, Halt>
+    requires { start + length user.now < 2 ^ 63 }
+    ensures { GivesAs seen_word result (words.sent (association_base ground.now.tables.now ground.now.config.now) held.now start user.now) }
+{
     let carrier = Carrier {
         place: PpduPlace::Dt,
         start,
         user,
     };
-    Ok(DataWord::Values(data_with(ground, held, carried_by_data(ground), &carrier)?))
+    Ok(Word::OfData(DataWord::Values(values_with(
+        ground,
+        held,
+        carried_by_data(ground),
+        &carrier,
+    )?)))
 }
 
-/// AC with its parameters.
-fn accepted_with(
+/// PT that carries values.
+fn plea_meaning(
     ground: &Ground<'_>,
-    session: Accepting,
-    start: usize,
-    user: &Octets,
-) -> Result<Word, Halt> {
-    let word = accept_meaning(ground, session, start, user.as_slice())?;
-    Ok(Word::OfAssociation(word))
-}
-
-/// A word of the association.
-fn of_association(word: AssociationWord) -> Result<Word, Halt> {
-    Ok(Word::OfAssociation(word))
-}
-
-/// A word of marks, restarts and tokens.
-fn of_marks(word: MarkWord) -> Result<Word, Halt> {
-    Ok(Word::OfMarks(word))
-}
-
-/// A word of activities.
-fn of_activities(word: ActivityWord) -> Result<Word, Halt> {
-    Ok(Word::OfActivities(word))
-}
-
-/// What a unit of the session means under the accepted contexts of the association and the held set,
-/// or the fault that ends the association: its unit of the presentation, then contexts and forms of
-/// values, then their APDUs. Its user data begin at this place of its TSDU. `NoMemory` where memory
-/// runs out; the unit is left as it is.
-pub fn meaning(
-    ground: &Ground<'_>,
-    accepted: &[SetItem],
     held: &[SetItem],
-    unit: &SessionWord,
+    tokens: u8,
     start: usize,
-) -> Result<Word, Halt> {
-    match unit {
-        SessionWord::Connect(session) => of_association(connect_meaning(ground, session, start)?),
-        SessionWord::Accept {
-            options,
-            version,
-            initial,
-            requirements,
-            user,
-        } => {
-            let session = Accepting {
-                options: *options,
-                version: *version,
-                initial: *initial,
-                requirements: *requirements,
-            };
-            accepted_with(ground, session, start, user)
+    user: &[u8],
+) -> Result<Word, Halt>
+    requires { start + length user.now < 2 ^ 63 }
+    ensures { GivesAs seen_word result (words.pleaded ground.now.tables.now held.now tokens start user.now) }
+{
+    let carrier = Carrier {
+        place: PpduPlace::Pt,
+        start,
+        user,
+    };
+    Ok(Word::OfMarks(MarkWord::Please {
+        tokens: Some(tokens),
+        values: values_with(ground, held, rtse_name(), &carrier)?,
+    }))
+}
+
+/// PT. A plea without a token item says nothing, whatever it carries.
+pub(crate) fn pleaded_with(
+    ground: &Ground<'_>,
+    held: &[SetItem],
+    tokens: Option<u8>,
+    start: usize,
+    user: &Option<Octets>,
+) -> Result<Word, Halt>
+    requires { HasPlaces start user.now }
+    ensures { GivesAs seen_word result (words.pleaded_with ground.now.tables.now held.now tokens start user.now) }
+{
+    let Some(tokens) = tokens else {
+        return Ok(Word::OfMarks(MarkWord::Please {
+            tokens: None,
+            values: ListOf::new(ground.alloc),
+        }));
+    };
+    match user {
+        None => Ok(Word::OfMarks(MarkWord::Please {
+            tokens: Some(tokens),
+            values: ListOf::new(ground.alloc),
+        })),
+        Some(user) => plea_meaning(ground, held, tokens, start, user.as_slice()),
+    }
+}
+
+/// TD with AC or ACA.
+pub(crate) fn typed_meaning(ground: &Ground<'_>, start: usize, user: &[u8]) -> Result<Word, Halt>
+    requires { start + length user.now < 2 ^ 63 }
+    ensures { GivesAs seen_word result (words.typed start (ppdu_at places.Td user.now)) }
+{
+    let carrier = Carrier {
+        place: PpduPlace::Td,
+        start,
+        user,
+    };
+    match unit_in(ground, &carrier)? {
+        PresentationWord::Alter { add, delete } => {
+            Ok(Word::OfData(DataWord::AlterContext { add, delete }))
         }
-        SessionWord::Refuse {
-            transport,
-            reason,
-            user,
-        } => of_association(refused_with(ground, *transport, *reason, start, user)?),
-        SessionWord::Finish { transport, user } => of_association(AssociationWord::Finish {
-            transport: *transport,
-            values: release_values(ground, held, PpduPlace::Fn, start, user.as_slice())?,
-        }),
-        SessionWord::Disconnect { user } => of_association(AssociationWord::Disconnect {
-            values: release_values(ground, held, PpduPlace::Dn, start, user.as_slice())?,
-        }),
-        SessionWord::Abort { transport, user } => of_association(AssociationWord::Abort {
-            transport: *transport,
-            user: aborted_with(ground, accepted, start, user)?,
-        }),
-        SessionWord::AbortAccept => of_association(AssociationWord::AbortAccept),
-        SessionWord::TypedData { user } => {
-            Ok(Word::OfData(typed_meaning(ground, start, user.as_slice())?))
+        PresentationWord::AlterAck { answers } => {
+            Ok(Word::OfData(DataWord::AlterContextAck { answers }))
         }
-        SessionWord::Data { user } => Ok(Word::OfData(data_meaning(
-            ground,
-            held,
-            start,
-            user.as_slice(),
-        )?)),
-        SessionWord::GiveTokens { tokens } => of_marks(MarkWord::Give { tokens: *tokens }),
-        SessionWord::PleaseTokens { tokens, user } => {
-            of_marks(pleaded_with(ground, held, *tokens, start, user)?)
+        PresentationWord::Connect(_) => invalid_ppdu(ground.alloc),
+        PresentationWord::Accept(_) => invalid_ppdu(ground.alloc),
+        PresentationWord::Reject(_) => invalid_ppdu(ground.alloc),
+        PresentationWord::Resynchronize { .. } => invalid_ppdu(ground.alloc),
+        PresentationWord::ResynchronizeAck { .. } => invalid_ppdu(ground.alloc),
+        PresentationWord::UserAbort { .. } => invalid_ppdu(ground.alloc),
+        PresentationWord::ProviderAbort { .. } => invalid_ppdu(ground.alloc),
+        PresentationWord::Data { .. } => invalid_ppdu(ground.alloc),
+    }
+}
+
+/// RS with its list.
+fn restart_meaning(
+    ground: &Ground<'_>,
+    number: u32,
+    start: usize,
+    user: &[u8],
+) -> Result<Word, Halt>
+    requires { start + length user.now < 2 ^ 63 }
+    ensures { GivesAs seen_word result (words.restarted number start (ppdu_at places.Rs user.now)) }
+{
+    let carrier = Carrier {
+        place: PpduPlace::Rs,
+        start,
+        user,
+    };
+    match unit_in(ground, &carrier)? {
+        PresentationWord::Resynchronize { restored } => Ok(Word::OfMarks(MarkWord::Restart {
+            number,
+            list: restored,
+        })),
+        PresentationWord::Connect(_) => invalid_ppdu(ground.alloc),
+        PresentationWord::Accept(_) => invalid_ppdu(ground.alloc),
+        PresentationWord::Reject(_) => invalid_ppdu(ground.alloc),
+        PresentationWord::Alter { .. } => invalid_ppdu(ground.alloc),
+        PresentationWord::AlterAck { .. } => invalid_ppdu(ground.alloc),
+        PresentationWord::ResynchronizeAck { .. } => invalid_ppdu(ground.alloc),
+        PresentationWord::UserAbort { .. } => invalid_ppdu(ground.alloc),
+        PresentationWord::ProviderAbort { .. } => invalid_ppdu(ground.alloc),
+        PresentationWord::Data { .. } => invalid_ppdu(ground.alloc),
+    }
+}
+
+/// RS with its list, or without user data.
+pub(crate) fn restarted_with(
+    ground: &Ground<'_>,
+    number: u32,
+    start: usize,
+    user: &Option<Octets>,
+) -> Result<Word, Halt>
+    requires { HasPlaces start user.now }
+    ensures { GivesAs seen_word result (reading.restarted_with number start user.now) }
+{
+    match user {
+        None => Ok(Word::OfMarks(MarkWord::Restart { number, list: None })),
+        Some(user) => restart_meaning(ground, number, start, user.as_slice()),
+    }
+}
+
+/// RA with its list.
+fn restart_ack_meaning(
+    ground: &Ground<'_>,
+    number: u32,
+    start: usize,
+    user: &[u8],
+) -> Result<Word, Halt>
+    requires { start + length user.now < 2 ^ 63 }
+    ensures { GivesAs seen_word result (words.restart_acked number start (ppdu_at places.Ra user.now)) }
+{
+    let carrier = Carrier {
+        place: PpduPlace::Ra,
+        start,
+        user,
+    };
+    match unit_in(ground, &carrier)? {
+        PresentationWord::ResynchronizeAck { restored } => {
+            Ok(Word::OfMarks(MarkWord::RestartAck {
+                number,
+                list: restored,
+            }))
         }
-        SessionWord::GiveTokensConfirm => of_marks(MarkWord::GiveConfirm),
-        SessionWord::GiveTokensAck => of_marks(MarkWord::GiveAck),
-        SessionWord::Mark { number } => of_marks(MarkWord::Mark { number: *number }),
-        SessionWord::MarkAck { number } => of_marks(MarkWord::MarkAck { number: *number }),
-        SessionWord::Resynchronize { number, user } => {
-            of_marks(restarted_with(ground, *number, start, user)?)
-        }
-        SessionWord::ResynchronizeAck { number, user } => {
-            of_marks(restart_acked_with(ground, *number, start, user)?)
-        }
-        SessionWord::ActivityStart { activity } => of_activities(ActivityWord::Start {
-            activity: *activity,
-        }),
-        SessionWord::ActivityResume { activity, mark } => of_activities(ActivityWord::Resume {
-            activity: *activity,
-            mark: *mark,
-        }),
-        SessionWord::ActivityInterrupt { reason } => {
-            of_activities(ActivityWord::Interrupt { reason: *reason })
-        }
-        SessionWord::ActivityInterruptAck => of_activities(ActivityWord::InterruptAck),
-        SessionWord::ActivityDiscard { reason } => {
-            of_activities(ActivityWord::Discard { reason: *reason })
-        }
-        SessionWord::ActivityDiscardAck => of_activities(ActivityWord::DiscardAck),
-        SessionWord::ActivityEnd { number } => of_activities(ActivityWord::End { number: *number }),
-        SessionWord::ActivityEndAck { number } => {
-            of_activities(ActivityWord::EndAck { number: *number })
-        }
+        PresentationWord::Connect(_) => invalid_ppdu(ground.alloc),
+        PresentationWord::Accept(_) => invalid_ppdu(ground.alloc),
+        PresentationWord::Reject(_) => invalid_ppdu(ground.alloc),
+        PresentationWord::Alter { .. } => invalid_ppdu(ground.alloc),
+        PresentationWord::AlterAck { .. } => invalid_ppdu(ground.alloc),
+        PresentationWord::Resynchronize { .. } => invalid_ppdu(ground.alloc),
+        PresentationWord::UserAbort { .. } => invalid_ppdu(ground.alloc),
+        PresentationWord::ProviderAbort { .. } => invalid_ppdu(ground.alloc),
+        PresentationWord::Data { .. } => invalid_ppdu(ground.alloc),
+    }
+}
+
+/// RA with its list, or without user data.
+pub(crate) fn restart_acked_with(
+    ground: &Ground<'_>,
+    number: u32,
+    start: usize,
+    user: &Option<Octets>,
+) -> Result<Word, Halt>
+    requires { HasPlaces start user.now }
+    ensures { GivesAs seen_word result (reading.restart_acked_with number start user.now) }
+{
+    match user {
+        None => Ok(Word::OfMarks(MarkWord::RestartAck { number, list: None })),
+        Some(user) => restart_ack_meaning(ground, number, start, user.as_slice()),
     }
 }
