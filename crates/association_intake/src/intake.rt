@@ -69,7 +69,12 @@ impl Parts {
     }
 
     /// Takes off what stands first. A fault of the transport stands behind all that was whole.
-    fn take(&mut self) -> Front {
+    fn take(&mut self) -> Front
+        requires { IsSound (Some self.old) }
+        ensures takes { TakesFirst (view_of (Some self.old)) result (view_of (Some self.new)) }
+        ensures placed { IsPlaced result }
+        ensures sound { IsSound (Some self.new) }
+    {
         if let Some(front) = self.fronts.pop_front() {
             return front;
         }
@@ -117,9 +122,11 @@ impl Intake {
         ensures takes { TakesFirst self.old result self.new }
         ensures placed { IsPlaced result }
     {
-        match &mut self.parts {
-            None => Front::Short,
-            Some(parts) => parts.take(),
-        }
+        let Some(mut parts) = self.parts.take() else {
+            return Front::Short;
+        };
+        let front = parts.take();
+        self.parts = Some(parts);
+        front
     }
 }

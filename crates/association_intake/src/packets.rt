@@ -18,6 +18,7 @@ use std::collections::VecDeque;
 use tpkt::{Ends, Packet};
 
 /// Puts a front behind the others.
+#[tactic(auto, using(crate::proofs::Placed::placed_on))]
 fn push(fronts: &mut VecDeque<Front>, front: Front) -> Result<(), NoMemory>
     requires front { IsPlaced front }
     requires fronts { ArePlaced fronts.old.items }
@@ -29,6 +30,7 @@ fn push(fronts: &mut VecDeque<Front>, front: Front) -> Result<(), NoMemory>
 }
 
 /// Puts a unit behind the others.
+#[tactic(auto, using(crate::proofs::Placed::stands_placed))]
 fn push_unit(
     fronts: &mut VecDeque<Front>,
     tsdu: &[u8],
