@@ -10,7 +10,7 @@ use Rattle.end_rules.specs.State.{Body}
 use Rattle.end_rules.specs.Messages.{Value, Word, OfAssociation, Finish, Disconnect, OfData, Values, OfMarks, Please}
 use Rattle.association_reading.specs.Meaning as reading
 use Rattle.association_meaning.specs.Grounds.{body_with}
-use Rattle.association_meaning.proofs.Units.{data_is, aborted_is}
+use Rattle.association_meaning.proofs.Meant.{data_is, aborted_is}
 
 module _ (base : Base) (body : Body) (start : ℕ) where
   -- a new end with the same contexts

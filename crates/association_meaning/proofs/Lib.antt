@@ -1,3 +1,3 @@
-pub mod Units
+pub mod Meant
 pub mod Bodies
 pub mod Wrongs

@@ -9,7 +9,7 @@ ghost use Rattle.association_meaning.specs.Grounds.{association_base, body_with,
 ghost use Rattle.association_intake.specs.Seen.{HasPlaces};
 
 use crate::ground::{Ground, Halt};
-use crate::meaning::{
+use crate::parts::{
     aborted_with, accept_meaning, connect_meaning, data_meaning, disconnect_meaning,
     finish_meaning, pleaded_with, refused_with, restart_acked_with, restarted_with, typed_meaning,
 };

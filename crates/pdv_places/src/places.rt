@@ -53,13 +53,15 @@ fn first_contents(first: u8, spots: &[Spot<'_>]) -> usize
 }
 
 /// The place of the last value.
+#[tactic(auto, using(crate::proofs::Fitting::last_is))]
 fn last_start(spots: &[Spot<'_>]) -> usize
     ensures { result ≡ reading.last_start (map spot_of spots.now) }
 {
-    match spots.last() {
-        None => 0,
-        Some(spot) => spot.place,
+    let mut start = 0;
+    for spot in spots {
+        start = spot.place;
     }
+    start
 }
 
 /// The places of a value's fields: an OBJECT IDENTIFIER, which may lack, an INTEGER and the form.
@@ -75,6 +77,21 @@ fn places_of(alloc: Global, pdv: Spot<'_>) -> Result<PdvPlaces, NoMemory>
     })
 }
 
+/// Puts a value that begins with this octet behind the others.
+#[tactic(auto, using(crate::proofs::Fitting::fit_on))]
+fn push_if<'a>(first: u8, spot: Spot<'a>, found: &mut Vec<Spot<'a>>) -> Result<(), NoMemory>
+    requires some { 0 < first }
+    requires fit { Fits spot }
+    requires found_fit { AllFit found.old.items }
+    ensures is { OnOk result (map spot_of found.new.items ≡ map spot_of found.old.items ++ reading.beginning_with first (spot_of spot.entry ∷ [])) }
+    ensures fit { OnOk result (AllFit found.new.items) }
+{
+    if begins_with(first, &spot) {
+        found.push(spot)?;
+    }
+    Ok(())
+}
+
 /// Puts those values that begin with this octet behind the others.
 fn push_beginning<'a>(
     first: u8,
@@ -88,14 +105,13 @@ fn push_beginning<'a>(
     ensures fit { OnOk result (AllFit found.new.items) }
 {
     for spot in spots {
-        if begins_with(first, spot) {
-            found.push(*spot)?;
-        }
+        push_if(first, *spot, found)?;
     }
     Ok(())
 }
 
 /// User data, [APPLICATION 1], among the values in these.
+#[tactic(auto, using(crate::proofs::Fitting::fit_on, crate::proofs::Fitting::fit_first, crate::proofs::Fitting::fit_rest))]
 fn user_data_in<'a>(alloc: Global, spots: &[Spot<'a>]) -> Result<Vec<Spot<'a>>, NoMemory>
     requires { AllFit spots.now }
     ensures is { IfOk result (λ v. map spot_of v.items ≡ flat_map user_data_of (map spot_of spots.now)) }
@@ -171,6 +187,7 @@ fn user_data<'a>(
 }
 
 /// All values in these.
+#[tactic(auto, using(crate::proofs::Fitting::fit_on, crate::proofs::Fitting::fit_first, crate::proofs::Fitting::fit_rest))]
 fn all_values<'a>(alloc: Global, spots: &[Spot<'a>]) -> Result<Vec<Spot<'a>>, NoMemory>
     requires { AllFit spots.now }
     ensures is { IfOk result (λ v. map spot_of v.items ≡ flat_map reading.values_in (map spot_of spots.now)) }
@@ -185,6 +202,7 @@ fn all_values<'a>(alloc: Global, spots: &[Spot<'a>]) -> Result<Vec<Spot<'a>>, No
 }
 
 /// Puts values behind the others.
+#[tactic(auto, using(crate::proofs::Fitting::fit_on, crate::proofs::Fitting::fit_first, crate::proofs::Fitting::fit_rest))]
 fn push_all<'a>(spots: &[Spot<'a>], all: &mut Vec<Spot<'a>>) -> Result<(), NoMemory>
     requires fit { AllFit spots.now }
     requires all_fit { AllFit all.old.items }
@@ -198,18 +216,19 @@ fn push_all<'a>(spots: &[Spot<'a>], all: &mut Vec<Spot<'a>>) -> Result<(), NoMem
 }
 
 /// The places of the value with this number, counted from 0; all are 0 where there is none.
+#[tactic(auto, using(crate::proofs::Fitting::at_there, crate::proofs::Fitting::at_gone, crate::proofs::Fitting::fits_at))]
 fn places_at(alloc: Global, which: usize, values: &[Spot<'_>]) -> Result<PdvPlaces, NoMemory>
     requires { AllFit values.now }
     ensures { IfOk result (λ at. seen_places at ≡ places_at which (map reading.places_of (map spot_of values.now))) }
 {
-    match values.get(which) {
-        None => Ok(PdvPlaces {
+    if which >= values.len() {
+        return Ok(PdvPlaces {
             name: 0,
             identifier: 0,
             form: 0,
-        }),
-        Some(value) => places_of(alloc, *value),
+        });
     }
+    places_of(alloc, values[which])
 }
 
 /// The place of a field of these.

@@ -2,7 +2,7 @@
 
 ghost use Rattle.std.specs.Prelude.{◌≡◌, ◌+◌, ◌<◌, ◌≤◌, ◌^◌, length, map, [], IfOk};
 ghost use Rattle.association_reading.specs.Places as reading;
-ghost use Rattle.pdv_places.specs.Seen.{spot_of, Fits, AllFit};
+ghost use Rattle.pdv_places.specs.Seen.{spot_of, is_done, Fits, AllFit};
 
 use osi_base::NoMemory;
 use std::alloc::Global;
@@ -70,6 +70,13 @@ fn behind_value<'a>(spot: Spot<'a>) -> Spot<'a>
     }
 }
 
+/// Whether no further value stands here: the end-of-contents do, or so many octets are left.
+fn is_done(left: usize, spot: Spot<'_>) -> bool
+    ensures { result ≡ is_done left (spot_of spot.entry) }
+{
+    is_ended(spot.rest) || spot.rest.len() <= left
+}
+
 /// The values that stand one after the other, up to the end-of-contents or until so many octets are
 /// left.
 fn values_until<'a>(
@@ -85,7 +92,7 @@ fn values_until<'a>(
     let mut at = spot;
     let mut values = Vec::new(alloc);
     for _turn in 0..turns {
-        if is_ended(at.rest) || at.rest.len() <= left {
+        if is_done(left, at) {
             return Ok(values);
         }
         values.push(at)?;

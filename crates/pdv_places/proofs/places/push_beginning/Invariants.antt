@@ -1,7 +1,6 @@
-use Rattle.std.proofs.Common.{◌≡◌, ℕ, ◌+◌, ◌-◌, ◌++◌, [], drop, map}
-use Rattle.std.specs.List.{flat_map}
+use Rattle.std.proofs.Common.{◌≡◌, ◌++◌, drop, map}
 use Rattle.association_reading.specs.Places as reading
-use Rattle.pdv_places.specs.Seen.{spot_of, Fits, AllFit, user_data_of}
+use Rattle.pdv_places.specs.Seen.{spot_of, AllFit}
 use Rattle.pdv_places.proofs.places.push_beginning.Given as goal
 
 abbrev pub invariant-loop-spot : goal.invariant-loop-spot
