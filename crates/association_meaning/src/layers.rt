@@ -114,7 +114,8 @@ pub(crate) fn content_under(
     pair: &Pair,
     octets: &[u8],
 ) -> Result<Content, Halt>
-    ensures { GivesAs seen_content result (reading.content_under ground.now.tables.now pair.now octets.now) }
+    ensures { GivesAs seen_content result (reading.content_under ground.now.tables.now pair.now
+        octets.now) }
 {
     let name = pair.abstract_name.arcs();
     if same_name(name, acse_name()) {
@@ -138,7 +139,8 @@ pub(crate) fn content_by(
     pair: Option<&Pair>,
     octets: &[u8],
 ) -> Result<Content, Halt>
-    ensures { GivesAs seen_content result (reading.content_by ground.now.tables.now (option_copied pair.entry) octets.now) }
+    ensures { GivesAs seen_content result
+        (reading.content_by ground.now.tables.now (option_copied pair.entry) octets.now) }
 {
     match pair {
         None => Ok(Content::Unread(Octets::from_slice(ground.alloc, octets)?)),

@@ -27,7 +27,8 @@ fn copied(alloc: Global, pair: Option<&Pair>) -> Result<Option<Pair>, NoMemory>
 
 /// A value under the pair of its context, where there is one.
 fn value_by(ground: &Ground<'_>, pair: Option<&Pair>, pdv: &Pdv) -> Result<Value, Halt>
-    ensures { GivesAs seen_value result (reading.value_by ground.now.tables.now (option_copied pair.entry) pdv.now) }
+    ensures { GivesAs seen_value result
+        (reading.value_by ground.now.tables.now (option_copied pair.entry) pdv.now) }
 {
     let content = content_by(ground, pair, pdv.content.octets().as_slice())?;
     Ok(Value {
@@ -46,7 +47,8 @@ pub(crate) fn value_in(ground: &Ground<'_>, set: &[SetItem], pdv: &Pdv) -> Resul
 
 /// Values under a set, one after the other.
 fn all_in(ground: &Ground<'_>, set: &[SetItem], pdvs: &[Pdv]) -> Result<Values, Halt>
-    ensures { GivesAs seen_values result (reading.all_values (reading.value_in ground.now.tables.now set.now) pdvs.now) }
+    ensures { GivesAs seen_values result
+        (reading.all_values (reading.value_in ground.now.tables.now set.now) pdvs.now) }
 {
     let mut values: Values = ListOf::new(ground.alloc);
     for pdv in pdvs {
@@ -65,7 +67,9 @@ pub(crate) fn values_under(
     pdvs: &[Pdv],
 ) -> Result<Values, Halt>
     requires { carrier.now.start + length carrier.now.user.now < 2 ^ 63 }
-    ensures { GivesAs seen_values result (reading.values_under ground.now.tables.now set.now carried.now (pdv_places carrier.now.place carrier.now.start carrier.now.user.now) pdvs.now) }
+    ensures { GivesAs seen_values result (reading.values_under ground.now.tables.now set.now
+        carried.now (pdv_places carrier.now.place carrier.now.start carrier.now.user.now)
+        pdvs.now) }
 {
     check(ground, carrier, first_wrong(carried, set, pdvs))?;
     all_in(ground, set, pdvs)

@@ -7,7 +7,8 @@ use crate::alteration::Alteration;
 use crate::sets::{put, without_context};
 use association_ground::syntax_named;
 use osi_base::{
-    AddAnswer, Answers, Copied, Ids, ListOf, NoMemory, Oid, Pair, Proposal, SetItem, SetList, Syntax,
+    AddAnswer, Answers, Copied, Ids, ListOf, NoMemory, Oid, Pair, Proposal, SetItem, SetList,
+    Syntax,
 };
 use std::alloc::Global;
 
@@ -78,7 +79,8 @@ fn put_accepted(
     proposal: &Proposal,
     answer: &AddAnswer,
 ) -> Result<(), NoMemory>
-    ensures { OnOk result (set.new.items ≡ put_accepted proposal.now.id (pair_accepted proposal.now answer.now) set.old.items) }
+    ensures { OnOk result (set.new.items ≡ put_accepted proposal.now.id
+        (pair_accepted proposal.now answer.now) set.old.items) }
 {
     match pair_accepted(alloc, proposal, answer)? {
         None => Ok(()),
