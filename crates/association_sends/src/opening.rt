@@ -1,0 +1,237 @@
+//! The opening.
+
+ghost use Rattle.std.specs.Prelude.{◌≡◌, ◌++◌, IfOk, OnOk, pos};
+ghost use Rattle.osi_base.specs.declared.rtse_word.Rtse.TheVariants as rtse;
+ghost use Rattle.end_rules.specs.Units.{proposed_units};
+ghost use Rattle.end_rules.specs.Base.{application_context};
+ghost use Rattle.end_rules.specs.Writing.{proposal_in_ber, own_proposals, proposals, in_reliable, initial_number, requirement_bits, session_connect, presentation_connect, connection_data, connect_values, connect_message, connection_request};
+ghost use Rattle.association_words.specs.Seen.{seen_message, seen_values};
+ghost use Rattle.association_state.specs.Seen.{base_in};
+
+use crate::values::{acse_value, information};
+use association_state::Ground;
+use association_words::{AssociationWord, Message, TransportUnit, Values, Word};
+use dialogue::Mode;
+use osi_base::{
+    Acse, BitString, ConnectionData, Copied, ListOf, NoMemory, Octets, Oid, Oids,
+    PresentationConnect, Proposal, Proposals, Rtse, SessionConnect,
+};
+use std::alloc::Global;
+
+/// A context that an initiator proposes of itself, in BER.
+fn proposal_in_ber(alloc: Global, id: u32, name: Oid) -> Result<Proposal, NoMemory>
+    ensures { IfOk result (λ p. p ≡ proposal_in_ber id name) }
+{
+    let mut transfers: Oids = ListOf::new(alloc);
+    transfers.push(Oid::from_slice(alloc, &[2, 1, 1])?)?;
+    Ok(Proposal {
+        id,
+        abstract_name: name,
+        transfers,
+    })
+}
+
+/// The contexts that an initiator proposes of itself.
+fn own_proposals(alloc: Global, mode: Mode) -> Result<Proposals, NoMemory>
+    ensures { IfOk result (λ ps. ps ≡ own_proposals mode) }
+{
+    let mut proposals: Proposals = ListOf::new(alloc);
+    proposals.push(proposal_in_ber(alloc, 1, Oid::from_slice(alloc, &[2, 2, 1, 0, 1])?)?)?;
+    match mode {
+        Mode::Reliable => {
+            let name = Oid::from_slice(alloc, &[2, 999, 5, 2])?;
+            proposals.push(proposal_in_ber(alloc, 3, name)?)?;
+            Ok(proposals)
+        }
+        Mode::Direct => Ok(proposals),
+        Mode::Bare => Ok(proposals),
+    }
+}
+
+/// Puts copies of contexts behind others.
+fn push_all(alloc: Global, proposals: &mut Proposals, contexts: &[Proposal]) -> Result<(), NoMemory>
+    ensures { OnOk result (proposals.new ≡ proposals.old ++ contexts.now) }
+{
+    for context in contexts {
+        proposals.push(context.copy(alloc)?)?;
+    }
+    Ok(())
+}
+
+/// The contexts that an initiator proposes.
+pub fn proposals(ground: &Ground<'_>) -> Result<Proposals, NoMemory>
+    ensures { IfOk result (λ ps. ps ≡ proposals (base_in ground.now)) }
+{
+    let mut all = own_proposals(ground.alloc, ground.config.mode)?;
+    push_all(ground.alloc, &mut all, ground.config.contexts.as_slice())?;
+    Ok(all)
+}
+
+/// A reference of the association, which stands in the CN of reliable mode.
+fn in_reliable(alloc: Global, mode: Mode, octets: &Octets) -> Result<Option<Octets>, NoMemory>
+    ensures { IfOk result (λ o. o ≡ in_reliable mode octets.now) }
+{
+    match mode {
+        Mode::Reliable => Ok(Some(octets.copy(alloc)?)),
+        Mode::Direct => Ok(None),
+        Mode::Bare => Ok(None),
+    }
+}
+
+/// The initial serial number, in direct mode.
+pub(crate) fn initial_number(mode: Mode) -> Option<u32>
+    ensures { result ≡ initial_number mode }
+{
+    match mode {
+        Mode::Direct => Some(1),
+        Mode::Reliable => None,
+        Mode::Bare => None,
+    }
+}
+
+/// Context management and restoration, both or none.
+pub(crate) fn requirement_bits(alloc: Global, both: bool) -> Result<BitString, NoMemory>
+    ensures { IfOk result (λ bits. bits ≡ requirement_bits both) }
+{
+    if both {
+        Ok(BitString {
+            octets: Octets::from_slice(alloc, &[192])?,
+            unused: 6,
+        })
+    } else {
+        Ok(BitString {
+            octets: Octets::from_slice(alloc, &[0])?,
+            unused: 6,
+        })
+    }
+}
+
+/// The units that an initiator proposes.
+fn units(mode: Mode) -> u16
+    ensures { result ≡ proposed_units mode }
+{
+    match mode {
+        Mode::Reliable => 1097,
+        Mode::Direct | Mode::Bare => 1066,
+    }
+}
+
+/// The session part of the opening.
+fn session_connect(ground: &Ground<'_>) -> Result<SessionConnect, NoMemory>
+    ensures { IfOk result (λ s. s ≡ session_connect (base_in ground.now)) }
+{
+    let alloc = ground.alloc;
+    let config = &ground.config;
+    Ok(SessionConnect {
+        calling_reference: in_reliable(alloc, config.mode, &config.reference)?,
+        common_reference: in_reliable(alloc, config.mode, &config.common)?,
+        options: Some(0),
+        version: Some(2),
+        initial: initial_number(config.mode),
+        token_setting: None,
+        requirements: Some(units(config.mode)),
+        calling: Some(config.calling.copy(alloc)?),
+        called: Some(config.called.copy(alloc)?),
+        user: Octets::new(alloc),
+    })
+}
+
+/// The presentation part of the opening.
+fn presentation_connect(ground: &Ground<'_>) -> Result<PresentationConnect, NoMemory>
+    ensures { IfOk result (λ p. p ≡ presentation_connect (base_in ground.now)) }
+{
+    let alloc = ground.alloc;
+    let config = &ground.config;
+    Ok(PresentationConnect {
+        version: None,
+        calling: Some(config.calling.copy(alloc)?),
+        called: Some(config.called.copy(alloc)?),
+        definitions: proposals(ground)?,
+        default_context: None,
+        requirements: Some(requirement_bits(alloc, true)?),
+        session_requirements: None,
+        user: ListOf::new(alloc),
+    })
+}
+
+/// What the opening of an association carries for its user, NULL; or which association it recovers.
+pub fn connection_data(ground: &Ground<'_>, recovers: bool) -> Result<ConnectionData, NoMemory>
+    ensures { IfOk result (λ d. d ≡ connection_data (base_in ground.now) recovers) }
+{
+    if recovers {
+        Ok(ConnectionData::Recover {
+            reference: ground.config.reference.copy(ground.alloc)?,
+            common: ground.config.common.copy(ground.alloc)?,
+        })
+    } else {
+        Ok(ConnectionData::Open(Octets::from_slice(
+            ground.alloc,
+            &[5, 0],
+        )?))
+    }
+}
+
+/// The name of the application context.
+fn application_context(alloc: Global, mode: Mode) -> Result<Oid, NoMemory>
+    ensures { IfOk result (λ name. name ≡ application_context mode) }
+{
+    match mode {
+        Mode::Reliable => Oid::from_slice(alloc, &[2, 999, 5, 4]),
+        Mode::Direct => Oid::from_slice(alloc, &[2, 999, 5, 3]),
+        Mode::Bare => Oid::from_slice(alloc, &[2, 999, 5, 3]),
+    }
+}
+
+/// The request of reliable transfer.
+fn open_request(ground: &Ground<'_>, recovers: bool) -> Result<Rtse, NoMemory>
+    ensures { IfOk result (λ r. r ≡ rtse.OpenRequest ground.now.config.checkpoint ground.now.config.window (pos 1) (connection_data (base_in ground.now) recovers)) }
+{
+    Ok(Rtse::OpenRequest {
+        checkpoint: ground.config.checkpoint,
+        window: ground.config.window,
+        mode: 1,
+        data: connection_data(ground, recovers)?,
+    })
+}
+
+/// The values of the opening: the request for an association.
+fn connect_values(ground: &Ground<'_>, recovers: bool) -> Result<Values, NoMemory>
+    ensures { IfOk result (λ values. seen_values values ≡ connect_values (base_in ground.now) recovers) }
+{
+    let alloc = ground.alloc;
+    let request = open_request(ground, recovers)?;
+    let user = information(alloc, ground.config.mode, &[], request)?;
+    let apdu = Acse::AssociateRequest {
+        version: None,
+        context: application_context(alloc, ground.config.mode)?,
+        user: ListOf::new(alloc),
+    };
+    let mut values: Values = ListOf::new(alloc);
+    values.push(acse_value(alloc, &[], apdu, user)?)?;
+    Ok(values)
+}
+
+/// CN, for an opening or a recovery.
+pub fn connect_message(ground: &Ground<'_>, recovers: bool) -> Result<Message, NoMemory>
+    ensures { IfOk result (λ m. seen_message m ≡ connect_message (base_in ground.now) recovers) }
+{
+    Ok(Message::Session(Word::OfAssociation(
+        AssociationWord::Connect {
+            session: session_connect(ground)?,
+            presentation: presentation_connect(ground)?,
+            values: connect_values(ground, recovers)?,
+        },
+    )))
+}
+
+/// CR, which proposes 1,024 octets.
+pub fn connection_request(ground: &Ground<'_>) -> Result<Message, NoMemory>
+    ensures { IfOk result (λ m. seen_message m ≡ connection_request (base_in ground.now)) }
+{
+    Ok(Message::Transport(TransportUnit::ConnectionRequest {
+        source: 1,
+        size: Some(10),
+        calling: ground.config.calling.copy(ground.alloc)?,
+        called: ground.config.called.copy(ground.alloc)?,
+    }))
+}

@@ -1,0 +1,5 @@
+pub mod Nodes
+pub mod Pieces
+pub mod Link
+pub mod Sending
+pub mod Seen

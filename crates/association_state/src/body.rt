@@ -1,0 +1,125 @@
+//! All that one end holds.
+
+ghost use Rattle.std.specs.Prelude.{◌≡◌, IfOk};
+ghost use Rattle.dialogue.specs.declared.config.Mode.TheVariants.{Bare};
+ghost use Rattle.end_rules.specs.State.{new_body, new_link, first_phase, first_set};
+ghost use Rattle.association_state.specs.Link.{seen_link};
+ghost use Rattle.association_state.specs.Seen.{seen, base_in};
+
+use crate::ground::Ground;
+use crate::link::{Awaited, Link, Stage};
+use crate::pieces::Pieces;
+use crate::saved::SavedSets;
+use crate::sending::Sending;
+use crate::sets::Sets;
+use dialogue::{Mode, Phase};
+use open_invocations::Invocations;
+use osi_base::{Copied, ListOf, NoMemory, Pair, SetItem, SetList, Syntax};
+
+/// What an end receives: the record of the peer's last activity.
+#[derive(Debug, Drop)]
+pub struct Receiving {
+    pub last: u32,
+    pub pieces: Pieces,
+    pub was_handed: bool,
+    pub active: bool,
+}
+
+/// All that one end holds but its line: the association, the sets, the saved sets, the open
+/// invocations, and what it sends and receives by transfers.
+#[derive(Drop)]
+pub struct Body {
+    pub link: Link,
+    pub sets: Sets,
+    pub saved: SavedSets,
+    pub calls: Invocations,
+    pub sending: Sending,
+    pub receiving: Receiving,
+}
+
+/// The phase of a new end.
+fn first_phase(mode: Mode) -> Phase
+    ensures { result ≡ first_phase mode }
+{
+    match mode {
+        Mode::Bare => Phase::Up,
+        Mode::Direct => Phase::Idle,
+        Mode::Reliable => Phase::Idle,
+    }
+}
+
+/// The association of a new end.
+fn new_link(ground: &Ground<'_>) -> Link
+    ensures { seen_link result ≡ new_link (base_in ground.now) }
+{
+    Link {
+        phase: first_phase(ground.config.mode),
+        stage: Stage::Unused,
+        selected: 0,
+        manages: false,
+        turn: ground.config.initiator,
+        gave: false,
+        awaits: Awaited::NoAnswer,
+        accepted: ListOf::new(ground.alloc),
+        reference: None,
+        common: None,
+        checkpoint: 0,
+        window: 1,
+    }
+}
+
+/// The one context of bare mode.
+fn bare_set(ground: &Ground<'_>) -> Result<SetList, NoMemory>
+    ensures { IfOk result (λ set. set ≡ first_set ground.now.tables.now Bare) }
+{
+    let mut set = ListOf::new(ground.alloc);
+    set.push(SetItem {
+        id: 0,
+        pair: Pair {
+            abstract_name: ground.tables.name_oid.copy(ground.alloc)?,
+            transfer: Syntax::Ber,
+        },
+    })?;
+    Ok(set)
+}
+
+/// The set of a new end.
+fn first_set(ground: &Ground<'_>) -> Result<SetList, NoMemory>
+    ensures { IfOk result (λ set. set ≡ first_set ground.now.tables.now ground.now.config.mode) }
+{
+    match ground.config.mode {
+        Mode::Bare => bare_set(ground),
+        Mode::Direct => Ok(ListOf::new(ground.alloc)),
+        Mode::Reliable => Ok(ListOf::new(ground.alloc)),
+    }
+}
+
+impl Body {
+    /// What a new end holds.
+    pub fn new(ground: &Ground<'_>) -> Result<Body, NoMemory>
+        ensures { IfOk result (λ body. seen body ≡ new_body (base_in ground.now)) }
+    {
+        let alloc = ground.alloc;
+        Ok(Body {
+            link: new_link(ground),
+            sets: Sets {
+                held: first_set(ground)?,
+                inter: ListOf::new(alloc),
+                own: ListOf::new(alloc),
+            },
+            saved: SavedSets::new(alloc),
+            calls: Invocations::new(alloc),
+            sending: Sending {
+                started: 0,
+                current: None,
+                queue: ListOf::new(alloc),
+            },
+            receiving: Receiving {
+                last: 0,
+                pieces: Pieces::new(alloc),
+                was_handed: false,
+                active: false,
+            },
+        })
+    }
+}
