@@ -1,9 +1,9 @@
 //! The contexts in use (this project's own rule).
 
 ghost use Rattle.std.specs.Prelude.{◌≡◌, ◌++◌, map, Some, IfOk, OnOk};
-ghost use Rattle.end_rules.specs.State.{OpenCall as seen_call, Queued as seen_queued};
+ghost use Rattle.end_rules.specs.State.{OpenCall as seen_call, Queued as rule_queued};
 ghost use Rattle.end_rules.specs.Altering.{context_of_current, used};
-ghost use Rattle.association_state.specs.Sending.{seen_transfer, seen_sending};
+ghost use Rattle.association_pieces.specs.Sending.{seen_queued, seen_transfer, seen_sending};
 ghost use Rattle.association_state.specs.Seen.{seen};
 
 use association_state::{Body, Queued, Sending, Transfer};
@@ -53,10 +53,10 @@ fn push_calls(ids: &mut Ids, opens: &[OpenCall]) -> Result<(), NoMemory>
 
 /// Puts the contexts of queued items behind others.
 fn push_queue(ids: &mut Ids, queue: &[Queued]) -> Result<(), NoMemory>
-    ensures { OnOk result (ids.new ≡ ids.old ++ map (λ (item : seen_queued). item.context) queue.now) }
+    ensures { OnOk result (ids.new ≡ ids.old ++ map (λ (item : rule_queued). item.context) (map seen_queued queue.now)) }
 {
     for item in queue {
-        ids.push(item.context())?;
+        ids.push(item.context)?;
     }
     Ok(())
 }

@@ -5,8 +5,9 @@ ghost use Rattle.end_rules.specs.State.{is_current, is_ending, highest, pieces_o
 ghost use Rattle.end_rules.specs.Messages.{unit_of_activities};
 ghost use Rattle.end_rules.specs.InPlace.{may_begin, may_start, may_resume_at, may_resume, is_receiving, may_end, may_confirm_end, awaits_interrupt, awaits_discard, is_in_place};
 ghost use Rattle.association_words.specs.Seen.{seen_activities};
-ghost use Rattle.association_state.specs.Link.{seen_awaited};
-ghost use Rattle.association_state.specs.Seen.{base_in, seen, seen_receiving};
+ghost use Rattle.association_pieces.specs.Link.{seen_awaited};
+ghost use Rattle.association_pieces.specs.Seen.{seen_receiving};
+ghost use Rattle.association_state.specs.Seen.{base_in, seen};
 
 use crate::association::is_peers;
 use association_calls::has_activities;

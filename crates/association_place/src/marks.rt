@@ -4,8 +4,8 @@ ghost use Rattle.std.specs.Prelude.{◌≡◌, Some};
 ghost use Rattle.end_rules.specs.Messages.{unit_of_marks};
 ghost use Rattle.end_rules.specs.InPlace.{next_coming, may_mark, is_next_confirmed, may_confirm_mark, may_restart, awaits_restart, may_give, may_please, may_give_all, is_in_place};
 ghost use Rattle.association_words.specs.Seen.{seen_marks};
-ghost use Rattle.association_state.specs.Link.{seen_awaited};
-ghost use Rattle.association_state.specs.Sending.{seen_transfer};
+ghost use Rattle.association_pieces.specs.Link.{seen_awaited};
+ghost use Rattle.association_pieces.specs.Sending.{seen_transfer};
 ghost use Rattle.association_state.specs.Seen.{base_in, seen};
 
 use crate::association::is_peers;

@@ -4,7 +4,7 @@ ghost use Rattle.std.specs.Prelude.{◌≡◌};
 ghost use Rattle.end_rules.specs.Messages.{unit_of};
 ghost use Rattle.end_rules.specs.Purging.{wins_against, ends_all, settles_restart, settles_interrupt, settles_discard, settles_release, settles, is_purged, is_transport_purged};
 ghost use Rattle.association_words.specs.Seen.{seen_word};
-ghost use Rattle.association_state.specs.Link.{seen_awaited};
+ghost use Rattle.association_pieces.specs.Link.{seen_awaited};
 
 use association_state::Awaited;
 use association_words::{ActivityWord, AssociationWord, MarkWord, Word};

@@ -1,5 +1,1 @@
-pub mod Nodes
-pub mod Pieces
-pub mod Link
-pub mod Sending
 pub mod Seen

@@ -3,27 +3,14 @@
 ghost use Rattle.std.specs.Prelude.{◌≡◌, IfOk};
 ghost use Rattle.dialogue.specs.declared.config.Mode.TheVariants.{Bare};
 ghost use Rattle.end_rules.specs.State.{new_body, new_link, first_phase, first_set};
-ghost use Rattle.association_state.specs.Link.{seen_link};
+ghost use Rattle.association_pieces.specs.Link.{seen_link};
 ghost use Rattle.association_state.specs.Seen.{seen, base_in};
 
 use crate::ground::Ground;
-use crate::link::{Awaited, Link, Stage};
-use crate::pieces::Pieces;
-use crate::saved::SavedSets;
-use crate::sending::Sending;
-use crate::sets::Sets;
+use association_pieces::{Awaited, Link, Pieces, Receiving, SavedSets, Sending, Sets, Stage};
 use dialogue::{Mode, Phase};
 use open_invocations::Invocations;
 use osi_base::{Copied, ListOf, NoMemory, Pair, SetItem, SetList, Syntax};
-
-/// What an end receives: the record of the peer's last activity.
-#[derive(Debug, Drop)]
-pub struct Receiving {
-    pub last: u32,
-    pub pieces: Pieces,
-    pub was_handed: bool,
-    pub active: bool,
-}
 
 /// All that one end holds but its line: the association, the sets, the saved sets, the open
 /// invocations, and what it sends and receives by transfers.

@@ -1,21 +1,12 @@
-//! What one end of an association holds, in pieces, each the matter of one layer; and the small
-//! changes of each piece.
+//! All that one end of an association holds but its line, and what its rules stand on.
 #![tactic(auto)]
 
 mod body;
 mod ground;
-mod link;
-mod pieces;
-mod saved;
-mod sending;
-mod sets;
-mod stack;
 
-pub use body::{Body, Receiving};
+pub use association_pieces::{
+    Alterations, Awaited, Encoded, Link, Piece, Pieces, Progress, Queue, Queued, Receiving,
+    SavedSet, SavedSets, Sending, Sets, Stack, Stage, Transfer,
+};
+pub use body::Body;
 pub use ground::Ground;
-pub use link::{Awaited, Link, Stage};
-pub use pieces::{Piece, Pieces};
-pub use saved::{SavedSet, SavedSets};
-pub use sending::{Encoded, Progress, Queue, Queued, Sending, Transfer};
-pub use sets::{Alterations, Sets};
-pub use stack::Stack;

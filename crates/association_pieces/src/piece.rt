@@ -3,7 +3,7 @@
 ghost use Rattle.std.specs.Prelude.{◌≡◌, ◌<◌, [], ◌∷◌, IfOk, OnOk};
 ghost use Rattle.end_rules.specs.State.{Octets as octets_piece, Marked as marked_piece};
 ghost use Rattle.end_rules.specs.ByItself.{ends_in_octets};
-ghost use Rattle.association_state.specs.Pieces.{is_mark, octets_in, set_in, number_in};
+ghost use Rattle.association_pieces.specs.Pieces.{is_mark, octets_in, set_in, number_in};
 
 use osi_base::{NoMemory, Octets, SetItem, SetList};
 use std::marker::Model;
@@ -26,7 +26,7 @@ impl Model for Piece {
 
     ghost Value = { seen_piece };
 
-    ghost use Rattle.association_state.specs.Nodes.{seen_node, IsFit};
+    ghost use Rattle.association_pieces.specs.Nodes.{seen_node, IsFit};
 
     ghost view = { λ p. seen_node p.node };
 

@@ -2,6 +2,7 @@
 
 ghost use Rattle.std.specs.Prelude.{◌≡◌, [], ◌∷◌, suc, nat_lt, slice_get, IfOk, OnOk};
 ghost use Rattle.end_rules.specs.Sets.{below, newest, next_number};
+ghost use Rattle.association_pieces.specs.Ends.{starts_below, rest};
 
 use crate::stack::Stack;
 use osi_base::{NoMemory, SetItem, SetList};
@@ -103,28 +104,42 @@ impl SavedSets {
     }
 
     /// The set that was saved last under a number below this one; none where there is none.
+    #[tactic(auto, using(crate::proofs::Ends::left_at))]
     pub fn set_below(&self, n: u32) -> &[SetItem]
         ensures { result.now ≡ newest (below n self.now) }
     {
         for place in 0..self.marks.len() {
-            if let Some(mark) = self.marks.get(place) {
-                if mark.is_below(n) {
-                    return mark.set();
-                }
+            let mark = self.marks.at(place);
+            if mark.is_below(n) {
+                return mark.set();
             }
         }
         &[]
+    }
+
+    /// Whether the newest mark has a number below this one, or there is none.
+    fn starts_below(&self, n: u32) -> bool
+        ensures { result ≡ starts_below n self.now }
+    {
+        match self.marks.first() {
+            None => true,
+            Some(mark) => mark.is_below(n),
+        }
+    }
+
+    /// Forgets the newest mark.
+    fn drop_first(&mut self)
+        ensures { self.new ≡ rest self.old }
+    {
+        self.marks.drop_first();
     }
 
     /// Forgets the marks from this number on.
     pub fn cut(&mut self, n: u32)
         ensures { self.new ≡ below n self.old }
     {
-        while let Some(mark) = self.marks.first() {
-            if mark.is_below(n) {
-                break;
-            }
-            self.marks.pop();
+        while !self.starts_below(n) {
+            self.drop_first();
         }
     }
 }

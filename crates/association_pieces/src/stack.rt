@@ -1,7 +1,8 @@
 //! A list that grows and shrinks at its front.
 
-ghost use Rattle.std.specs.Prelude.{◌≡◌, List, [], ◌∷◌, reverse, length, slice_get, OnOk, OnErr, MatchOption};
+ghost use Rattle.std.specs.Prelude.{◌≡◌, ◌<◌, Some, List, [], ◌∷◌, reverse, length, slice_get, OnOk, OnErr, MatchOption};
 ghost use Rattle.std.specs.Option.{option_copied};
+ghost use Rattle.association_pieces.specs.Ends.{first_of, rest};
 
 use osi_base::NoMemory;
 use std::alloc::Global;
@@ -49,9 +50,25 @@ impl<T> Stack<T> {
         }
     }
 
+    /// The item at this place, which is there.
+    pub fn at(&self, place: usize) -> &T
+        requires { place < length self.now }
+        ensures { slice_get self.now place ≡ Some result.now }
+    {
+        &self.items[self.items.len() - 1 - place]
+    }
+
+    /// The items from the oldest to the newest.
+    pub fn as_slice(&self) -> &[T]
+        ensures { reverse result.now ≡ self.now }
+    {
+        self.items.as_slice()
+    }
+
     /// The newest item.
+    #[tactic(auto, using(crate::proofs::Ends::first_got))]
     pub fn first(&self) -> Option<&T>
-        ensures { option_copied result ≡ slice_get self.now 0 }
+        ensures { option_copied result ≡ first_of self.now }
     {
         self.get(0)
     }
@@ -72,6 +89,13 @@ impl<T: Drop> Stack<T> {
     {
         self.items.push(item)?;
         Ok(())
+    }
+
+    /// Takes the newest item out, if there is one.
+    pub fn drop_first(&mut self)
+        ensures { self.new ≡ rest self.old }
+    {
+        let _ = self.pop();
     }
 
     /// Takes all items out.

@@ -1,8 +1,8 @@
 -- A piece as it is kept, as the rules of one end see it.
 use Rattle.std.specs.Prelude.{◌<◌}
 use Rattle.end_rules.specs.State as rules
-use Rattle.association_state.specs.declared.piece.PieceNode.{PieceNode}
-use Rattle.association_state.specs.declared.piece.PieceNode.TheVariants.{Octets, Marked}
+use Rattle.association_pieces.specs.declared.piece.PieceNode.{PieceNode}
+use Rattle.association_pieces.specs.declared.piece.PieceNode.TheVariants.{Octets, Marked}
 
 abbrev pub seen_node : PieceNode → rules.Piece
 seen_node (Octets octets) = rules.Octets octets

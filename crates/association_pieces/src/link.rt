@@ -2,7 +2,7 @@
 
 ghost use Rattle.std.specs.Prelude.{◌≡◌};
 ghost use Rattle.end_rules.specs.State.{is_free, is_unused, is_asked, is_joined, is_carrying, is_restarting};
-ghost use Rattle.association_state.specs.Link.{seen_stage, seen_awaited};
+ghost use Rattle.association_pieces.specs.Link.{seen_stage, seen_awaited};
 
 use dialogue::Phase;
 use osi_base::{Octets, SetList};

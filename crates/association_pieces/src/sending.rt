@@ -2,49 +2,17 @@
 
 ghost use Rattle.std.specs.Prelude.{◌≡◌};
 ghost use Rattle.end_rules.specs.State.{is_running, is_ending, is_suspended};
-ghost use Rattle.association_state.specs.Sending.{seen_progress};
+ghost use Rattle.association_pieces.specs.Sending.{seen_progress};
 
 use crate::pieces::Pieces;
 use osi_base::{ListOf, Octets, Pair};
-use std::marker::Model;
 use stub_tables::Apdu;
 
 /// An APDU that waits for its transfer, with the context that was asked for.
 #[derive(Debug, Drop)]
 pub struct Queued {
-    context: u32,
-    apdu: Apdu,
-}
-
-impl Model for Queued {
-    ghost use Rattle.end_rules.specs.State.{Queued as seen_queued};
-
-    ghost Value = { seen_queued };
-
-    ghost view = { λ q. record { context = q.context; apdu = q.apdu } };
-}
-
-impl Queued {
-    /// An APDU for which this context was asked.
-    pub fn new(context: u32, apdu: Apdu) -> Queued
-        ensures { result ≡ record { context = context; apdu = apdu } }
-    {
-        Queued { context, apdu }
-    }
-
-    /// The context that was asked for.
-    pub fn context(&self) -> u32
-        ensures { result ≡ self.now.context }
-    {
-        self.context
-    }
-
-    /// The APDU.
-    pub fn apdu(&self) -> &Apdu
-        ensures { result.now ≡ self.now.apdu }
-    {
-        &self.apdu
-    }
+    pub context: u32,
+    pub apdu: Apdu,
 }
 
 /// APDUs that wait for their transfers, oldest first.

@@ -1,8 +1,9 @@
 //! What a transfer is made of: octets and marks.
 
-ghost use Rattle.std.specs.Prelude.{◌≡◌, ◌<◌, [], ◌∷◌, suc, length, IfOk, OnOk};
+ghost use Rattle.std.specs.Prelude.{◌≡◌, ◌<◌, [], ◌∷◌, suc, length, reverse, IfOk, OnOk};
 ghost use Rattle.end_rules.specs.State.{Octets as octets_piece, Marked as marked_piece, joined, highest, newest_set, from_mark, up_to};
 ghost use Rattle.end_rules.specs.ByItself.{ends_in_octets};
+ghost use Rattle.association_pieces.specs.Ends.{starts_at, front_octets};
 
 use crate::piece::Piece;
 use crate::stack::Stack;
@@ -14,8 +15,10 @@ use std::marker::Model;
 #[derive(Debug, Drop)]
 pub struct Pieces {
     stack: Stack<Piece>,
-    octets: usize,
-    highest: u32,
+    /// How many octets they have.
+    count: usize,
+    /// The number of their newest mark.
+    top: u32,
 }
 
 impl Model for Pieces {
@@ -26,7 +29,7 @@ impl Model for Pieces {
 
     ghost view = { λ p. p.stack };
 
-    ghost invariant = { λ p. (p.octets ≡ length (joined p.stack)) × (p.highest ≡ highest p.stack) × (p.highest < 4294967295) };
+    ghost invariant = { λ p. (p.count ≡ length (joined p.stack)) × (p.top ≡ highest p.stack) × (p.top < 4294967295) };
 }
 
 impl Pieces {
@@ -36,8 +39,8 @@ impl Pieces {
     {
         Pieces {
             stack: Stack::new(alloc),
-            octets: 0,
-            highest: 0,
+            count: 0,
+            top: 0,
         }
     }
 
@@ -45,11 +48,11 @@ impl Pieces {
     pub fn push_octets(&mut self, octets: Octets) -> Result<(), NoMemory>
         ensures { OnOk result (self.new ≡ octets_piece octets ∷ self.old) }
     {
-        let Some(count) = self.octets.checked_add(octets.len()) else {
+        let Some(count) = self.count.checked_add(octets.len()) else {
             return Err(NoMemory);
         };
         self.stack.push(Piece::octets(octets))?;
-        self.octets = count;
+        self.count = count;
         Ok(())
     }
 
@@ -59,7 +62,7 @@ impl Pieces {
     {
         let piece = Piece::marked(number, set)?;
         self.stack.push(piece)?;
-        self.highest = number;
+        self.top = number;
         Ok(())
     }
 
@@ -67,21 +70,21 @@ impl Pieces {
     pub fn octets(&self) -> usize
         ensures { result ≡ length (joined self.now) }
     {
-        self.octets
+        self.count
     }
 
     /// The number of the newest mark, 0 where there is none.
     pub fn highest(&self) -> u32
         ensures { result ≡ highest self.now }
     {
-        self.highest
+        self.top
     }
 
     /// The number behind it.
     pub fn next(&self) -> u32
         ensures { result ≡ suc (highest self.now) }
     {
-        self.highest + 1
+        self.top + 1
     }
 
     /// Whether the newest piece is octets.
@@ -95,14 +98,14 @@ impl Pieces {
     }
 
     /// The set of the newest mark with this number; none where there is none.
+    #[tactic(auto, using(crate::proofs::Ends::left_at))]
     pub fn set_of(&self, n: u32) -> &[SetItem]
         ensures { result.now ≡ newest_set (from_mark n self.now) }
     {
         for place in 0..self.stack.len() {
-            if let Some(piece) = self.stack.get(place) {
-                if piece.is_mark(n) {
-                    return piece.set();
-                }
+            let piece = self.stack.at(place);
+            if piece.is_mark(n) {
+                return piece.set();
             }
         }
         &[]
@@ -124,30 +127,56 @@ impl Pieces {
         ensures { self.new ≡ [] }
     {
         self.stack.clear();
-        self.octets = 0;
-        self.highest = 0;
+        self.count = 0;
+        self.top = 0;
     }
 
     /// Keeps the pieces up to the newest mark with this number.
     fn cut_to_mark(&mut self, n: u32)
         ensures { self.new ≡ from_mark n self.old }
     {
-        let octets = cut_stack(&mut self.stack, self.octets, n);
-        self.octets = octets;
-        self.highest = highest_in(&self.stack);
+        let count = cut_stack(&mut self.stack, self.count, n);
+        self.count = count;
+        self.top = highest_in(&self.stack);
     }
 
     /// All octets of the pieces, from the first to the newest.
     pub fn join(&self, alloc: Global) -> Result<Octets, NoMemory>
         ensures { IfOk result (λ octets. octets ≡ joined self.now) }
     {
-        let mut octets = Octets::new(alloc);
-        for place in (0..self.stack.len()).rev() {
-            if let Some(piece) = self.stack.get(place) {
-                octets.extend(piece.as_slice())?;
-            }
-        }
-        Ok(octets)
+        join(alloc, self.stack.as_slice())
+    }
+}
+
+/// All octets of pieces that are given from the first to the newest.
+#[tactic(auto, using(crate::proofs::Ends::joined_push))]
+fn join(alloc: Global, pieces: &[Piece]) -> Result<Octets, NoMemory>
+    ensures { IfOk result (λ octets. octets ≡ joined (reverse pieces.now)) }
+{
+    let mut octets = Octets::new(alloc);
+    for piece in pieces {
+        octets.extend(piece.as_slice())?;
+    }
+    Ok(octets)
+}
+
+/// Whether the newest piece is the mark with this number, or there is none.
+fn starts_at(stack: &Stack<Piece>, n: u32) -> bool
+    ensures { result ≡ starts_at n stack.now }
+{
+    match stack.first() {
+        None => true,
+        Some(piece) => piece.is_mark(n),
+    }
+}
+
+/// How many octets the newest piece has.
+fn front_len(stack: &Stack<Piece>) -> usize
+    ensures { result ≡ length (front_octets stack.now) }
+{
+    match stack.first() {
+        None => 0,
+        Some(piece) => piece.as_slice().len(),
     }
 }
 
@@ -159,26 +188,23 @@ fn cut_stack(stack: &mut Stack<Piece>, octets: usize, n: u32) -> usize
     ensures left { result ≡ length (joined stack.new) }
 {
     let mut left = octets;
-    while let Some(piece) = stack.first() {
-        if piece.is_mark(n) {
-            break;
-        }
-        left -= piece.as_slice().len();
-        stack.pop();
+    while !starts_at(stack, n) {
+        left -= front_len(stack);
+        stack.drop_first();
     }
     left
 }
 
 /// The number of the newest mark.
+#[tactic(auto, using(crate::proofs::Ends::left_at))]
 fn highest_in(stack: &Stack<Piece>) -> u32
     ensures highest { result ≡ highest stack.now }
     ensures fits { result < 4294967295 }
 {
     for place in 0..stack.len() {
-        if let Some(piece) = stack.get(place) {
-            if !piece.is_octets() {
-                return piece.number();
-            }
+        let piece = stack.at(place);
+        if !piece.is_octets() {
+            return piece.number();
         }
     }
     0

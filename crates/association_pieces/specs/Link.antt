@@ -1,10 +1,10 @@
 -- The association and its connection, as the rules of one end see it.
 use Rattle.end_rules.specs.State as rules
-use Rattle.association_state.specs.declared.link.Stage.{Stage}
-use Rattle.association_state.specs.declared.link.Stage.TheVariants.{Unused, Asked, Joined, Carrying}
-use Rattle.association_state.specs.declared.link.Awaited.{Awaited}
-use Rattle.association_state.specs.declared.link.Awaited.TheVariants.{NoAnswer, RestartOf, InterruptOf, DiscardOf, ReleaseOf}
-use Rattle.association_state.specs.declared.link.Link.{Link}
+use Rattle.association_pieces.specs.declared.link.Stage.{Stage}
+use Rattle.association_pieces.specs.declared.link.Stage.TheVariants.{Unused, Asked, Joined, Carrying}
+use Rattle.association_pieces.specs.declared.link.Awaited.{Awaited}
+use Rattle.association_pieces.specs.declared.link.Awaited.TheVariants.{NoAnswer, RestartOf, InterruptOf, DiscardOf, ReleaseOf}
+use Rattle.association_pieces.specs.declared.link.Link.{Link}
 
 abbrev pub seen_stage : Stage → rules.Stage
 seen_stage Unused = rules.Unused
