@@ -4,7 +4,7 @@ use Rattle.association_pieces.specs.declared.sets.Sets.{Sets}
 use Rattle.association_pieces.specs.declared.receiving.Receiving.{Receiving}
 
 abbrev pub seen_sets : Sets → rules.Sets
-seen_sets sets = record { held = sets.held; inter = sets.inter; own = sets.own }
+seen_sets sets = record { held = sets.held; inter = sets.inter; own = sets.own.items }
 
 abbrev pub seen_receiving : Receiving → rules.Receiving
 seen_receiving r = record { last = r.last; pieces = r.pieces; was_handed = r.was_handed; active = r.active }

@@ -17,5 +17,5 @@ pub use pieces::Pieces;
 pub use receiving::Receiving;
 pub use saved::{SavedSet, SavedSets};
 pub use sending::{Encoded, Progress, Queue, Queued, Sending, Transfer};
-pub use sets::{Alterations, Sets};
+pub use sets::{Sets, take_oldest};
 pub use stack::Stack;

@@ -92,7 +92,7 @@ impl Body {
             sets: Sets {
                 held: first_set(ground)?,
                 inter: ListOf::new(alloc),
-                own: ListOf::new(alloc),
+                own: Vec::new(alloc),
             },
             saved: SavedSets::new(alloc),
             calls: Invocations::new(alloc),

@@ -5,8 +5,9 @@ mod body;
 mod ground;
 
 pub use association_pieces::{
-    Alterations, Awaited, Encoded, Link, Piece, Pieces, Progress, Queue, Queued, Receiving,
+    Awaited, Encoded, Link, Piece, Pieces, Progress, Queue, Queued, Receiving,
     SavedSet, SavedSets, Sending, Sets, Stack, Stage, Transfer,
+    take_oldest,
 };
 pub use body::Body;
 pub use ground::Ground;
