@@ -1,0 +1,20 @@
+-- What stands first, as the definitions of reading speak of it.
+use Rattle.std.specs.Prelude.{◌≡◌, List, map, Option, Some, None}
+use Rattle.association_words.specs.Seen.{seen_transport}
+use Rattle.association_reading.specs.Front as reading
+use Rattle.association_intake.specs.declared.front.Front.{Front}
+use Rattle.association_intake.specs.declared.front.Front.TheVariants.{Short, OfTransport, OfSession, Faulty}
+
+abbrev pub seen_front : Front → reading.Front
+seen_front Short = reading.Short
+seen_front (OfTransport unit) = reading.OfTransport (seen_transport unit)
+seen_front (OfSession unit start) = reading.OfSession unit start
+seen_front (Faulty layer place) = reading.Faulty layer place
+
+abbrev pub seen_fronts : List Front → List reading.Front
+seen_fronts fronts = map seen_front fronts
+
+-- the first of what came was taken off
+abbrev pub TakesFirst : Option reading.Intake → Front → Option reading.Intake → Type 0
+TakesFirst None front new = new ≡ None
+TakesFirst (Some old) front new = (seen_front front ≡ reading.first_in old) × (new ≡ Some (reading.behind_first old))
