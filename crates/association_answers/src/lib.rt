@@ -8,6 +8,6 @@ mod taken;
 mod told;
 
 pub use ending::{fails, over};
-pub use policy::{is_faulty_proposal, opening_policy, policy};
+pub use policy::policy;
 pub use taken::{Messages, Reaction, Taken, one_message};
 pub use told::{answered, push_cuts, push_losses, quiet, tell, told};

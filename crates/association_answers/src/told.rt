@@ -78,5 +78,5 @@ fn push_lost(own: &[Alteration], shown: &mut Indications) -> Result<(), NoMemory
 pub fn push_losses(body: &Body, shown: &mut Indications) -> Result<(), NoMemory>
     ensures { OnOk result (shown.new ≡ shown.old ++ losses (seen body.now)) }
 {
-    push_lost(body.sets.own.as_slice(), shown)
+    push_lost(&body.sets.own, shown)
 }

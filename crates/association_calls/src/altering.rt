@@ -23,7 +23,7 @@ fn addition_refusal(ground: &Ground<'_>, body: &Body, id: u32) -> Option<CallRef
     if !has_parity(ground.config.initiator, id) {
         return Some(CallRefusal::WrongParity(id));
     }
-    if is_named_in(body.sets.own.as_slice(), id) {
+    if is_named_in(&body.sets.own, id) {
         return Some(CallRefusal::Named(id));
     }
     if pair_of(body.sets.held.as_slice(), id).is_some() {
@@ -37,7 +37,7 @@ fn deletion_refusal(body: &Body, in_use: &[u32], id: u32) -> Option<CallRefusal>
     requires { in_use.now ≡ used (seen body.now) }
     ensures { result ≡ deletion_refusal (seen body.now) id }
 {
-    if is_named_in(body.sets.own.as_slice(), id) {
+    if is_named_in(&body.sets.own, id) {
         return Some(CallRefusal::Named(id));
     }
     if pair_of(body.sets.held.as_slice(), id).is_none() {
@@ -83,7 +83,7 @@ fn is_set_full(body: &Body, asked: &Alteration) -> bool
     ensures { result ≡ is_set_full (seen body.now) asked.now }
 {
     let held = body.sets.held.len().min(65);
-    let own = count_added(body.sets.own.as_slice());
+    let own = count_added(&body.sets.own);
     let more = asked.add().len().min(65);
     held + own + more > 64
 }

@@ -177,7 +177,7 @@ pub fn check_invoke(
     if !is_on_module(ground, body, making.context) {
         return Err(CallRefusal::Absent(making.context));
     }
-    if is_deleted_in(body.sets.own.as_slice(), making.context) {
+    if is_deleted_in(&body.sets.own, making.context) {
         return Err(CallRefusal::AlterPending);
     }
     if let Some(refusal) = linking_refusal(ground, body, making.place, making.linked) {

@@ -28,7 +28,7 @@ pub fn carrier_in(ground: &Ground<'_>, body: &Body, context: u32) -> Option<u32>
     carrier(
         ground.tables.name_oid.arcs(),
         body.sets.held.as_slice(),
-        body.sets.own.as_slice(),
+        &body.sets.own,
         context,
     )
 }

@@ -69,6 +69,6 @@ pub fn used(alloc: Global, body: &Body) -> Result<Ids, NoMemory>
     let mut ids = current_context(alloc, &body.sending)?;
     let opens = body.calls.opens()?;
     push_calls(&mut ids, opens.as_slice())?;
-    push_queue(&mut ids, body.sending.queue.as_slice())?;
+    push_queue(&mut ids, &body.sending.queue)?;
     Ok(ids)
 }

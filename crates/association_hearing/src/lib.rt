@@ -11,4 +11,4 @@ mod values;
 
 pub use apdus::hear_apdu;
 pub use unread::hear_unread;
-pub use values::{take_value, take_values};
+pub use values::{data_on, queueing, take_value, take_values};

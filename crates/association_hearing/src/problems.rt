@@ -6,7 +6,7 @@ ghost use Rattle.stub_tables.specs.Lookup.{operation_at, error_at};
 ghost use Rattle.end_rules.specs.State.{opened_with};
 ghost use Rattle.end_rules.specs.Sets.{is_among};
 ghost use Rattle.end_rules.specs.Invoking.{is_linked_to, operation_of};
-ghost use Rattle.end_rules.specs.Hearing.{carried_in, is_silent_at, has_links, link_problem, argument_problem, operation_problem, invoke_problem, is_right_result, result_problem, known_error_problem, error_problem, code_returned, value_returned};
+ghost use Rattle.end_rules.specs.Hearing.{carried_in, is_silent_at, has_links, link_problem, argument_problem, operation_problem, invoke_problem, is_right_result, result_problem, is_place, known_error_problem, error_problem};
 ghost use Rattle.open_invocations.specs.Invocations.{is_link_back};
 ghost use Rattle.association_state.specs.Seen.{base_in};
 
@@ -14,7 +14,7 @@ use asn1_types::Val;
 use association_ground::is_among;
 use association_state::Ground;
 use open_invocations::Invocations;
-use stub_tables::{Operation, Returned};
+use stub_tables::{Code, Operation};
 
 /// How many invocations of one end may be open.
 const MOST_OPEN: usize = 4_096;
@@ -130,20 +130,97 @@ pub(crate) fn invoke_problem(
     operation_problem(ground, calls, place, linked, argument)
 }
 
-/// Whether a result is one of the operation at this place.
+/// Whether this is the place.
+fn is_place(found: Option<u32>, place: u32) -> bool
+    ensures { result ≡ is_place found place }
+{
+    match found {
+        None => false,
+        Some(found) => found == place,
+    }
+}
+
+/// Whether a result is right for the operation at this place.
 fn is_right_result(
     ground: &Ground<'_>,
     place: u32,
     operation: &Operation,
-    returned: &Option<Returned>,
+    code: &Option<Code>,
+    value: &Option<Val>,
 ) -> bool
-    ensures { result ≡ is_right_result (base_in ground.now) place operation.now (code_returned returned.now) (value_returned returned.now) }
+    ensures { result ≡ is_right_result (base_in ground.now) place operation.now code.now (carried_in value.now) }
 {
-    match returned {
+    match code {
         None => operation.result.carries(&ground.tables.types, &None),
-        Some(returned) => {
-            is_place(ground.tables.operation_with(&returned.code), place)
-                && carries(ground, operation, &returned.value)
+        Some(code) => {
+            is_place(ground.tables.operation_with(code), place)
+                && operation.result.carries(&ground.tables.types, value)
         }
+    }
+}
+
+/// The first problem of a result of the operation at this place.
+pub(crate) fn result_problem(
+    ground: &Ground<'_>,
+    place: u32,
+    code: &Option<Code>,
+    value: &Option<Val>,
+) -> Option<u8>
+    ensures { result ≡ result_problem (base_in ground.now) place (operation_at ground.now.tables.now place) code.now (carried_in value.now) }
+{
+    let Some(operation) = ground.tables.operation(place) else {
+        return Some(1);
+    };
+    if !operation.returns {
+        return Some(1);
+    }
+    if !is_right_result(ground, place, operation, code, value) {
+        return Some(2);
+    }
+    None
+}
+
+/// The problem of a known error of an operation.
+fn known_error_problem(
+    ground: &Ground<'_>,
+    operation: &Operation,
+    place: u32,
+    parameter: &Option<Val>,
+) -> Option<u8>
+    ensures { result ≡ known_error_problem (base_in ground.now) operation.now (Some place) (carried_in parameter.now) }
+{
+    if !operation.has_error(place) {
+        return Some(3);
+    }
+    match ground.tables.error(place) {
+        None => Some(4),
+        Some(error) => {
+            if error.parameter.carries(&ground.tables.types, parameter) {
+                None
+            } else {
+                Some(4)
+            }
+        }
+    }
+}
+
+/// The first problem of an error, as a place in the table of errors, of the operation at this place.
+pub(crate) fn error_problem(
+    ground: &Ground<'_>,
+    place: u32,
+    error: Option<u32>,
+    parameter: &Option<Val>,
+) -> Option<u8>
+    ensures { result ≡ error_problem (base_in ground.now) (operation_at ground.now.tables.now place) error (carried_in parameter.now) }
+{
+    let Some(operation) = ground.tables.operation(place) else {
+        return Some(1);
+    };
+    if operation.errors.len() == 0 {
+        return Some(1);
+    }
+    match error {
+        None => Some(2),
+        Some(error) => known_error_problem(ground, operation, error, parameter),
     }
 }

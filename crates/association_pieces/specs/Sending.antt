@@ -38,4 +38,4 @@ seen_transfer t =
     }
 
 abbrev pub seen_sending : Sending → rules.Sending
-seen_sending s = record { started = s.started; current = option_map seen_transfer s.current; queue = map seen_queued s.queue }
+seen_sending s = record { started = s.started; current = option_map seen_transfer s.current; queue = map seen_queued s.queue.items }

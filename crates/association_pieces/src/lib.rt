@@ -16,6 +16,6 @@ pub use piece::Piece;
 pub use pieces::Pieces;
 pub use receiving::Receiving;
 pub use saved::{SavedSet, SavedSets};
-pub use sending::{Encoded, Progress, Queue, Queued, Sending, Transfer};
+pub use sending::{Encoded, Progress, Queued, Sending, Transfer, take_next};
 pub use sets::{Sets, take_oldest};
 pub use stack::Stack;

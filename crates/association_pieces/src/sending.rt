@@ -1,11 +1,11 @@
 //! What an end sends by transfers.
 
-ghost use Rattle.std.specs.Prelude.{◌≡◌};
+ghost use Rattle.std.specs.Prelude.{◌≡◌, [], ◌∷◌, MatchOption};
 ghost use Rattle.end_rules.specs.State.{is_running, is_ending, is_suspended};
 ghost use Rattle.association_pieces.specs.Sending.{seen_progress};
 
 use crate::pieces::Pieces;
-use osi_base::{ListOf, Octets, Pair};
+use osi_base::{Octets, Pair};
 use stub_tables::Apdu;
 
 /// An APDU that waits for its transfer, with the context that was asked for.
@@ -15,8 +15,16 @@ pub struct Queued {
     pub apdu: Apdu,
 }
 
-/// APDUs that wait for their transfers, oldest first.
-pub type Queue = ListOf<Queued>;
+/// Takes the oldest of the items that wait out; there are few.
+pub fn take_next(queue: &mut Vec<Queued>) -> Option<Queued>
+    ensures { MatchOption result ((queue.old.items ≡ []) × (queue.new.items ≡ [])) (λ next. queue.old.items ≡ next ∷ queue.new.items) }
+{
+    if queue.len() == 0 {
+        None
+    } else {
+        Some(queue.remove(0))
+    }
+}
 
 /// How far the current transfer is.
 #[derive(Clone, Copy, Debug, PartialEq, Eq)]
@@ -85,5 +93,5 @@ pub struct Transfer {
 pub struct Sending {
     pub started: u32,
     pub current: Option<Transfer>,
-    pub queue: Queue,
+    pub queue: Vec<Queued>,
 }

@@ -1,10 +1,10 @@
 //! The opening.
 
-ghost use Rattle.std.specs.Prelude.{◌≡◌, ◌++◌, IfOk, OnOk, pos};
+ghost use Rattle.std.specs.Prelude.{◌≡◌, IfOk, pos};
 ghost use Rattle.osi_base.specs.declared.rtse_word.Rtse.TheVariants as rtse;
 ghost use Rattle.end_rules.specs.Units.{proposed_units};
 ghost use Rattle.end_rules.specs.Base.{application_context};
-ghost use Rattle.end_rules.specs.Writing.{proposal_in_ber, own_proposals, proposals, in_reliable, initial_number, requirement_bits, session_connect, presentation_connect, connection_data, connect_values, connect_message, connection_request};
+ghost use Rattle.end_rules.specs.Writing.{in_reliable, initial_number, requirement_bits, session_connect, presentation_connect, connection_data, connect_values, connect_message, connection_request};
 ghost use Rattle.association_words.specs.Seen.{seen_message, seen_values};
 ghost use Rattle.association_state.specs.Seen.{base_in};
 
@@ -13,59 +13,11 @@ use association_state::Ground;
 use association_words::{AssociationWord, Message, TransportUnit, Values, Word};
 use dialogue::Mode;
 use osi_base::{
-    Acse, BitString, ConnectionData, Copied, ListOf, NoMemory, Octets, Oid, Oids,
-    PresentationConnect, Proposal, Proposals, Rtse, SessionConnect,
+    Acse, BitString, ConnectionData, Copied, ListOf, NoMemory, Octets, Oid, PresentationConnect,
+    Rtse, SessionConnect,
 };
+use set_rules::proposals;
 use std::alloc::Global;
-
-/// A context that an initiator proposes of itself, in BER.
-fn proposal_in_ber(alloc: Global, id: u32, name: Oid) -> Result<Proposal, NoMemory>
-    ensures { IfOk result (λ p. p ≡ proposal_in_ber id name) }
-{
-    let mut transfers: Oids = ListOf::new(alloc);
-    transfers.push(Oid::from_slice(alloc, &[2, 1, 1])?)?;
-    Ok(Proposal {
-        id,
-        abstract_name: name,
-        transfers,
-    })
-}
-
-/// The contexts that an initiator proposes of itself.
-fn own_proposals(alloc: Global, mode: Mode) -> Result<Proposals, NoMemory>
-    ensures { IfOk result (λ ps. ps ≡ own_proposals mode) }
-{
-    let mut proposals: Proposals = ListOf::new(alloc);
-    proposals.push(proposal_in_ber(alloc, 1, Oid::from_slice(alloc, &[2, 2, 1, 0, 1])?)?)?;
-    match mode {
-        Mode::Reliable => {
-            let name = Oid::from_slice(alloc, &[2, 999, 5, 2])?;
-            proposals.push(proposal_in_ber(alloc, 3, name)?)?;
-            Ok(proposals)
-        }
-        Mode::Direct => Ok(proposals),
-        Mode::Bare => Ok(proposals),
-    }
-}
-
-/// Puts copies of contexts behind others.
-fn push_all(alloc: Global, proposals: &mut Proposals, contexts: &[Proposal]) -> Result<(), NoMemory>
-    ensures { OnOk result (proposals.new ≡ proposals.old ++ contexts.now) }
-{
-    for context in contexts {
-        proposals.push(context.copy(alloc)?)?;
-    }
-    Ok(())
-}
-
-/// The contexts that an initiator proposes.
-pub fn proposals(ground: &Ground<'_>) -> Result<Proposals, NoMemory>
-    ensures { IfOk result (λ ps. ps ≡ proposals (base_in ground.now)) }
-{
-    let mut all = own_proposals(ground.alloc, ground.config.mode)?;
-    push_all(ground.alloc, &mut all, ground.config.contexts.as_slice())?;
-    Ok(all)
-}
 
 /// A reference of the association, which stands in the CN of reliable mode.
 fn in_reliable(alloc: Global, mode: Mode, octets: &Octets) -> Result<Option<Octets>, NoMemory>
@@ -146,7 +98,7 @@ fn presentation_connect(ground: &Ground<'_>) -> Result<PresentationConnect, NoMe
         version: None,
         calling: Some(config.calling.copy(alloc)?),
         called: Some(config.called.copy(alloc)?),
-        definitions: proposals(ground)?,
+        definitions: proposals(alloc, config)?,
         default_context: None,
         requirements: Some(requirement_bits(alloc, true)?),
         session_requirements: None,

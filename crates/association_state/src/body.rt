@@ -99,7 +99,7 @@ impl Body {
             sending: Sending {
                 started: 0,
                 current: None,
-                queue: ListOf::new(alloc),
+                queue: Vec::new(alloc),
             },
             receiving: Receiving {
                 last: 0,

@@ -5,9 +5,9 @@ mod body;
 mod ground;
 
 pub use association_pieces::{
-    Awaited, Encoded, Link, Piece, Pieces, Progress, Queue, Queued, Receiving,
+    Awaited, Encoded, Link, Piece, Pieces, Progress, Queued, Receiving,
     SavedSet, SavedSets, Sending, Sets, Stack, Stage, Transfer,
-    take_oldest,
+    take_next, take_oldest,
 };
 pub use body::Body;
 pub use ground::Ground;

@@ -10,12 +10,13 @@ ghost use Rattle.association_words.specs.Seen.{seen_fault};
 ghost use Rattle.association_state.specs.Seen.{base_in, seen};
 ghost use Rattle.association_answers.specs.Reacted.{TakenAs};
 
-use association_answers::{Taken, is_faulty_proposal, policy, quiet, told};
+use association_answers::{Taken, policy, quiet, told};
 use association_ground::is_reliable;
 use association_sets::{Alteration, alter, fit_alteration, proposed_ids};
 use association_state::{Body, Ground, take_oldest};
 use association_words::{DataWord, Fault, Message, Word};
 use dialogue::Indication;
+use set_rules::is_faulty_proposal;
 use osi_base::{Answers, Copied, Ids, Layer, NoMemory, Proposal, Proposals, SetList};
 
 /// An unexpected PPDU.
@@ -34,21 +35,17 @@ fn invalid_ppdu(ground: &Ground<'_>) -> Fault
 
 /// Why an alteration may not come: AC may stand where context management is selected and, in
 /// reliable mode, from the end that has the turn.
-pub fn alter_fault(
-    ground: &Ground<'_>,
-    body: &Body,
-    add: &[Proposal],
-) -> Result<Option<Fault>, NoMemory>
-    ensures { IfOk result (λ fault. option_map seen_fault fault ≡ alter_fault (base_in ground.now) (seen body.now) add.now) }
+pub fn alter_fault(ground: &Ground<'_>, body: &Body, add: &[Proposal]) -> Option<Fault>
+    ensures { option_map seen_fault result ≡ alter_fault (base_in ground.now) (seen body.now) add.now }
 {
     if !body.link.manages || is_reliable(ground.config.mode) && body.link.turn {
-        return Ok(Some(unexpected_ppdu(ground)));
+        return Some(unexpected_ppdu(ground));
     }
     let held = body.sets.held.as_slice();
-    if is_faulty_proposal(ground.alloc, !ground.config.initiator, held, add)? {
-        return Ok(Some(invalid_ppdu(ground)));
+    if is_faulty_proposal(!ground.config.initiator, held, add) {
+        return Some(invalid_ppdu(ground));
     }
-    Ok(None)
+    None
 }
 
 /// Why answers may not come: nothing was asked, or they don't fit.
