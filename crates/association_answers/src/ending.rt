@@ -67,7 +67,7 @@ fn shown_at(
 /// Ends the association for a fault by an own abort, which goes on these contexts. What the fault
 /// tells is shown first, and is no longer in the fault that is answered.
 pub fn fails(
-    ground: &Ground<'_>,
+    basis: &Ground<'_>,
     body: &mut Body,
     accepted: &[SetItem],
     fault: Fault,
@@ -81,11 +81,11 @@ pub fn fails(
         reason,
         told,
     } = fault;
-    let messages = aborts(ground.alloc, body, accepted, layer, reason)?;
-    let shown = shown_at(ground.alloc, body, told, layer, place, reason)?;
+    let messages = aborts(basis.alloc, body, accepted, layer, reason)?;
+    let shown = shown_at(basis.alloc, body, told, layer, place, reason)?;
     over(body);
     Ok(Reaction::Fails {
-        fault: Fault::at(ground.alloc, layer, place, reason),
+        fault: Fault::at(basis.alloc, layer, place, reason),
         aborts: messages,
         shown,
     })

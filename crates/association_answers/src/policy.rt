@@ -55,21 +55,21 @@ fn contexts_counted(body: &Body) -> usize
 
 /// The answers to a peer's alteration; the own additions that aren't answered count too.
 #[tactic(auto, using(crate::proofs::Counted::capped))]
-pub fn policy(ground: &Ground<'_>, body: &Body, asked: &Alteration) -> Result<Answers, NoMemory>
-    ensures { IfOk result (λ answers. answers ≡ policy (base_in ground.now) (seen body.now) asked.now) }
+pub fn policy(basis: &Ground<'_>, body: &Body, asked: &Alteration) -> Result<Answers, NoMemory>
+    ensures { IfOk result (λ answers. answers ≡ policy (base_in basis.now) (seen body.now) asked.now) }
 {
     let count = contexts_counted(body);
     let added = answers_to_additions(
-        ground.alloc,
-        ground.tables,
-        &ground.config,
+        basis.alloc,
+        basis.tables,
+        &basis.config,
         false,
         count,
         asked.add().as_slice(),
     )?;
-    let in_use = used(ground.alloc, body)?;
+    let in_use = used(basis.alloc, body)?;
     let deleted = answers_to_deletions(
-        ground.alloc,
+        basis.alloc,
         body,
         in_use.as_slice(),
         asked.delete().as_slice(),

@@ -7,7 +7,7 @@ ghost use Rattle.association_calls.specs.Replies.{Replies};
 
 use crate::Reply;
 use crate::transfers::is_ending;
-use crate::used::used;
+use crate::in_use::used;
 use association_ground::{is_among, is_reliable};
 use association_sets::{
     Alteration, count_added, has_parity, is_bad, is_fixed, is_named_in, pair_of,
@@ -17,10 +17,10 @@ use dialogue::CallRefusal;
 use osi_base::{NoMemory, Proposal};
 
 /// Why one addition is refused.
-fn addition_refusal(ground: &Ground<'_>, body: &Body, id: u32) -> Option<CallRefusal>
-    ensures { result ≡ addition_refusal (base_in ground.now) (seen body.now) id }
+fn addition_refusal(basis: &Ground<'_>, body: &Body, id: u32) -> Option<CallRefusal>
+    ensures { result ≡ addition_refusal (base_in basis.now) (seen body.now) id }
 {
-    if !has_parity(ground.config.initiator, id) {
+    if !has_parity(basis.config.initiator, id) {
         return Some(CallRefusal::WrongParity(id));
     }
     if is_named_in(&body.sets.own, id) {
@@ -53,11 +53,11 @@ fn deletion_refusal(body: &Body, in_use: &[u32], id: u32) -> Option<CallRefusal>
 }
 
 /// The first refusal of an addition.
-fn additions_refusal(ground: &Ground<'_>, body: &Body, add: &[Proposal]) -> Option<CallRefusal>
-    ensures { result ≡ additions_refusal (base_in ground.now) (seen body.now) add.now }
+fn additions_refusal(basis: &Ground<'_>, body: &Body, add: &[Proposal]) -> Option<CallRefusal>
+    ensures { result ≡ additions_refusal (base_in basis.now) (seen body.now) add.now }
 {
     for proposal in add {
-        if let Some(refusal) = addition_refusal(ground, body, proposal.id) {
+        if let Some(refusal) = addition_refusal(basis, body, proposal.id) {
             return Some(refusal);
         }
     }
@@ -90,16 +90,16 @@ fn is_set_full(body: &Body, asked: &Alteration) -> bool
 
 /// Why an alteration is refused that isn't bad.
 fn alteration_refusal(
-    ground: &Ground<'_>,
+    basis: &Ground<'_>,
     body: &Body,
     asked: &Alteration,
 ) -> Result<Option<CallRefusal>, NoMemory>
-    ensures { IfOk result (λ refusal. refusal ≡ alteration_refusal (base_in ground.now) (seen body.now) asked.now) }
+    ensures { IfOk result (λ refusal. refusal ≡ alteration_refusal (base_in basis.now) (seen body.now) asked.now) }
 {
-    if let Some(refusal) = additions_refusal(ground, body, asked.add().as_slice()) {
+    if let Some(refusal) = additions_refusal(basis, body, asked.add().as_slice()) {
         return Ok(Some(refusal));
     }
-    let in_use = used(ground.alloc, body)?;
+    let in_use = used(basis.alloc, body)?;
     if let Some(refusal) = deletions_refusal(body, in_use.as_slice(), asked.delete().as_slice()) {
         return Ok(Some(refusal));
     }
@@ -110,8 +110,8 @@ fn alteration_refusal(
 }
 
 /// Whether an alteration may be asked for.
-pub fn can_alter(ground: &Ground<'_>, body: &Body, asked: &Alteration) -> Reply
-    ensures { Replies (can_alter (base_in ground.now) (seen body.now) asked.now) result }
+pub fn can_alter(basis: &Ground<'_>, body: &Body, asked: &Alteration) -> Reply
+    ensures { Replies (can_alter (base_in basis.now) (seen body.now) asked.now) result }
 {
     if !body.link.manages {
         return Err(CallRefusal::NotNegotiated);
@@ -119,7 +119,7 @@ pub fn can_alter(ground: &Ground<'_>, body: &Body, asked: &Alteration) -> Reply
     if !body.link.awaits.is_free() {
         return Err(CallRefusal::Waiting);
     }
-    if is_reliable(ground.config.mode) && !body.link.turn {
+    if is_reliable(basis.config.mode) && !body.link.turn {
         return Err(CallRefusal::NoTurn);
     }
     if is_ending(body) {
@@ -128,10 +128,10 @@ pub fn can_alter(ground: &Ground<'_>, body: &Body, asked: &Alteration) -> Reply
     if body.sets.own.len() >= 4 {
         return Err(CallRefusal::AlterPending);
     }
-    if is_bad(ground.alloc, asked)? {
+    if is_bad(basis.alloc, asked)? {
         return Err(CallRefusal::BadProposal);
     }
-    match alteration_refusal(ground, body, asked)? {
+    match alteration_refusal(basis, body, asked)? {
         Some(refusal) => Err(refusal),
         None => Ok(None),
     }

@@ -38,17 +38,17 @@ pub struct Making {
 }
 
 /// Whether an own restart that isn't answered stops invocations and outcomes.
-pub(crate) fn is_stopped(ground: &Ground<'_>, body: &Body) -> bool
-    ensures { result ≡ is_stopped (base_in ground.now) (seen body.now) }
+pub(crate) fn is_stopped(basis: &Ground<'_>, body: &Body) -> bool
+    ensures { result ≡ is_stopped (base_in basis.now) (seen body.now) }
 {
-    is_direct(ground.config.mode) && !body.link.awaits.is_free()
+    is_direct(basis.config.mode) && !body.link.awaits.is_free()
 }
 
 /// Whether the queue of transfers is full.
-pub(crate) fn is_queue_full(ground: &Ground<'_>, body: &Body) -> bool
-    ensures { result ≡ is_queue_full (base_in ground.now) (seen body.now) }
+pub(crate) fn is_queue_full(basis: &Ground<'_>, body: &Body) -> bool
+    ensures { result ≡ is_queue_full (base_in basis.now) (seen body.now) }
 {
-    is_reliable(ground.config.mode) && body.sending.queue.len() >= MOST_QUEUED
+    is_reliable(basis.config.mode) && body.sending.queue.len() >= MOST_QUEUED
 }
 
 /// The identifier of the next invocation.
@@ -59,12 +59,12 @@ fn next_id(body: &Body) -> i64
 }
 
 /// Whether the identifier is in the set, with the module's abstract syntax.
-fn is_on_module(ground: &Ground<'_>, body: &Body, context: u32) -> bool
-    ensures { result ≡ is_on_module (base_in ground.now) (seen body.now) context }
+fn is_on_module(basis: &Ground<'_>, body: &Body, context: u32) -> bool
+    ensures { result ≡ is_on_module (base_in basis.now) (seen body.now) context }
 {
     has_abstract(
         pair_of(body.sets.held.as_slice(), context),
-        ground.tables.name_oid.arcs(),
+        basis.tables.name_oid.arcs(),
     )
 }
 
@@ -80,19 +80,19 @@ fn is_linked_to(operation: Option<&Operation>, place: u32) -> bool
 
 /// Why an invocation may not be linked so.
 fn linking_refusal(
-    ground: &Ground<'_>,
+    basis: &Ground<'_>,
     body: &Body,
     place: u32,
     linked: Option<i64>,
 ) -> Option<CallRefusal>
-    ensures refusal { result ≡ linking_refusal (base_in ground.now) (seen body.now) place linked }
+    ensures refusal { result ≡ linking_refusal (base_in basis.now) (seen body.now) place linked }
     ensures link { (result ≡ None) → is_link linked (seen body.now).calls.opens ≡ true }
 {
     let linked = linked?;
     let Some(parent) = body.calls.operation(false, &linked) else {
         return Some(CallRefusal::ParentClosed(linked));
     };
-    if is_linked_to(ground.tables.operation(parent), place) {
+    if is_linked_to(basis.tables.operation(parent), place) {
         None
     } else {
         Some(CallRefusal::LinkNotAllowed(linked))
@@ -101,7 +101,7 @@ fn linking_refusal(
 
 /// The APDU of the next invocation.
 fn invoke_apdu(
-    ground: &Ground<'_>,
+    basis: &Ground<'_>,
     operation: &Operation,
     id: i64,
     linked: Option<i64>,
@@ -112,14 +112,14 @@ fn invoke_apdu(
     Ok(Apdu::Invoke {
         id,
         linked,
-        code: operation.code.copy(ground.alloc)?,
-        argument: argument.copy(ground.alloc)?,
+        code: operation.code.copy(basis.alloc)?,
+        argument: argument.copy(basis.alloc)?,
     })
 }
 
 /// Why there is no room or no number for one more invocation of an operation.
-fn room_refusal(ground: &Ground<'_>, body: &Body, operation: &Operation) -> Option<CallRefusal>
-    ensures { IsRoomy (base_in ground.now) (seen body.now) operation.now result }
+fn room_refusal(basis: &Ground<'_>, body: &Body, operation: &Operation) -> Option<CallRefusal>
+    ensures { IsRoomy (base_in basis.now) (seen body.now) operation.now result }
 {
     if !operation.is_silent() && body.calls.own_count() >= MOST_OPEN {
         return Some(CallRefusal::TooManyOpen);
@@ -127,7 +127,7 @@ fn room_refusal(ground: &Ground<'_>, body: &Body, operation: &Operation) -> Opti
     if body.calls.made() >= LAST_ID {
         return Some(CallRefusal::NumbersSpent);
     }
-    if is_queue_full(ground, body) {
+    if is_queue_full(basis, body) {
         return Some(CallRefusal::QueueFull);
     }
     None
@@ -135,23 +135,23 @@ fn room_refusal(ground: &Ground<'_>, body: &Body, operation: &Operation) -> Opti
 
 /// The APDU of the next invocation of an operation on a context of the module, linked as it may be.
 fn check_send(
-    ground: &Ground<'_>,
+    basis: &Ground<'_>,
     body: &Body,
     operation: &Operation,
     argument: &Option<Val>,
     linked: Option<i64>,
 ) -> Result<Apdu, CallRefusal>
-    ensures checked { IsChecked (can_send_invoke (base_in ground.now) (seen body.now) operation.now argument.now linked) (Some (next_id (seen body.now))) (Some (invoke_apdu operation.now (next_id (seen body.now)) linked argument.now)) result }
+    ensures checked { IsChecked (can_send_invoke (base_in basis.now) (seen body.now) operation.now argument.now linked) (Some (next_id (seen body.now))) (Some (invoke_apdu operation.now (next_id (seen body.now)) linked argument.now)) result }
     ensures room { IfOk result (λ _. HasRoom (seen body.now) operation.now) }
 {
-    if !operation.argument.carries(&ground.tables.types, argument) {
+    if !operation.argument.carries(&basis.tables.types, argument) {
         return Err(CallRefusal::NotTyped);
     }
-    let apdu = invoke_apdu(ground, operation, next_id(body), linked, argument)?;
-    if is_too_long(ground, &apdu)? {
+    let apdu = invoke_apdu(basis, operation, next_id(body), linked, argument)?;
+    if is_too_long(basis, &apdu)? {
         return Err(CallRefusal::TooLong);
     }
-    match room_refusal(ground, body, operation) {
+    match room_refusal(basis, body, operation) {
         Some(refusal) => Err(refusal),
         None => Ok(apdu),
     }
@@ -159,29 +159,29 @@ fn check_send(
 
 /// The APDU of the next invocation, or why it may not be made.
 pub fn check_invoke(
-    ground: &Ground<'_>,
+    basis: &Ground<'_>,
     body: &Body,
     making: Making,
     argument: &Option<Val>,
 ) -> Result<Apdu, CallRefusal>
-    ensures checked { IsChecked (can_invoke (base_in ground.now) (seen body.now) making.context making.place argument.now making.linked) (Some (next_id (seen body.now))) (option_map (λ o. invoke_apdu o (next_id (seen body.now)) making.linked argument.now) (operation_at ground.now.tables.now making.place)) result }
-    ensures room { IfOk result (λ _. IfSome (operation_at ground.now.tables.now making.place) (HasRoom (seen body.now))) }
+    ensures checked { IsChecked (can_invoke (base_in basis.now) (seen body.now) making.context making.place argument.now making.linked) (Some (next_id (seen body.now))) (option_map (λ o. invoke_apdu o (next_id (seen body.now)) making.linked argument.now) (operation_at basis.now.tables.now making.place)) result }
+    ensures room { IfOk result (λ _. IfSome (operation_at basis.now.tables.now making.place) (HasRoom (seen body.now))) }
     ensures link { IfOk result (λ _. is_link making.linked (seen body.now).calls.opens ≡ true) }
 {
-    if is_stopped(ground, body) {
+    if is_stopped(basis, body) {
         return Err(CallRefusal::Waiting);
     }
-    let Some(operation) = ground.tables.operation(making.place) else {
+    let Some(operation) = basis.tables.operation(making.place) else {
         return Err(CallRefusal::UnknownOperation);
     };
-    if !is_on_module(ground, body, making.context) {
+    if !is_on_module(basis, body, making.context) {
         return Err(CallRefusal::Absent(making.context));
     }
     if is_deleted_in(&body.sets.own, making.context) {
         return Err(CallRefusal::AlterPending);
     }
-    if let Some(refusal) = linking_refusal(ground, body, making.place, making.linked) {
+    if let Some(refusal) = linking_refusal(basis, body, making.place, making.linked) {
         return Err(refusal);
     }
-    check_send(ground, body, operation, argument, making.linked)
+    check_send(basis, body, operation, argument, making.linked)
 }

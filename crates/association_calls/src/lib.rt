@@ -2,6 +2,7 @@
 #![tactic(auto)]
 
 mod altering;
+mod in_use;
 mod invoking;
 mod marks;
 mod outcomes;
@@ -9,7 +10,6 @@ mod rows;
 mod texts;
 mod transfers;
 mod units;
-mod used;
 
 pub use altering::can_alter;
 pub use invoking::{Making, check_invoke};
@@ -21,7 +21,7 @@ pub use units::{
     has_activities, has_marks, has_restarts, has_token, has_typed_data, has_units, has_version_two,
     manages_with, needed_units, proposed_units, selected_with,
 };
-pub use used::used;
+pub use in_use::used;
 
 use dialogue::CallRefusal;
 

@@ -14,10 +14,10 @@ use dialogue::CallRefusal;
 const MOST_MARKS: u32 = 65_536;
 
 /// Whether a mark may be set.
-pub fn can_mark(ground: &Ground<'_>, body: &Body) -> Reply
-    ensures { result ≡ can_mark (base_in ground.now) (seen body.now) }
+pub fn can_mark(basis: &Ground<'_>, body: &Body) -> Reply
+    ensures { result ≡ can_mark (base_in basis.now) (seen body.now) }
 {
-    if !(is_direct(ground.config.mode) && has_marks(body.link.selected)) {
+    if !(is_direct(basis.config.mode) && has_marks(body.link.selected)) {
         return Err(CallRefusal::NotNegotiated);
     }
     if !body.link.awaits.is_free() {
@@ -46,10 +46,10 @@ pub fn has_activity(body: &Body) -> bool
 }
 
 /// Whether the turn may be given.
-pub fn can_give(ground: &Ground<'_>, body: &Body) -> Reply
-    ensures { result ≡ can_give (base_in ground.now) (seen body.now) }
+pub fn can_give(basis: &Ground<'_>, body: &Body) -> Reply
+    ensures { result ≡ can_give (base_in basis.now) (seen body.now) }
 {
-    if !has_token(ground, body) {
+    if !has_token(basis, body) {
         return Err(CallRefusal::NotNegotiated);
     }
     if !body.link.awaits.is_free() {
@@ -68,10 +68,10 @@ pub fn can_give(ground: &Ground<'_>, body: &Body) -> Reply
 }
 
 /// Whether the turn may be asked for.
-pub fn can_please(ground: &Ground<'_>, body: &Body) -> Reply
-    ensures { result ≡ can_please (base_in ground.now) (seen body.now) }
+pub fn can_please(basis: &Ground<'_>, body: &Body) -> Reply
+    ensures { result ≡ can_please (base_in basis.now) (seen body.now) }
 {
-    if !has_token(ground, body) {
+    if !has_token(basis, body) {
         return Err(CallRefusal::NotNegotiated);
     }
     if !body.link.awaits.is_free() {
@@ -84,10 +84,10 @@ pub fn can_please(ground: &Ground<'_>, body: &Body) -> Reply
 }
 
 /// Whether a restart to this number may be asked for.
-pub fn can_restart(ground: &Ground<'_>, body: &Body, n: u32) -> Reply
-    ensures { result ≡ can_restart (base_in ground.now) (seen body.now) n }
+pub fn can_restart(basis: &Ground<'_>, body: &Body, n: u32) -> Reply
+    ensures { result ≡ can_restart (base_in basis.now) (seen body.now) n }
 {
-    if !(is_direct(ground.config.mode) && has_restarts(body.link.selected)) {
+    if !(is_direct(basis.config.mode) && has_restarts(body.link.selected)) {
         return Err(CallRefusal::NotNegotiated);
     }
     if !body.link.awaits.is_free() {

@@ -22,11 +22,11 @@ use osi_base::{Copied, NoMemory};
 use stub_tables::{Apdu, ErrorRow, Operation, Returned};
 
 /// The context on which what belongs to a context travels.
-pub fn carrier_in(ground: &Ground<'_>, body: &Body, context: u32) -> Option<u32>
-    ensures { result ≡ carrier_in (base_in ground.now) (seen body.now) context }
+pub fn carrier_in(basis: &Ground<'_>, body: &Body, context: u32) -> Option<u32>
+    ensures { result ≡ carrier_in (base_in basis.now) (seen body.now) context }
 {
     carrier(
-        ground.tables.name_oid.arcs(),
+        basis.tables.name_oid.arcs(),
         body.sets.held.as_slice(),
         &body.sets.own,
         context,
@@ -34,15 +34,15 @@ pub fn carrier_in(ground: &Ground<'_>, body: &Body, context: u32) -> Option<u32>
 }
 
 /// Whether an outcome for a context has no context on which it travels.
-fn lacks_carrier(ground: &Ground<'_>, body: &Body, context: u32) -> bool
-    ensures { result ≡ lacks_carrier (base_in ground.now) (seen body.now) context }
+fn lacks_carrier(basis: &Ground<'_>, body: &Body, context: u32) -> bool
+    ensures { result ≡ lacks_carrier (base_in basis.now) (seen body.now) context }
 {
-    is_direct(ground.config.mode) && carrier_in(ground, body, context).is_none()
+    is_direct(basis.config.mode) && carrier_in(basis, body, context).is_none()
 }
 
 /// The APDU of a result.
 fn result_apdu(
-    ground: &Ground<'_>,
+    basis: &Ground<'_>,
     operation: &Operation,
     id: &i64,
     value: &Option<Val>,
@@ -52,8 +52,8 @@ fn result_apdu(
     let returned = match value {
         None => None,
         Some(value) => Some(Returned {
-            code: operation.code.copy(ground.alloc)?,
-            value: value.copy(ground.alloc)?,
+            code: operation.code.copy(basis.alloc)?,
+            value: value.copy(basis.alloc)?,
         }),
     };
     Ok(Apdu::Result { id: *id, returned })
@@ -61,7 +61,7 @@ fn result_apdu(
 
 /// The APDU of an error.
 fn error_apdu(
-    ground: &Ground<'_>,
+    basis: &Ground<'_>,
     error: &ErrorRow,
     id: &i64,
     parameter: &Option<Val>,
@@ -70,27 +70,27 @@ fn error_apdu(
 {
     Ok(Apdu::Error {
         id: *id,
-        code: error.code.copy(ground.alloc)?,
-        parameter: parameter.copy(ground.alloc)?,
+        code: error.code.copy(basis.alloc)?,
+        parameter: parameter.copy(basis.alloc)?,
     })
 }
 
 /// An outcome for a context, or why it may not be sent.
 fn check_outcome(
-    ground: &Ground<'_>,
+    basis: &Ground<'_>,
     body: &Body,
     context: u32,
     apdu: Apdu,
 ) -> Result<Apdu, CallRefusal>
-    ensures { IsChecked (can_send_on (base_in ground.now) (seen body.now) context apdu) None (Some apdu) result }
+    ensures { IsChecked (can_send_on (base_in basis.now) (seen body.now) context apdu) None (Some apdu) result }
 {
-    if lacks_carrier(ground, body, context) {
+    if lacks_carrier(basis, body, context) {
         return Err(CallRefusal::NoContext);
     }
-    if is_too_long(ground, &apdu)? {
+    if is_too_long(basis, &apdu)? {
         return Err(CallRefusal::TooLong);
     }
-    if is_queue_full(ground, body) {
+    if is_queue_full(basis, body) {
         return Err(CallRefusal::QueueFull);
     }
     Ok(apdu)
@@ -98,88 +98,88 @@ fn check_outcome(
 
 /// The result of an operation that was invoked on a context, or why it may not be sent.
 fn check_result(
-    ground: &Ground<'_>,
+    basis: &Ground<'_>,
     body: &Body,
     context: u32,
     id: &i64,
     operation: &Operation,
     value: &Option<Val>,
 ) -> Result<Apdu, CallRefusal>
-    ensures { (o : OpenCall) → o.context ≡ context → IsChecked (can_answer_open (base_in ground.now) (seen body.now) id.now (Some o) (Some operation.now) value.now) None (Some (result_apdu operation.now id.now value.now)) result }
+    ensures { (o : OpenCall) → o.context ≡ context → IsChecked (can_answer_open (base_in basis.now) (seen body.now) id.now (Some o) (Some operation.now) value.now) None (Some (result_apdu operation.now id.now value.now)) result }
 {
     if !operation.returns {
         return Err(CallRefusal::NotAllowed);
     }
-    if !operation.result.carries(&ground.tables.types, value) {
+    if !operation.result.carries(&basis.tables.types, value) {
         return Err(CallRefusal::NotTyped);
     }
-    let apdu = result_apdu(ground, operation, id, value)?;
-    check_outcome(ground, body, context, apdu)
+    let apdu = result_apdu(basis, operation, id, value)?;
+    check_outcome(basis, body, context, apdu)
 }
 
 /// The result of an open invocation of the peer, or why it may not be sent.
 pub fn check_answer(
-    ground: &Ground<'_>,
+    basis: &Ground<'_>,
     body: &Body,
     id: &i64,
     value: &Option<Val>,
 ) -> Result<Apdu, CallRefusal>
-    ensures { IsChecked (can_answer (base_in ground.now) (seen body.now) id.now value.now) None (result_in (base_in ground.now) (seen body.now) id.now value.now) result }
+    ensures { IsChecked (can_answer (base_in basis.now) (seen body.now) id.now value.now) None (result_in (base_in basis.now) (seen body.now) id.now value.now) result }
 {
-    if is_stopped(ground, body) {
+    if is_stopped(basis, body) {
         return Err(CallRefusal::Waiting);
     }
     let Some(called) = body.calls.called(false, id) else {
         return Err(CallRefusal::NoInvocation(*id));
     };
-    let Some(operation) = ground.tables.operation(called.operation) else {
+    let Some(operation) = basis.tables.operation(called.operation) else {
         return Err(CallRefusal::NoInvocation(*id));
     };
-    check_result(ground, body, called.context, id, operation, value)
+    check_result(basis, body, called.context, id, operation, value)
 }
 
 /// An error of an operation that was invoked on a context, or why it may not be sent.
 fn check_error(
-    ground: &Ground<'_>,
+    basis: &Ground<'_>,
     body: &Body,
     context: u32,
     id: &i64,
     error: &ErrorRow,
     parameter: &Option<Val>,
 ) -> Result<Apdu, CallRefusal>
-    ensures { (o : OpenCall) → o.context ≡ context → IsChecked (can_refuse_with (base_in ground.now) (seen body.now) id.now o error.now parameter.now) None (Some (error_apdu error.now id.now parameter.now)) result }
+    ensures { (o : OpenCall) → o.context ≡ context → IsChecked (can_refuse_with (base_in basis.now) (seen body.now) id.now o error.now parameter.now) None (Some (error_apdu error.now id.now parameter.now)) result }
 {
-    if !error.parameter.carries(&ground.tables.types, parameter) {
+    if !error.parameter.carries(&basis.tables.types, parameter) {
         return Err(CallRefusal::NotTyped);
     }
-    let apdu = error_apdu(ground, error, id, parameter)?;
-    check_outcome(ground, body, context, apdu)
+    let apdu = error_apdu(basis, error, id, parameter)?;
+    check_outcome(basis, body, context, apdu)
 }
 
 /// The error of an open invocation of the peer, or why it may not be sent.
 pub fn check_refuse(
-    ground: &Ground<'_>,
+    basis: &Ground<'_>,
     body: &Body,
     id: &i64,
     place: u32,
     parameter: &Option<Val>,
 ) -> Result<Apdu, CallRefusal>
-    ensures { IsChecked (can_refuse (base_in ground.now) (seen body.now) id.now place parameter.now) None (error_for id.now parameter.now (error_at ground.now.tables.now place)) result }
+    ensures { IsChecked (can_refuse (base_in basis.now) (seen body.now) id.now place parameter.now) None (error_for id.now parameter.now (error_at basis.now.tables.now place)) result }
 {
-    if is_stopped(ground, body) {
+    if is_stopped(basis, body) {
         return Err(CallRefusal::Waiting);
     }
     let Some(called) = body.calls.called(false, id) else {
         return Err(CallRefusal::NoInvocation(*id));
     };
-    let Some(operation) = ground.tables.operation(called.operation) else {
+    let Some(operation) = basis.tables.operation(called.operation) else {
         return Err(CallRefusal::NoInvocation(*id));
     };
-    let Some(error) = ground.tables.error(place) else {
+    let Some(error) = basis.tables.error(place) else {
         return Err(CallRefusal::UnknownError);
     };
     if !operation.has_error(place) {
         return Err(CallRefusal::NotAllowed);
     }
-    check_error(ground, body, called.context, id, error, parameter)
+    check_error(basis, body, called.context, id, error, parameter)
 }

@@ -11,19 +11,19 @@ use dialogue::{Call, CallRefusal};
 
 /// Why a call is refused whatever its own rows say: the end is dead, the call is the initiator's,
 /// the phase is another, or it isn't one of bare mode.
-pub fn check_phase(ground: &Ground<'_>, body: &Body, call: &Call) -> Option<CallRefusal>
-    ensures { IsRefusal (can_call (base_in ground.now) (seen body.now) call.now) (can_by_rows (base_in ground.now) (seen body.now) call.now) result }
+pub fn check_phase(basis: &Ground<'_>, body: &Body, call: &Call) -> Option<CallRefusal>
+    ensures { IsRefusal (can_call (base_in basis.now) (seen body.now) call.now) (can_by_rows (base_in basis.now) (seen body.now) call.now) result }
 {
     if is_dead(body.link.phase) {
         return Some(CallRefusal::Dead);
     }
-    if is_initiators(call) && !ground.config.initiator {
+    if is_initiators(call) && !basis.config.initiator {
         return Some(CallRefusal::NotInitiator);
     }
     if !is_phase_for(call, body.link.phase) {
         return Some(CallRefusal::WrongPhase(body.link.phase));
     }
-    if is_bare(ground.config.mode) && !is_of_bare_mode(call) {
+    if is_bare(basis.config.mode) && !is_of_bare_mode(call) {
         return Some(CallRefusal::NotNegotiated);
     }
     None

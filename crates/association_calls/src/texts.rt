@@ -12,21 +12,21 @@ use stub_tables::Apdu;
 const MOST_OCTETS: usize = 262_144;
 
 /// Whether the spelling of an APDU in one syntax has too many octets.
-fn is_too_long_in(ground: &Ground<'_>, syntax: Syntax, apdu: &Apdu) -> Result<bool, NoMemory>
-    ensures { IfOk result (λ long. long ≡ is_too_long_in (base_in ground.now) syntax apdu.now) }
+fn is_too_long_in(basis: &Ground<'_>, syntax: Syntax, apdu: &Apdu) -> Result<bool, NoMemory>
+    ensures { IfOk result (λ long. long ≡ is_too_long_in (base_in basis.now) syntax apdu.now) }
 {
-    let text = ground
+    let text = basis
         .heads
-        .write(ground.alloc, syntax, ground.tables, apdu)?;
+        .write(basis.alloc, syntax, basis.tables, apdu)?;
     Ok(text.len() > MOST_OCTETS)
 }
 
 /// Whether a spelling of an APDU in one of the three syntaxes has too many octets.
-pub(crate) fn is_too_long(ground: &Ground<'_>, apdu: &Apdu) -> Result<bool, NoMemory>
-    ensures { IfOk result (λ long. long ≡ is_too_long (base_in ground.now) apdu.now) }
+pub(crate) fn is_too_long(basis: &Ground<'_>, apdu: &Apdu) -> Result<bool, NoMemory>
+    ensures { IfOk result (λ long. long ≡ is_too_long (base_in basis.now) apdu.now) }
 {
-    let ber = is_too_long_in(ground, Syntax::Ber, apdu)?;
-    let der = is_too_long_in(ground, Syntax::Der, apdu)?;
-    let packed = is_too_long_in(ground, Syntax::Packed, apdu)?;
+    let ber = is_too_long_in(basis, Syntax::Ber, apdu)?;
+    let der = is_too_long_in(basis, Syntax::Der, apdu)?;
+    let packed = is_too_long_in(basis, Syntax::Packed, apdu)?;
     Ok(ber || der || packed)
 }

@@ -44,10 +44,10 @@ fn is_suspended(body: &Body) -> bool
 }
 
 /// Whether the current transfer may be interrupted or discarded.
-pub fn can_stop(ground: &Ground<'_>, body: &Body) -> Reply
-    ensures { result ≡ can_stop (base_in ground.now) (seen body.now) }
+pub fn can_stop(basis: &Ground<'_>, body: &Body) -> Reply
+    ensures { result ≡ can_stop (base_in basis.now) (seen body.now) }
 {
-    if is_direct(ground.config.mode) {
+    if is_direct(basis.config.mode) {
         return Err(CallRefusal::NotNegotiated);
     }
     if !body.link.awaits.is_free() {
@@ -63,10 +63,10 @@ pub fn can_stop(ground: &Ground<'_>, body: &Body) -> Reply
 }
 
 /// Whether the suspended transfer may be resumed.
-pub fn can_resume(ground: &Ground<'_>, body: &Body) -> Reply
-    ensures { result ≡ can_resume (base_in ground.now) (seen body.now) }
+pub fn can_resume(basis: &Ground<'_>, body: &Body) -> Reply
+    ensures { result ≡ can_resume (base_in basis.now) (seen body.now) }
 {
-    if is_direct(ground.config.mode) {
+    if is_direct(basis.config.mode) {
         return Err(CallRefusal::NotNegotiated);
     }
     if !body.link.awaits.is_free() {
@@ -105,13 +105,13 @@ fn invocations_open(count: usize) -> CallRefusal
 }
 
 /// Whether the association may be released.
-pub fn can_release(ground: &Ground<'_>, body: &Body) -> Reply
-    ensures { Replies (can_release (base_in ground.now) (seen body.now)) result }
+pub fn can_release(basis: &Ground<'_>, body: &Body) -> Reply
+    ensures { Replies (can_release (base_in basis.now) (seen body.now)) result }
 {
     if !body.link.awaits.is_free() {
         return Err(CallRefusal::Waiting);
     }
-    if is_reliable(ground.config.mode) && !body.link.turn {
+    if is_reliable(basis.config.mode) && !body.link.turn {
         return Err(CallRefusal::NoTurn);
     }
     if body.sets.own.len() != 0 {

@@ -102,8 +102,8 @@ pub fn manages_with(requirements: &Option<BitString>, selected: u16) -> bool
 }
 
 /// Whether there is a token that can be given and asked for.
-pub fn has_token(ground: &Ground<'_>, body: &Body) -> bool
-    ensures { result ≡ has_token (base_in ground.now) (seen body.now) }
+pub fn has_token(basis: &Ground<'_>, body: &Body) -> bool
+    ensures { result ≡ has_token (base_in basis.now) (seen body.now) }
 {
-    is_reliable(ground.config.mode) || is_direct(ground.config.mode) && has_marks(body.link.selected)
+    is_reliable(basis.config.mode) || is_direct(basis.config.mode) && has_marks(body.link.selected)
 }

@@ -34,18 +34,18 @@ fn lacks_accept(apdu: Option<&Rtse>) -> bool
 
 /// What may not stand in the user information of an AC.
 fn transfer_fault(
-    ground: &Ground<'_>,
+    basis: &Ground<'_>,
     accepted: &[SetItem],
     values: &[Value],
 ) -> Option<Fault>
     ensures { option_map seen_fault result ≡ or_fault (information_fault is_open_accept accepted.now (user_of (the_one (seen_values values.now)))) (fault_if (lacks_accept (rtse_in (user_of (the_one (seen_values values.now))))) rtse_fault) }
 {
     let user = user_of(values);
-    if let Some(fault) = accept_information_fault(ground, accepted, user) {
+    if let Some(fault) = accept_information_fault(basis, accepted, user) {
         return Some(fault);
     }
     if lacks_accept(rtse_in(user)) {
-        return Some(Fault::at(ground.alloc, Layer::Rtse, 0, 4));
+        return Some(Fault::at(basis.alloc, Layer::Rtse, 0, 4));
     }
     None
 }
@@ -53,36 +53,36 @@ fn transfer_fault(
 /// What may not stand in an AC: its results don't fit the proposals or refuse the contexts of the
 /// association; it has no AARE that accepts; in reliable mode no RTOAC.
 pub(crate) fn accept_fault(
-    ground: &Ground<'_>,
+    basis: &Ground<'_>,
     presentation: &PresentationAccept,
     values: &[Value],
 ) -> Result<Option<Fault>, NoMemory>
-    ensures { IfOk result (λ fault. option_map seen_fault fault ≡ accept_fault (base_in ground.now) presentation.now (seen_values values.now)) }
+    ensures { IfOk result (λ fault. option_map seen_fault fault ≡ accept_fault (base_in basis.now) presentation.now (seen_values values.now)) }
 {
-    let own = proposals(ground.alloc, &ground.config)?;
+    let own = proposals(basis.alloc, &basis.config)?;
     if !fit_proposals(own.as_slice(), presentation.results.as_slice()) {
-        return Ok(Some(Fault::at(ground.alloc, Layer::Presentation, 0, 6)));
+        return Ok(Some(Fault::at(basis.alloc, Layer::Presentation, 0, 6)));
     }
-    let accepted = set_accepted(ground.alloc, ground.tables, &ground.config, presentation)?;
+    let accepted = set_accepted(basis.alloc, basis.tables, &basis.config, presentation)?;
     let accepted = accepted.as_slice();
-    let reliable = is_reliable(ground.config.mode);
+    let reliable = is_reliable(basis.config.mode);
     if !has_acse(accepted) || reliable && !has_rtse(accepted) {
-        return Ok(Some(Fault::at(ground.alloc, Layer::Presentation, 0, 6)));
+        return Ok(Some(Fault::at(basis.alloc, Layer::Presentation, 0, 6)));
     }
     if !is_accepting(values) {
-        return Ok(Some(Fault::at(ground.alloc, Layer::Acse, 0, 0)));
+        return Ok(Some(Fault::at(basis.alloc, Layer::Acse, 0, 0)));
     }
     if reliable {
-        return Ok(transfer_fault(ground, accepted, values));
+        return Ok(transfer_fault(basis, accepted, values));
     }
     Ok(None)
 }
 
 /// What is shown of an AC.
-fn shown_at_accept(ground: &Ground<'_>, body: &Body) -> Result<Indications, NoMemory>
+fn shown_at_accept(basis: &Ground<'_>, body: &Body) -> Result<Indications, NoMemory>
     ensures { IfOk result (λ shown. shown ≡ shown_at_accept (seen body.now)) }
 {
-    let mut shown: Indications = ListOf::new(ground.alloc);
+    let mut shown: Indications = ListOf::new(basis.alloc);
     if is_recovering(body.link.phase) {
         push_losses(body, &mut shown)?;
         shown.push(Indication::Recovered)?;
@@ -94,25 +94,25 @@ fn shown_at_accept(ground: &Ground<'_>, body: &Body) -> Result<Indications, NoMe
 
 /// Takes an AC.
 pub(crate) fn take_accept(
-    ground: &Ground<'_>,
+    basis: &Ground<'_>,
     body: &mut Body,
     session: &Accepting,
     presentation: &PresentationAccept,
     values: &[Value],
 ) -> Result<Taken, NoMemory>
-    ensures body { OnOk result (seen body.new ≡ after_accept (base_in ground.now) (seen body.old) (seen_accepting session.now) presentation.now (seen_values values.now)) }
+    ensures body { OnOk result (seen body.new ≡ after_accept (base_in basis.now) (seen body.old) (seen_accepting session.now) presentation.now (seen_values values.now)) }
     ensures taken { IfOk result (TakenAs [] (shown_at_accept (seen body.old))) }
 {
-    let accepted = set_accepted(ground.alloc, ground.tables, &ground.config, presentation)?;
-    let selected = selected_with(ground.config.mode, session.requirements);
-    let mut taken = quiet(ground.alloc);
-    taken.shown = shown_at_accept(ground, body)?;
+    let accepted = set_accepted(basis.alloc, basis.tables, &basis.config, presentation)?;
+    let selected = selected_with(basis.config.mode, session.requirements);
+    let mut taken = quiet(basis.alloc);
+    taken.shown = shown_at_accept(basis, body)?;
     let terms = Terms {
         accepted: accepted.as_slice(),
         selected,
         manages: manages_with(&presentation.requirements, selected),
-        agreed: agreed_for(ground, values),
+        agreed: agreed_for(basis, values),
     };
-    join(ground, body, &terms)?;
+    join(basis, body, &terms)?;
     Ok(taken)
 }

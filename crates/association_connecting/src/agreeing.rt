@@ -78,15 +78,15 @@ fn agreed_checkpoint(own: u32, theirs: u32) -> u32
 }
 
 /// What is agreed with what came.
-pub(crate) fn agreed_with(ground: &Ground<'_>, apdu: Option<&Rtse>) -> Agreed
-    ensures { seen_agreed result ≡ agreed_with (base_in ground.now) (option_copied apdu.entry) }
+pub(crate) fn agreed_with(basis: &Ground<'_>, apdu: Option<&Rtse>) -> Agreed
+    ensures { seen_agreed result ≡ agreed_with (base_in basis.now) (option_copied apdu.entry) }
 {
     match apdu {
         Some(Rtse::OpenRequest {
             checkpoint, window, ..
         }) => Agreed {
-            checkpoint: agreed_checkpoint(ground.config.checkpoint, *checkpoint),
-            window: ground.config.window.min(*window),
+            checkpoint: agreed_checkpoint(basis.config.checkpoint, *checkpoint),
+            window: basis.config.window.min(*window),
         },
         Some(Rtse::OpenAccept {
             checkpoint, window, ..
@@ -116,19 +116,19 @@ pub(crate) fn names_recovery(apdu: Option<&Rtse>) -> bool
 
 /// The connection data of the answer to what came: of the form that came.
 pub(crate) fn data_for(
-    ground: &Ground<'_>,
+    basis: &Ground<'_>,
     apdu: Option<&Rtse>,
 ) -> Result<ConnectionData, NoMemory>
-    ensures { IfOk result (λ d. d ≡ answering_data (base_in ground.now) (data_named (base_in ground.now) (option_copied apdu.entry))) }
+    ensures { IfOk result (λ d. d ≡ answering_data (base_in basis.now) (data_named (base_in basis.now) (option_copied apdu.entry))) }
 {
     match apdu {
         Some(Rtse::OpenRequest {
             data: ConnectionData::Recover { reference, common },
             ..
         }) => Ok(ConnectionData::Recover {
-            reference: reference.copy(ground.alloc)?,
-            common: common.copy(ground.alloc)?,
+            reference: reference.copy(basis.alloc)?,
+            common: common.copy(basis.alloc)?,
         }),
-        _ => connection_data(ground, false),
+        _ => connection_data(basis, false),
     }
 }

@@ -24,61 +24,61 @@ use set_rules::opening_policy;
 
 /// What the list of a CN is answered.
 fn results_for(
-    ground: &Ground<'_>,
+    basis: &Ground<'_>,
     presentation: &PresentationConnect,
 ) -> Result<AddAnswers, NoMemory>
-    ensures { IfOk result (λ answers. answers ≡ results_for (base_in ground.now) presentation.now) }
+    ensures { IfOk result (λ answers. answers ≡ results_for (base_in basis.now) presentation.now) }
 {
     opening_policy(
-        ground.alloc,
-        ground.tables,
-        &ground.config,
+        basis.alloc,
+        basis.tables,
+        &basis.config,
         presentation.definitions.as_slice(),
     )
 }
 
 /// What is agreed with a CN.
-pub(crate) fn agreed_for(ground: &Ground<'_>, values: &[Value]) -> Agreed
-    ensures { seen_agreed result ≡ agreed_for (base_in ground.now) (seen_values values.now) }
+pub(crate) fn agreed_for(basis: &Ground<'_>, values: &[Value]) -> Agreed
+    ensures { seen_agreed result ≡ agreed_for (base_in basis.now) (seen_values values.now) }
 {
-    agreed_with(ground, rtse_in(user_of(values)))
+    agreed_with(basis, rtse_in(user_of(values)))
 }
 
 /// The user information that accepts: RTOAC.
 fn accepting_information(
-    ground: &Ground<'_>,
+    basis: &Ground<'_>,
     accepted: &[SetItem],
     values: &[Value],
 ) -> Result<UserInformation, NoMemory>
-    ensures { IfOk result (λ user. map seen_information user ≡ accepting_information (base_in ground.now) accepted.now (seen_values values.now)) }
+    ensures { IfOk result (λ user. map seen_information user ≡ accepting_information (base_in basis.now) accepted.now (seen_values values.now)) }
 {
-    let agreed = agreed_for(ground, values);
-    let data = data_for(ground, rtse_in(user_of(values)))?;
+    let agreed = agreed_for(basis, values);
+    let data = data_for(basis, rtse_in(user_of(values)))?;
     let apdu = Rtse::OpenAccept {
         checkpoint: agreed.checkpoint,
         window: agreed.window,
         data,
     };
-    information(ground.alloc, ground.config.mode, accepted, apdu)
+    information(basis.alloc, basis.config.mode, accepted, apdu)
 }
 
 /// AC.
 pub(crate) fn acceptance_message(
-    ground: &Ground<'_>,
+    basis: &Ground<'_>,
     terms: &Terms<'_>,
     presentation: &PresentationConnect,
     values: &[Value],
 ) -> Result<Message, NoMemory>
     requires { is_request (the_one (seen_values values.now)) ≡ true }
-    ensures { (session : SessionConnect) → TermsOf (base_in ground.now) session presentation.now (seen_values values.now) terms.now → IfOk result (λ m. seen_message m ≡ acceptance_message (base_in ground.now) session presentation.now (seen_values values.now)) }
+    ensures { (session : SessionConnect) → TermsOf (base_in basis.now) session presentation.now (seen_values values.now) terms.now → IfOk result (λ m. seen_message m ≡ acceptance_message (base_in basis.now) session presentation.now (seen_values values.now)) }
 {
     let response = Response {
-        context: context_named(ground, values)?,
-        user: accepting_information(ground, terms.accepted, values)?,
+        context: context_named(basis, values)?,
+        user: accepting_information(basis, terms.accepted, values)?,
     };
-    let results = results_for(ground, presentation)?;
+    let results = results_for(basis, presentation)?;
     accept_message(
-        ground,
+        basis,
         terms.accepted,
         results,
         terms.selected,
@@ -89,18 +89,18 @@ pub(crate) fn acceptance_message(
 
 /// The user information that refuses: an RTORJ stands where it alone refuses.
 fn rejecting_information(
-    ground: &Ground<'_>,
+    basis: &Ground<'_>,
     session: &SessionConnect,
     accepted: &[SetItem],
     reason: Option<u8>,
 ) -> Result<UserInformation, NoMemory>
-    ensures { IfOk result (λ user. map seen_information user ≡ rejecting_information (base_in ground.now) session.now accepted.now reason) }
+    ensures { IfOk result (λ user. map seen_information user ≡ rejecting_information (base_in basis.now) session.now accepted.now reason) }
 {
-    let mut user: UserInformation = ListOf::new(ground.alloc);
+    let mut user: UserInformation = ListOf::new(basis.alloc);
     let Some(reason) = reason else {
         return Ok(user);
     };
-    if session_refuses(ground, session) {
+    if session_refuses(basis, session) {
         return Ok(user);
     }
     user.push(Information::Transferring {
@@ -114,41 +114,41 @@ fn rejecting_information(
 
 /// The user information of a refusal.
 fn refusing_information(
-    ground: &Ground<'_>,
+    basis: &Ground<'_>,
     body: &Body,
     session: &SessionConnect,
     accepted: &[SetItem],
     values: &[Value],
 ) -> Result<UserInformation, NoMemory>
-    ensures { IfOk result (λ user. map seen_information user ≡ (if lacks_request (base_in ground.now) accepted.now (seen_values values.now) then [] else rejecting_information (base_in ground.now) session.now accepted.now (transfer_rejection (base_in ground.now) (seen body.now) (seen_values values.now)))) }
+    ensures { IfOk result (λ user. map seen_information user ≡ (if lacks_request (base_in basis.now) accepted.now (seen_values values.now) then [] else rejecting_information (base_in basis.now) session.now accepted.now (transfer_rejection (base_in basis.now) (seen body.now) (seen_values values.now)))) }
 {
-    if lacks_request(ground, accepted, values) {
-        return Ok(ListOf::new(ground.alloc));
+    if lacks_request(basis, accepted, values) {
+        return Ok(ListOf::new(basis.alloc));
     }
-    let reason = transfer_rejection(ground, body, values);
-    rejecting_information(ground, session, accepted, reason)
+    let reason = transfer_rejection(basis, body, values);
+    rejecting_information(basis, session, accepted, reason)
 }
 
 /// RF.
 pub(crate) fn refusal_message(
-    ground: &Ground<'_>,
+    basis: &Ground<'_>,
     body: &Body,
     accepted: &[SetItem],
     session: &SessionConnect,
     presentation: &PresentationConnect,
     values: &[Value],
 ) -> Result<Message, NoMemory>
-    requires accepted { accepted.now ≡ set_for (base_in ground.now) presentation.now }
+    requires accepted { accepted.now ≡ set_for (base_in basis.now) presentation.now }
     requires request { has_acse accepted.now ≡ true → is_request (the_one (seen_values values.now)) ≡ true }
-    ensures { IfOk result (λ m. seen_message m ≡ refusal_message (base_in ground.now) (seen body.now) session.now presentation.now (seen_values values.now)) }
+    ensures { IfOk result (λ m. seen_message m ≡ refusal_message (base_in basis.now) (seen body.now) session.now presentation.now (seen_values values.now)) }
 {
     if presentation.default_context.is_some() || !has_acse(accepted) {
-        return Ok(provider_refusal(ground.alloc));
+        return Ok(provider_refusal(basis.alloc));
     }
     let response = Response {
-        context: context_named(ground, values)?,
-        user: refusing_information(ground, body, session, accepted, values)?,
+        context: context_named(basis, values)?,
+        user: refusing_information(basis, body, session, accepted, values)?,
     };
-    let results = results_for(ground, presentation)?;
-    refuse_message(ground.alloc, accepted, results, response)
+    let results = results_for(basis, presentation)?;
+    refuse_message(basis.alloc, accepted, results, response)
 }

@@ -92,7 +92,7 @@ pub(crate) fn is_release_response(values: &[Value]) -> bool
 
 /// The application context that a request names.
 #[tactic(auto, using(crate::proofs::Ones::the_one_is))]
-pub(crate) fn context_named(ground: &Ground<'_>, values: &[Value]) -> Result<Oid, NoMemory>
+pub(crate) fn context_named(basis: &Ground<'_>, values: &[Value]) -> Result<Oid, NoMemory>
     requires { is_request (the_one (seen_values values.now)) ≡ true }
     ensures { IfOk result (λ name. name ≡ context_named (the_one (seen_values values.now))) }
 {
@@ -103,7 +103,7 @@ pub(crate) fn context_named(ground: &Ground<'_>, values: &[Value]) -> Result<Oid
         Content::Association {
             apdu: Acse::AssociateRequest { context, .. },
             ..
-        } => context.copy(ground.alloc),
+        } => context.copy(basis.alloc),
         _ => Err(NoMemory),
     }
 }
@@ -163,7 +163,7 @@ fn is_open_accept(apdu: &Rtse) -> bool
 /// What may not stand as the first of user information: another context, or an APDU that isn't
 /// meant, as is told.
 fn information_fault(
-    ground: &Ground<'_>,
+    basis: &Ground<'_>,
     accepted: &[SetItem],
     first: &Information,
     meant: bool,
@@ -171,13 +171,13 @@ fn information_fault(
     ensures { option_map seen_fault result ≡ first_fault accepted.now (seen_information first.now) meant }
 {
     match first {
-        Information::Other { .. } => Some(Fault::at(ground.alloc, Layer::Presentation, 0, 6)),
+        Information::Other { .. } => Some(Fault::at(basis.alloc, Layer::Presentation, 0, 6)),
         Information::Transferring { id, .. } => {
             if !is_on_rtse(accepted, *id) {
-                return Some(Fault::at(ground.alloc, Layer::Presentation, 0, 6));
+                return Some(Fault::at(basis.alloc, Layer::Presentation, 0, 6));
             }
             if !meant {
-                return Some(Fault::at(ground.alloc, Layer::Rtse, 0, 4));
+                return Some(Fault::at(basis.alloc, Layer::Rtse, 0, 4));
             }
             None
         }
@@ -186,7 +186,7 @@ fn information_fault(
 
 /// What may not stand in the user information of a request.
 pub(crate) fn request_information_fault(
-    ground: &Ground<'_>,
+    basis: &Ground<'_>,
     accepted: &[SetItem],
     user: &[Information],
 ) -> Option<Fault>
@@ -197,12 +197,12 @@ pub(crate) fn request_information_fault(
         Information::Transferring { apdu, .. } => is_open_request(apdu),
         Information::Other { .. } => false,
     };
-    information_fault(ground, accepted, first, meant)
+    information_fault(basis, accepted, first, meant)
 }
 
 /// What may not stand in the user information of an acceptance.
 pub(crate) fn accept_information_fault(
-    ground: &Ground<'_>,
+    basis: &Ground<'_>,
     accepted: &[SetItem],
     user: &[Information],
 ) -> Option<Fault>
@@ -213,5 +213,5 @@ pub(crate) fn accept_information_fault(
         Information::Transferring { apdu, .. } => is_open_accept(apdu),
         Information::Other { .. } => false,
     };
-    information_fault(ground, accepted, first, meant)
+    information_fault(basis, accepted, first, meant)
 }

@@ -26,34 +26,34 @@ use set_rules::set_for;
 
 /// What may not stand in a CN.
 fn connect_fault_in(
-    ground: &Ground<'_>,
+    basis: &Ground<'_>,
     presentation: &PresentationConnect,
     values: &[Value],
 ) -> Result<Option<Fault>, NoMemory>
-    ensures { IfOk result (λ fault. option_map seen_fault fault ≡ connect_fault (base_in ground.now) presentation.now (seen_values values.now)) }
+    ensures { IfOk result (λ fault. option_map seen_fault fault ≡ connect_fault (base_in basis.now) presentation.now (seen_values values.now)) }
 {
-    let set = set_for(ground.alloc, ground.tables, &ground.config, presentation)?;
-    Ok(connect_fault(ground, set.as_slice(), presentation, values))
+    let set = set_for(basis.alloc, basis.tables, &basis.config, presentation)?;
+    Ok(connect_fault(basis, set.as_slice(), presentation, values))
 }
 
 /// A fault of association control unless this is so.
-fn acse_fault_unless(ground: &Ground<'_>, so: bool) -> Option<Fault>
+fn acse_fault_unless(basis: &Ground<'_>, so: bool) -> Option<Fault>
     ensures { option_map seen_fault result ≡ fault_if (not so) acse_fault }
 {
     if so {
         None
     } else {
-        Some(Fault::at(ground.alloc, Layer::Acse, 0, 0))
+        Some(Fault::at(basis.alloc, Layer::Acse, 0, 0))
     }
 }
 
 /// Why a unit of the association may not be taken.
 pub fn association_fault(
-    ground: &Ground<'_>,
+    basis: &Ground<'_>,
     body: &Body,
     word: &AssociationWord,
 ) -> Result<Option<Fault>, NoMemory>
-    ensures { IfOk result (λ fault. option_map seen_fault fault ≡ association_fault (base_in ground.now) (seen body.now) (seen_association word.now)) }
+    ensures { IfOk result (λ fault. option_map seen_fault fault ≡ association_fault (base_in basis.now) (seen body.now) (seen_association word.now)) }
 {
     let _body = body;
     match word {
@@ -61,21 +61,21 @@ pub fn association_fault(
             session: _,
             presentation,
             values,
-        } => connect_fault_in(ground, presentation, values.as_slice()),
+        } => connect_fault_in(basis, presentation, values.as_slice()),
         AssociationWord::Accept {
             session: _,
             presentation,
             values,
-        } => accept_fault(ground, presentation, values.as_slice()),
+        } => accept_fault(basis, presentation, values.as_slice()),
         AssociationWord::Finish {
             transport: _,
             values,
         } => Ok(acse_fault_unless(
-            ground,
+            basis,
             is_release_request(values.as_slice()),
         )),
         AssociationWord::Disconnect { values } => Ok(acse_fault_unless(
-            ground,
+            basis,
             is_release_response(values.as_slice()),
         )),
         AssociationWord::Refuse { .. } => Ok(None),
@@ -86,79 +86,79 @@ pub fn association_fault(
 
 /// The contexts on which an abort for a unit would go: those of a CN are answered as it comes.
 pub fn contexts_for(
-    ground: &Ground<'_>,
+    basis: &Ground<'_>,
     body: &Body,
     word: &AssociationWord,
 ) -> Result<SetList, NoMemory>
-    ensures { IfOk result (λ set. set ≡ contexts_for (base_in ground.now) (seen body.now) (seen_association word.now)) }
+    ensures { IfOk result (λ set. set ≡ contexts_for (base_in basis.now) (seen body.now) (seen_association word.now)) }
 {
     match word {
         AssociationWord::Connect { presentation, .. } => {
-            set_for(ground.alloc, ground.tables, &ground.config, presentation)
+            set_for(basis.alloc, basis.tables, &basis.config, presentation)
         }
-        AssociationWord::Accept { .. } => own_contexts(ground, body),
-        AssociationWord::Refuse { .. } => own_contexts(ground, body),
-        AssociationWord::Finish { .. } => own_contexts(ground, body),
-        AssociationWord::Disconnect { .. } => own_contexts(ground, body),
-        AssociationWord::Abort { .. } => own_contexts(ground, body),
-        AssociationWord::AbortAccept => own_contexts(ground, body),
+        AssociationWord::Accept { .. } => own_contexts(basis, body),
+        AssociationWord::Refuse { .. } => own_contexts(basis, body),
+        AssociationWord::Finish { .. } => own_contexts(basis, body),
+        AssociationWord::Disconnect { .. } => own_contexts(basis, body),
+        AssociationWord::Abort { .. } => own_contexts(basis, body),
+        AssociationWord::AbortAccept => own_contexts(basis, body),
     }
 }
 
 /// The contexts that were accepted.
-fn own_contexts(ground: &Ground<'_>, body: &Body) -> Result<SetList, NoMemory>
+fn own_contexts(basis: &Ground<'_>, body: &Body) -> Result<SetList, NoMemory>
     ensures { IfOk result (λ set. set ≡ (seen body.now).link.accepted) }
 {
-    copy_set(ground.alloc, body.link.accepted.as_slice())
+    copy_set(basis.alloc, body.link.accepted.as_slice())
 }
 
 /// What is shown as the association ends: the cuts, and then this.
 fn shown_end(
-    ground: &Ground<'_>,
+    basis: &Ground<'_>,
     body: &Body,
     last: Indication,
 ) -> Result<Indications, NoMemory>
     ensures { IfOk result (λ shown. shown ≡ cuts (seen body.now) ++ last ∷ []) }
 {
-    let mut shown: Indications = ListOf::new(ground.alloc);
-    push_cuts(ground.alloc, body, &mut shown)?;
+    let mut shown: Indications = ListOf::new(basis.alloc);
+    push_cuts(basis.alloc, body, &mut shown)?;
     shown.push(last)?;
     Ok(shown)
 }
 
 /// The association ends without an answer, and this is shown.
 fn end_quietly(
-    ground: &Ground<'_>,
+    basis: &Ground<'_>,
     body: &mut Body,
     last: Indication,
 ) -> Result<Taken, NoMemory>
     ensures body { OnOk result (seen body.new ≡ over (seen body.old)) }
     ensures taken { IfOk result (TakenAs [] (cuts (seen body.old) ++ last ∷ [])) }
 {
-    let mut taken = quiet(ground.alloc);
-    taken.shown = shown_end(ground, body, last)?;
+    let mut taken = quiet(basis.alloc);
+    taken.shown = shown_end(basis, body, last)?;
     over(body);
     Ok(taken)
 }
 
 /// Takes FN.
-fn take_finish(ground: &Ground<'_>, body: &mut Body) -> Result<Taken, NoMemory>
+fn take_finish(basis: &Ground<'_>, body: &mut Body) -> Result<Taken, NoMemory>
     ensures body { OnOk result (seen body.new ≡ over (seen body.old)) }
     ensures taken { IfOk result (TakenAs (disconnect_message (seen body.old) ∷ []) (cuts (seen body.old) ++ indications.Released ∷ [])) }
 {
-    let message = disconnect_message(ground.alloc, body)?;
-    let mut taken = answered(ground.alloc, message)?;
-    taken.shown = shown_end(ground, body, Indication::Released)?;
+    let message = disconnect_message(basis.alloc, body)?;
+    let mut taken = answered(basis.alloc, message)?;
+    taken.shown = shown_end(basis, body, Indication::Released)?;
     over(body);
     Ok(taken)
 }
 
 /// Takes DN.
-fn take_disconnect(ground: &Ground<'_>, body: &mut Body) -> Result<Taken, NoMemory>
+fn take_disconnect(basis: &Ground<'_>, body: &mut Body) -> Result<Taken, NoMemory>
     ensures body { OnOk result (seen body.new ≡ awaiting NoAnswer (over (seen body.old))) }
     ensures taken { IfOk result (TakenAs [] (cuts (seen body.old) ++ indications.Released ∷ [])) }
 {
-    let taken = end_quietly(ground, body, Indication::Released)?;
+    let taken = end_quietly(basis, body, Indication::Released)?;
     body.link.awaits = Awaited::NoAnswer;
     Ok(taken)
 }
@@ -177,25 +177,25 @@ fn aborted_by_peer() -> Indication
 
 /// Takes a unit of the association, in which nothing is faulty.
 pub fn take_association(
-    ground: &Ground<'_>,
+    basis: &Ground<'_>,
     body: &mut Body,
     word: AssociationWord,
 ) -> Result<Taken, NoMemory>
-    requires { association_fault (base_in ground.now) (seen body.old) (seen_association word) ≡ None }
-    ensures body { OnOk result (seen body.new ≡ after_association (base_in ground.now) (seen body.old) (seen_association word)) }
-    ensures taken { IfOk result (TakenAs (answers_to_association (base_in ground.now) (seen body.old) (seen_association word)) (shown_of_association (base_in ground.now) (seen body.old) (seen_association word))) }
+    requires { association_fault (base_in basis.now) (seen body.old) (seen_association word) ≡ None }
+    ensures body { OnOk result (seen body.new ≡ after_association (base_in basis.now) (seen body.old) (seen_association word)) }
+    ensures taken { IfOk result (TakenAs (answers_to_association (base_in basis.now) (seen body.old) (seen_association word)) (shown_of_association (base_in basis.now) (seen body.old) (seen_association word))) }
 {
     match word {
         AssociationWord::Connect {
             session,
             presentation,
             values,
-        } => take_connect(ground, body, &session, &presentation, values.as_slice()),
+        } => take_connect(basis, body, &session, &presentation, values.as_slice()),
         AssociationWord::Accept {
             session,
             presentation,
             values,
-        } => take_accept(ground, body, &session, &presentation, values.as_slice()),
+        } => take_accept(basis, body, &session, &presentation, values.as_slice()),
         AssociationWord::Refuse {
             transport: _,
             reason: _,
@@ -203,17 +203,17 @@ pub fn take_association(
             values: _,
         } => {
             body.link.phase = Phase::Over;
-            told(ground.alloc, Indication::AssociationRefused)
+            told(basis.alloc, Indication::AssociationRefused)
         }
         AssociationWord::Finish {
             transport: _,
             values: _,
-        } => take_finish(ground, body),
-        AssociationWord::Disconnect { values: _ } => take_disconnect(ground, body),
+        } => take_finish(basis, body),
+        AssociationWord::Disconnect { values: _ } => take_disconnect(basis, body),
         AssociationWord::Abort {
             transport: _,
             user: _,
-        } => end_quietly(ground, body, aborted_by_peer()),
-        AssociationWord::AbortAccept => end_quietly(ground, body, aborted_by_peer()),
+        } => end_quietly(basis, body, aborted_by_peer()),
+        AssociationWord::AbortAccept => end_quietly(basis, body, aborted_by_peer()),
     }
 }

@@ -32,22 +32,22 @@ pub(crate) fn has_rtse(accepted: &[SetItem]) -> bool
 /// association control is accepted, it carries no AARQ; or, where reliable transfer is, the AARQ
 /// carries what is no RTORQ.
 pub(crate) fn connect_fault(
-    ground: &Ground<'_>,
+    basis: &Ground<'_>,
     accepted: &[SetItem],
     presentation: &PresentationConnect,
     values: &[Value],
 ) -> Option<Fault>
-    requires { accepted.now ≡ set_for (base_in ground.now) presentation.now }
-    ensures fault { option_map seen_fault result ≡ connect_fault (base_in ground.now) presentation.now (seen_values values.now) }
+    requires { accepted.now ≡ set_for (base_in basis.now) presentation.now }
+    ensures fault { option_map seen_fault result ≡ connect_fault (base_in basis.now) presentation.now (seen_values values.now) }
 {
     if is_faulty_proposal(true, &[], presentation.definitions.as_slice()) {
-        return Some(Fault::at(ground.alloc, Layer::Presentation, 0, 6));
+        return Some(Fault::at(basis.alloc, Layer::Presentation, 0, 6));
     }
     if has_acse(accepted) && !is_request(values) {
-        return Some(Fault::at(ground.alloc, Layer::Acse, 0, 0));
+        return Some(Fault::at(basis.alloc, Layer::Acse, 0, 0));
     }
-    if is_reliable(ground.config.mode) && has_acse(accepted) && has_rtse(accepted) {
-        return request_information_fault(ground, accepted, user_of(values));
+    if is_reliable(basis.config.mode) && has_acse(accepted) && has_rtse(accepted) {
+        return request_information_fault(basis, accepted, user_of(values));
     }
     None
 }
@@ -79,10 +79,10 @@ fn gives_token(setting: Option<u8>) -> bool
 
 /// Whether the session refuses: version 2 lacks, or a unit that the mode needs; another initial
 /// number than 1; a token at the responder.
-pub(crate) fn session_refuses(ground: &Ground<'_>, session: &SessionConnect) -> bool
-    ensures { result ≡ session_refuses (base_in ground.now) session.now }
+pub(crate) fn session_refuses(basis: &Ground<'_>, session: &SessionConnect) -> bool
+    ensures { result ≡ session_refuses (base_in basis.now) session.now }
 {
-    let mode = ground.config.mode;
+    let mode = basis.config.mode;
     !has_version_two(session.version)
         || !has_units(needed_units(mode), selected_with(mode, session.requirements))
         || has_other_initial(session.initial)
@@ -91,41 +91,41 @@ pub(crate) fn session_refuses(ground: &Ground<'_>, session: &SessionConnect) -> 
 
 /// Whether reliable transfer isn't accepted, or there is no RTORQ.
 pub(crate) fn lacks_request(
-    ground: &Ground<'_>,
+    basis: &Ground<'_>,
     accepted: &[SetItem],
     values: &[Value],
 ) -> bool
-    ensures { result ≡ lacks_request (base_in ground.now) accepted.now (seen_values values.now) }
+    ensures { result ≡ lacks_request (base_in basis.now) accepted.now (seen_values values.now) }
 {
-    is_reliable(ground.config.mode)
+    is_reliable(basis.config.mode)
         && (!has_rtse(accepted) || rtse_in(user_of(values)).is_none())
 }
 
 /// Whether the presentation or association control refuses: a default context stands; association
 /// control isn't accepted, or in reliable mode reliable transfer; or there is no RTORQ.
 pub(crate) fn presentation_refuses(
-    ground: &Ground<'_>,
+    basis: &Ground<'_>,
     accepted: &[SetItem],
     presentation: &PresentationConnect,
     values: &[Value],
 ) -> bool
-    requires { accepted.now ≡ set_for (base_in ground.now) presentation.now }
-    ensures { result ≡ presentation_refuses (base_in ground.now) presentation.now (seen_values values.now) }
+    requires { accepted.now ≡ set_for (base_in basis.now) presentation.now }
+    ensures { result ≡ presentation_refuses (base_in basis.now) presentation.now (seen_values values.now) }
 {
     presentation.default_context.is_some()
         || !has_acse(accepted)
-        || lacks_request(ground, accepted, values)
+        || lacks_request(basis, accepted, values)
 }
 
 /// The reason for which reliable transfer rejects, if it does.
 pub(crate) fn transfer_rejection(
-    ground: &Ground<'_>,
+    basis: &Ground<'_>,
     body: &Body,
     values: &[Value],
 ) -> Option<u8>
-    ensures { result ≡ transfer_rejection (base_in ground.now) (seen body.now) (seen_values values.now) }
+    ensures { result ≡ transfer_rejection (base_in basis.now) (seen body.now) (seen_values values.now) }
 {
-    if is_reliable(ground.config.mode) {
+    if is_reliable(basis.config.mode) {
         rejection_of(body, rtse_in(user_of(values)))
     } else {
         None
@@ -134,17 +134,17 @@ pub(crate) fn transfer_rejection(
 
 /// Whether a CN whose accepted contexts are these is refused.
 pub(crate) fn is_refused(
-    ground: &Ground<'_>,
+    basis: &Ground<'_>,
     body: &Body,
     accepted: &[SetItem],
     session: &SessionConnect,
     presentation: &PresentationConnect,
     values: &[Value],
 ) -> bool
-    requires { accepted.now ≡ set_for (base_in ground.now) presentation.now }
-    ensures { result ≡ is_refused (base_in ground.now) (seen body.now) session.now presentation.now (seen_values values.now) }
+    requires { accepted.now ≡ set_for (base_in basis.now) presentation.now }
+    ensures { result ≡ is_refused (base_in basis.now) (seen body.now) session.now presentation.now (seen_values values.now) }
 {
-    session_refuses(ground, session)
-        || presentation_refuses(ground, accepted, presentation, values)
-        || transfer_rejection(ground, body, values).is_some()
+    session_refuses(basis, session)
+        || presentation_refuses(basis, accepted, presentation, values)
+        || transfer_rejection(basis, body, values).is_some()
 }

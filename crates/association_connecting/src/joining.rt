@@ -16,6 +16,7 @@ use osi_base::{Copied, NoMemory, SessionConnect, SetItem, SetList};
 
 /// What the two ends of a connection have: the accepted contexts, the functional units selected,
 /// whether context management is, and what is agreed for transfers.
+#[derive(Clone, Copy)]
 pub(crate) struct Terms<'a> {
     pub accepted: &'a [SetItem],
     pub selected: u16,
@@ -26,20 +27,20 @@ pub(crate) struct Terms<'a> {
 /// In direct mode number 0 saves the accepted contexts; in reliable mode they are the inter-activity
 /// set.
 fn keep_first(
-    ground: &Ground<'_>,
+    basis: &Ground<'_>,
     body: &mut Body,
     accepted: &[SetItem],
 ) -> Result<(), NoMemory>
-    ensures { OnOk result (seen body.new ≡ kept_first ground.now.config.mode accepted.now (seen body.old)) }
+    ensures { OnOk result (seen body.new ≡ kept_first basis.now.config.mode accepted.now (seen body.old)) }
 {
-    match ground.config.mode {
+    match basis.config.mode {
         Mode::Reliable => {
-            body.sets.inter = copy_set(ground.alloc, accepted)?;
+            body.sets.inter = copy_set(basis.alloc, accepted)?;
             Ok(())
         }
         Mode::Direct => {
-            let mut saved = SavedSets::new(ground.alloc);
-            saved.push(0, copy_set(ground.alloc, accepted)?)?;
+            let mut saved = SavedSets::new(basis.alloc);
+            saved.push(0, copy_set(basis.alloc, accepted)?)?;
             body.saved = saved;
             Ok(())
         }
@@ -48,15 +49,15 @@ fn keep_first(
 }
 
 /// The association stands on these terms.
-fn stand(ground: &Ground<'_>, body: &mut Body, terms: &Terms<'_>, accepted: SetList)
+fn stand(basis: &Ground<'_>, body: &mut Body, terms: &Terms<'_>, accepted: SetList)
     requires { accepted ≡ terms.now.accepted.now }
-    ensures { seen body.new ≡ stood ground.now.config.initiator accepted terms.now.selected terms.now.manages (seen_agreed terms.now.agreed) (seen body.old) }
+    ensures { seen body.new ≡ stood basis.now.config.initiator accepted terms.now.selected terms.now.manages (seen_agreed terms.now.agreed) (seen body.old) }
 {
     body.link.phase = Phase::Up;
     body.link.stage = Stage::Carrying;
     body.link.selected = terms.selected;
     body.link.manages = terms.manages;
-    body.link.turn = ground.config.initiator;
+    body.link.turn = basis.config.initiator;
     body.link.gave = false;
     body.link.awaits = Awaited::NoAnswer;
     body.link.accepted = accepted;
@@ -66,16 +67,16 @@ fn stand(ground: &Ground<'_>, body: &mut Body, terms: &Terms<'_>, accepted: SetL
 
 /// Both ends hold the accepted contexts, and the association stands.
 pub(crate) fn join(
-    ground: &Ground<'_>,
+    basis: &Ground<'_>,
     body: &mut Body,
     terms: &Terms<'_>,
 ) -> Result<(), NoMemory>
-    ensures { OnOk result (seen body.new ≡ joined_with (base_in ground.now) terms.now.accepted.now terms.now.selected terms.now.manages (seen_agreed terms.now.agreed) (seen body.old)) }
+    ensures { OnOk result (seen body.new ≡ joined_with (base_in basis.now) terms.now.accepted.now terms.now.selected terms.now.manages (seen_agreed terms.now.agreed) (seen body.old)) }
 {
-    let accepted = copy_set(ground.alloc, terms.accepted)?;
-    let held = copy_set(ground.alloc, terms.accepted)?;
-    keep_first(ground, body, terms.accepted)?;
-    stand(ground, body, terms, accepted);
+    let accepted = copy_set(basis.alloc, terms.accepted)?;
+    let held = copy_set(basis.alloc, terms.accepted)?;
+    keep_first(basis, body, terms.accepted)?;
+    stand(basis, body, terms, accepted);
     body.sets.held = held;
     body.sets.own.clear();
     Ok(())
@@ -83,15 +84,15 @@ pub(crate) fn join(
 
 /// An opening begins anew, with the references of its CN.
 pub(crate) fn begin(
-    ground: &Ground<'_>,
+    basis: &Ground<'_>,
     body: &mut Body,
     session: &SessionConnect,
 ) -> Result<(), NoMemory>
-    ensures { OnOk result (seen body.new ≡ begun_with (base_in ground.now) session.now) }
+    ensures { OnOk result (seen body.new ≡ begun_with (base_in basis.now) session.now) }
 {
-    let reference = session.calling_reference.copy(ground.alloc)?;
-    let common = session.common_reference.copy(ground.alloc)?;
-    *body = Body::new(ground)?;
+    let reference = session.calling_reference.copy(basis.alloc)?;
+    let common = session.common_reference.copy(basis.alloc)?;
+    *body = Body::new(basis)?;
     body.link.reference = reference;
     body.link.common = common;
     Ok(())

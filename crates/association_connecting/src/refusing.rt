@@ -21,28 +21,28 @@ use osi_base::{ListOf, NoMemory, PresentationConnect, SessionConnect, SetItem};
 use set_rules::set_for;
 
 /// Whether a CN names the association that is broken.
-fn recovers_in(ground: &Ground<'_>, values: &[Value]) -> bool
-    ensures { result ≡ recovers_in (base_in ground.now) (seen_values values.now) }
+fn recovers_in(basis: &Ground<'_>, values: &[Value]) -> bool
+    ensures { result ≡ recovers_in (base_in basis.now) (seen_values values.now) }
 {
-    is_reliable(ground.config.mode) && names_recovery(rtse_in(user_of(values)))
+    is_reliable(basis.config.mode) && names_recovery(rtse_in(user_of(values)))
 }
 
 /// What is shown of an opening: one that reaches a broken end gives the old association up.
 fn shown_opening(
-    ground: &Ground<'_>,
+    basis: &Ground<'_>,
     body: &Body,
     recovers: bool,
 ) -> Result<Indications, NoMemory>
     ensures { IfOk result (λ shown. shown ≡ shown_opening (seen body.now) recovers) }
 {
-    let mut shown: Indications = ListOf::new(ground.alloc);
+    let mut shown: Indications = ListOf::new(basis.alloc);
     if recovers {
         push_losses(body, &mut shown)?;
         shown.push(Indication::Recovered)?;
         return Ok(shown);
     }
     if is_broken(body.link.phase) {
-        push_cuts(ground.alloc, body, &mut shown)?;
+        push_cuts(basis.alloc, body, &mut shown)?;
         shown.push(Indication::GivenUp)?;
         shown.push(Indication::Opened)?;
         return Ok(shown);
@@ -61,38 +61,38 @@ pub(crate) struct Asked<'a> {
 }
 
 /// The terms of a CN.
-fn terms_of<'a>(ground: &Ground<'_>, asked: Asked<'a>) -> Terms<'a> {
-    let selected = selected_with(ground.config.mode, asked.session.requirements);
+fn terms_of<'a>(basis: &Ground<'_>, asked: Asked<'a>) -> Terms<'a> {
+    let selected = selected_with(basis.config.mode, asked.session.requirements);
     Terms {
         accepted: asked.accepted,
         selected,
         manages: manages_with(&asked.presentation.requirements, selected),
-        agreed: agreed_for(ground, asked.values),
+        agreed: agreed_for(basis, asked.values),
     }
 }
 
 /// Accepts a CN.
-fn accept(ground: &Ground<'_>, body: &mut Body, asked: Asked<'_>) -> Result<Taken, NoMemory> {
-    let terms = terms_of(ground, asked);
-    let message = acceptance_message(ground, &terms, asked.presentation, asked.values)?;
-    let recovers = recovers_in(ground, asked.values);
-    let mut taken = answered(ground.alloc, message)?;
-    taken.shown = shown_opening(ground, body, recovers)?;
+fn accept(basis: &Ground<'_>, body: &mut Body, asked: Asked<'_>) -> Result<Taken, NoMemory> {
+    let terms = terms_of(basis, asked);
+    let message = acceptance_message(basis, &terms, asked.presentation, asked.values)?;
+    let recovers = recovers_in(basis, asked.values);
+    let mut taken = answered(basis.alloc, message)?;
+    taken.shown = shown_opening(basis, body, recovers)?;
     if !recovers {
-        begin(ground, body, asked.session)?;
+        begin(basis, body, asked.session)?;
     }
-    join(ground, body, &terms)?;
+    join(basis, body, &terms)?;
     Ok(taken)
 }
 
 /// Refuses a CN.
 fn refuse_asked(
-    ground: &Ground<'_>,
+    basis: &Ground<'_>,
     body: &mut Body,
     asked: Asked<'_>,
 ) -> Result<Taken, NoMemory> {
     let message = refusal_message(
-        ground,
+        basis,
         body,
         asked.accepted,
         asked.session,
@@ -100,22 +100,22 @@ fn refuse_asked(
         asked.values,
     )?;
     refuse(body);
-    answered(ground.alloc, message)
+    answered(basis.alloc, message)
 }
 
 /// Takes a CN, which is answered by AC or RF.
 pub(crate) fn take_connect(
-    ground: &Ground<'_>,
+    basis: &Ground<'_>,
     body: &mut Body,
     session: &SessionConnect,
     presentation: &PresentationConnect,
     values: &[Value],
 ) -> Result<Taken, NoMemory>
-    requires { connect_fault (base_in ground.now) presentation.now (seen_values values.now) ≡ None }
-    ensures body { OnOk result (seen body.new ≡ after_connect (base_in ground.now) (seen body.old) session.now presentation.now (seen_values values.now)) }
-    ensures taken { IfOk result (TakenAs (answer_to_connect (base_in ground.now) (seen body.old) session.now presentation.now (seen_values values.now)) (shown_at_connect (base_in ground.now) (seen body.old) session.now presentation.now (seen_values values.now))) }
+    requires { connect_fault (base_in basis.now) presentation.now (seen_values values.now) ≡ None }
+    ensures body { OnOk result (seen body.new ≡ after_connect (base_in basis.now) (seen body.old) session.now presentation.now (seen_values values.now)) }
+    ensures taken { IfOk result (TakenAs (answer_to_connect (base_in basis.now) (seen body.old) session.now presentation.now (seen_values values.now)) (shown_at_connect (base_in basis.now) (seen body.old) session.now presentation.now (seen_values values.now))) }
 {
-    let set = set_for(ground.alloc, ground.tables, &ground.config, presentation)?;
+    let set = set_for(basis.alloc, basis.tables, &basis.config, presentation)?;
     let accepted = set.as_slice();
     let asked = Asked {
         session,
@@ -123,9 +123,9 @@ pub(crate) fn take_connect(
         values,
         accepted,
     };
-    if is_refused(ground, body, accepted, session, presentation, values) {
-        refuse_asked(ground, body, asked)
+    if is_refused(basis, body, accepted, session, presentation, values) {
+        refuse_asked(basis, body, asked)
     } else {
-        accept(ground, body, asked)
+        accept(basis, body, asked)
     }
 }

@@ -17,30 +17,30 @@ use stub_tables::{Apdu, Returned};
 
 /// Hears a result that returns nothing, or a value with its code.
 fn hear_returned(
-    ground: &Ground<'_>,
+    basis: &Ground<'_>,
     calls: &mut Invocations,
     id: i64,
     returned: Option<Returned>,
 ) -> RoseTaken
-    ensures { heard_with calls.new result ≡ hear_result_of (base_in ground.now) calls.old id (opened_with true id calls.old.opens) (code_returned returned) (value_returned returned) }
+    ensures { heard_with calls.new result ≡ hear_result_of (base_in basis.now) calls.old id (opened_with true id calls.old.opens) (code_returned returned) (value_returned returned) }
 {
     match returned {
-        None => hear_result(ground, calls, id, &None, None),
+        None => hear_result(basis, calls, id, &None, None),
         Some(returned) => {
             let Returned { code, value } = returned;
-            hear_result(ground, calls, id, &Some(code), Some(value))
+            hear_result(basis, calls, id, &Some(code), Some(value))
         }
     }
 }
 
 /// What becomes of an APDU that was read whole on a context.
 pub fn hear_apdu(
-    ground: &Ground<'_>,
+    basis: &Ground<'_>,
     calls: &mut Invocations,
     context: u32,
     apdu: Apdu,
 ) -> Result<RoseTaken, NoMemory>
-    ensures { IfOk result (λ taken. heard_with calls.new taken ≡ hear (base_in ground.now) calls.old context (head_of_apdu apdu)) }
+    ensures { IfOk result (λ taken. heard_with calls.new taken ≡ hear (base_in basis.now) calls.old context (head_of_apdu apdu)) }
 {
     match apdu {
         Apdu::Invoke {
@@ -54,14 +54,14 @@ pub fn hear_apdu(
                 context,
                 linked,
             };
-            hear_invoke(ground, calls, coming, &code, argument)
+            hear_invoke(basis, calls, coming, &code, argument)
         }
-        Apdu::Result { id, returned } => Ok(hear_returned(ground, calls, id, returned)),
+        Apdu::Result { id, returned } => Ok(hear_returned(basis, calls, id, returned)),
         Apdu::Error {
             id,
             code,
             parameter,
-        } => Ok(hear_error(ground, calls, id, &code, parameter)),
+        } => Ok(hear_error(basis, calls, id, &code, parameter)),
         Apdu::Reject { id, problem } => Ok(hear_reject(calls, id, problem)),
     }
 }

@@ -38,27 +38,27 @@ pub(crate) struct Coming {
 
 /// Hears an invocation.
 pub(crate) fn hear_invoke(
-    ground: &Ground<'_>,
+    basis: &Ground<'_>,
     calls: &mut Invocations,
     coming: Coming,
     code: &Code,
     argument: Option<Val>,
 ) -> Result<RoseTaken, NoMemory>
-    ensures { IfOk result (λ taken. heard_with calls.new taken ≡ hear_invoke (base_in ground.now) calls.old coming.context coming.id coming.linked code.now (carried_in argument)) }
+    ensures { IfOk result (λ taken. heard_with calls.new taken ≡ hear_invoke (base_in basis.now) calls.old coming.context coming.id coming.linked code.now (carried_in argument)) }
 {
     let Coming {
         id,
         context,
         linked,
     } = coming;
-    let place = ground.tables.operation_with(code);
-    if let Some(number) = invoke_problem(ground, calls, &id, &linked, place, &argument) {
+    let place = basis.tables.operation_with(code);
+    if let Some(number) = invoke_problem(basis, calls, &id, &linked, place, &argument) {
         return Ok(rejected(Some(id), ProblemKind::Invoke, number));
     }
     let Some(operation) = place else {
         return Ok(rejected(Some(id), ProblemKind::Invoke, 1));
     };
-    calls.admit(ground.tables, &id, Called { operation, context }, linked)?;
+    calls.admit(basis.tables, &id, Called { operation, context }, linked)?;
     Ok(RoseTaken::Invoked {
         id,
         operation,

@@ -18,18 +18,18 @@ use stub_tables::Code;
 
 /// Hears a result.
 pub(crate) fn hear_result(
-    ground: &Ground<'_>,
+    basis: &Ground<'_>,
     calls: &mut Invocations,
     id: i64,
     code: &Option<Code>,
     value: Option<Val>,
 ) -> RoseTaken
-    ensures { heard_with calls.new result ≡ hear_result_of (base_in ground.now) calls.old id (opened_with true id calls.old.opens) code.now (carried_in value) }
+    ensures { heard_with calls.new result ≡ hear_result_of (base_in basis.now) calls.old id (opened_with true id calls.old.opens) code.now (carried_in value) }
 {
     let Some(called) = calls.called(true, &id) else {
         return rejected(Some(id), ProblemKind::Result, 0);
     };
-    let problem = result_problem(ground, called.operation, code, &value);
+    let problem = result_problem(basis, called.operation, code, &value);
     calls.close_own(&id);
     match problem {
         Some(number) => rejected(Some(id), ProblemKind::Result, number),
@@ -39,19 +39,19 @@ pub(crate) fn hear_result(
 
 /// Hears an error.
 pub(crate) fn hear_error(
-    ground: &Ground<'_>,
+    basis: &Ground<'_>,
     calls: &mut Invocations,
     id: i64,
     code: &Code,
     parameter: Option<Val>,
 ) -> RoseTaken
-    ensures { heard_with calls.new result ≡ hear_error_of (base_in ground.now) calls.old id (opened_with true id calls.old.opens) (error_with ground.now.tables.now code.now) (carried_in parameter) }
+    ensures { heard_with calls.new result ≡ hear_error_of (base_in basis.now) calls.old id (opened_with true id calls.old.opens) (error_with basis.now.tables.now code.now) (carried_in parameter) }
 {
     let Some(called) = calls.called(true, &id) else {
         return rejected(Some(id), ProblemKind::Error, 0);
     };
-    let error = ground.tables.error_with(code);
-    let problem = error_problem(ground, called.operation, error, &parameter);
+    let error = basis.tables.error_with(code);
+    let problem = error_problem(basis, called.operation, error, &parameter);
     calls.close_own(&id);
     match (problem, error) {
         (Some(number), _) => rejected(Some(id), ProblemKind::Error, number),

@@ -20,11 +20,11 @@ use stub_tables::{Code, Operation};
 const MOST_OPEN: usize = 4_096;
 
 /// Whether the operation at this place is silent.
-fn is_silent_at(ground: &Ground<'_>, place: Option<u32>) -> bool
-    ensures { result ≡ is_silent_at (base_in ground.now) place }
+fn is_silent_at(basis: &Ground<'_>, place: Option<u32>) -> bool
+    ensures { result ≡ is_silent_at (base_in basis.now) place }
 {
     let Some(place) = place else { return false };
-    match ground.tables.operation(place) {
+    match basis.tables.operation(place) {
         None => false,
         Some(operation) => operation.is_silent(),
     }
@@ -52,19 +52,19 @@ fn is_linked_to(operation: Option<&Operation>, place: u32) -> bool
 
 /// Why the operation at this place may not be linked so.
 fn link_problem(
-    ground: &Ground<'_>,
+    basis: &Ground<'_>,
     calls: &Invocations,
     place: u32,
     linked: &Option<i64>,
 ) -> Option<u8>
-    ensures problem { result ≡ link_problem (base_in ground.now) calls.now place linked.now }
+    ensures problem { result ≡ link_problem (base_in basis.now) calls.now place linked.now }
     ensures link { (result ≡ None) → is_link_back linked.now calls.now.opens ≡ true }
 {
     let Some(linked) = linked else { return None };
     let Some(parent) = calls.operation(true, linked) else {
         return Some(5);
     };
-    let operation = ground.tables.operation(parent);
+    let operation = basis.tables.operation(parent);
     if !has_links(operation) {
         return Some(6);
     }
@@ -75,13 +75,13 @@ fn link_problem(
 }
 
 /// Whether an argument is one of the operation at this place.
-fn argument_problem(ground: &Ground<'_>, place: u32, argument: &Option<Val>) -> Option<u8>
-    ensures { result ≡ argument_problem (base_in ground.now) (operation_at ground.now.tables.now place) (carried_in argument.now) }
+fn argument_problem(basis: &Ground<'_>, place: u32, argument: &Option<Val>) -> Option<u8>
+    ensures { result ≡ argument_problem (base_in basis.now) (operation_at basis.now.tables.now place) (carried_in argument.now) }
 {
-    match ground.tables.operation(place) {
+    match basis.tables.operation(place) {
         None => Some(2),
         Some(operation) => {
-            if operation.argument.carries(&ground.tables.types, argument) {
+            if operation.argument.carries(&basis.tables.types, argument) {
                 None
             } else {
                 Some(2)
@@ -92,42 +92,42 @@ fn argument_problem(ground: &Ground<'_>, place: u32, argument: &Option<Val>) -> 
 
 /// The problem of an operation's place, of a link and of an argument.
 fn operation_problem(
-    ground: &Ground<'_>,
+    basis: &Ground<'_>,
     calls: &Invocations,
     place: Option<u32>,
     linked: &Option<i64>,
     argument: &Option<Val>,
 ) -> Option<u8>
-    ensures problem { result ≡ operation_problem (base_in ground.now) calls.now place linked.now (carried_in argument.now) }
+    ensures problem { result ≡ operation_problem (base_in basis.now) calls.now place linked.now (carried_in argument.now) }
     ensures link { (result ≡ None) → is_link_back linked.now calls.now.opens ≡ true }
 {
     let Some(place) = place else { return Some(1) };
-    if let Some(problem) = link_problem(ground, calls, place, linked) {
+    if let Some(problem) = link_problem(basis, calls, place, linked) {
         return Some(problem);
     }
-    argument_problem(ground, place, argument)
+    argument_problem(basis, place, argument)
 }
 
 /// The first problem of an invocation.
 pub(crate) fn invoke_problem(
-    ground: &Ground<'_>,
+    basis: &Ground<'_>,
     calls: &Invocations,
     id: &i64,
     linked: &Option<i64>,
     place: Option<u32>,
     argument: &Option<Val>,
 ) -> Option<u8>
-    ensures problem { result ≡ invoke_problem (base_in ground.now) calls.now id.now linked.now place (carried_in argument.now) }
+    ensures problem { result ≡ invoke_problem (base_in basis.now) calls.now id.now linked.now place (carried_in argument.now) }
     ensures shut { (result ≡ None) → opened_with false id.now calls.now.opens ≡ None }
     ensures link { (result ≡ None) → is_link_back linked.now calls.now.opens ≡ true }
 {
     if calls.is_open(false, id) {
         return Some(0);
     }
-    if MOST_OPEN <= calls.peer_count() && !is_silent_at(ground, place) {
+    if MOST_OPEN <= calls.peer_count() && !is_silent_at(basis, place) {
         return Some(3);
     }
-    operation_problem(ground, calls, place, linked, argument)
+    operation_problem(basis, calls, place, linked, argument)
 }
 
 /// Whether this is the place.
@@ -142,39 +142,39 @@ fn is_place(found: Option<u32>, place: u32) -> bool
 
 /// Whether a result is right for the operation at this place.
 fn is_right_result(
-    ground: &Ground<'_>,
+    basis: &Ground<'_>,
     place: u32,
     operation: &Operation,
     code: &Option<Code>,
     value: &Option<Val>,
 ) -> bool
-    ensures { result ≡ is_right_result (base_in ground.now) place operation.now code.now (carried_in value.now) }
+    ensures { result ≡ is_right_result (base_in basis.now) place operation.now code.now (carried_in value.now) }
 {
     match code {
-        None => operation.result.carries(&ground.tables.types, &None),
+        None => operation.result.carries(&basis.tables.types, &None),
         Some(code) => {
-            is_place(ground.tables.operation_with(code), place)
-                && operation.result.carries(&ground.tables.types, value)
+            is_place(basis.tables.operation_with(code), place)
+                && operation.result.carries(&basis.tables.types, value)
         }
     }
 }
 
 /// The first problem of a result of the operation at this place.
 pub(crate) fn result_problem(
-    ground: &Ground<'_>,
+    basis: &Ground<'_>,
     place: u32,
     code: &Option<Code>,
     value: &Option<Val>,
 ) -> Option<u8>
-    ensures { result ≡ result_problem (base_in ground.now) place (operation_at ground.now.tables.now place) code.now (carried_in value.now) }
+    ensures { result ≡ result_problem (base_in basis.now) place (operation_at basis.now.tables.now place) code.now (carried_in value.now) }
 {
-    let Some(operation) = ground.tables.operation(place) else {
+    let Some(operation) = basis.tables.operation(place) else {
         return Some(1);
     };
     if !operation.returns {
         return Some(1);
     }
-    if !is_right_result(ground, place, operation, code, value) {
+    if !is_right_result(basis, place, operation, code, value) {
         return Some(2);
     }
     None
@@ -182,20 +182,20 @@ pub(crate) fn result_problem(
 
 /// The problem of a known error of an operation.
 fn known_error_problem(
-    ground: &Ground<'_>,
+    basis: &Ground<'_>,
     operation: &Operation,
     place: u32,
     parameter: &Option<Val>,
 ) -> Option<u8>
-    ensures { result ≡ known_error_problem (base_in ground.now) operation.now (Some place) (carried_in parameter.now) }
+    ensures { result ≡ known_error_problem (base_in basis.now) operation.now (Some place) (carried_in parameter.now) }
 {
     if !operation.has_error(place) {
         return Some(3);
     }
-    match ground.tables.error(place) {
+    match basis.tables.error(place) {
         None => Some(4),
         Some(error) => {
-            if error.parameter.carries(&ground.tables.types, parameter) {
+            if error.parameter.carries(&basis.tables.types, parameter) {
                 None
             } else {
                 Some(4)
@@ -206,14 +206,14 @@ fn known_error_problem(
 
 /// The first problem of an error, as a place in the table of errors, of the operation at this place.
 pub(crate) fn error_problem(
-    ground: &Ground<'_>,
+    basis: &Ground<'_>,
     place: u32,
     error: Option<u32>,
     parameter: &Option<Val>,
 ) -> Option<u8>
-    ensures { result ≡ error_problem (base_in ground.now) (operation_at ground.now.tables.now place) error (carried_in parameter.now) }
+    ensures { result ≡ error_problem (base_in basis.now) (operation_at basis.now.tables.now place) error (carried_in parameter.now) }
 {
-    let Some(operation) = ground.tables.operation(place) else {
+    let Some(operation) = basis.tables.operation(place) else {
         return Some(1);
     };
     if operation.errors.len() == 0 {
@@ -221,6 +221,6 @@ pub(crate) fn error_problem(
     }
     match error {
         None => Some(2),
-        Some(error) => known_error_problem(ground, operation, error, parameter),
+        Some(error) => known_error_problem(basis, operation, error, parameter),
     }
 }

@@ -16,16 +16,16 @@ use rose_roles::{RoseTaken, refused};
 
 /// What becomes of octets on a context in a syntax: what no head is read from is rejected.
 pub fn hear_unread(
-    ground: &Ground<'_>,
+    basis: &Ground<'_>,
     calls: &mut Invocations,
     context: u32,
     syntax: Syntax,
     octets: &Octets,
 ) -> Result<RoseTaken, NoMemory>
-    ensures { IfOk result (λ taken. heard_with calls.new taken ≡ hear (base_in ground.now) calls.old context (head_at ground.now.tables.now syntax octets.now)) }
+    ensures { IfOk result (λ taken. heard_with calls.new taken ≡ hear (base_in basis.now) calls.old context (head_at basis.now.tables.now syntax octets.now)) }
 {
-    match ground.heads.read(ground.alloc, syntax, octets.as_slice()) {
-        Ok(head) => calls.take(ground.tables, syntax, context, head),
+    match basis.heads.read(basis.alloc, syntax, octets.as_slice()) {
+        Ok(head) => calls.take(basis.tables, syntax, context, head),
         Err(fault) => refused(fault),
     }
 }

@@ -35,17 +35,17 @@ fn syntax_of(pair: &Option<Pair>) -> Syntax
 
 /// Hears what a value says.
 fn hear_value(
-    ground: &Ground<'_>,
+    basis: &Ground<'_>,
     calls: &mut Invocations,
     value: Value,
 ) -> Result<RoseTaken, NoMemory>
-    ensures { IfOk result (λ taken. heard_with calls.new taken ≡ hear (base_in ground.now) calls.old value.id (head_of (base_in ground.now) (seen_value value))) }
+    ensures { IfOk result (λ taken. heard_with calls.new taken ≡ hear (base_in basis.now) calls.old value.id (head_of (base_in basis.now) (seen_value value))) }
 {
     let Value { id, pair, content } = value;
     let syntax = syntax_of(&pair);
     match content {
-        Content::Remote(apdu) => hear_apdu(ground, calls, id, apdu),
-        Content::Unread(octets) => hear_unread(ground, calls, id, syntax, &octets),
+        Content::Remote(apdu) => hear_apdu(basis, calls, id, apdu),
+        Content::Unread(octets) => hear_unread(basis, calls, id, syntax, &octets),
         Content::Association { apdu: _, user: _ } => Ok(rejected(None, ProblemKind::General, 0)),
         Content::Plea { priority: _ } => Ok(rejected(None, ProblemKind::General, 0)),
         Content::Part(_) => Ok(rejected(None, ProblemKind::General, 0)),
@@ -54,17 +54,17 @@ fn hear_value(
 
 /// An APDU as data on a context.
 pub fn data_on(
-    ground: &Ground<'_>,
+    basis: &Ground<'_>,
     body: &Body,
     id: u32,
     apdu: Apdu,
 ) -> Result<Message, NoMemory>
     ensures { IfOk result (λ m. seen_message m ≡ data_on (seen body.now) id apdu) }
 {
-    let mut values: Values = ListOf::new(ground.alloc);
+    let mut values: Values = ListOf::new(basis.alloc);
     values.push(Value {
         id,
-        pair: pair_copied(ground.alloc, body.sets.held.as_slice(), id)?,
+        pair: pair_copied(basis.alloc, body.sets.held.as_slice(), id)?,
         content: Content::Remote(apdu),
     })?;
     Ok(Message::Session(Word::OfData(DataWord::Values(values))))
@@ -81,35 +81,35 @@ pub fn queueing(body: &mut Body, context: u32, apdu: Apdu) -> Result<(), NoMemor
 /// Sends a reject: in reliable mode it joins the queue, else it goes on the carrier of the context of
 /// what it rejects, or isn't sent.
 fn send_reject(
-    ground: &Ground<'_>,
+    basis: &Ground<'_>,
     body: &mut Body,
     context: u32,
     id: Option<i64>,
     problem: Problem,
 ) -> Result<Taken, NoMemory>
-    ensures { IfOk result (TookAs (with_reject (base_in ground.now) (seen body.old) context (Some (record { id = id; problem = problem }))) (seen body.new)) }
+    ensures { IfOk result (TookAs (with_reject (base_in basis.now) (seen body.old) context (Some (record { id = id; problem = problem }))) (seen body.new)) }
 {
     let apdu = Apdu::Reject { id, problem };
-    if is_reliable(ground.config.mode) {
+    if is_reliable(basis.config.mode) {
         queueing(body, context, apdu)?;
-        return told(ground.alloc, Indication::RejectSent { id, problem });
+        return told(basis.alloc, Indication::RejectSent { id, problem });
     }
-    let Some(carrier) = carrier_in(ground, body, context) else {
-        return Ok(quiet(ground.alloc));
+    let Some(carrier) = carrier_in(basis, body, context) else {
+        return Ok(quiet(basis.alloc));
     };
-    let mut taken = told(ground.alloc, Indication::RejectSent { id, problem })?;
-    taken.answers = one_message(ground.alloc, data_on(ground, body, carrier, apdu)?)?;
+    let mut taken = told(basis.alloc, Indication::RejectSent { id, problem })?;
+    taken.answers = one_message(basis.alloc, data_on(basis, body, carrier, apdu)?)?;
     Ok(taken)
 }
 
 /// What the user is told, or the reject that is sent.
 fn take_heard(
-    ground: &Ground<'_>,
+    basis: &Ground<'_>,
     body: &mut Body,
     context: u32,
     taken: RoseTaken,
 ) -> Result<Taken, NoMemory>
-    ensures { IfOk result (TookAs (on_heard (base_in ground.now) (seen body.old) context (heard_with (seen body.old).calls taken)) (seen body.new)) }
+    ensures { IfOk result (TookAs (on_heard (base_in basis.now) (seen body.old) context (heard_with (seen body.old).calls taken)) (seen body.new)) }
 {
     match taken {
         RoseTaken::Invoked {
@@ -118,7 +118,7 @@ fn take_heard(
             linked,
             argument,
         } => told(
-            ground.alloc,
+            basis.alloc,
             Indication::Invoked {
                 id,
                 operation,
@@ -126,13 +126,13 @@ fn take_heard(
                 argument,
             },
         ),
-        RoseTaken::Result { id, value } => told(ground.alloc, Indication::Result { id, value }),
+        RoseTaken::Result { id, value } => told(basis.alloc, Indication::Result { id, value }),
         RoseTaken::Error {
             id,
             error,
             parameter,
         } => told(
-            ground.alloc,
+            basis.alloc,
             Indication::Error {
                 id,
                 error,
@@ -140,27 +140,27 @@ fn take_heard(
             },
         ),
         RoseTaken::Rejected { id, problem } => {
-            told(ground.alloc, Indication::Rejected { id, problem })
+            told(basis.alloc, Indication::Rejected { id, problem })
         }
         RoseTaken::RejectTaken { id, problem } => {
-            told(ground.alloc, Indication::RejectTaken { id, problem })
+            told(basis.alloc, Indication::RejectTaken { id, problem })
         }
-        RoseTaken::BadReject => told(ground.alloc, Indication::BadReject),
-        RoseTaken::Reject { id, problem } => send_reject(ground, body, context, id, problem),
+        RoseTaken::BadReject => told(basis.alloc, Indication::BadReject),
+        RoseTaken::Reject { id, problem } => send_reject(basis, body, context, id, problem),
     }
 }
 
 /// Takes a value of remote operations.
 pub fn take_value(
-    ground: &Ground<'_>,
+    basis: &Ground<'_>,
     body: &mut Body,
     value: Value,
 ) -> Result<Taken, NoMemory>
-    ensures { IfOk result (TookAs (take_head (base_in ground.now) (seen body.old) value.id (head_of (base_in ground.now) (seen_value value))) (seen body.new)) }
+    ensures { IfOk result (TookAs (take_head (base_in basis.now) (seen body.old) value.id (head_of (base_in basis.now) (seen_value value))) (seen body.new)) }
 {
     let context = value.id;
-    let taken = hear_value(ground, &mut body.calls, value)?;
-    take_heard(ground, body, context, taken)
+    let taken = hear_value(basis, &mut body.calls, value)?;
+    take_heard(basis, body, context, taken)
 }
 
 /// Puts what a taking answers and shows behind what earlier ones did.
@@ -179,15 +179,15 @@ fn join(all: &mut Taken, taken: Taken) -> Result<(), NoMemory>
 
 /// Takes values of remote operations, one after the other.
 pub fn take_values(
-    ground: &Ground<'_>,
+    basis: &Ground<'_>,
     body: &mut Body,
     values: Values,
 ) -> Result<Taken, NoMemory>
-    ensures { IfOk result (TookAs (take_values (base_in ground.now) (seen body.old) (seen_values values)) (seen body.new)) }
+    ensures { IfOk result (TookAs (take_values (base_in basis.now) (seen body.old) (seen_values values)) (seen body.new)) }
 {
-    let mut all = quiet(ground.alloc);
+    let mut all = quiet(basis.alloc);
     for value in values.into_vec() {
-        let taken = take_value(ground, body, value)?;
+        let taken = take_value(basis, body, value)?;
         join(&mut all, taken)?;
     }
     Ok(all)

@@ -16,7 +16,7 @@ use association_state::{Awaited, Body, Ground, Receiving};
 use association_words::ActivityWord;
 
 /// Whether an activity may begin.
-fn may_begin(body: &Body) -> bool
+pub(crate) fn may_begin(body: &Body) -> bool
     ensures { result ≡ may_begin (seen body.now) }
 {
     is_peers(body) && has_activities(body.link.selected) && !body.receiving.active
@@ -30,7 +30,7 @@ fn is_behind(receiving: &Receiving, activity: u32) -> bool
 }
 
 /// Whether AS may come.
-fn may_start(body: &Body, activity: u32) -> bool
+pub(crate) fn may_start(body: &Body, activity: u32) -> bool
     ensures { result ≡ may_start (seen body.now) activity }
 {
     may_begin(body) && is_behind(&body.receiving, activity)
@@ -38,7 +38,7 @@ fn may_start(body: &Body, activity: u32) -> bool
 
 /// Whether a resumption names the last activity and one of its marks, or 0; or the next activity
 /// and 0.
-fn may_resume_at(receiving: &Receiving, activity: u32, mark: u32) -> bool
+pub(crate) fn may_resume_at(receiving: &Receiving, activity: u32, mark: u32) -> bool
     ensures { result ≡ may_resume_at (seen_receiving receiving.now) activity mark }
 {
     activity == receiving.last && mark <= receiving.pieces.highest()
@@ -46,21 +46,21 @@ fn may_resume_at(receiving: &Receiving, activity: u32, mark: u32) -> bool
 }
 
 /// Whether AR may come.
-fn may_resume(body: &Body, activity: u32, mark: u32) -> bool
+pub(crate) fn may_resume(body: &Body, activity: u32, mark: u32) -> bool
     ensures { result ≡ may_resume (seen body.now) activity mark }
 {
     may_begin(body) && may_resume_at(&body.receiving, activity, mark)
 }
 
 /// Whether the peer's activity is in progress.
-fn is_receiving(body: &Body) -> bool
+pub(crate) fn is_receiving(body: &Body) -> bool
     ensures { result ≡ is_receiving (seen body.now) }
 {
     is_up(body.link.phase) && body.receiving.active
 }
 
 /// Whether AE may come with this number.
-fn may_end(body: &Body, number: u32) -> bool
+pub(crate) fn may_end(body: &Body, number: u32) -> bool
     ensures { result ≡ may_end (seen body.now) number }
 {
     is_receiving(body) && number == body.receiving.pieces.next()
@@ -77,14 +77,14 @@ fn is_end_of(body: &Body, number: u32) -> bool
 }
 
 /// Whether AEA may come with this number.
-fn may_confirm_end(body: &Body, number: u32) -> bool
+pub(crate) fn may_confirm_end(body: &Body, number: u32) -> bool
     ensures { result ≡ may_confirm_end (seen body.now) number }
 {
     is_up(body.link.phase) && is_end_of(body, number)
 }
 
 /// Whether an interrupt is awaited.
-fn awaits_interrupt(awaits: Awaited) -> bool
+pub(crate) fn awaits_interrupt(awaits: Awaited) -> bool
     ensures { result ≡ awaits_interrupt (seen_awaited awaits) }
 {
     match awaits {
@@ -94,7 +94,7 @@ fn awaits_interrupt(awaits: Awaited) -> bool
 }
 
 /// Whether a discard is awaited.
-fn awaits_discard(awaits: Awaited) -> bool
+pub(crate) fn awaits_discard(awaits: Awaited) -> bool
     ensures { result ≡ awaits_discard (seen_awaited awaits) }
 {
     match awaits {
@@ -104,8 +104,8 @@ fn awaits_discard(awaits: Awaited) -> bool
 }
 
 /// Whether a unit of activities may stand where it comes.
-pub(crate) fn is_activity_in_place(ground: &Ground<'_>, body: &Body, word: &ActivityWord) -> bool
-    ensures { result ≡ is_in_place (base_in ground.now) (seen body.now) (unit_of_activities (seen_activities word.now)) }
+pub(crate) fn is_activity_in_place(basis: &Ground<'_>, body: &Body, word: &ActivityWord) -> bool
+    ensures { result ≡ is_in_place (base_in basis.now) (seen body.now) (unit_of_activities (seen_activities word.now)) }
 {
     match word {
         ActivityWord::Start { activity } => may_start(body, *activity),

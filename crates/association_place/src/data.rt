@@ -12,26 +12,26 @@ use association_state::{Body, Ground};
 use association_words::DataWord;
 
 /// Whether DT may come: in reliable mode the peer has the turn and its activity is in progress.
-fn may_send_data(ground: &Ground<'_>, body: &Body) -> bool
-    ensures { result ≡ may_send_data (base_in ground.now) (seen body.now) }
+pub(crate) fn may_send_data(basis: &Ground<'_>, body: &Body) -> bool
+    ensures { result ≡ may_send_data (base_in basis.now) (seen body.now) }
 {
     is_up(body.link.phase)
-        && (!is_reliable(ground.config.mode) || !body.link.turn && body.receiving.active)
+        && (!is_reliable(basis.config.mode) || !body.link.turn && body.receiving.active)
 }
 
 /// Whether TD may come.
-fn may_send_typed(body: &Body) -> bool
+pub(crate) fn may_send_typed(body: &Body) -> bool
     ensures { result ≡ may_send_typed (seen body.now) }
 {
     is_up(body.link.phase) && has_typed_data(body.link.selected)
 }
 
 /// Whether a unit of data may stand where it comes.
-pub(crate) fn is_data_in_place(ground: &Ground<'_>, body: &Body, word: &DataWord) -> bool
-    ensures { result ≡ is_in_place (base_in ground.now) (seen body.now) (unit_of_data (seen_data word.now)) }
+pub(crate) fn is_data_in_place(basis: &Ground<'_>, body: &Body, word: &DataWord) -> bool
+    ensures { result ≡ is_in_place (base_in basis.now) (seen body.now) (unit_of_data (seen_data word.now)) }
 {
     match word {
-        DataWord::Values(_) => may_send_data(ground, body),
+        DataWord::Values(_) => may_send_data(basis, body),
         DataWord::AlterContext { .. } => may_send_typed(body),
         DataWord::AlterContextAck { .. } => may_send_typed(body),
     }

@@ -7,7 +7,9 @@ mod association;
 mod data;
 mod marks;
 mod purging;
+mod units;
 mod words;
 
-pub use purging::{is_purged, is_transport_purged};
+pub use purging::{is_purged, is_transport_purged, is_unit_purged};
+pub use units::is_unit_in_place;
 pub use words::is_in_place;

@@ -18,10 +18,10 @@ use association_words::MarkWord;
 const MOST_MARKS: u32 = 65_536;
 
 /// The number of the next mark that comes: in reliable mode of the peer's activity.
-fn next_coming(ground: &Ground<'_>, body: &Body) -> u32
-    ensures { result ≡ next_coming (base_in ground.now) (seen body.now) }
+fn next_coming(basis: &Ground<'_>, body: &Body) -> u32
+    ensures { result ≡ next_coming (base_in basis.now) (seen body.now) }
 {
-    if is_reliable(ground.config.mode) {
+    if is_reliable(basis.config.mode) {
         body.receiving.pieces.next()
     } else {
         body.saved.next_number()
@@ -29,13 +29,13 @@ fn next_coming(ground: &Ground<'_>, body: &Body) -> u32
 }
 
 /// Whether MIP may come with this number.
-fn may_mark(ground: &Ground<'_>, body: &Body, number: u32) -> bool
-    ensures { result ≡ may_mark (base_in ground.now) (seen body.now) number }
+pub(crate) fn may_mark(basis: &Ground<'_>, body: &Body, number: u32) -> bool
+    ensures { result ≡ may_mark (base_in basis.now) (seen body.now) number }
 {
     is_peers(body)
         && has_marks(body.link.selected)
-        && (!is_reliable(ground.config.mode) || body.receiving.active)
-        && number == next_coming(ground, body)
+        && (!is_reliable(basis.config.mode) || body.receiving.active)
+        && number == next_coming(basis, body)
         && number <= MOST_MARKS
 }
 
@@ -60,16 +60,16 @@ fn is_next_confirmed(body: &Body, number: u32) -> bool
 }
 
 /// Whether MIA may come with this number: in direct mode any, which is passed over.
-fn may_confirm_mark(ground: &Ground<'_>, body: &Body, number: u32) -> bool
-    ensures { result ≡ may_confirm_mark (base_in ground.now) (seen body.now) number }
+pub(crate) fn may_confirm_mark(basis: &Ground<'_>, body: &Body, number: u32) -> bool
+    ensures { result ≡ may_confirm_mark (base_in basis.now) (seen body.now) number }
 {
     is_up(body.link.phase)
         && has_marks(body.link.selected)
-        && (!is_reliable(ground.config.mode) || is_next_confirmed(body, number))
+        && (!is_reliable(basis.config.mode) || is_next_confirmed(body, number))
 }
 
 /// Whether RS may come with this number.
-fn may_restart(body: &Body, number: u32) -> bool
+pub(crate) fn may_restart(body: &Body, number: u32) -> bool
     ensures { result ≡ may_restart (seen body.now) number }
 {
     is_up(body.link.phase)
@@ -79,7 +79,7 @@ fn may_restart(body: &Body, number: u32) -> bool
 }
 
 /// Whether a restart to this number is awaited.
-fn awaits_restart(awaits: Awaited, number: u32) -> bool
+pub(crate) fn awaits_restart(awaits: Awaited, number: u32) -> bool
     ensures { result ≡ awaits_restart (seen_awaited awaits) number }
 {
     match awaits {
@@ -90,46 +90,46 @@ fn awaits_restart(awaits: Awaited, number: u32) -> bool
 
 /// Whether GT may come: it moves a token in direct mode; without a token item it only stands in
 /// front of another unit.
-fn may_give(ground: &Ground<'_>, body: &Body, tokens: Option<u8>) -> bool
-    ensures { result ≡ may_give (base_in ground.now) (seen body.now) tokens }
+pub(crate) fn may_give(basis: &Ground<'_>, body: &Body, tokens: Option<u8>) -> bool
+    ensures { result ≡ may_give (base_in basis.now) (seen body.now) tokens }
 {
     match tokens {
         None => true,
         Some(_) => {
-            is_direct(ground.config.mode) && has_marks(body.link.selected) && is_peers(body)
+            is_direct(basis.config.mode) && has_marks(body.link.selected) && is_peers(body)
         }
     }
 }
 
 /// Whether PT may come.
-fn may_please(ground: &Ground<'_>, body: &Body, tokens: Option<u8>) -> bool
-    ensures { result ≡ may_please (base_in ground.now) (seen body.now) tokens }
+pub(crate) fn may_please(basis: &Ground<'_>, body: &Body, tokens: Option<u8>) -> bool
+    ensures { result ≡ may_please (base_in basis.now) (seen body.now) tokens }
 {
     match tokens {
         None => true,
-        Some(_) => is_up(body.link.phase) && has_token(ground, body),
+        Some(_) => is_up(body.link.phase) && has_token(basis, body),
     }
 }
 
 /// Whether GTC may come: it moves all tokens in reliable mode, while no activity is in progress.
-fn may_give_all(ground: &Ground<'_>, body: &Body) -> bool
-    ensures { result ≡ may_give_all (base_in ground.now) (seen body.now) }
+pub(crate) fn may_give_all(basis: &Ground<'_>, body: &Body) -> bool
+    ensures { result ≡ may_give_all (base_in basis.now) (seen body.now) }
 {
-    is_reliable(ground.config.mode) && is_peers(body) && !body.receiving.active
+    is_reliable(basis.config.mode) && is_peers(body) && !body.receiving.active
 }
 
 /// Whether a unit of marks and tokens may stand where it comes.
-pub(crate) fn is_mark_in_place(ground: &Ground<'_>, body: &Body, word: &MarkWord) -> bool
-    ensures { result ≡ is_in_place (base_in ground.now) (seen body.now) (unit_of_marks (seen_marks word.now)) }
+pub(crate) fn is_mark_in_place(basis: &Ground<'_>, body: &Body, word: &MarkWord) -> bool
+    ensures { result ≡ is_in_place (base_in basis.now) (seen body.now) (unit_of_marks (seen_marks word.now)) }
 {
     match word {
-        MarkWord::Mark { number } => may_mark(ground, body, *number),
-        MarkWord::MarkAck { number } => may_confirm_mark(ground, body, *number),
+        MarkWord::Mark { number } => may_mark(basis, body, *number),
+        MarkWord::MarkAck { number } => may_confirm_mark(basis, body, *number),
         MarkWord::Restart { number, .. } => may_restart(body, *number),
         MarkWord::RestartAck { number, .. } => awaits_restart(body.link.awaits, *number),
-        MarkWord::Give { tokens } => may_give(ground, body, *tokens),
-        MarkWord::Please { tokens, .. } => may_please(ground, body, *tokens),
-        MarkWord::GiveConfirm => may_give_all(ground, body),
+        MarkWord::Give { tokens } => may_give(basis, body, *tokens),
+        MarkWord::Please { tokens, .. } => may_please(basis, body, *tokens),
+        MarkWord::GiveConfirm => may_give_all(basis, body),
         MarkWord::GiveAck => is_up(body.link.phase) && body.link.gave,
     }
 }

@@ -8,6 +8,7 @@ ghost use Rattle.association_pieces.specs.Link.{seen_awaited};
 
 use association_state::Awaited;
 use association_words::{ActivityWord, AssociationWord, MarkWord, Word};
+use osi_base::SessionWord;
 
 /// Whether a restart that comes wins against the own one: the one to the lower mark, on a tie the
 /// initiator's (this project's own rule).
@@ -92,6 +93,58 @@ pub fn is_purged(initiator: bool, awaits: Awaited, word: &Word) -> bool
     ensures { result ≡ is_purged initiator (seen_awaited awaits) (unit_of (seen_word word.now)) }
 {
     !(settles(initiator, awaits, word) || ends_all(word))
+}
+
+/// Whether a unit that wasn't read further is a release or an abort.
+fn unit_ends_all(unit: &SessionWord) -> bool
+    ensures { result ≡ ends_all unit.now }
+{
+    match unit {
+        SessionWord::Finish { .. } => true,
+        SessionWord::Abort { .. } => true,
+        SessionWord::AbortAccept => true,
+        _ => false,
+    }
+}
+
+/// Whether a unit that wasn't read further settles an own restart.
+fn unit_settles_restart(initiator: bool, own: u32, unit: &SessionWord) -> bool
+    ensures { result ≡ settles_restart initiator own unit.now }
+{
+    match unit {
+        SessionWord::Resynchronize { number, .. } => wins_against(initiator, own, *number),
+        SessionWord::ResynchronizeAck { .. } => true,
+        _ => false,
+    }
+}
+
+/// Whether a unit that wasn't read further settles the own request.
+fn unit_settles(initiator: bool, awaits: Awaited, unit: &SessionWord) -> bool
+    ensures { result ≡ settles initiator (seen_awaited awaits) unit.now }
+{
+    match awaits {
+        Awaited::NoAnswer => true,
+        Awaited::RestartOf(own) => unit_settles_restart(initiator, own, unit),
+        Awaited::InterruptOf => match unit {
+            SessionWord::ActivityInterruptAck => true,
+            _ => false,
+        },
+        Awaited::DiscardOf => match unit {
+            SessionWord::ActivityDiscardAck => true,
+            _ => false,
+        },
+        Awaited::ReleaseOf => match unit {
+            SessionWord::Disconnect { .. } => true,
+            _ => false,
+        },
+    }
+}
+
+/// Whether a unit of the session that wasn't read further is passed over.
+pub fn is_unit_purged(initiator: bool, awaits: Awaited, unit: &SessionWord) -> bool
+    ensures { result ≡ is_purged initiator (seen_awaited awaits) unit.now }
+{
+    !(unit_settles(initiator, awaits, unit) || unit_ends_all(unit))
 }
 
 /// Whether a transport unit is passed over.

@@ -15,32 +15,32 @@ use osi_base::{Layer, NoMemory};
 
 /// What is wrong above the session, of any unit but the end of an activity.
 fn fault_above(
-    ground: &Ground<'_>,
+    basis: &Ground<'_>,
     body: &Body,
     word: &Word,
 ) -> Result<Option<Fault>, NoMemory>
     requires { is_end_word (seen_word word.now) ≡ false }
-    ensures { IfOk result (λ fault. option_map seen_fault fault ≡ fault_above (base_in ground.now) (seen body.now) (seen_word word.now)) }
+    ensures { IfOk result (λ fault. option_map seen_fault fault ≡ fault_above (base_in basis.now) (seen body.now) (seen_word word.now)) }
 {
     match word {
-        Word::OfAssociation(word) => association_fault(ground, body, word),
-        Word::OfData(word) => Ok(data_fault(ground, body, word)),
-        Word::OfMarks(word) => mark_fault(ground, body, word),
+        Word::OfAssociation(word) => association_fault(basis, body, word),
+        Word::OfData(word) => Ok(data_fault(basis, body, word)),
+        Word::OfMarks(word) => mark_fault(basis, body, word),
         Word::OfActivities(_) => Ok(None),
     }
 }
 
 /// Why a unit may not be taken: it is out of place, or something above the session is wrong.
 pub(crate) fn word_fault(
-    ground: &Ground<'_>,
+    basis: &Ground<'_>,
     body: &Body,
     word: &Word,
 ) -> Result<Option<Fault>, NoMemory>
     requires { is_end_word (seen_word word.now) ≡ false }
-    ensures { IfOk result (λ fault. option_map seen_fault fault ≡ word_fault (base_in ground.now) (seen body.now) (seen_word word.now)) }
+    ensures { IfOk result (λ fault. option_map seen_fault fault ≡ word_fault (base_in basis.now) (seen body.now) (seen_word word.now)) }
 {
-    if !is_in_place(ground, body, word) {
-        return Ok(Some(Fault::at(ground.alloc, Layer::Session, 0, 0)));
+    if !is_in_place(basis, body, word) {
+        return Ok(Some(Fault::at(basis.alloc, Layer::Session, 0, 0)));
     }
-    fault_above(ground, body, word)
+    fault_above(basis, body, word)
 }

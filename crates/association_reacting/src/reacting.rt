@@ -20,67 +20,67 @@ use association_words::{Fault, Message, TransportUnit, Word};
 use osi_base::{Layer, NoMemory};
 
 /// Ends the association for a fault, whose abort goes on the accepted contexts.
-fn fails_here(ground: &Ground<'_>, body: &mut Body, fault: Fault) -> Result<Reaction, NoMemory>
+fn fails_here(basis: &Ground<'_>, body: &mut Body, fault: Fault) -> Result<Reaction, NoMemory>
     ensures { IfOk result (ReactsAs (rule_fails (seen body.old) (seen body.old).link.accepted (seen_fault fault)) (seen body.old) (seen body.new)) }
 {
-    let accepted = copy_set(ground.alloc, body.link.accepted.as_slice())?;
-    fails(ground, body, accepted.as_slice(), fault)
+    let accepted = copy_set(basis.alloc, body.link.accepted.as_slice())?;
+    fails(basis, body, accepted.as_slice(), fault)
 }
 
 /// What an end does with a unit of the session.
 fn react_to_word(
-    ground: &Ground<'_>,
+    basis: &Ground<'_>,
     body: &mut Body,
     word: Word,
 ) -> Result<Reaction, NoMemory>
     requires { is_end_word (seen_word word) ≡ false }
-    ensures { IfOk result (ReactsAs (react_to_word (base_in ground.now) (seen body.old) (seen_word word)) (seen body.old) (seen body.new)) }
+    ensures { IfOk result (ReactsAs (react_to_word (base_in basis.now) (seen body.old) (seen_word word)) (seen body.old) (seen body.new)) }
 {
     if !(body.link.stage.is_joined() || body.link.stage.is_carrying()) {
-        return fails_here(ground, body, Fault::at(ground.alloc, Layer::Transport, 0, 0));
+        return fails_here(basis, body, Fault::at(basis.alloc, Layer::Transport, 0, 0));
     }
-    if is_purged(ground.config.initiator, body.link.awaits, &word) {
+    if is_purged(basis.config.initiator, body.link.awaits, &word) {
         return Ok(Reaction::Passes);
     }
-    if let Some(fault) = word_fault(ground, body, &word)? {
-        let accepted = contexts_of(ground, body, &word)?;
-        return fails(ground, body, accepted.as_slice(), fault);
+    if let Some(fault) = word_fault(basis, body, &word)? {
+        let accepted = contexts_of(basis, body, &word)?;
+        return fails(basis, body, accepted.as_slice(), fault);
     }
-    Ok(Reaction::Takes(take_word(ground, body, word)?))
+    Ok(Reaction::Takes(take_word(basis, body, word)?))
 }
 
 /// What an end does with a transport unit.
 fn react_to_transport(
-    ground: &Ground<'_>,
+    basis: &Ground<'_>,
     body: &mut Body,
     unit: TransportUnit,
 ) -> Result<Reaction, NoMemory>
-    ensures { IfOk result (ReactsAs (react_to_transport (base_in ground.now) (seen body.old) (seen_transport unit)) (seen body.old) (seen body.new)) }
+    ensures { IfOk result (ReactsAs (react_to_transport (base_in basis.now) (seen body.old) (seen_transport unit)) (seen body.old) (seen body.new)) }
 {
     if is_transport_purged(body.link.awaits) {
         return Ok(Reaction::Passes);
     }
-    if let Some(fault) = transport_fault(ground, body, &unit) {
-        return fails_here(ground, body, fault);
+    if let Some(fault) = transport_fault(basis, body, &unit) {
+        return fails_here(basis, body, fault);
     }
-    Ok(Reaction::Takes(take_transport(ground, body, unit)?))
+    Ok(Reaction::Takes(take_transport(basis, body, unit)?))
 }
 
 /// What an end of direct or reliable mode does with a message that isn't the end of an activity.
 pub fn react(
-    ground: &Ground<'_>,
+    basis: &Ground<'_>,
     body: &mut Body,
     message: Message,
 ) -> Result<Reaction, NoMemory>
-    requires associated { is_bare ground.now.config.mode ≡ false }
+    requires associated { is_bare basis.now.config.mode ≡ false }
     requires other { is_end_message (seen_message message) ≡ false }
-    ensures { IfOk result (ReactsAs (react (base_in ground.now) (seen body.old) (seen_message message)) (seen body.old) (seen body.new)) }
+    ensures { IfOk result (ReactsAs (react (base_in basis.now) (seen body.old) (seen_message message)) (seen body.old) (seen body.new)) }
 {
     if passes_over(body.link.phase) {
         return Ok(Reaction::Passes);
     }
     match message {
-        Message::Transport(unit) => react_to_transport(ground, body, unit),
-        Message::Session(word) => react_to_word(ground, body, word),
+        Message::Transport(unit) => react_to_transport(basis, body, unit),
+        Message::Session(word) => react_to_word(basis, body, word),
     }
 }

@@ -17,35 +17,35 @@ use osi_base::{NoMemory, SetList};
 
 /// Takes a unit in which nothing is faulty.
 pub(crate) fn take_word(
-    ground: &Ground<'_>,
+    basis: &Ground<'_>,
     body: &mut Body,
     word: Word,
 ) -> Result<Taken, NoMemory>
-    requires right { word_fault (base_in ground.now) (seen body.old) (seen_word word) ≡ None }
+    requires right { word_fault (base_in basis.now) (seen body.old) (seen_word word) ≡ None }
     requires other { is_end_word (seen_word word) ≡ false }
-    ensures body { OnOk result (seen body.new ≡ after_word (base_in ground.now) (seen body.old) (seen_word word)) }
-    ensures taken { IfOk result (TakenAs (answers_to_word (base_in ground.now) (seen body.old) (seen_word word)) (shown_of_word (base_in ground.now) (seen body.old) (seen_word word))) }
+    ensures body { OnOk result (seen body.new ≡ after_word (base_in basis.now) (seen body.old) (seen_word word)) }
+    ensures taken { IfOk result (TakenAs (answers_to_word (base_in basis.now) (seen body.old) (seen_word word)) (shown_of_word (base_in basis.now) (seen body.old) (seen_word word))) }
 {
     match word {
-        Word::OfAssociation(word) => take_association(ground, body, word),
-        Word::OfData(word) => take_data(ground, body, word),
-        Word::OfMarks(word) => take_mark(ground, body, word),
-        Word::OfActivities(word) => take_activity(ground, body, word),
+        Word::OfAssociation(word) => take_association(basis, body, word),
+        Word::OfData(word) => take_data(basis, body, word),
+        Word::OfMarks(word) => take_mark(basis, body, word),
+        Word::OfActivities(word) => take_activity(basis, body, word),
     }
 }
 
 /// The contexts on which an abort for a unit would go.
 pub(crate) fn contexts_of(
-    ground: &Ground<'_>,
+    basis: &Ground<'_>,
     body: &Body,
     word: &Word,
 ) -> Result<SetList, NoMemory>
-    ensures { IfOk result (λ set. set ≡ contexts_of_word (base_in ground.now) (seen body.now) (seen_word word.now)) }
+    ensures { IfOk result (λ set. set ≡ contexts_of_word (base_in basis.now) (seen body.now) (seen_word word.now)) }
 {
     match word {
-        Word::OfAssociation(word) => contexts_for(ground, body, word),
-        Word::OfData(_) => copy_set(ground.alloc, body.link.accepted.as_slice()),
-        Word::OfMarks(_) => copy_set(ground.alloc, body.link.accepted.as_slice()),
-        Word::OfActivities(_) => copy_set(ground.alloc, body.link.accepted.as_slice()),
+        Word::OfAssociation(word) => contexts_for(basis, body, word),
+        Word::OfData(_) => copy_set(basis.alloc, body.link.accepted.as_slice()),
+        Word::OfMarks(_) => copy_set(basis.alloc, body.link.accepted.as_slice()),
+        Word::OfActivities(_) => copy_set(basis.alloc, body.link.accepted.as_slice()),
     }
 }

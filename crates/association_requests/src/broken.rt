@@ -37,16 +37,16 @@ fn suspend(body: &mut Body)
 
 /// The connection broke: nothing went over the next one, and nothing is awaited; a transfer in
 /// progress is suspended; out of reliable mode the open invocations are cut.
-pub fn broke(ground: &Ground<'_>, body: &mut Body)
-    ensures { seen body.new ≡ after_broke (base_in ground.now) (seen body.old) }
+pub fn broke(basis: &Ground<'_>, body: &mut Body)
+    ensures { seen body.new ≡ after_broke (base_in basis.now) (seen body.old) }
 {
     suspend(body);
-    body.link.phase = broken_phase(ground.config.mode, body.link.phase);
+    body.link.phase = broken_phase(basis.config.mode, body.link.phase);
     body.link.stage = Stage::Unused;
     body.link.gave = false;
     body.link.awaits = Awaited::NoAnswer;
     body.receiving.active = false;
-    if !is_reliable(ground.config.mode) {
+    if !is_reliable(basis.config.mode) {
         body.calls.clear();
     }
 }

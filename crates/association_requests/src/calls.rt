@@ -24,10 +24,10 @@ pub struct Called {
 }
 
 /// Sends the message of a request, which changes the body.
-fn send(ground: &Ground<'_>, body: &mut Body, due: Due) -> Result<Called, CallRefusal> {
+fn send(basis: &Ground<'_>, body: &mut Body, due: Due) -> Result<Called, CallRefusal> {
     let message = due.message;
     if let Some(message) = &message {
-        after_sent(ground, body, message)?;
+        after_sent(basis, body, message)?;
     }
     Ok(Called {
         answer: None,
@@ -36,10 +36,10 @@ fn send(ground: &Ground<'_>, body: &mut Body, due: Due) -> Result<Called, CallRe
 }
 
 /// Makes a call.
-pub fn call(ground: &Ground<'_>, body: &mut Body, call: &Call) -> Result<Called, CallRefusal>
-    ensures { CalledAs (base_in ground.now) (seen body.old) (seen body.new) call.now result }
+pub fn call(basis: &Ground<'_>, body: &mut Body, call: &Call) -> Result<Called, CallRefusal>
+    ensures { CalledAs (base_in basis.now) (seen body.old) (seen body.new) call.now result }
 {
-    if let Some(refusal) = check_phase(ground, body, call) {
+    if let Some(refusal) = check_phase(basis, body, call) {
         return Err(refusal);
     }
     match call {
@@ -54,17 +54,17 @@ pub fn call(ground: &Ground<'_>, body: &mut Body, call: &Call) -> Result<Called,
                 place: *operation,
                 linked: *linked,
             };
-            invoke(ground, body, making, argument)
+            invoke(basis, body, making, argument)
         }
-        Call::Answer { id, result } => answer(ground, body, id, result),
+        Call::Answer { id, result } => answer(basis, body, id, result),
         Call::Refuse {
             id,
             error,
             parameter,
-        } => refuse(ground, body, id, *error, parameter),
+        } => refuse(basis, body, id, *error, parameter),
         _ => {
-            let due = due_request(ground, body, call)?;
-            send(ground, body, due)
+            let due = due_request(basis, body, call)?;
+            send(basis, body, due)
         }
     }
 }

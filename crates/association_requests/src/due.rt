@@ -13,6 +13,7 @@ use dialogue::{Call, CallRefusal, Phase};
 use osi_base::{Copied, Ids, ListOf, NoMemory, Proposals};
 
 /// What a call sends, if anything.
+#[derive(Debug, Drop)]
 pub(crate) struct Due {
     pub message: Option<Message>,
 }
@@ -32,31 +33,31 @@ fn activities(word: ActivityWord) -> Due {
 }
 
 fn due_alter(
-    ground: &Ground<'_>,
+    basis: &Ground<'_>,
     body: &Body,
     add: &Proposals,
     delete: &Ids,
 ) -> Result<Due, CallRefusal> {
-    let alloc = ground.alloc;
+    let alloc = basis.alloc;
     let asked = Alteration::new(add.copy(alloc)?, delete.copy(alloc)?);
-    can_alter(ground, body, &asked)?;
+    can_alter(basis, body, &asked)?;
     Ok(of(Message::Session(Word::OfData(DataWord::AlterContext {
         add: add.copy(alloc)?,
         delete: delete.copy(alloc)?,
     }))))
 }
 
-fn due_restart(ground: &Ground<'_>, body: &Body, n: u32) -> Result<Due, CallRefusal> {
-    can_restart(ground, body, n)?;
-    let list = listed(ground.alloc, body.saved.set_below(n))?;
+fn due_restart(basis: &Ground<'_>, body: &Body, n: u32) -> Result<Due, CallRefusal> {
+    can_restart(basis, body, n)?;
+    let list = listed(basis.alloc, body.saved.set_below(n))?;
     Ok(marks(MarkWord::Restart {
         number: n,
         list: Some(list),
     }))
 }
 
-fn due_resume(ground: &Ground<'_>, body: &Body) -> Result<Due, CallRefusal> {
-    can_resume(ground, body)?;
+fn due_resume(basis: &Ground<'_>, body: &Body) -> Result<Due, CallRefusal> {
+    can_resume(basis, body)?;
     let mark = match &body.sending.current {
         None => 0,
         Some(transfer) => transfer.confirmed,
@@ -68,21 +69,21 @@ fn due_resume(ground: &Ground<'_>, body: &Body) -> Result<Due, CallRefusal> {
 }
 
 fn due_connection(
-    ground: &Ground<'_>,
+    basis: &Ground<'_>,
     body: &mut Body,
     phase: Phase,
 ) -> Result<Due, CallRefusal> {
-    let message = connection_request(ground)?;
+    let message = connection_request(basis)?;
     body.link.phase = phase;
     Ok(of(message))
 }
 
-fn due_abort(ground: &Ground<'_>, body: &mut Body) -> Result<Due, CallRefusal> {
+fn due_abort(basis: &Ground<'_>, body: &mut Body) -> Result<Due, CallRefusal> {
     let mut message = None;
     if body.link.stage.is_carrying() {
         let accepted = body.link.accepted.as_slice();
-        let user = ListOf::new(ground.alloc);
-        message = Some(user_abort(ground.alloc, accepted, 0, user)?);
+        let user = ListOf::new(basis.alloc);
+        message = Some(user_abort(basis.alloc, accepted, 0, user)?);
     }
     over(body);
     Ok(Due { message })
@@ -90,44 +91,44 @@ fn due_abort(ground: &Ground<'_>, body: &mut Body) -> Result<Due, CallRefusal> {
 
 /// What a call but those of remote operations sends, which its rows must allow.
 pub(crate) fn due_request(
-    ground: &Ground<'_>,
+    basis: &Ground<'_>,
     body: &mut Body,
     call: &Call,
 ) -> Result<Due, CallRefusal> {
     match call {
-        Call::Open => due_connection(ground, body, Phase::Opening),
-        Call::Recover => due_connection(ground, body, Phase::Recovering),
-        Call::Alter { add, delete } => due_alter(ground, body, add, delete),
+        Call::Open => due_connection(basis, body, Phase::Opening),
+        Call::Recover => due_connection(basis, body, Phase::Recovering),
+        Call::Alter { add, delete } => due_alter(basis, body, add, delete),
         Call::Mark => {
-            can_mark(ground, body)?;
+            can_mark(basis, body)?;
             Ok(marks(MarkWord::Mark {
                 number: body.saved.next_number(),
             }))
         }
         Call::Give => {
-            can_give(ground, body)?;
-            Ok(of(give_message(ground.config.mode)))
+            can_give(basis, body)?;
+            Ok(of(give_message(basis.config.mode)))
         }
         Call::Please { priority } => {
-            can_please(ground, body)?;
-            let mode = ground.config.mode;
-            Ok(of(please_message(ground.alloc, body, mode, *priority)?))
+            can_please(basis, body)?;
+            let mode = basis.config.mode;
+            Ok(of(please_message(basis.alloc, body, mode, *priority)?))
         }
-        Call::Resync { n } => due_restart(ground, body, *n),
+        Call::Resync { n } => due_restart(basis, body, *n),
         Call::Interrupt => {
-            can_stop(ground, body)?;
+            can_stop(basis, body)?;
             Ok(activities(ActivityWord::Interrupt { reason: Some(0) }))
         }
-        Call::Resume => due_resume(ground, body),
+        Call::Resume => due_resume(basis, body),
         Call::Discard => {
-            can_stop(ground, body)?;
+            can_stop(basis, body)?;
             Ok(activities(ActivityWord::Discard { reason: Some(0) }))
         }
         Call::Release => {
-            can_release(ground, body)?;
-            Ok(of(finish_message(ground.alloc, body)?))
+            can_release(basis, body)?;
+            Ok(of(finish_message(basis.alloc, body)?))
         }
-        Call::Abort => due_abort(ground, body),
+        Call::Abort => due_abort(basis, body),
         _ => Ok(Due { message: None }),
     }
 }

@@ -27,10 +27,10 @@ pub enum Own {
 }
 
 /// Whether the end leads: up, with the turn, nothing awaited and no own alteration unanswered.
-fn leads(ground: &Ground<'_>, body: &Body) -> bool
-    ensures { result ≡ leads (base_in ground.now) (seen body.now) }
+fn leads(basis: &Ground<'_>, body: &Body) -> bool
+    ensures { result ≡ leads (base_in basis.now) (seen body.now) }
 {
-    is_reliable(ground.config.mode)
+    is_reliable(basis.config.mode)
         && is_up(body.link.phase)
         && body.link.turn
         && body.link.awaits.is_free()
@@ -67,7 +67,7 @@ fn left_of<'a>(transfer: &Transfer, encoded: &'a Encoded) -> &'a [u8]
 }
 
 /// The octets of the next part.
-fn next_part(ground: &Ground<'_>, encoded: &Encoded, left: &[u8]) -> Result<Octets, NoMemory>
+fn next_part(basis: &Ground<'_>, encoded: &Encoded, left: &[u8]) -> Result<Octets, NoMemory>
     ensures { IfOk result (λ part. part ≡ take (part_size encoded.now.checkpoint (length left.now)) left.now) }
 {
     let size = part_size(encoded.checkpoint, left.len());
@@ -76,13 +76,13 @@ fn next_part(ground: &Ground<'_>, encoded: &Encoded, left: &[u8]) -> Result<Octe
     } else {
         left
     };
-    Octets::from_slice(ground.alloc, part)
+    Octets::from_slice(basis.alloc, part)
 }
 
 /// The mark, the end or the part that comes next of an encoded transfer; nothing where its window is
 /// full.
 fn next_of(
-    ground: &Ground<'_>,
+    basis: &Ground<'_>,
     body: &Body,
     transfer: &Transfer,
     encoded: &Encoded,
@@ -99,8 +99,8 @@ fn next_of(
     if left.len() == 0 {
         return Ok(Some(sends_end(transfer.pieces.next())));
     }
-    let part = next_part(ground, encoded, left)?;
-    Ok(Some(Own::Sends(part_message(ground.alloc, body, part)?)))
+    let part = next_part(basis, encoded, left)?;
+    Ok(Some(Own::Sends(part_message(basis.alloc, body, part)?)))
 }
 
 /// A mark is sent.
@@ -121,31 +121,31 @@ fn sends_end(number: u32) -> Own
 
 /// What comes next of a transfer: it is encoded once it has a carrier.
 fn next_of_transfer(
-    ground: &Ground<'_>,
+    basis: &Ground<'_>,
     body: &Body,
     transfer: &Transfer,
 ) -> Result<Option<Own>, NoMemory>
-    ensures { IfOk result (λ act. option_map seen_act act ≡ next_in (base_in ground.now) (seen body.now) (Some (seen_transfer transfer.now))) }
+    ensures { IfOk result (λ act. option_map seen_act act ≡ next_in (base_in basis.now) (seen body.now) (Some (seen_transfer transfer.now))) }
 {
     if !transfer.progress.is_running() {
         return Ok(None);
     }
     match &transfer.encoded {
-        None => match carrier_in(ground, body, transfer.item.context) {
+        None => match carrier_in(basis, body, transfer.item.context) {
             None => Ok(None),
             Some(context) => Ok(Some(Own::Encodes(context))),
         },
-        Some(encoded) => next_of(ground, body, transfer, encoded),
+        Some(encoded) => next_of(basis, body, transfer, encoded),
     }
 }
 
 /// The start of the next item, where it has a carrier and its number is one.
-fn next_start(ground: &Ground<'_>, body: &Body) -> Option<Own>
-    ensures { option_map seen_act result ≡ next_start (base_in ground.now) (seen body.now) (seen body.now).sending.queue }
+fn next_start(basis: &Ground<'_>, body: &Body) -> Option<Own>
+    ensures { option_map seen_act result ≡ next_start (base_in basis.now) (seen body.now) (seen body.now).sending.queue }
 {
     let item = body.sending.queue.first()?;
     let started = body.sending.started;
-    if carrier_in(ground, body, item.context).is_some() && started < LAST_ACTIVITY {
+    if carrier_in(basis, body, item.context).is_some() && started < LAST_ACTIVITY {
         Some(Own::Sends(Message::Session(Word::OfActivities(
             ActivityWord::Start {
                 activity: started + 1,
@@ -157,14 +157,14 @@ fn next_start(ground: &Ground<'_>, body: &Body) -> Option<Own>
 }
 
 /// What the end does next by itself, if anything.
-pub fn next_own(ground: &Ground<'_>, body: &Body) -> Result<Option<Own>, NoMemory>
-    ensures { IfOk result (λ act. option_map seen_act act ≡ next_own (base_in ground.now) (seen body.now)) }
+pub fn next_own(basis: &Ground<'_>, body: &Body) -> Result<Option<Own>, NoMemory>
+    ensures { IfOk result (λ act. option_map seen_act act ≡ next_own (base_in basis.now) (seen body.now)) }
 {
-    if !leads(ground, body) {
+    if !leads(basis, body) {
         return Ok(None);
     }
     match &body.sending.current {
-        None => Ok(next_start(ground, body)),
-        Some(transfer) => next_of_transfer(ground, body, transfer),
+        None => Ok(next_start(basis, body)),
+        Some(transfer) => next_of_transfer(basis, body, transfer),
     }
 }

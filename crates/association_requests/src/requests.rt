@@ -14,27 +14,27 @@ use stub_tables::Apdu;
 
 /// Hands in an APDU on a context, and answers what is sent.
 fn hand_in(
-    ground: &Ground<'_>,
+    basis: &Ground<'_>,
     body: &mut Body,
     context: u32,
     carrier: Option<u32>,
     apdu: Apdu,
 ) -> Result<Option<Message>, NoMemory> {
-    match ground.config.mode {
+    match basis.config.mode {
         Mode::Reliable => {
             queueing(body, context, apdu)?;
             Ok(None)
         }
         Mode::Direct | Mode::Bare => match carrier {
             None => Ok(None),
-            Some(carrier) => Ok(Some(data_on(ground, body, carrier, apdu)?)),
+            Some(carrier) => Ok(Some(data_on(basis, body, carrier, apdu)?)),
         },
     }
 }
 
 /// Opens the next own invocation, unless its operation is silent.
-fn open(ground: &Ground<'_>, body: &mut Body, making: Making) -> Result<i64, NoMemory> {
-    let silent = match ground.tables.operation(making.place) {
+fn open(basis: &Ground<'_>, body: &mut Body, making: Making) -> Result<i64, NoMemory> {
+    let silent = match basis.tables.operation(making.place) {
         Some(operation) => operation.is_silent(),
         None => true,
     };
@@ -46,14 +46,14 @@ fn open(ground: &Ground<'_>, body: &mut Body, making: Making) -> Result<i64, NoM
 
 /// Invokes an operation.
 pub(crate) fn invoke(
-    ground: &Ground<'_>,
+    basis: &Ground<'_>,
     body: &mut Body,
     making: Making,
     argument: &Option<Val>,
 ) -> Result<Called, CallRefusal> {
-    let apdu = check_invoke(ground, body, making, argument)?;
-    let id = open(ground, body, making)?;
-    let message = hand_in(ground, body, making.context, Some(making.context), apdu)?;
+    let apdu = check_invoke(basis, body, making, argument)?;
+    let id = open(basis, body, making)?;
+    let message = hand_in(basis, body, making.context, Some(making.context), apdu)?;
     Ok(Called {
         answer: Some(id),
         message,
@@ -62,7 +62,7 @@ pub(crate) fn invoke(
 
 /// Sends an outcome of an invocation of the peer.
 fn end_invocation(
-    ground: &Ground<'_>,
+    basis: &Ground<'_>,
     body: &mut Body,
     id: &i64,
     apdu: Apdu,
@@ -70,9 +70,9 @@ fn end_invocation(
     let Some(called) = body.calls.called(false, id) else {
         return Err(CallRefusal::NoInvocation(*id));
     };
-    let carrier = carrier_in(ground, body, called.context);
+    let carrier = carrier_in(basis, body, called.context);
     body.calls.close(id);
-    let message = hand_in(ground, body, called.context, carrier, apdu)?;
+    let message = hand_in(basis, body, called.context, carrier, apdu)?;
     Ok(Called {
         answer: None,
         message,
@@ -81,23 +81,23 @@ fn end_invocation(
 
 /// Answers an invocation of the peer by its result.
 pub(crate) fn answer(
-    ground: &Ground<'_>,
+    basis: &Ground<'_>,
     body: &mut Body,
     id: &i64,
     value: &Option<Val>,
 ) -> Result<Called, CallRefusal> {
-    let apdu = check_answer(ground, body, id, value)?;
-    end_invocation(ground, body, id, apdu)
+    let apdu = check_answer(basis, body, id, value)?;
+    end_invocation(basis, body, id, apdu)
 }
 
 /// Answers an invocation of the peer by an error.
 pub(crate) fn refuse(
-    ground: &Ground<'_>,
+    basis: &Ground<'_>,
     body: &mut Body,
     id: &i64,
     place: u32,
     parameter: &Option<Val>,
 ) -> Result<Called, CallRefusal> {
-    let apdu = check_refuse(ground, body, id, place, parameter)?;
-    end_invocation(ground, body, id, apdu)
+    let apdu = check_refuse(basis, body, id, place, parameter)?;
+    end_invocation(basis, body, id, apdu)
 }

@@ -42,14 +42,14 @@ fn parts_in(alloc: Global, values: &[Value]) -> Result<Octets, NoMemory>
 }
 
 /// Parts of the current transfer were sent in reliable mode.
-fn values_sent(ground: &Ground<'_>, body: &mut Body, values: &[Value]) -> Result<(), NoMemory>
-    ensures { OnOk result (seen body.new ≡ values_sent ground.now.config.mode (seen_values values.now) (seen body.old)) }
+fn values_sent(basis: &Ground<'_>, body: &mut Body, values: &[Value]) -> Result<(), NoMemory>
+    ensures { OnOk result (seen body.new ≡ values_sent basis.now.config.mode (seen_values values.now) (seen body.old)) }
 {
-    match ground.config.mode {
+    match basis.config.mode {
         Mode::Reliable => match &mut body.sending.current {
             None => Ok(()),
             Some(transfer) => {
-                let octets = parts_in(ground.alloc, values)?;
+                let octets = parts_in(basis.alloc, values)?;
                 transfer.pieces.push_octets(octets)
             }
         },
@@ -69,13 +69,13 @@ fn alteration_sent(
     Ok(())
 }
 
-fn data_sent(ground: &Ground<'_>, body: &mut Body, word: &DataWord) -> Result<(), NoMemory>
-    ensures { OnOk result (seen body.new ≡ after_sent_data ground.now.config.mode (seen body.old) (seen_data word.now)) }
+fn data_sent(basis: &Ground<'_>, body: &mut Body, word: &DataWord) -> Result<(), NoMemory>
+    ensures { OnOk result (seen body.new ≡ after_sent_data basis.now.config.mode (seen body.old) (seen_data word.now)) }
 {
     match word {
-        DataWord::Values(values) => values_sent(ground, body, values.as_slice()),
+        DataWord::Values(values) => values_sent(basis, body, values.as_slice()),
         DataWord::AlterContext { add, delete } => {
-            let asked = Alteration::new(add.copy(ground.alloc)?, delete.copy(ground.alloc)?);
+            let asked = Alteration::new(add.copy(basis.alloc)?, delete.copy(basis.alloc)?);
             alteration_sent(body, asked)
         }
         DataWord::AlterContextAck { .. } => Ok(()),
@@ -83,30 +83,30 @@ fn data_sent(ground: &Ground<'_>, body: &mut Body, word: &DataWord) -> Result<()
 }
 
 /// A mark saves the set: in direct mode under its number, in reliable mode in the own activity.
-fn mark_sent(ground: &Ground<'_>, body: &mut Body, number: u32) -> Result<(), NoMemory>
-    ensures { OnOk result (seen body.new ≡ mark_sent ground.now.config.mode number (seen body.old)) }
+fn mark_sent(basis: &Ground<'_>, body: &mut Body, number: u32) -> Result<(), NoMemory>
+    ensures { OnOk result (seen body.new ≡ mark_sent basis.now.config.mode number (seen body.old)) }
 {
-    match ground.config.mode {
+    match basis.config.mode {
         Mode::Reliable => {
-            let set = copy_set(ground.alloc, body.sets.held.as_slice())?;
+            let set = copy_set(basis.alloc, body.sets.held.as_slice())?;
             match &mut body.sending.current {
                 None => Ok(()),
                 Some(transfer) => transfer.pieces.push_mark(number, set),
             }
         }
         Mode::Direct => {
-            let set = copy_set(ground.alloc, body.sets.held.as_slice())?;
+            let set = copy_set(basis.alloc, body.sets.held.as_slice())?;
             body.saved.push(number, set)
         }
         Mode::Bare => Ok(()),
     }
 }
 
-fn marks_sent(ground: &Ground<'_>, body: &mut Body, word: &MarkWord) -> Result<(), NoMemory>
-    ensures { OnOk result (seen body.new ≡ after_sent_mark ground.now.config.mode (seen body.old) (seen_marks word.now)) }
+fn marks_sent(basis: &Ground<'_>, body: &mut Body, word: &MarkWord) -> Result<(), NoMemory>
+    ensures { OnOk result (seen body.new ≡ after_sent_mark basis.now.config.mode (seen body.old) (seen_marks word.now)) }
 {
     match word {
-        MarkWord::Mark { number } => mark_sent(ground, body, *number),
+        MarkWord::Mark { number } => mark_sent(basis, body, *number),
         MarkWord::Restart { number, .. } => {
             body.link.awaits = Awaited::RestartOf(*number);
             Ok(())
@@ -167,23 +167,23 @@ fn go_back(transfer: &mut Transfer)
 }
 
 /// The set of a resumption: that of its mark, or the held one.
-fn set_resumed(ground: &Ground<'_>, body: &Body, mark: u32) -> Result<SetList, NoMemory>
+fn set_resumed(basis: &Ground<'_>, body: &Body, mark: u32) -> Result<SetList, NoMemory>
     ensures { IfOk result (λ set. set ≡ resumed_set mark (pieces_of (seen body.now).sending.current) (seen body.now).sets.held) }
 {
     if mark == 0 {
-        return copy_set(ground.alloc, body.sets.held.as_slice());
+        return copy_set(basis.alloc, body.sets.held.as_slice());
     }
     match &body.sending.current {
-        None => Ok(ListOf::new(ground.alloc)),
-        Some(transfer) => copy_set(ground.alloc, transfer.pieces.set_of(mark)),
+        None => Ok(ListOf::new(basis.alloc)),
+        Some(transfer) => copy_set(basis.alloc, transfer.pieces.set_of(mark)),
     }
 }
 
-fn resume_sent(ground: &Ground<'_>, body: &mut Body, mark: u32) -> Result<(), NoMemory>
+fn resume_sent(basis: &Ground<'_>, body: &mut Body, mark: u32) -> Result<(), NoMemory>
     ensures { OnOk result ((activity : ℕ) → seen body.new ≡ after_sent_activity (seen body.old) (Resume activity mark)) }
 {
-    let inter = copy_set(ground.alloc, body.sets.held.as_slice())?;
-    let held = set_resumed(ground, body, mark)?;
+    let inter = copy_set(basis.alloc, body.sets.held.as_slice())?;
+    let held = set_resumed(basis, body, mark)?;
     if let Some(transfer) = &mut body.sending.current {
         go_back(transfer);
     }
@@ -192,25 +192,25 @@ fn resume_sent(ground: &Ground<'_>, body: &mut Body, mark: u32) -> Result<(), No
     Ok(())
 }
 
-fn start_sent(ground: &Ground<'_>, body: &mut Body) -> Result<(), NoMemory>
+fn start_sent(basis: &Ground<'_>, body: &mut Body) -> Result<(), NoMemory>
     ensures { OnOk result ((activity : ℕ) → seen body.new ≡ after_sent_activity (seen body.old) (Start activity)) }
 {
-    let inter = copy_set(ground.alloc, body.sets.held.as_slice())?;
-    begin(ground.alloc, &mut body.sending)?;
+    let inter = copy_set(basis.alloc, body.sets.held.as_slice())?;
+    begin(basis.alloc, &mut body.sending)?;
     body.sets.inter = inter;
     Ok(())
 }
 
 fn activity_sent(
-    ground: &Ground<'_>,
+    basis: &Ground<'_>,
     body: &mut Body,
     word: &ActivityWord,
 ) -> Result<(), NoMemory>
     ensures { OnOk result (seen body.new ≡ after_sent_activity (seen body.old) (seen_activities word.now)) }
 {
     match word {
-        ActivityWord::Start { .. } => start_sent(ground, body),
-        ActivityWord::Resume { mark, .. } => resume_sent(ground, body, *mark),
+        ActivityWord::Start { .. } => start_sent(basis, body),
+        ActivityWord::Resume { mark, .. } => resume_sent(basis, body, *mark),
         ActivityWord::End { .. } => {
             if let Some(transfer) = &mut body.sending.current {
                 transfer.progress = Progress::Ending;
@@ -251,33 +251,33 @@ fn transport_sent(body: &mut Body, unit: &TransportUnit)
     }
 }
 
-fn word_sent(ground: &Ground<'_>, body: &mut Body, word: &Word) -> Result<(), NoMemory>
-    ensures { OnOk result (seen body.new ≡ after_sent_word ground.now.config.mode (seen body.old) (seen_word word.now)) }
+fn word_sent(basis: &Ground<'_>, body: &mut Body, word: &Word) -> Result<(), NoMemory>
+    ensures { OnOk result (seen body.new ≡ after_sent_word basis.now.config.mode (seen body.old) (seen_word word.now)) }
 {
     match word {
         Word::OfAssociation(word) => {
             association_sent(body, word);
             Ok(())
         }
-        Word::OfData(word) => data_sent(ground, body, word),
-        Word::OfMarks(word) => marks_sent(ground, body, word),
-        Word::OfActivities(word) => activity_sent(ground, body, word),
+        Word::OfData(word) => data_sent(basis, body, word),
+        Word::OfMarks(word) => marks_sent(basis, body, word),
+        Word::OfActivities(word) => activity_sent(basis, body, word),
     }
 }
 
 /// A request was sent.
 pub fn after_sent(
-    ground: &Ground<'_>,
+    basis: &Ground<'_>,
     body: &mut Body,
     message: &Message,
 ) -> Result<(), NoMemory>
-    ensures { OnOk result (seen body.new ≡ after_sent ground.now.config.mode (seen body.old) (seen_message message.now)) }
+    ensures { OnOk result (seen body.new ≡ after_sent basis.now.config.mode (seen body.old) (seen_message message.now)) }
 {
     match message {
         Message::Transport(unit) => {
             transport_sent(body, unit);
             Ok(())
         }
-        Message::Session(word) => word_sent(ground, body, word),
+        Message::Session(word) => word_sent(basis, body, word),
     }
 }

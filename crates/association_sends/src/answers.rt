@@ -30,16 +30,16 @@ fn alone(alloc: Global, value: Value) -> Result<Values, NoMemory>
 
 /// The presentation part of an acceptance.
 fn presentation_accept(
-    ground: &Ground<'_>,
+    basis: &Ground<'_>,
     results: AddAnswers,
     manages: bool,
 ) -> Result<PresentationAccept, NoMemory>
-    ensures { IfOk result (λ p. p ≡ record { version = None; responding = Some ground.now.config.called; results = results; requirements = Some (requirement_bits manages); session_requirements = None; user = [] }) }
+    ensures { IfOk result (λ p. p ≡ record { version = None; responding = Some basis.now.config.called; results = results; requirements = Some (requirement_bits manages); session_requirements = None; user = [] }) }
 {
-    let alloc = ground.alloc;
+    let alloc = basis.alloc;
     Ok(PresentationAccept {
         version: None,
-        responding: Some(ground.config.called.copy(alloc)?),
+        responding: Some(basis.config.called.copy(alloc)?),
         results,
         requirements: Some(requirement_bits(alloc, manages)?),
         session_requirements: None,
@@ -75,24 +75,24 @@ fn response_value(
 
 /// AC with these results.
 pub fn accept_message(
-    ground: &Ground<'_>,
+    basis: &Ground<'_>,
     accepted: &[SetItem],
     results: AddAnswers,
     selected: u16,
     manages: bool,
     response: Response,
 ) -> Result<Message, NoMemory>
-    ensures { IfOk result (λ m. seen_message m ≡ accept_message (base_in ground.now) accepted.now results selected manages response.context (map seen_information response.user)) }
+    ensures { IfOk result (λ m. seen_message m ≡ accept_message (base_in basis.now) accepted.now results selected manages response.context (map seen_information response.user)) }
 {
-    let alloc = ground.alloc;
-    let presentation = presentation_accept(ground, results, manages)?;
+    let alloc = basis.alloc;
+    let presentation = presentation_accept(basis, results, manages)?;
     let value = response_value(alloc, accepted, 0, response)?;
     Ok(Message::Session(Word::OfAssociation(
         AssociationWord::Accept {
             session: Accepting {
                 options: Some(0),
                 version: Some(2),
-                initial: initial_number(ground.config.mode),
+                initial: initial_number(basis.config.mode),
                 requirements: Some(selected),
             },
             presentation,

@@ -69,11 +69,11 @@ fn units(mode: Mode) -> u16
 }
 
 /// The session part of the opening.
-fn session_connect(ground: &Ground<'_>) -> Result<SessionConnect, NoMemory>
-    ensures { IfOk result (λ s. s ≡ session_connect (base_in ground.now)) }
+fn session_connect(basis: &Ground<'_>) -> Result<SessionConnect, NoMemory>
+    ensures { IfOk result (λ s. s ≡ session_connect (base_in basis.now)) }
 {
-    let alloc = ground.alloc;
-    let config = &ground.config;
+    let alloc = basis.alloc;
+    let config = &basis.config;
     Ok(SessionConnect {
         calling_reference: in_reliable(alloc, config.mode, &config.reference)?,
         common_reference: in_reliable(alloc, config.mode, &config.common)?,
@@ -89,11 +89,11 @@ fn session_connect(ground: &Ground<'_>) -> Result<SessionConnect, NoMemory>
 }
 
 /// The presentation part of the opening.
-fn presentation_connect(ground: &Ground<'_>) -> Result<PresentationConnect, NoMemory>
-    ensures { IfOk result (λ p. p ≡ presentation_connect (base_in ground.now)) }
+fn presentation_connect(basis: &Ground<'_>) -> Result<PresentationConnect, NoMemory>
+    ensures { IfOk result (λ p. p ≡ presentation_connect (base_in basis.now)) }
 {
-    let alloc = ground.alloc;
-    let config = &ground.config;
+    let alloc = basis.alloc;
+    let config = &basis.config;
     Ok(PresentationConnect {
         version: None,
         calling: Some(config.calling.copy(alloc)?),
@@ -107,17 +107,17 @@ fn presentation_connect(ground: &Ground<'_>) -> Result<PresentationConnect, NoMe
 }
 
 /// What the opening of an association carries for its user, NULL; or which association it recovers.
-pub fn connection_data(ground: &Ground<'_>, recovers: bool) -> Result<ConnectionData, NoMemory>
-    ensures { IfOk result (λ d. d ≡ connection_data (base_in ground.now) recovers) }
+pub fn connection_data(basis: &Ground<'_>, recovers: bool) -> Result<ConnectionData, NoMemory>
+    ensures { IfOk result (λ d. d ≡ connection_data (base_in basis.now) recovers) }
 {
     if recovers {
         Ok(ConnectionData::Recover {
-            reference: ground.config.reference.copy(ground.alloc)?,
-            common: ground.config.common.copy(ground.alloc)?,
+            reference: basis.config.reference.copy(basis.alloc)?,
+            common: basis.config.common.copy(basis.alloc)?,
         })
     } else {
         Ok(ConnectionData::Open(Octets::from_slice(
-            ground.alloc,
+            basis.alloc,
             &[5, 0],
         )?))
     }
@@ -135,27 +135,27 @@ fn application_context(alloc: Global, mode: Mode) -> Result<Oid, NoMemory>
 }
 
 /// The request of reliable transfer.
-fn open_request(ground: &Ground<'_>, recovers: bool) -> Result<Rtse, NoMemory>
-    ensures { IfOk result (λ r. r ≡ rtse.OpenRequest ground.now.config.checkpoint ground.now.config.window (pos 1) (connection_data (base_in ground.now) recovers)) }
+fn open_request(basis: &Ground<'_>, recovers: bool) -> Result<Rtse, NoMemory>
+    ensures { IfOk result (λ r. r ≡ rtse.OpenRequest basis.now.config.checkpoint basis.now.config.window (pos 1) (connection_data (base_in basis.now) recovers)) }
 {
     Ok(Rtse::OpenRequest {
-        checkpoint: ground.config.checkpoint,
-        window: ground.config.window,
+        checkpoint: basis.config.checkpoint,
+        window: basis.config.window,
         mode: 1,
-        data: connection_data(ground, recovers)?,
+        data: connection_data(basis, recovers)?,
     })
 }
 
 /// The values of the opening: the request for an association.
-fn connect_values(ground: &Ground<'_>, recovers: bool) -> Result<Values, NoMemory>
-    ensures { IfOk result (λ values. seen_values values ≡ connect_values (base_in ground.now) recovers) }
+fn connect_values(basis: &Ground<'_>, recovers: bool) -> Result<Values, NoMemory>
+    ensures { IfOk result (λ values. seen_values values ≡ connect_values (base_in basis.now) recovers) }
 {
-    let alloc = ground.alloc;
-    let request = open_request(ground, recovers)?;
-    let user = information(alloc, ground.config.mode, &[], request)?;
+    let alloc = basis.alloc;
+    let request = open_request(basis, recovers)?;
+    let user = information(alloc, basis.config.mode, &[], request)?;
     let apdu = Acse::AssociateRequest {
         version: None,
-        context: application_context(alloc, ground.config.mode)?,
+        context: application_context(alloc, basis.config.mode)?,
         user: ListOf::new(alloc),
     };
     let mut values: Values = ListOf::new(alloc);
@@ -164,26 +164,26 @@ fn connect_values(ground: &Ground<'_>, recovers: bool) -> Result<Values, NoMemor
 }
 
 /// CN, for an opening or a recovery.
-pub fn connect_message(ground: &Ground<'_>, recovers: bool) -> Result<Message, NoMemory>
-    ensures { IfOk result (λ m. seen_message m ≡ connect_message (base_in ground.now) recovers) }
+pub fn connect_message(basis: &Ground<'_>, recovers: bool) -> Result<Message, NoMemory>
+    ensures { IfOk result (λ m. seen_message m ≡ connect_message (base_in basis.now) recovers) }
 {
     Ok(Message::Session(Word::OfAssociation(
         AssociationWord::Connect {
-            session: session_connect(ground)?,
-            presentation: presentation_connect(ground)?,
-            values: connect_values(ground, recovers)?,
+            session: session_connect(basis)?,
+            presentation: presentation_connect(basis)?,
+            values: connect_values(basis, recovers)?,
         },
     )))
 }
 
 /// CR, which proposes 1,024 octets.
-pub fn connection_request(ground: &Ground<'_>) -> Result<Message, NoMemory>
-    ensures { IfOk result (λ m. seen_message m ≡ connection_request (base_in ground.now)) }
+pub fn connection_request(basis: &Ground<'_>) -> Result<Message, NoMemory>
+    ensures { IfOk result (λ m. seen_message m ≡ connection_request (base_in basis.now)) }
 {
     Ok(Message::Transport(TransportUnit::ConnectionRequest {
         source: 1,
         size: Some(10),
-        calling: ground.config.calling.copy(ground.alloc)?,
-        called: ground.config.called.copy(ground.alloc)?,
+        calling: basis.config.calling.copy(basis.alloc)?,
+        called: basis.config.called.copy(basis.alloc)?,
     }))
 }

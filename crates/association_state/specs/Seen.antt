@@ -5,11 +5,11 @@ use Rattle.association_reading.specs.Transfers.{association_spellings}
 use Rattle.association_pieces.specs.Link.{seen_link}
 use Rattle.association_pieces.specs.Sending.{seen_sending}
 use Rattle.association_pieces.specs.Seen.{seen_sets, seen_receiving}
-use Rattle.association_state.specs.declared.ground.Ground.{Ground}
+use Rattle.association_state.specs.declared.basis.Ground.{Ground}
 use Rattle.association_state.specs.declared.body.Body.{Body}
 
 abbrev pub base_in : Ground → Base
-base_in ground = base_of ground.tables.now ground.config (association_spellings ground.tables.now)
+base_in basis = base_of basis.tables.now basis.config (association_spellings basis.tables.now)
 
 abbrev pub seen : Body → rules.Body
 seen body =

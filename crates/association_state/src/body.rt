@@ -6,7 +6,7 @@ ghost use Rattle.end_rules.specs.State.{new_body, new_link, first_phase, first_s
 ghost use Rattle.association_pieces.specs.Link.{seen_link};
 ghost use Rattle.association_state.specs.Seen.{seen, base_in};
 
-use crate::ground::Ground;
+use crate::basis::Ground;
 use association_pieces::{Awaited, Link, Pieces, Receiving, SavedSets, Sending, Sets, Stage};
 use dialogue::{Mode, Phase};
 use open_invocations::Invocations;
@@ -36,18 +36,18 @@ fn first_phase(mode: Mode) -> Phase
 }
 
 /// The association of a new end.
-fn new_link(ground: &Ground<'_>) -> Link
-    ensures { seen_link result ≡ new_link (base_in ground.now) }
+fn new_link(basis: &Ground<'_>) -> Link
+    ensures { seen_link result ≡ new_link (base_in basis.now) }
 {
     Link {
-        phase: first_phase(ground.config.mode),
+        phase: first_phase(basis.config.mode),
         stage: Stage::Unused,
         selected: 0,
         manages: false,
-        turn: ground.config.initiator,
+        turn: basis.config.initiator,
         gave: false,
         awaits: Awaited::NoAnswer,
-        accepted: ListOf::new(ground.alloc),
+        accepted: ListOf::new(basis.alloc),
         reference: None,
         common: None,
         checkpoint: 0,
@@ -56,14 +56,14 @@ fn new_link(ground: &Ground<'_>) -> Link
 }
 
 /// The one context of bare mode.
-fn bare_set(ground: &Ground<'_>) -> Result<SetList, NoMemory>
-    ensures { IfOk result (λ set. set ≡ first_set ground.now.tables.now Bare) }
+fn bare_set(basis: &Ground<'_>) -> Result<SetList, NoMemory>
+    ensures { IfOk result (λ set. set ≡ first_set basis.now.tables.now Bare) }
 {
-    let mut set = ListOf::new(ground.alloc);
+    let mut set = ListOf::new(basis.alloc);
     set.push(SetItem {
         id: 0,
         pair: Pair {
-            abstract_name: ground.tables.name_oid.copy(ground.alloc)?,
+            abstract_name: basis.tables.name_oid.copy(basis.alloc)?,
             transfer: Syntax::Ber,
         },
     })?;
@@ -71,26 +71,26 @@ fn bare_set(ground: &Ground<'_>) -> Result<SetList, NoMemory>
 }
 
 /// The set of a new end.
-fn first_set(ground: &Ground<'_>) -> Result<SetList, NoMemory>
-    ensures { IfOk result (λ set. set ≡ first_set ground.now.tables.now ground.now.config.mode) }
+fn first_set(basis: &Ground<'_>) -> Result<SetList, NoMemory>
+    ensures { IfOk result (λ set. set ≡ first_set basis.now.tables.now basis.now.config.mode) }
 {
-    match ground.config.mode {
-        Mode::Bare => bare_set(ground),
-        Mode::Direct => Ok(ListOf::new(ground.alloc)),
-        Mode::Reliable => Ok(ListOf::new(ground.alloc)),
+    match basis.config.mode {
+        Mode::Bare => bare_set(basis),
+        Mode::Direct => Ok(ListOf::new(basis.alloc)),
+        Mode::Reliable => Ok(ListOf::new(basis.alloc)),
     }
 }
 
 impl Body {
     /// What a new end holds.
-    pub fn new(ground: &Ground<'_>) -> Result<Body, NoMemory>
-        ensures { IfOk result (λ body. seen body ≡ new_body (base_in ground.now)) }
+    pub fn new(basis: &Ground<'_>) -> Result<Body, NoMemory>
+        ensures { IfOk result (λ body. seen body ≡ new_body (base_in basis.now)) }
     {
-        let alloc = ground.alloc;
+        let alloc = basis.alloc;
         Ok(Body {
-            link: new_link(ground),
+            link: new_link(basis),
             sets: Sets {
-                held: first_set(ground)?,
+                held: first_set(basis)?,
                 inter: ListOf::new(alloc),
                 own: Vec::new(alloc),
             },

@@ -2,7 +2,7 @@
 #![tactic(auto)]
 
 mod body;
-mod ground;
+mod basis;
 
 pub use association_pieces::{
     Awaited, Encoded, Link, Piece, Pieces, Progress, Queued, Receiving,
@@ -10,4 +10,4 @@ pub use association_pieces::{
     take_next, take_oldest,
 };
 pub use body::Body;
-pub use ground::Ground;
+pub use basis::Ground;

@@ -44,17 +44,17 @@ fn start_record(receiving: &mut Receiving, activity: u32)
 
 /// Takes AS: both ends keep the held set as the inter-activity set.
 fn take_start(
-    ground: &Ground<'_>,
+    basis: &Ground<'_>,
     body: &mut Body,
     activity: u32,
 ) -> Result<Taken, NoMemory>
     ensures body { OnOk result (seen body.new ≡ keeping (received (λ r. started_record activity) (seen body.old))) }
     ensures taken { IfOk result (TakenAs [] []) }
 {
-    let inter = copy_set(ground.alloc, body.sets.held.as_slice())?;
+    let inter = copy_set(basis.alloc, body.sets.held.as_slice())?;
     start_record(&mut body.receiving, activity);
     body.sets.inter = inter;
-    Ok(quiet(ground.alloc))
+    Ok(quiet(basis.alloc))
 }
 
 /// The record of a resumed activity goes back to the mark; a resumption of the next activity begins
@@ -88,7 +88,7 @@ pub(crate) fn set_resumed(
 
 /// Takes AR.
 fn take_resume(
-    ground: &Ground<'_>,
+    basis: &Ground<'_>,
     body: &mut Body,
     activity: u32,
     mark: u32,
@@ -96,15 +96,15 @@ fn take_resume(
     ensures body { OnOk result (seen body.new ≡ after_resume activity mark (seen body.old)) }
     ensures taken { IfOk result (TakenAs [] (indications.Resumed activity mark ∷ [])) }
 {
-    let inter = copy_set(ground.alloc, body.sets.held.as_slice())?;
+    let inter = copy_set(basis.alloc, body.sets.held.as_slice())?;
     let held = set_resumed(
-        ground.alloc,
+        basis.alloc,
         &body.receiving.pieces,
         mark,
         body.sets.held.as_slice(),
     )?;
     let taken = told(
-        ground.alloc,
+        basis.alloc,
         Indication::Resumed {
             number: activity,
             n: mark,
@@ -126,49 +126,49 @@ fn between(alloc: Global, body: &mut Body) -> Result<(), NoMemory>
 
 /// Takes what a transfer brings, where it brings something.
 fn take_arrived(
-    ground: &Ground<'_>,
+    basis: &Ground<'_>,
     body: &mut Body,
     arrived: Option<Value>,
 ) -> Result<Taken, NoMemory>
-    ensures { IfOk result (TookAs (take_values (base_in ground.now) (seen body.old) (map seen_value (listed arrived))) (seen body.new)) }
+    ensures { IfOk result (TookAs (take_values (base_in basis.now) (seen body.old) (map seen_value (listed arrived))) (seen body.new)) }
 {
     match arrived {
-        None => Ok(quiet(ground.alloc)),
-        Some(value) => take_value(ground, body, value),
+        None => Ok(quiet(basis.alloc)),
+        Some(value) => take_value(basis, body, value),
     }
 }
 
 /// Takes AE with what the transfer brings, which was read before: nothing where its number was handed
 /// up already.
 pub fn end_taken(
-    ground: &Ground<'_>,
+    basis: &Ground<'_>,
     body: &mut Body,
     number: u32,
     arrived: Option<Value>,
 ) -> Result<Taken, NoMemory>
-    requires { map seen_value (listed arrived) ≡ handed_up (base_in ground.now) (seen body.old) }
-    ensures body { OnOk result (seen body.new ≡ after_activity (base_in ground.now) (seen body.old) (End number)) }
-    ensures taken { IfOk result (TakenAs (answers_to_activity (base_in ground.now) (seen body.old) (End number)) (shown_of_activity (base_in ground.now) (seen body.old) (End number))) }
+    requires { map seen_value (listed arrived) ≡ handed_up (base_in basis.now) (seen body.old) }
+    ensures body { OnOk result (seen body.new ≡ after_activity (base_in basis.now) (seen body.old) (End number)) }
+    ensures taken { IfOk result (TakenAs (answers_to_activity (base_in basis.now) (seen body.old) (End number)) (shown_of_activity (base_in basis.now) (seen body.old) (End number))) }
 {
     body.receiving.was_handed = true;
     body.receiving.active = false;
-    let taken = take_arrived(ground, body, arrived)?;
-    between(ground.alloc, body)?;
+    let taken = take_arrived(basis, body, arrived)?;
+    between(basis.alloc, body)?;
     let Taken { answers: _, shown } = taken;
-    let mut all = answered(ground.alloc, word(ActivityWord::EndAck { number }))?;
+    let mut all = answered(basis.alloc, word(ActivityWord::EndAck { number }))?;
     all.shown = shown;
     Ok(all)
 }
 
 /// Takes AEA.
-fn take_end_ack(ground: &Ground<'_>, body: &mut Body) -> Result<Taken, NoMemory>
+fn take_end_ack(basis: &Ground<'_>, body: &mut Body) -> Result<Taken, NoMemory>
     ensures body { OnOk result (seen body.new ≡ between (without_current (seen body.old))) }
     ensures taken { IfOk result (TakenAs [] (indications.Transferred (seen body.old).sending.started ∷ [])) }
 {
-    between(ground.alloc, body)?;
+    between(basis.alloc, body)?;
     body.sending.current = None;
     told(
-        ground.alloc,
+        basis.alloc,
         Indication::Transferred {
             number: body.sending.started,
         },
@@ -176,14 +176,14 @@ fn take_end_ack(ground: &Ground<'_>, body: &mut Body) -> Result<Taken, NoMemory>
 }
 
 /// Takes AI.
-fn take_interrupt(ground: &Ground<'_>, body: &mut Body) -> Result<Taken, NoMemory>
+fn take_interrupt(basis: &Ground<'_>, body: &mut Body) -> Result<Taken, NoMemory>
     ensures body { OnOk result (seen body.new ≡ between (received (λ r. record r { active = false }) (seen body.old))) }
     ensures taken { IfOk result (TakenAs (Session (OfActivities InterruptAck) ∷ []) (indications.Interrupted (seen body.old).receiving.last ∷ [])) }
 {
-    between(ground.alloc, body)?;
+    between(basis.alloc, body)?;
     body.receiving.active = false;
     let mut taken = told(
-        ground.alloc,
+        basis.alloc,
         Indication::Interrupted {
             number: body.receiving.last,
         },
@@ -193,15 +193,15 @@ fn take_interrupt(ground: &Ground<'_>, body: &mut Body) -> Result<Taken, NoMemor
 }
 
 /// Takes AD.
-fn take_discard(ground: &Ground<'_>, body: &mut Body) -> Result<Taken, NoMemory>
+fn take_discard(basis: &Ground<'_>, body: &mut Body) -> Result<Taken, NoMemory>
     ensures body { OnOk result (seen body.new ≡ between (received (λ r. record r { pieces = []; active = false }) (seen body.old))) }
     ensures taken { IfOk result (TakenAs (Session (OfActivities DiscardAck) ∷ []) (indications.Discarded (seen body.old).receiving.last ∷ [])) }
 {
-    between(ground.alloc, body)?;
+    between(basis.alloc, body)?;
     body.receiving.pieces.clear();
     body.receiving.active = false;
     let mut taken = told(
-        ground.alloc,
+        basis.alloc,
         Indication::Discarded {
             number: body.receiving.last,
         },
@@ -228,16 +228,16 @@ fn calm(body: &mut Body)
 }
 
 /// Takes AIA.
-fn take_interrupt_ack(ground: &Ground<'_>, body: &mut Body) -> Result<Taken, NoMemory>
+fn take_interrupt_ack(basis: &Ground<'_>, body: &mut Body) -> Result<Taken, NoMemory>
     ensures body { OnOk result (seen body.new ≡ between (calmed (on_transfer (λ (t : rule_transfer). record t { progress = Suspended }) (seen body.old)))) }
     ensures taken { IfOk result (TakenAs [] (losses (seen body.old) ++ indications.Interrupted (seen body.old).sending.started ∷ [])) }
 {
-    let mut taken = quiet(ground.alloc);
+    let mut taken = quiet(basis.alloc);
     push_losses(body, &mut taken.shown)?;
     taken.shown.push(Indication::Interrupted {
         number: body.sending.started,
     })?;
-    between(ground.alloc, body)?;
+    between(basis.alloc, body)?;
     suspend(body);
     calm(body);
     Ok(taken)
@@ -286,18 +286,18 @@ fn cut(body: &mut Body, id: Option<i64>)
 }
 
 /// Takes ADA: a discarded transfer is forgotten, and an invocation in it is cut.
-fn take_discard_ack(ground: &Ground<'_>, body: &mut Body) -> Result<Taken, NoMemory>
+fn take_discard_ack(basis: &Ground<'_>, body: &mut Body) -> Result<Taken, NoMemory>
     ensures body { OnOk result (seen body.new ≡ after_discard (seen body.old)) }
     ensures taken { IfOk result (TakenAs [] ((losses (seen body.old) ++ shown_cut (invocation_in (seen body.old).sending.current) (seen body.old).calls) ++ indications.Discarded (seen body.old).sending.started ∷ [])) }
 {
     let invocation = invocation_in(body);
-    let mut taken = quiet(ground.alloc);
+    let mut taken = quiet(basis.alloc);
     push_losses(body, &mut taken.shown)?;
     push_cut(body, invocation, &mut taken.shown)?;
     taken.shown.push(Indication::Discarded {
         number: body.sending.started,
     })?;
-    between(ground.alloc, body)?;
+    between(basis.alloc, body)?;
     cut(body, invocation);
     body.sending.current = None;
     calm(body);
@@ -306,22 +306,22 @@ fn take_discard_ack(ground: &Ground<'_>, body: &mut Body) -> Result<Taken, NoMem
 
 /// Takes a unit of activities but AE.
 pub fn take_activity(
-    ground: &Ground<'_>,
+    basis: &Ground<'_>,
     body: &mut Body,
     word: ActivityWord,
 ) -> Result<Taken, NoMemory>
     requires { is_end (seen_activities word) ≡ false }
-    ensures body { OnOk result (seen body.new ≡ after_activity (base_in ground.now) (seen body.old) (seen_activities word)) }
-    ensures taken { IfOk result (TakenAs (answers_to_activity (base_in ground.now) (seen body.old) (seen_activities word)) (shown_of_activity (base_in ground.now) (seen body.old) (seen_activities word))) }
+    ensures body { OnOk result (seen body.new ≡ after_activity (base_in basis.now) (seen body.old) (seen_activities word)) }
+    ensures taken { IfOk result (TakenAs (answers_to_activity (base_in basis.now) (seen body.old) (seen_activities word)) (shown_of_activity (base_in basis.now) (seen body.old) (seen_activities word))) }
 {
     match word {
-        ActivityWord::Start { activity } => take_start(ground, body, activity),
-        ActivityWord::Resume { activity, mark } => take_resume(ground, body, activity, mark),
-        ActivityWord::End { number: _ } => Ok(quiet(ground.alloc)),
-        ActivityWord::EndAck { number: _ } => take_end_ack(ground, body),
-        ActivityWord::Interrupt { reason: _ } => take_interrupt(ground, body),
-        ActivityWord::InterruptAck => take_interrupt_ack(ground, body),
-        ActivityWord::Discard { reason: _ } => take_discard(ground, body),
-        ActivityWord::DiscardAck => take_discard_ack(ground, body),
+        ActivityWord::Start { activity } => take_start(basis, body, activity),
+        ActivityWord::Resume { activity, mark } => take_resume(basis, body, activity, mark),
+        ActivityWord::End { number: _ } => Ok(quiet(basis.alloc)),
+        ActivityWord::EndAck { number: _ } => take_end_ack(basis, body),
+        ActivityWord::Interrupt { reason: _ } => take_interrupt(basis, body),
+        ActivityWord::InterruptAck => take_interrupt_ack(basis, body),
+        ActivityWord::Discard { reason: _ } => take_discard(basis, body),
+        ActivityWord::DiscardAck => take_discard_ack(basis, body),
     }
 }

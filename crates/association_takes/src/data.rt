@@ -17,44 +17,44 @@ use association_words::{DataWord, Fault, Values};
 use osi_base::NoMemory;
 
 /// Why a unit of data may not be taken.
-pub fn data_fault(ground: &Ground<'_>, body: &Body, word: &DataWord) -> Option<Fault>
-    ensures { option_map seen_fault result ≡ data_fault (base_in ground.now) (seen body.now) (seen_data word.now) }
+pub fn data_fault(basis: &Ground<'_>, body: &Body, word: &DataWord) -> Option<Fault>
+    ensures { option_map seen_fault result ≡ data_fault (base_in basis.now) (seen body.now) (seen_data word.now) }
 {
     match word {
-        DataWord::Values(values) => values_fault(ground, body, values.as_slice()),
-        DataWord::AlterContext { add, delete: _ } => alter_fault(ground, body, add.as_slice()),
-        DataWord::AlterContextAck { answers } => answered_fault(ground, body, answers),
+        DataWord::Values(values) => values_fault(basis, body, values.as_slice()),
+        DataWord::AlterContext { add, delete: _ } => alter_fault(basis, body, add.as_slice()),
+        DataWord::AlterContextAck { answers } => answered_fault(basis, body, answers),
     }
 }
 
 /// Takes values: in reliable mode as pieces of the peer's activity, else as APDUs.
 fn take_all(
-    ground: &Ground<'_>,
+    basis: &Ground<'_>,
     body: &mut Body,
     values: Values,
 ) -> Result<Taken, NoMemory>
-    ensures body { OnOk result (seen body.new ≡ after_data (base_in ground.now) (seen body.old) (values_word (seen_values values))) }
-    ensures taken { IfOk result (TakenAs (answers_to_data (base_in ground.now) (seen body.old) (values_word (seen_values values))) (shown_of_data (base_in ground.now) (seen body.old) (values_word (seen_values values)))) }
+    ensures body { OnOk result (seen body.new ≡ after_data (base_in basis.now) (seen body.old) (values_word (seen_values values))) }
+    ensures taken { IfOk result (TakenAs (answers_to_data (base_in basis.now) (seen body.old) (values_word (seen_values values))) (shown_of_data (base_in basis.now) (seen body.old) (values_word (seen_values values)))) }
 {
-    if is_reliable(ground.config.mode) {
-        take_parts(ground.alloc, body, values.as_slice())?;
-        return Ok(quiet(ground.alloc));
+    if is_reliable(basis.config.mode) {
+        take_parts(basis.alloc, body, values.as_slice())?;
+        return Ok(quiet(basis.alloc));
     }
-    take_values(ground, body, values)
+    take_values(basis, body, values)
 }
 
 /// Takes a unit of data.
 pub fn take_data(
-    ground: &Ground<'_>,
+    basis: &Ground<'_>,
     body: &mut Body,
     word: DataWord,
 ) -> Result<Taken, NoMemory>
-    ensures body { OnOk result (seen body.new ≡ after_data (base_in ground.now) (seen body.old) (seen_data word)) }
-    ensures taken { IfOk result (TakenAs (answers_to_data (base_in ground.now) (seen body.old) (seen_data word)) (shown_of_data (base_in ground.now) (seen body.old) (seen_data word))) }
+    ensures body { OnOk result (seen body.new ≡ after_data (base_in basis.now) (seen body.old) (seen_data word)) }
+    ensures taken { IfOk result (TakenAs (answers_to_data (base_in basis.now) (seen body.old) (seen_data word)) (shown_of_data (base_in basis.now) (seen body.old) (seen_data word))) }
 {
     match word {
-        DataWord::Values(values) => take_all(ground, body, values),
-        DataWord::AlterContext { add, delete } => take_alter(ground, body, add, delete),
-        DataWord::AlterContextAck { answers } => take_answers(ground, body, answers),
+        DataWord::Values(values) => take_all(basis, body, values),
+        DataWord::AlterContext { add, delete } => take_alter(basis, body, add, delete),
+        DataWord::AlterContextAck { answers } => take_answers(basis, body, answers),
     }
 }

@@ -22,16 +22,16 @@ use std::alloc::Global;
 
 /// A mark that is taken saves the set: in direct mode under its number, in reliable mode in the
 /// peer's activity.
-fn save_mark(ground: &Ground<'_>, body: &mut Body, number: u32) -> Result<(), NoMemory>
-    ensures { OnOk result (seen body.new ≡ marked_in ground.now.config.mode number (seen body.old)) }
+fn save_mark(basis: &Ground<'_>, body: &mut Body, number: u32) -> Result<(), NoMemory>
+    ensures { OnOk result (seen body.new ≡ marked_in basis.now.config.mode number (seen body.old)) }
 {
-    match ground.config.mode {
+    match basis.config.mode {
         Mode::Reliable => {
-            let set = copy_set(ground.alloc, body.sets.held.as_slice())?;
+            let set = copy_set(basis.alloc, body.sets.held.as_slice())?;
             body.receiving.pieces.push_mark(number, set)
         }
         Mode::Direct => {
-            let set = copy_set(ground.alloc, body.sets.held.as_slice())?;
+            let set = copy_set(basis.alloc, body.sets.held.as_slice())?;
             body.saved.push(number, set)
         }
         Mode::Bare => Ok(()),
@@ -39,24 +39,24 @@ fn save_mark(ground: &Ground<'_>, body: &mut Body, number: u32) -> Result<(), No
 }
 
 /// A mark is confirmed in reliable mode, and shown in direct mode.
-fn mark_taken(ground: &Ground<'_>, number: u32) -> Result<Taken, NoMemory>
-    ensures { IfOk result (TakenAs (mark_answer ground.now.config.mode number) (mark_shown ground.now.config.mode number)) }
+fn mark_taken(basis: &Ground<'_>, number: u32) -> Result<Taken, NoMemory>
+    ensures { IfOk result (TakenAs (mark_answer basis.now.config.mode number) (mark_shown basis.now.config.mode number)) }
 {
-    match ground.config.mode {
+    match basis.config.mode {
         Mode::Reliable => answered(
-            ground.alloc,
+            basis.alloc,
             Message::Session(Word::OfMarks(MarkWord::MarkAck { number })),
         ),
-        Mode::Direct => told(ground.alloc, Indication::Marked { n: number }),
-        Mode::Bare => Ok(quiet(ground.alloc)),
+        Mode::Direct => told(basis.alloc, Indication::Marked { n: number }),
+        Mode::Bare => Ok(quiet(basis.alloc)),
     }
 }
 
 /// Takes the confirmation of a mark, which in direct mode is passed over.
-fn confirm_mark(ground: &Ground<'_>, body: &mut Body, number: u32)
-    ensures { seen body.new ≡ confirmed_in ground.now.config.mode number (seen body.old) }
+fn confirm_mark(basis: &Ground<'_>, body: &mut Body, number: u32)
+    ensures { seen body.new ≡ confirmed_in basis.now.config.mode number (seen body.old) }
 {
-    match ground.config.mode {
+    match basis.config.mode {
         Mode::Reliable => confirm_current(body, number),
         Mode::Direct => (),
         Mode::Bare => (),
@@ -90,7 +90,7 @@ fn list_differs(
 
 /// Why a restart with this list may not come: it isn't the one of the restored set.
 fn list_fault(
-    ground: &Ground<'_>,
+    basis: &Ground<'_>,
     body: &Body,
     n: u32,
     list: &Option<RestoredList>,
@@ -101,7 +101,7 @@ fn list_fault(
         return Ok(None);
     };
     let kept = body.saved.set_below(n);
-    let restored = listed(ground.alloc, kept)?;
+    let restored = listed(basis.alloc, kept)?;
     if same_lists(list.as_slice(), restored.as_slice()) {
         return Ok(None);
     }
@@ -109,7 +109,7 @@ fn list_fault(
         layer: Layer::Presentation,
         place: 0,
         reason: 6,
-        told: list_differs(ground.alloc, kept, list)?,
+        told: list_differs(basis.alloc, kept, list)?,
     }))
 }
 
@@ -134,28 +134,28 @@ fn plea_in(content: &Content) -> Option<u32>
 }
 
 /// Why a plea may not come.
-fn please_fault(ground: &Ground<'_>, tokens: Option<u8>, values: &[Value]) -> Option<Fault>
+fn please_fault(basis: &Ground<'_>, tokens: Option<u8>, values: &[Value]) -> Option<Fault>
     ensures { option_map seen_fault result ≡ please_fault tokens (seen_values values.now) }
 {
     tokens?;
     match priority_in(values) {
         Some(_) => None,
-        None => Some(Fault::at(ground.alloc, Layer::Rtse, 0, 4)),
+        None => Some(Fault::at(basis.alloc, Layer::Rtse, 0, 4)),
     }
 }
 
 /// Why a unit of marks or tokens may not be taken.
 pub fn mark_fault(
-    ground: &Ground<'_>,
+    basis: &Ground<'_>,
     body: &Body,
     word: &MarkWord,
 ) -> Result<Option<Fault>, NoMemory>
-    ensures { IfOk result (λ fault. option_map seen_fault fault ≡ mark_fault (base_in ground.now) (seen body.now) (seen_marks word.now)) }
+    ensures { IfOk result (λ fault. option_map seen_fault fault ≡ mark_fault (base_in basis.now) (seen body.now) (seen_marks word.now)) }
 {
     match word {
-        MarkWord::Restart { number, list } => list_fault(ground, body, *number, list),
-        MarkWord::RestartAck { number, list } => list_fault(ground, body, *number, list),
-        MarkWord::Please { tokens, values } => Ok(please_fault(ground, *tokens, values.as_slice())),
+        MarkWord::Restart { number, list } => list_fault(basis, body, *number, list),
+        MarkWord::RestartAck { number, list } => list_fault(basis, body, *number, list),
+        MarkWord::Please { tokens, values } => Ok(please_fault(basis, *tokens, values.as_slice())),
         MarkWord::Mark { .. } => Ok(None),
         MarkWord::MarkAck { .. } => Ok(None),
         MarkWord::Give { .. } => Ok(None),
@@ -165,30 +165,30 @@ pub fn mark_fault(
 }
 
 /// What is shown of a restart.
-fn shown_restarted(ground: &Ground<'_>, body: &Body, n: u32) -> Result<Indications, NoMemory>
+fn shown_restarted(basis: &Ground<'_>, body: &Body, n: u32) -> Result<Indications, NoMemory>
     ensures { IfOk result (λ shown. shown ≡ shown_restarted (seen body.now) n) }
 {
-    let mut shown: Indications = ListOf::new(ground.alloc);
+    let mut shown: Indications = ListOf::new(basis.alloc);
     push_losses(body, &mut shown)?;
-    push_cuts(ground.alloc, body, &mut shown)?;
+    push_cuts(basis.alloc, body, &mut shown)?;
     shown.push(Indication::Restarted { n })?;
     Ok(shown)
 }
 
 /// The set that a restart brings back.
-fn restored_set(ground: &Ground<'_>, body: &Body, n: u32) -> Result<SetList, NoMemory>
+fn restored_set(basis: &Ground<'_>, body: &Body, n: u32) -> Result<SetList, NoMemory>
     ensures { IfOk result (λ set. set ≡ restored_set (seen body.now) n) }
 {
-    copy_set(ground.alloc, body.saved.set_below(n))
+    copy_set(basis.alloc, body.saved.set_below(n))
 }
 
 /// Goes back to the set of a restart: the marks from it on, own alterations and open invocations are
 /// gone, and the token is at the initiator.
-fn restart(ground: &Ground<'_>, body: &mut Body, n: u32, set: SetList)
+fn restart(basis: &Ground<'_>, body: &mut Body, n: u32, set: SetList)
     requires { set ≡ restored_set (seen body.old) n }
-    ensures { seen body.new ≡ restarted (base_in ground.now) n (seen body.old) }
+    ensures { seen body.new ≡ restarted (base_in basis.now) n (seen body.old) }
 {
-    body.link.turn = ground.config.initiator;
+    body.link.turn = basis.config.initiator;
     body.link.awaits = Awaited::NoAnswer;
     body.sets.held = set;
     body.sets.own.clear();
@@ -197,38 +197,38 @@ fn restart(ground: &Ground<'_>, body: &mut Body, n: u32, set: SetList)
 }
 
 /// The answer to a restart.
-fn restart_answer(ground: &Ground<'_>, body: &Body, n: u32) -> Result<Message, NoMemory>
+fn restart_answer(basis: &Ground<'_>, body: &Body, n: u32) -> Result<Message, NoMemory>
     ensures { IfOk result (λ m. seen_message m ≡ Session (OfMarks (RestartAck n (Some (listed (restored_set (seen body.now) n)))))) }
 {
     Ok(Message::Session(Word::OfMarks(MarkWord::RestartAck {
         number: n,
-        list: Some(listed(ground.alloc, body.saved.set_below(n))?),
+        list: Some(listed(basis.alloc, body.saved.set_below(n))?),
     })))
 }
 
 /// Takes a restart.
-fn take_restart(ground: &Ground<'_>, body: &mut Body, n: u32) -> Result<Taken, NoMemory>
-    ensures body { OnOk result (seen body.new ≡ restarted (base_in ground.now) n (seen body.old)) }
+fn take_restart(basis: &Ground<'_>, body: &mut Body, n: u32) -> Result<Taken, NoMemory>
+    ensures body { OnOk result (seen body.new ≡ restarted (base_in basis.now) n (seen body.old)) }
     ensures taken { IfOk result (TakenAs (Session (OfMarks (RestartAck n (Some (listed (restored_set (seen body.old) n))))) ∷ []) (shown_restarted (seen body.old) n)) }
 {
-    let set = restored_set(ground, body, n)?;
-    let message = restart_answer(ground, body, n)?;
-    let shown = shown_restarted(ground, body, n)?;
-    let mut taken = answered(ground.alloc, message)?;
+    let set = restored_set(basis, body, n)?;
+    let message = restart_answer(basis, body, n)?;
+    let shown = shown_restarted(basis, body, n)?;
+    let mut taken = answered(basis.alloc, message)?;
     taken.shown = shown;
-    restart(ground, body, n, set);
+    restart(basis, body, n, set);
     Ok(taken)
 }
 
 /// Takes the answer to a restart.
-fn take_restart_ack(ground: &Ground<'_>, body: &mut Body, n: u32) -> Result<Taken, NoMemory>
-    ensures body { OnOk result (seen body.new ≡ restarted (base_in ground.now) n (seen body.old)) }
+fn take_restart_ack(basis: &Ground<'_>, body: &mut Body, n: u32) -> Result<Taken, NoMemory>
+    ensures body { OnOk result (seen body.new ≡ restarted (base_in basis.now) n (seen body.old)) }
     ensures taken { IfOk result (TakenAs [] (shown_restarted (seen body.old) n)) }
 {
-    let set = restored_set(ground, body, n)?;
-    let mut taken = quiet(ground.alloc);
-    taken.shown = shown_restarted(ground, body, n)?;
-    restart(ground, body, n, set);
+    let set = restored_set(basis, body, n)?;
+    let mut taken = quiet(basis.alloc);
+    taken.shown = shown_restarted(basis, body, n)?;
+    restart(basis, body, n, set);
     Ok(taken)
 }
 
@@ -242,7 +242,7 @@ fn take_turn(body: &mut Body)
 
 /// Takes GT.
 fn take_give(
-    ground: &Ground<'_>,
+    basis: &Ground<'_>,
     body: &mut Body,
     tokens: Option<u8>,
 ) -> Result<Taken, NoMemory>
@@ -250,37 +250,37 @@ fn take_give(
     ensures taken { IfOk result (TakenAs [] (shown_turn tokens)) }
 {
     match tokens {
-        None => Ok(quiet(ground.alloc)),
+        None => Ok(quiet(basis.alloc)),
         Some(_) => {
             take_turn(body);
-            told(ground.alloc, Indication::Turn)
+            told(basis.alloc, Indication::Turn)
         }
     }
 }
 
 /// What is shown of a plea.
 fn shown_please(
-    ground: &Ground<'_>,
+    basis: &Ground<'_>,
     tokens: Option<u8>,
     values: &[Value],
 ) -> Result<Taken, NoMemory>
     ensures { IfOk result (TakenAs [] (shown_please tokens (seen_values values.now))) }
 {
     if tokens.is_none() {
-        return Ok(quiet(ground.alloc));
+        return Ok(quiet(basis.alloc));
     }
     match priority_in(values) {
-        None => Ok(quiet(ground.alloc)),
-        Some(priority) => told(ground.alloc, Indication::Asked { priority }),
+        None => Ok(quiet(basis.alloc)),
+        Some(priority) => told(basis.alloc, Indication::Asked { priority }),
     }
 }
 
 /// Takes GTC.
-fn take_give_confirm(ground: &Ground<'_>, body: &mut Body) -> Result<Taken, NoMemory>
+fn take_give_confirm(basis: &Ground<'_>, body: &mut Body) -> Result<Taken, NoMemory>
     ensures body { OnOk result (seen body.new ≡ record (seen body.old) { link = record (seen body.old).link { turn = true; gave = false } }) }
     ensures taken { IfOk result (TakenAs (Session (OfMarks GiveAck) ∷ []) (indications.Turn ∷ [])) }
 {
-    let mut taken = told(ground.alloc, Indication::Turn)?;
+    let mut taken = told(basis.alloc, Indication::Turn)?;
     taken
         .answers
         .push(Message::Session(Word::OfMarks(MarkWord::GiveAck)))?;
@@ -290,30 +290,30 @@ fn take_give_confirm(ground: &Ground<'_>, body: &mut Body) -> Result<Taken, NoMe
 
 /// Takes a unit of marks or tokens.
 pub fn take_mark(
-    ground: &Ground<'_>,
+    basis: &Ground<'_>,
     body: &mut Body,
     word: MarkWord,
 ) -> Result<Taken, NoMemory>
-    ensures body { OnOk result (seen body.new ≡ after_mark (base_in ground.now) (seen body.old) (seen_marks word)) }
-    ensures taken { IfOk result (TakenAs (answers_to_mark (base_in ground.now) (seen body.old) (seen_marks word)) (shown_of_mark (base_in ground.now) (seen body.old) (seen_marks word))) }
+    ensures body { OnOk result (seen body.new ≡ after_mark (base_in basis.now) (seen body.old) (seen_marks word)) }
+    ensures taken { IfOk result (TakenAs (answers_to_mark (base_in basis.now) (seen body.old) (seen_marks word)) (shown_of_mark (base_in basis.now) (seen body.old) (seen_marks word))) }
 {
     match word {
         MarkWord::Mark { number } => {
-            save_mark(ground, body, number)?;
-            mark_taken(ground, number)
+            save_mark(basis, body, number)?;
+            mark_taken(basis, number)
         }
         MarkWord::MarkAck { number } => {
-            confirm_mark(ground, body, number);
-            Ok(quiet(ground.alloc))
+            confirm_mark(basis, body, number);
+            Ok(quiet(basis.alloc))
         }
-        MarkWord::Restart { number, list: _ } => take_restart(ground, body, number),
-        MarkWord::RestartAck { number, list: _ } => take_restart_ack(ground, body, number),
-        MarkWord::Give { tokens } => take_give(ground, body, tokens),
-        MarkWord::Please { tokens, values } => shown_please(ground, tokens, values.as_slice()),
-        MarkWord::GiveConfirm => take_give_confirm(ground, body),
+        MarkWord::Restart { number, list: _ } => take_restart(basis, body, number),
+        MarkWord::RestartAck { number, list: _ } => take_restart_ack(basis, body, number),
+        MarkWord::Give { tokens } => take_give(basis, body, tokens),
+        MarkWord::Please { tokens, values } => shown_please(basis, tokens, values.as_slice()),
+        MarkWord::GiveConfirm => take_give_confirm(basis, body),
         MarkWord::GiveAck => {
             body.link.gave = false;
-            Ok(quiet(ground.alloc))
+            Ok(quiet(basis.alloc))
         }
     }
 }

@@ -124,11 +124,11 @@ fn is_too_long(body: &Body, values: &[Value]) -> bool
 }
 
 /// Why parts of a transfer may not be taken.
-fn parts_fault(ground: &Ground<'_>, body: &Body, values: &[Value]) -> Option<Fault>
+fn parts_fault(basis: &Ground<'_>, body: &Body, values: &[Value]) -> Option<Fault>
     ensures { option_map seen_fault result ≡ or_fault (fault_if (list_any (λ (v : rule_value). not (is_part v.content)) (seen_values values.now)) rtse_fault) (fault_if (nat_lt 262400 (length (joined (seen body.now).receiving.pieces ++ parts_in (seen_values values.now)))) rtse_fault) }
 {
     if has_other(values) || is_too_long(body, values) {
-        Some(Fault::at(ground.alloc, Layer::Rtse, 0, 4))
+        Some(Fault::at(basis.alloc, Layer::Rtse, 0, 4))
     } else {
         None
     }
@@ -136,17 +136,17 @@ fn parts_fault(ground: &Ground<'_>, body: &Body, values: &[Value]) -> Option<Fau
 
 /// What data may not carry: values of association control anywhere; in reliable mode what is no part
 /// of a transfer, or too many octets; else what is none of remote operations.
-pub(crate) fn values_fault(ground: &Ground<'_>, body: &Body, values: &[Value]) -> Option<Fault>
-    ensures { option_map seen_fault result ≡ values_fault (base_in ground.now) (seen body.now) (seen_values values.now) }
+pub(crate) fn values_fault(basis: &Ground<'_>, body: &Body, values: &[Value]) -> Option<Fault>
+    ensures { option_map seen_fault result ≡ values_fault (base_in basis.now) (seen body.now) (seen_values values.now) }
 {
     if has_associated(values) {
-        return Some(Fault::at(ground.alloc, Layer::Acse, 0, 0));
+        return Some(Fault::at(basis.alloc, Layer::Acse, 0, 0));
     }
-    if is_reliable(ground.config.mode) {
-        return parts_fault(ground, body, values);
+    if is_reliable(basis.config.mode) {
+        return parts_fault(basis, body, values);
     }
     if has_strange(values) {
-        return Some(Fault::at(ground.alloc, Layer::Presentation, 0, 6));
+        return Some(Fault::at(basis.alloc, Layer::Presentation, 0, 6));
     }
     None
 }

@@ -29,45 +29,45 @@ fn is_size(size: Option<u8>) -> bool
 }
 
 /// Whether CR may come: to a responder that has no association yet, or whose association is broken.
-fn may_request(ground: &Ground<'_>, body: &Body) -> bool
-    ensures { result ≡ may_request (base_in ground.now) (seen body.now) }
+fn may_request(basis: &Ground<'_>, body: &Body) -> bool
+    ensures { result ≡ may_request (base_in basis.now) (seen body.now) }
 {
-    !ground.config.initiator && body.link.stage.is_unused() && is_waiting(body.link.phase)
+    !basis.config.initiator && body.link.stage.is_unused() && is_waiting(body.link.phase)
 }
 
 /// Whether CC and DR may come.
-fn may_respond(ground: &Ground<'_>, body: &Body) -> bool
-    ensures { result ≡ may_respond (base_in ground.now) (seen body.now) }
+fn may_respond(basis: &Ground<'_>, body: &Body) -> bool
+    ensures { result ≡ may_respond (base_in basis.now) (seen body.now) }
 {
-    ground.config.initiator && body.link.stage.is_asked()
+    basis.config.initiator && body.link.stage.is_asked()
 }
 
 /// Whether a unit may stand where it comes.
-fn may_come(ground: &Ground<'_>, body: &Body, unit: &TransportUnit) -> bool
-    ensures { transport_unit_fault (base_in ground.now) (seen body.now) (seen_transport unit.now) ≡ fault_if (not result) transport_fault }
+fn may_come(basis: &Ground<'_>, body: &Body, unit: &TransportUnit) -> bool
+    ensures { transport_unit_fault (base_in basis.now) (seen body.now) (seen_transport unit.now) ≡ fault_if (not result) transport_fault }
 {
     match unit {
-        TransportUnit::ConnectionRequest { .. } => may_request(ground, body),
+        TransportUnit::ConnectionRequest { .. } => may_request(basis, body),
         TransportUnit::ConnectionConfirm { size, .. } => {
-            may_respond(ground, body) && is_size(*size)
+            may_respond(basis, body) && is_size(*size)
         }
-        TransportUnit::DisconnectRequest { .. } => may_respond(ground, body),
+        TransportUnit::DisconnectRequest { .. } => may_respond(basis, body),
         TransportUnit::TransportError => false,
     }
 }
 
 /// What is out of place, an ER always.
 pub fn transport_fault(
-    ground: &Ground<'_>,
+    basis: &Ground<'_>,
     body: &Body,
     unit: &TransportUnit,
 ) -> Option<Fault>
-    ensures { option_map seen_fault result ≡ transport_unit_fault (base_in ground.now) (seen body.now) (seen_transport unit.now) }
+    ensures { option_map seen_fault result ≡ transport_unit_fault (base_in basis.now) (seen body.now) (seen_transport unit.now) }
 {
-    if may_come(ground, body, unit) {
+    if may_come(basis, body, unit) {
         None
     } else {
-        Some(Fault::at(ground.alloc, Layer::Transport, 0, 0))
+        Some(Fault::at(basis.alloc, Layer::Transport, 0, 0))
     }
 }
 
@@ -121,23 +121,23 @@ fn take_request(body: &mut Body, source: u16, size: Option<u8>) -> Message
 }
 
 /// Takes a CC, which brings the CN.
-fn take_confirm(ground: &Ground<'_>, body: &mut Body) -> Result<Message, NoMemory>
+fn take_confirm(basis: &Ground<'_>, body: &mut Body) -> Result<Message, NoMemory>
     ensures body { OnOk result (seen body.new ≡ at_stage Carrying (seen body.old).link.phase (seen body.old)) }
-    ensures answer { IfOk result (λ m. seen_message m ≡ connect_message (base_in ground.now) (is_recovering (seen body.old).link.phase)) }
+    ensures answer { IfOk result (λ m. seen_message m ≡ connect_message (base_in basis.now) (is_recovering (seen body.old).link.phase)) }
 {
-    let message = connect_message(ground, is_recovering(body.link.phase))?;
+    let message = connect_message(basis, is_recovering(body.link.phase))?;
     body.link.stage = Stage::Carrying;
     Ok(message)
 }
 
 /// Takes a transport unit.
 pub fn take_transport(
-    ground: &Ground<'_>,
+    basis: &Ground<'_>,
     body: &mut Body,
     unit: TransportUnit,
 ) -> Result<Taken, NoMemory>
-    ensures body { OnOk result (seen body.new ≡ after_transport (base_in ground.now) (seen body.old) (seen_transport unit)) }
-    ensures taken { IfOk result (TakenAs (answers_to_transport (base_in ground.now) (seen body.old) (seen_transport unit)) (shown_of_transport (seen_transport unit))) }
+    ensures body { OnOk result (seen body.new ≡ after_transport (base_in basis.now) (seen body.old) (seen_transport unit)) }
+    ensures taken { IfOk result (TakenAs (answers_to_transport (base_in basis.now) (seen body.old) (seen_transport unit)) (shown_of_transport (seen_transport unit))) }
 {
     match unit {
         TransportUnit::ConnectionRequest {
@@ -147,19 +147,19 @@ pub fn take_transport(
             called: _,
         } => {
             let message = take_request(body, source, size);
-            answered(ground.alloc, message)
+            answered(basis.alloc, message)
         }
         TransportUnit::ConnectionConfirm {
             destination: _,
             size: _,
         } => {
-            let message = take_confirm(ground, body)?;
-            answered(ground.alloc, message)
+            let message = take_confirm(basis, body)?;
+            answered(basis.alloc, message)
         }
         TransportUnit::DisconnectRequest { destination: _ } => {
             body.link.phase = Phase::Over;
-            told(ground.alloc, Indication::AssociationRefused)
+            told(basis.alloc, Indication::AssociationRefused)
         }
-        TransportUnit::TransportError => Ok(quiet(ground.alloc)),
+        TransportUnit::TransportError => Ok(quiet(basis.alloc)),
     }
 }

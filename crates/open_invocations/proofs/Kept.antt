@@ -140,13 +140,13 @@ module _ (own : Bool) (id : ℤ) where
   shut_last (x ∷ os) o s f = let t = first_of x os s in with_first x (os ++ o ∷ []) t.0 (shut_last os o t.1 f)
 
   module _ (b : Bool) (k : ℤ) where
-    same_key : (o : OpenCall) (t : Bool) → ends.is_key own id (cond t (record o { parent = None }) o) ≡ ends.is_key own id o
-    same_key o true = refl
-    same_key o false = refl
+    key_stays : (o : OpenCall) (t : Bool) → ends.is_key own id (cond t (record o { parent = None }) o) ≡ ends.is_key own id o
+    key_stays o true = refl
+    key_stays o false = refl
 
     orphan_key : (o : OpenCall) (p : Option ℤ) → ends.is_key own id (ends.orphaned b k (record o { parent = p })) ≡ ends.is_key own id (record o { parent = p })
     orphan_key o None = refl
-    orphan_key o (Some parent) = same_key (record o { parent = Some parent }) (int_eq parent k && not (ends.is_whose b o))
+    orphan_key o (Some parent) = key_stays (record o { parent = Some parent }) (int_eq parent k && not (ends.is_whose b o))
 
     orphans : (os : List OpenCall) → Shut os → Shut (map (ends.orphaned b k) os)
     orphans [] s = refl
@@ -299,6 +299,11 @@ module _ (tables : Tables) (es fs : List Entry) (i : Invoking) (p q : Performing
       quiet_kept es fs i i p.kept q.kept h own peer
       (admitted_quiet (bare_base tables some_config) (calls_of es i p.kept) (calls_of fs i q.kept) id place at linked (opened_so (bare_base tables some_config) i refl))
   admitted_kept h own peer (Err e) opened_so none = subst (λ (x : List Entry). AreKept x i q.kept) (sym none.1) (subst (λ (x : Performing). AreKept es i x.kept) (sym none.0) h)
+
+-- what holds where a call is answered Ok
+pub on_ok : {P Q : Type 0} (r : Result (Unit {0}) NoMemory) → OnOk r P → (P → Q) → OnOk r Q
+on_ok (Ok u) p f = f p
+on_ok (Err e) p f = tt
 
 -- ---- a taking
 

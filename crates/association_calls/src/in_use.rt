@@ -42,8 +42,8 @@ fn current_context(alloc: Global, sending: &Sending) -> Result<Ids, NoMemory>
 }
 
 /// Puts the contexts of open invocations behind others.
-fn push_calls(ids: &mut Ids, opens: &[OpenCall]) -> Result<(), NoMemory>
-    ensures { OnOk result (ids.new ≡ ids.old ++ map (λ (o : seen_call). o.context) opens.now) }
+fn push_calls(ids: &mut Ids, opens: &Vec<OpenCall>) -> Result<(), NoMemory>
+    ensures { OnOk result (ids.new ≡ ids.old ++ map (λ (o : seen_call). o.context) opens.now.items) }
 {
     for open in opens {
         ids.push(open.context())?;
@@ -52,8 +52,8 @@ fn push_calls(ids: &mut Ids, opens: &[OpenCall]) -> Result<(), NoMemory>
 }
 
 /// Puts the contexts of queued items behind others.
-fn push_queue(ids: &mut Ids, queue: &[Queued]) -> Result<(), NoMemory>
-    ensures { OnOk result (ids.new ≡ ids.old ++ map (λ (item : rule_queued). item.context) (map seen_queued queue.now)) }
+fn push_queue(ids: &mut Ids, queue: &Vec<Queued>) -> Result<(), NoMemory>
+    ensures { OnOk result (ids.new ≡ ids.old ++ map (λ (item : rule_queued). item.context) (map seen_queued queue.now.items)) }
 {
     for item in queue {
         ids.push(item.context)?;
@@ -68,7 +68,7 @@ pub fn used(alloc: Global, body: &Body) -> Result<Ids, NoMemory>
 {
     let mut ids = current_context(alloc, &body.sending)?;
     let opens = body.calls.opens()?;
-    push_calls(&mut ids, opens.as_slice())?;
+    push_calls(&mut ids, &opens)?;
     push_queue(&mut ids, &body.sending.queue)?;
     Ok(ids)
 }

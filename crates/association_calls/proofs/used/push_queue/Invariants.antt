@@ -1,6 +1,0 @@
-use Rattle.std.proofs.Common.{◌≡◌, ◌++◌, map, take}
-use Rattle.end_rules.specs.State.{Queued}
-use Rattle.association_calls.proofs.used.push_queue.Given as goal
-
-abbrev pub invariant-loop-item : goal.invariant-loop-item
-invariant-loop-item l = l.ids ≡ l.fn.ids ++ map (λ (q : Queued). q.context) (take l.item-index l.queue)
