@@ -6,8 +6,8 @@ ghost use Rattle.association_state.specs.Seen.{base_in, seen};
 ghost use Rattle.association_calls.specs.Replies.{Replies};
 
 use crate::Reply;
-use crate::transfers::is_ending;
 use crate::in_use::used;
+use crate::transfers::is_ending;
 use association_ground::{is_among, is_reliable};
 use association_sets::{
     Alteration, count_added, has_parity, is_bad, is_fixed, is_named_in, pair_of,

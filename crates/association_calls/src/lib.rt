@@ -12,6 +12,8 @@ mod transfers;
 mod units;
 
 pub use altering::can_alter;
+use dialogue::CallRefusal;
+pub use in_use::used;
 pub use invoking::{Making, check_invoke};
 pub use marks::{can_give, can_mark, can_please, can_restart, has_activity};
 pub use outcomes::{carrier_in, check_answer, check_refuse};
@@ -21,9 +23,6 @@ pub use units::{
     has_activities, has_marks, has_restarts, has_token, has_typed_data, has_units, has_version_two,
     manages_with, needed_units, proposed_units, selected_with,
 };
-pub use in_use::used;
-
-use dialogue::CallRefusal;
 
 /// The answer to a call.
 pub type Reply = Result<Option<i64>, CallRefusal>;

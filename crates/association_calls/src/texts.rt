@@ -15,9 +15,7 @@ const MOST_OCTETS: usize = 262_144;
 fn is_too_long_in(basis: &Ground<'_>, syntax: Syntax, apdu: &Apdu) -> Result<bool, NoMemory>
     ensures { IfOk result (λ long. long ≡ is_too_long_in (base_in basis.now) syntax apdu.now) }
 {
-    let text = basis
-        .heads
-        .write(basis.alloc, syntax, basis.tables, apdu)?;
+    let text = basis.heads.write(basis.alloc, syntax, basis.tables, apdu)?;
     Ok(text.len() > MOST_OCTETS)
 }
 

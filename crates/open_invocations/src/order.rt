@@ -56,11 +56,7 @@ fn push_cuts(ordered: &[OpenCall], shown: &mut Indications) -> Result<(), NoMemo
 }
 
 /// Tells that the open invocations are cut, children before their parents.
-pub fn tell_cuts(
-    alloc: Global,
-    opens: &[OpenCall],
-    shown: &mut Indications,
-) -> Result<(), NoMemory>
+pub fn tell_cuts(alloc: Global, opens: &[OpenCall], shown: &mut Indications) -> Result<(), NoMemory>
     ensures { OnOk result (shown.new ≡ shown.old ++ map cut_of (post_order opens.now)) }
 {
     let ordered = post_order(alloc, opens)?;
