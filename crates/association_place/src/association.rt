@@ -40,7 +40,10 @@ pub(crate) fn may_accept(basis: &Ground<'_>, body: &Body, session: &Accepting) -
     let mode = basis.config.mode;
     asked_to_open(basis, body)
         && has_version_two(session.version)
-        && has_units(needed_units(mode), selected_with(mode, session.requirements))
+        && has_units(
+            needed_units(mode),
+            selected_with(mode, session.requirements),
+        )
 }
 
 /// Whether FN may come: from the initiator, in reliable mode with the turn and with no activity in

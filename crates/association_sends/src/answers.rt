@@ -87,18 +87,16 @@ pub fn accept_message(
     let alloc = basis.alloc;
     let presentation = presentation_accept(basis, results, manages)?;
     let value = response_value(alloc, accepted, 0, response)?;
-    Ok(Message::Session(Word::OfAssociation(
-        AssociationWord::Accept {
-            session: Accepting {
-                options: Some(0),
-                version: Some(2),
-                initial: initial_number(basis.config.mode),
-                requirements: Some(selected),
-            },
-            presentation,
-            values: alone(alloc, value)?,
+    Ok(Message::Session(Word::OfAssociation(AssociationWord::Accept {
+        session: Accepting {
+            options: Some(0),
+            version: Some(2),
+            initial: initial_number(basis.config.mode),
+            requirements: Some(selected),
         },
-    )))
+        presentation,
+        values: alone(alloc, value)?,
+    })))
 }
 
 /// The presentation part of a refusal.
@@ -125,14 +123,12 @@ pub fn refuse_message(
     ensures { IfOk result (λ m. seen_message m ≡ refuse_message accepted.now results response.context (map seen_information response.user)) }
 {
     let value = response_value(alloc, accepted, 1, response)?;
-    Ok(Message::Session(Word::OfAssociation(
-        AssociationWord::Refuse {
-            transport: Some(1),
-            reason: Some(2),
-            presentation: Some(reject_with(alloc, results, None)),
-            values: alone(alloc, value)?,
-        },
-    )))
+    Ok(Message::Session(Word::OfAssociation(AssociationWord::Refuse {
+        transport: Some(1),
+        reason: Some(2),
+        presentation: Some(reject_with(alloc, results, None)),
+        values: alone(alloc, value)?,
+    })))
 }
 
 /// RF of the provider: reason not specified.
@@ -158,12 +154,10 @@ pub fn finish_message(alloc: Global, body: &Body) -> Result<Message, NoMemory>
         apdu,
         ListOf::new(alloc),
     )?;
-    Ok(Message::Session(Word::OfAssociation(
-        AssociationWord::Finish {
-            transport: Some(1),
-            values: alone(alloc, value)?,
-        },
-    )))
+    Ok(Message::Session(Word::OfAssociation(AssociationWord::Finish {
+        transport: Some(1),
+        values: alone(alloc, value)?,
+    })))
 }
 
 /// DN with its response.
@@ -177,9 +171,7 @@ pub fn disconnect_message(alloc: Global, body: &Body) -> Result<Message, NoMemor
         apdu,
         ListOf::new(alloc),
     )?;
-    Ok(Message::Session(Word::OfAssociation(
-        AssociationWord::Disconnect {
-            values: alone(alloc, value)?,
-        },
-    )))
+    Ok(Message::Session(Word::OfAssociation(AssociationWord::Disconnect {
+        values: alone(alloc, value)?,
+    })))
 }

@@ -116,10 +116,7 @@ pub fn connection_data(basis: &Ground<'_>, recovers: bool) -> Result<ConnectionD
             common: basis.config.common.copy(basis.alloc)?,
         })
     } else {
-        Ok(ConnectionData::Open(Octets::from_slice(
-            basis.alloc,
-            &[5, 0],
-        )?))
+        Ok(ConnectionData::Open(Octets::from_slice(basis.alloc, &[5, 0])?))
     }
 }
 
@@ -167,13 +164,11 @@ fn connect_values(basis: &Ground<'_>, recovers: bool) -> Result<Values, NoMemory
 pub fn connect_message(basis: &Ground<'_>, recovers: bool) -> Result<Message, NoMemory>
     ensures { IfOk result (λ m. seen_message m ≡ connect_message (base_in basis.now) recovers) }
 {
-    Ok(Message::Session(Word::OfAssociation(
-        AssociationWord::Connect {
-            session: session_connect(basis)?,
-            presentation: presentation_connect(basis)?,
-            values: connect_values(basis, recovers)?,
-        },
-    )))
+    Ok(Message::Session(Word::OfAssociation(AssociationWord::Connect {
+        session: session_connect(basis)?,
+        presentation: presentation_connect(basis)?,
+        values: connect_values(basis, recovers)?,
+    })))
 }
 
 /// CR, which proposes 1,024 octets.
