@@ -1,0 +1,15 @@
+//! Each law is the contract of a function that does nothing.
+
+ghost use Rattle.association_worlds.specs.Laws.{OctetsAreMessages, WholeWaitsForNothing};
+
+/// Whatever two ends reach whose lines are octets, they reach by the messages that these octets
+/// are; and what an end has and what the other still has are the octets of the messages on their
+/// way.
+pub fn octets_are_messages()
+    ensures law { OctetsAreMessages }
+{}
+
+/// A message on its way of which no octet waits at its sender stands first at its taker.
+pub fn whole_messages_wait_for_no_octet()
+    ensures law { WholeWaitsForNothing }
+{}

@@ -1,0 +1,6 @@
+//! Two ends of an association that see of each other octets alone, step by step.
+#![tactic(auto)]
+
+mod laws;
+
+pub use laws::{octets_are_messages, whole_messages_wait_for_no_octet};
