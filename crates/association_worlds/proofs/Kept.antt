@@ -155,12 +155,12 @@ what-is-ahead tables intake waiting coming w =
       faultless = ap (λ (h : Held). h.fault) w.held ∙ none-fault (reading nothing w.got).held waiting end;
     }
 
-record FirstOf (tables : Tables) (intake : Intake) (waiting : List ℕ) (coming : List Message) : Type 0 where
-  message : Message
-  left : List Message
-  is : coming ≡ message ∷ left
-  front : first_in intake ≡ front_of tables message
-  way : IsWay tables (behind_first intake) waiting left
+pub record FirstOf (tables : Tables) (intake : Intake) (waiting : List ℕ) (coming : List Message) : Type 0 where
+  pub message : Message
+  pub left : List Message
+  pub is : coming ≡ message ∷ left
+  pub front : first_in intake ≡ front_of tables message
+  pub way : IsWay tables (behind_first intake) waiting left
 
 first-of : (tables : Tables) (base : Base) (body : Body) (intake : Intake) (waiting : List ℕ) (coming : List Message) (r : Reaction) → IsWay tables intake waiting coming → react_to base body (first_in intake) ≡ Some r → FirstOf tables intake waiting coming
 first-of tables base body intake waiting coming r w h =
@@ -253,7 +253,7 @@ module _ (common : Common) (h : IsHeard common) where
       (λ c. (_, goes.acts two ledger role own g c)) c
 
   -- what stands first is the message that comes next, and is heard as itself
-  heard-so : (two : Two) (ledger : Ledger) (role : Role) (b : Body) (intake : Intake) (waiting : List ℕ) (r : Reaction) → b ≡ body_at role two → Goes common two ledger
+  pub heard-so : (two : Two) (ledger : Ledger) (role : Role) (b : Body) (intake : Intake) (waiting : List ℕ) (r : Reaction) → b ≡ body_at role two → Goes common two ledger
       → (f : FirstOf common.tables intake waiting (coming_to role two)) → react_to (base_at role common) b (first_in intake) ≡ Some r → react (base_at role common) (body_at role two) f.message ≡ r
   heard-so two ledger role b intake waiting r e g f t =
       one _ _ (sym (h.heard two ledger g role f.message f.left f.is) ∙ ap (react_to (base_at role common) (body_at role two)) (sym f.front) ∙ ap (λ (b : Body). react_to (base_at role common) b (first_in intake)) (sym e) ∙ t)
@@ -264,10 +264,10 @@ module _ (common : Common) (h : IsHeard common) where
   some-way : (role : Role) (ends : Ends) (coming : List Message) (intake : Intake) → (end_at role ends).line.came ≡ Some intake → WayTo role ends coming → IsWay common.tables intake (end_at (other role) ends).line.waiting coming
   some-way role ends coming intake e w = subst (λ (c : Option Intake). Way common.tables c (end_at (other role) ends).line.waiting coming) e w
 
-  abbrev next-at : (role : Role) (ends : Ends) (two : Two) (intake : Intake) → Type 0
+  abbrev pub next-at : (role : Role) (ends : Ends) (two : Two) (intake : Intake) → Type 0
   next-at role ends two intake = FirstOf common.tables intake (end_at (other role) ends).line.waiting (coming_to role two)
 
-  next-so : (role : Role) (ends : Ends) (intake : Intake) (r : Reaction) → (s : IsSpelled common ends) → (end_at role ends).line.came ≡ Some intake
+  pub next-so : (role : Role) (ends : Ends) (intake : Intake) (r : Reaction) → (s : IsSpelled common ends) → (end_at role ends).line.came ≡ Some intake
       → react_to (base_at role common) (end_at role ends).body (first_in intake) ≡ Some r → next-at role ends s.two intake
   next-so role ends intake r s e t =
       first-of common.tables (base_at role common) (end_at role ends).body intake (end_at (other role) ends).line.waiting (coming_to role s.two) r (some-way role ends (coming_to role s.two) intake e (s.ways role)) t
@@ -348,7 +348,7 @@ module _ (common : Common) (h : IsHeard common) where
       w Initiator = new-way
       w Responder = new-way
 
-  spelled-so : (ends : Ends) → Spoken common ends → IsSpelled common ends
+  pub spelled-so : (ends : Ends) → Spoken common ends → IsSpelled common ends
   spelled-so ends spoken.begins = begun-so
   spelled-so ends (spoken.calls before role call answer size z so c) =
       let s = spelled-so before so in

@@ -1,2 +1,4 @@
 pub mod Streams
 pub mod Kept
+pub mod Heard
+pub mod Calm

@@ -1,7 +1,13 @@
 -- The laws of two ends whose lines are octets, of what is asked of the messages that they send.
-use Rattle.std.specs.Prelude.{◌≡◌, ℕ, ◌<◌, List, ◌∷◌, length, Some}
-use Rattle.end_rules.specs.Messages.{Message}
-use Rattle.end_rules.specs.Reacting.{react}
+use Rattle.std.specs.Prelude.{◌≡◌, ℕ, ◌<◌, List, ◌∷◌, length, Some, false, Ok}
+use Rattle.dialogue.specs.declared.indication.Indication.{Indication}
+use Rattle.end_rules.specs.Base.{Fault, is_bare}
+use Rattle.end_rules.specs.Messages.{Message, Word, Session, unit_of}
+use Rattle.end_rules.specs.State.{Body}
+use Rattle.end_rules.specs.Reacting.{Takes, Fails, react}
+use Rattle.association_wire.specs.Units.{user_octets}
+use Rattle.association_wire.specs.Written.{with_user}
+use Rattle.association_reading.specs.Meaning.{meaning}
 use Rattle.agreement.specs.Sets.{Role, other}
 use Rattle.end_model.specs.Pairs.{Common, base_at, Two, body_at, coming_to}
 use Rattle.reliable_model.specs.Goes.{Ledger, Goes}
@@ -16,6 +22,19 @@ pub record IsHeard (common : Common) : Type 0 where
   pub carried : (two : Two) (ledger : Ledger) → Goes common two ledger → (role : Role) → AreCarried common.tables (coming_to role two)
   pub heard : (two : Two) (ledger : Ledger) → Goes common two ledger → (role : Role) (message : Message) (left : List Message) → coming_to role two ≡ message ∷ left
       → react_to (base_at role common) (body_at role two) (front_of common.tables message) ≡ Some (react (base_at role common) (body_at role two) message)
+
+-- So it is where the mode isn't bare, neither end ever fails, and each word that is taken means itself.
+pub record IsMeant (common : Common) : Type 0 where
+  pub associated : is_bare common.mode ≡ false
+  pub carried : (two : Two) (ledger : Ledger) → Goes common two ledger → (role : Role) → AreCarried common.tables (coming_to role two)
+  pub faultless : (two : Two) (ledger : Ledger) → Goes common two ledger → (role : Role) (message : Message) (left : List Message) (fault : Fault) (body : Body) (aborts : List Message) (shown : List Indication)
+      → coming_to role two ≡ message ∷ left → react (base_at role common) (body_at role two) message ≡ Fails fault body aborts shown → ⊥
+  pub meant : (two : Two) (ledger : Ledger) → Goes common two ledger → (role : Role) (word : Word) (left : List Message) (body : Body) (answers : List Message) (shown : List Indication) (start : ℕ)
+      → coming_to role two ≡ Session word ∷ left → react (base_at role common) (body_at role two) (Session word) ≡ Takes body answers shown
+      → meaning (base_at role common) (body_at role two) (with_user (user_octets (base_at role common).tables word) (unit_of word)) start ≡ Ok word
+
+abbrev pub MeantIsHeard : Type 0
+MeantIsHeard = (common : Common) → IsMeant common → IsHeard common
 
 -- What two ends with octets reach is what two ends with messages reach.
 pub record IsSpelled (common : Common) (ends : Ends) : Type 0 where
@@ -34,3 +53,10 @@ abbrev pub WholeWaitsForNothing : Type 0
 WholeWaitsForNothing =
     (common : Common) (intake : Intake) (waiting : List ℕ) (coming : List Message) (way : IsWay common.tables intake waiting coming) (next : Sent) (later : List Sent) →
     way.ahead ≡ next ∷ later → first_in intake ≡ Short → length (texts common.tables later) < length waiting
+
+-- Neither end finds a fault in what came, whatever stands first in it.
+abbrev pub NothingFails : Type 0
+NothingFails =
+    (common : Common) (ends : Ends) → IsMeant common → Spoken common ends →
+    (role : Role) (intake : Intake) (fault : Fault) (body : Body) (aborts : List Message) (shown : List Indication) →
+    (end_at role ends).line.came ≡ Some intake → react_to (base_at role common) (end_at role ends).body (first_in intake) ≡ Some (Fails fault body aborts shown) → ⊥

@@ -1,6 +1,6 @@
 //! Each law is the contract of a function that does nothing.
 
-ghost use Rattle.association_worlds.specs.Laws.{OctetsAreMessages, WholeWaitsForNothing};
+ghost use Rattle.association_worlds.specs.Laws.{MeantIsHeard, NothingFails, OctetsAreMessages, WholeWaitsForNothing};
 
 /// Whatever two ends reach whose lines are octets, they reach by the messages that these octets
 /// are; and what an end has and what the other still has are the octets of the messages on their
@@ -12,4 +12,15 @@ pub fn octets_are_messages()
 /// A message on its way of which no octet waits at its sender stands first at its taker.
 pub fn whole_messages_wait_for_no_octet()
     ensures law { WholeWaitsForNothing }
+{}
+
+/// Where neither end ever fails and each word that is taken means itself, whatever comes is heard
+/// as itself.
+pub fn meant_is_heard()
+    ensures law { MeantIsHeard }
+{}
+
+/// Neither end finds a fault in what came.
+pub fn nothing_fails()
+    ensures law { NothingFails }
 {}

@@ -3,4 +3,6 @@
 
 mod laws;
 
-pub use laws::{octets_are_messages, whole_messages_wait_for_no_octet};
+pub use laws::{
+    meant_is_heard, nothing_fails, octets_are_messages, whole_messages_wait_for_no_octet,
+};
