@@ -2,3 +2,4 @@ pub mod Streams
 pub mod Kept
 pub mod Heard
 pub mod Calm
+pub mod Said

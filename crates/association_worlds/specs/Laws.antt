@@ -7,6 +7,7 @@ use Rattle.end_rules.specs.State.{Body}
 use Rattle.end_rules.specs.Reacting.{Takes, Fails, react}
 use Rattle.association_wire.specs.Units.{user_octets}
 use Rattle.association_wire.specs.Written.{with_user}
+use Rattle.association_reading.specs.Laws.{IsOfSession}
 use Rattle.association_reading.specs.Meaning.{meaning}
 use Rattle.agreement.specs.Sets.{Role, other}
 use Rattle.end_model.specs.Pairs.{Common, base_at, Two, body_at, coming_to}
@@ -32,6 +33,24 @@ pub record IsMeant (common : Common) : Type 0 where
   pub meant : (two : Two) (ledger : Ledger) → Goes common two ledger → (role : Role) (word : Word) (left : List Message) (body : Body) (answers : List Message) (shown : List Indication) (start : ℕ)
       → coming_to role two ≡ Session word ∷ left → react (base_at role common) (body_at role two) (Session word) ≡ Takes body answers shown
       → meaning (base_at role common) (body_at role two) (with_user (user_octets (base_at role common).tables word) (unit_of word)) start ≡ Ok word
+
+-- What is presumed of the messages of such ends: each may be written, and a word that asks something of the presentation means
+-- itself where it is taken. That the words of the session alone do is proved.
+pub record IsSaid (common : Common) : Type 0 where
+  pub carried : (two : Two) (ledger : Ledger) → Goes common two ledger → (role : Role) → AreCarried common.tables (coming_to role two)
+  pub meant : (two : Two) (ledger : Ledger) → Goes common two ledger → (role : Role) (word : Word) (left : List Message) (body : Body) (answers : List Message) (shown : List Indication) (start : ℕ)
+      → (IsOfSession word → ⊥) → coming_to role two ≡ Session word ∷ left → react (base_at role common) (body_at role two) (Session word) ≡ Takes body answers shown
+      → meaning (base_at role common) (body_at role two) (with_user (user_octets (base_at role common).tables word) (unit_of word)) start ≡ Ok word
+
+-- neither end ever fails
+abbrev pub AreFaultless : Common → Type 0
+AreFaultless common =
+    (two : Two) (ledger : Ledger) → Goes common two ledger → (role : Role) (message : Message) (left : List Message) (fault : Fault) (body : Body) (aborts : List Message) (shown : List Indication) →
+    coming_to role two ≡ message ∷ left → react (base_at role common) (body_at role two) message ≡ Fails fault body aborts shown → ⊥
+
+-- A word of the session alone means itself whatever the sets, so that less is to be presumed.
+abbrev pub SaidIsMeant : Type 0
+SaidIsMeant = (common : Common) → is_bare common.mode ≡ false → AreFaultless common → IsSaid common → IsMeant common
 
 abbrev pub MeantIsHeard : Type 0
 MeantIsHeard = (common : Common) → IsMeant common → IsHeard common

@@ -1,6 +1,8 @@
 //! Each law is the contract of a function that does nothing.
 
-ghost use Rattle.association_worlds.specs.Laws.{MeantIsHeard, NothingFails, OctetsAreMessages, WholeWaitsForNothing};
+ghost use Rattle.association_worlds.specs.Laws.{MeantIsHeard, NothingFails, OctetsAreMessages, SaidIsMeant, WholeWaitsForNothing};
+
+use association_reading::session_words_are_read_back;
 
 /// Whatever two ends reach whose lines are octets, they reach by the messages that these octets
 /// are; and what an end has and what the other still has are the octets of the messages on their
@@ -24,3 +26,11 @@ pub fn meant_is_heard()
 pub fn nothing_fails()
     ensures law { NothingFails }
 {}
+
+/// Where neither end ever fails, a word of the session alone means itself, so that less is to be
+/// presumed.
+pub fn said_is_meant()
+    ensures law { SaidIsMeant }
+{
+    session_words_are_read_back();
+}

@@ -4,5 +4,6 @@
 mod laws;
 
 pub use laws::{
-    meant_is_heard, nothing_fails, octets_are_messages, whole_messages_wait_for_no_octet,
+    meant_is_heard, nothing_fails, octets_are_messages, said_is_meant,
+    whole_messages_wait_for_no_octet,
 };

@@ -2,7 +2,7 @@
 
 ghost use Rattle.transfer_worlds.specs.Laws.{ReliableWorldsAreSpelled, ReliableWorldsHaveOneHolder, ReliableWorldsNeverFail};
 
-use association_reading::session_words_are_read_back;
+use association_worlds::said_is_meant;
 
 /// Two ends of reliable mode with the codecs whose lines are octets: what they reach they reach by
 /// the messages that these octets are; no end finds a fault in what comes; at no moment do both
@@ -12,5 +12,5 @@ pub fn reliable_worlds_are_spelled()
     ensures calm { ReliableWorldsNeverFail }
     ensures holder { ReliableWorldsHaveOneHolder }
 {
-    session_words_are_read_back();
+    said_is_meant();
 }
