@@ -55,7 +55,8 @@ fn tell_root(
     opening: &Opening,
     told: &mut Vec<Key>,
 ) -> Result<(), NoMemory>
-    ensures { OnOk result (told.new.items ≡ told.old.items ++ root_told (get nodes.now) openings.now.entries (length openings.now.entries) opening.now) }
+    ensures { OnOk result (told.new.items ≡ told.old.items ++ root_told (get nodes.now)
+        openings.now.entries (length openings.now.entries) opening.now) }
 {
     if key_with(openings, opening.parent).is_some() {
         return Ok(());
@@ -73,7 +74,8 @@ pub(crate) fn all_keys(
     nodes: &Slab<Node>,
     openings: &Openings,
 ) -> Result<Vec<Key>, NoMemory>
-    ensures { IfOk result (λ keys. keys.items ≡ roots_told (get nodes.now) openings.now.entries (length openings.now.entries) (values_of openings.now.entries)) }
+    ensures { IfOk result (λ keys. keys.items ≡ roots_told (get nodes.now) openings.now.entries
+        (length openings.now.entries) (values_of openings.now.entries)) }
 {
     let mut told = Vec::new(alloc);
     for opening in openings.values() {

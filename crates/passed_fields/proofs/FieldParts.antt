@@ -61,8 +61,7 @@ module _ (rows : List TypeRow) (sound : IsSound rows) where
       after_known before after v first others k more =
           let len : length after ≡ length before + suc k.absent = ap length k.is_after ∙ length-append before (nones k.absent ++ Some k.value ∷ []) ∙ ap (λ (n : ℕ). length before + n) (length-append (nones k.absent) (Some k.value ∷ []) ∙ omega (arith, nones_length k.absent)) in
           let rest : drop (length after) fields ≡ drop (suc k.absent) (drop (length before) fields) = ap (λ (n : ℕ). drop n fields) len ∙ sym (drop-drop (suc k.absent) (length before) fields) in
-          let same : after ++ more.0 ≡ before ++ (nones k.absent ++ (Some k.value ∷ more.0)) = ap (λ (x : List (Option Value)). x ++ more.0) k.is_after ∙ append_assoc before (nones k.absent ++ Some k.value ∷ []) more.0 ∙ ap (λ (x : List (Option Value)). before ++ x) (append_assoc (nones k.absent) (Some k.value ∷ []) more.0) in
-          (
+          let same : after ++ more.0 ≡ before ++ (nones k.absent ++ (Some k.value ∷ more.0)) = ap (λ (x : List (Option Value)). x ++ more.0) k.is_after ∙ append_assoc before (nones k.absent ++ Some k.value ∷ []) more.0 ∙ ap (λ (x : List (Option Value)). before ++ x) (append_assoc (nones k.absent) (Some k.value ∷ []) more.0) in (
             nones k.absent ++ (Some k.value ∷ more.0),
             more.1 ∙ ap (λ (x : List (Option Value)). parts (parts_of x)) same,
             behind_none (drop (length before) fields) k.absent k.field k.value more.0 first others k.lies k.may k.has_tag k.holds (subst (λ (x : List known.Field). Stand x more.0 others) rest more.2),
