@@ -50,7 +50,8 @@ impl Parts {
     /// Takes octets that came.
     fn feed(self, alloc: Global, bytes: &[u8]) -> Result<Parts, NoMemory>
         requires { IsSound (Some self) }
-        ensures is { IfOk result (λ parts. view_of (Some parts) ≡ option_map (reading.with_octets bytes.now) (view_of (Some self))) }
+        ensures is { IfOk result (λ parts. view_of (Some parts)
+            ≡ option_map (reading.with_octets bytes.now) (view_of (Some self))) }
         ensures up { IfOk result (λ parts. IsSome (view_of (Some parts))) }
         ensures sound { IfOk result (λ parts. IsSound (Some parts)) }
     {

@@ -22,7 +22,8 @@ use tpkt::{Ends, Packet};
 fn push(fronts: &mut VecDeque<Front>, front: Front) -> Result<(), NoMemory>
     requires front { IsPlaced front }
     requires fronts { ArePlaced fronts.old.items }
-    ensures is { OnOk result (seen_fronts fronts.new.items ≡ seen_fronts fronts.old.items ++ seen_front front ∷ []) }
+    ensures is { OnOk result (seen_fronts fronts.new.items ≡ seen_fronts fronts.old.items
+        ++ seen_front front ∷ []) }
     ensures placed { OnOk result (ArePlaced fronts.new.items) }
 {
     fronts.push_back(front)?;
@@ -40,7 +41,8 @@ fn push_unit(
     requires stands { StandsAt (user_of unit) tsdu.now place }
     requires fronts { ArePlaced fronts.old.items }
     ensures placed { OnOk result (ArePlaced fronts.new.items) }
-    ensures is { OnOk result (seen_fronts fronts.new.items ≡ seen_fronts fronts.old.items ++ reading.OfSession unit (reading.start_of place) ∷ []) }
+    ensures is { OnOk result (seen_fronts fronts.new.items ≡ seen_fronts fronts.old.items
+        ++ reading.OfSession unit (reading.start_of place) ∷ []) }
 {
     push(
         fronts,
@@ -62,7 +64,8 @@ fn push_leading(
     requires stands { StandsAt (user_of unit) tsdu.now place }
     requires fronts { ArePlaced fronts.old.items }
     ensures placed { OnOk result (ArePlaced fronts.new.items) }
-    ensures is { OnOk result (seen_fronts fronts.new.items ≡ seen_fronts fronts.old.items ++ reading.leading unit (reading.start_of place)) }
+    ensures is { OnOk result (seen_fronts fronts.new.items ≡ seen_fronts fronts.old.items
+        ++ reading.leading unit (reading.start_of place)) }
 {
     if let SessionWord::GiveTokens { tokens: None } = &unit {
         return Ok(());
@@ -80,7 +83,8 @@ fn push_units(
     requires hold { HoldUser units tsdu.now at }
     requires fronts { ArePlaced fronts.old.items }
     ensures placed { OnOk result (ArePlaced fronts.new.items) }
-    ensures is { OnOk result (seen_fronts fronts.new.items ≡ seen_fronts fronts.old.items ++ reading.fronts_of_units at (Ok units)) }
+    ensures is { OnOk result (seen_fronts fronts.new.items ≡ seen_fronts fronts.old.items
+        ++ reading.fronts_of_units at (Ok units)) }
 {
     let mut units = units.into_vec().into_iter();
     let Some(first) = units.next() else {
@@ -99,7 +103,8 @@ fn push_units(
 fn push_tsdu(alloc: Global, fronts: &mut VecDeque<Front>, octets: &Octets) -> Result<(), NoMemory>
     requires fronts { ArePlaced fronts.old.items }
     ensures placed { OnOk result (ArePlaced fronts.new.items) }
-    ensures is { OnOk result (seen_fronts fronts.new.items ≡ seen_fronts fronts.old.items ++ reading.fronts_of_units (user_places octets.now) (units_at octets.now)) }
+    ensures is { OnOk result (seen_fronts fronts.new.items ≡ seen_fronts fronts.old.items
+        ++ reading.fronts_of_units (user_places octets.now) (units_at octets.now)) }
 {
     match read_spdus(alloc, octets.as_slice()) {
         Ok(units) => {
@@ -119,7 +124,8 @@ fn push_tsdu(alloc: Global, fronts: &mut VecDeque<Front>, octets: &Octets) -> Re
 
 /// CR.
 fn request(alloc: Global, ends: &Ends) -> Result<TransportUnit, NoMemory>
-    ensures { IfOk result (λ unit. seen_transport unit ≡ meant.ConnectionRequest ends.now.source ends.now.size ends.now.calling ends.now.called) }
+    ensures { IfOk result (λ unit. seen_transport unit ≡ meant.ConnectionRequest ends.now.source
+        ends.now.size ends.now.calling ends.now.called) }
 {
     Ok(TransportUnit::ConnectionRequest {
         source: ends.source,
@@ -133,7 +139,8 @@ fn request(alloc: Global, ends: &Ends) -> Result<TransportUnit, NoMemory>
 fn push_transport(fronts: &mut VecDeque<Front>, unit: TransportUnit) -> Result<(), NoMemory>
     requires fronts { ArePlaced fronts.old.items }
     ensures placed { OnOk result (ArePlaced fronts.new.items) }
-    ensures is { OnOk result (seen_fronts fronts.new.items ≡ seen_fronts fronts.old.items ++ reading.OfTransport (seen_transport unit) ∷ []) }
+    ensures is { OnOk result (seen_fronts fronts.new.items ≡ seen_fronts fronts.old.items
+        ++ reading.OfTransport (seen_transport unit) ∷ []) }
 {
     push(fronts, Front::OfTransport(unit))
 }
@@ -143,7 +150,8 @@ fn push_transport(fronts: &mut VecDeque<Front>, unit: TransportUnit) -> Result<(
 fn push_packet(alloc: Global, fronts: &mut VecDeque<Front>, packet: &Packet) -> Result<(), NoMemory>
     requires fronts { ArePlaced fronts.old.items }
     ensures placed { OnOk result (ArePlaced fronts.new.items) }
-    ensures is { OnOk result (seen_fronts fronts.new.items ≡ seen_fronts fronts.old.items ++ reading.fronts_of packet.now) }
+    ensures is { OnOk result (seen_fronts fronts.new.items ≡ seen_fronts fronts.old.items
+        ++ reading.fronts_of packet.now) }
 {
     match packet {
         Packet::Connect(ends) => push_transport(fronts, request(alloc, ends)?),
@@ -170,7 +178,8 @@ pub(crate) fn push_packets(
 ) -> Result<(), NoMemory>
     requires fronts { ArePlaced fronts.old.items }
     ensures placed { OnOk result (ArePlaced fronts.new.items) }
-    ensures is { OnOk result (seen_fronts fronts.new.items ≡ seen_fronts fronts.old.items ++ reading.all_fronts packets.now) }
+    ensures is { OnOk result (seen_fronts fronts.new.items ≡ seen_fronts fronts.old.items
+        ++ reading.all_fronts packets.now) }
 {
     for packet in packets {
         push_packet(alloc, fronts, packet)?;

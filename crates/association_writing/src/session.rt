@@ -45,7 +45,8 @@ fn connect_with(
 
 /// AC with these user data.
 fn accept_with(alloc: Global, user: Option<Octets>, session: Accepting) -> SessionWord
-    ensures { result ≡ words.Accept session.options session.version session.initial session.requirements (unwrap_or user []) }
+    ensures { result ≡ words.Accept session.options session.version session.initial
+        session.requirements (unwrap_or user []) }
 {
     SessionWord::Accept {
         options: session.options,
@@ -62,7 +63,8 @@ fn association_unit(
     user: Option<Octets>,
     word: &AssociationWord,
 ) -> Result<SessionWord, NoMemory>
-    ensures { IfOk result (λ unit. unit ≡ with_user user (meant.unit_of_association (seen_association word.now))) }
+    ensures { IfOk result (λ unit. unit
+        ≡ with_user user (meant.unit_of_association (seen_association word.now))) }
 {
     match word {
         AssociationWord::Connect { session, .. } => {
@@ -210,7 +212,8 @@ pub(crate) fn session_units(
     user: Option<Octets>,
     word: &Word,
 ) -> Result<Spdus, NoMemory>
-    ensures { IfOk result (λ units. units ≡ in_its_place (with_user user (meant.unit_of (seen_word word.now)))) }
+    ensures { IfOk result (λ units. units
+        ≡ in_its_place (with_user user (meant.unit_of (seen_word word.now)))) }
 {
     in_its_place(alloc, whole_unit(alloc, user, word)?)
 }

@@ -42,7 +42,8 @@ fn external_of(
 
 /// User information in octets.
 fn externals_of(alloc: Global, codecs: &Codecs, user: &[Information]) -> Result<Externals, NoMemory>
-    ensures { IfOk result (λ externals. externals ≡ map external_of (map seen_information user.now)) }
+    ensures { IfOk result (λ externals. externals ≡ map external_of
+        (map seen_information user.now)) }
 {
     let mut externals = ListOf::new(alloc);
     for information in user {
@@ -97,7 +98,8 @@ fn association_octets(
     apdu: &Acse,
     user: &[Information],
 ) -> Result<Octets, NoMemory>
-    ensures { IfOk result (λ octets. octets ≡ written_acse (with_user (map seen_information user.now) apdu.now)) }
+    ensures { IfOk result (λ octets. octets
+        ≡ written_acse (with_user (map seen_information user.now) apdu.now)) }
 {
     let whole = with_user(alloc, codecs, user, apdu)?;
     codecs.acse.write(alloc, &whole)
@@ -121,7 +123,8 @@ pub fn write_content(
     syntax: Syntax,
     content: &Content,
 ) -> Result<Octets, NoMemory>
-    ensures { IfOk result (λ octets. octets ≡ content_octets tables.now syntax (seen_content content.now)) }
+    ensures { IfOk result (λ octets. octets ≡ content_octets tables.now syntax
+        (seen_content content.now)) }
 {
     match content {
         Content::Remote(apdu) => codecs.heads.write(alloc, syntax, tables, apdu),
@@ -203,7 +206,11 @@ fn item_pdv(
     syntax: Syntax,
     apdu: &Apdu,
 ) -> Result<Pdv, NoMemory>
-    ensures { IfOk result (λ pdv. pdv ≡ record { transfer = None; id = id; content = in_form syntax (written_apdu tables.now syntax apdu.now) }) }
+    ensures { IfOk result (λ pdv. pdv ≡ record {
+      transfer = None;
+      id = id;
+      content = in_form syntax (written_apdu tables.now syntax apdu.now);
+    }) }
 {
     let octets = codecs.heads.write(alloc, syntax, tables, apdu)?;
     Ok(Pdv {
@@ -220,7 +227,8 @@ pub fn write_item(
     tables: &Tables,
     item: &Item,
 ) -> Result<Octets, NoMemory>
-    ensures { IfOk result (λ octets. octets ≡ written_transfer (item_pdv tables.now (seen_item item.now))) }
+    ensures { IfOk result (λ octets. octets ≡ written_transfer
+        (item_pdv tables.now (seen_item item.now))) }
 {
     let pdv = item_pdv(
         alloc,

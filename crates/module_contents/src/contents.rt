@@ -19,7 +19,8 @@ use stub_tables::{Apdu, Code, Returned, Tables, Use};
 
 /// How the argument of the operation with this code is used.
 fn argument_of<'t>(tables: &'t Tables, code: &Code) -> Option<&'t Use>
-    ensures { option_copied result ≡ option_map uses.argument_of (uses.operation_coded tables.now code.now) }
+    ensures { option_copied result ≡ option_map uses.argument_of
+        (uses.operation_coded tables.now code.now) }
 {
     match tables.operation(tables.operation_with(code)?) {
         Some(operation) => Some(&operation.argument),
@@ -29,7 +30,8 @@ fn argument_of<'t>(tables: &'t Tables, code: &Code) -> Option<&'t Use>
 
 /// How the result of the operation with this code is used.
 fn result_of<'t>(tables: &'t Tables, code: &Code) -> Option<&'t Use>
-    ensures { option_copied result ≡ option_map uses.result_of (uses.operation_coded tables.now code.now) }
+    ensures { option_copied result ≡ option_map uses.result_of
+        (uses.operation_coded tables.now code.now) }
 {
     match tables.operation(tables.operation_with(code)?) {
         Some(operation) => Some(&operation.result),
@@ -39,7 +41,8 @@ fn result_of<'t>(tables: &'t Tables, code: &Code) -> Option<&'t Use>
 
 /// How the parameter of the error with this code is used.
 fn parameter_of<'t>(tables: &'t Tables, code: &Code) -> Option<&'t Use>
-    ensures { option_copied result ≡ option_map uses.parameter_of (uses.error_coded tables.now code.now) }
+    ensures { option_copied result ≡ option_map uses.parameter_of
+        (uses.error_coded tables.now code.now) }
 {
     match tables.error(tables.error_with(code)?) {
         Some(error) => Some(&error.parameter),
@@ -165,7 +168,8 @@ fn spelled(
     octets: &[u8],
 ) -> Result<Option<Apdu>, NoMemory>
     requires { AreOctets octets.now }
-    ensures { IfOk result (λ apdu. apdu ≡ apdu_of tables.now (head_at tables.now syntax octets.now)) }
+    ensures { IfOk result (λ apdu. apdu ≡ apdu_of tables.now
+        (head_at tables.now syntax octets.now)) }
 {
     tables.is_readable();
     match heads.read(alloc, syntax, octets) {
@@ -192,7 +196,8 @@ pub fn content_at(
     syntax: Syntax,
     octets: &[u8],
 ) -> Result<Content, NoMemory>
-    ensures { IfOk result (λ content. seen_content content ≡ values.content_at tables.now syntax octets.now) }
+    ensures { IfOk result (λ content. seen_content content ≡ values.content_at tables.now syntax
+        octets.now) }
 {
     are_octets(octets);
     match spelled(alloc, heads, tables, syntax, octets)? {

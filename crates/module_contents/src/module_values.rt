@@ -23,7 +23,8 @@ fn ber_value(
     octets: &[u8],
 ) -> Result<Option<Val>, NoMemory>
     requires { of.0 < length types.now }
-    ensures { IfOk result (λ v. spelled_or v ≡ value_at syntaxes.Ber types.now 262144 of.0 octets.now) }
+    ensures { IfOk result (λ v. spelled_or v ≡ value_at syntaxes.Ber types.now 262144 of.0
+        octets.now) }
 {
     match ber_read(alloc, types, of, octets) {
         Ok(read) => {
@@ -47,7 +48,8 @@ fn der_value(
     octets: &[u8],
 ) -> Result<Option<Val>, NoMemory>
     requires { of.0 < length types.now }
-    ensures { IfOk result (λ v. spelled_or v ≡ value_at syntaxes.Der types.now 262144 of.0 octets.now) }
+    ensures { IfOk result (λ v. spelled_or v ≡ value_at syntaxes.Der types.now 262144 of.0
+        octets.now) }
 {
     match der_read(alloc, types, of, octets) {
         Ok(read) => {
@@ -72,7 +74,8 @@ fn packed_value(
     room: u32,
 ) -> Result<Option<Val>, NoMemory>
     requires { of.0 < length types.now }
-    ensures { IfOk result (λ v. spelled_or v ≡ value_at syntaxes.Packed types.now (room_in syntaxes.Packed room) of.0 octets.now) }
+    ensures { IfOk result (λ v. spelled_or v ≡ value_at syntaxes.Packed types.now
+        (room_in syntaxes.Packed room) of.0 octets.now) }
 {
     match packed_read_within(alloc, types, of, octets, room.min(262_144)) {
         Ok(read) => {
@@ -97,7 +100,8 @@ fn row_value(
     room: u32,
 ) -> Result<Option<Val>, NoMemory>
     requires { of.0 < length types.now }
-    ensures { IfOk result (λ v. spelled_or v ≡ value_at syntax types.now (room_in syntax room) of.0 octets.now) }
+    ensures { IfOk result (λ v. spelled_or v ≡ value_at syntax types.now (room_in syntax room) of.0
+        octets.now) }
 {
     match syntax {
         Syntax::Ber => ber_value(alloc, types, of, octets),
@@ -115,7 +119,8 @@ fn some_row_value(
     octets: &[u8],
     room: u32,
 ) -> Result<Option<Val>, NoMemory>
-    ensures { IfOk result (λ v. spelled_or v ≡ value_at syntax types.now (room_in syntax room) of.0 octets.now) }
+    ensures { IfOk result (λ v. spelled_or v ≡ value_at syntax types.now (room_in syntax room) of.0
+        octets.now) }
 {
     if types.has(of) {
         row_value(alloc, syntax, types, of, octets, room)
@@ -133,7 +138,8 @@ fn typed_value(
     octets: &[u8],
     room: u32,
 ) -> Result<Option<Val>, NoMemory>
-    ensures { IfOk result (λ v. spelled_or v ≡ typed_at syntax types.now (room_in syntax room) of octets.now) }
+    ensures { IfOk result (λ v. spelled_or v ≡ typed_at syntax types.now (room_in syntax room) of
+        octets.now) }
 {
     match of {
         None => Ok(None),
@@ -150,7 +156,8 @@ pub(crate) fn needed(
     octets: &Option<Octets>,
     room: u32,
 ) -> Result<Option<Val>, NoMemory>
-    ensures { IfOk result (λ v. v ≡ value_needed (carried_at syntax types.now (room_in syntax room) (option_copied used.entry) octets.now)) }
+    ensures { IfOk result (λ v. v ≡ value_needed (carried_at syntax types.now (room_in syntax room)
+        (option_copied used.entry) octets.now)) }
 {
     let (Some(used), Some(octets)) = (used, octets) else {
         return Ok(None);
@@ -174,7 +181,8 @@ pub(crate) fn carried(
     octets: &Option<Octets>,
     room: u32,
 ) -> Result<Option<Option<Val>>, NoMemory>
-    ensures { IfOk result (λ v. v ≡ value_or_lack (option_copied used.entry) (carried_at syntax types.now (room_in syntax room) (option_copied used.entry) octets.now)) }
+    ensures { IfOk result (λ v. v ≡ value_or_lack (option_copied used.entry)
+        (carried_at syntax types.now (room_in syntax room) (option_copied used.entry) octets.now)) }
 {
     let Some(used) = used else { return Ok(None) };
     let Some(octets) = octets else {

@@ -42,7 +42,8 @@ fn begins_with(first: u8, spot: &Spot<'_>) -> bool
 fn first_contents(first: u8, spots: &[Spot<'_>]) -> usize
     requires some { 0 < first }
     requires fit { AllFit spots.now }
-    ensures { result ≡ reading.first_contents (reading.beginning_with first (map spot_of spots.now)) }
+    ensures { result ≡ reading.first_contents
+        (reading.beginning_with first (map spot_of spots.now)) }
 {
     for spot in spots {
         if begins_with(first, spot) {
@@ -83,7 +84,8 @@ fn push_if<'a>(first: u8, spot: Spot<'a>, found: &mut Vec<Spot<'a>>) -> Result<(
     requires some { 0 < first }
     requires fit { Fits spot }
     requires found_fit { AllFit found.old.items }
-    ensures is { OnOk result (map spot_of found.new.items ≡ map spot_of found.old.items ++ reading.beginning_with first (spot_of spot.entry ∷ [])) }
+    ensures is { OnOk result (map spot_of found.new.items ≡ map spot_of found.old.items
+        ++ reading.beginning_with first (spot_of spot.entry ∷ [])) }
     ensures fit { OnOk result (AllFit found.new.items) }
 {
     if begins_with(first, &spot) {
@@ -101,7 +103,8 @@ fn push_beginning<'a>(
     requires some { 0 < first }
     requires fit { AllFit spots.now }
     requires found_fit { AllFit found.old.items }
-    ensures is { OnOk result (map spot_of found.new.items ≡ map spot_of found.old.items ++ reading.beginning_with first (map spot_of spots.now)) }
+    ensures is { OnOk result (map spot_of found.new.items ≡ map spot_of found.old.items
+        ++ reading.beginning_with first (map spot_of spots.now)) }
     ensures fit { OnOk result (AllFit found.new.items) }
 {
     for spot in spots {
@@ -114,7 +117,8 @@ fn push_beginning<'a>(
 #[tactic(auto, using(crate::proofs::Fitting::fit_on, crate::proofs::Fitting::fit_first, crate::proofs::Fitting::fit_rest))]
 fn user_data_in<'a>(alloc: Global, spots: &[Spot<'a>]) -> Result<Vec<Spot<'a>>, NoMemory>
     requires { AllFit spots.now }
-    ensures is { IfOk result (λ v. map spot_of v.items ≡ flat_map user_data_of (map spot_of spots.now)) }
+    ensures is { IfOk result (λ v. map spot_of v.items ≡ flat_map user_data_of
+        (map spot_of spots.now)) }
     ensures fit { IfOk result (λ v. AllFit v.items) }
 {
     let mut found = Vec::new(alloc);
@@ -129,7 +133,8 @@ fn user_data_in<'a>(alloc: Global, spots: &[Spot<'a>]) -> Result<Vec<Spot<'a>>, 
 fn fields_of<'a>(alloc: Global, first: u8, unit: Spot<'a>) -> Result<Vec<Spot<'a>>, NoMemory>
     requires some { 0 < first }
     requires fits { Fits unit }
-    ensures is { IfOk result (λ v. map spot_of v.items ≡ reading.beginning_with first (reading.values_in (spot_of unit.entry))) }
+    ensures is { IfOk result (λ v. map spot_of v.items ≡ reading.beginning_with first
+        (reading.values_in (spot_of unit.entry))) }
     ensures fit { IfOk result (λ v. AllFit v.items) }
 {
     let values = values_in(alloc, unit)?;
@@ -141,7 +146,8 @@ fn fields_of<'a>(alloc: Global, first: u8, unit: Spot<'a>) -> Result<Vec<Spot<'a
 /// The unit where it is user data.
 fn whole_unit<'a>(alloc: Global, unit: Spot<'a>) -> Result<Vec<Spot<'a>>, NoMemory>
     requires { Fits unit }
-    ensures is { IfOk result (λ v. map spot_of v.items ≡ reading.beginning_with 97 (spot_of unit.entry ∷ [])) }
+    ensures is { IfOk result (λ v. map spot_of v.items ≡ reading.beginning_with 97
+        (spot_of unit.entry ∷ [])) }
     ensures fit { IfOk result (λ v. AllFit v.items) }
 {
     let mut found = Vec::new(alloc);
@@ -154,7 +160,8 @@ fn whole_unit<'a>(alloc: Global, unit: Spot<'a>) -> Result<Vec<Spot<'a>>, NoMemo
 /// User data in the fields [2] of CP and CPA.
 fn inner_data<'a>(alloc: Global, unit: Spot<'a>) -> Result<Vec<Spot<'a>>, NoMemory>
     requires { Fits unit }
-    ensures is { IfOk result (λ v. map spot_of v.items ≡ flat_map user_data_of (reading.beginning_with 162 (reading.values_in (spot_of unit.entry)))) }
+    ensures is { IfOk result (λ v. map spot_of v.items ≡ flat_map user_data_of
+        (reading.beginning_with 162 (reading.values_in (spot_of unit.entry)))) }
     ensures fit { IfOk result (λ v. AllFit v.items) }
 {
     let fields = fields_of(alloc, 162, unit)?;
@@ -168,7 +175,8 @@ fn user_data<'a>(
     unit: Spot<'a>,
 ) -> Result<Vec<Spot<'a>>, NoMemory>
     requires { Fits unit }
-    ensures is { IfOk result (λ v. map spot_of v.items ≡ reading.user_data carrier (spot_of unit.entry)) }
+    ensures is { IfOk result (λ v. map spot_of v.items ≡ reading.user_data carrier
+        (spot_of unit.entry)) }
     ensures fit { IfOk result (λ v. AllFit v.items) }
 {
     match carrier {
@@ -190,7 +198,8 @@ fn user_data<'a>(
 #[tactic(auto, using(crate::proofs::Fitting::fit_on, crate::proofs::Fitting::fit_first, crate::proofs::Fitting::fit_rest))]
 fn all_values<'a>(alloc: Global, spots: &[Spot<'a>]) -> Result<Vec<Spot<'a>>, NoMemory>
     requires { AllFit spots.now }
-    ensures is { IfOk result (λ v. map spot_of v.items ≡ flat_map reading.values_in (map spot_of spots.now)) }
+    ensures is { IfOk result (λ v. map spot_of v.items ≡ flat_map reading.values_in
+        (map spot_of spots.now)) }
     ensures fit { IfOk result (λ v. AllFit v.items) }
 {
     let mut all = Vec::new(alloc);
@@ -206,7 +215,8 @@ fn all_values<'a>(alloc: Global, spots: &[Spot<'a>]) -> Result<Vec<Spot<'a>>, No
 fn push_all<'a>(spots: &[Spot<'a>], all: &mut Vec<Spot<'a>>) -> Result<(), NoMemory>
     requires fit { AllFit spots.now }
     requires all_fit { AllFit all.old.items }
-    ensures is { OnOk result (map spot_of all.new.items ≡ map spot_of all.old.items ++ map spot_of spots.now) }
+    ensures is { OnOk result (map spot_of all.new.items ≡ map spot_of all.old.items
+        ++ map spot_of spots.now) }
     ensures fit { OnOk result (AllFit all.new.items) }
 {
     for spot in spots {
@@ -219,7 +229,8 @@ fn push_all<'a>(spots: &[Spot<'a>], all: &mut Vec<Spot<'a>>) -> Result<(), NoMem
 #[tactic(auto, using(crate::proofs::Fitting::at_there, crate::proofs::Fitting::at_gone, crate::proofs::Fitting::fits_at))]
 fn places_at(alloc: Global, which: usize, values: &[Spot<'_>]) -> Result<PdvPlaces, NoMemory>
     requires { AllFit values.now }
-    ensures { IfOk result (λ at. seen_places at ≡ places_at which (map reading.places_of (map spot_of values.now))) }
+    ensures { IfOk result (λ at. seen_places at ≡ places_at which
+        (map reading.places_of (map spot_of values.now))) }
 {
     if which >= values.len() {
         return Ok(PdvPlaces {
@@ -254,7 +265,8 @@ pub fn field_place(
     field: PdvField,
 ) -> Result<usize, NoMemory>
     requires { start + length octets.now < 2 ^ 63 }
-    ensures { IfOk result (λ place. place ≡ place_in field (places_at which (reading.pdv_places carrier start octets.now))) }
+    ensures { IfOk result (λ place. place
+        ≡ place_in field (places_at which (reading.pdv_places carrier start octets.now))) }
 {
     let unit = Spot {
         place: start,
@@ -267,7 +279,8 @@ pub fn field_place(
 
 /// As `field_place`, of the value that all of these octets are, as those of a transfer are.
 pub fn transfer_place(alloc: Global, octets: &[u8], field: PdvField) -> Result<usize, NoMemory>
-    ensures { IfOk result (λ place. place ≡ place_in field (reading.places_of (reading.spot_at 0 octets.now))) }
+    ensures { IfOk result (λ place. place
+        ≡ place_in field (reading.places_of (reading.spot_at 0 octets.now))) }
 {
     let value = Spot {
         place: 0,

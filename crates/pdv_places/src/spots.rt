@@ -86,7 +86,8 @@ fn values_until<'a>(
     spot: Spot<'a>,
 ) -> Result<Vec<Spot<'a>>, NoMemory>
     requires { Fits spot }
-    ensures is { IfOk result (λ v. map spot_of v.items ≡ reading.values_until turns left (spot_of spot.entry)) }
+    ensures is { IfOk result (λ v. map spot_of v.items ≡ reading.values_until turns left
+        (spot_of spot.entry)) }
     ensures fit { IfOk result (λ v. AllFit v.items) }
 {
     let mut at = spot;

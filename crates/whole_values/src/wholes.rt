@@ -135,7 +135,8 @@ fn behind(count: usize, octets: &[u8]) -> &[u8]
 /// What stands behind whole values and end-of-contents.
 #[cycle(wholes)]
 fn behind_values(levels: u32, octets: &[u8]) -> Option<&[u8]>
-    ensures behind { option_map (λ rest. rest.now) result ≡ behind_values (behind_whole levels) (length octets.now) octets.now }
+    ensures behind { option_map (λ rest. rest.now) result ≡ behind_values (behind_whole levels)
+        (length octets.now) octets.now }
     ensures within { IfSome result (λ more. length more.now ≤ length octets.now) }
 {
     let mut rest = octets;

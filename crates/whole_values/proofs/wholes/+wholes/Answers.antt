@@ -19,8 +19,8 @@ behind_values-loop-turn-preserved t c =
     let less : length c.args.octets.now - c.loop-turn._turn - 1 ≡ length c.args.octets.now - (c.loop-turn._turn + 1) = omega arith in
     record {
       going =
-      ap (λ k. behind_values (behind_whole c.args.levels) k c.in_ok-rest.rest.now) (sym less)
-      ∙ values_step (behind_whole c.args.levels) (length c.args.octets.now - c.loop-turn._turn) c.loop-turn.rest.now (Some c.in_ok-rest.rest.now) _ (omega arith) (sym c.is_ended.ensures ∙ c.if-is_ended.false) (search rules) c.loop-turn.invariant.going;
+          ap (λ k. behind_values (behind_whole c.args.levels) k c.in_ok-rest.rest.now) (sym less)
+          ∙ values_step (behind_whole c.args.levels) (length c.args.octets.now - c.loop-turn._turn) c.loop-turn.rest.now (Some c.in_ok-rest.rest.now) _ (omega arith) (sym c.is_ended.ensures ∙ c.if-is_ended.false) (search rules) c.loop-turn.invariant.going;
       within = search (rules, arith);
     }
 
