@@ -9,7 +9,7 @@ ghost use Rattle.association_state.specs.Seen.{seen};
 ghost use Rattle.association_answers.specs.Reacted.{FailsAs};
 
 use crate::taken::{Messages, Reaction, one_message};
-use crate::told::push_cuts;
+use crate::telling::push_cuts;
 use association_sends::abort_of;
 use association_state::{Body, Ground};
 use association_words::Fault;

@@ -2,12 +2,12 @@
 //! contexts, and the end of an association.
 #![tactic(auto)]
 
+mod choosing;
 mod ending;
-mod policy;
 mod taken;
-mod told;
+mod telling;
 
+pub use choosing::policy;
 pub use ending::{fails, over};
-pub use policy::policy;
 pub use taken::{Messages, Reaction, Taken, one_message};
-pub use told::{answered, push_cuts, push_losses, quiet, tell, told};
+pub use telling::{answered, push_cuts, push_losses, quiet, tell, told};

@@ -1,6 +1,6 @@
 //! An APDU that was read whole.
 
-ghost use Rattle.std.specs.Prelude.{◌≡◌, IfOk};
+ghost use Rattle.std.specs.Prelude.{◌≡◌, IfOk, true};
 ghost use Rattle.end_rules.specs.Hearing.{hear, head_of_apdu, hear_result_of, code_returned, value_returned};
 ghost use Rattle.rose_roles.specs.Hearing.{heard_with};
 ghost use Rattle.association_state.specs.Seen.{base_in};

@@ -1,6 +1,6 @@
 //! Results, errors and rejects.
 
-ghost use Rattle.std.specs.Prelude.{◌≡◌, Some};
+ghost use Rattle.std.specs.Prelude.{◌≡◌, Some, true};
 ghost use Rattle.stub_tables.specs.Lookup.{error_with};
 ghost use Rattle.end_rules.specs.State.{opened_with};
 ghost use Rattle.end_rules.specs.Hearing.{carried_in, hear_result_of, hear_error_of, hear_reject, is_of_invocation};

@@ -1,6 +1,6 @@
 //! The first problem of an APDU, over the open invocations.
 
-ghost use Rattle.std.specs.Prelude.{◌≡◌, ◌+◌, Some, None, is_some};
+ghost use Rattle.std.specs.Prelude.{◌≡◌, ◌+◌, Some, None, is_some, true, false};
 ghost use Rattle.std.specs.Option.{option_copied};
 ghost use Rattle.stub_tables.specs.Lookup.{operation_at, error_at};
 ghost use Rattle.end_rules.specs.State.{opened_with};

@@ -178,6 +178,7 @@ fn join(all: &mut Taken, taken: Taken) -> Result<(), NoMemory>
 }
 
 /// Takes values of remote operations, one after the other.
+#[tactic(auto, using(crate::proofs::Taking::taken_push))]
 pub fn take_values(
     basis: &Ground<'_>,
     body: &mut Body,
