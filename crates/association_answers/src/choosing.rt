@@ -34,7 +34,8 @@ fn answers_to_deletions(
     delete: &[u32],
 ) -> Result<Octets, NoMemory>
     requires { in_use.now ≡ used (seen body.now) }
-    ensures { IfOk result (λ answers. answers ≡ map (answer_to_deletion (seen body.now)) delete.now) }
+    ensures { IfOk result (λ answers. answers ≡ map (answer_to_deletion (seen body.now))
+        delete.now) }
 {
     let mut answers = Octets::new(alloc);
     for id in delete {
@@ -45,7 +46,8 @@ fn answers_to_deletions(
 
 /// How many contexts are there or asked for, counted up to 64.
 fn contexts_counted(body: &Body) -> usize
-    ensures count { result ≡ min 64 (length (seen body.now).sets.held + count_added (seen body.now).sets.own) }
+    ensures count { result ≡ min 64 (length (seen body.now).sets.held + count_added
+        (seen body.now).sets.own) }
     ensures few { result ≤ 64 }
 {
     let held = body.sets.held.len().min(64);
@@ -56,7 +58,8 @@ fn contexts_counted(body: &Body) -> usize
 /// The answers to a peer's alteration; the own additions that aren't answered count too.
 #[tactic(auto, using(crate::proofs::Counted::capped))]
 pub fn policy(basis: &Ground<'_>, body: &Body, asked: &Alteration) -> Result<Answers, NoMemory>
-    ensures { IfOk result (λ answers. answers ≡ policy (base_in basis.now) (seen body.now) asked.now) }
+    ensures { IfOk result (λ answers. answers ≡ policy (base_in basis.now) (seen body.now)
+        asked.now) }
 {
     let count = contexts_counted(body);
     let added = answers_to_additions(

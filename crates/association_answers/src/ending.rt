@@ -33,7 +33,8 @@ fn aborts(
     layer: Layer,
     reason: u8,
 ) -> Result<Messages, NoMemory>
-    ensures { IfOk result (λ ms. map seen_message ms ≡ abort_of (is_carrying (seen body.now).link.stage) accepted.now layer reason) }
+    ensures { IfOk result (λ ms. map seen_message ms
+        ≡ abort_of (is_carrying (seen body.now).link.stage) accepted.now layer reason) }
 {
     let connected = body.link.stage.is_carrying();
     match abort_of(alloc, connected, accepted, layer, reason)? {
@@ -51,7 +52,8 @@ fn shown_at(
     place: u64,
     reason: u8,
 ) -> Result<Indications, NoMemory>
-    ensures { IfOk result (λ shown. shown ≡ (told ++ cuts (seen body.now)) ++ indications.Aborted true layer place reason ∷ []) }
+    ensures { IfOk result (λ shown. shown ≡ (told ++ cuts (seen body.now)) ++ indications.Aborted
+        true layer place reason ∷ []) }
 {
     let mut shown = told;
     push_cuts(alloc, body, &mut shown)?;

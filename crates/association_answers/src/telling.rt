@@ -66,7 +66,8 @@ pub fn push_cuts(alloc: Global, body: &Body, shown: &mut Indications) -> Result<
 
 /// Tells for each own alteration that it wasn't answered.
 fn push_lost(own: &[Alteration], shown: &mut Indications) -> Result<(), NoMemory>
-    ensures { OnOk result (shown.new ≡ shown.old ++ map (λ (a : rule_alteration). indications.AlterLost) own.now) }
+    ensures { OnOk result (shown.new ≡ shown.old
+        ++ map (λ (a : rule_alteration). indications.AlterLost) own.now) }
 {
     for _alteration in own {
         shown.push(Indication::AlterLost)?;

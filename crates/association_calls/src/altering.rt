@@ -94,7 +94,8 @@ fn alteration_refusal(
     body: &Body,
     asked: &Alteration,
 ) -> Result<Option<CallRefusal>, NoMemory>
-    ensures { IfOk result (λ refusal. refusal ≡ alteration_refusal (base_in basis.now) (seen body.now) asked.now) }
+    ensures { IfOk result (λ refusal. refusal ≡ alteration_refusal (base_in basis.now)
+        (seen body.now) asked.now) }
 {
     if let Some(refusal) = additions_refusal(basis, body, asked.add().as_slice()) {
         return Ok(Some(refusal));

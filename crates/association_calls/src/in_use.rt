@@ -13,7 +13,8 @@ use std::alloc::Global;
 
 /// The context on which a transfer that isn't suspended is encoded.
 fn push_encoded(ids: &mut Ids, transfer: &Transfer) -> Result<(), NoMemory>
-    ensures { OnOk result (ids.new ≡ ids.old ++ context_of_current (Some (seen_transfer transfer.now))) }
+    ensures { OnOk result (ids.new ≡ ids.old ++ context_of_current
+        (Some (seen_transfer transfer.now))) }
 {
     if transfer.progress.is_suspended() {
         return Ok(());
@@ -43,7 +44,8 @@ fn current_context(alloc: Global, sending: &Sending) -> Result<Ids, NoMemory>
 
 /// Puts the contexts of open invocations behind others.
 fn push_calls(ids: &mut Ids, opens: &Vec<OpenCall>) -> Result<(), NoMemory>
-    ensures { OnOk result (ids.new ≡ ids.old ++ map (λ (o : seen_call). o.context) opens.now.items) }
+    ensures { OnOk result (ids.new ≡ ids.old ++ map (λ (o : seen_call). o.context)
+        opens.now.items) }
 {
     for open in opens {
         ids.push(open.context())?;
@@ -53,7 +55,8 @@ fn push_calls(ids: &mut Ids, opens: &Vec<OpenCall>) -> Result<(), NoMemory>
 
 /// Puts the contexts of queued items behind others.
 fn push_queue(ids: &mut Ids, queue: &Vec<Queued>) -> Result<(), NoMemory>
-    ensures { OnOk result (ids.new ≡ ids.old ++ map (λ (item : rule_queued). item.context) (map seen_queued queue.now.items)) }
+    ensures { OnOk result (ids.new ≡ ids.old ++ map (λ (item : rule_queued). item.context)
+        (map seen_queued queue.now.items)) }
 {
     for item in queue {
         ids.push(item.context)?;

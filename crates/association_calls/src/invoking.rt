@@ -141,7 +141,9 @@ fn check_send(
     argument: &Option<Val>,
     linked: Option<i64>,
 ) -> Result<Apdu, CallRefusal>
-    ensures checked { IsChecked (can_send_invoke (base_in basis.now) (seen body.now) operation.now argument.now linked) (Some (next_id (seen body.now))) (Some (invoke_apdu operation.now (next_id (seen body.now)) linked argument.now)) result }
+    ensures checked { IsChecked (can_send_invoke (base_in basis.now) (seen body.now) operation.now
+        argument.now linked) (Some (next_id (seen body.now)))
+        (Some (invoke_apdu operation.now (next_id (seen body.now)) linked argument.now)) result }
     ensures room { IfOk result (λ _. HasRoom (seen body.now) operation.now) }
 {
     if !operation.argument.carries(&basis.tables.types, argument) {
@@ -164,8 +166,12 @@ pub fn check_invoke(
     making: Making,
     argument: &Option<Val>,
 ) -> Result<Apdu, CallRefusal>
-    ensures checked { IsChecked (can_invoke (base_in basis.now) (seen body.now) making.context making.place argument.now making.linked) (Some (next_id (seen body.now))) (option_map (λ o. invoke_apdu o (next_id (seen body.now)) making.linked argument.now) (operation_at basis.now.tables.now making.place)) result }
-    ensures room { IfOk result (λ _. IfSome (operation_at basis.now.tables.now making.place) (HasRoom (seen body.now))) }
+    ensures checked { IsChecked (can_invoke (base_in basis.now) (seen body.now) making.context
+        making.place argument.now making.linked) (Some (next_id (seen body.now)))
+        (option_map (λ o. invoke_apdu o (next_id (seen body.now)) making.linked argument.now)
+        (operation_at basis.now.tables.now making.place)) result }
+    ensures room { IfOk result (λ _. IfSome (operation_at basis.now.tables.now making.place)
+        (HasRoom (seen body.now))) }
     ensures link { IfOk result (λ _. is_link making.linked (seen body.now).calls.opens ≡ true) }
 {
     if is_stopped(basis, body) {

@@ -82,7 +82,8 @@ fn check_outcome(
     context: u32,
     apdu: Apdu,
 ) -> Result<Apdu, CallRefusal>
-    ensures { IsChecked (can_send_on (base_in basis.now) (seen body.now) context apdu) None (Some apdu) result }
+    ensures { IsChecked (can_send_on (base_in basis.now) (seen body.now) context apdu) None
+        (Some apdu) result }
 {
     if lacks_carrier(basis, body, context) {
         return Err(CallRefusal::NoContext);
@@ -105,7 +106,10 @@ fn check_result(
     operation: &Operation,
     value: &Option<Val>,
 ) -> Result<Apdu, CallRefusal>
-    ensures { (o : OpenCall) → o.context ≡ context → IsChecked (can_answer_open (base_in basis.now) (seen body.now) id.now (Some o) (Some operation.now) value.now) None (Some (result_apdu operation.now id.now value.now)) result }
+    ensures { (o : OpenCall) → o.context ≡ context →
+        IsChecked (can_answer_open (base_in basis.now) (seen body.now) id.now (Some o)
+        (Some operation.now) value.now) None (Some (result_apdu operation.now id.now value.now))
+        result }
 {
     if !operation.returns {
         return Err(CallRefusal::NotAllowed);
@@ -124,7 +128,8 @@ pub fn check_answer(
     id: &i64,
     value: &Option<Val>,
 ) -> Result<Apdu, CallRefusal>
-    ensures { IsChecked (can_answer (base_in basis.now) (seen body.now) id.now value.now) None (result_in (base_in basis.now) (seen body.now) id.now value.now) result }
+    ensures { IsChecked (can_answer (base_in basis.now) (seen body.now) id.now value.now) None
+        (result_in (base_in basis.now) (seen body.now) id.now value.now) result }
 {
     if is_stopped(basis, body) {
         return Err(CallRefusal::Waiting);
@@ -147,7 +152,9 @@ fn check_error(
     error: &ErrorRow,
     parameter: &Option<Val>,
 ) -> Result<Apdu, CallRefusal>
-    ensures { (o : OpenCall) → o.context ≡ context → IsChecked (can_refuse_with (base_in basis.now) (seen body.now) id.now o error.now parameter.now) None (Some (error_apdu error.now id.now parameter.now)) result }
+    ensures { (o : OpenCall) → o.context ≡ context →
+        IsChecked (can_refuse_with (base_in basis.now) (seen body.now) id.now o error.now
+        parameter.now) None (Some (error_apdu error.now id.now parameter.now)) result }
 {
     if !error.parameter.carries(&basis.tables.types, parameter) {
         return Err(CallRefusal::NotTyped);
@@ -164,7 +171,8 @@ pub fn check_refuse(
     place: u32,
     parameter: &Option<Val>,
 ) -> Result<Apdu, CallRefusal>
-    ensures { IsChecked (can_refuse (base_in basis.now) (seen body.now) id.now place parameter.now) None (error_for id.now parameter.now (error_at basis.now.tables.now place)) result }
+    ensures { IsChecked (can_refuse (base_in basis.now) (seen body.now) id.now place parameter.now)
+        None (error_for id.now parameter.now (error_at basis.now.tables.now place)) result }
 {
     if is_stopped(basis, body) {
         return Err(CallRefusal::Waiting);

@@ -12,7 +12,8 @@ use dialogue::{Call, CallRefusal};
 /// Why a call is refused whatever its own rows say: the end is dead, the call is the initiator's,
 /// the phase is another, or it isn't one of bare mode.
 pub fn check_phase(basis: &Ground<'_>, body: &Body, call: &Call) -> Option<CallRefusal>
-    ensures { IsRefusal (can_call (base_in basis.now) (seen body.now) call.now) (can_by_rows (base_in basis.now) (seen body.now) call.now) result }
+    ensures { IsRefusal (can_call (base_in basis.now) (seen body.now) call.now)
+        (can_by_rows (base_in basis.now) (seen body.now) call.now) result }
 {
     if is_dead(body.link.phase) {
         return Some(CallRefusal::Dead);

@@ -33,12 +33,12 @@ fn lacks_accept(apdu: Option<&Rtse>) -> bool
 }
 
 /// What may not stand in the user information of an AC.
-fn transfer_fault(
-    basis: &Ground<'_>,
-    accepted: &[SetItem],
-    values: &[Value],
-) -> Option<Fault>
-    ensures { option_map seen_fault result ≡ or_fault (information_fault is_open_accept accepted.now (user_of (the_one (seen_values values.now)))) (fault_if (lacks_accept (rtse_in (user_of (the_one (seen_values values.now))))) rtse_fault) }
+fn transfer_fault(basis: &Ground<'_>, accepted: &[SetItem], values: &[Value]) -> Option<Fault>
+    ensures { option_map seen_fault result
+        ≡ or_fault (information_fault is_open_accept accepted.now
+        (user_of (the_one (seen_values values.now))))
+        (fault_if (lacks_accept (rtse_in (user_of (the_one (seen_values values.now)))))
+        rtse_fault) }
 {
     let user = user_of(values);
     if let Some(fault) = accept_information_fault(basis, accepted, user) {
@@ -57,7 +57,8 @@ pub(crate) fn accept_fault(
     presentation: &PresentationAccept,
     values: &[Value],
 ) -> Result<Option<Fault>, NoMemory>
-    ensures { IfOk result (λ fault. option_map seen_fault fault ≡ accept_fault (base_in basis.now) presentation.now (seen_values values.now)) }
+    ensures { IfOk result (λ fault. option_map seen_fault fault ≡ accept_fault (base_in basis.now)
+        presentation.now (seen_values values.now)) }
 {
     let own = proposals(basis.alloc, &basis.config)?;
     if !fit_proposals(own.as_slice(), presentation.results.as_slice()) {
@@ -100,7 +101,8 @@ pub(crate) fn take_accept(
     presentation: &PresentationAccept,
     values: &[Value],
 ) -> Result<Taken, NoMemory>
-    ensures body { OnOk result (seen body.new ≡ after_accept (base_in basis.now) (seen body.old) (seen_accepting session.now) presentation.now (seen_values values.now)) }
+    ensures body { OnOk result (seen body.new ≡ after_accept (base_in basis.now) (seen body.old)
+        (seen_accepting session.now) presentation.now (seen_values values.now)) }
     ensures taken { IfOk result (TakenAs [] (shown_at_accept (seen body.old))) }
 {
     let accepted = set_accepted(basis.alloc, basis.tables, &basis.config, presentation)?;

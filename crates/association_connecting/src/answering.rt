@@ -17,9 +17,7 @@ use association_sends::{
 };
 use association_state::{Body, Ground};
 use association_words::{Information, Message, UserInformation, Value};
-use osi_base::{
-    AddAnswers, ListOf, NoMemory, PresentationConnect, Rtse, SessionConnect, SetItem,
-};
+use osi_base::{AddAnswers, ListOf, NoMemory, PresentationConnect, Rtse, SessionConnect, SetItem};
 use set_rules::opening_policy;
 
 /// What the list of a CN is answered.
@@ -50,7 +48,8 @@ fn accepting_information(
     accepted: &[SetItem],
     values: &[Value],
 ) -> Result<UserInformation, NoMemory>
-    ensures { IfOk result (λ user. map seen_information user ≡ accepting_information (base_in basis.now) accepted.now (seen_values values.now)) }
+    ensures { IfOk result (λ user. map seen_information user ≡ accepting_information
+        (base_in basis.now) accepted.now (seen_values values.now)) }
 {
     let agreed = agreed_for(basis, values);
     let data = data_for(basis, rtse_in(user_of(values)))?;
@@ -70,7 +69,10 @@ pub(crate) fn acceptance_message(
     values: &[Value],
 ) -> Result<Message, NoMemory>
     requires { is_request (the_one (seen_values values.now)) ≡ true }
-    ensures { (session : SessionConnect) → TermsOf (base_in basis.now) session presentation.now (seen_values values.now) terms.now → IfOk result (λ m. seen_message m ≡ acceptance_message (base_in basis.now) session presentation.now (seen_values values.now)) }
+    ensures { (session : SessionConnect) → TermsOf (base_in basis.now) session presentation.now
+        (seen_values values.now) terms.now →
+        IfOk result (λ m. seen_message m ≡ acceptance_message (base_in basis.now) session
+        presentation.now (seen_values values.now)) }
 {
     let response = Response {
         context: context_named(basis, values)?,
@@ -94,7 +96,8 @@ fn rejecting_information(
     accepted: &[SetItem],
     reason: Option<u8>,
 ) -> Result<UserInformation, NoMemory>
-    ensures { IfOk result (λ user. map seen_information user ≡ rejecting_information (base_in basis.now) session.now accepted.now reason) }
+    ensures { IfOk result (λ user. map seen_information user ≡ rejecting_information
+        (base_in basis.now) session.now accepted.now reason) }
 {
     let mut user: UserInformation = ListOf::new(basis.alloc);
     let Some(reason) = reason else {
@@ -120,7 +123,10 @@ fn refusing_information(
     accepted: &[SetItem],
     values: &[Value],
 ) -> Result<UserInformation, NoMemory>
-    ensures { IfOk result (λ user. map seen_information user ≡ (if lacks_request (base_in basis.now) accepted.now (seen_values values.now) then [] else rejecting_information (base_in basis.now) session.now accepted.now (transfer_rejection (base_in basis.now) (seen body.now) (seen_values values.now)))) }
+    ensures { IfOk result (λ user. map seen_information user
+        ≡ (if lacks_request (base_in basis.now) accepted.now (seen_values values.now) then []
+        else rejecting_information (base_in basis.now) session.now accepted.now
+        (transfer_rejection (base_in basis.now) (seen body.now) (seen_values values.now)))) }
 {
     if lacks_request(basis, accepted, values) {
         return Ok(ListOf::new(basis.alloc));
@@ -139,8 +145,10 @@ pub(crate) fn refusal_message(
     values: &[Value],
 ) -> Result<Message, NoMemory>
     requires accepted { accepted.now ≡ set_for (base_in basis.now) presentation.now }
-    requires request { has_acse accepted.now ≡ true → is_request (the_one (seen_values values.now)) ≡ true }
-    ensures { IfOk result (λ m. seen_message m ≡ refusal_message (base_in basis.now) (seen body.now) session.now presentation.now (seen_values values.now)) }
+    requires request { has_acse accepted.now ≡ true → is_request (the_one (seen_values values.now))
+        ≡ true }
+    ensures { IfOk result (λ m. seen_message m ≡ refusal_message (base_in basis.now) (seen body.now)
+        session.now presentation.now (seen_values values.now)) }
 {
     if presentation.default_context.is_some() || !has_acse(accepted) {
         return Ok(provider_refusal(basis.alloc));

@@ -168,7 +168,8 @@ fn information_fault(
     first: &Information,
     meant: bool,
 ) -> Option<Fault>
-    ensures { option_map seen_fault result ≡ first_fault accepted.now (seen_information first.now) meant }
+    ensures { option_map seen_fault result ≡ first_fault accepted.now (seen_information first.now)
+        meant }
 {
     match first {
         Information::Other { .. } => Some(Fault::at(basis.alloc, Layer::Presentation, 0, 6)),
@@ -190,7 +191,8 @@ pub(crate) fn request_information_fault(
     accepted: &[SetItem],
     user: &[Information],
 ) -> Option<Fault>
-    ensures { option_map seen_fault result ≡ information_fault is_open_request accepted.now (map seen_information user.now) }
+    ensures { option_map seen_fault result ≡ information_fault is_open_request accepted.now
+        (map seen_information user.now) }
 {
     let first = user.first()?;
     let meant = match first {
@@ -206,7 +208,8 @@ pub(crate) fn accept_information_fault(
     accepted: &[SetItem],
     user: &[Information],
 ) -> Option<Fault>
-    ensures { option_map seen_fault result ≡ information_fault is_open_accept accepted.now (map seen_information user.now) }
+    ensures { option_map seen_fault result ≡ information_fault is_open_accept accepted.now
+        (map seen_information user.now) }
 {
     let first = user.first()?;
     let meant = match first {

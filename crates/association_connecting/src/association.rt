@@ -30,7 +30,8 @@ fn connect_fault_in(
     presentation: &PresentationConnect,
     values: &[Value],
 ) -> Result<Option<Fault>, NoMemory>
-    ensures { IfOk result (λ fault. option_map seen_fault fault ≡ connect_fault (base_in basis.now) presentation.now (seen_values values.now)) }
+    ensures { IfOk result (λ fault. option_map seen_fault fault ≡ connect_fault (base_in basis.now)
+        presentation.now (seen_values values.now)) }
 {
     let set = set_for(basis.alloc, basis.tables, &basis.config, presentation)?;
     Ok(connect_fault(basis, set.as_slice(), presentation, values))
@@ -53,7 +54,8 @@ pub fn association_fault(
     body: &Body,
     word: &AssociationWord,
 ) -> Result<Option<Fault>, NoMemory>
-    ensures { IfOk result (λ fault. option_map seen_fault fault ≡ association_fault (base_in basis.now) (seen body.now) (seen_association word.now)) }
+    ensures { IfOk result (λ fault. option_map seen_fault fault ≡ association_fault
+        (base_in basis.now) (seen body.now) (seen_association word.now)) }
 {
     let _body = body;
     match word {
@@ -70,10 +72,7 @@ pub fn association_fault(
         AssociationWord::Finish {
             transport: _,
             values,
-        } => Ok(acse_fault_unless(
-            basis,
-            is_release_request(values.as_slice()),
-        )),
+        } => Ok(acse_fault_unless(basis, is_release_request(values.as_slice()))),
         AssociationWord::Disconnect { values } => Ok(acse_fault_unless(
             basis,
             is_release_response(values.as_slice()),
@@ -90,7 +89,8 @@ pub fn contexts_for(
     body: &Body,
     word: &AssociationWord,
 ) -> Result<SetList, NoMemory>
-    ensures { IfOk result (λ set. set ≡ contexts_for (base_in basis.now) (seen body.now) (seen_association word.now)) }
+    ensures { IfOk result (λ set. set ≡ contexts_for (base_in basis.now) (seen body.now)
+        (seen_association word.now)) }
 {
     match word {
         AssociationWord::Connect { presentation, .. } => {
@@ -113,11 +113,7 @@ fn own_contexts(basis: &Ground<'_>, body: &Body) -> Result<SetList, NoMemory>
 }
 
 /// What is shown as the association ends: the cuts, and then this.
-fn shown_end(
-    basis: &Ground<'_>,
-    body: &Body,
-    last: Indication,
-) -> Result<Indications, NoMemory>
+fn shown_end(basis: &Ground<'_>, body: &Body, last: Indication) -> Result<Indications, NoMemory>
     ensures { IfOk result (λ shown. shown ≡ cuts (seen body.now) ++ last ∷ []) }
 {
     let mut shown: Indications = ListOf::new(basis.alloc);
@@ -127,11 +123,7 @@ fn shown_end(
 }
 
 /// The association ends without an answer, and this is shown.
-fn end_quietly(
-    basis: &Ground<'_>,
-    body: &mut Body,
-    last: Indication,
-) -> Result<Taken, NoMemory>
+fn end_quietly(basis: &Ground<'_>, body: &mut Body, last: Indication) -> Result<Taken, NoMemory>
     ensures body { OnOk result (seen body.new ≡ over (seen body.old)) }
     ensures taken { IfOk result (TakenAs [] (cuts (seen body.old) ++ last ∷ [])) }
 {
@@ -144,7 +136,8 @@ fn end_quietly(
 /// Takes FN.
 fn take_finish(basis: &Ground<'_>, body: &mut Body) -> Result<Taken, NoMemory>
     ensures body { OnOk result (seen body.new ≡ over (seen body.old)) }
-    ensures taken { IfOk result (TakenAs (disconnect_message (seen body.old) ∷ []) (cuts (seen body.old) ++ indications.Released ∷ [])) }
+    ensures taken { IfOk result (TakenAs (disconnect_message (seen body.old) ∷ [])
+        (cuts (seen body.old) ++ indications.Released ∷ [])) }
 {
     let message = disconnect_message(basis.alloc, body)?;
     let mut taken = answered(basis.alloc, message)?;
@@ -181,9 +174,13 @@ pub fn take_association(
     body: &mut Body,
     word: AssociationWord,
 ) -> Result<Taken, NoMemory>
-    requires { association_fault (base_in basis.now) (seen body.old) (seen_association word) ≡ None }
-    ensures body { OnOk result (seen body.new ≡ after_association (base_in basis.now) (seen body.old) (seen_association word)) }
-    ensures taken { IfOk result (TakenAs (answers_to_association (base_in basis.now) (seen body.old) (seen_association word)) (shown_of_association (base_in basis.now) (seen body.old) (seen_association word))) }
+    requires { association_fault (base_in basis.now) (seen body.old) (seen_association word)
+        ≡ None }
+    ensures body { OnOk result (seen body.new ≡ after_association (base_in basis.now)
+        (seen body.old) (seen_association word)) }
+    ensures taken { IfOk result (TakenAs (answers_to_association (base_in basis.now) (seen body.old)
+        (seen_association word)) (shown_of_association (base_in basis.now) (seen body.old)
+        (seen_association word))) }
 {
     match word {
         AssociationWord::Connect {

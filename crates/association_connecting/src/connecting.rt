@@ -38,7 +38,8 @@ pub(crate) fn connect_fault(
     values: &[Value],
 ) -> Option<Fault>
     requires { accepted.now ≡ set_for (base_in basis.now) presentation.now }
-    ensures fault { option_map seen_fault result ≡ connect_fault (base_in basis.now) presentation.now (seen_values values.now) }
+    ensures fault { option_map seen_fault result ≡ connect_fault (base_in basis.now)
+        presentation.now (seen_values values.now) }
 {
     if is_faulty_proposal(true, &[], presentation.definitions.as_slice()) {
         return Some(Fault::at(basis.alloc, Layer::Presentation, 0, 6));
@@ -84,21 +85,19 @@ pub(crate) fn session_refuses(basis: &Ground<'_>, session: &SessionConnect) -> b
 {
     let mode = basis.config.mode;
     !has_version_two(session.version)
-        || !has_units(needed_units(mode), selected_with(mode, session.requirements))
+        || !has_units(
+            needed_units(mode),
+            selected_with(mode, session.requirements),
+        )
         || has_other_initial(session.initial)
         || gives_token(session.token_setting)
 }
 
 /// Whether reliable transfer isn't accepted, or there is no RTORQ.
-pub(crate) fn lacks_request(
-    basis: &Ground<'_>,
-    accepted: &[SetItem],
-    values: &[Value],
-) -> bool
+pub(crate) fn lacks_request(basis: &Ground<'_>, accepted: &[SetItem], values: &[Value]) -> bool
     ensures { result ≡ lacks_request (base_in basis.now) accepted.now (seen_values values.now) }
 {
-    is_reliable(basis.config.mode)
-        && (!has_rtse(accepted) || rtse_in(user_of(values)).is_none())
+    is_reliable(basis.config.mode) && (!has_rtse(accepted) || rtse_in(user_of(values)).is_none())
 }
 
 /// Whether the presentation or association control refuses: a default context stands; association
@@ -110,7 +109,8 @@ pub(crate) fn presentation_refuses(
     values: &[Value],
 ) -> bool
     requires { accepted.now ≡ set_for (base_in basis.now) presentation.now }
-    ensures { result ≡ presentation_refuses (base_in basis.now) presentation.now (seen_values values.now) }
+    ensures { result ≡ presentation_refuses (base_in basis.now) presentation.now
+        (seen_values values.now) }
 {
     presentation.default_context.is_some()
         || !has_acse(accepted)
@@ -118,12 +118,9 @@ pub(crate) fn presentation_refuses(
 }
 
 /// The reason for which reliable transfer rejects, if it does.
-pub(crate) fn transfer_rejection(
-    basis: &Ground<'_>,
-    body: &Body,
-    values: &[Value],
-) -> Option<u8>
-    ensures { result ≡ transfer_rejection (base_in basis.now) (seen body.now) (seen_values values.now) }
+pub(crate) fn transfer_rejection(basis: &Ground<'_>, body: &Body, values: &[Value]) -> Option<u8>
+    ensures { result ≡ transfer_rejection (base_in basis.now) (seen body.now)
+        (seen_values values.now) }
 {
     if is_reliable(basis.config.mode) {
         rejection_of(body, rtse_in(user_of(values)))
@@ -142,7 +139,8 @@ pub(crate) fn is_refused(
     values: &[Value],
 ) -> bool
     requires { accepted.now ≡ set_for (base_in basis.now) presentation.now }
-    ensures { result ≡ is_refused (base_in basis.now) (seen body.now) session.now presentation.now (seen_values values.now) }
+    ensures { result ≡ is_refused (base_in basis.now) (seen body.now) session.now presentation.now
+        (seen_values values.now) }
 {
     session_refuses(basis, session)
         || presentation_refuses(basis, accepted, presentation, values)

@@ -28,11 +28,7 @@ fn recovers_in(basis: &Ground<'_>, values: &[Value]) -> bool
 }
 
 /// What is shown of an opening: one that reaches a broken end gives the old association up.
-fn shown_opening(
-    basis: &Ground<'_>,
-    body: &Body,
-    recovers: bool,
-) -> Result<Indications, NoMemory>
+fn shown_opening(basis: &Ground<'_>, body: &Body, recovers: bool) -> Result<Indications, NoMemory>
     ensures { IfOk result (λ shown. shown ≡ shown_opening (seen body.now) recovers) }
 {
     let mut shown: Indications = ListOf::new(basis.alloc);
@@ -86,11 +82,7 @@ fn accept(basis: &Ground<'_>, body: &mut Body, asked: Asked<'_>) -> Result<Taken
 }
 
 /// Refuses a CN.
-fn refuse_asked(
-    basis: &Ground<'_>,
-    body: &mut Body,
-    asked: Asked<'_>,
-) -> Result<Taken, NoMemory> {
+fn refuse_asked(basis: &Ground<'_>, body: &mut Body, asked: Asked<'_>) -> Result<Taken, NoMemory> {
     let message = refusal_message(
         basis,
         body,
@@ -112,8 +104,12 @@ pub(crate) fn take_connect(
     values: &[Value],
 ) -> Result<Taken, NoMemory>
     requires { connect_fault (base_in basis.now) presentation.now (seen_values values.now) ≡ None }
-    ensures body { OnOk result (seen body.new ≡ after_connect (base_in basis.now) (seen body.old) session.now presentation.now (seen_values values.now)) }
-    ensures taken { IfOk result (TakenAs (answer_to_connect (base_in basis.now) (seen body.old) session.now presentation.now (seen_values values.now)) (shown_at_connect (base_in basis.now) (seen body.old) session.now presentation.now (seen_values values.now))) }
+    ensures body { OnOk result (seen body.new ≡ after_connect (base_in basis.now) (seen body.old)
+        session.now presentation.now (seen_values values.now)) }
+    ensures taken { IfOk result (TakenAs (answer_to_connect (base_in basis.now) (seen body.old)
+        session.now presentation.now (seen_values values.now))
+        (shown_at_connect (base_in basis.now) (seen body.old) session.now presentation.now
+        (seen_values values.now))) }
 {
     let set = set_for(basis.alloc, basis.tables, &basis.config, presentation)?;
     let accepted = set.as_slice();

@@ -8,7 +8,6 @@ ghost use Rattle.end_rules.specs.State.{opened_with};
 
 use crate::invocations::{Coming, hear_invoke};
 use crate::outcomes::{hear_error, hear_reject, hear_result};
-
 use association_state::Ground;
 use open_invocations::Invocations;
 use osi_base::NoMemory;
@@ -22,7 +21,8 @@ fn hear_returned(
     id: i64,
     returned: Option<Returned>,
 ) -> RoseTaken
-    ensures { heard_with calls.new result ≡ hear_result_of (base_in basis.now) calls.old id (opened_with true id calls.old.opens) (code_returned returned) (value_returned returned) }
+    ensures { heard_with calls.new result ≡ hear_result_of (base_in basis.now) calls.old id
+        (opened_with true id calls.old.opens) (code_returned returned) (value_returned returned) }
 {
     match returned {
         None => hear_result(basis, calls, id, &None, None),
@@ -40,7 +40,8 @@ pub fn hear_apdu(
     context: u32,
     apdu: Apdu,
 ) -> Result<RoseTaken, NoMemory>
-    ensures { IfOk result (λ taken. heard_with calls.new taken ≡ hear (base_in basis.now) calls.old context (head_of_apdu apdu)) }
+    ensures { IfOk result (λ taken. heard_with calls.new taken ≡ hear (base_in basis.now) calls.old
+        context (head_of_apdu apdu)) }
 {
     match apdu {
         Apdu::Invoke {

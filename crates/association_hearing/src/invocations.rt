@@ -44,7 +44,8 @@ pub(crate) fn hear_invoke(
     code: &Code,
     argument: Option<Val>,
 ) -> Result<RoseTaken, NoMemory>
-    ensures { IfOk result (λ taken. heard_with calls.new taken ≡ hear_invoke (base_in basis.now) calls.old coming.context coming.id coming.linked code.now (carried_in argument)) }
+    ensures { IfOk result (λ taken. heard_with calls.new taken ≡ hear_invoke (base_in basis.now)
+        calls.old coming.context coming.id coming.linked code.now (carried_in argument)) }
 {
     let Coming {
         id,

@@ -24,7 +24,8 @@ pub(crate) fn hear_result(
     code: &Option<Code>,
     value: Option<Val>,
 ) -> RoseTaken
-    ensures { heard_with calls.new result ≡ hear_result_of (base_in basis.now) calls.old id (opened_with true id calls.old.opens) code.now (carried_in value) }
+    ensures { heard_with calls.new result ≡ hear_result_of (base_in basis.now) calls.old id
+        (opened_with true id calls.old.opens) code.now (carried_in value) }
 {
     let Some(called) = calls.called(true, &id) else {
         return rejected(Some(id), ProblemKind::Result, 0);
@@ -45,7 +46,9 @@ pub(crate) fn hear_error(
     code: &Code,
     parameter: Option<Val>,
 ) -> RoseTaken
-    ensures { heard_with calls.new result ≡ hear_error_of (base_in basis.now) calls.old id (opened_with true id calls.old.opens) (error_with basis.now.tables.now code.now) (carried_in parameter) }
+    ensures { heard_with calls.new result ≡ hear_error_of (base_in basis.now) calls.old id
+        (opened_with true id calls.old.opens) (error_with basis.now.tables.now code.now)
+        (carried_in parameter) }
 {
     let Some(called) = calls.called(true, &id) else {
         return rejected(Some(id), ProblemKind::Error, 0);
@@ -75,11 +78,7 @@ fn is_of_invocation(kind: ProblemKind) -> bool
 }
 
 /// Hears a reject: one of an invoke problem closes the own invocation that it names.
-pub(crate) fn hear_reject(
-    calls: &mut Invocations,
-    id: Option<i64>,
-    problem: Problem,
-) -> RoseTaken
+pub(crate) fn hear_reject(calls: &mut Invocations, id: Option<i64>, problem: Problem) -> RoseTaken
     ensures { heard_with calls.new result ≡ hear_reject calls.old id problem }
 {
     let Some(named) = id else {

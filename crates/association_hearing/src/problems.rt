@@ -76,7 +76,8 @@ fn link_problem(
 
 /// Whether an argument is one of the operation at this place.
 fn argument_problem(basis: &Ground<'_>, place: u32, argument: &Option<Val>) -> Option<u8>
-    ensures { result ≡ argument_problem (base_in basis.now) (operation_at basis.now.tables.now place) (carried_in argument.now) }
+    ensures { result ≡ argument_problem (base_in basis.now)
+        (operation_at basis.now.tables.now place) (carried_in argument.now) }
 {
     match basis.tables.operation(place) {
         None => Some(2),
@@ -98,7 +99,8 @@ fn operation_problem(
     linked: &Option<i64>,
     argument: &Option<Val>,
 ) -> Option<u8>
-    ensures problem { result ≡ operation_problem (base_in basis.now) calls.now place linked.now (carried_in argument.now) }
+    ensures problem { result ≡ operation_problem (base_in basis.now) calls.now place linked.now
+        (carried_in argument.now) }
     ensures link { (result ≡ None) → is_link_back linked.now calls.now.opens ≡ true }
 {
     let Some(place) = place else { return Some(1) };
@@ -117,7 +119,8 @@ pub(crate) fn invoke_problem(
     place: Option<u32>,
     argument: &Option<Val>,
 ) -> Option<u8>
-    ensures problem { result ≡ invoke_problem (base_in basis.now) calls.now id.now linked.now place (carried_in argument.now) }
+    ensures problem { result ≡ invoke_problem (base_in basis.now) calls.now id.now linked.now place
+        (carried_in argument.now) }
     ensures shut { (result ≡ None) → opened_with false id.now calls.now.opens ≡ None }
     ensures link { (result ≡ None) → is_link_back linked.now calls.now.opens ≡ true }
 {
@@ -148,7 +151,8 @@ fn is_right_result(
     code: &Option<Code>,
     value: &Option<Val>,
 ) -> bool
-    ensures { result ≡ is_right_result (base_in basis.now) place operation.now code.now (carried_in value.now) }
+    ensures { result ≡ is_right_result (base_in basis.now) place operation.now code.now
+        (carried_in value.now) }
 {
     match code {
         None => operation.result.carries(&basis.tables.types, &None),
@@ -166,7 +170,8 @@ pub(crate) fn result_problem(
     code: &Option<Code>,
     value: &Option<Val>,
 ) -> Option<u8>
-    ensures { result ≡ result_problem (base_in basis.now) place (operation_at basis.now.tables.now place) code.now (carried_in value.now) }
+    ensures { result ≡ result_problem (base_in basis.now) place
+        (operation_at basis.now.tables.now place) code.now (carried_in value.now) }
 {
     let Some(operation) = basis.tables.operation(place) else {
         return Some(1);
@@ -187,7 +192,8 @@ fn known_error_problem(
     place: u32,
     parameter: &Option<Val>,
 ) -> Option<u8>
-    ensures { result ≡ known_error_problem (base_in basis.now) operation.now (Some place) (carried_in parameter.now) }
+    ensures { result ≡ known_error_problem (base_in basis.now) operation.now (Some place)
+        (carried_in parameter.now) }
 {
     if !operation.has_error(place) {
         return Some(3);
@@ -211,7 +217,8 @@ pub(crate) fn error_problem(
     error: Option<u32>,
     parameter: &Option<Val>,
 ) -> Option<u8>
-    ensures { result ≡ error_problem (base_in basis.now) (operation_at basis.now.tables.now place) error (carried_in parameter.now) }
+    ensures { result ≡ error_problem (base_in basis.now) (operation_at basis.now.tables.now place)
+        error (carried_in parameter.now) }
 {
     let Some(operation) = basis.tables.operation(place) else {
         return Some(1);

@@ -22,7 +22,8 @@ pub fn hear_unread(
     syntax: Syntax,
     octets: &Octets,
 ) -> Result<RoseTaken, NoMemory>
-    ensures { IfOk result (λ taken. heard_with calls.new taken ≡ hear (base_in basis.now) calls.old context (head_at basis.now.tables.now syntax octets.now)) }
+    ensures { IfOk result (λ taken. heard_with calls.new taken ≡ hear (base_in basis.now) calls.old
+        context (head_at basis.now.tables.now syntax octets.now)) }
 {
     match basis.heads.read(basis.alloc, syntax, octets.as_slice()) {
         Ok(head) => calls.take(basis.tables, syntax, context, head),

@@ -39,7 +39,8 @@ fn hear_value(
     calls: &mut Invocations,
     value: Value,
 ) -> Result<RoseTaken, NoMemory>
-    ensures { IfOk result (λ taken. heard_with calls.new taken ≡ hear (base_in basis.now) calls.old value.id (head_of (base_in basis.now) (seen_value value))) }
+    ensures { IfOk result (λ taken. heard_with calls.new taken ≡ hear (base_in basis.now) calls.old
+        value.id (head_of (base_in basis.now) (seen_value value))) }
 {
     let Value { id, pair, content } = value;
     let syntax = syntax_of(&pair);
@@ -53,12 +54,7 @@ fn hear_value(
 }
 
 /// An APDU as data on a context.
-pub fn data_on(
-    basis: &Ground<'_>,
-    body: &Body,
-    id: u32,
-    apdu: Apdu,
-) -> Result<Message, NoMemory>
+pub fn data_on(basis: &Ground<'_>, body: &Body, id: u32, apdu: Apdu) -> Result<Message, NoMemory>
     ensures { IfOk result (λ m. seen_message m ≡ data_on (seen body.now) id apdu) }
 {
     let mut values: Values = ListOf::new(basis.alloc);
@@ -87,7 +83,8 @@ fn send_reject(
     id: Option<i64>,
     problem: Problem,
 ) -> Result<Taken, NoMemory>
-    ensures { IfOk result (TookAs (with_reject (base_in basis.now) (seen body.old) context (Some (record { id = id; problem = problem }))) (seen body.new)) }
+    ensures { IfOk result (TookAs (with_reject (base_in basis.now) (seen body.old) context
+        (Some (record { id = id; problem = problem }))) (seen body.new)) }
 {
     let apdu = Apdu::Reject { id, problem };
     if is_reliable(basis.config.mode) {
@@ -109,7 +106,8 @@ fn take_heard(
     context: u32,
     taken: RoseTaken,
 ) -> Result<Taken, NoMemory>
-    ensures { IfOk result (TookAs (on_heard (base_in basis.now) (seen body.old) context (heard_with (seen body.old).calls taken)) (seen body.new)) }
+    ensures { IfOk result (TookAs (on_heard (base_in basis.now) (seen body.old) context
+        (heard_with (seen body.old).calls taken)) (seen body.new)) }
 {
     match taken {
         RoseTaken::Invoked {
@@ -151,12 +149,9 @@ fn take_heard(
 }
 
 /// Takes a value of remote operations.
-pub fn take_value(
-    basis: &Ground<'_>,
-    body: &mut Body,
-    value: Value,
-) -> Result<Taken, NoMemory>
-    ensures { IfOk result (TookAs (take_head (base_in basis.now) (seen body.old) value.id (head_of (base_in basis.now) (seen_value value))) (seen body.new)) }
+pub fn take_value(basis: &Ground<'_>, body: &mut Body, value: Value) -> Result<Taken, NoMemory>
+    ensures { IfOk result (TookAs (take_head (base_in basis.now) (seen body.old) value.id
+        (head_of (base_in basis.now) (seen_value value))) (seen body.new)) }
 {
     let context = value.id;
     let taken = hear_value(basis, &mut body.calls, value)?;
@@ -179,12 +174,9 @@ fn join(all: &mut Taken, taken: Taken) -> Result<(), NoMemory>
 
 /// Takes values of remote operations, one after the other.
 #[tactic(auto, using(crate::proofs::Taking::taken_push))]
-pub fn take_values(
-    basis: &Ground<'_>,
-    body: &mut Body,
-    values: Values,
-) -> Result<Taken, NoMemory>
-    ensures { IfOk result (TookAs (take_values (base_in basis.now) (seen body.old) (seen_values values)) (seen body.new)) }
+pub fn take_values(basis: &Ground<'_>, body: &mut Body, values: Values) -> Result<Taken, NoMemory>
+    ensures { IfOk result (TookAs (take_values (base_in basis.now) (seen body.old)
+        (seen_values values)) (seen body.new)) }
 {
     let mut all = quiet(basis.alloc);
     for value in values.into_vec() {

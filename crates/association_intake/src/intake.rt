@@ -48,7 +48,9 @@ impl Model for Intake {
 impl Parts {
     /// Takes octets that came.
     fn feed(self, alloc: Global, bytes: &[u8]) -> Result<Parts, NoMemory>
-        ensures { IfOk result (λ parts. (view_of (Some parts) ≡ option_map (reading.with_octets bytes.now) (view_of (Some self))) × KnowsFault (Some parts)) }
+        ensures { IfOk result (λ parts. (view_of (Some parts)
+            ≡ option_map (reading.with_octets bytes.now) (view_of (Some self))) × KnowsFault
+            (Some parts)) }
     {
         let Parts {
             mut reader,

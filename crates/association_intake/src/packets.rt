@@ -28,7 +28,8 @@ fn push_unit(
     unit: SessionWord,
     place: Option<usize>,
 ) -> Result<(), NoMemory>
-    ensures { OnOk result (seen_fronts fronts.new.items ≡ seen_fronts fronts.old.items ++ reading.OfSession unit (reading.start_of place) ∷ []) }
+    ensures { OnOk result (seen_fronts fronts.new.items ≡ seen_fronts fronts.old.items
+        ++ reading.OfSession unit (reading.start_of place) ∷ []) }
 {
     push(
         fronts,
@@ -46,7 +47,8 @@ fn push_leading(
     unit: SessionWord,
     place: Option<usize>,
 ) -> Result<(), NoMemory>
-    ensures { OnOk result (seen_fronts fronts.new.items ≡ seen_fronts fronts.old.items ++ reading.leading unit (reading.start_of place)) }
+    ensures { OnOk result (seen_fronts fronts.new.items ≡ seen_fronts fronts.old.items
+        ++ reading.leading unit (reading.start_of place)) }
 {
     if let SessionWord::GiveTokens { tokens: None } = &unit {
         return Ok(());
@@ -56,7 +58,8 @@ fn push_leading(
 
 /// Puts the units of a TSDU behind the others.
 fn push_units(fronts: &mut VecDeque<Front>, at: UserPlaces, units: Spdus) -> Result<(), NoMemory>
-    ensures { OnOk result (seen_fronts fronts.new.items ≡ seen_fronts fronts.old.items ++ reading.fronts_of_units at (Ok units)) }
+    ensures { OnOk result (seen_fronts fronts.new.items ≡ seen_fronts fronts.old.items
+        ++ reading.fronts_of_units at (Ok units)) }
 {
     let mut units = units.into_vec().into_iter();
     let Some(first) = units.next() else {
@@ -73,7 +76,8 @@ fn push_units(fronts: &mut VecDeque<Front>, at: UserPlaces, units: Spdus) -> Res
 
 /// Puts what a TSDU brings behind the others.
 fn push_tsdu(alloc: Global, fronts: &mut VecDeque<Front>, octets: &Octets) -> Result<(), NoMemory>
-    ensures { OnOk result (seen_fronts fronts.new.items ≡ seen_fronts fronts.old.items ++ reading.fronts_of_units (user_places octets.now) (units_at octets.now)) }
+    ensures { OnOk result (seen_fronts fronts.new.items ≡ seen_fronts fronts.old.items
+        ++ reading.fronts_of_units (user_places octets.now) (units_at octets.now)) }
 {
     match read_spdus(alloc, octets.as_slice()) {
         Ok(units) => push_units(fronts, user_places(octets.as_slice()), units),
@@ -90,7 +94,8 @@ fn push_tsdu(alloc: Global, fronts: &mut VecDeque<Front>, octets: &Octets) -> Re
 
 /// CR.
 fn request(alloc: Global, ends: &Ends) -> Result<TransportUnit, NoMemory>
-    ensures { IfOk result (λ unit. seen_transport unit ≡ meant.ConnectionRequest ends.now.source ends.now.size ends.now.calling ends.now.called) }
+    ensures { IfOk result (λ unit. seen_transport unit ≡ meant.ConnectionRequest ends.now.source
+        ends.now.size ends.now.calling ends.now.called) }
 {
     Ok(TransportUnit::ConnectionRequest {
         source: ends.source,
@@ -102,7 +107,8 @@ fn request(alloc: Global, ends: &Ends) -> Result<TransportUnit, NoMemory>
 
 /// Puts a transport unit behind the others.
 fn push_transport(fronts: &mut VecDeque<Front>, unit: TransportUnit) -> Result<(), NoMemory>
-    ensures { OnOk result (seen_fronts fronts.new.items ≡ seen_fronts fronts.old.items ++ reading.OfTransport (seen_transport unit) ∷ []) }
+    ensures { OnOk result (seen_fronts fronts.new.items ≡ seen_fronts fronts.old.items
+        ++ reading.OfTransport (seen_transport unit) ∷ []) }
 {
     push(fronts, Front::OfTransport(unit))
 }
@@ -110,7 +116,8 @@ fn push_transport(fronts: &mut VecDeque<Front>, unit: TransportUnit) -> Result<(
 /// Puts what a packet, or the packets of a TSDU, bring behind the others. A DR goes to an initiator,
 /// whose reference is 1.
 fn push_packet(alloc: Global, fronts: &mut VecDeque<Front>, packet: &Packet) -> Result<(), NoMemory>
-    ensures { OnOk result (seen_fronts fronts.new.items ≡ seen_fronts fronts.old.items ++ reading.fronts_of packet.now) }
+    ensures { OnOk result (seen_fronts fronts.new.items ≡ seen_fronts fronts.old.items
+        ++ reading.fronts_of packet.now) }
 {
     match packet {
         Packet::Connect(ends) => push_transport(fronts, request(alloc, ends)?),
@@ -135,7 +142,8 @@ pub(crate) fn push_packets(
     fronts: &mut VecDeque<Front>,
     packets: &[Packet],
 ) -> Result<(), NoMemory>
-    ensures { OnOk result (seen_fronts fronts.new.items ≡ seen_fronts fronts.old.items ++ reading.all_fronts packets.now) }
+    ensures { OnOk result (seen_fronts fronts.new.items ≡ seen_fronts fronts.old.items
+        ++ reading.all_fronts packets.now) }
 {
     for packet in packets {
         push_packet(alloc, fronts, packet)?;

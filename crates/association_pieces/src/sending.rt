@@ -17,7 +17,8 @@ pub struct Queued {
 
 /// Takes the oldest of the items that wait out; there are few.
 pub fn take_next(queue: &mut Vec<Queued>) -> Option<Queued>
-    ensures { MatchOption result ((queue.old.items ≡ []) × (queue.new.items ≡ [])) (λ next. queue.old.items ≡ next ∷ queue.new.items) }
+    ensures { MatchOption result ((queue.old.items ≡ []) × (queue.new.items ≡ []))
+        (λ next. queue.old.items ≡ next ∷ queue.new.items) }
 {
     if queue.len() == 0 {
         None

@@ -16,7 +16,8 @@ pub struct Sets {
 
 /// Takes the oldest of some alterations out; there are few.
 pub fn take_oldest(own: &mut Vec<Alteration>) -> Option<Alteration>
-    ensures { MatchOption result ((own.old.items ≡ []) × (own.new.items ≡ [])) (λ oldest. own.old.items ≡ oldest ∷ own.new.items) }
+    ensures { MatchOption result ((own.old.items ≡ []) × (own.new.items ≡ []))
+        (λ oldest. own.old.items ≡ oldest ∷ own.new.items) }
 {
     if own.len() == 0 {
         None

@@ -68,7 +68,8 @@ pub(crate) fn may_end(body: &Body, number: u32) -> bool
 
 /// Whether the end of the current transfer, which was sent, has this number.
 fn is_end_of(body: &Body, number: u32) -> bool
-    ensures { result ≡ (is_current is_ending (seen body.now).sending.current && nat_eq number (suc (highest (pieces_of (seen body.now).sending.current)))) }
+    ensures { result ≡ (is_current is_ending (seen body.now).sending.current
+        && nat_eq number (suc (highest (pieces_of (seen body.now).sending.current)))) }
 {
     match &body.sending.current {
         None => false,
@@ -105,7 +106,8 @@ pub(crate) fn awaits_discard(awaits: Awaited) -> bool
 
 /// Whether a unit of activities may stand where it comes.
 pub(crate) fn is_activity_in_place(basis: &Ground<'_>, body: &Body, word: &ActivityWord) -> bool
-    ensures { result ≡ is_in_place (base_in basis.now) (seen body.now) (unit_of_activities (seen_activities word.now)) }
+    ensures { result ≡ is_in_place (base_in basis.now) (seen body.now)
+        (unit_of_activities (seen_activities word.now)) }
 {
     match word {
         ActivityWord::Start { activity } => may_start(body, *activity),

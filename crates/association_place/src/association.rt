@@ -35,7 +35,8 @@ pub(crate) fn may_connect(basis: &Ground<'_>, body: &Body) -> bool
 
 /// Whether AC may come: it names version 2 and the units that the mode can't do without.
 pub(crate) fn may_accept(basis: &Ground<'_>, body: &Body, session: &Accepting) -> bool
-    ensures { result ≡ may_accept (base_in basis.now) (seen body.now) session.now.version session.now.requirements }
+    ensures { result ≡ may_accept (base_in basis.now) (seen body.now) session.now.version
+        session.now.requirements }
 {
     let mode = basis.config.mode;
     asked_to_open(basis, body)
@@ -79,7 +80,8 @@ pub(crate) fn is_association_in_place(
     body: &Body,
     word: &AssociationWord,
 ) -> bool
-    ensures { result ≡ is_in_place (base_in basis.now) (seen body.now) (unit_of_association (seen_association word.now)) }
+    ensures { result ≡ is_in_place (base_in basis.now) (seen body.now)
+        (unit_of_association (seen_association word.now)) }
 {
     match word {
         AssociationWord::Connect { .. } => may_connect(basis, body),

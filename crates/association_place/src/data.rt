@@ -28,7 +28,8 @@ pub(crate) fn may_send_typed(body: &Body) -> bool
 
 /// Whether a unit of data may stand where it comes.
 pub(crate) fn is_data_in_place(basis: &Ground<'_>, body: &Body, word: &DataWord) -> bool
-    ensures { result ≡ is_in_place (base_in basis.now) (seen body.now) (unit_of_data (seen_data word.now)) }
+    ensures { result ≡ is_in_place (base_in basis.now) (seen body.now)
+        (unit_of_data (seen_data word.now)) }
 {
     match word {
         DataWord::Values(_) => may_send_data(basis, body),

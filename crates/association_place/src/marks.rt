@@ -120,7 +120,8 @@ pub(crate) fn may_give_all(basis: &Ground<'_>, body: &Body) -> bool
 
 /// Whether a unit of marks and tokens may stand where it comes.
 pub(crate) fn is_mark_in_place(basis: &Ground<'_>, body: &Body, word: &MarkWord) -> bool
-    ensures { result ≡ is_in_place (base_in basis.now) (seen body.now) (unit_of_marks (seen_marks word.now)) }
+    ensures { result ≡ is_in_place (base_in basis.now) (seen body.now)
+        (unit_of_marks (seen_marks word.now)) }
 {
     match word {
         MarkWord::Mark { number } => may_mark(basis, body, *number),

@@ -16,7 +16,8 @@ use association_words::Word;
 /// Whether a unit of the session may stand where it comes: the phase, the functional units, the
 /// tokens, the activities and the numbers.
 pub fn is_in_place(basis: &Ground<'_>, body: &Body, word: &Word) -> bool
-    ensures { result ≡ is_in_place (base_in basis.now) (seen body.now) (unit_of (seen_word word.now)) }
+    ensures { result ≡ is_in_place (base_in basis.now) (seen body.now)
+        (unit_of (seen_word word.now)) }
 {
     match word {
         Word::OfAssociation(word) => is_association_in_place(basis, body, word),

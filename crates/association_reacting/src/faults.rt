@@ -14,13 +14,10 @@ use association_words::{Fault, Word};
 use osi_base::{Layer, NoMemory};
 
 /// What is wrong above the session, of any unit but the end of an activity.
-fn fault_above(
-    basis: &Ground<'_>,
-    body: &Body,
-    word: &Word,
-) -> Result<Option<Fault>, NoMemory>
+fn fault_above(basis: &Ground<'_>, body: &Body, word: &Word) -> Result<Option<Fault>, NoMemory>
     requires { is_end_word (seen_word word.now) ≡ false }
-    ensures { IfOk result (λ fault. option_map seen_fault fault ≡ fault_above (base_in basis.now) (seen body.now) (seen_word word.now)) }
+    ensures { IfOk result (λ fault. option_map seen_fault fault ≡ fault_above (base_in basis.now)
+        (seen body.now) (seen_word word.now)) }
 {
     match word {
         Word::OfAssociation(word) => association_fault(basis, body, word),
@@ -37,7 +34,8 @@ pub(crate) fn word_fault(
     word: &Word,
 ) -> Result<Option<Fault>, NoMemory>
     requires { is_end_word (seen_word word.now) ≡ false }
-    ensures { IfOk result (λ fault. option_map seen_fault fault ≡ word_fault (base_in basis.now) (seen body.now) (seen_word word.now)) }
+    ensures { IfOk result (λ fault. option_map seen_fault fault ≡ word_fault (base_in basis.now)
+        (seen body.now) (seen_word word.now)) }
 {
     if !is_in_place(basis, body, word) {
         return Ok(Some(Fault::at(basis.alloc, Layer::Session, 0, 0)));

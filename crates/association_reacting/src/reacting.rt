@@ -21,20 +21,18 @@ use osi_base::{Layer, NoMemory};
 
 /// Ends the association for a fault, whose abort goes on the accepted contexts.
 fn fails_here(basis: &Ground<'_>, body: &mut Body, fault: Fault) -> Result<Reaction, NoMemory>
-    ensures { IfOk result (ReactsAs (rule_fails (seen body.old) (seen body.old).link.accepted (seen_fault fault)) (seen body.old) (seen body.new)) }
+    ensures { IfOk result (ReactsAs (rule_fails (seen body.old) (seen body.old).link.accepted
+        (seen_fault fault)) (seen body.old) (seen body.new)) }
 {
     let accepted = copy_set(basis.alloc, body.link.accepted.as_slice())?;
     fails(basis, body, accepted.as_slice(), fault)
 }
 
 /// What an end does with a unit of the session.
-fn react_to_word(
-    basis: &Ground<'_>,
-    body: &mut Body,
-    word: Word,
-) -> Result<Reaction, NoMemory>
+fn react_to_word(basis: &Ground<'_>, body: &mut Body, word: Word) -> Result<Reaction, NoMemory>
     requires { is_end_word (seen_word word) ≡ false }
-    ensures { IfOk result (ReactsAs (react_to_word (base_in basis.now) (seen body.old) (seen_word word)) (seen body.old) (seen body.new)) }
+    ensures { IfOk result (ReactsAs (react_to_word (base_in basis.now) (seen body.old)
+        (seen_word word)) (seen body.old) (seen body.new)) }
 {
     if !(body.link.stage.is_joined() || body.link.stage.is_carrying()) {
         return fails_here(basis, body, Fault::at(basis.alloc, Layer::Transport, 0, 0));
@@ -55,7 +53,8 @@ fn react_to_transport(
     body: &mut Body,
     unit: TransportUnit,
 ) -> Result<Reaction, NoMemory>
-    ensures { IfOk result (ReactsAs (react_to_transport (base_in basis.now) (seen body.old) (seen_transport unit)) (seen body.old) (seen body.new)) }
+    ensures { IfOk result (ReactsAs (react_to_transport (base_in basis.now) (seen body.old)
+        (seen_transport unit)) (seen body.old) (seen body.new)) }
 {
     if is_transport_purged(body.link.awaits) {
         return Ok(Reaction::Passes);
@@ -67,14 +66,11 @@ fn react_to_transport(
 }
 
 /// What an end of direct or reliable mode does with a message that isn't the end of an activity.
-pub fn react(
-    basis: &Ground<'_>,
-    body: &mut Body,
-    message: Message,
-) -> Result<Reaction, NoMemory>
+pub fn react(basis: &Ground<'_>, body: &mut Body, message: Message) -> Result<Reaction, NoMemory>
     requires associated { is_bare basis.now.config.mode ≡ false }
     requires other { is_end_message (seen_message message) ≡ false }
-    ensures { IfOk result (ReactsAs (react (base_in basis.now) (seen body.old) (seen_message message)) (seen body.old) (seen body.new)) }
+    ensures { IfOk result (ReactsAs (react (base_in basis.now) (seen body.old)
+        (seen_message message)) (seen body.old) (seen body.new)) }
 {
     if passes_over(body.link.phase) {
         return Ok(Reaction::Passes);

@@ -28,7 +28,8 @@ fn broken_phase(mode: Mode, phase: Phase) -> Phase
 
 /// The current transfer is suspended.
 fn suspend(body: &mut Body)
-    ensures { seen body.new ≡ on_transfer (λ (t : rule_transfer). record t { progress = Suspended }) (seen body.old) }
+    ensures { seen body.new ≡ on_transfer (λ (t : rule_transfer). record t { progress = Suspended })
+        (seen body.old) }
 {
     if let Some(transfer) = &mut body.sending.current {
         transfer.progress = Progress::Suspended;

@@ -51,7 +51,8 @@ fn part_size(checkpoint: u32, left: usize) -> usize
 
 /// Whether as many marks as the window aren't confirmed.
 fn is_window_full(transfer: &Transfer, encoded: &Encoded) -> bool
-    ensures { (e : rule_encoded) → e.window ≡ encoded.now.window → result ≡ is_window_full (seen_transfer transfer.now) e }
+    ensures { (e : rule_encoded) → e.window ≡ encoded.now.window →
+        result ≡ is_window_full (seen_transfer transfer.now) e }
 {
     let highest = transfer.pieces.highest();
     encoded.window <= highest.saturating_sub(transfer.confirmed)
@@ -59,16 +60,22 @@ fn is_window_full(transfer: &Transfer, encoded: &Encoded) -> bool
 
 /// What is left of the octets.
 fn left_of<'a>(transfer: &Transfer, encoded: &'a Encoded) -> &'a [u8]
-    ensures { (e : rule_encoded) → e.octets ≡ encoded.now.octets → result.now ≡ left_of (seen_transfer transfer.now) e }
+    ensures { (e : rule_encoded) → e.octets ≡ encoded.now.octets →
+        result.now ≡ left_of (seen_transfer transfer.now) e }
 {
     let octets = encoded.octets.as_slice();
     let sent = transfer.pieces.octets();
-    if sent <= octets.len() { &octets[sent..] } else { &[] }
+    if sent <= octets.len() {
+        &octets[sent..]
+    } else {
+        &[]
+    }
 }
 
 /// The octets of the next part.
 fn next_part(basis: &Ground<'_>, encoded: &Encoded, left: &[u8]) -> Result<Octets, NoMemory>
-    ensures { IfOk result (λ part. part ≡ take (part_size encoded.now.checkpoint (length left.now)) left.now) }
+    ensures { IfOk result (λ part. part ≡ take (part_size encoded.now.checkpoint (length left.now))
+        left.now) }
 {
     let size = part_size(encoded.checkpoint, left.len());
     let part = if size < left.len() {
@@ -87,7 +94,9 @@ fn next_of(
     transfer: &Transfer,
     encoded: &Encoded,
 ) -> Result<Option<Own>, NoMemory>
-    ensures { IfOk result (λ act. option_map seen_act act ≡ next_of (seen body.now) (seen_transfer transfer.now) (seen_encoded transfer.now.item.apdu encoded.now) (left_of (seen_transfer transfer.now) (seen_encoded transfer.now.item.apdu encoded.now))) }
+    ensures { IfOk result (λ act. option_map seen_act act ≡ next_of (seen body.now)
+        (seen_transfer transfer.now) (seen_encoded transfer.now.item.apdu encoded.now)
+        (left_of (seen_transfer transfer.now) (seen_encoded transfer.now.item.apdu encoded.now))) }
 {
     let left = left_of(transfer, encoded);
     if transfer.pieces.ends_in_octets() && left.len() != 0 {
@@ -114,9 +123,7 @@ fn sends_mark(number: u32) -> Own
 fn sends_end(number: u32) -> Own
     ensures { seen_act result ≡ SendsNow (Session (OfActivities (End number))) }
 {
-    Own::Sends(Message::Session(Word::OfActivities(ActivityWord::End {
-        number,
-    })))
+    Own::Sends(Message::Session(Word::OfActivities(ActivityWord::End { number })))
 }
 
 /// What comes next of a transfer: it is encoded once it has a carrier.
@@ -125,7 +132,8 @@ fn next_of_transfer(
     body: &Body,
     transfer: &Transfer,
 ) -> Result<Option<Own>, NoMemory>
-    ensures { IfOk result (λ act. option_map seen_act act ≡ next_in (base_in basis.now) (seen body.now) (Some (seen_transfer transfer.now))) }
+    ensures { IfOk result (λ act. option_map seen_act act ≡ next_in (base_in basis.now)
+        (seen body.now) (Some (seen_transfer transfer.now))) }
 {
     if !transfer.progress.is_running() {
         return Ok(None);
@@ -141,16 +149,15 @@ fn next_of_transfer(
 
 /// The start of the next item, where it has a carrier and its number is one.
 fn next_start(basis: &Ground<'_>, body: &Body) -> Option<Own>
-    ensures { option_map seen_act result ≡ next_start (base_in basis.now) (seen body.now) (seen body.now).sending.queue }
+    ensures { option_map seen_act result ≡ next_start (base_in basis.now) (seen body.now)
+        (seen body.now).sending.queue }
 {
     let item = body.sending.queue.first()?;
     let started = body.sending.started;
     if carrier_in(basis, body, item.context).is_some() && started < LAST_ACTIVITY {
-        Some(Own::Sends(Message::Session(Word::OfActivities(
-            ActivityWord::Start {
-                activity: started + 1,
-            },
-        ))))
+        Some(Own::Sends(Message::Session(Word::OfActivities(ActivityWord::Start {
+            activity: started + 1,
+        }))))
     } else {
         None
     }
@@ -158,7 +165,8 @@ fn next_start(basis: &Ground<'_>, body: &Body) -> Option<Own>
 
 /// What the end does next by itself, if anything.
 pub fn next_own(basis: &Ground<'_>, body: &Body) -> Result<Option<Own>, NoMemory>
-    ensures { IfOk result (λ act. option_map seen_act act ≡ next_own (base_in basis.now) (seen body.now)) }
+    ensures { IfOk result (λ act. option_map seen_act act ≡ next_own (base_in basis.now)
+        (seen body.now)) }
 {
     if !leads(basis, body) {
         return Ok(None);

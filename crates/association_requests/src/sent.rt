@@ -43,7 +43,8 @@ fn parts_in(alloc: Global, values: &[Value]) -> Result<Octets, NoMemory>
 
 /// Parts of the current transfer were sent in reliable mode.
 fn values_sent(basis: &Ground<'_>, body: &mut Body, values: &[Value]) -> Result<(), NoMemory>
-    ensures { OnOk result (seen body.new ≡ values_sent basis.now.config.mode (seen_values values.now) (seen body.old)) }
+    ensures { OnOk result (seen body.new ≡ values_sent basis.now.config.mode
+        (seen_values values.now) (seen body.old)) }
 {
     match basis.config.mode {
         Mode::Reliable => match &mut body.sending.current {
@@ -59,18 +60,17 @@ fn values_sent(basis: &Ground<'_>, body: &mut Body, values: &[Value]) -> Result<
 }
 
 /// An own alteration was sent.
-fn alteration_sent(
-    body: &mut Body,
-    asked: Alteration,
-) -> Result<(), NoMemory>
-    ensures { OnOk result (seen body.new ≡ record (seen body.old) { sets = record (seen body.old).sets { own = (seen body.old).sets.own ++ asked ∷ [] } }) }
+fn alteration_sent(body: &mut Body, asked: Alteration) -> Result<(), NoMemory>
+    ensures { OnOk result (seen body.new ≡ record (seen body.old)
+        { sets = record (seen body.old).sets { own = (seen body.old).sets.own ++ asked ∷ [] } }) }
 {
     body.sets.own.push(asked)?;
     Ok(())
 }
 
 fn data_sent(basis: &Ground<'_>, body: &mut Body, word: &DataWord) -> Result<(), NoMemory>
-    ensures { OnOk result (seen body.new ≡ after_sent_data basis.now.config.mode (seen body.old) (seen_data word.now)) }
+    ensures { OnOk result (seen body.new ≡ after_sent_data basis.now.config.mode (seen body.old)
+        (seen_data word.now)) }
 {
     match word {
         DataWord::Values(values) => values_sent(basis, body, values.as_slice()),
@@ -103,7 +103,8 @@ fn mark_sent(basis: &Ground<'_>, body: &mut Body, number: u32) -> Result<(), NoM
 }
 
 fn marks_sent(basis: &Ground<'_>, body: &mut Body, word: &MarkWord) -> Result<(), NoMemory>
-    ensures { OnOk result (seen body.new ≡ after_sent_mark basis.now.config.mode (seen body.old) (seen_marks word.now)) }
+    ensures { OnOk result (seen body.new ≡ after_sent_mark basis.now.config.mode (seen body.old)
+        (seen_marks word.now)) }
 {
     match word {
         MarkWord::Mark { number } => mark_sent(basis, body, *number),
@@ -129,7 +130,13 @@ fn marks_sent(basis: &Ground<'_>, body: &mut Body, word: &MarkWord) -> Result<()
 
 /// The transfer of an item at its start.
 fn new_transfer(alloc: Global, item: Queued) -> Transfer
-    ensures { seen_transfer result ≡ record { item = seen_queued item; encoded = None; pieces = []; confirmed = 0; progress = Running } }
+    ensures { seen_transfer result ≡ record {
+      item = seen_queued item;
+      encoded = None;
+      pieces = [];
+      confirmed = 0;
+      progress = Running;
+    } }
 {
     Transfer {
         item,
@@ -168,7 +175,8 @@ fn go_back(transfer: &mut Transfer)
 
 /// The set of a resumption: that of its mark, or the held one.
 fn set_resumed(basis: &Ground<'_>, body: &Body, mark: u32) -> Result<SetList, NoMemory>
-    ensures { IfOk result (λ set. set ≡ resumed_set mark (pieces_of (seen body.now).sending.current) (seen body.now).sets.held) }
+    ensures { IfOk result (λ set. set ≡ resumed_set mark (pieces_of (seen body.now).sending.current)
+        (seen body.now).sets.held) }
 {
     if mark == 0 {
         return copy_set(basis.alloc, body.sets.held.as_slice());
@@ -180,7 +188,8 @@ fn set_resumed(basis: &Ground<'_>, body: &Body, mark: u32) -> Result<SetList, No
 }
 
 fn resume_sent(basis: &Ground<'_>, body: &mut Body, mark: u32) -> Result<(), NoMemory>
-    ensures { OnOk result ((activity : ℕ) → seen body.new ≡ after_sent_activity (seen body.old) (Resume activity mark)) }
+    ensures { OnOk result ((activity : ℕ) → seen body.new ≡ after_sent_activity (seen body.old)
+        (Resume activity mark)) }
 {
     let inter = copy_set(basis.alloc, body.sets.held.as_slice())?;
     let held = set_resumed(basis, body, mark)?;
@@ -193,7 +202,8 @@ fn resume_sent(basis: &Ground<'_>, body: &mut Body, mark: u32) -> Result<(), NoM
 }
 
 fn start_sent(basis: &Ground<'_>, body: &mut Body) -> Result<(), NoMemory>
-    ensures { OnOk result ((activity : ℕ) → seen body.new ≡ after_sent_activity (seen body.old) (Start activity)) }
+    ensures { OnOk result ((activity : ℕ) → seen body.new ≡ after_sent_activity (seen body.old)
+        (Start activity)) }
 {
     let inter = copy_set(basis.alloc, body.sets.held.as_slice())?;
     begin(basis.alloc, &mut body.sending)?;
@@ -201,12 +211,9 @@ fn start_sent(basis: &Ground<'_>, body: &mut Body) -> Result<(), NoMemory>
     Ok(())
 }
 
-fn activity_sent(
-    basis: &Ground<'_>,
-    body: &mut Body,
-    word: &ActivityWord,
-) -> Result<(), NoMemory>
-    ensures { OnOk result (seen body.new ≡ after_sent_activity (seen body.old) (seen_activities word.now)) }
+fn activity_sent(basis: &Ground<'_>, body: &mut Body, word: &ActivityWord) -> Result<(), NoMemory>
+    ensures { OnOk result (seen body.new ≡ after_sent_activity (seen body.old)
+        (seen_activities word.now)) }
 {
     match word {
         ActivityWord::Start { .. } => start_sent(basis, body),
@@ -252,7 +259,8 @@ fn transport_sent(body: &mut Body, unit: &TransportUnit)
 }
 
 fn word_sent(basis: &Ground<'_>, body: &mut Body, word: &Word) -> Result<(), NoMemory>
-    ensures { OnOk result (seen body.new ≡ after_sent_word basis.now.config.mode (seen body.old) (seen_word word.now)) }
+    ensures { OnOk result (seen body.new ≡ after_sent_word basis.now.config.mode (seen body.old)
+        (seen_word word.now)) }
 {
     match word {
         Word::OfAssociation(word) => {
@@ -266,12 +274,9 @@ fn word_sent(basis: &Ground<'_>, body: &mut Body, word: &Word) -> Result<(), NoM
 }
 
 /// A request was sent.
-pub fn after_sent(
-    basis: &Ground<'_>,
-    body: &mut Body,
-    message: &Message,
-) -> Result<(), NoMemory>
-    ensures { OnOk result (seen body.new ≡ after_sent basis.now.config.mode (seen body.old) (seen_message message.now)) }
+pub fn after_sent(basis: &Ground<'_>, body: &mut Body, message: &Message) -> Result<(), NoMemory>
+    ensures { OnOk result (seen body.new ≡ after_sent basis.now.config.mode (seen body.old)
+        (seen_message message.now)) }
 {
     match message {
         Message::Transport(unit) => {

@@ -17,7 +17,8 @@ use std::alloc::Global;
 
 /// AB with this content.
 fn abort(transport: u8, user: AbortData) -> Message
-    ensures { seen_message result ≡ Session (OfAssociation (Abort (Some transport) (seen_abort user))) }
+    ensures { seen_message result ≡ Session
+        (OfAssociation (Abort (Some transport) (seen_abort user))) }
 {
     Message::Session(Word::OfAssociation(AssociationWord::Abort {
         transport: Some(transport),
@@ -51,7 +52,8 @@ pub fn user_abort(
     source: u8,
     user: UserInformation,
 ) -> Result<Message, NoMemory>
-    ensures { IfOk result (λ m. seen_message m ≡ user_abort accepted.now source (map seen_information user)) }
+    ensures { IfOk result (λ m. seen_message m ≡ user_abort accepted.now source
+        (map seen_information user)) }
 {
     let apdu = Acse::Abort {
         source,
@@ -64,7 +66,8 @@ pub fn user_abort(
 
 /// The user information of an abort of reliable transfer.
 fn abort_information(alloc: Global, accepted: &[SetItem]) -> Result<UserInformation, NoMemory>
-    ensures { IfOk result (λ user. map seen_information user ≡ Transferring (rtse_context accepted.now) (rtse.Abort (pos 4)) ∷ []) }
+    ensures { IfOk result (λ user. map seen_information user
+        ≡ Transferring (rtse_context accepted.now) (rtse.Abort (pos 4)) ∷ []) }
 {
     let mut user: UserInformation = ListOf::new(alloc);
     user.push(Information::Transferring {
@@ -83,7 +86,8 @@ pub fn abort_of(
     layer: Layer,
     reason: u8,
 ) -> Result<Option<Message>, NoMemory>
-    ensures { IfOk result (λ m. listed (option_map seen_message m) ≡ abort_of connected accepted.now layer reason) }
+    ensures { IfOk result (λ m. listed (option_map seen_message m) ≡ abort_of connected accepted.now
+        layer reason) }
 {
     match layer {
         Layer::Transport => {

@@ -34,7 +34,14 @@ fn presentation_accept(
     results: AddAnswers,
     manages: bool,
 ) -> Result<PresentationAccept, NoMemory>
-    ensures { IfOk result (λ p. p ≡ record { version = None; responding = Some basis.now.config.called; results = results; requirements = Some (requirement_bits manages); session_requirements = None; user = [] }) }
+    ensures { IfOk result (λ p. p ≡ record {
+      version = None;
+      responding = Some basis.now.config.called;
+      results = results;
+      requirements = Some (requirement_bits manages);
+      session_requirements = None;
+      user = [];
+    }) }
 {
     let alloc = basis.alloc;
     Ok(PresentationAccept {
@@ -61,7 +68,9 @@ fn response_value(
     refused: u8,
     response: Response,
 ) -> Result<Value, NoMemory>
-    ensures { IfOk result (λ value. seen_value value ≡ acse_value accepted.now (acse.AssociateResponse response.context refused (User (pos refused)) []) (map seen_information response.user)) }
+    ensures { IfOk result (λ value. seen_value value ≡ acse_value accepted.now
+        (acse.AssociateResponse response.context refused (User (pos refused)) [])
+        (map seen_information response.user)) }
 {
     let Response { context, user } = response;
     let apdu = Acse::AssociateResponse {
@@ -82,7 +91,8 @@ pub fn accept_message(
     manages: bool,
     response: Response,
 ) -> Result<Message, NoMemory>
-    ensures { IfOk result (λ m. seen_message m ≡ accept_message (base_in basis.now) accepted.now results selected manages response.context (map seen_information response.user)) }
+    ensures { IfOk result (λ m. seen_message m ≡ accept_message (base_in basis.now) accepted.now
+        results selected manages response.context (map seen_information response.user)) }
 {
     let alloc = basis.alloc;
     let presentation = presentation_accept(basis, results, manages)?;
@@ -101,7 +111,14 @@ pub fn accept_message(
 
 /// The presentation part of a refusal.
 fn reject_with(alloc: Global, results: AddAnswers, reason: Option<i64>) -> PresentationReject
-    ensures { result ≡ record { version = None; responding = None; results = results; default_result = None; reason = reason; user = [] } }
+    ensures { result ≡ record {
+      version = None;
+      responding = None;
+      results = results;
+      default_result = None;
+      reason = reason;
+      user = [];
+    } }
 {
     PresentationReject {
         version: None,
@@ -120,7 +137,8 @@ pub fn refuse_message(
     results: AddAnswers,
     response: Response,
 ) -> Result<Message, NoMemory>
-    ensures { IfOk result (λ m. seen_message m ≡ refuse_message accepted.now results response.context (map seen_information response.user)) }
+    ensures { IfOk result (λ m. seen_message m ≡ refuse_message accepted.now results
+        response.context (map seen_information response.user)) }
 {
     let value = response_value(alloc, accepted, 1, response)?;
     Ok(Message::Session(Word::OfAssociation(AssociationWord::Refuse {

@@ -133,7 +133,8 @@ fn application_context(alloc: Global, mode: Mode) -> Result<Oid, NoMemory>
 
 /// The request of reliable transfer.
 fn open_request(basis: &Ground<'_>, recovers: bool) -> Result<Rtse, NoMemory>
-    ensures { IfOk result (λ r. r ≡ rtse.OpenRequest basis.now.config.checkpoint basis.now.config.window (pos 1) (connection_data (base_in basis.now) recovers)) }
+    ensures { IfOk result (λ r. r ≡ rtse.OpenRequest basis.now.config.checkpoint
+        basis.now.config.window (pos 1) (connection_data (base_in basis.now) recovers)) }
 {
     Ok(Rtse::OpenRequest {
         checkpoint: basis.config.checkpoint,
@@ -145,7 +146,8 @@ fn open_request(basis: &Ground<'_>, recovers: bool) -> Result<Rtse, NoMemory>
 
 /// The values of the opening: the request for an association.
 fn connect_values(basis: &Ground<'_>, recovers: bool) -> Result<Values, NoMemory>
-    ensures { IfOk result (λ values. seen_values values ≡ connect_values (base_in basis.now) recovers) }
+    ensures { IfOk result (λ values. seen_values values ≡ connect_values (base_in basis.now)
+        recovers) }
 {
     let alloc = basis.alloc;
     let request = open_request(basis, recovers)?;

@@ -38,7 +38,8 @@ pub fn pair_copied(alloc: Global, set: &[SetItem], id: u32) -> Result<Option<Pai
 
 /// A value of reliable transfer.
 fn rtse_value(alloc: Global, body: &Body, content: Content) -> Result<Value, NoMemory>
-    ensures { IfOk result (λ value. seen_value value ≡ rtse_value (seen body.now) (seen_content content)) }
+    ensures { IfOk result (λ value. seen_value value ≡ rtse_value (seen body.now)
+        (seen_content content)) }
 {
     let id = rtse_context(body.link.accepted.as_slice());
     Ok(Value {

@@ -43,7 +43,8 @@ pub fn acse_value(
     apdu: Acse,
     user: UserInformation,
 ) -> Result<Value, NoMemory>
-    ensures { IfOk result (λ value. seen_value value ≡ acse_value accepted.now apdu (map seen_information user)) }
+    ensures { IfOk result (λ value. seen_value value ≡ acse_value accepted.now apdu
+        (map seen_information user)) }
 {
     Ok(Value {
         id: acse_context(accepted),

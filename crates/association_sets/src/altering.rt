@@ -79,7 +79,8 @@ fn put_accepted(
     proposal: &Proposal,
     answer: &AddAnswer,
 ) -> Result<(), NoMemory>
-    ensures { OnOk result (set.new.items ≡ put_accepted proposal.now.id (pair_accepted proposal.now answer.now) set.old.items) }
+    ensures { OnOk result (set.new.items ≡ put_accepted proposal.now.id
+        (pair_accepted proposal.now answer.now) set.old.items) }
 {
     match pair_accepted(alloc, proposal, answer)? {
         None => Ok(()),

@@ -43,12 +43,9 @@ fn start_record(receiving: &mut Receiving, activity: u32)
 }
 
 /// Takes AS: both ends keep the held set as the inter-activity set.
-fn take_start(
-    basis: &Ground<'_>,
-    body: &mut Body,
-    activity: u32,
-) -> Result<Taken, NoMemory>
-    ensures body { OnOk result (seen body.new ≡ keeping (received (λ r. started_record activity) (seen body.old))) }
+fn take_start(basis: &Ground<'_>, body: &mut Body, activity: u32) -> Result<Taken, NoMemory>
+    ensures body { OnOk result (seen body.new
+        ≡ keeping (received (λ r. started_record activity) (seen body.old))) }
     ensures taken { IfOk result (TakenAs [] []) }
 {
     let inter = copy_set(basis.alloc, body.sets.held.as_slice())?;
@@ -60,7 +57,8 @@ fn take_start(
 /// The record of a resumed activity goes back to the mark; a resumption of the next activity begins
 /// it.
 fn resume_record(receiving: &mut Receiving, activity: u32, mark: u32)
-    ensures { seen_receiving receiving.new ≡ resumed_record activity mark (seen_receiving receiving.old) }
+    ensures { seen_receiving receiving.new ≡ resumed_record activity mark
+        (seen_receiving receiving.old) }
 {
     if activity == receiving.last {
         receiving.pieces.cut(mark);
@@ -130,7 +128,8 @@ fn take_arrived(
     body: &mut Body,
     arrived: Option<Value>,
 ) -> Result<Taken, NoMemory>
-    ensures { IfOk result (TookAs (take_values (base_in basis.now) (seen body.old) (map seen_value (listed arrived))) (seen body.new)) }
+    ensures { IfOk result (TookAs (take_values (base_in basis.now) (seen body.old)
+        (map seen_value (listed arrived))) (seen body.new)) }
 {
     match arrived {
         None => Ok(quiet(basis.alloc)),
@@ -147,8 +146,10 @@ pub fn end_taken(
     arrived: Option<Value>,
 ) -> Result<Taken, NoMemory>
     requires { map seen_value (listed arrived) ≡ handed_up (base_in basis.now) (seen body.old) }
-    ensures body { OnOk result (seen body.new ≡ after_activity (base_in basis.now) (seen body.old) (End number)) }
-    ensures taken { IfOk result (TakenAs (answers_to_activity (base_in basis.now) (seen body.old) (End number)) (shown_of_activity (base_in basis.now) (seen body.old) (End number))) }
+    ensures body { OnOk result (seen body.new ≡ after_activity (base_in basis.now) (seen body.old)
+        (End number)) }
+    ensures taken { IfOk result (TakenAs (answers_to_activity (base_in basis.now) (seen body.old)
+        (End number)) (shown_of_activity (base_in basis.now) (seen body.old) (End number))) }
 {
     body.receiving.was_handed = true;
     body.receiving.active = false;
@@ -163,7 +164,8 @@ pub fn end_taken(
 /// Takes AEA.
 fn take_end_ack(basis: &Ground<'_>, body: &mut Body) -> Result<Taken, NoMemory>
     ensures body { OnOk result (seen body.new ≡ between (without_current (seen body.old))) }
-    ensures taken { IfOk result (TakenAs [] (indications.Transferred (seen body.old).sending.started ∷ [])) }
+    ensures taken { IfOk result (TakenAs [] (indications.Transferred (seen body.old).sending.started
+        ∷ [])) }
 {
     between(basis.alloc, body)?;
     body.sending.current = None;
@@ -177,8 +179,10 @@ fn take_end_ack(basis: &Ground<'_>, body: &mut Body) -> Result<Taken, NoMemory>
 
 /// Takes AI.
 fn take_interrupt(basis: &Ground<'_>, body: &mut Body) -> Result<Taken, NoMemory>
-    ensures body { OnOk result (seen body.new ≡ between (received (λ r. record r { active = false }) (seen body.old))) }
-    ensures taken { IfOk result (TakenAs (Session (OfActivities InterruptAck) ∷ []) (indications.Interrupted (seen body.old).receiving.last ∷ [])) }
+    ensures body { OnOk result (seen body.new
+        ≡ between (received (λ r. record r { active = false }) (seen body.old))) }
+    ensures taken { IfOk result (TakenAs (Session (OfActivities InterruptAck) ∷ [])
+        (indications.Interrupted (seen body.old).receiving.last ∷ [])) }
 {
     between(basis.alloc, body)?;
     body.receiving.active = false;
@@ -194,8 +198,10 @@ fn take_interrupt(basis: &Ground<'_>, body: &mut Body) -> Result<Taken, NoMemory
 
 /// Takes AD.
 fn take_discard(basis: &Ground<'_>, body: &mut Body) -> Result<Taken, NoMemory>
-    ensures body { OnOk result (seen body.new ≡ between (received (λ r. record r { pieces = []; active = false }) (seen body.old))) }
-    ensures taken { IfOk result (TakenAs (Session (OfActivities DiscardAck) ∷ []) (indications.Discarded (seen body.old).receiving.last ∷ [])) }
+    ensures body { OnOk result (seen body.new
+        ≡ between (received (λ r. record r { pieces = []; active = false }) (seen body.old))) }
+    ensures taken { IfOk result (TakenAs (Session (OfActivities DiscardAck) ∷ [])
+        (indications.Discarded (seen body.old).receiving.last ∷ [])) }
 {
     between(basis.alloc, body)?;
     body.receiving.pieces.clear();
@@ -212,7 +218,8 @@ fn take_discard(basis: &Ground<'_>, body: &mut Body) -> Result<Taken, NoMemory>
 
 /// The current transfer is suspended.
 pub(crate) fn suspend(body: &mut Body)
-    ensures { seen body.new ≡ on_transfer (λ (t : rule_transfer). record t { progress = Suspended }) (seen body.old) }
+    ensures { seen body.new ≡ on_transfer (λ (t : rule_transfer). record t { progress = Suspended })
+        (seen body.old) }
 {
     if let Some(transfer) = &mut body.sending.current {
         transfer.progress = Progress::Suspended;
@@ -229,8 +236,11 @@ fn calm(body: &mut Body)
 
 /// Takes AIA.
 fn take_interrupt_ack(basis: &Ground<'_>, body: &mut Body) -> Result<Taken, NoMemory>
-    ensures body { OnOk result (seen body.new ≡ between (calmed (on_transfer (λ (t : rule_transfer). record t { progress = Suspended }) (seen body.old)))) }
-    ensures taken { IfOk result (TakenAs [] (losses (seen body.old) ++ indications.Interrupted (seen body.old).sending.started ∷ [])) }
+    ensures body { OnOk result (seen body.new
+        ≡ between (calmed (on_transfer (λ (t : rule_transfer). record t { progress = Suspended })
+        (seen body.old)))) }
+    ensures taken { IfOk result (TakenAs [] (losses (seen body.old) ++ indications.Interrupted
+        (seen body.old).sending.started ∷ [])) }
 {
     let mut taken = quiet(basis.alloc);
     push_losses(body, &mut taken.shown)?;
@@ -278,7 +288,8 @@ fn push_cut(body: &Body, id: Option<i64>, shown: &mut Indications) -> Result<(),
 
 /// Closes an own invocation.
 fn cut(body: &mut Body, id: Option<i64>)
-    ensures { seen body.new ≡ record (seen body.old) { calls = cut_invocation id (seen body.old).calls } }
+    ensures { seen body.new ≡ record (seen body.old)
+        { calls = cut_invocation id (seen body.old).calls } }
 {
     if let Some(id) = id {
         body.calls.close_own(&id);
@@ -288,7 +299,9 @@ fn cut(body: &mut Body, id: Option<i64>)
 /// Takes ADA: a discarded transfer is forgotten, and an invocation in it is cut.
 fn take_discard_ack(basis: &Ground<'_>, body: &mut Body) -> Result<Taken, NoMemory>
     ensures body { OnOk result (seen body.new ≡ after_discard (seen body.old)) }
-    ensures taken { IfOk result (TakenAs [] ((losses (seen body.old) ++ shown_cut (invocation_in (seen body.old).sending.current) (seen body.old).calls) ++ indications.Discarded (seen body.old).sending.started ∷ [])) }
+    ensures taken { IfOk result (TakenAs []
+        ((losses (seen body.old) ++ shown_cut (invocation_in (seen body.old).sending.current)
+        (seen body.old).calls) ++ indications.Discarded (seen body.old).sending.started ∷ [])) }
 {
     let invocation = invocation_in(body);
     let mut taken = quiet(basis.alloc);
@@ -311,8 +324,11 @@ pub fn take_activity(
     word: ActivityWord,
 ) -> Result<Taken, NoMemory>
     requires { is_end (seen_activities word) ≡ false }
-    ensures body { OnOk result (seen body.new ≡ after_activity (base_in basis.now) (seen body.old) (seen_activities word)) }
-    ensures taken { IfOk result (TakenAs (answers_to_activity (base_in basis.now) (seen body.old) (seen_activities word)) (shown_of_activity (base_in basis.now) (seen body.old) (seen_activities word))) }
+    ensures body { OnOk result (seen body.new ≡ after_activity (base_in basis.now) (seen body.old)
+        (seen_activities word)) }
+    ensures taken { IfOk result (TakenAs (answers_to_activity (base_in basis.now) (seen body.old)
+        (seen_activities word)) (shown_of_activity (base_in basis.now) (seen body.old)
+        (seen_activities word))) }
 {
     match word {
         ActivityWord::Start { activity } => take_start(basis, body, activity),

@@ -16,8 +16,8 @@ use association_sets::{Alteration, alter, fit_alteration, proposed_ids};
 use association_state::{Body, Ground, take_oldest};
 use association_words::{DataWord, Fault, Message, Word};
 use dialogue::Indication;
-use set_rules::is_faulty_proposal;
 use osi_base::{Answers, Copied, Ids, Layer, NoMemory, Proposal, Proposals, SetList};
+use set_rules::is_faulty_proposal;
 
 /// An unexpected PPDU.
 fn unexpected_ppdu(basis: &Ground<'_>) -> Fault
@@ -36,7 +36,8 @@ fn invalid_ppdu(basis: &Ground<'_>) -> Fault
 /// Why an alteration may not come: AC may stand where context management is selected and, in
 /// reliable mode, from the end that has the turn.
 pub fn alter_fault(basis: &Ground<'_>, body: &Body, add: &[Proposal]) -> Option<Fault>
-    ensures { option_map seen_fault result ≡ alter_fault (base_in basis.now) (seen body.now) add.now }
+    ensures { option_map seen_fault result ≡ alter_fault (base_in basis.now) (seen body.now)
+        add.now }
 {
     if !body.link.manages || is_reliable(basis.config.mode) && body.link.turn {
         return Some(unexpected_ppdu(basis));
@@ -83,7 +84,8 @@ fn alter_taken(
     asked: &Alteration,
     answers: &Answers,
 ) -> Result<Indication, NoMemory>
-    ensures { IfOk result (λ i. i ≡ indications.AlterTaken (proposed_ids asked.now.add) asked.now.delete answers.now) }
+    ensures { IfOk result (λ i. i ≡ indications.AlterTaken (proposed_ids asked.now.add)
+        asked.now.delete answers.now) }
 {
     Ok(Indication::AlterTaken {
         add: proposed_ids(basis.alloc, asked.add().as_slice())?,
@@ -98,7 +100,8 @@ fn altered_told(
     asked: &Alteration,
     answers: Answers,
 ) -> Result<Indication, NoMemory>
-    ensures { IfOk result (λ i. i ≡ indications.Altered (proposed_ids asked.now.add) asked.now.delete answers) }
+    ensures { IfOk result (λ i. i ≡ indications.Altered (proposed_ids asked.now.add)
+        asked.now.delete answers) }
 {
     Ok(Indication::Altered {
         add: proposed_ids(basis.alloc, asked.add().as_slice())?,
@@ -113,7 +116,8 @@ fn alter_answered(
     asked: &Alteration,
     answers: Answers,
 ) -> Result<Taken, NoMemory>
-    ensures { IfOk result (TakenAs (Session (OfData (AlterContextAck answers)) ∷ []) (indications.AlterTaken (proposed_ids asked.now.add) asked.now.delete answers ∷ [])) }
+    ensures { IfOk result (TakenAs (Session (OfData (AlterContextAck answers)) ∷ [])
+        (indications.AlterTaken (proposed_ids asked.now.add) asked.now.delete answers ∷ [])) }
 {
     let mut taken = told(basis.alloc, alter_taken(basis, asked, &answers)?)?;
     let message = Message::Session(Word::OfData(DataWord::AlterContextAck { answers }));
@@ -128,8 +132,11 @@ pub fn take_alter(
     add: Proposals,
     delete: Ids,
 ) -> Result<Taken, NoMemory>
-    ensures body { OnOk result (seen body.new ≡ after_data (base_in basis.now) (seen body.old) (AlterContext add delete)) }
-    ensures taken { IfOk result (TakenAs (answers_to_data (base_in basis.now) (seen body.old) (AlterContext add delete)) (shown_of_data (base_in basis.now) (seen body.old) (AlterContext add delete))) }
+    ensures body { OnOk result (seen body.new ≡ after_data (base_in basis.now) (seen body.old)
+        (AlterContext add delete)) }
+    ensures taken { IfOk result (TakenAs (answers_to_data (base_in basis.now) (seen body.old)
+        (AlterContext add delete)) (shown_of_data (base_in basis.now) (seen body.old)
+        (AlterContext add delete))) }
 {
     let asked = Alteration::new(add, delete);
     let answers = policy(basis, body, &asked)?;
@@ -145,8 +152,11 @@ pub fn take_answers(
     body: &mut Body,
     answers: Answers,
 ) -> Result<Taken, NoMemory>
-    ensures body { OnOk result (seen body.new ≡ after_data (base_in basis.now) (seen body.old) (AlterContextAck answers)) }
-    ensures taken { IfOk result (TakenAs (answers_to_data (base_in basis.now) (seen body.old) (AlterContextAck answers)) (shown_of_data (base_in basis.now) (seen body.old) (AlterContextAck answers))) }
+    ensures body { OnOk result (seen body.new ≡ after_data (base_in basis.now) (seen body.old)
+        (AlterContextAck answers)) }
+    ensures taken { IfOk result (TakenAs (answers_to_data (base_in basis.now) (seen body.old)
+        (AlterContextAck answers)) (shown_of_data (base_in basis.now) (seen body.old)
+        (AlterContextAck answers))) }
 {
     let Some(oldest) = take_oldest(&mut body.sets.own) else {
         return Ok(quiet(basis.alloc));

@@ -18,7 +18,8 @@ use osi_base::NoMemory;
 
 /// Why a unit of data may not be taken.
 pub fn data_fault(basis: &Ground<'_>, body: &Body, word: &DataWord) -> Option<Fault>
-    ensures { option_map seen_fault result ≡ data_fault (base_in basis.now) (seen body.now) (seen_data word.now) }
+    ensures { option_map seen_fault result ≡ data_fault (base_in basis.now) (seen body.now)
+        (seen_data word.now) }
 {
     match word {
         DataWord::Values(values) => values_fault(basis, body, values.as_slice()),
@@ -28,13 +29,12 @@ pub fn data_fault(basis: &Ground<'_>, body: &Body, word: &DataWord) -> Option<Fa
 }
 
 /// Takes values: in reliable mode as pieces of the peer's activity, else as APDUs.
-fn take_all(
-    basis: &Ground<'_>,
-    body: &mut Body,
-    values: Values,
-) -> Result<Taken, NoMemory>
-    ensures body { OnOk result (seen body.new ≡ after_data (base_in basis.now) (seen body.old) (values_word (seen_values values))) }
-    ensures taken { IfOk result (TakenAs (answers_to_data (base_in basis.now) (seen body.old) (values_word (seen_values values))) (shown_of_data (base_in basis.now) (seen body.old) (values_word (seen_values values)))) }
+fn take_all(basis: &Ground<'_>, body: &mut Body, values: Values) -> Result<Taken, NoMemory>
+    ensures body { OnOk result (seen body.new ≡ after_data (base_in basis.now) (seen body.old)
+        (values_word (seen_values values))) }
+    ensures taken { IfOk result (TakenAs (answers_to_data (base_in basis.now) (seen body.old)
+        (values_word (seen_values values))) (shown_of_data (base_in basis.now) (seen body.old)
+        (values_word (seen_values values)))) }
 {
     if is_reliable(basis.config.mode) {
         take_parts(basis.alloc, body, values.as_slice())?;
@@ -44,13 +44,11 @@ fn take_all(
 }
 
 /// Takes a unit of data.
-pub fn take_data(
-    basis: &Ground<'_>,
-    body: &mut Body,
-    word: DataWord,
-) -> Result<Taken, NoMemory>
-    ensures body { OnOk result (seen body.new ≡ after_data (base_in basis.now) (seen body.old) (seen_data word)) }
-    ensures taken { IfOk result (TakenAs (answers_to_data (base_in basis.now) (seen body.old) (seen_data word)) (shown_of_data (base_in basis.now) (seen body.old) (seen_data word))) }
+pub fn take_data(basis: &Ground<'_>, body: &mut Body, word: DataWord) -> Result<Taken, NoMemory>
+    ensures body { OnOk result (seen body.new ≡ after_data (base_in basis.now) (seen body.old)
+        (seen_data word)) }
+    ensures taken { IfOk result (TakenAs (answers_to_data (base_in basis.now) (seen body.old)
+        (seen_data word)) (shown_of_data (base_in basis.now) (seen body.old) (seen_data word))) }
 {
     match word {
         DataWord::Values(values) => take_all(basis, body, values),

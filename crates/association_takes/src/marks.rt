@@ -3,7 +3,6 @@
 ghost use Rattle.std.specs.Prelude.{◌≡◌, IfOk, OnOk, Some, option_map, true, false, [], ◌∷◌};
 ghost use Rattle.dialogue.specs.declared.indication.Indication.TheVariants as indications;
 ghost use Rattle.end_rules.specs.Sets.{listed};
-
 ghost use Rattle.end_rules.specs.Messages.{MarkAck, RestartAck, GiveAck, OfMarks, Session};
 ghost use Rattle.end_rules.specs.TakesMarks.{marked_in, mark_answer, mark_shown, confirmed_in, restored_set, list_fault, restarted, shown_restarted, with_turn, shown_turn, priority_in, please_fault, shown_plea, shown_please, mark_fault, after_mark, answers_to_mark, shown_of_mark};
 ghost use Rattle.end_rules.specs.State.{Transfer as rule_transfer, on_transfer};
@@ -40,7 +39,8 @@ fn save_mark(basis: &Ground<'_>, body: &mut Body, number: u32) -> Result<(), NoM
 
 /// A mark is confirmed in reliable mode, and shown in direct mode.
 fn mark_taken(basis: &Ground<'_>, number: u32) -> Result<Taken, NoMemory>
-    ensures { IfOk result (TakenAs (mark_answer basis.now.config.mode number) (mark_shown basis.now.config.mode number)) }
+    ensures { IfOk result (TakenAs (mark_answer basis.now.config.mode number)
+        (mark_shown basis.now.config.mode number)) }
 {
     match basis.config.mode {
         Mode::Reliable => answered(
@@ -65,7 +65,8 @@ fn confirm_mark(basis: &Ground<'_>, body: &mut Body, number: u32)
 
 /// Keeps that the current transfer is confirmed up to this mark.
 fn confirm_current(body: &mut Body, number: u32)
-    ensures { seen body.new ≡ on_transfer (λ (t : rule_transfer). record t { confirmed = number }) (seen body.old) }
+    ensures { seen body.new ≡ on_transfer (λ (t : rule_transfer). record t { confirmed = number })
+        (seen body.old) }
 {
     if let Some(transfer) = &mut body.sending.current {
         transfer.confirmed = number;
@@ -95,7 +96,8 @@ fn list_fault(
     n: u32,
     list: &Option<RestoredList>,
 ) -> Result<Option<Fault>, NoMemory>
-    ensures { IfOk result (λ fault. option_map seen_fault fault ≡ list_fault (seen body.now) n list.now) }
+    ensures { IfOk result (λ fault. option_map seen_fault fault ≡ list_fault (seen body.now) n
+        list.now) }
 {
     let Some(list) = list else {
         return Ok(None);
@@ -150,7 +152,8 @@ pub fn mark_fault(
     body: &Body,
     word: &MarkWord,
 ) -> Result<Option<Fault>, NoMemory>
-    ensures { IfOk result (λ fault. option_map seen_fault fault ≡ mark_fault (base_in basis.now) (seen body.now) (seen_marks word.now)) }
+    ensures { IfOk result (λ fault. option_map seen_fault fault ≡ mark_fault (base_in basis.now)
+        (seen body.now) (seen_marks word.now)) }
 {
     match word {
         MarkWord::Restart { number, list } => list_fault(basis, body, *number, list),
@@ -198,7 +201,8 @@ fn restart(basis: &Ground<'_>, body: &mut Body, n: u32, set: SetList)
 
 /// The answer to a restart.
 fn restart_answer(basis: &Ground<'_>, body: &Body, n: u32) -> Result<Message, NoMemory>
-    ensures { IfOk result (λ m. seen_message m ≡ Session (OfMarks (RestartAck n (Some (listed (restored_set (seen body.now) n)))))) }
+    ensures { IfOk result (λ m. seen_message m
+        ≡ Session (OfMarks (RestartAck n (Some (listed (restored_set (seen body.now) n)))))) }
 {
     Ok(Message::Session(Word::OfMarks(MarkWord::RestartAck {
         number: n,
@@ -209,7 +213,9 @@ fn restart_answer(basis: &Ground<'_>, body: &Body, n: u32) -> Result<Message, No
 /// Takes a restart.
 fn take_restart(basis: &Ground<'_>, body: &mut Body, n: u32) -> Result<Taken, NoMemory>
     ensures body { OnOk result (seen body.new ≡ restarted (base_in basis.now) n (seen body.old)) }
-    ensures taken { IfOk result (TakenAs (Session (OfMarks (RestartAck n (Some (listed (restored_set (seen body.old) n))))) ∷ []) (shown_restarted (seen body.old) n)) }
+    ensures taken { IfOk result (TakenAs
+        (Session (OfMarks (RestartAck n (Some (listed (restored_set (seen body.old) n))))) ∷ [])
+        (shown_restarted (seen body.old) n)) }
 {
     let set = restored_set(basis, body, n)?;
     let message = restart_answer(basis, body, n)?;
@@ -234,18 +240,15 @@ fn take_restart_ack(basis: &Ground<'_>, body: &mut Body, n: u32) -> Result<Taken
 
 /// Takes a giving: who takes one has none of its own unconfirmed.
 fn take_turn(body: &mut Body)
-    ensures { seen body.new ≡ record (seen body.old) { link = record (seen body.old).link { turn = true; gave = false } } }
+    ensures { seen body.new ≡ record (seen body.old)
+        { link = record (seen body.old).link { turn = true; gave = false } } }
 {
     body.link.turn = true;
     body.link.gave = false;
 }
 
 /// Takes GT.
-fn take_give(
-    basis: &Ground<'_>,
-    body: &mut Body,
-    tokens: Option<u8>,
-) -> Result<Taken, NoMemory>
+fn take_give(basis: &Ground<'_>, body: &mut Body, tokens: Option<u8>) -> Result<Taken, NoMemory>
     ensures body { OnOk result (seen body.new ≡ with_turn tokens (seen body.old)) }
     ensures taken { IfOk result (TakenAs [] (shown_turn tokens)) }
 {
@@ -259,11 +262,7 @@ fn take_give(
 }
 
 /// What is shown of a plea.
-fn shown_please(
-    basis: &Ground<'_>,
-    tokens: Option<u8>,
-    values: &[Value],
-) -> Result<Taken, NoMemory>
+fn shown_please(basis: &Ground<'_>, tokens: Option<u8>, values: &[Value]) -> Result<Taken, NoMemory>
     ensures { IfOk result (TakenAs [] (shown_please tokens (seen_values values.now))) }
 {
     if tokens.is_none() {
@@ -277,7 +276,8 @@ fn shown_please(
 
 /// Takes GTC.
 fn take_give_confirm(basis: &Ground<'_>, body: &mut Body) -> Result<Taken, NoMemory>
-    ensures body { OnOk result (seen body.new ≡ record (seen body.old) { link = record (seen body.old).link { turn = true; gave = false } }) }
+    ensures body { OnOk result (seen body.new ≡ record (seen body.old)
+        { link = record (seen body.old).link { turn = true; gave = false } }) }
     ensures taken { IfOk result (TakenAs (Session (OfMarks GiveAck) ∷ []) (indications.Turn ∷ [])) }
 {
     let mut taken = told(basis.alloc, Indication::Turn)?;
@@ -289,13 +289,11 @@ fn take_give_confirm(basis: &Ground<'_>, body: &mut Body) -> Result<Taken, NoMem
 }
 
 /// Takes a unit of marks or tokens.
-pub fn take_mark(
-    basis: &Ground<'_>,
-    body: &mut Body,
-    word: MarkWord,
-) -> Result<Taken, NoMemory>
-    ensures body { OnOk result (seen body.new ≡ after_mark (base_in basis.now) (seen body.old) (seen_marks word)) }
-    ensures taken { IfOk result (TakenAs (answers_to_mark (base_in basis.now) (seen body.old) (seen_marks word)) (shown_of_mark (base_in basis.now) (seen body.old) (seen_marks word))) }
+pub fn take_mark(basis: &Ground<'_>, body: &mut Body, word: MarkWord) -> Result<Taken, NoMemory>
+    ensures body { OnOk result (seen body.new ≡ after_mark (base_in basis.now) (seen body.old)
+        (seen_marks word)) }
+    ensures taken { IfOk result (TakenAs (answers_to_mark (base_in basis.now) (seen body.old)
+        (seen_marks word)) (shown_of_mark (base_in basis.now) (seen body.old) (seen_marks word))) }
 {
     match word {
         MarkWord::Mark { number } => {

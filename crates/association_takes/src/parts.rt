@@ -69,7 +69,8 @@ fn is_remote(content: &Content) -> bool
 
 /// Whether a value of association control is among these.
 fn has_associated(values: &[Value]) -> bool
-    ensures { result ≡ list_any (λ (v : rule_value). is_associated v.content) (seen_values values.now) }
+    ensures { result ≡ list_any (λ (v : rule_value). is_associated v.content)
+        (seen_values values.now) }
 {
     for value in values {
         if is_associated(&value.content) {
@@ -81,7 +82,8 @@ fn has_associated(values: &[Value]) -> bool
 
 /// Whether one of these is no part of a transfer.
 fn has_other(values: &[Value]) -> bool
-    ensures { result ≡ list_any (λ (v : rule_value). not (is_part v.content)) (seen_values values.now) }
+    ensures { result ≡ list_any (λ (v : rule_value). not (is_part v.content))
+        (seen_values values.now) }
 {
     for value in values {
         if !is_part(&value.content) {
@@ -93,7 +95,8 @@ fn has_other(values: &[Value]) -> bool
 
 /// Whether one of these is none of remote operations.
 fn has_strange(values: &[Value]) -> bool
-    ensures { result ≡ list_any (λ (v : rule_value). not (is_remote v.content)) (seen_values values.now) }
+    ensures { result ≡ list_any (λ (v : rule_value). not (is_remote v.content))
+        (seen_values values.now) }
 {
     for value in values {
         if !is_remote(&value.content) {
@@ -118,14 +121,19 @@ fn parts_len(values: &[Value]) -> usize
 /// Whether a transfer would have too many octets with these parts.
 #[tactic(auto, using(crate::proofs::Lengths::too_many))]
 fn is_too_long(body: &Body, values: &[Value]) -> bool
-    ensures { result ≡ nat_lt 262400 (length (joined (seen body.now).receiving.pieces ++ parts_in (seen_values values.now))) }
+    ensures { result ≡ nat_lt 262400 (length (joined (seen body.now).receiving.pieces
+        ++ parts_in (seen_values values.now))) }
 {
     body.receiving.pieces.octets().min(262_401) + parts_len(values) > MOST_TRANSFERRED
 }
 
 /// Why parts of a transfer may not be taken.
 fn parts_fault(basis: &Ground<'_>, body: &Body, values: &[Value]) -> Option<Fault>
-    ensures { option_map seen_fault result ≡ or_fault (fault_if (list_any (λ (v : rule_value). not (is_part v.content)) (seen_values values.now)) rtse_fault) (fault_if (nat_lt 262400 (length (joined (seen body.now).receiving.pieces ++ parts_in (seen_values values.now)))) rtse_fault) }
+    ensures { option_map seen_fault result
+        ≡ or_fault (fault_if (list_any (λ (v : rule_value). not (is_part v.content))
+        (seen_values values.now)) rtse_fault)
+        (fault_if (nat_lt 262400 (length (joined (seen body.now).receiving.pieces
+        ++ parts_in (seen_values values.now)))) rtse_fault) }
 {
     if has_other(values) || is_too_long(body, values) {
         Some(Fault::at(basis.alloc, Layer::Rtse, 0, 4))
@@ -137,7 +145,8 @@ fn parts_fault(basis: &Ground<'_>, body: &Body, values: &[Value]) -> Option<Faul
 /// What data may not carry: values of association control anywhere; in reliable mode what is no part
 /// of a transfer, or too many octets; else what is none of remote operations.
 pub(crate) fn values_fault(basis: &Ground<'_>, body: &Body, values: &[Value]) -> Option<Fault>
-    ensures { option_map seen_fault result ≡ values_fault (base_in basis.now) (seen body.now) (seen_values values.now) }
+    ensures { option_map seen_fault result ≡ values_fault (base_in basis.now) (seen body.now)
+        (seen_values values.now) }
 {
     if has_associated(values) {
         return Some(Fault::at(basis.alloc, Layer::Acse, 0, 0));
@@ -153,18 +162,19 @@ pub(crate) fn values_fault(basis: &Ground<'_>, body: &Body, values: &[Value]) ->
 
 /// Puts a part behind the pieces of the peer's activity.
 fn push_part(alloc: Global, body: &mut Body, content: &Content) -> Result<(), NoMemory>
-    ensures { OnOk result (seen body.new ≡ record (seen body.old) { receiving = record (seen body.old).receiving { pieces = octets_piece (part_in (seen_content content.now)) ∷ (seen body.old).receiving.pieces } }) }
+    ensures { OnOk result (seen body.new ≡ record (seen body.old) {
+      receiving = record (seen body.old).receiving {
+        pieces = octets_piece (part_in (seen_content content.now))
+            ∷ (seen body.old).receiving.pieces;
+      };
+    }) }
 {
     let octets = Octets::from_slice(alloc, part_in(content))?;
     body.receiving.pieces.push_octets(octets)
 }
 
 /// Keeps each part as a piece of the peer's activity.
-pub(crate) fn take_parts(
-    alloc: Global,
-    body: &mut Body,
-    values: &[Value],
-) -> Result<(), NoMemory>
+pub(crate) fn take_parts(alloc: Global, body: &mut Body, values: &[Value]) -> Result<(), NoMemory>
     ensures { OnOk result (seen body.new ≡ with_parts (seen_values values.now) (seen body.old)) }
 {
     for value in values {

@@ -44,7 +44,8 @@ fn may_respond(basis: &Ground<'_>, body: &Body) -> bool
 
 /// Whether a unit may stand where it comes.
 fn may_come(basis: &Ground<'_>, body: &Body, unit: &TransportUnit) -> bool
-    ensures { transport_unit_fault (base_in basis.now) (seen body.now) (seen_transport unit.now) ≡ fault_if (not result) transport_fault }
+    ensures { transport_unit_fault (base_in basis.now) (seen body.now) (seen_transport unit.now)
+        ≡ fault_if (not result) transport_fault }
 {
     match unit {
         TransportUnit::ConnectionRequest { .. } => may_request(basis, body),
@@ -57,12 +58,9 @@ fn may_come(basis: &Ground<'_>, body: &Body, unit: &TransportUnit) -> bool
 }
 
 /// What is out of place, an ER always.
-pub fn transport_fault(
-    basis: &Ground<'_>,
-    body: &Body,
-    unit: &TransportUnit,
-) -> Option<Fault>
-    ensures { option_map seen_fault result ≡ transport_unit_fault (base_in basis.now) (seen body.now) (seen_transport unit.now) }
+pub fn transport_fault(basis: &Ground<'_>, body: &Body, unit: &TransportUnit) -> Option<Fault>
+    ensures { option_map seen_fault result ≡ transport_unit_fault (base_in basis.now)
+        (seen body.now) (seen_transport unit.now) }
 {
     if may_come(basis, body, unit) {
         None
@@ -90,7 +88,11 @@ fn phase_asked(phase: Phase, accepted: bool) -> Phase
 fn stage_asked(accepted: bool) -> Stage
     ensures { seen_stage result ≡ stage_asked accepted }
 {
-    if accepted { Stage::Joined } else { Stage::Asked }
+    if accepted {
+        Stage::Joined
+    } else {
+        Stage::Asked
+    }
 }
 
 /// CC, or DR where the size is another.
@@ -111,7 +113,8 @@ fn answer_to_request(source: u16, size: Option<u8>, accepted: bool) -> Message
 
 /// Takes a CR.
 fn take_request(body: &mut Body, source: u16, size: Option<u8>) -> Message
-    ensures body { seen body.new ≡ at_stage (stage_asked (is_size size)) (phase_asked (seen body.old).link.phase (is_size size)) (seen body.old) }
+    ensures body { seen body.new ≡ at_stage (stage_asked (is_size size))
+        (phase_asked (seen body.old).link.phase (is_size size)) (seen body.old) }
     ensures answer { seen_message result ≡ answer_to_request source size (is_size size) }
 {
     let accepted = is_size(size);
@@ -122,8 +125,10 @@ fn take_request(body: &mut Body, source: u16, size: Option<u8>) -> Message
 
 /// Takes a CC, which brings the CN.
 fn take_confirm(basis: &Ground<'_>, body: &mut Body) -> Result<Message, NoMemory>
-    ensures body { OnOk result (seen body.new ≡ at_stage Carrying (seen body.old).link.phase (seen body.old)) }
-    ensures answer { IfOk result (λ m. seen_message m ≡ connect_message (base_in basis.now) (is_recovering (seen body.old).link.phase)) }
+    ensures body { OnOk result (seen body.new ≡ at_stage Carrying (seen body.old).link.phase
+        (seen body.old)) }
+    ensures answer { IfOk result (λ m. seen_message m ≡ connect_message (base_in basis.now)
+        (is_recovering (seen body.old).link.phase)) }
 {
     let message = connect_message(basis, is_recovering(body.link.phase))?;
     body.link.stage = Stage::Carrying;
@@ -136,8 +141,10 @@ pub fn take_transport(
     body: &mut Body,
     unit: TransportUnit,
 ) -> Result<Taken, NoMemory>
-    ensures body { OnOk result (seen body.new ≡ after_transport (base_in basis.now) (seen body.old) (seen_transport unit)) }
-    ensures taken { IfOk result (TakenAs (answers_to_transport (base_in basis.now) (seen body.old) (seen_transport unit)) (shown_of_transport (seen_transport unit))) }
+    ensures body { OnOk result (seen body.new ≡ after_transport (base_in basis.now) (seen body.old)
+        (seen_transport unit)) }
+    ensures taken { IfOk result (TakenAs (answers_to_transport (base_in basis.now) (seen body.old)
+        (seen_transport unit)) (shown_of_transport (seen_transport unit))) }
 {
     match unit {
         TransportUnit::ConnectionRequest {

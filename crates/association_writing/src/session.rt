@@ -44,7 +44,8 @@ fn connect_with(
 
 /// AC with these user data.
 fn accept_with(alloc: Global, user: Option<Octets>, session: Accepting) -> SessionWord
-    ensures { result ≡ units.Accept session.options session.version session.initial session.requirements (unwrap_or user []) }
+    ensures { result ≡ units.Accept session.options session.version session.initial
+        session.requirements (unwrap_or user []) }
 {
     SessionWord::Accept {
         options: session.options,
@@ -61,7 +62,8 @@ fn association_unit(
     user: Option<Octets>,
     word: &AssociationWord,
 ) -> Result<SessionWord, NoMemory>
-    ensures { IfOk result (λ unit. unit ≡ with_user user (meant.unit_of_association (seen_association word.now))) }
+    ensures { IfOk result (λ unit. unit
+        ≡ with_user user (meant.unit_of_association (seen_association word.now))) }
 {
     match word {
         AssociationWord::Connect { session, .. } => {
@@ -209,7 +211,8 @@ pub(crate) fn session_units(
     user: Option<Octets>,
     word: &Word,
 ) -> Result<Spdus, NoMemory>
-    ensures { IfOk result (λ units. units ≡ in_its_place (with_user user (meant.unit_of (seen_word word.now)))) }
+    ensures { IfOk result (λ units. units
+        ≡ in_its_place (with_user user (meant.unit_of (seen_word word.now)))) }
 {
     in_its_place(alloc, whole_unit(alloc, user, word)?)
 }

@@ -20,7 +20,9 @@ fn request(
     called: &Octets,
 ) -> Result<Octets, NoMemory>
     requires { HasRoom (request_ends source size calling.now called.now) }
-    ensures { IfOk result (λ octets. octets ≡ control_packet (connection_fields 224 (request_ends source size calling.now called.now))) }
+    ensures { IfOk result (λ octets. octets
+        ≡ control_packet (connection_fields 224
+        (request_ends source size calling.now called.now))) }
 {
     let ends = Ends {
         destination: 0,
@@ -34,7 +36,8 @@ fn request(
 
 /// CC, of a responder, whose reference is 2.
 fn confirm(alloc: Global, destination: u16, size: Option<u8>) -> Result<Octets, NoMemory>
-    ensures { IfOk result (λ octets. octets ≡ control_packet (connection_fields 208 (confirm_ends destination size))) }
+    ensures { IfOk result (λ octets. octets
+        ≡ control_packet (connection_fields 208 (confirm_ends destination size))) }
 {
     let ends = Ends {
         destination,

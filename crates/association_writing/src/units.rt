@@ -38,7 +38,8 @@ fn unit_of_association(
     tables: &Tables,
     word: &AssociationWord,
 ) -> Result<Option<PresentationWord>, NoMemory>
-    ensures { IfOk result (λ unit. unit ≡ unit_of_association tables.now (seen_association word.now)) }
+    ensures { IfOk result (λ unit. unit ≡ unit_of_association tables.now
+        (seen_association word.now)) }
 {
     match word {
         AssociationWord::Connect {
@@ -75,7 +76,9 @@ fn connect_unit(
     presentation: &PresentationConnect,
     values: &[Value],
 ) -> Result<Option<PresentationWord>, NoMemory>
-    ensures { IfOk result (λ unit. unit ≡ Some (ppdus.Connect (record presentation.now { user = pdvs_of tables.now (seen_values values.now) }))) }
+    ensures { IfOk result (λ unit. unit
+        ≡ Some (ppdus.Connect (record presentation.now
+        { user = pdvs_of tables.now (seen_values values.now) }))) }
 {
     let mut unit = presentation.copy(alloc)?;
     unit.user = pdvs_of(alloc, codecs, tables, values)?;
@@ -90,7 +93,9 @@ fn accept_unit(
     presentation: &PresentationAccept,
     values: &[Value],
 ) -> Result<Option<PresentationWord>, NoMemory>
-    ensures { IfOk result (λ unit. unit ≡ Some (ppdus.Accept (record presentation.now { user = pdvs_of tables.now (seen_values values.now) }))) }
+    ensures { IfOk result (λ unit. unit
+        ≡ Some (ppdus.Accept (record presentation.now
+        { user = pdvs_of tables.now (seen_values values.now) }))) }
 {
     let mut unit = presentation.copy(alloc)?;
     unit.user = pdvs_of(alloc, codecs, tables, values)?;
@@ -105,7 +110,8 @@ fn refuse_unit(
     presentation: &Option<PresentationReject>,
     values: &[Value],
 ) -> Result<Option<PresentationWord>, NoMemory>
-    ensures { IfOk result (λ unit. unit ≡ option_map (reject_unit tables.now (seen_values values.now)) presentation.now) }
+    ensures { IfOk result (λ unit. unit
+        ≡ option_map (reject_unit tables.now (seen_values values.now)) presentation.now) }
 {
     let Some(presentation) = presentation else {
         return Ok(None);

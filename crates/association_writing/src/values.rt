@@ -38,7 +38,8 @@ fn external_of(
 
 /// User information in octets.
 fn externals_of(alloc: Global, codecs: &Codecs, user: &[Information]) -> Result<Externals, NoMemory>
-    ensures { IfOk result (λ externals. externals ≡ map external_of (map seen_information user.now)) }
+    ensures { IfOk result (λ externals. externals ≡ map external_of
+        (map seen_information user.now)) }
 {
     let mut externals = ListOf::new(alloc);
     for information in user {
@@ -93,7 +94,8 @@ fn association_octets(
     apdu: &Acse,
     user: &[Information],
 ) -> Result<Octets, NoMemory>
-    ensures { IfOk result (λ octets. octets ≡ written_acse (with_user (map seen_information user.now) apdu.now)) }
+    ensures { IfOk result (λ octets. octets
+        ≡ written_acse (with_user (map seen_information user.now) apdu.now)) }
 {
     let whole = with_user(alloc, codecs, user, apdu)?;
     codecs.acse.write(alloc, &whole)
@@ -117,7 +119,8 @@ pub fn write_content(
     syntax: Syntax,
     content: &Content,
 ) -> Result<Octets, NoMemory>
-    ensures { IfOk result (λ octets. octets ≡ content_octets tables.now syntax (seen_content content.now)) }
+    ensures { IfOk result (λ octets. octets ≡ content_octets tables.now syntax
+        (seen_content content.now)) }
 {
     match content {
         Content::Remote(apdu) => codecs.heads.write(alloc, syntax, tables, apdu),

@@ -114,7 +114,17 @@ impl Invocations {
         requires room { length (opens_of true self.old.opens) < 4096 }
         requires linked { is_link linked self.old.opens ≡ true }
         ensures id { IfOk result (λ id. id ≡ pos (self.old.made + 1)) }
-        ensures opened { OnOk result (self.new ≡ record { opens = self.old.opens ++ record { own = true; id = pos (self.old.made + 1); operation = operation; context = context; parent = linked } ∷ []; made = self.old.made + 1 }) }
+        ensures opened { OnOk result (self.new
+            ≡ record {
+              opens = self.old.opens ++ record {
+                own = true;
+                id = pos (self.old.made + 1);
+                operation = operation;
+                context = context;
+                parent = linked;
+              } ∷ [];
+              made = self.old.made + 1;
+            }) }
         ensures err { OnErr result (self.new ≡ self.old) }
     {
         self.forest.is_forest();
@@ -157,7 +167,14 @@ impl Invocations {
     ) -> Result<(), NoMemory>
         requires shut { opened_with false id.now self.old.opens ≡ None }
         requires linked { is_link_back linked self.old.opens ≡ true }
-        ensures admitted { OnOk result ((base : Base) → base.tables ≡ tables.now → self.new ≡ opening base (record { own = false; id = id.now; operation = called.operation; context = called.context; parent = linked }) self.old) }
+        ensures admitted { OnOk result ((base : Base) → base.tables ≡ tables.now →
+            self.new ≡ opening base (record {
+              own = false;
+              id = id.now;
+              operation = called.operation;
+              context = called.context;
+              parent = linked;
+            }) self.old) }
         ensures err { OnErr result (self.new ≡ self.old) }
     {
         self.performer.set_context(called.context);
@@ -174,7 +191,8 @@ impl Invocations {
         head: ApduHead,
     ) -> Result<RoseTaken, NoMemory>
         requires { SomeCarried tables.now syntax head }
-        ensures heard { IfOk result (λ taken. Hears tables.now syntax context head self.old self.new taken) }
+        ensures heard { IfOk result (λ taken. Hears tables.now syntax context head self.old self.new
+            taken) }
         ensures err { OnErr result (self.new ≡ self.old) }
     {
         match head.kind {

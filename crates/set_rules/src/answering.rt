@@ -35,7 +35,8 @@ fn takes_syntax(
     name: &[u32],
     syntax: &[u32],
 ) -> bool
-    ensures { result ≡ takes_syntax (plain_base tables.now config.now) connecting name.now syntax.now }
+    ensures { result ≡ takes_syntax (plain_base tables.now config.now) connecting name.now
+        syntax.now }
 {
     if connecting && is_association(tables, config, name) {
         return is_ber(syntax);
@@ -50,7 +51,8 @@ fn first_taken<'a>(
     connecting: bool,
     proposal: &'a Proposal,
 ) -> Option<&'a Oid>
-    ensures { option_copied result ≡ find (takes_syntax (plain_base tables.now config.now) connecting proposal.now.abstract_name) proposal.now.transfers }
+    ensures { option_copied result ≡ find (takes_syntax (plain_base tables.now config.now)
+        connecting proposal.now.abstract_name) proposal.now.transfers }
 {
     let name = proposal.abstract_name.arcs();
     for transfer in proposal.transfers.as_slice() {
@@ -98,7 +100,8 @@ fn answer_to_addition(
     count: usize,
     proposal: &Proposal,
 ) -> Result<AddAnswer, NoMemory>
-    ensures { IfOk result (λ answer. answer ≡ answer_to_addition (plain_base tables.now config.now) connecting count proposal.now) }
+    ensures { IfOk result (λ answer. answer ≡ answer_to_addition (plain_base tables.now config.now)
+        connecting count proposal.now) }
 {
     if !is_taken(tables, config, connecting, proposal.abstract_name.arcs()) {
         return Ok(rejection(1));
@@ -129,7 +132,8 @@ pub(crate) fn plain_answers(
     proposals: &[Proposal],
 ) -> Result<AddAnswers, NoMemory>
     requires { count < 2 ^ 32 }
-    ensures { IfOk result (λ answers. answers ≡ answers_to_additions (plain_base tables.now config.now) connecting count proposals.now) }
+    ensures { IfOk result (λ answers. answers ≡ answers_to_additions
+        (plain_base tables.now config.now) connecting count proposals.now) }
 {
     let mut count = count;
     let mut answers = ListOf::new(alloc);
@@ -152,7 +156,9 @@ pub fn answers_to_additions(
     proposals: &[Proposal],
 ) -> Result<AddAnswers, NoMemory>
     requires { count < 2 ^ 32 }
-    ensures { (spellings : Spellings) → IfOk result (λ answers. answers ≡ answers_to_additions (base_of tables.now config.now spellings) connecting count proposals.now) }
+    ensures { (spellings : Spellings) →
+        IfOk result (λ answers. answers ≡ answers_to_additions
+        (base_of tables.now config.now spellings) connecting count proposals.now) }
 {
     plain_answers(alloc, tables, config, connecting, count, proposals)
 }

@@ -29,7 +29,9 @@ pub fn opening_policy(
     config: &Config,
     proposals: &[Proposal],
 ) -> Result<AddAnswers, NoMemory>
-    ensures { (spellings : Spellings) → IfOk result (λ answers. answers ≡ opening_policy (base_of tables.now config.now spellings) proposals.now) }
+    ensures { (spellings : Spellings) →
+        IfOk result (λ answers. answers ≡ opening_policy (base_of tables.now config.now spellings)
+        proposals.now) }
 {
     plain_answers(alloc, tables, config, true, 0, proposals)
 }
@@ -41,7 +43,9 @@ pub fn set_for(
     config: &Config,
     presentation: &PresentationConnect,
 ) -> Result<SetList, NoMemory>
-    ensures { (spellings : Spellings) → IfOk result (λ set. set ≡ set_for (base_of tables.now config.now spellings) presentation.now) }
+    ensures { (spellings : Spellings) →
+        IfOk result (λ set. set ≡ set_for (base_of tables.now config.now spellings)
+        presentation.now) }
 {
     let proposals = presentation.definitions.as_slice();
     let answers = plain_answers(alloc, tables, config, true, 0, proposals)?;
@@ -92,7 +96,8 @@ pub fn accepted_for(
     config: &Config,
     results: &[AddAnswer],
 ) -> Result<SetList, NoMemory>
-    ensures { IfOk result (λ set. set ≡ accepted_set (own_proposals config.now.mode ++ config.now.contexts) results.now) }
+    ensures { IfOk result (λ set. set ≡ accepted_set (own_proposals config.now.mode
+        ++ config.now.contexts) results.now) }
 {
     let proposals = proposals(alloc, config)?;
     accepted_set(alloc, proposals.as_slice(), results)
@@ -105,7 +110,9 @@ pub fn set_accepted(
     config: &Config,
     presentation: &PresentationAccept,
 ) -> Result<SetList, NoMemory>
-    ensures { (spellings : Spellings) → IfOk result (λ set. set ≡ set_accepted (base_of tables.now config.now spellings) presentation.now) }
+    ensures { (spellings : Spellings) →
+        IfOk result (λ set. set ≡ set_accepted (base_of tables.now config.now spellings)
+        presentation.now) }
 {
     let _tables = tables;
     accepted_for(alloc, config, presentation.results.as_slice())
