@@ -32,7 +32,8 @@ pub(crate) fn is_word(name: &Name, word: &str) -> bool
 /// The command that these words give, where they give one: exactly the three words `replay`,
 /// the module's name and the schedule's.
 pub fn command(words: &Words) -> Option<Replay<'_>>
-    ensures { MatchOption result (command_of words.now ≡ None) (λ replay. command_of words.now ≡ Some (record { «module» = replay.module.now; schedule = replay.schedule.now })) }
+    ensures { MatchOption result (command_of words.now ≡ None) (λ replay. command_of words.now
+        ≡ Some (record { «module» = replay.module.now; schedule = replay.schedule.now })) }
 {
     match words.as_slice() {
         [word, module, schedule] => {

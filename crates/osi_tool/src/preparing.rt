@@ -29,8 +29,10 @@ pub fn read_file<F: Files>(
 ) -> Result<Option<Octets>, NoMemory>
     ensures count { F.faults files.old ≤ F.faults files.new }
     ensures kept { F.told files.new ≡ F.told files.old }
-    ensures read { IfOk result (λ octets. WasRead (F.told files.old) (F.faults files.old) (F.faults files.new) name.now octets) }
-    ensures ok_count { IfOk result (λ octets. KeepsCountAt (F.faults files.old) (F.faults files.new) octets) }
+    ensures read { IfOk result (λ octets. WasRead (F.told files.old) (F.faults files.old)
+        (F.faults files.new) name.now octets) }
+    ensures ok_count { IfOk result (λ octets. KeepsCountAt (F.faults files.old) (F.faults files.new)
+        octets) }
     ensures ok_asked { OnOk result (F.asked files.new ≡ logged name.now (F.asked files.old)) }
     ensures err_count { OnErr result (F.faults files.new ≡ F.faults files.old) }
     ensures err_asked { OnErr result (F.asked files.new ≡ F.asked files.old) }
@@ -45,7 +47,8 @@ pub fn read_file<F: Files>(
 
 /// What a schedule's text makes.
 fn prepare_schedule(alloc: Global, tables: &Tables, text: &[u8]) -> Result<Prepared, NoMemory>
-    ensures { IfOk result (λ prepared. prepared_by (schedule_of tables.now text.now) ≡ Some prepared) }
+    ensures { IfOk result (λ prepared. prepared_by (schedule_of tables.now text.now)
+        ≡ Some prepared) }
 {
     match read_schedule(alloc, tables, text) {
         Ok(schedule) => Ok(Prepared::Ready(schedule)),
@@ -66,8 +69,10 @@ fn prepare_named_schedule<F: Files>(
 ) -> Result<Prepared, NoMemory>
     ensures count { F.faults files.old ≤ F.faults files.new }
     ensures kept { F.told files.new ≡ F.told files.old }
-    ensures prepared { IfOk result (λ prepared. PreparesSchedule tables.now (F.told files.old) (F.faults files.old) (F.faults files.new) name.now prepared) }
-    ensures counts { IfOk result (λ prepared. KeepsCountFor (F.faults files.old) (F.faults files.new) prepared) }
+    ensures prepared { IfOk result (λ prepared. PreparesSchedule tables.now (F.told files.old)
+        (F.faults files.old) (F.faults files.new) name.now prepared) }
+    ensures counts { IfOk result (λ prepared. KeepsCountFor (F.faults files.old)
+        (F.faults files.new) prepared) }
     ensures err_count { OnErr result (F.faults files.new ≡ F.faults files.old) }
     ensures asked { MayAsk name.now (F.asked files.old) (F.asked files.new) }
     ensures ok_asked { OnOk result (F.asked files.new ≡ logged name.now (F.asked files.old)) }
@@ -90,11 +95,18 @@ fn prepare_module<F: Files>(
 ) -> Result<Prepared, NoMemory>
     ensures count { F.faults files.old ≤ F.faults files.new }
     ensures kept { F.told files.new ≡ F.told files.old }
-    ensures prepared { IfOk result (λ prepared. PreparesModule tables.now (F.told files.old) (F.faults files.old) (F.faults files.new) (record { «module» = «module».now; schedule = schedule.now }) prepared) }
-    ensures counts { IfOk result (λ prepared. KeepsCountFor (F.faults files.old) (F.faults files.new) prepared) }
+    ensures prepared { IfOk result (λ prepared. PreparesModule tables.now (F.told files.old)
+        (F.faults files.old) (F.faults files.new)
+        (record { «module» = «module».now; schedule = schedule.now }) prepared) }
+    ensures counts { IfOk result (λ prepared. KeepsCountFor (F.faults files.old)
+        (F.faults files.new) prepared) }
     ensures err_count { OnErr result (F.faults files.new ≡ F.faults files.old) }
-    ensures asked { Asks (F.told files.old) (F.faults files.old) (F.faults files.new) (F.asked files.old) (F.asked files.new) (Some (record { «module» = «module».now; schedule = schedule.now })) }
-    ensures asked_for { IfOk result (λ prepared. AskedFor (Some (record { «module» = «module».now; schedule = schedule.now })) (F.asked files.old) (F.asked files.new) prepared) }
+    ensures asked { Asks (F.told files.old) (F.faults files.old) (F.faults files.new)
+        (F.asked files.old) (F.asked files.new)
+        (Some (record { «module» = «module».now; schedule = schedule.now })) }
+    ensures asked_for { IfOk result (λ prepared. AskedFor
+        (Some (record { «module» = «module».now; schedule = schedule.now })) (F.asked files.old)
+        (F.asked files.new) prepared) }
 {
     let unread = cannot_read(alloc, module)?;
     let Some(text) = read_file(alloc, files, module)? else {
@@ -116,11 +128,15 @@ pub fn prepare<F: Files>(
 ) -> Result<Prepared, NoMemory>
     ensures count { F.faults files.old ≤ F.faults files.new }
     ensures kept { F.told files.new ≡ F.told files.old }
-    ensures prepared { IfOk result (λ prepared. Prepares tables.now (F.told files.old) (F.faults files.old) (F.faults files.new) (command_of words.now) prepared) }
-    ensures counts { IfOk result (λ prepared. KeepsCountFor (F.faults files.old) (F.faults files.new) prepared) }
+    ensures prepared { IfOk result (λ prepared. Prepares tables.now (F.told files.old)
+        (F.faults files.old) (F.faults files.new) (command_of words.now) prepared) }
+    ensures counts { IfOk result (λ prepared. KeepsCountFor (F.faults files.old)
+        (F.faults files.new) prepared) }
     ensures err_count { OnErr result (F.faults files.new ≡ F.faults files.old) }
-    ensures asked { Asks (F.told files.old) (F.faults files.old) (F.faults files.new) (F.asked files.old) (F.asked files.new) (command_of words.now) }
-    ensures asked_for { IfOk result (λ prepared. AskedFor (command_of words.now) (F.asked files.old) (F.asked files.new) prepared) }
+    ensures asked { Asks (F.told files.old) (F.faults files.old) (F.faults files.new)
+        (F.asked files.old) (F.asked files.new) (command_of words.now) }
+    ensures asked_for { IfOk result (λ prepared. AskedFor (command_of words.now) (F.asked files.old)
+        (F.asked files.new) prepared) }
 {
     match command(words) {
         None => Ok(Prepared::Answered(usage(alloc)?)),

@@ -23,7 +23,8 @@ pub enum Arguments {
 
 /// The arguments but the first, as words.
 fn words_of(alloc: Global, arguments: &[String]) -> Result<Words, NoMemory>
-    ensures { IfOk result (λ words. words ≡ map (λ argument. string_bytes argument) (drop 1 arguments.now)) }
+    ensures { IfOk result (λ words. words ≡ map (λ argument. string_bytes argument)
+        (drop 1 arguments.now)) }
 {
     let [_, given @ ..] = arguments else {
         return Ok(Words::new(alloc));
@@ -55,8 +56,12 @@ pub fn run_process<F: Files, O: Sink, L: Line>(
     out: &mut O,
     line: &mut L,
 ) -> u8
-    ensures exits { Exits (F.told files.old) (F.faults files.old) (F.faults files.new) (words_given arguments) (O.faults out.old) (O.faults out.new) (O.told out.old) (O.told out.new) result }
-    ensures asked { AsksFor (trace_of (words_given arguments)) (F.told files.old) (F.faults files.old) (F.faults files.new) (F.asked files.old) (F.asked files.new) (command_of (words_given arguments)) }
+    ensures exits { Exits (F.told files.old) (F.faults files.old) (F.faults files.new)
+        (words_given arguments) (O.faults out.old) (O.faults out.new) (O.told out.old)
+        (O.told out.new) result }
+    ensures asked { AsksFor (trace_of (words_given arguments)) (F.told files.old)
+        (F.faults files.old) (F.faults files.new) (F.asked files.old) (F.asked files.new)
+        (command_of (words_given arguments)) }
 {
     match read_words(alloc, arguments) {
         Ok(words) => exit_code(osi_run(alloc, &words, files, out, line)),

@@ -17,7 +17,11 @@ use stub_tables::Tables;
 /// lack.
 fn new_end<'t>(alloc: Global, tables: &'t Tables, config: Config) -> Result<End<'t>, NoMemory>
     requires { config_refusal config ≡ None }
-    ensures { IfOk result (λ end. end ≡ record { tables = tables.entry.now; config = config; state = bare_start tables.entry.now }) }
+    ensures { IfOk result (λ end. end ≡ record {
+      tables = tables.entry.now;
+      config = config;
+      state = bare_start tables.entry.now;
+    }) }
 {
     match End::new(alloc, tables, config) {
         Ok(end) => Ok(end),

@@ -20,11 +20,15 @@ use std::alloc::Global;
 fn answer_words<F: Files>(alloc: Global, words: &Words, files: &mut F) -> Result<Answer, NoMemory>
     ensures count { F.faults files.old ≤ F.faults files.new }
     ensures kept { F.told files.new ≡ F.told files.old }
-    ensures answer { IfOk result (λ answer. IsAnswer (F.told files.old) (F.faults files.old) (F.faults files.new) words.now answer) }
-    ensures counts { IfOk result (λ answer. KeepsCount (F.faults files.old) (F.faults files.new) answer) }
+    ensures answer { IfOk result (λ answer. IsAnswer (F.told files.old) (F.faults files.old)
+        (F.faults files.new) words.now answer) }
+    ensures counts { IfOk result (λ answer. KeepsCount (F.faults files.old) (F.faults files.new)
+        answer) }
     ensures err_count { OnErr result (F.faults files.new ≡ F.faults files.old) }
-    ensures asked { Asks (F.told files.old) (F.faults files.old) (F.faults files.new) (F.asked files.old) (F.asked files.new) (command_of words.now) }
-    ensures asked_for { IfOk result (λ answer. AskedBy (command_of words.now) (F.asked files.old) (F.asked files.new) answer.status) }
+    ensures asked { Asks (F.told files.old) (F.faults files.old) (F.faults files.new)
+        (F.asked files.old) (F.asked files.new) (command_of words.now) }
+    ensures asked_for { IfOk result (λ answer. AskedBy (command_of words.now) (F.asked files.old)
+        (F.asked files.new) answer.status) }
 {
     let tables = one_tables(alloc)?;
     match prepare(alloc, &tables, words, files)? {
@@ -43,9 +47,15 @@ fn run_trace<F: Files, O: Sink>(
     ensures files { F.faults files.old ≤ F.faults files.new }
     ensures contents { F.told files.new ≡ F.told files.old }
     ensures sink { O.faults out.old ≤ O.faults out.new }
-    ensures asked { AsksTrace (F.told files.old) (F.faults files.old) (F.faults files.new) (F.asked files.old) (F.asked files.new) (trace_command trace.entry.module.now trace.entry.file.now) }
-    ensures asked_for { AskedAtEnd (Some (files_of (trace_command trace.entry.module.now trace.entry.file.now))) (F.asked files.old) (F.asked files.new) result }
-    ensures closes { ClosesTrace (F.told files.old) (F.faults files.old) (F.faults files.new) (trace_command trace.entry.module.now trace.entry.file.now) (O.faults out.old) (O.faults out.new) (O.told out.old) (O.told out.new) result }
+    ensures asked { AsksTrace (F.told files.old) (F.faults files.old) (F.faults files.new)
+        (F.asked files.old) (F.asked files.new)
+        (trace_command trace.entry.module.now trace.entry.file.now) }
+    ensures asked_for { AskedAtEnd (Some
+        (files_of (trace_command trace.entry.module.now trace.entry.file.now))) (F.asked files.old)
+        (F.asked files.new) result }
+    ensures closes { ClosesTrace (F.told files.old) (F.faults files.old) (F.faults files.new)
+        (trace_command trace.entry.module.now trace.entry.file.now) (O.faults out.old)
+        (O.faults out.new) (O.told out.old) (O.told out.new) result }
 {
     conclude(out, answer_trace(alloc, trace, files))
 }
@@ -55,9 +65,12 @@ fn run_others<F: Files, O: Sink>(alloc: Global, words: &Words, files: &mut F, ou
     ensures files { F.faults files.old ≤ F.faults files.new }
     ensures contents { F.told files.new ≡ F.told files.old }
     ensures sink { O.faults out.old ≤ O.faults out.new }
-    ensures asked { Asks (F.told files.old) (F.faults files.old) (F.faults files.new) (F.asked files.old) (F.asked files.new) (command_of words.now) }
-    ensures asked_for { AskedAtEnd (command_of words.now) (F.asked files.old) (F.asked files.new) result }
-    ensures closes { Closes (F.told files.old) (F.faults files.old) (F.faults files.new) words.now (O.faults out.old) (O.faults out.new) (O.told out.old) (O.told out.new) result }
+    ensures asked { Asks (F.told files.old) (F.faults files.old) (F.faults files.new)
+        (F.asked files.old) (F.asked files.new) (command_of words.now) }
+    ensures asked_for { AskedAtEnd (command_of words.now) (F.asked files.old) (F.asked files.new)
+        result }
+    ensures closes { Closes (F.told files.old) (F.faults files.old) (F.faults files.new) words.now
+        (O.faults out.old) (O.faults out.new) (O.told out.old) (O.told out.new) result }
 {
     conclude(out, answer_words(alloc, words, files))
 }
@@ -67,9 +80,13 @@ fn run_words<F: Files, O: Sink>(alloc: Global, words: &Words, files: &mut F, out
     ensures files { F.faults files.old ≤ F.faults files.new }
     ensures contents { F.told files.new ≡ F.told files.old }
     ensures sink { O.faults out.old ≤ O.faults out.new }
-    ensures asked { AsksFor (trace_of words.now) (F.told files.old) (F.faults files.old) (F.faults files.new) (F.asked files.old) (F.asked files.new) (command_of words.now) }
-    ensures asked_for { AskedForBy (trace_of words.now) (command_of words.now) (F.asked files.old) (F.asked files.new) result }
-    ensures closes { ClosesFor (trace_of words.now) (F.told files.old) (F.faults files.old) (F.faults files.new) words.now (O.faults out.old) (O.faults out.new) (O.told out.old) (O.told out.new) result }
+    ensures asked { AsksFor (trace_of words.now) (F.told files.old) (F.faults files.old)
+        (F.faults files.new) (F.asked files.old) (F.asked files.new) (command_of words.now) }
+    ensures asked_for { AskedForBy (trace_of words.now) (command_of words.now) (F.asked files.old)
+        (F.asked files.new) result }
+    ensures closes { ClosesFor (trace_of words.now) (F.told files.old) (F.faults files.old)
+        (F.faults files.new) words.now (O.faults out.old) (O.faults out.new) (O.told out.old)
+        (O.told out.new) result }
 {
     match trace_given(words) {
         None => run_others(alloc, words, files, out),
@@ -108,31 +125,60 @@ pub fn osi_run<F: Files, O: Sink, L: Line>(
     ensures contents { F.told files.new ≡ F.told files.old }
     ensures sink { O.faults out.old ≤ O.faults out.new }
     ensures line { line.new ≡ line.old }
-    ensures asked { AsksFor (trace_of words.now) (F.told files.old) (F.faults files.old) (F.faults files.new) (F.asked files.old) (F.asked files.new) (command_of words.now) }
-    ensures asked_for { AskedForBy (trace_of words.now) (command_of words.now) (F.asked files.old) (F.asked files.new) result }
-    ensures files_count { trace_of words.now ≡ None → CountsFiles (F.told files.old) (F.faults files.old) (F.faults files.new) words.now (O.told out.old) (O.told out.new) result }
-    ensures sink_count { trace_of words.now ≡ None → CountsWrites (O.faults out.old) (O.faults out.new) result }
+    ensures asked { AsksFor (trace_of words.now) (F.told files.old) (F.faults files.old)
+        (F.faults files.new) (F.asked files.old) (F.asked files.new) (command_of words.now) }
+    ensures asked_for { AskedForBy (trace_of words.now) (command_of words.now) (F.asked files.old)
+        (F.asked files.new) result }
+    ensures files_count { trace_of words.now ≡ None →
+        CountsFiles (F.told files.old) (F.faults files.old) (F.faults files.new) words.now
+        (O.told out.old) (O.told out.new) result }
+    ensures sink_count { trace_of words.now ≡ None →
+        CountsWrites (O.faults out.old) (O.faults out.new) result }
 
     // The whole of it, of which all that follows is said again in parts
-    ensures closes { ClosesFor (trace_of words.now) (F.told files.old) (F.faults files.old) (F.faults files.new) words.now (O.faults out.old) (O.faults out.new) (O.told out.old) (O.told out.new) result }
+    ensures closes { ClosesFor (trace_of words.now) (F.told files.old) (F.faults files.old)
+        (F.faults files.new) words.now (O.faults out.old) (O.faults out.new) (O.told out.old)
+        (O.told out.new) result }
 
     // What each status says
-    ensures done { trace_of words.now ≡ None → result ≡ Status.Done → IsDone (F.told files.old) (F.faults files.old) (F.faults files.new) words.now (O.told out.old) (O.told out.new) }
-    ensures usage { trace_of words.now ≡ None → result ≡ Status.Usage → IsUsage words.now (O.told out.old) (O.told out.new) }
-    ensures read_fault { trace_of words.now ≡ None → result ≡ Status.ReadFault → IsUnread (F.told files.old) (F.faults files.old) (F.faults files.new) words.now (O.told out.old) (O.told out.new) }
-    ensures module_refused { trace_of words.now ≡ None → result ≡ Status.ModuleRefused → IsOtherModule (F.told files.old) (F.faults files.old) (F.faults files.new) words.now (O.told out.old) (O.told out.new) }
-    ensures script_refused { trace_of words.now ≡ None → result ≡ Status.ScriptRefused → IsBadScript (F.told files.old) (F.faults files.old) (F.faults files.new) words.now (O.told out.old) (O.told out.new) }
-    ensures write_fault { trace_of words.now ≡ None → result ≡ Status.WriteFault → Rose (O.faults out.old) (O.faults out.new) × IsBegun (F.told files.old) (F.faults files.old) (F.faults files.new) words.now (O.told out.old) (O.told out.new) }
-    ensures no_memory { trace_of words.now ≡ None → result ≡ Status.NoMemory → (O.told out.new ≡ O.told out.old) ⊎ IsBegun (F.told files.old) (F.faults files.old) (F.faults files.new) words.now (O.told out.old) (O.told out.new) }
-    ensures no_other { (result ≢ Status.LineFault) × (result ≢ Status.Ended) × (result ≢ Status.Spent) }
+    ensures done { trace_of words.now ≡ None → result ≡ Status.Done →
+        IsDone (F.told files.old) (F.faults files.old) (F.faults files.new) words.now
+        (O.told out.old) (O.told out.new) }
+    ensures usage { trace_of words.now ≡ None → result ≡ Status.Usage →
+        IsUsage words.now (O.told out.old) (O.told out.new) }
+    ensures read_fault { trace_of words.now ≡ None → result ≡ Status.ReadFault →
+        IsUnread (F.told files.old) (F.faults files.old) (F.faults files.new) words.now
+        (O.told out.old) (O.told out.new) }
+    ensures module_refused { trace_of words.now ≡ None → result ≡ Status.ModuleRefused →
+        IsOtherModule (F.told files.old) (F.faults files.old) (F.faults files.new) words.now
+        (O.told out.old) (O.told out.new) }
+    ensures script_refused { trace_of words.now ≡ None → result ≡ Status.ScriptRefused →
+        IsBadScript (F.told files.old) (F.faults files.old) (F.faults files.new) words.now
+        (O.told out.old) (O.told out.new) }
+    ensures write_fault { trace_of words.now ≡ None → result ≡ Status.WriteFault →
+        Rose (O.faults out.old) (O.faults out.new) × IsBegun (F.told files.old) (F.faults files.old)
+        (F.faults files.new) words.now (O.told out.old) (O.told out.new) }
+    ensures no_memory { trace_of words.now ≡ None → result ≡ Status.NoMemory →
+        (O.told out.new ≡ O.told out.old) ⊎ IsBegun (F.told files.old) (F.faults files.old)
+        (F.faults files.new) words.now (O.told out.old) (O.told out.new) }
+    ensures no_other { (result ≢ Status.LineFault) × (result ≢ Status.Ended) ×
+        (result ≢ Status.Spent) }
 
     // When each status comes
-    ensures no_command { trace_of words.now ≡ None → command_of words.now ≡ None → IsUnless (O.faults out.old) (O.faults out.new) Status.Usage result }
-    ensures due { trace_of words.now ≡ None → IfSome (F.told files.old) (λ map. IsCalm (F.faults files.old) (F.faults files.new) → IsUnless (O.faults out.old) (O.faults out.new) (due_status map (command_of words.now)) result) }
-    ensures complete { trace_of words.now ≡ None → IsSure (F.told files.old) (F.faults files.old) (F.faults files.new) words.now (O.faults out.old) (O.faults out.new) → (result ≡ Status.Done) ⊎ (result ≡ Status.NoMemory) }
+    ensures no_command { trace_of words.now ≡ None → command_of words.now ≡ None →
+        IsUnless (O.faults out.old) (O.faults out.new) Status.Usage result }
+    ensures due { trace_of words.now ≡ None →
+        IfSome (F.told files.old) (λ map. IsCalm (F.faults files.old) (F.faults files.new) →
+        IsUnless (O.faults out.old) (O.faults out.new) (due_status map (command_of words.now))
+        result) }
+    ensures complete { trace_of words.now ≡ None → IsSure (F.told files.old) (F.faults files.old)
+        (F.faults files.new) words.now (O.faults out.old) (O.faults out.new) →
+        (result ≡ Status.Done) ⊎ (result ≡ Status.NoMemory) }
 
     // Words that are a trace: all that is said of it
-    ensures trace { (command : TraceCommand) → trace_of words.now ≡ Some command → TraceEnds (F.told files.old) (F.faults files.old) (F.faults files.new) command (O.faults out.old) (O.faults out.new) (O.told out.old) (O.told out.new) result }
+    ensures trace { (command : TraceCommand) → trace_of words.now ≡ Some command →
+        TraceEnds (F.told files.old) (F.faults files.old) (F.faults files.new) command
+        (O.faults out.old) (O.faults out.new) (O.told out.old) (O.told out.new) result }
 {
     run_words(alloc, words, files, out)
 }
