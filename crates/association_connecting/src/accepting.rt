@@ -33,11 +33,7 @@ fn lacks_accept(apdu: Option<&Rtse>) -> bool
 }
 
 /// What may not stand in the user information of an AC.
-fn transfer_fault(
-    basis: &Ground<'_>,
-    accepted: &[SetItem],
-    values: &[Value],
-) -> Option<Fault>
+fn transfer_fault(basis: &Ground<'_>, accepted: &[SetItem], values: &[Value]) -> Option<Fault>
     ensures { option_map seen_fault result ≡ or_fault (information_fault is_open_accept accepted.now (user_of (the_one (seen_values values.now)))) (fault_if (lacks_accept (rtse_in (user_of (the_one (seen_values values.now))))) rtse_fault) }
 {
     let user = user_of(values);

@@ -48,9 +48,14 @@ pub(crate) fn rejection_of(body: &Body, apdu: Option<&Rtse>) -> Option<u8>
     ensures { result ≡ rejection_of (seen body.now) (option_copied apdu.entry) }
 {
     match apdu {
-        Some(Rtse::OpenRequest {
-            window, mode, data, ..
-        }) => {
+        Some(
+            Rtse::OpenRequest {
+                window,
+                mode,
+                data,
+                ..
+            },
+        ) => {
             if *mode != 1 {
                 return Some(3);
             }
@@ -82,15 +87,23 @@ pub(crate) fn agreed_with(basis: &Ground<'_>, apdu: Option<&Rtse>) -> Agreed
     ensures { seen_agreed result ≡ agreed_with (base_in basis.now) (option_copied apdu.entry) }
 {
     match apdu {
-        Some(Rtse::OpenRequest {
-            checkpoint, window, ..
-        }) => Agreed {
+        Some(
+            Rtse::OpenRequest {
+                checkpoint,
+                window,
+                ..
+            },
+        ) => Agreed {
             checkpoint: agreed_checkpoint(basis.config.checkpoint, *checkpoint),
             window: basis.config.window.min(*window),
         },
-        Some(Rtse::OpenAccept {
-            checkpoint, window, ..
-        }) => Agreed {
+        Some(
+            Rtse::OpenAccept {
+                checkpoint,
+                window,
+                ..
+            },
+        ) => Agreed {
             checkpoint: *checkpoint,
             window: *window,
         },
@@ -106,26 +119,27 @@ pub(crate) fn names_recovery(apdu: Option<&Rtse>) -> bool
     ensures { result ≡ names_recovery (option_copied apdu.entry) }
 {
     match apdu {
-        Some(Rtse::OpenRequest {
-            data: ConnectionData::Recover { .. },
-            ..
-        }) => true,
+        Some(
+            Rtse::OpenRequest {
+                data: ConnectionData::Recover { .. },
+                ..
+            },
+        ) => true,
         _ => false,
     }
 }
 
 /// The connection data of the answer to what came: of the form that came.
-pub(crate) fn data_for(
-    basis: &Ground<'_>,
-    apdu: Option<&Rtse>,
-) -> Result<ConnectionData, NoMemory>
+pub(crate) fn data_for(basis: &Ground<'_>, apdu: Option<&Rtse>) -> Result<ConnectionData, NoMemory>
     ensures { IfOk result (λ d. d ≡ answering_data (base_in basis.now) (data_named (base_in basis.now) (option_copied apdu.entry))) }
 {
     match apdu {
-        Some(Rtse::OpenRequest {
-            data: ConnectionData::Recover { reference, common },
-            ..
-        }) => Ok(ConnectionData::Recover {
+        Some(
+            Rtse::OpenRequest {
+                data: ConnectionData::Recover { reference, common },
+                ..
+            },
+        ) => Ok(ConnectionData::Recover {
             reference: reference.copy(basis.alloc)?,
             common: common.copy(basis.alloc)?,
         }),

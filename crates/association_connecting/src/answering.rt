@@ -17,9 +17,7 @@ use association_sends::{
 };
 use association_state::{Body, Ground};
 use association_words::{Information, Message, UserInformation, Value};
-use osi_base::{
-    AddAnswers, ListOf, NoMemory, PresentationConnect, Rtse, SessionConnect, SetItem,
-};
+use osi_base::{AddAnswers, ListOf, NoMemory, PresentationConnect, Rtse, SessionConnect, SetItem};
 use set_rules::opening_policy;
 
 /// What the list of a CN is answered.

@@ -70,10 +70,7 @@ pub fn association_fault(
         AssociationWord::Finish {
             transport: _,
             values,
-        } => Ok(acse_fault_unless(
-            basis,
-            is_release_request(values.as_slice()),
-        )),
+        } => Ok(acse_fault_unless(basis, is_release_request(values.as_slice()))),
         AssociationWord::Disconnect { values } => Ok(acse_fault_unless(
             basis,
             is_release_response(values.as_slice()),
@@ -113,11 +110,7 @@ fn own_contexts(basis: &Ground<'_>, body: &Body) -> Result<SetList, NoMemory>
 }
 
 /// What is shown as the association ends: the cuts, and then this.
-fn shown_end(
-    basis: &Ground<'_>,
-    body: &Body,
-    last: Indication,
-) -> Result<Indications, NoMemory>
+fn shown_end(basis: &Ground<'_>, body: &Body, last: Indication) -> Result<Indications, NoMemory>
     ensures { IfOk result (λ shown. shown ≡ cuts (seen body.now) ++ last ∷ []) }
 {
     let mut shown: Indications = ListOf::new(basis.alloc);
@@ -127,11 +120,7 @@ fn shown_end(
 }
 
 /// The association ends without an answer, and this is shown.
-fn end_quietly(
-    basis: &Ground<'_>,
-    body: &mut Body,
-    last: Indication,
-) -> Result<Taken, NoMemory>
+fn end_quietly(basis: &Ground<'_>, body: &mut Body, last: Indication) -> Result<Taken, NoMemory>
     ensures body { OnOk result (seen body.new ≡ over (seen body.old)) }
     ensures taken { IfOk result (TakenAs [] (cuts (seen body.old) ++ last ∷ [])) }
 {

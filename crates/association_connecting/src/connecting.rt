@@ -84,21 +84,19 @@ pub(crate) fn session_refuses(basis: &Ground<'_>, session: &SessionConnect) -> b
 {
     let mode = basis.config.mode;
     !has_version_two(session.version)
-        || !has_units(needed_units(mode), selected_with(mode, session.requirements))
+        || !has_units(
+            needed_units(mode),
+            selected_with(mode, session.requirements),
+        )
         || has_other_initial(session.initial)
         || gives_token(session.token_setting)
 }
 
 /// Whether reliable transfer isn't accepted, or there is no RTORQ.
-pub(crate) fn lacks_request(
-    basis: &Ground<'_>,
-    accepted: &[SetItem],
-    values: &[Value],
-) -> bool
+pub(crate) fn lacks_request(basis: &Ground<'_>, accepted: &[SetItem], values: &[Value]) -> bool
     ensures { result ≡ lacks_request (base_in basis.now) accepted.now (seen_values values.now) }
 {
-    is_reliable(basis.config.mode)
-        && (!has_rtse(accepted) || rtse_in(user_of(values)).is_none())
+    is_reliable(basis.config.mode) && (!has_rtse(accepted) || rtse_in(user_of(values)).is_none())
 }
 
 /// Whether the presentation or association control refuses: a default context stands; association
@@ -118,11 +116,7 @@ pub(crate) fn presentation_refuses(
 }
 
 /// The reason for which reliable transfer rejects, if it does.
-pub(crate) fn transfer_rejection(
-    basis: &Ground<'_>,
-    body: &Body,
-    values: &[Value],
-) -> Option<u8>
+pub(crate) fn transfer_rejection(basis: &Ground<'_>, body: &Body, values: &[Value]) -> Option<u8>
     ensures { result ≡ transfer_rejection (base_in basis.now) (seen body.now) (seen_values values.now) }
 {
     if is_reliable(basis.config.mode) {

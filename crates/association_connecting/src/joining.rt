@@ -1,7 +1,6 @@
 //! What an end holds once an opening is accepted.
 
 ghost use Rattle.std.specs.Prelude.{◌≡◌, OnOk};
-
 ghost use Rattle.end_rules.specs.Connecting.{joined_with, begun_with, refused_connect};
 ghost use Rattle.association_connecting.specs.Agreed.{seen_agreed};
 ghost use Rattle.association_connecting.specs.Joined.{kept_first, stood};
@@ -26,11 +25,7 @@ pub(crate) struct Terms<'a> {
 
 /// In direct mode number 0 saves the accepted contexts; in reliable mode they are the inter-activity
 /// set.
-fn keep_first(
-    basis: &Ground<'_>,
-    body: &mut Body,
-    accepted: &[SetItem],
-) -> Result<(), NoMemory>
+fn keep_first(basis: &Ground<'_>, body: &mut Body, accepted: &[SetItem]) -> Result<(), NoMemory>
     ensures { OnOk result (seen body.new ≡ kept_first basis.now.config.mode accepted.now (seen body.old)) }
 {
     match basis.config.mode {
@@ -66,11 +61,7 @@ fn stand(basis: &Ground<'_>, body: &mut Body, terms: &Terms<'_>, accepted: SetLi
 }
 
 /// Both ends hold the accepted contexts, and the association stands.
-pub(crate) fn join(
-    basis: &Ground<'_>,
-    body: &mut Body,
-    terms: &Terms<'_>,
-) -> Result<(), NoMemory>
+pub(crate) fn join(basis: &Ground<'_>, body: &mut Body, terms: &Terms<'_>) -> Result<(), NoMemory>
     ensures { OnOk result (seen body.new ≡ joined_with (base_in basis.now) terms.now.accepted.now terms.now.selected terms.now.manages (seen_agreed terms.now.agreed) (seen body.old)) }
 {
     let accepted = copy_set(basis.alloc, terms.accepted)?;

@@ -4,8 +4,8 @@
 mod accepting;
 mod agreeing;
 mod answering;
-mod association;
 mod associated;
+mod association;
 mod connecting;
 mod joining;
 mod refusing;

@@ -28,11 +28,7 @@ fn recovers_in(basis: &Ground<'_>, values: &[Value]) -> bool
 }
 
 /// What is shown of an opening: one that reaches a broken end gives the old association up.
-fn shown_opening(
-    basis: &Ground<'_>,
-    body: &Body,
-    recovers: bool,
-) -> Result<Indications, NoMemory>
+fn shown_opening(basis: &Ground<'_>, body: &Body, recovers: bool) -> Result<Indications, NoMemory>
     ensures { IfOk result (λ shown. shown ≡ shown_opening (seen body.now) recovers) }
 {
     let mut shown: Indications = ListOf::new(basis.alloc);
@@ -86,11 +82,7 @@ fn accept(basis: &Ground<'_>, body: &mut Body, asked: Asked<'_>) -> Result<Taken
 }
 
 /// Refuses a CN.
-fn refuse_asked(
-    basis: &Ground<'_>,
-    body: &mut Body,
-    asked: Asked<'_>,
-) -> Result<Taken, NoMemory> {
+fn refuse_asked(basis: &Ground<'_>, body: &mut Body, asked: Asked<'_>) -> Result<Taken, NoMemory> {
     let message = refusal_message(
         basis,
         body,

@@ -1,6 +1,7 @@
 //! One end of an association.
 
 use crate::queue::{OctetQueue, copy_front};
+use apdu_codec::Heads;
 use association_codecs::Codecs;
 use association_ground::is_up;
 use association_intake::Intake;
@@ -10,7 +11,6 @@ use association_words::{Message, TransportUnit};
 use association_writing::write_message;
 use dialogue::{Call, CallRefusal, Config, ConfigRefusal, Phase};
 use end_config::check_config;
-use apdu_codec::Heads;
 use osi_base::NoMemory;
 use std::alloc::Global;
 use stub_tables::Tables;
@@ -49,7 +49,11 @@ fn named_size(code: u8) -> u32 {
 impl<'t> End<'t> {
     /// An end of direct or reliable mode with these tables and this configuration. Refused is what
     /// `check_config` refuses, and want of memory.
-    pub fn new(alloc: Global, tables: &'t Tables, config: Config) -> Result<End<'t>, ConfigRefusal> {
+    pub fn new(
+        alloc: Global,
+        tables: &'t Tables,
+        config: Config,
+    ) -> Result<End<'t>, ConfigRefusal> {
         check_config(alloc, &config)?;
         let Ok(end) = End::with(alloc, tables, config) else {
             return Err(ConfigRefusal::NoMemory);
@@ -78,9 +82,12 @@ impl<'t> End<'t> {
 
     /// The size that a message names becomes that of this connection.
     fn agree(&mut self, message: &Message) {
-        if let Message::Transport(TransportUnit::ConnectionConfirm {
-            size: Some(code), ..
-        }) = message
+        if let Message::Transport(
+            TransportUnit::ConnectionConfirm {
+                size: Some(code),
+                ..
+            },
+        ) = message
         {
             self.size = named_size(*code);
         }

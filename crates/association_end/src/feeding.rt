@@ -9,9 +9,7 @@ use association_place::{is_unit_in_place, is_unit_purged};
 use association_reacting::react;
 use association_sets::copy_set;
 use association_takes::end_taken;
-use association_words::{
-    ActivityWord, Arrived, Content, Fault, Message, Value, Word,
-};
+use association_words::{ActivityWord, Arrived, Content, Fault, Message, Value, Word};
 use dialogue::{Indications, Phase};
 use osi_base::{Layer, ListOf, NoMemory, SessionWord};
 

@@ -18,10 +18,12 @@ impl<'t> End<'t> {
         let Some(transfer) = &mut self.body.sending.current else {
             return Ok(());
         };
-        let text = self
-            .codecs
-            .heads
-            .write(alloc, pair.transfer, self.basis.tables, &transfer.item.apdu)?;
+        let text = self.codecs.heads.write(
+            alloc,
+            pair.transfer,
+            self.basis.tables,
+            &transfer.item.apdu,
+        )?;
         let pdv = Pdv {
             transfer: None,
             id: context,

@@ -8,7 +8,6 @@ ghost use Rattle.end_rules.specs.State.{opened_with};
 
 use crate::invocations::{Coming, hear_invoke};
 use crate::outcomes::{hear_error, hear_reject, hear_result};
-
 use association_state::Ground;
 use open_invocations::Invocations;
 use osi_base::NoMemory;

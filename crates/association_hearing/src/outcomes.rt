@@ -75,11 +75,7 @@ fn is_of_invocation(kind: ProblemKind) -> bool
 }
 
 /// Hears a reject: one of an invoke problem closes the own invocation that it names.
-pub(crate) fn hear_reject(
-    calls: &mut Invocations,
-    id: Option<i64>,
-    problem: Problem,
-) -> RoseTaken
+pub(crate) fn hear_reject(calls: &mut Invocations, id: Option<i64>, problem: Problem) -> RoseTaken
     ensures { heard_with calls.new result ≡ hear_reject calls.old id problem }
 {
     let Some(named) = id else {

@@ -53,12 +53,7 @@ fn hear_value(
 }
 
 /// An APDU as data on a context.
-pub fn data_on(
-    basis: &Ground<'_>,
-    body: &Body,
-    id: u32,
-    apdu: Apdu,
-) -> Result<Message, NoMemory>
+pub fn data_on(basis: &Ground<'_>, body: &Body, id: u32, apdu: Apdu) -> Result<Message, NoMemory>
     ensures { IfOk result (λ m. seen_message m ≡ data_on (seen body.now) id apdu) }
 {
     let mut values: Values = ListOf::new(basis.alloc);
@@ -151,11 +146,7 @@ fn take_heard(
 }
 
 /// Takes a value of remote operations.
-pub fn take_value(
-    basis: &Ground<'_>,
-    body: &mut Body,
-    value: Value,
-) -> Result<Taken, NoMemory>
+pub fn take_value(basis: &Ground<'_>, body: &mut Body, value: Value) -> Result<Taken, NoMemory>
     ensures { IfOk result (TookAs (take_head (base_in basis.now) (seen body.old) value.id (head_of (base_in basis.now) (seen_value value))) (seen body.new)) }
 {
     let context = value.id;
@@ -179,11 +170,7 @@ fn join(all: &mut Taken, taken: Taken) -> Result<(), NoMemory>
 
 /// Takes values of remote operations, one after the other.
 #[tactic(auto, using(crate::proofs::Taking::taken_push))]
-pub fn take_values(
-    basis: &Ground<'_>,
-    body: &mut Body,
-    values: Values,
-) -> Result<Taken, NoMemory>
+pub fn take_values(basis: &Ground<'_>, body: &mut Body, values: Values) -> Result<Taken, NoMemory>
     ensures { IfOk result (TookAs (take_values (base_in basis.now) (seen body.old) (seen_values values)) (seen body.new)) }
 {
     let mut all = quiet(basis.alloc);

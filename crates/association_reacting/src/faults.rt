@@ -14,11 +14,7 @@ use association_words::{Fault, Word};
 use osi_base::{Layer, NoMemory};
 
 /// What is wrong above the session, of any unit but the end of an activity.
-fn fault_above(
-    basis: &Ground<'_>,
-    body: &Body,
-    word: &Word,
-) -> Result<Option<Fault>, NoMemory>
+fn fault_above(basis: &Ground<'_>, body: &Body, word: &Word) -> Result<Option<Fault>, NoMemory>
     requires { is_end_word (seen_word word.now) ≡ false }
     ensures { IfOk result (λ fault. option_map seen_fault fault ≡ fault_above (base_in basis.now) (seen body.now) (seen_word word.now)) }
 {

@@ -28,11 +28,7 @@ fn fails_here(basis: &Ground<'_>, body: &mut Body, fault: Fault) -> Result<React
 }
 
 /// What an end does with a unit of the session.
-fn react_to_word(
-    basis: &Ground<'_>,
-    body: &mut Body,
-    word: Word,
-) -> Result<Reaction, NoMemory>
+fn react_to_word(basis: &Ground<'_>, body: &mut Body, word: Word) -> Result<Reaction, NoMemory>
     requires { is_end_word (seen_word word) ≡ false }
     ensures { IfOk result (ReactsAs (react_to_word (base_in basis.now) (seen body.old) (seen_word word)) (seen body.old) (seen body.new)) }
 {
@@ -67,11 +63,7 @@ fn react_to_transport(
 }
 
 /// What an end of direct or reliable mode does with a message that isn't the end of an activity.
-pub fn react(
-    basis: &Ground<'_>,
-    body: &mut Body,
-    message: Message,
-) -> Result<Reaction, NoMemory>
+pub fn react(basis: &Ground<'_>, body: &mut Body, message: Message) -> Result<Reaction, NoMemory>
     requires associated { is_bare basis.now.config.mode ≡ false }
     requires other { is_end_message (seen_message message) ≡ false }
     ensures { IfOk result (ReactsAs (react (base_in basis.now) (seen body.old) (seen_message message)) (seen body.old) (seen body.new)) }

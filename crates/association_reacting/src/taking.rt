@@ -16,11 +16,7 @@ use association_words::Word;
 use osi_base::{NoMemory, SetList};
 
 /// Takes a unit in which nothing is faulty.
-pub(crate) fn take_word(
-    basis: &Ground<'_>,
-    body: &mut Body,
-    word: Word,
-) -> Result<Taken, NoMemory>
+pub(crate) fn take_word(basis: &Ground<'_>, body: &mut Body, word: Word) -> Result<Taken, NoMemory>
     requires right { word_fault (base_in basis.now) (seen body.old) (seen_word word) ≡ None }
     requires other { is_end_word (seen_word word) ≡ false }
     ensures body { OnOk result (seen body.new ≡ after_word (base_in basis.now) (seen body.old) (seen_word word)) }
@@ -35,11 +31,7 @@ pub(crate) fn take_word(
 }
 
 /// The contexts on which an abort for a unit would go.
-pub(crate) fn contexts_of(
-    basis: &Ground<'_>,
-    body: &Body,
-    word: &Word,
-) -> Result<SetList, NoMemory>
+pub(crate) fn contexts_of(basis: &Ground<'_>, body: &Body, word: &Word) -> Result<SetList, NoMemory>
     ensures { IfOk result (λ set. set ≡ contexts_of_word (base_in basis.now) (seen body.now) (seen_word word.now)) }
 {
     match word {

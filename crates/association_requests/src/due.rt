@@ -5,7 +5,9 @@ use association_calls::{
     Reply, can_alter, can_give, can_mark, can_please, can_release, can_restart, can_resume,
     can_stop,
 };
-use association_sends::{connection_request, finish_message, give_message, please_message, user_abort};
+use association_sends::{
+    connection_request, finish_message, give_message, please_message, user_abort,
+};
 use association_sets::{Alteration, listed};
 use association_state::{Body, Ground};
 use association_words::{ActivityWord, DataWord, MarkWord, Message, Word};
@@ -68,11 +70,7 @@ fn due_resume(basis: &Ground<'_>, body: &Body) -> Result<Due, CallRefusal> {
     }))
 }
 
-fn due_connection(
-    basis: &Ground<'_>,
-    body: &mut Body,
-    phase: Phase,
-) -> Result<Due, CallRefusal> {
+fn due_connection(basis: &Ground<'_>, body: &mut Body, phase: Phase) -> Result<Due, CallRefusal> {
     let message = connection_request(basis)?;
     body.link.phase = phase;
     Ok(of(message))

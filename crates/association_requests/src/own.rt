@@ -63,7 +63,11 @@ fn left_of<'a>(transfer: &Transfer, encoded: &'a Encoded) -> &'a [u8]
 {
     let octets = encoded.octets.as_slice();
     let sent = transfer.pieces.octets();
-    if sent <= octets.len() { &octets[sent..] } else { &[] }
+    if sent <= octets.len() {
+        &octets[sent..]
+    } else {
+        &[]
+    }
 }
 
 /// The octets of the next part.
@@ -114,9 +118,7 @@ fn sends_mark(number: u32) -> Own
 fn sends_end(number: u32) -> Own
     ensures { seen_act result ≡ SendsNow (Session (OfActivities (End number))) }
 {
-    Own::Sends(Message::Session(Word::OfActivities(ActivityWord::End {
-        number,
-    })))
+    Own::Sends(Message::Session(Word::OfActivities(ActivityWord::End { number })))
 }
 
 /// What comes next of a transfer: it is encoded once it has a carrier.
@@ -146,11 +148,9 @@ fn next_start(basis: &Ground<'_>, body: &Body) -> Option<Own>
     let item = body.sending.queue.first()?;
     let started = body.sending.started;
     if carrier_in(basis, body, item.context).is_some() && started < LAST_ACTIVITY {
-        Some(Own::Sends(Message::Session(Word::OfActivities(
-            ActivityWord::Start {
-                activity: started + 1,
-            },
-        ))))
+        Some(Own::Sends(Message::Session(Word::OfActivities(ActivityWord::Start {
+            activity: started + 1,
+        }))))
     } else {
         None
     }

@@ -59,10 +59,7 @@ fn values_sent(basis: &Ground<'_>, body: &mut Body, values: &[Value]) -> Result<
 }
 
 /// An own alteration was sent.
-fn alteration_sent(
-    body: &mut Body,
-    asked: Alteration,
-) -> Result<(), NoMemory>
+fn alteration_sent(body: &mut Body, asked: Alteration) -> Result<(), NoMemory>
     ensures { OnOk result (seen body.new ≡ record (seen body.old) { sets = record (seen body.old).sets { own = (seen body.old).sets.own ++ asked ∷ [] } }) }
 {
     body.sets.own.push(asked)?;
@@ -201,11 +198,7 @@ fn start_sent(basis: &Ground<'_>, body: &mut Body) -> Result<(), NoMemory>
     Ok(())
 }
 
-fn activity_sent(
-    basis: &Ground<'_>,
-    body: &mut Body,
-    word: &ActivityWord,
-) -> Result<(), NoMemory>
+fn activity_sent(basis: &Ground<'_>, body: &mut Body, word: &ActivityWord) -> Result<(), NoMemory>
     ensures { OnOk result (seen body.new ≡ after_sent_activity (seen body.old) (seen_activities word.now)) }
 {
     match word {
@@ -266,11 +259,7 @@ fn word_sent(basis: &Ground<'_>, body: &mut Body, word: &Word) -> Result<(), NoM
 }
 
 /// A request was sent.
-pub fn after_sent(
-    basis: &Ground<'_>,
-    body: &mut Body,
-    message: &Message,
-) -> Result<(), NoMemory>
+pub fn after_sent(basis: &Ground<'_>, body: &mut Body, message: &Message) -> Result<(), NoMemory>
     ensures { OnOk result (seen body.new ≡ after_sent basis.now.config.mode (seen body.old) (seen_message message.now)) }
 {
     match message {

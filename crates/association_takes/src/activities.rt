@@ -43,11 +43,7 @@ fn start_record(receiving: &mut Receiving, activity: u32)
 }
 
 /// Takes AS: both ends keep the held set as the inter-activity set.
-fn take_start(
-    basis: &Ground<'_>,
-    body: &mut Body,
-    activity: u32,
-) -> Result<Taken, NoMemory>
+fn take_start(basis: &Ground<'_>, body: &mut Body, activity: u32) -> Result<Taken, NoMemory>
     ensures body { OnOk result (seen body.new ≡ keeping (received (λ r. started_record activity) (seen body.old))) }
     ensures taken { IfOk result (TakenAs [] []) }
 {

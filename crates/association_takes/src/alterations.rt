@@ -16,8 +16,8 @@ use association_sets::{Alteration, alter, fit_alteration, proposed_ids};
 use association_state::{Body, Ground, take_oldest};
 use association_words::{DataWord, Fault, Message, Word};
 use dialogue::Indication;
-use set_rules::is_faulty_proposal;
 use osi_base::{Answers, Copied, Ids, Layer, NoMemory, Proposal, Proposals, SetList};
+use set_rules::is_faulty_proposal;
 
 /// An unexpected PPDU.
 fn unexpected_ppdu(basis: &Ground<'_>) -> Fault

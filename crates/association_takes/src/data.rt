@@ -28,11 +28,7 @@ pub fn data_fault(basis: &Ground<'_>, body: &Body, word: &DataWord) -> Option<Fa
 }
 
 /// Takes values: in reliable mode as pieces of the peer's activity, else as APDUs.
-fn take_all(
-    basis: &Ground<'_>,
-    body: &mut Body,
-    values: Values,
-) -> Result<Taken, NoMemory>
+fn take_all(basis: &Ground<'_>, body: &mut Body, values: Values) -> Result<Taken, NoMemory>
     ensures body { OnOk result (seen body.new ≡ after_data (base_in basis.now) (seen body.old) (values_word (seen_values values))) }
     ensures taken { IfOk result (TakenAs (answers_to_data (base_in basis.now) (seen body.old) (values_word (seen_values values))) (shown_of_data (base_in basis.now) (seen body.old) (values_word (seen_values values)))) }
 {
@@ -44,11 +40,7 @@ fn take_all(
 }
 
 /// Takes a unit of data.
-pub fn take_data(
-    basis: &Ground<'_>,
-    body: &mut Body,
-    word: DataWord,
-) -> Result<Taken, NoMemory>
+pub fn take_data(basis: &Ground<'_>, body: &mut Body, word: DataWord) -> Result<Taken, NoMemory>
     ensures body { OnOk result (seen body.new ≡ after_data (base_in basis.now) (seen body.old) (seen_data word)) }
     ensures taken { IfOk result (TakenAs (answers_to_data (base_in basis.now) (seen body.old) (seen_data word)) (shown_of_data (base_in basis.now) (seen body.old) (seen_data word))) }
 {

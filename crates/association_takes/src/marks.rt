@@ -3,7 +3,6 @@
 ghost use Rattle.std.specs.Prelude.{◌≡◌, IfOk, OnOk, Some, option_map, true, false, [], ◌∷◌};
 ghost use Rattle.dialogue.specs.declared.indication.Indication.TheVariants as indications;
 ghost use Rattle.end_rules.specs.Sets.{listed};
-
 ghost use Rattle.end_rules.specs.Messages.{MarkAck, RestartAck, GiveAck, OfMarks, Session};
 ghost use Rattle.end_rules.specs.TakesMarks.{marked_in, mark_answer, mark_shown, confirmed_in, restored_set, list_fault, restarted, shown_restarted, with_turn, shown_turn, priority_in, please_fault, shown_plea, shown_please, mark_fault, after_mark, answers_to_mark, shown_of_mark};
 ghost use Rattle.end_rules.specs.State.{Transfer as rule_transfer, on_transfer};
@@ -241,11 +240,7 @@ fn take_turn(body: &mut Body)
 }
 
 /// Takes GT.
-fn take_give(
-    basis: &Ground<'_>,
-    body: &mut Body,
-    tokens: Option<u8>,
-) -> Result<Taken, NoMemory>
+fn take_give(basis: &Ground<'_>, body: &mut Body, tokens: Option<u8>) -> Result<Taken, NoMemory>
     ensures body { OnOk result (seen body.new ≡ with_turn tokens (seen body.old)) }
     ensures taken { IfOk result (TakenAs [] (shown_turn tokens)) }
 {
@@ -259,11 +254,7 @@ fn take_give(
 }
 
 /// What is shown of a plea.
-fn shown_please(
-    basis: &Ground<'_>,
-    tokens: Option<u8>,
-    values: &[Value],
-) -> Result<Taken, NoMemory>
+fn shown_please(basis: &Ground<'_>, tokens: Option<u8>, values: &[Value]) -> Result<Taken, NoMemory>
     ensures { IfOk result (TakenAs [] (shown_please tokens (seen_values values.now))) }
 {
     if tokens.is_none() {
@@ -289,11 +280,7 @@ fn take_give_confirm(basis: &Ground<'_>, body: &mut Body) -> Result<Taken, NoMem
 }
 
 /// Takes a unit of marks or tokens.
-pub fn take_mark(
-    basis: &Ground<'_>,
-    body: &mut Body,
-    word: MarkWord,
-) -> Result<Taken, NoMemory>
+pub fn take_mark(basis: &Ground<'_>, body: &mut Body, word: MarkWord) -> Result<Taken, NoMemory>
     ensures body { OnOk result (seen body.new ≡ after_mark (base_in basis.now) (seen body.old) (seen_marks word)) }
     ensures taken { IfOk result (TakenAs (answers_to_mark (base_in basis.now) (seen body.old) (seen_marks word)) (shown_of_mark (base_in basis.now) (seen body.old) (seen_marks word))) }
 {

@@ -160,11 +160,7 @@ fn push_part(alloc: Global, body: &mut Body, content: &Content) -> Result<(), No
 }
 
 /// Keeps each part as a piece of the peer's activity.
-pub(crate) fn take_parts(
-    alloc: Global,
-    body: &mut Body,
-    values: &[Value],
-) -> Result<(), NoMemory>
+pub(crate) fn take_parts(alloc: Global, body: &mut Body, values: &[Value]) -> Result<(), NoMemory>
     ensures { OnOk result (seen body.new ≡ with_parts (seen_values values.now) (seen body.old)) }
 {
     for value in values {

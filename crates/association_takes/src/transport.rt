@@ -57,11 +57,7 @@ fn may_come(basis: &Ground<'_>, body: &Body, unit: &TransportUnit) -> bool
 }
 
 /// What is out of place, an ER always.
-pub fn transport_fault(
-    basis: &Ground<'_>,
-    body: &Body,
-    unit: &TransportUnit,
-) -> Option<Fault>
+pub fn transport_fault(basis: &Ground<'_>, body: &Body, unit: &TransportUnit) -> Option<Fault>
     ensures { option_map seen_fault result ≡ transport_unit_fault (base_in basis.now) (seen body.now) (seen_transport unit.now) }
 {
     if may_come(basis, body, unit) {
@@ -90,7 +86,11 @@ fn phase_asked(phase: Phase, accepted: bool) -> Phase
 fn stage_asked(accepted: bool) -> Stage
     ensures { seen_stage result ≡ stage_asked accepted }
 {
-    if accepted { Stage::Joined } else { Stage::Asked }
+    if accepted {
+        Stage::Joined
+    } else {
+        Stage::Asked
+    }
 }
 
 /// CC, or DR where the size is another.
