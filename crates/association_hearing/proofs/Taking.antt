@@ -3,7 +3,7 @@ use Rattle.std.proofs.Common.{◌≡◌, List, [], ◌∷◌, ◌++◌, refl, ap
 use Rattle.std.proofs.lemmas.List.{append-nil}
 use Rattle.end_rules.specs.Base.{Base}
 use Rattle.end_rules.specs.State.{Body}
-use Rattle.end_rules.specs.Message.{Value}
+use Rattle.end_rules.specs.Messages.{Value}
 use Rattle.end_rules.specs.Hearing.{Taken, head_of, take_head, take_values, then_taken}
 
 -- nothing is taken behind

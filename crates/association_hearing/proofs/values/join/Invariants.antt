@@ -1,4 +1,4 @@
-use Rattle.std.proofs.Common.{◌≡◌, ◌++◌, ◌×◌}
+use Rattle.std.proofs.Common.{◌≡◌, ◌++◌}
 use Rattle.association_hearing.proofs.values.join.Given as goal
 
 abbrev pub invariant-loop-message : goal.invariant-loop-message
