@@ -1,3 +1,4 @@
 pub mod Meant
 pub mod Bodies
 pub mod Wrongs
+pub mod Alls
