@@ -7,7 +7,8 @@ use crate::alteration::Alteration;
 use crate::sets::{put, without_context};
 use association_ground::syntax_named;
 use osi_base::{
-    AddAnswer, Answers, Copied, Ids, ListOf, NoMemory, Oid, Pair, Proposal, SetItem, SetList, Syntax,
+    AddAnswer, Answers, Copied, Ids, ListOf, NoMemory, Oid, Pair, Proposal, SetItem, SetList,
+    Syntax,
 };
 use std::alloc::Global;
 

@@ -142,8 +142,10 @@ pub fn is_bad(alloc: Global, alteration: &Alteration) -> Result<bool, NoMemory>
     ensures { IfOk result (λ bad. bad ≡ is_bad alteration.now) }
 {
     let ids = named_ids(alloc, alteration)?;
-    Ok(ids.len() == 0
-        || has_double(ids.as_slice())
-        || has_no_context(ids.as_slice())
-        || is_badly_offered(alteration.add.as_slice()))
+    Ok(
+        ids.len() == 0
+            || has_double(ids.as_slice())
+            || has_no_context(ids.as_slice())
+            || is_badly_offered(alteration.add.as_slice()),
+    )
 }
