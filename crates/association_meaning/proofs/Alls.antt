@@ -8,8 +8,8 @@ use Rattle.end_rules.specs.Messages as meant
 use Rattle.association_reading.specs.Values.{before_values, all_values, unless_fault}
 use Rattle.association_words.specs.declared.values.Value.{Value}
 use Rattle.association_words.specs.Seen.{seen_value, seen_values, seen_fault}
-use Rattle.association_meaning.specs.declared.ground.Halt.{Halt}
-use Rattle.association_meaning.specs.declared.ground.Halt.TheVariants.{Faulty, NoMemory}
+use Rattle.association_meaning.specs.declared.basis.Halt.{Halt}
+use Rattle.association_meaning.specs.declared.basis.Halt.TheVariants.{Faulty, NoMemory}
 use Rattle.association_meaning.specs.Grounds.{FailsAs, GivesAs}
 use Rattle.association_meaning.specs.Steps.{checked, joined}
 

@@ -2,3 +2,4 @@ pub mod Meant
 pub mod Bodies
 pub mod Wrongs
 pub mod Alls
+pub mod Judged

@@ -7,8 +7,8 @@ use Rattle.end_rules.specs.Base.{Base, Fault, base_of}
 use Rattle.end_rules.specs.State.{Body, new_body}
 use Rattle.association_reading.specs.Transfers.{association_spellings}
 use Rattle.association_words.specs.Seen.{seen_fault}
-use Rattle.association_meaning.specs.declared.ground.Halt.{Halt}
-use Rattle.association_meaning.specs.declared.ground.Halt.TheVariants.{Faulty, NoMemory}
+use Rattle.association_meaning.specs.declared.basis.Halt.{Halt}
+use Rattle.association_meaning.specs.declared.basis.Halt.TheVariants.{Faulty, NoMemory}
 
 -- the base of an end of an association that is made with these tables and this configuration
 abbrev pub association_base : Tables → Config → Base

@@ -12,8 +12,8 @@ ghost use Rattle.association_words.specs.Seen.{seen_content, seen_value, seen_va
 ghost use Rattle.association_meaning.specs.Grounds.{association_base, GivesAs};
 ghost use Rattle.association_meaning.specs.Steps as steps;
 
+use crate::basis::{Ground, Halt};
 use crate::contexts::{Carrier, Wrong, check, form_wrong, pdv_wrong};
-use crate::ground::{Ground, Halt};
 use crate::informed::{AcseKind, and_informed};
 use crate::layers::{acse_content, associated};
 use crate::names::{acse_name, rtse_name};
@@ -58,13 +58,13 @@ fn first_wrong_unless_left(definitions: &[Proposal], set: &[SetItem], pdvs: &[Pd
 
 /// What a value is of which nothing is asked: the APDU of association control that its octets spell,
 /// or its octets.
-fn left_content(ground: &Ground<'_>, octets: &[u8]) -> Result<Content, NoMemory>
+fn left_content(basis: &Ground<'_>, octets: &[u8]) -> Result<Content, NoMemory>
     ensures { IfOk result (λ content. seen_content content ≡ reading.left_content octets.now (acse_at octets.now)) }
 {
-    match ground.codecs.acse.read(ground.alloc, octets) {
-        Ok(apdu) => associated(ground.alloc, apdu),
+    match basis.codecs.acse.read(basis.alloc, octets) {
+        Ok(apdu) => associated(basis.alloc, apdu),
         Err(AcseFault::At { .. }) => {
-            Ok(Content::Unread(Octets::from_slice(ground.alloc, octets)?))
+            Ok(Content::Unread(Octets::from_slice(basis.alloc, octets)?))
         }
         Err(AcseFault::NoMemory) => Err(NoMemory),
     }
@@ -72,126 +72,126 @@ fn left_content(ground: &Ground<'_>, octets: &[u8]) -> Result<Content, NoMemory>
 
 /// A value of which nothing is asked where it is of association control.
 fn value_or_left(
-    ground: &Ground<'_>,
+    basis: &Ground<'_>,
     definitions: &[Proposal],
     set: &[SetItem],
     pdv: &Pdv,
 ) -> Result<Value, Halt>
-    ensures { GivesAs seen_value result (reading.value_or_left (association_base ground.now.tables.now ground.now.config.now) definitions.now set.now pdv.now) }
+    ensures { GivesAs seen_value result (reading.value_or_left (association_base basis.now.tables.now basis.now.config.now) definitions.now set.now pdv.now) }
 {
     if !is_left(definitions, pdv) {
-        return value_in(ground, set, pdv);
+        return value_in(basis, set, pdv);
     }
     Ok(Value {
         id: pdv.id,
         pair: None,
-        content: left_content(ground, pdv.content.octets().as_slice())?,
+        content: left_content(basis, pdv.content.octets().as_slice())?,
     })
 }
 
 /// Values of a CN that doesn't get association control.
 fn left_values(
-    ground: &Ground<'_>,
+    basis: &Ground<'_>,
     definitions: &[Proposal],
     set: &[SetItem],
     carrier: &Carrier<'_>,
     pdvs: &[Pdv],
 ) -> Result<Values, Halt>
     requires { carrier.now.start + length carrier.now.user.now < 2 ^ 63 }
-    ensures { GivesAs seen_values result (reading.left_values (association_base ground.now.tables.now ground.now.config.now) definitions.now set.now (pdv_places carrier.now.place carrier.now.start carrier.now.user.now) pdvs.now) }
+    ensures { GivesAs seen_values result (reading.left_values (association_base basis.now.tables.now basis.now.config.now) definitions.now set.now (pdv_places carrier.now.place carrier.now.start carrier.now.user.now) pdvs.now) }
 {
     check(
-        ground,
+        basis,
         carrier,
         first_wrong_unless_left(definitions, set, pdvs),
     )?;
-    all_or_left(ground, definitions, set, pdvs)
+    all_or_left(basis, definitions, set, pdvs)
 }
 
 /// Each value, of which nothing is asked where it is of association control.
 fn all_or_left(
-    ground: &Ground<'_>,
+    basis: &Ground<'_>,
     definitions: &[Proposal],
     set: &[SetItem],
     pdvs: &[Pdv],
 ) -> Result<Values, Halt>
-    ensures { GivesAs seen_values result (values_read.all_values (reading.value_or_left (association_base ground.now.tables.now ground.now.config.now) definitions.now set.now) pdvs.now) }
+    ensures { GivesAs seen_values result (values_read.all_values (reading.value_or_left (association_base basis.now.tables.now basis.now.config.now) definitions.now set.now) pdvs.now) }
 {
-    let mut values: Values = ListOf::new(ground.alloc);
+    let mut values: Values = ListOf::new(basis.alloc);
     for pdv in pdvs {
-        values.push(value_or_left(ground, definitions, set, pdv)?)?;
+        values.push(value_or_left(basis, definitions, set, pdv)?)?;
     }
     Ok(values)
 }
 
 /// Values of a CN whose list may stand.
 fn values_for(
-    ground: &Ground<'_>,
+    basis: &Ground<'_>,
     presentation: &PresentationConnect,
     set: &[SetItem],
     carrier: &Carrier<'_>,
 ) -> Result<Values, Halt>
     requires { carrier.now.start + length carrier.now.user.now < 2 ^ 63 }
-    ensures { GivesAs seen_values result (steps.values_for (association_base ground.now.tables.now ground.now.config.now) presentation.now set.now (pdv_places carrier.now.place carrier.now.start carrier.now.user.now)) }
+    ensures { GivesAs seen_values result (steps.values_for (association_base basis.now.tables.now basis.now.config.now) presentation.now set.now (pdv_places carrier.now.place carrier.now.start carrier.now.user.now)) }
 {
     let pdvs = presentation.user.as_slice();
     if has_context_of(acse_name(), set) {
-        let values = values_under(ground, set, acse_name(), carrier, pdvs)?;
-        return and_informed(ground, set, AcseKind::Request, values);
+        let values = values_under(basis, set, acse_name(), carrier, pdvs)?;
+        return and_informed(basis, set, AcseKind::Request, values);
     }
     let definitions = presentation.definitions.as_slice();
-    left_values(ground, definitions, set, carrier, pdvs)
+    left_values(basis, definitions, set, carrier, pdvs)
 }
 
 /// Values of a CN. A list that is faulty ends the association before they are looked at.
 pub(crate) fn connect_values(
-    ground: &Ground<'_>,
+    basis: &Ground<'_>,
     presentation: &PresentationConnect,
     carrier: &Carrier<'_>,
 ) -> Result<Values, Halt>
     requires { carrier.now.start + length carrier.now.user.now < 2 ^ 63 }
-    ensures { GivesAs seen_values result (reading.connect_values (association_base ground.now.tables.now ground.now.config.now) presentation.now (pdv_places carrier.now.place carrier.now.start carrier.now.user.now)) }
+    ensures { GivesAs seen_values result (reading.connect_values (association_base basis.now.tables.now basis.now.config.now) presentation.now (pdv_places carrier.now.place carrier.now.start carrier.now.user.now)) }
 {
     if is_faulty_proposal(true, &[], presentation.definitions.as_slice()) {
-        return Ok(ListOf::new(ground.alloc));
+        return Ok(ListOf::new(basis.alloc));
     }
-    let set = set_for(ground.alloc, ground.tables, ground.config, presentation)?;
-    values_for(ground, presentation, set.as_slice(), carrier)
+    let set = set_for(basis.alloc, basis.tables, basis.config, presentation)?;
+    values_for(basis, presentation, set.as_slice(), carrier)
 }
 
 /// Whether an AC stands: its results fit, and the contexts of the association are among those that it
 /// accepts.
 fn stands(
-    ground: &Ground<'_>,
+    basis: &Ground<'_>,
     presentation: &PresentationAccept,
     accepted: &[SetItem],
 ) -> Result<bool, NoMemory>
-    requires { accepted.now ≡ connecting.set_accepted (association_base ground.now.tables.now ground.now.config.now) presentation.now }
-    ensures { IfOk result (λ b. b ≡ reading.stands (association_base ground.now.tables.now ground.now.config.now) presentation.now) }
+    requires { accepted.now ≡ connecting.set_accepted (association_base basis.now.tables.now basis.now.config.now) presentation.now }
+    ensures { IfOk result (λ b. b ≡ reading.stands (association_base basis.now.tables.now basis.now.config.now) presentation.now) }
 {
-    let proposed = proposals(ground.alloc, ground.config)?;
+    let proposed = proposals(basis.alloc, basis.config)?;
     let fit = fit_proposals(proposed.as_slice(), presentation.results.as_slice());
-    let transfers = !is_reliable(ground.config.mode) || has_context_of(rtse_name(), accepted);
+    let transfers = !is_reliable(basis.config.mode) || has_context_of(rtse_name(), accepted);
     Ok(fit && has_context_of(acse_name(), accepted) && transfers)
 }
 
 /// Values of an AC. One that doesn't stand ends the association before they are looked at.
 pub(crate) fn accept_values(
-    ground: &Ground<'_>,
+    basis: &Ground<'_>,
     presentation: &PresentationAccept,
     carrier: &Carrier<'_>,
 ) -> Result<Values, Halt>
     requires { carrier.now.start + length carrier.now.user.now < 2 ^ 63 }
-    ensures { GivesAs seen_values result (reading.accept_values (association_base ground.now.tables.now ground.now.config.now) presentation.now (pdv_places carrier.now.place carrier.now.start carrier.now.user.now)) }
+    ensures { GivesAs seen_values result (reading.accept_values (association_base basis.now.tables.now basis.now.config.now) presentation.now (pdv_places carrier.now.place carrier.now.start carrier.now.user.now)) }
 {
-    let set = set_accepted(ground.alloc, ground.tables, ground.config, presentation)?;
+    let set = set_accepted(basis.alloc, basis.tables, basis.config, presentation)?;
     let accepted = set.as_slice();
-    if !stands(ground, presentation, accepted)? {
-        return Ok(ListOf::new(ground.alloc));
+    if !stands(basis, presentation, accepted)? {
+        return Ok(ListOf::new(basis.alloc));
     }
     let pdvs = presentation.user.as_slice();
-    let values = values_under(ground, accepted, acse_name(), carrier, pdvs)?;
-    and_informed(ground, accepted, AcseKind::Acceptance, values)
+    let values = values_under(basis, accepted, acse_name(), carrier, pdvs)?;
+    and_informed(basis, accepted, AcseKind::Acceptance, values)
 }
 
 /// The first value whose form isn't read in BER.
@@ -207,14 +207,14 @@ fn first_form_wrong(pdvs: &[Pdv]) -> Option<Wrong>
 }
 
 /// A value of association control in BER, whatever its context.
-fn unasked_value(ground: &Ground<'_>, pdv: &Pdv) -> Result<Value, Halt>
+fn unasked_value(basis: &Ground<'_>, pdv: &Pdv) -> Result<Value, Halt>
     ensures { GivesAs seen_value result (reading.unasked_value pdv.now) }
 {
-    let content = acse_content(ground, pdv.content.octets().as_slice())?;
+    let content = acse_content(basis, pdv.content.octets().as_slice())?;
     Ok(Value {
         id: pdv.id,
         pair: Some(Pair {
-            abstract_name: Oid::from_slice(ground.alloc, acse_name())?,
+            abstract_name: Oid::from_slice(basis.alloc, acse_name())?,
             transfer: Syntax::Ber,
         }),
         content,
@@ -222,56 +222,56 @@ fn unasked_value(ground: &Ground<'_>, pdv: &Pdv) -> Result<Value, Halt>
 }
 
 /// Values of a refusal or of an abort, of which no contexts are asked.
-fn unasked_values(ground: &Ground<'_>, carrier: &Carrier<'_>, pdvs: &[Pdv]) -> Result<Values, Halt>
+fn unasked_values(basis: &Ground<'_>, carrier: &Carrier<'_>, pdvs: &[Pdv]) -> Result<Values, Halt>
     requires { carrier.now.start + length carrier.now.user.now < 2 ^ 63 }
     ensures { GivesAs seen_values result (reading.unasked_values (pdv_places carrier.now.place carrier.now.start carrier.now.user.now) pdvs.now) }
 {
-    check(ground, carrier, first_form_wrong(pdvs))?;
-    all_unasked(ground, pdvs)
+    check(basis, carrier, first_form_wrong(pdvs))?;
+    all_unasked(basis, pdvs)
 }
 
 /// Each value of association control in BER, whatever its context.
-fn all_unasked(ground: &Ground<'_>, pdvs: &[Pdv]) -> Result<Values, Halt>
+fn all_unasked(basis: &Ground<'_>, pdvs: &[Pdv]) -> Result<Values, Halt>
     ensures { GivesAs seen_values result (values_read.all_values reading.unasked_value pdvs.now) }
 {
-    let mut values: Values = ListOf::new(ground.alloc);
+    let mut values: Values = ListOf::new(basis.alloc);
     for pdv in pdvs {
-        values.push(unasked_value(ground, pdv)?)?;
+        values.push(unasked_value(basis, pdv)?)?;
     }
     Ok(values)
 }
 
 /// The contexts that a refusal accepts.
-fn set_refused(ground: &Ground<'_>, presentation: &PresentationReject) -> Result<SetList, NoMemory>
-    ensures { IfOk result (λ set. set ≡ reading.set_refused (association_base ground.now.tables.now ground.now.config.now) presentation.now) }
+fn set_refused(basis: &Ground<'_>, presentation: &PresentationReject) -> Result<SetList, NoMemory>
+    ensures { IfOk result (λ set. set ≡ reading.set_refused (association_base basis.now.tables.now basis.now.config.now) presentation.now) }
 {
-    accepted_for(ground.alloc, ground.config, presentation.results.as_slice())
+    accepted_for(basis.alloc, basis.config, presentation.results.as_slice())
 }
 
 /// Values of an RF.
 pub(crate) fn refuse_values(
-    ground: &Ground<'_>,
+    basis: &Ground<'_>,
     presentation: &PresentationReject,
     carrier: &Carrier<'_>,
 ) -> Result<Values, Halt>
     requires { carrier.now.start + length carrier.now.user.now < 2 ^ 63 }
-    ensures { GivesAs seen_values result (reading.refuse_values (association_base ground.now.tables.now ground.now.config.now) presentation.now (pdv_places carrier.now.place carrier.now.start carrier.now.user.now)) }
+    ensures { GivesAs seen_values result (reading.refuse_values (association_base basis.now.tables.now basis.now.config.now) presentation.now (pdv_places carrier.now.place carrier.now.start carrier.now.user.now)) }
 {
-    let set = set_refused(ground, presentation)?;
-    let values = unasked_values(ground, carrier, presentation.user.as_slice())?;
-    and_informed(ground, set.as_slice(), AcseKind::Response, values)
+    let set = set_refused(basis, presentation)?;
+    let values = unasked_values(basis, carrier, presentation.user.as_slice())?;
+    and_informed(basis, set.as_slice(), AcseKind::Response, values)
 }
 
 /// Values of an AB.
 pub(crate) fn abort_values(
-    ground: &Ground<'_>,
+    basis: &Ground<'_>,
     accepted: &[SetItem],
     carrier: &Carrier<'_>,
     pdvs: &[Pdv],
 ) -> Result<Values, Halt>
     requires { carrier.now.start + length carrier.now.user.now < 2 ^ 63 }
-    ensures { GivesAs seen_values result (reading.abort_values (association_base ground.now.tables.now ground.now.config.now) accepted.now (pdv_places carrier.now.place carrier.now.start carrier.now.user.now) pdvs.now) }
+    ensures { GivesAs seen_values result (reading.abort_values (association_base basis.now.tables.now basis.now.config.now) accepted.now (pdv_places carrier.now.place carrier.now.start carrier.now.user.now) pdvs.now) }
 {
-    let values = unasked_values(ground, carrier, pdvs)?;
-    and_informed(ground, accepted, AcseKind::Abort, values)
+    let values = unasked_values(basis, carrier, pdvs)?;
+    and_informed(basis, accepted, AcseKind::Abort, values)
 }

@@ -7,7 +7,7 @@ ghost use Rattle.association_reading.specs.Contexts as reading;
 ghost use Rattle.association_meaning.specs.Grounds.{GivesAs};
 ghost use Rattle.association_meaning.specs.Steps as steps;
 
-use crate::ground::{Ground, Halt, fault_at};
+use crate::basis::{Ground, Halt, fault_at};
 use crate::names::acse_name;
 use association_ground::same_name;
 use association_sets::pair_of;
@@ -106,7 +106,7 @@ pub(crate) fn first_wrong(carried: &[u32], set: &[SetItem], pdvs: &[Pdv]) -> Opt
 
 /// Ends the association where a value is wrong: an invalid unit (6) at the place of the field.
 pub(crate) fn check(
-    ground: &Ground<'_>,
+    basis: &Ground<'_>,
     carrier: &Carrier<'_>,
     wrong: Option<Wrong>,
 ) -> Result<(), Halt>
@@ -115,12 +115,12 @@ pub(crate) fn check(
 {
     let Some(wrong) = wrong else { return Ok(()) };
     let place = field_place(
-        ground.alloc,
+        basis.alloc,
         carrier.place,
         carrier.start,
         carrier.user,
         wrong.which,
         wrong.field,
     )?;
-    fault_at(ground.alloc, Layer::Presentation, place, 6)
+    fault_at(basis.alloc, Layer::Presentation, place, 6)
 }

@@ -10,7 +10,7 @@ ghost use Rattle.association_words.specs.Seen.{seen_information, seen_value, see
 ghost use Rattle.association_meaning.specs.Grounds.{association_base, GivesAs};
 ghost use Rattle.association_meaning.specs.Informing.{kind_of, seen_items, seen_item_read, transferring, item_read};
 
-use crate::ground::{Ground, Halt, fault_at};
+use crate::basis::{Ground, Halt, fault_at};
 use crate::names::rtse_name;
 use association_ground::is_reliable;
 use association_sets::{has_abstract, pair_of};
@@ -99,12 +99,12 @@ fn is_on_rtse(accepted: &[SetItem], id: u32) -> bool
 }
 
 /// An item that is an APDU of reliable transfer in these octets.
-fn transferring(ground: &Ground<'_>, id: u32, octets: &Octets) -> Result<Information, Halt>
+fn transferring(basis: &Ground<'_>, id: u32, octets: &Octets) -> Result<Information, Halt>
     ensures { GivesAs seen_information result (transferring id (rtse_at octets.now)) }
 {
-    match ground.codecs.rtse.read(ground.alloc, octets.as_slice()) {
+    match basis.codecs.rtse.read(basis.alloc, octets.as_slice()) {
         Ok(apdu) => Ok(Information::Transferring { id, apdu }),
-        Err(PduFault::At { place, .. }) => fault_at(ground.alloc, Layer::Rtse, place, 4),
+        Err(PduFault::At { place, .. }) => fault_at(basis.alloc, Layer::Rtse, place, 4),
         Err(PduFault::NoMemory) => Err(Halt::NoMemory),
     }
 }
@@ -112,7 +112,7 @@ fn transferring(ground: &Ground<'_>, id: u32, octets: &Octets) -> Result<Informa
 /// What stands in the place of an item, where it is read: its context is an accepted one of reliable
 /// transfer.
 fn item_read(
-    ground: &Ground<'_>,
+    basis: &Ground<'_>,
     accepted: &[SetItem],
     item: &Information,
 ) -> Result<Option<Information>, Halt>
@@ -122,7 +122,7 @@ fn item_read(
         Information::Transferring { .. } => Ok(None),
         Information::Other { id, octets } => {
             if is_on_rtse(accepted, *id) {
-                Ok(Some(transferring(ground, *id, octets)?))
+                Ok(Some(transferring(basis, *id, octets)?))
             } else {
                 Ok(None)
             }
@@ -132,7 +132,7 @@ fn item_read(
 
 /// User information of which the first item is read.
 fn first_informed(
-    ground: &Ground<'_>,
+    basis: &Ground<'_>,
     accepted: &[SetItem],
     user: UserInformation,
 ) -> Result<UserInformation, Halt>
@@ -142,24 +142,24 @@ fn first_informed(
     let Some(item) = items.first() else {
         return Ok(ListOf::from_vec(items));
     };
-    if let Some(read) = item_read(ground, accepted, item)? {
+    if let Some(read) = item_read(basis, accepted, item)? {
         items[0] = read;
     }
     Ok(ListOf::from_vec(items))
 }
 
 /// One value.
-fn one(ground: &Ground<'_>, id: u32, pair: Option<Pair>, content: Content) -> Result<Values, Halt>
+fn one(basis: &Ground<'_>, id: u32, pair: Option<Pair>, content: Content) -> Result<Values, Halt>
     ensures { GivesAs seen_values result (Ok (seen_value (record { id = id; pair = pair; content = content }) ∷ [])) }
 {
-    let mut values: Values = ListOf::new(ground.alloc);
+    let mut values: Values = ListOf::new(basis.alloc);
     values.push(Value { id, pair, content })?;
     Ok(values)
 }
 
 /// A value of which the user information is read where it is an APDU of this kind.
 fn informed_value(
-    ground: &Ground<'_>,
+    basis: &Ground<'_>,
     accepted: &[SetItem],
     kind: AcseKind,
     value: Value,
@@ -170,22 +170,22 @@ fn informed_value(
     match content {
         Content::Association { apdu, user } => {
             if is_of(kind, &apdu) {
-                let user = first_informed(ground, accepted, user)?;
-                one(ground, id, pair, Content::Association { apdu, user })
+                let user = first_informed(basis, accepted, user)?;
+                one(basis, id, pair, Content::Association { apdu, user })
             } else {
-                one(ground, id, pair, Content::Association { apdu, user })
+                one(basis, id, pair, Content::Association { apdu, user })
             }
         }
-        Content::Remote(apdu) => one(ground, id, pair, Content::Remote(apdu)),
-        Content::Unread(octets) => one(ground, id, pair, Content::Unread(octets)),
-        Content::Plea { priority } => one(ground, id, pair, Content::Plea { priority }),
-        Content::Part(octets) => one(ground, id, pair, Content::Part(octets)),
+        Content::Remote(apdu) => one(basis, id, pair, Content::Remote(apdu)),
+        Content::Unread(octets) => one(basis, id, pair, Content::Unread(octets)),
+        Content::Plea { priority } => one(basis, id, pair, Content::Plea { priority }),
+        Content::Part(octets) => one(basis, id, pair, Content::Part(octets)),
     }
 }
 
 /// Values of which the user information is read where they are one APDU of this kind.
 fn informed_values(
-    ground: &Ground<'_>,
+    basis: &Ground<'_>,
     accepted: &[SetItem],
     kind: AcseKind,
     values: Values,
@@ -196,22 +196,22 @@ fn informed_values(
         return Ok(values);
     }
     match values.into_vec().pop() {
-        None => Ok(ListOf::new(ground.alloc)),
-        Some(value) => informed_value(ground, accepted, kind, value),
+        None => Ok(ListOf::new(basis.alloc)),
+        Some(value) => informed_value(basis, accepted, kind, value),
     }
 }
 
 /// In reliable mode user information is read.
 pub(crate) fn and_informed(
-    ground: &Ground<'_>,
+    basis: &Ground<'_>,
     accepted: &[SetItem],
     kind: AcseKind,
     values: Values,
 ) -> Result<Values, Halt>
-    ensures { GivesAs seen_values result (reading.and_informed (association_base ground.now.tables.now ground.now.config.now) accepted.now (kind_of kind) (Ok (seen_values values))) }
+    ensures { GivesAs seen_values result (reading.and_informed (association_base basis.now.tables.now basis.now.config.now) accepted.now (kind_of kind) (Ok (seen_values values))) }
 {
-    if is_reliable(ground.config.mode) {
-        informed_values(ground, accepted, kind, values)
+    if is_reliable(basis.config.mode) {
+        informed_values(basis, accepted, kind, values)
     } else {
         Ok(values)
     }

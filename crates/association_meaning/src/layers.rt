@@ -8,7 +8,7 @@ ghost use Rattle.association_reading.specs.Values as reading;
 ghost use Rattle.association_words.specs.Seen.{seen_information, seen_content};
 ghost use Rattle.association_meaning.specs.Grounds.{GivesAs};
 
-use crate::ground::{Ground, Halt, fault_at};
+use crate::basis::{Ground, Halt, fault_at};
 use crate::names::{acse_name, rtse_name};
 use acse::AcseFault;
 use association_ground::same_name;
@@ -82,50 +82,46 @@ pub(crate) fn associated(alloc: Global, apdu: Acse) -> Result<Content, NoMemory>
 }
 
 /// What octets are as an APDU of association control.
-pub(crate) fn acse_content(ground: &Ground<'_>, octets: &[u8]) -> Result<Content, Halt>
+pub(crate) fn acse_content(basis: &Ground<'_>, octets: &[u8]) -> Result<Content, Halt>
     ensures { GivesAs seen_content result (reading.acse_content (acse_fields.acse_at octets.now)) }
 {
-    match ground.codecs.acse.read(ground.alloc, octets) {
-        Ok(apdu) => Ok(associated(ground.alloc, apdu)?),
-        Err(AcseFault::At { place, .. }) => fault_at(ground.alloc, Layer::Acse, place, 0),
+    match basis.codecs.acse.read(basis.alloc, octets) {
+        Ok(apdu) => Ok(associated(basis.alloc, apdu)?),
+        Err(AcseFault::At { place, .. }) => fault_at(basis.alloc, Layer::Acse, place, 0),
         Err(AcseFault::NoMemory) => Err(Halt::NoMemory),
     }
 }
 
 /// What octets are as an APDU of reliable transfer: among values a plea or a part of a transfer.
-fn rtse_content(ground: &Ground<'_>, octets: &[u8]) -> Result<Content, Halt>
+fn rtse_content(basis: &Ground<'_>, octets: &[u8]) -> Result<Content, Halt>
     ensures { GivesAs seen_content result (reading.rtse_content (rtse_reading.rtse_at octets.now)) }
 {
-    match ground.codecs.rtse.read(ground.alloc, octets) {
+    match basis.codecs.rtse.read(basis.alloc, octets) {
         Ok(Rtse::TurnPlease { priority }) => Ok(Content::Plea { priority }),
         Ok(Rtse::Transfer { octets }) => Ok(Content::Part(octets)),
-        Ok(Rtse::OpenRequest { .. }) => fault_at(ground.alloc, Layer::Rtse, 0, 4),
-        Ok(Rtse::OpenAccept { .. }) => fault_at(ground.alloc, Layer::Rtse, 0, 4),
-        Ok(Rtse::OpenReject { .. }) => fault_at(ground.alloc, Layer::Rtse, 0, 4),
-        Ok(Rtse::Abort { .. }) => fault_at(ground.alloc, Layer::Rtse, 0, 4),
-        Err(PduFault::At { place, .. }) => fault_at(ground.alloc, Layer::Rtse, place, 4),
+        Ok(Rtse::OpenRequest { .. }) => fault_at(basis.alloc, Layer::Rtse, 0, 4),
+        Ok(Rtse::OpenAccept { .. }) => fault_at(basis.alloc, Layer::Rtse, 0, 4),
+        Ok(Rtse::OpenReject { .. }) => fault_at(basis.alloc, Layer::Rtse, 0, 4),
+        Ok(Rtse::Abort { .. }) => fault_at(basis.alloc, Layer::Rtse, 0, 4),
+        Err(PduFault::At { place, .. }) => fault_at(basis.alloc, Layer::Rtse, place, 4),
         Err(PduFault::NoMemory) => Err(Halt::NoMemory),
     }
 }
 
 /// What octets are under a pair.
-pub(crate) fn content_under(
-    ground: &Ground<'_>,
-    pair: &Pair,
-    octets: &[u8],
-) -> Result<Content, Halt>
-    ensures { GivesAs seen_content result (reading.content_under ground.now.tables.now pair.now octets.now) }
+pub(crate) fn content_under(basis: &Ground<'_>, pair: &Pair, octets: &[u8]) -> Result<Content, Halt>
+    ensures { GivesAs seen_content result (reading.content_under basis.now.tables.now pair.now octets.now) }
 {
     let name = pair.abstract_name.arcs();
     if same_name(name, acse_name()) {
-        acse_content(ground, octets)
+        acse_content(basis, octets)
     } else if same_name(name, rtse_name()) {
-        rtse_content(ground, octets)
+        rtse_content(basis, octets)
     } else {
         Ok(content_at(
-            ground.alloc,
-            &ground.codecs.heads,
-            ground.tables,
+            basis.alloc,
+            &basis.codecs.heads,
+            basis.tables,
             pair.transfer,
             octets,
         )?)
@@ -134,14 +130,14 @@ pub(crate) fn content_under(
 
 /// What octets are under the pair of their context, where there is one.
 pub(crate) fn content_by(
-    ground: &Ground<'_>,
+    basis: &Ground<'_>,
     pair: Option<&Pair>,
     octets: &[u8],
 ) -> Result<Content, Halt>
-    ensures { GivesAs seen_content result (reading.content_by ground.now.tables.now (option_copied pair.entry) octets.now) }
+    ensures { GivesAs seen_content result (reading.content_by basis.now.tables.now (option_copied pair.entry) octets.now) }
 {
     match pair {
-        None => Ok(Content::Unread(Octets::from_slice(ground.alloc, octets)?)),
-        Some(pair) => content_under(ground, pair, octets),
+        None => Ok(Content::Unread(Octets::from_slice(basis.alloc, octets)?)),
+        Some(pair) => content_under(basis, pair, octets),
     }
 }

@@ -3,8 +3,8 @@
 #![tactic(auto)]
 
 mod association;
+mod basis;
 mod contexts;
-mod ground;
 mod informed;
 mod layers;
 mod names;
@@ -13,6 +13,6 @@ mod transfers;
 mod units;
 mod values;
 
-pub use ground::{Ground, Halt};
+pub use basis::{Ground, Halt};
 pub use transfers::arrived_at;
 pub use units::meaning;

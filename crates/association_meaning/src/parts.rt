@@ -11,8 +11,8 @@ ghost use Rattle.association_meaning.specs.Steps as steps;
 ghost use Rattle.association_meaning.specs.Words as words;
 
 use crate::association::{abort_values, accept_values, connect_values, refuse_values};
+use crate::basis::{Ground, Halt, fault_at, invalid_ppdu};
 use crate::contexts::Carrier;
-use crate::ground::{Ground, Halt, fault_at, invalid_ppdu};
 use crate::names::{acse_name, rtse_name};
 use crate::values::values_under;
 use association_ground::is_reliable;
@@ -25,19 +25,19 @@ use presentation_pdus::{PpduFault, PpduPlace, ppdu_fault_is_first};
 use std::alloc::Global;
 
 /// The unit of the presentation that user data are. The place of a fault counts from the TSDU.
-fn unit_in(ground: &Ground<'_>, carrier: &Carrier<'_>) -> Result<PresentationWord, Halt>
+fn unit_in(basis: &Ground<'_>, carrier: &Carrier<'_>) -> Result<PresentationWord, Halt>
     requires { carrier.now.start + length carrier.now.user.now < 2 ^ 63 }
     ensures { GivesAs (λ unit. unit) result (steps.read_unit carrier.now.start (ppdu_at carrier.now.place carrier.now.user.now)) }
 {
     ppdu_fault_is_first();
-    match ground
+    match basis
         .codecs
         .ppdus
-        .read(ground.alloc, carrier.place, carrier.user)
+        .read(basis.alloc, carrier.place, carrier.user)
     {
         Ok(unit) => Ok(unit),
         Err(PpduFault::At { place, reason, .. }) => fault_at(
-            ground.alloc,
+            basis.alloc,
             Layer::Presentation,
             carrier.start + place,
             reason,
@@ -65,101 +65,101 @@ fn without_user(alloc: Global, session: &SessionConnect) -> Result<SessionConnec
 }
 
 /// CP in the user data of CN.
-fn connect_in(ground: &Ground<'_>, carrier: &Carrier<'_>) -> Result<PresentationConnect, Halt>
+fn connect_in(basis: &Ground<'_>, carrier: &Carrier<'_>) -> Result<PresentationConnect, Halt>
     requires { carrier.now.start + length carrier.now.user.now < 2 ^ 63 }
     ensures { GivesAs (λ p. p) result (words.connect_in carrier.now.start (ppdu_at carrier.now.place carrier.now.user.now)) }
 {
-    match unit_in(ground, carrier)? {
+    match unit_in(basis, carrier)? {
         PresentationWord::Connect(presentation) => Ok(presentation),
-        PresentationWord::Accept(_) => invalid_ppdu(ground.alloc),
-        PresentationWord::Reject(_) => invalid_ppdu(ground.alloc),
-        PresentationWord::Alter { .. } => invalid_ppdu(ground.alloc),
-        PresentationWord::AlterAck { .. } => invalid_ppdu(ground.alloc),
-        PresentationWord::Resynchronize { .. } => invalid_ppdu(ground.alloc),
-        PresentationWord::ResynchronizeAck { .. } => invalid_ppdu(ground.alloc),
-        PresentationWord::UserAbort { .. } => invalid_ppdu(ground.alloc),
-        PresentationWord::ProviderAbort { .. } => invalid_ppdu(ground.alloc),
-        PresentationWord::Data { .. } => invalid_ppdu(ground.alloc),
+        PresentationWord::Accept(_) => invalid_ppdu(basis.alloc),
+        PresentationWord::Reject(_) => invalid_ppdu(basis.alloc),
+        PresentationWord::Alter { .. } => invalid_ppdu(basis.alloc),
+        PresentationWord::AlterAck { .. } => invalid_ppdu(basis.alloc),
+        PresentationWord::Resynchronize { .. } => invalid_ppdu(basis.alloc),
+        PresentationWord::ResynchronizeAck { .. } => invalid_ppdu(basis.alloc),
+        PresentationWord::UserAbort { .. } => invalid_ppdu(basis.alloc),
+        PresentationWord::ProviderAbort { .. } => invalid_ppdu(basis.alloc),
+        PresentationWord::Data { .. } => invalid_ppdu(basis.alloc),
     }
 }
 
 /// CPA in the user data of AC.
-fn accept_in(ground: &Ground<'_>, carrier: &Carrier<'_>) -> Result<PresentationAccept, Halt>
+fn accept_in(basis: &Ground<'_>, carrier: &Carrier<'_>) -> Result<PresentationAccept, Halt>
     requires { carrier.now.start + length carrier.now.user.now < 2 ^ 63 }
     ensures { GivesAs (λ p. p) result (words.accept_in carrier.now.start (ppdu_at carrier.now.place carrier.now.user.now)) }
 {
-    match unit_in(ground, carrier)? {
+    match unit_in(basis, carrier)? {
         PresentationWord::Accept(presentation) => Ok(presentation),
-        PresentationWord::Connect(_) => invalid_ppdu(ground.alloc),
-        PresentationWord::Reject(_) => invalid_ppdu(ground.alloc),
-        PresentationWord::Alter { .. } => invalid_ppdu(ground.alloc),
-        PresentationWord::AlterAck { .. } => invalid_ppdu(ground.alloc),
-        PresentationWord::Resynchronize { .. } => invalid_ppdu(ground.alloc),
-        PresentationWord::ResynchronizeAck { .. } => invalid_ppdu(ground.alloc),
-        PresentationWord::UserAbort { .. } => invalid_ppdu(ground.alloc),
-        PresentationWord::ProviderAbort { .. } => invalid_ppdu(ground.alloc),
-        PresentationWord::Data { .. } => invalid_ppdu(ground.alloc),
+        PresentationWord::Connect(_) => invalid_ppdu(basis.alloc),
+        PresentationWord::Reject(_) => invalid_ppdu(basis.alloc),
+        PresentationWord::Alter { .. } => invalid_ppdu(basis.alloc),
+        PresentationWord::AlterAck { .. } => invalid_ppdu(basis.alloc),
+        PresentationWord::Resynchronize { .. } => invalid_ppdu(basis.alloc),
+        PresentationWord::ResynchronizeAck { .. } => invalid_ppdu(basis.alloc),
+        PresentationWord::UserAbort { .. } => invalid_ppdu(basis.alloc),
+        PresentationWord::ProviderAbort { .. } => invalid_ppdu(basis.alloc),
+        PresentationWord::Data { .. } => invalid_ppdu(basis.alloc),
     }
 }
 
 /// CPR in the user data of RF.
-fn reject_in(ground: &Ground<'_>, carrier: &Carrier<'_>) -> Result<PresentationReject, Halt>
+fn reject_in(basis: &Ground<'_>, carrier: &Carrier<'_>) -> Result<PresentationReject, Halt>
     requires { carrier.now.start + length carrier.now.user.now < 2 ^ 63 }
     ensures { GivesAs (λ p. p) result (words.reject_in carrier.now.start (ppdu_at carrier.now.place carrier.now.user.now)) }
 {
-    match unit_in(ground, carrier)? {
+    match unit_in(basis, carrier)? {
         PresentationWord::Reject(presentation) => Ok(presentation),
-        PresentationWord::Connect(_) => invalid_ppdu(ground.alloc),
-        PresentationWord::Accept(_) => invalid_ppdu(ground.alloc),
-        PresentationWord::Alter { .. } => invalid_ppdu(ground.alloc),
-        PresentationWord::AlterAck { .. } => invalid_ppdu(ground.alloc),
-        PresentationWord::Resynchronize { .. } => invalid_ppdu(ground.alloc),
-        PresentationWord::ResynchronizeAck { .. } => invalid_ppdu(ground.alloc),
-        PresentationWord::UserAbort { .. } => invalid_ppdu(ground.alloc),
-        PresentationWord::ProviderAbort { .. } => invalid_ppdu(ground.alloc),
-        PresentationWord::Data { .. } => invalid_ppdu(ground.alloc),
+        PresentationWord::Connect(_) => invalid_ppdu(basis.alloc),
+        PresentationWord::Accept(_) => invalid_ppdu(basis.alloc),
+        PresentationWord::Alter { .. } => invalid_ppdu(basis.alloc),
+        PresentationWord::AlterAck { .. } => invalid_ppdu(basis.alloc),
+        PresentationWord::Resynchronize { .. } => invalid_ppdu(basis.alloc),
+        PresentationWord::ResynchronizeAck { .. } => invalid_ppdu(basis.alloc),
+        PresentationWord::UserAbort { .. } => invalid_ppdu(basis.alloc),
+        PresentationWord::ProviderAbort { .. } => invalid_ppdu(basis.alloc),
+        PresentationWord::Data { .. } => invalid_ppdu(basis.alloc),
     }
 }
 
 /// Values that stand alone in user data.
-fn data_in(ground: &Ground<'_>, carrier: &Carrier<'_>) -> Result<Pdvs, Halt>
+fn data_in(basis: &Ground<'_>, carrier: &Carrier<'_>) -> Result<Pdvs, Halt>
     requires { carrier.now.start + length carrier.now.user.now < 2 ^ 63 }
     ensures { GivesAs (λ p. p) result (words.data_in carrier.now.start (ppdu_at carrier.now.place carrier.now.user.now)) }
 {
-    match unit_in(ground, carrier)? {
+    match unit_in(basis, carrier)? {
         PresentationWord::Data { user } => Ok(user),
-        PresentationWord::Connect(_) => invalid_ppdu(ground.alloc),
-        PresentationWord::Accept(_) => invalid_ppdu(ground.alloc),
-        PresentationWord::Reject(_) => invalid_ppdu(ground.alloc),
-        PresentationWord::Alter { .. } => invalid_ppdu(ground.alloc),
-        PresentationWord::AlterAck { .. } => invalid_ppdu(ground.alloc),
-        PresentationWord::Resynchronize { .. } => invalid_ppdu(ground.alloc),
-        PresentationWord::ResynchronizeAck { .. } => invalid_ppdu(ground.alloc),
-        PresentationWord::UserAbort { .. } => invalid_ppdu(ground.alloc),
-        PresentationWord::ProviderAbort { .. } => invalid_ppdu(ground.alloc),
+        PresentationWord::Connect(_) => invalid_ppdu(basis.alloc),
+        PresentationWord::Accept(_) => invalid_ppdu(basis.alloc),
+        PresentationWord::Reject(_) => invalid_ppdu(basis.alloc),
+        PresentationWord::Alter { .. } => invalid_ppdu(basis.alloc),
+        PresentationWord::AlterAck { .. } => invalid_ppdu(basis.alloc),
+        PresentationWord::Resynchronize { .. } => invalid_ppdu(basis.alloc),
+        PresentationWord::ResynchronizeAck { .. } => invalid_ppdu(basis.alloc),
+        PresentationWord::UserAbort { .. } => invalid_ppdu(basis.alloc),
+        PresentationWord::ProviderAbort { .. } => invalid_ppdu(basis.alloc),
     }
 }
 
 /// CN with CP.
 pub(crate) fn connect_meaning(
-    ground: &Ground<'_>,
+    basis: &Ground<'_>,
     session: &SessionConnect,
     start: usize,
 ) -> Result<Word, Halt>
     requires { start + length session.now.user < 2 ^ 63 }
-    ensures { GivesAs seen_word result (words.connected (association_base ground.now.tables.now ground.now.config.now) session.now start (words.connect_in start (ppdu_at places.Cn session.now.user))) }
+    ensures { GivesAs seen_word result (words.connected (association_base basis.now.tables.now basis.now.config.now) session.now start (words.connect_in start (ppdu_at places.Cn session.now.user))) }
 {
     let carrier = Carrier {
         place: PpduPlace::Cn,
         start,
         user: session.user.as_slice(),
     };
-    let presentation = connect_in(ground, &carrier)?;
-    let values = connect_values(ground, &presentation, &carrier)?;
+    let presentation = connect_in(basis, &carrier)?;
+    let values = connect_values(basis, &presentation, &carrier)?;
     Ok(Word::OfAssociation(AssociationWord::Connect {
-        session: without_user(ground.alloc, session)?,
+        session: without_user(basis.alloc, session)?,
         presentation: PresentationConnect {
-            user: ListOf::new(ground.alloc),
+            user: ListOf::new(basis.alloc),
             ..presentation
         },
         values,
@@ -168,25 +168,25 @@ pub(crate) fn connect_meaning(
 
 /// AC with CPA.
 pub(crate) fn accept_meaning(
-    ground: &Ground<'_>,
+    basis: &Ground<'_>,
     session: Accepting,
     start: usize,
     user: &[u8],
 ) -> Result<Word, Halt>
     requires { start + length user.now < 2 ^ 63 }
-    ensures { GivesAs seen_word result (words.accepted (association_base ground.now.tables.now ground.now.config.now) (seen_accepting session) start user.now (words.accept_in start (ppdu_at places.Ac user.now))) }
+    ensures { GivesAs seen_word result (words.accepted (association_base basis.now.tables.now basis.now.config.now) (seen_accepting session) start user.now (words.accept_in start (ppdu_at places.Ac user.now))) }
 {
     let carrier = Carrier {
         place: PpduPlace::Ac,
         start,
         user,
     };
-    let presentation = accept_in(ground, &carrier)?;
-    let values = accept_values(ground, &presentation, &carrier)?;
+    let presentation = accept_in(basis, &carrier)?;
+    let values = accept_values(basis, &presentation, &carrier)?;
     Ok(Word::OfAssociation(AssociationWord::Accept {
         session,
         presentation: PresentationAccept {
-            user: ListOf::new(ground.alloc),
+            user: ListOf::new(basis.alloc),
             ..presentation
         },
         values,
@@ -195,27 +195,27 @@ pub(crate) fn accept_meaning(
 
 /// RF with CPR.
 fn refuse_meaning(
-    ground: &Ground<'_>,
+    basis: &Ground<'_>,
     transport: Option<u8>,
     reason: Option<u8>,
     start: usize,
     user: &[u8],
 ) -> Result<Word, Halt>
     requires { start + length user.now < 2 ^ 63 }
-    ensures { GivesAs seen_word result (words.refused (association_base ground.now.tables.now ground.now.config.now) transport reason start user.now (words.reject_in start (ppdu_at places.Rf user.now))) }
+    ensures { GivesAs seen_word result (words.refused (association_base basis.now.tables.now basis.now.config.now) transport reason start user.now (words.reject_in start (ppdu_at places.Rf user.now))) }
 {
     let carrier = Carrier {
         place: PpduPlace::Rf,
         start,
         user,
     };
-    let presentation = reject_in(ground, &carrier)?;
-    let values = refuse_values(ground, &presentation, &carrier)?;
+    let presentation = reject_in(basis, &carrier)?;
+    let values = refuse_values(basis, &presentation, &carrier)?;
     Ok(Word::OfAssociation(AssociationWord::Refuse {
         transport,
         reason,
         presentation: Some(PresentationReject {
-            user: ListOf::new(ground.alloc),
+            user: ListOf::new(basis.alloc),
             ..presentation
         }),
         values,
@@ -224,64 +224,64 @@ fn refuse_meaning(
 
 /// RF with CPR, or without user data.
 pub(crate) fn refused_with(
-    ground: &Ground<'_>,
+    basis: &Ground<'_>,
     transport: Option<u8>,
     reason: Option<u8>,
     start: usize,
     user: &Option<Octets>,
 ) -> Result<Word, Halt>
     requires { HasPlaces start user.now }
-    ensures { GivesAs seen_word result (reading.refused_with (association_base ground.now.tables.now ground.now.config.now) transport reason start user.now) }
+    ensures { GivesAs seen_word result (reading.refused_with (association_base basis.now.tables.now basis.now.config.now) transport reason start user.now) }
 {
     match user {
         None => Ok(Word::OfAssociation(AssociationWord::Refuse {
             transport,
             reason,
             presentation: None,
-            values: ListOf::new(ground.alloc),
+            values: ListOf::new(basis.alloc),
         })),
-        Some(user) => refuse_meaning(ground, transport, reason, start, user.as_slice()),
+        Some(user) => refuse_meaning(basis, transport, reason, start, user.as_slice()),
     }
 }
 
 /// What ARU or ARP in the user data of AB says.
 fn abort_in(
-    ground: &Ground<'_>,
+    basis: &Ground<'_>,
     accepted: &[SetItem],
     carrier: &Carrier<'_>,
 ) -> Result<AbortData, Halt>
     requires { carrier.now.start + length carrier.now.user.now < 2 ^ 63 }
-    ensures { GivesAs seen_abort result (words.abort_in (association_base ground.now.tables.now ground.now.config.now) accepted.now carrier.now.start carrier.now.user.now carrier.now.place (ppdu_at carrier.now.place carrier.now.user.now)) }
+    ensures { GivesAs seen_abort result (words.abort_in (association_base basis.now.tables.now basis.now.config.now) accepted.now carrier.now.start carrier.now.user.now carrier.now.place (ppdu_at carrier.now.place carrier.now.user.now)) }
 {
-    match unit_in(ground, carrier)? {
+    match unit_in(basis, carrier)? {
         PresentationWord::UserAbort { user, .. } => Ok(AbortData::UserValues(abort_values(
-            ground,
+            basis,
             accepted,
             carrier,
             user.as_slice(),
         )?)),
         PresentationWord::ProviderAbort { reason, .. } => Ok(AbortData::ProviderReason { reason }),
-        PresentationWord::Connect(_) => invalid_ppdu(ground.alloc),
-        PresentationWord::Accept(_) => invalid_ppdu(ground.alloc),
-        PresentationWord::Reject(_) => invalid_ppdu(ground.alloc),
-        PresentationWord::Alter { .. } => invalid_ppdu(ground.alloc),
-        PresentationWord::AlterAck { .. } => invalid_ppdu(ground.alloc),
-        PresentationWord::Resynchronize { .. } => invalid_ppdu(ground.alloc),
-        PresentationWord::ResynchronizeAck { .. } => invalid_ppdu(ground.alloc),
-        PresentationWord::Data { .. } => invalid_ppdu(ground.alloc),
+        PresentationWord::Connect(_) => invalid_ppdu(basis.alloc),
+        PresentationWord::Accept(_) => invalid_ppdu(basis.alloc),
+        PresentationWord::Reject(_) => invalid_ppdu(basis.alloc),
+        PresentationWord::Alter { .. } => invalid_ppdu(basis.alloc),
+        PresentationWord::AlterAck { .. } => invalid_ppdu(basis.alloc),
+        PresentationWord::Resynchronize { .. } => invalid_ppdu(basis.alloc),
+        PresentationWord::ResynchronizeAck { .. } => invalid_ppdu(basis.alloc),
+        PresentationWord::Data { .. } => invalid_ppdu(basis.alloc),
     }
 }
 
 /// AB with ARU or ARP, or without user data.
 pub(crate) fn aborted_with(
-    ground: &Ground<'_>,
+    basis: &Ground<'_>,
     accepted: &[SetItem],
     transport: Option<u8>,
     start: usize,
     user: &Option<Octets>,
 ) -> Result<Word, Halt>
     requires { HasPlaces start user.now }
-    ensures { GivesAs seen_word result (words.aborted_with (association_base ground.now.tables.now ground.now.config.now) accepted.now transport start user.now) }
+    ensures { GivesAs seen_word result (words.aborted_with (association_base basis.now.tables.now basis.now.config.now) accepted.now transport start user.now) }
 {
     let Some(user) = user else {
         return Ok(Word::OfAssociation(AssociationWord::Abort {
@@ -296,34 +296,34 @@ pub(crate) fn aborted_with(
     };
     Ok(Word::OfAssociation(AssociationWord::Abort {
         transport,
-        user: abort_in(ground, accepted, &carrier)?,
+        user: abort_in(basis, accepted, &carrier)?,
     }))
 }
 
 /// Values alone in user data, of one abstract syntax, under the held set.
 fn values_with(
-    ground: &Ground<'_>,
+    basis: &Ground<'_>,
     held: &[SetItem],
     carried: &[u32],
     carrier: &Carrier<'_>,
 ) -> Result<Values, Halt>
     requires { carrier.now.start + length carrier.now.user.now < 2 ^ 63 }
-    ensures { GivesAs seen_values result (words.values_with ground.now.tables.now held.now carried.now carrier.now.place carrier.now.start carrier.now.user.now) }
+    ensures { GivesAs seen_values result (words.values_with basis.now.tables.now held.now carried.now carrier.now.place carrier.now.start carrier.now.user.now) }
 {
-    let pdvs = data_in(ground, carrier)?;
-    values_under(ground, held, carried, carrier, pdvs.as_slice())
+    let pdvs = data_in(basis, carrier)?;
+    values_under(basis, held, carried, carrier, pdvs.as_slice())
 }
 
 /// FN, with values of association control.
 pub(crate) fn finish_meaning(
-    ground: &Ground<'_>,
+    basis: &Ground<'_>,
     held: &[SetItem],
     transport: Option<u8>,
     start: usize,
     user: &[u8],
 ) -> Result<Word, Halt>
     requires { start + length user.now < 2 ^ 63 }
-    ensures { GivesAs seen_word result (words.finished ground.now.tables.now held.now transport start user.now) }
+    ensures { GivesAs seen_word result (words.finished basis.now.tables.now held.now transport start user.now) }
 {
     let carrier = Carrier {
         place: PpduPlace::Fn,
@@ -332,19 +332,19 @@ pub(crate) fn finish_meaning(
     };
     Ok(Word::OfAssociation(AssociationWord::Finish {
         transport,
-        values: values_with(ground, held, acse_name(), &carrier)?,
+        values: values_with(basis, held, acse_name(), &carrier)?,
     }))
 }
 
 /// DN, with values of association control.
 pub(crate) fn disconnect_meaning(
-    ground: &Ground<'_>,
+    basis: &Ground<'_>,
     held: &[SetItem],
     start: usize,
     user: &[u8],
 ) -> Result<Word, Halt>
     requires { start + length user.now < 2 ^ 63 }
-    ensures { GivesAs seen_word result (words.disconnected ground.now.tables.now held.now start user.now) }
+    ensures { GivesAs seen_word result (words.disconnected basis.now.tables.now held.now start user.now) }
 {
     let carrier = Carrier {
         place: PpduPlace::Dn,
@@ -352,54 +352,49 @@ pub(crate) fn disconnect_meaning(
         user,
     };
     Ok(Word::OfAssociation(AssociationWord::Disconnect {
-        values: values_with(ground, held, acse_name(), &carrier)?,
+        values: values_with(basis, held, acse_name(), &carrier)?,
     }))
 }
 
 /// The abstract syntax of the values that DT carries.
-fn carried_by_data<'a>(ground: &Ground<'a>) -> &'a [u32]
-    ensures { result.now ≡ reading.carried_by_data (association_base ground.now.tables.now ground.now.config.now) }
+fn carried_by_data<'a>(basis: &Ground<'a>) -> &'a [u32]
+    ensures { result.now ≡ reading.carried_by_data (association_base basis.now.tables.now basis.now.config.now) }
 {
-    if is_reliable(ground.config.mode) {
+    if is_reliable(basis.config.mode) {
         rtse_name()
     } else {
-        ground.tables.name_oid.arcs()
+        basis.tables.name_oid.arcs()
     }
 }
 
 /// DT, with the module's values, in reliable mode with parts of transfers.
 pub(crate) fn data_meaning(
-    ground: &Ground<'_>,
+    basis: &Ground<'_>,
     held: &[SetItem],
     start: usize,
     user: &[u8],
 ) -> Result<Word, Halt>
     requires { start + length user.now < 2 ^ 63 }
-    ensures { GivesAs seen_word result (words.sent (association_base ground.now.tables.now ground.now.config.now) held.now start user.now) }
+    ensures { GivesAs seen_word result (words.sent (association_base basis.now.tables.now basis.now.config.now) held.now start user.now) }
 {
     let carrier = Carrier {
         place: PpduPlace::Dt,
         start,
         user,
     };
-    Ok(Word::OfData(DataWord::Values(values_with(
-        ground,
-        held,
-        carried_by_data(ground),
-        &carrier,
-    )?)))
+    Ok(Word::OfData(DataWord::Values(values_with(basis, held, carried_by_data(basis), &carrier)?)))
 }
 
 /// PT that carries values.
 fn plea_meaning(
-    ground: &Ground<'_>,
+    basis: &Ground<'_>,
     held: &[SetItem],
     tokens: u8,
     start: usize,
     user: &[u8],
 ) -> Result<Word, Halt>
     requires { start + length user.now < 2 ^ 63 }
-    ensures { GivesAs seen_word result (words.pleaded ground.now.tables.now held.now tokens start user.now) }
+    ensures { GivesAs seen_word result (words.pleaded basis.now.tables.now held.now tokens start user.now) }
 {
     let carrier = Carrier {
         place: PpduPlace::Pt,
@@ -408,38 +403,38 @@ fn plea_meaning(
     };
     Ok(Word::OfMarks(MarkWord::Please {
         tokens: Some(tokens),
-        values: values_with(ground, held, rtse_name(), &carrier)?,
+        values: values_with(basis, held, rtse_name(), &carrier)?,
     }))
 }
 
 /// PT. A plea without a token item says nothing, whatever it carries.
 pub(crate) fn pleaded_with(
-    ground: &Ground<'_>,
+    basis: &Ground<'_>,
     held: &[SetItem],
     tokens: Option<u8>,
     start: usize,
     user: &Option<Octets>,
 ) -> Result<Word, Halt>
     requires { HasPlaces start user.now }
-    ensures { GivesAs seen_word result (words.pleaded_with ground.now.tables.now held.now tokens start user.now) }
+    ensures { GivesAs seen_word result (words.pleaded_with basis.now.tables.now held.now tokens start user.now) }
 {
     let Some(tokens) = tokens else {
         return Ok(Word::OfMarks(MarkWord::Please {
             tokens: None,
-            values: ListOf::new(ground.alloc),
+            values: ListOf::new(basis.alloc),
         }));
     };
     match user {
         None => Ok(Word::OfMarks(MarkWord::Please {
             tokens: Some(tokens),
-            values: ListOf::new(ground.alloc),
+            values: ListOf::new(basis.alloc),
         })),
-        Some(user) => plea_meaning(ground, held, tokens, start, user.as_slice()),
+        Some(user) => plea_meaning(basis, held, tokens, start, user.as_slice()),
     }
 }
 
 /// TD with AC or ACA.
-pub(crate) fn typed_meaning(ground: &Ground<'_>, start: usize, user: &[u8]) -> Result<Word, Halt>
+pub(crate) fn typed_meaning(basis: &Ground<'_>, start: usize, user: &[u8]) -> Result<Word, Halt>
     requires { start + length user.now < 2 ^ 63 }
     ensures { GivesAs seen_word result (words.typed start (ppdu_at places.Td user.now)) }
 {
@@ -448,31 +443,26 @@ pub(crate) fn typed_meaning(ground: &Ground<'_>, start: usize, user: &[u8]) -> R
         start,
         user,
     };
-    match unit_in(ground, &carrier)? {
+    match unit_in(basis, &carrier)? {
         PresentationWord::Alter { add, delete } => {
             Ok(Word::OfData(DataWord::AlterContext { add, delete }))
         }
         PresentationWord::AlterAck { answers } => {
             Ok(Word::OfData(DataWord::AlterContextAck { answers }))
         }
-        PresentationWord::Connect(_) => invalid_ppdu(ground.alloc),
-        PresentationWord::Accept(_) => invalid_ppdu(ground.alloc),
-        PresentationWord::Reject(_) => invalid_ppdu(ground.alloc),
-        PresentationWord::Resynchronize { .. } => invalid_ppdu(ground.alloc),
-        PresentationWord::ResynchronizeAck { .. } => invalid_ppdu(ground.alloc),
-        PresentationWord::UserAbort { .. } => invalid_ppdu(ground.alloc),
-        PresentationWord::ProviderAbort { .. } => invalid_ppdu(ground.alloc),
-        PresentationWord::Data { .. } => invalid_ppdu(ground.alloc),
+        PresentationWord::Connect(_) => invalid_ppdu(basis.alloc),
+        PresentationWord::Accept(_) => invalid_ppdu(basis.alloc),
+        PresentationWord::Reject(_) => invalid_ppdu(basis.alloc),
+        PresentationWord::Resynchronize { .. } => invalid_ppdu(basis.alloc),
+        PresentationWord::ResynchronizeAck { .. } => invalid_ppdu(basis.alloc),
+        PresentationWord::UserAbort { .. } => invalid_ppdu(basis.alloc),
+        PresentationWord::ProviderAbort { .. } => invalid_ppdu(basis.alloc),
+        PresentationWord::Data { .. } => invalid_ppdu(basis.alloc),
     }
 }
 
 /// RS with its list.
-fn restart_meaning(
-    ground: &Ground<'_>,
-    number: u32,
-    start: usize,
-    user: &[u8],
-) -> Result<Word, Halt>
+fn restart_meaning(basis: &Ground<'_>, number: u32, start: usize, user: &[u8]) -> Result<Word, Halt>
     requires { start + length user.now < 2 ^ 63 }
     ensures { GivesAs seen_word result (words.restarted number start (ppdu_at places.Rs user.now)) }
 {
@@ -481,26 +471,26 @@ fn restart_meaning(
         start,
         user,
     };
-    match unit_in(ground, &carrier)? {
+    match unit_in(basis, &carrier)? {
         PresentationWord::Resynchronize { restored } => Ok(Word::OfMarks(MarkWord::Restart {
             number,
             list: restored,
         })),
-        PresentationWord::Connect(_) => invalid_ppdu(ground.alloc),
-        PresentationWord::Accept(_) => invalid_ppdu(ground.alloc),
-        PresentationWord::Reject(_) => invalid_ppdu(ground.alloc),
-        PresentationWord::Alter { .. } => invalid_ppdu(ground.alloc),
-        PresentationWord::AlterAck { .. } => invalid_ppdu(ground.alloc),
-        PresentationWord::ResynchronizeAck { .. } => invalid_ppdu(ground.alloc),
-        PresentationWord::UserAbort { .. } => invalid_ppdu(ground.alloc),
-        PresentationWord::ProviderAbort { .. } => invalid_ppdu(ground.alloc),
-        PresentationWord::Data { .. } => invalid_ppdu(ground.alloc),
+        PresentationWord::Connect(_) => invalid_ppdu(basis.alloc),
+        PresentationWord::Accept(_) => invalid_ppdu(basis.alloc),
+        PresentationWord::Reject(_) => invalid_ppdu(basis.alloc),
+        PresentationWord::Alter { .. } => invalid_ppdu(basis.alloc),
+        PresentationWord::AlterAck { .. } => invalid_ppdu(basis.alloc),
+        PresentationWord::ResynchronizeAck { .. } => invalid_ppdu(basis.alloc),
+        PresentationWord::UserAbort { .. } => invalid_ppdu(basis.alloc),
+        PresentationWord::ProviderAbort { .. } => invalid_ppdu(basis.alloc),
+        PresentationWord::Data { .. } => invalid_ppdu(basis.alloc),
     }
 }
 
 /// RS with its list, or without user data.
 pub(crate) fn restarted_with(
-    ground: &Ground<'_>,
+    basis: &Ground<'_>,
     number: u32,
     start: usize,
     user: &Option<Octets>,
@@ -510,13 +500,13 @@ pub(crate) fn restarted_with(
 {
     match user {
         None => Ok(Word::OfMarks(MarkWord::Restart { number, list: None })),
-        Some(user) => restart_meaning(ground, number, start, user.as_slice()),
+        Some(user) => restart_meaning(basis, number, start, user.as_slice()),
     }
 }
 
 /// RA with its list.
 fn restart_ack_meaning(
-    ground: &Ground<'_>,
+    basis: &Ground<'_>,
     number: u32,
     start: usize,
     user: &[u8],
@@ -529,28 +519,28 @@ fn restart_ack_meaning(
         start,
         user,
     };
-    match unit_in(ground, &carrier)? {
+    match unit_in(basis, &carrier)? {
         PresentationWord::ResynchronizeAck { restored } => {
             Ok(Word::OfMarks(MarkWord::RestartAck {
                 number,
                 list: restored,
             }))
         }
-        PresentationWord::Connect(_) => invalid_ppdu(ground.alloc),
-        PresentationWord::Accept(_) => invalid_ppdu(ground.alloc),
-        PresentationWord::Reject(_) => invalid_ppdu(ground.alloc),
-        PresentationWord::Alter { .. } => invalid_ppdu(ground.alloc),
-        PresentationWord::AlterAck { .. } => invalid_ppdu(ground.alloc),
-        PresentationWord::Resynchronize { .. } => invalid_ppdu(ground.alloc),
-        PresentationWord::UserAbort { .. } => invalid_ppdu(ground.alloc),
-        PresentationWord::ProviderAbort { .. } => invalid_ppdu(ground.alloc),
-        PresentationWord::Data { .. } => invalid_ppdu(ground.alloc),
+        PresentationWord::Connect(_) => invalid_ppdu(basis.alloc),
+        PresentationWord::Accept(_) => invalid_ppdu(basis.alloc),
+        PresentationWord::Reject(_) => invalid_ppdu(basis.alloc),
+        PresentationWord::Alter { .. } => invalid_ppdu(basis.alloc),
+        PresentationWord::AlterAck { .. } => invalid_ppdu(basis.alloc),
+        PresentationWord::Resynchronize { .. } => invalid_ppdu(basis.alloc),
+        PresentationWord::UserAbort { .. } => invalid_ppdu(basis.alloc),
+        PresentationWord::ProviderAbort { .. } => invalid_ppdu(basis.alloc),
+        PresentationWord::Data { .. } => invalid_ppdu(basis.alloc),
     }
 }
 
 /// RA with its list, or without user data.
 pub(crate) fn restart_acked_with(
-    ground: &Ground<'_>,
+    basis: &Ground<'_>,
     number: u32,
     start: usize,
     user: &Option<Octets>,
@@ -560,6 +550,6 @@ pub(crate) fn restart_acked_with(
 {
     match user {
         None => Ok(Word::OfMarks(MarkWord::RestartAck { number, list: None })),
-        Some(user) => restart_ack_meaning(ground, number, start, user.as_slice()),
+        Some(user) => restart_ack_meaning(basis, number, start, user.as_slice()),
     }
 }

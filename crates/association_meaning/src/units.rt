@@ -8,7 +8,7 @@ ghost use Rattle.association_words.specs.Seen.{seen_word};
 ghost use Rattle.association_meaning.specs.Grounds.{association_base, body_with, GivesAs};
 ghost use Rattle.association_intake.specs.Seen.{HasPlaces};
 
-use crate::ground::{Ground, Halt};
+use crate::basis::{Ground, Halt};
 use crate::parts::{
     aborted_with, accept_meaning, connect_meaning, data_meaning, disconnect_meaning,
     finish_meaning, pleaded_with, refused_with, restart_acked_with, restarted_with, typed_meaning,
@@ -32,17 +32,17 @@ fn of_activities(word: ActivityWord) -> Result<Word, Halt>
 
 /// As `meaning`, of an end that is new but for its contexts.
 fn unit_meaning(
-    ground: &Ground<'_>,
+    basis: &Ground<'_>,
     accepted: &[SetItem],
     held: &[SetItem],
     unit: &SessionWord,
     start: usize,
 ) -> Result<Word, Halt>
     requires { HasPlaces start (user_of unit.now) }
-    ensures { let base = association_base ground.now.tables.now ground.now.config.now in GivesAs seen_word result (reading.meaning base (body_with base accepted.now held.now) unit.now start) }
+    ensures { let base = association_base basis.now.tables.now basis.now.config.now in GivesAs seen_word result (reading.meaning base (body_with base accepted.now held.now) unit.now start) }
 {
     match unit {
-        SessionWord::Connect(session) => connect_meaning(ground, session, start),
+        SessionWord::Connect(session) => connect_meaning(basis, session, start),
         SessionWord::Accept {
             options,
             version,
@@ -50,7 +50,7 @@ fn unit_meaning(
             requirements,
             user,
         } => accept_meaning(
-            ground,
+            basis,
             Accepting {
                 options: *options,
                 version: *version,
@@ -64,32 +64,32 @@ fn unit_meaning(
             transport,
             reason,
             user,
-        } => refused_with(ground, *transport, *reason, start, user),
+        } => refused_with(basis, *transport, *reason, start, user),
         SessionWord::Finish { transport, user } => {
-            finish_meaning(ground, held, *transport, start, user.as_slice())
+            finish_meaning(basis, held, *transport, start, user.as_slice())
         }
         SessionWord::Disconnect { user } => {
-            disconnect_meaning(ground, held, start, user.as_slice())
+            disconnect_meaning(basis, held, start, user.as_slice())
         }
         SessionWord::Abort { transport, user } => {
-            aborted_with(ground, accepted, *transport, start, user)
+            aborted_with(basis, accepted, *transport, start, user)
         }
         SessionWord::AbortAccept => Ok(Word::OfAssociation(AssociationWord::AbortAccept)),
-        SessionWord::TypedData { user } => typed_meaning(ground, start, user.as_slice()),
-        SessionWord::Data { user } => data_meaning(ground, held, start, user.as_slice()),
+        SessionWord::TypedData { user } => typed_meaning(basis, start, user.as_slice()),
+        SessionWord::Data { user } => data_meaning(basis, held, start, user.as_slice()),
         SessionWord::GiveTokens { tokens } => of_marks(MarkWord::Give { tokens: *tokens }),
         SessionWord::PleaseTokens { tokens, user } => {
-            pleaded_with(ground, held, *tokens, start, user)
+            pleaded_with(basis, held, *tokens, start, user)
         }
         SessionWord::GiveTokensConfirm => of_marks(MarkWord::GiveConfirm),
         SessionWord::GiveTokensAck => of_marks(MarkWord::GiveAck),
         SessionWord::Mark { number } => of_marks(MarkWord::Mark { number: *number }),
         SessionWord::MarkAck { number } => of_marks(MarkWord::MarkAck { number: *number }),
         SessionWord::Resynchronize { number, user } => {
-            restarted_with(ground, *number, start, user)
+            restarted_with(basis, *number, start, user)
         }
         SessionWord::ResynchronizeAck { number, user } => {
-            restart_acked_with(ground, *number, start, user)
+            restart_acked_with(basis, *number, start, user)
         }
         SessionWord::ActivityStart { activity } => of_activities(ActivityWord::Start {
             activity: *activity,
@@ -118,14 +118,14 @@ fn unit_meaning(
 /// values, then their APDUs. Its user data begin at this place of its TSDU. `NoMemory` where memory
 /// runs out; the unit is left as it is.
 pub fn meaning(
-    ground: &Ground<'_>,
+    basis: &Ground<'_>,
     accepted: &[SetItem],
     held: &[SetItem],
     unit: &SessionWord,
     start: usize,
 ) -> Result<Word, Halt>
     requires { HasPlaces start (user_of unit.now) }
-    ensures { (body : Body) → body.link.accepted ≡ accepted.now → body.sets.held ≡ held.now → GivesAs seen_word result (reading.meaning (association_base ground.now.tables.now ground.now.config.now) body unit.now start) }
+    ensures { (body : Body) → body.link.accepted ≡ accepted.now → body.sets.held ≡ held.now → GivesAs seen_word result (reading.meaning (association_base basis.now.tables.now basis.now.config.now) body unit.now start) }
 {
-    unit_meaning(ground, accepted, held, unit, start)
+    unit_meaning(basis, accepted, held, unit, start)
 }

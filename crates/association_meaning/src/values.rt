@@ -7,8 +7,8 @@ ghost use Rattle.association_reading.specs.Values as reading;
 ghost use Rattle.association_words.specs.Seen.{seen_value, seen_values};
 ghost use Rattle.association_meaning.specs.Grounds.{GivesAs};
 
+use crate::basis::{Ground, Halt};
 use crate::contexts::{Carrier, check, first_wrong};
-use crate::ground::{Ground, Halt};
 use crate::layers::content_by;
 use association_sets::pair_of;
 use association_words::{Value, Values};
@@ -26,31 +26,31 @@ fn copied(alloc: Global, pair: Option<&Pair>) -> Result<Option<Pair>, NoMemory>
 }
 
 /// A value under the pair of its context, where there is one.
-fn value_by(ground: &Ground<'_>, pair: Option<&Pair>, pdv: &Pdv) -> Result<Value, Halt>
-    ensures { GivesAs seen_value result (reading.value_by ground.now.tables.now (option_copied pair.entry) pdv.now) }
+fn value_by(basis: &Ground<'_>, pair: Option<&Pair>, pdv: &Pdv) -> Result<Value, Halt>
+    ensures { GivesAs seen_value result (reading.value_by basis.now.tables.now (option_copied pair.entry) pdv.now) }
 {
-    let content = content_by(ground, pair, pdv.content.octets().as_slice())?;
+    let content = content_by(basis, pair, pdv.content.octets().as_slice())?;
     Ok(Value {
         id: pdv.id,
-        pair: copied(ground.alloc, pair)?,
+        pair: copied(basis.alloc, pair)?,
         content,
     })
 }
 
 /// A value under a set.
-pub(crate) fn value_in(ground: &Ground<'_>, set: &[SetItem], pdv: &Pdv) -> Result<Value, Halt>
-    ensures { GivesAs seen_value result (reading.value_in ground.now.tables.now set.now pdv.now) }
+pub(crate) fn value_in(basis: &Ground<'_>, set: &[SetItem], pdv: &Pdv) -> Result<Value, Halt>
+    ensures { GivesAs seen_value result (reading.value_in basis.now.tables.now set.now pdv.now) }
 {
-    value_by(ground, pair_of(set, pdv.id), pdv)
+    value_by(basis, pair_of(set, pdv.id), pdv)
 }
 
 /// Values under a set, one after the other.
-fn all_in(ground: &Ground<'_>, set: &[SetItem], pdvs: &[Pdv]) -> Result<Values, Halt>
-    ensures { GivesAs seen_values result (reading.all_values (reading.value_in ground.now.tables.now set.now) pdvs.now) }
+fn all_in(basis: &Ground<'_>, set: &[SetItem], pdvs: &[Pdv]) -> Result<Values, Halt>
+    ensures { GivesAs seen_values result (reading.all_values (reading.value_in basis.now.tables.now set.now) pdvs.now) }
 {
-    let mut values: Values = ListOf::new(ground.alloc);
+    let mut values: Values = ListOf::new(basis.alloc);
     for pdv in pdvs {
-        values.push(value_in(ground, set, pdv)?)?;
+        values.push(value_in(basis, set, pdv)?)?;
     }
     Ok(values)
 }
@@ -58,15 +58,15 @@ fn all_in(ground: &Ground<'_>, set: &[SetItem], pdvs: &[Pdv]) -> Result<Values, 
 /// Values of a message that carries those of this abstract syntax: the contexts and forms of all,
 /// then what each is.
 pub(crate) fn values_under(
-    ground: &Ground<'_>,
+    basis: &Ground<'_>,
     set: &[SetItem],
     carried: &[u32],
     carrier: &Carrier<'_>,
     pdvs: &[Pdv],
 ) -> Result<Values, Halt>
     requires { carrier.now.start + length carrier.now.user.now < 2 ^ 63 }
-    ensures { GivesAs seen_values result (reading.values_under ground.now.tables.now set.now carried.now (pdv_places carrier.now.place carrier.now.start carrier.now.user.now) pdvs.now) }
+    ensures { GivesAs seen_values result (reading.values_under basis.now.tables.now set.now carried.now (pdv_places carrier.now.place carrier.now.start carrier.now.user.now) pdvs.now) }
 {
-    check(ground, carrier, first_wrong(carried, set, pdvs))?;
-    all_in(ground, set, pdvs)
+    check(basis, carrier, first_wrong(carried, set, pdvs))?;
+    all_in(basis, set, pdvs)
 }

@@ -7,4 +7,4 @@ use Rattle.association_meaning.specs.Grounds.{association_base}
 use Rattle.association_meaning.proofs.association.all_or_left.Given as goal
 
 abbrev pub invariant-loop-pdv : goal.invariant-loop-pdv
-invariant-loop-pdv l = steps.joined (seen_values l.values) (values_read.all_values (reading.value_or_left (association_base l.ground.tables.now l.ground.config.now) l.definitions l.set) (drop l.pdv-index l.pdvs)) ≡ values_read.all_values (reading.value_or_left (association_base l.ground.tables.now l.ground.config.now) l.definitions l.set) l.pdvs
+invariant-loop-pdv l = steps.joined (seen_values l.values) (values_read.all_values (reading.value_or_left (association_base l.basis.tables.now l.basis.config.now) l.definitions l.set) (drop l.pdv-index l.pdvs)) ≡ values_read.all_values (reading.value_or_left (association_base l.basis.tables.now l.basis.config.now) l.definitions l.set) l.pdvs

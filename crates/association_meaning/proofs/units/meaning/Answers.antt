@@ -6,4 +6,4 @@ use Rattle.association_meaning.proofs.units.meaning.Goals as goal
 
 pub returns : goal.returns
 returns c = λ body ea eh.
-    subst (GivesAs seen_word c.unit_meaning.result) (same_meaning (association_base c.args.ground.now.tables.now c.args.ground.now.config.now) body c.args.accepted.now c.args.held.now c.args.unit.now c.args.start ea eh) c.unit_meaning.ensures
+    subst (GivesAs seen_word c.unit_meaning.result) (same_meaning (association_base c.args.basis.now.tables.now c.args.basis.now.config.now) body c.args.accepted.now c.args.held.now c.args.unit.now c.args.start ea eh) c.unit_meaning.ensures

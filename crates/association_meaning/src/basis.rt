@@ -1,7 +1,7 @@
 //! What reading stands on, and why it stops.
 
 ghost use Rattle.std.specs.Prelude.{◌≡◌, ℕ, []};
-ghost use Rattle.association_meaning.specs.declared.ground.Halt.TheVariants as halts;
+ghost use Rattle.association_meaning.specs.declared.basis.Halt.TheVariants as halts;
 
 use association_codecs::Codecs;
 use association_words::Fault;
@@ -30,7 +30,7 @@ pub enum Halt {
 
 impl From<NoMemory> for Halt {
     ghost use Rattle.std.specs.Prelude.{◌≡◌};
-    ghost use Rattle.association_meaning.specs.declared.ground.Halt.TheVariants.{NoMemory as no_room};
+    ghost use Rattle.association_meaning.specs.declared.basis.Halt.TheVariants.{NoMemory as no_room};
 
     ghost from_gives = { λ _ e. e ≡ no_room };
 
