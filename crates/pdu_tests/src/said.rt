@@ -1,0 +1,430 @@
+//! What the fields of units say: the units of worked dialogues, and units laid out by hand after the
+//! sections of X.226 that are named.
+
+use crate::digits::octets_of;
+use osi_base::{
+    AddAnswers, BitString, NoMemory, Octets, Oid, Pdv, PdvContent, Ppdu, Proposals, RestoredList,
+};
+use presentation_pdus::{PpduPlace, read_ppdu};
+use std::alloc::Global;
+use std::test::*;
+
+/// The abstract syntax of association control.
+const ASSOCIATION: [u32; 5] = [2, 2, 1, 0, 1];
+
+/// The abstract syntax of the module of the dialogues.
+const MODULE: [u32; 4] = [2, 999, 7, 1];
+
+const BER: [u32; 3] = [2, 1, 1];
+
+const PACKED: [u32; 4] = [2, 999, 5, 1];
+
+/// The unit of these octets, if they are one.
+fn unit(alloc: Global, carrier: PpduPlace, text: &str) -> Result<Option<Ppdu>, NoMemory> {
+    let octets = octets_of(alloc, text)?;
+    match read_ppdu(alloc, carrier, octets.as_slice()) {
+        Ok(unit) => Ok(Some(unit)),
+        Err(_) => Ok(None),
+    }
+}
+
+/// Whether a name is there and has these arcs.
+fn is_named(name: &Option<Oid>, arcs: &[u32]) -> bool {
+    match name {
+        Some(name) => name.arcs() == arcs,
+        None => false,
+    }
+}
+
+/// Whether octets are there and are these.
+fn are(octets: &Option<Octets>, wanted: &[u8]) -> bool {
+    match octets {
+        Some(octets) => octets.as_slice() == wanted,
+        None => false,
+    }
+}
+
+/// Whether the definition at a place has this identifier and this abstract syntax, and one transfer
+/// syntax, which is this.
+fn defines(
+    list: &Proposals,
+    place: usize,
+    id: u32,
+    abstract_name: &[u32],
+    transfer: &[u32],
+) -> bool {
+    match list.get(place) {
+        Some(item) => {
+            let one = match item.transfers.get(0) {
+                Some(name) => item.transfers.len() == 1 && name.arcs() == transfer,
+                None => false,
+            };
+            item.id == id && item.abstract_name.arcs() == abstract_name && one
+        }
+        None => false,
+    }
+}
+
+/// Whether the result at a place is an acceptance with this transfer syntax.
+fn accepts(list: &AddAnswers, place: usize, transfer: &[u32]) -> bool {
+    match list.get(place) {
+        Some(item) => {
+            item.result == 0 && is_named(&item.transfer, transfer) && item.reason.is_none()
+        }
+        None => false,
+    }
+}
+
+/// Whether the result at a place is a rejection by the provider for this reason.
+fn rejects(list: &AddAnswers, place: usize, reason: u8) -> bool {
+    match list.get(place) {
+        Some(item) => { item.result == 2 && item.transfer.is_none() && item.reason == Some(reason) }
+        None => false,
+    }
+}
+
+/// Whether a value is there, on this context, without a transfer syntax name, and as one BER value
+/// of so many octets.
+fn is_single(value: Option<&Pdv>, id: u32, count: usize) -> bool {
+    match value {
+        Some(pdv) => {
+            let content = match &pdv.content {
+                PdvContent::SingleAsn1Type(octets) => octets.len() == count,
+                _ => false,
+            };
+            pdv.id == id && pdv.transfer.is_none() && content
+        }
+        None => false,
+    }
+}
+
+/// Whether a value is there, with its transfer syntax name, and as these octets.
+fn is_aligned(value: Option<&Pdv>, id: u32, octets: &[u8]) -> bool {
+    match value {
+        Some(pdv) => {
+            let content = match &pdv.content {
+                PdvContent::OctetAligned(found) => found.as_slice() == octets,
+                _ => false,
+            };
+            pdv.id == id && content
+        }
+        None => false,
+    }
+}
+
+/// Whether a value is there and is these bits.
+fn is_arbitrary(value: Option<&Pdv>, octets: &[u8], unused: u8) -> bool {
+    match value {
+        Some(pdv) => match &pdv.content {
+            PdvContent::Arbitrary(bits) => {
+                bits.octets.as_slice() == octets && bits.unused == unused
+            }
+            _ => false,
+        },
+        None => false,
+    }
+}
+
+/// Whether the restored context at a place has this identifier and this transfer syntax.
+fn restores(list: &RestoredList, place: usize, id: u32, transfer: &[u32]) -> bool {
+    match list.get(place) {
+        Some(item) => item.id == id && item.transfer.arcs() == transfer,
+        None => false,
+    }
+}
+
+/// Whether the list is that of the contexts 1 and 5, both in BER.
+fn restores_both(list: &Option<RestoredList>) -> bool {
+    match list {
+        Some(list) => list.len() == 2 && restores(list, 0, 1, &BER) && restores(list, 1, 5, &BER),
+        None => false,
+    }
+}
+
+/// Whether these requirements are there and are context management with context restoration, or neither.
+fn needs(bits: &Option<BitString>, both: bool) -> bool {
+    match bits {
+        Some(bits) => bits.unused == 6 && bits.has(0) == both && bits.has(1) == both,
+        None => false,
+    }
+}
+
+fn opens(unit: &Option<Ppdu>) -> bool {
+    match unit {
+        Some(Ppdu::Connect(cp)) => {
+            are(&cp.calling, &[0, 1])
+                && are(&cp.called, &[0, 2])
+                && cp.definitions.len() == 2
+                && defines(&cp.definitions, 0, 1, &ASSOCIATION, &BER)
+                && defines(&cp.definitions, 1, 5, &MODULE, &BER)
+                && needs(&cp.requirements, true)
+                && cp.user.len() == 1
+                && is_single(cp.user.get(0), 1, 10)
+        }
+        _ => false,
+    }
+}
+
+fn lacks_the_others(unit: &Option<Ppdu>) -> bool {
+    match unit {
+        Some(Ppdu::Connect(cp)) => {
+            cp.version.is_none()
+                && cp.default_context.is_none()
+                && cp.session_requirements.is_none()
+        }
+        _ => false,
+    }
+}
+
+#[test]
+fn an_opening_says_its_fields(rt: HostRuntime) -> Result<(), Fail> {
+    // the opening in direct mode, with another called selector
+    let text =
+        "31 4A A0 03 80 01 01 A2 43 81 02 00 01 82 02 00 02 A4 22 30 0F 02 01 01 06 04 52 01 00 01 30 04 06 02 51 01 30 0F 02 01 05 06 04 88 37 07 01 30 04 06 02 51 01 88 02 06 C0 61 11 30 0F 02 01 01 A0 0A 60 08 A1 06 06 04 88 37 05 03";
+    let unit = unit(rt.alloc(), PpduPlace::Cn, text)?;
+    assert!(rt; opens(&unit));
+    assert!(rt; lacks_the_others(&unit));
+    Ok(())
+}
+
+fn takes_a_default(unit: &Option<Ppdu>) -> bool {
+    match unit {
+        Some(Ppdu::Connect(cp)) => {
+            are(
+                &cp.default_context,
+                &[0xA6, 0x06, 0x06, 0x01, 0x2A, 0x06, 0x01, 0x2A],
+            ) && cp.calling.is_none()
+                && cp.definitions.len() == 0
+        }
+        _ => false,
+    }
+}
+
+#[test]
+fn a_default_context_is_told(rt: HostRuntime) -> Result<(), Fail> {
+    // X.226 8.2: the fields of normal mode with a default context alone
+    let text = "31 0F A0 03 80 01 01 A2 08 A6 06 06 01 2A 06 01 2A";
+    let unit = unit(rt.alloc(), PpduPlace::Cn, text)?;
+    assert!(rt; takes_a_default(&unit));
+    Ok(())
+}
+
+fn accepts_both(unit: &Option<Ppdu>) -> bool {
+    match unit {
+        Some(Ppdu::Accept(cpa)) => {
+            are(&cpa.responding, &[0, 1])
+                && cpa.results.len() == 2
+                && accepts(&cpa.results, 0, &BER)
+                && accepts(&cpa.results, 1, &BER)
+                && needs(&cpa.requirements, true)
+                && cpa.user.len() == 1
+                && is_single(cpa.user.get(0), 1, 22)
+        }
+        _ => false,
+    }
+}
+
+#[test]
+fn an_acceptance_says_its_fields(rt: HostRuntime) -> Result<(), Fail> {
+    // the acceptance in direct mode
+    let text =
+        "31 42 A0 03 80 01 01 A2 3B 83 02 00 01 A5 12 30 07 80 01 00 81 02 51 01 30 07 80 01 00 81 02 51 01 88 02 06 C0 61 1D 30 1B 02 01 01 A0 16 61 14 A1 06 06 04 88 37 05 03 A2 03 02 01 00 A3 05 A1 03 02 01 00";
+    let unit = unit(rt.alloc(), PpduPlace::Ac, text)?;
+    assert!(rt; accepts_both(&unit));
+    Ok(())
+}
+
+fn accepts_without_management(unit: &Option<Ppdu>) -> bool {
+    match unit {
+        Some(Ppdu::Accept(cpa)) => needs(&cpa.requirements, false) && cpa.results.len() == 2,
+        _ => false,
+    }
+}
+
+#[test]
+fn an_acceptance_without_context_management_says_so(rt: HostRuntime) -> Result<(), Fail> {
+    // the acceptance of a client that proposes duplex alone
+    let text =
+        "31 42 A0 03 80 01 01 A2 3B 83 02 00 01 A5 12 30 07 80 01 00 81 02 51 01 30 07 80 01 00 81 02 51 01 88 02 06 00 61 1D 30 1B 02 01 01 A0 16 61 14 A1 06 06 04 88 37 05 03 A2 03 02 01 00 A3 05 A1 03 02 01 00";
+    let unit = unit(rt.alloc(), PpduPlace::Ac, text)?;
+    assert!(rt; accepts_without_management(&unit));
+    Ok(())
+}
+
+fn refuses_with_an_answer(unit: &Option<Ppdu>) -> bool {
+    match unit {
+        Some(Ppdu::Reject(cpr)) => {
+            cpr.reason.is_none()
+                && cpr.results.len() == 2
+                && accepts(&cpr.results, 0, &BER)
+                && rejects(&cpr.results, 1, 2)
+                && cpr.user.len() == 1
+                && is_single(cpr.user.get(0), 1, 22)
+        }
+        _ => false,
+    }
+}
+
+fn refuses_without_an_answer(unit: &Option<Ppdu>) -> bool {
+    match unit {
+        Some(Ppdu::Reject(cpr)) => {
+            cpr.reason == Some(0) && cpr.results.len() == 0 && cpr.user.len() == 0
+        }
+        _ => false,
+    }
+}
+
+#[test]
+fn refusals_say_their_fields(rt: HostRuntime) -> Result<(), Fail> {
+    // X.226 8.2: results, of which the provider rejects the second for its transfer syntaxes, and
+    // an AARE
+    let text =
+        "30 32 A5 11 30 07 80 01 00 81 02 51 01 30 06 80 01 02 82 01 02 61 1D 30 1B 02 01 01 A0 16 61 14 A1 06 06 04 88 37 05 03 A2 03 02 01 01 A3 05 A1 03 02 01 01";
+    let with = unit(rt.alloc(), PpduPlace::Rf, text)?;
+    assert!(rt; refuses_with_an_answer(&with));
+    // the provider's reason alone
+    let without = unit(rt.alloc(), PpduPlace::Rf, "30 03 8A 01 00")?;
+    assert!(rt; refuses_without_an_answer(&without));
+    Ok(())
+}
+
+fn alters_both(unit: &Option<Ppdu>) -> bool {
+    match unit {
+        Some(Ppdu::Alter { add, delete }) => {
+            add.len() == 1
+                && defines(add, 0, 7, &MODULE, &PACKED)
+                && delete.len() == 1
+                && delete.get(0).copied() == Some(5)
+        }
+        _ => false,
+    }
+}
+
+fn answers_both(unit: &Option<Ppdu>) -> bool {
+    match unit {
+        Some(Ppdu::AlterAck { answers }) => {
+            answers.added.len() == 1
+                && accepts(&answers.added, 0, &PACKED)
+                && answers.deleted.as_slice() == [1].as_slice()
+        }
+        _ => false,
+    }
+}
+
+#[test]
+fn alterations_say_their_lists(rt: HostRuntime) -> Result<(), Fail> {
+    // X.226 8.3: one addition and one deletion
+    let text =
+        "A0 1A A0 13 30 11 02 01 07 06 04 88 37 07 01 30 06 06 04 88 37 05 01 A1 03 02 01 05";
+    let asked = unit(rt.alloc(), PpduPlace::Td, text)?;
+    assert!(rt; alters_both(&asked));
+    // the addition is accepted, the deletion rejected
+    let text = "A1 12 A0 0B 30 09 80 01 00 81 04 88 37 05 01 A1 03 02 01 01";
+    let answered = unit(rt.alloc(), PpduPlace::Td, text)?;
+    assert!(rt; answers_both(&answered));
+    Ok(())
+}
+
+fn restarts(unit: &Option<Ppdu>) -> bool {
+    match unit {
+        Some(Ppdu::Resynchronize { restored }) => restores_both(restored),
+        _ => false,
+    }
+}
+
+fn has_restarted(unit: &Option<Ppdu>) -> bool {
+    match unit {
+        Some(Ppdu::ResynchronizeAck { restored }) => restores_both(restored),
+        _ => false,
+    }
+}
+
+fn restarts_without_a_list(unit: &Option<Ppdu>) -> bool {
+    match unit {
+        Some(Ppdu::Resynchronize { restored }) => restored.is_none(),
+        _ => false,
+    }
+}
+
+#[test]
+fn restarts_say_their_lists(rt: HostRuntime) -> Result<(), Fail> {
+    // a restart over two contexts, and its answer
+    let text = "30 14 A0 12 30 07 02 01 01 06 02 51 01 30 07 02 01 05 06 02 51 01";
+    let asked = unit(rt.alloc(), PpduPlace::Rs, text)?;
+    assert!(rt; restarts(&asked));
+    let answered = unit(rt.alloc(), PpduPlace::Ra, text)?;
+    assert!(rt; has_restarted(&answered));
+    // X.226 8.3: a list may lack
+    let without = unit(rt.alloc(), PpduPlace::Rs, "30 00")?;
+    assert!(rt; restarts_without_a_list(&without));
+    Ok(())
+}
+
+fn is_aborted_by_its_user(unit: &Option<Ppdu>) -> bool {
+    match unit {
+        Some(Ppdu::UserAbort { contexts, user }) => {
+            contexts.is_none() && user.len() == 1 && is_single(user.get(0), 1, 5)
+        }
+        _ => false,
+    }
+}
+
+fn is_aborted_by_the_provider(unit: &Option<Ppdu>, cause: i64, number: Option<i64>) -> bool {
+    match unit {
+        Some(Ppdu::ProviderAbort { reason, event }) => {
+            *reason == Some(cause) && *event == number
+        }
+        _ => false,
+    }
+}
+
+#[test]
+fn aborts_say_who_aborts(rt: HostRuntime) -> Result<(), Fail> {
+    // an abort by the user
+    let text = "A0 0E 61 0C 30 0A 02 01 01 A0 05 64 03 80 01 00";
+    let user = unit(rt.alloc(), PpduPlace::Ab, text)?;
+    assert!(rt; is_aborted_by_its_user(&user));
+    // an abort for an absent context
+    let provider = unit(rt.alloc(), PpduPlace::Ab, "30 03 80 01 06")?;
+    assert!(rt; is_aborted_by_the_provider(&provider, 6, None));
+    // X.226 8.3: with an event
+    let event = unit(rt.alloc(), PpduPlace::Ab, "30 06 80 01 01 81 01 03")?;
+    assert!(rt; is_aborted_by_the_provider(&event, 1, Some(3)));
+    Ok(())
+}
+
+fn has_three_forms(unit: &Option<Ppdu>) -> bool {
+    match unit {
+        Some(Ppdu::Data { user }) => {
+            user.len() == 3
+                && is_single(user.get(0), 5, 3)
+                && is_aligned(user.get(1), 7, &[1, 5])
+                && is_arbitrary(user.get(2), &[0xF0], 4)
+        }
+        _ => false,
+    }
+}
+
+fn names_its_syntax(unit: &Option<Ppdu>) -> bool {
+    match unit {
+        Some(Ppdu::Data { user }) => match user.get(0) {
+            Some(pdv) => pdv.id == 5 && is_named(&pdv.transfer, &BER),
+            None => false,
+        },
+        _ => false,
+    }
+}
+
+#[test]
+fn data_say_their_contexts_and_forms(rt: HostRuntime) -> Result<(), Fail> {
+    // X.226 8.4: three values one after the other, each in another form
+    let text =
+        "61 1D 30 08 02 01 05 A0 03 02 01 05 30 07 02 01 07 81 02 01 05 30 08 02 02 01 09 82 02 04 F0";
+    let forms = unit(rt.alloc(), PpduPlace::Dt, text)?;
+    assert!(rt; has_three_forms(&forms));
+    // a value with the name of its transfer syntax
+    let text = "61 0E 30 0C 06 02 51 01 02 01 05 A0 03 02 01 05";
+    let named = unit(rt.alloc(), PpduPlace::Dt, text)?;
+    assert!(rt; names_its_syntax(&named));
+    Ok(())
+}
