@@ -4,10 +4,10 @@ ghost use Rattle.std.specs.Prelude.{◌≡◌, true, IfOk};
 ghost use Rattle.rose_roles.specs.Calls.{AreOpen};
 ghost use Rattle.rose_roles.specs.Heads.{is_invocation};
 
-use crate::sample::{add, is_integer, module};
+use crate::sample::{add, is_integer, is_reject, module};
 use apdu_codec::{ApduHead, ApduKind, read_apdu};
 use linked_ops::{Forest, Key};
-use osi_base::{NoMemory, ProblemKind, Syntax};
+use osi_base::{NoMemory, Syntax};
 use rose_roles::{Invoker, RoseTaken, refused};
 use std::alloc::Global;
 use std::test::*;
@@ -62,16 +62,6 @@ fn outcome(
     }
 }
 
-/// Whether this is a reject of the identifier 1 with this problem.
-fn is_reject(taken: &RoseTaken, kind: ProblemKind, number: i64) -> bool {
-    match taken {
-        RoseTaken::Reject { id, problem } => {
-            *id == Some(1) && problem.kind == kind && problem.number == number
-        }
-        _ => false,
-    }
-}
-
 /// Whether this is the result 5 of the invocation 1.
 fn is_five(taken: &RoseTaken) -> bool {
     match taken {
@@ -110,7 +100,8 @@ fn a_result_that_comes_twice_is_rejected(rt: HostRuntime) -> Result<(), Fail> {
     let mut own = with_one_open(rt.alloc())?;
     let _first = outcome(rt.alloc(), &mut own, &tables, Syntax::Ber, &five(1))?;
     let second = outcome(rt.alloc(), &mut own, &tables, Syntax::Ber, &five(1))?;
-    assert!(rt; is_reject(&second, ProblemKind::Result, 0));
+    let rejected = [0xA4, 6, 2, 1, 1, 0x82, 1, 0];
+    assert!(rt; is_reject(rt.alloc(), &tables, &second, &rejected)?);
     Ok(())
 }
 
@@ -118,8 +109,9 @@ fn a_result_that_comes_twice_is_rejected(rt: HostRuntime) -> Result<(), Fail> {
 fn a_result_of_another_code_closes_its_invocation(rt: HostRuntime) -> Result<(), Fail> {
     let tables = module(rt.alloc())?;
     let mut own = with_one_open(rt.alloc())?;
-    let taken = outcome(rt.alloc(), &mut own, &tables, Syntax::Ber, &five(3))?;
-    assert!(rt; is_reject(&taken, ProblemKind::Result, 2));
+    let taken = outcome(rt.alloc(), &mut own, &tables, Syntax::Ber, &five(2))?;
+    let rejected = [0xA4, 6, 2, 1, 1, 0x82, 1, 2];
+    assert!(rt; is_reject(rt.alloc(), &tables, &taken, &rejected)?);
     assert!(rt; !own.forest.is_open(Key { own: true, id: 1 }));
     Ok(())
 }

@@ -4,10 +4,10 @@ ghost use Rattle.std.specs.Prelude.{◌≡◌, true, false, IfOk};
 ghost use Rattle.rose_roles.specs.Calls.{AreOpen};
 ghost use Rattle.rose_roles.specs.Heads.{is_invocation};
 
-use crate::sample::{add, is_integer, module};
+use crate::sample::{add, ask, is_integer, is_reject, module};
 use apdu_codec::{ApduHead, ApduKind, read_apdu};
 use linked_ops::{Forest, Key};
-use osi_base::{NoMemory, ProblemKind, Syntax};
+use osi_base::{NoMemory, Syntax};
 use rose_roles::{Called, Invoker, Performer, RoseTaken, refused};
 use std::alloc::Global;
 use std::test::*;
@@ -79,16 +79,6 @@ fn invocation(
     }
 }
 
-/// Whether this is a reject of the identifier 1 with this problem of an invocation.
-fn is_reject(taken: &RoseTaken, number: i64) -> bool {
-    match taken {
-        RoseTaken::Reject { id, problem } => {
-            *id == Some(1) && problem.kind == ProblemKind::Invoke && problem.number == number
-        }
-        _ => false,
-    }
-}
-
 /// Whether this is the invocation 1 of `add` with 5.
 fn is_add(taken: &RoseTaken) -> bool {
     match taken {
@@ -127,7 +117,8 @@ fn an_invocation_is_taken_once(rt: HostRuntime) -> Result<(), Fail> {
     let mut both = without_any(rt.alloc());
     let _first = invocation(rt.alloc(), &mut both, &tables, Syntax::Ber, &invoked(1))?;
     let second = invocation(rt.alloc(), &mut both, &tables, Syntax::Ber, &invoked(1))?;
-    assert!(rt; is_reject(&second, 0));
+    let rejected = [0xA4, 6, 2, 1, 1, 0x81, 1, 0];
+    assert!(rt; is_reject(rt.alloc(), &tables, &second, &rejected)?);
     Ok(())
 }
 
@@ -145,8 +136,10 @@ fn a_silent_invocation_is_never_open(rt: HostRuntime) -> Result<(), Fail> {
 fn an_unknown_operation_is_rejected(rt: HostRuntime) -> Result<(), Fail> {
     let tables = module(rt.alloc())?;
     let mut both = without_any(rt.alloc());
-    let taken = invocation(rt.alloc(), &mut both, &tables, Syntax::Ber, &invoked(9))?;
-    assert!(rt; is_reject(&taken, 1));
+    let octets = [0xA1, 9, 2, 1, 9, 2, 1, 77, 2, 1, 5];
+    let taken = invocation(rt.alloc(), &mut both, &tables, Syntax::Ber, &octets)?;
+    let rejected = [0xA4, 6, 2, 1, 9, 0x81, 1, 1];
+    assert!(rt; is_reject(rt.alloc(), &tables, &taken, &rejected)?);
     Ok(())
 }
 
@@ -156,7 +149,8 @@ fn a_lacking_argument_is_rejected(rt: HostRuntime) -> Result<(), Fail> {
     let mut both = without_any(rt.alloc());
     let octets = [0xA1, 6, 2, 1, 1, 2, 1, 1];
     let taken = invocation(rt.alloc(), &mut both, &tables, Syntax::Ber, &octets)?;
-    assert!(rt; is_reject(&taken, 2));
+    let rejected = [0xA4, 6, 2, 1, 1, 0x81, 1, 2];
+    assert!(rt; is_reject(rt.alloc(), &tables, &taken, &rejected)?);
     Ok(())
 }
 
@@ -164,8 +158,10 @@ fn a_lacking_argument_is_rejected(rt: HostRuntime) -> Result<(), Fail> {
 fn a_link_to_nothing_is_rejected(rt: HostRuntime) -> Result<(), Fail> {
     let tables = module(rt.alloc())?;
     let mut both = without_any(rt.alloc());
-    let taken = invocation(rt.alloc(), &mut both, &tables, Syntax::Ber, &linked(3))?;
-    assert!(rt; is_reject(&taken, 5));
+    let octets = [0xA1, 0x0C, 2, 1, 9, 0x80, 1, 1, 2, 1, 3, 2, 1, 7];
+    let taken = invocation(rt.alloc(), &mut both, &tables, Syntax::Ber, &octets)?;
+    let rejected = [0xA4, 6, 2, 1, 9, 0x81, 1, 5];
+    assert!(rt; is_reject(rt.alloc(), &tables, &taken, &rejected)?);
     Ok(())
 }
 
@@ -174,7 +170,38 @@ fn a_link_of_another_operation_is_rejected(rt: HostRuntime) -> Result<(), Fail> 
     let tables = module(rt.alloc())?;
     let mut both = with_one_open(rt.alloc())?;
     let taken = invocation(rt.alloc(), &mut both, &tables, Syntax::Ber, &linked(4))?;
-    assert!(rt; is_reject(&taken, 7));
+    let rejected = [0xA4, 6, 2, 1, 1, 0x81, 1, 7];
+    assert!(rt; is_reject(rt.alloc(), &tables, &taken, &rejected)?);
+    Ok(())
+}
+
+/// An end whose invocation 1, of the operation `ask`, to which none may be linked, is open.
+fn with_ask_open(alloc: Global) -> Result<Both, NoMemory>
+    ensures own { IfOk result (λ both. AreOpen true both.forest both.own.kept) }
+    ensures peer { IfOk result (λ both. AreOpen false both.forest both.performer.kept) }
+{
+    let mut both = without_any(alloc);
+    both.own.open(&mut both.forest, ask(), None)?;
+    Ok(both)
+}
+
+#[test]
+fn a_link_to_an_operation_without_links_is_rejected(rt: HostRuntime) -> Result<(), Fail> {
+    let tables = module(rt.alloc())?;
+    let mut both = with_ask_open(rt.alloc())?;
+    let taken = invocation(rt.alloc(), &mut both, &tables, Syntax::Ber, &linked(3))?;
+    let rejected = [0xA4, 6, 2, 1, 1, 0x81, 1, 6];
+    assert!(rt; is_reject(rt.alloc(), &tables, &taken, &rejected)?);
+    Ok(())
+}
+
+#[test]
+fn what_is_no_apdu_is_rejected(rt: HostRuntime) -> Result<(), Fail> {
+    let tables = module(rt.alloc())?;
+    let mut both = without_any(rt.alloc());
+    let taken = invocation(rt.alloc(), &mut both, &tables, Syntax::Ber, &[0xA5, 0])?;
+    let rejected = [0xA4, 5, 5, 0, 0x80, 1, 0];
+    assert!(rt; is_reject(rt.alloc(), &tables, &taken, &rejected)?);
     Ok(())
 }
 

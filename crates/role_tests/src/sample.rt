@@ -3,11 +3,12 @@
 ghost use Rattle.std.specs.Prelude.{◌≡◌, pos, IfOk};
 ghost use Rattle.stub_tables.specs.declared.operation.Code.TheVariants as codes;
 
+use apdu_codec::write_apdu;
 use asn1_types::{Node, TypeId, TypeRow, TypeTable, Val};
-use osi_base::{Indices, ListOf, Name, NoMemory, Oid};
-use rose_roles::Called;
+use osi_base::{Indices, ListOf, Name, NoMemory, Oid, Syntax};
+use rose_roles::{Called, RoseTaken};
 use std::alloc::Global;
-use stub_tables::{Code, ErrorRow, ErrorRows, Operation, Operations, Tables, Use};
+use stub_tables::{Apdu, Code, ErrorRow, ErrorRows, Operation, Operations, Tables, Use};
 
 /// A value of INTEGER, the first row of the types.
 fn number() -> Use {
@@ -115,7 +116,35 @@ pub(crate) fn add() -> Called {
     }
 }
 
+/// The operation `ask` as it is called on the context 5.
+pub(crate) fn ask() -> Called {
+    Called {
+        operation: 1,
+        context: 5,
+    }
+}
+
 /// Whether this is that value of INTEGER.
 pub(crate) fn is_integer(value: &Option<Val>, number: i64) -> bool {
     matches!(value, Some(Val { node: Node::Int(n) }) if *n == number)
+}
+
+/// Whether a reject is to be sent that has these octets in BER.
+pub(crate) fn is_reject(
+    alloc: Global,
+    tables: &Tables,
+    taken: &RoseTaken,
+    octets: &[u8],
+) -> Result<bool, NoMemory> {
+    match taken {
+        RoseTaken::Reject { id, problem } => {
+            let apdu = Apdu::Reject {
+                id: *id,
+                problem: *problem,
+            };
+            let written = write_apdu(alloc, Syntax::Ber, tables, &apdu)?;
+            Ok(written.as_slice() == octets)
+        }
+        _ => Ok(false),
+    }
 }
