@@ -36,12 +36,33 @@ fn closed(forest: &mut Forest, keys: i64) -> u64 {
     told
 }
 
-/// How many children were told in so many rounds.
-pub fn children_told(alloc: Global, keys: i64, rounds: u64) -> Result<u64, Stopped> {
-    let mut told = 0u64;
+/// How many keys of a forest are told, each behind those under it.
+fn ordered(forest: &Forest) -> Result<u64, Stopped> {
+    let Ok(keys) = forest.post_order() else {
+        return Err(Stopped);
+    };
+    Ok(keys.len() as u64)
+}
+
+/// How many keys were told.
+#[derive(Clone, Copy, Debug)]
+pub struct Told {
+    /// As first children.
+    pub children: u64,
+    /// Each behind those under it.
+    pub ordered: u64,
+}
+
+/// How many keys were told in so many rounds.
+pub fn keys_told(alloc: Global, keys: i64, rounds: u64) -> Result<Told, Stopped> {
+    let mut told = Told {
+        children: 0,
+        ordered: 0,
+    };
     for _ in 0..rounds {
         let mut forest = family(alloc, keys)?;
-        told = told.wrapping_add(closed(&mut forest, keys));
+        told.ordered = told.ordered.wrapping_add(ordered(&forest)?);
+        told.children = told.children.wrapping_add(closed(&mut forest, keys));
     }
     Ok(told)
 }
