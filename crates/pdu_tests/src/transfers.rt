@@ -208,13 +208,15 @@ fn stored(alloc: Global) -> Result<Pdv, NoMemory> {
     })
 }
 
+/// Whether the octets are a transfer of that invocation.
 fn is_stored(alloc: Global, octets: &[u8]) -> bool {
-    match read_transfer(alloc, octets) {
-        Ok(pdv) => match pdv.content {
-            PdvContent::SingleAsn1Type(value) => pdv.id == 5 && value.len() == 2_989,
-            _ => false,
-        },
-        Err(_) => false,
+    let Ok(pdv) = read_transfer(alloc, octets) else {
+        return false;
+    };
+    let id = pdv.id;
+    match &pdv.content {
+        PdvContent::SingleAsn1Type(value) => id == 5 && value.len() == 2_989,
+        _ => false,
     }
 }
 
