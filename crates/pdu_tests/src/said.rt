@@ -19,12 +19,20 @@ const BER: [u32; 3] = [2, 1, 1];
 
 const PACKED: [u32; 4] = [2, 999, 5, 1];
 
-/// The unit of these octets, if they are one.
-fn unit(alloc: Global, carrier: PpduPlace, text: &str) -> Result<Option<Ppdu>, NoMemory> {
+/// Whether these octets are a unit of which this holds. No unit is kept: letting one go costs a proof
+/// much, and each test would do it on each of its ways out.
+fn is_unit<J: Fn(&Ppdu) -> bool>(
+    alloc: Global,
+    carrier: PpduPlace,
+    text: &str,
+    judge: J,
+) -> Result<bool, NoMemory>
+    requires { J.IsAlwaysCallable judge }
+{
     let octets = octets_of(alloc, text)?;
     match read_ppdu(alloc, carrier, octets.as_slice()) {
-        Ok(unit) => Ok(Some(unit)),
-        Err(_) => Ok(None),
+        Ok(unit) => Ok(judge(&unit)),
+        Err(_) => Ok(false),
     }
 }
 
@@ -149,9 +157,9 @@ fn needs(bits: &Option<BitString>, both: bool) -> bool {
     }
 }
 
-fn opens(unit: &Option<Ppdu>) -> bool {
+fn opens(unit: &Ppdu) -> bool {
     match unit {
-        Some(Ppdu::Connect(cp)) => {
+        Ppdu::Connect(cp) => {
             are(&cp.calling, &[0, 1])
                 && are(&cp.called, &[0, 2])
                 && cp.definitions.len() == 2
@@ -165,9 +173,9 @@ fn opens(unit: &Option<Ppdu>) -> bool {
     }
 }
 
-fn lacks_the_others(unit: &Option<Ppdu>) -> bool {
+fn lacks_the_others(unit: &Ppdu) -> bool {
     match unit {
-        Some(Ppdu::Connect(cp)) => {
+        Ppdu::Connect(cp) => {
             cp.version.is_none()
                 && cp.default_context.is_none()
                 && cp.session_requirements.is_none()
@@ -181,15 +189,14 @@ fn an_opening_says_its_fields(rt: HostRuntime) -> Result<(), Fail> {
     // the opening in direct mode, with another called selector
     let text =
         "31 4A A0 03 80 01 01 A2 43 81 02 00 01 82 02 00 02 A4 22 30 0F 02 01 01 06 04 52 01 00 01 30 04 06 02 51 01 30 0F 02 01 05 06 04 88 37 07 01 30 04 06 02 51 01 88 02 06 C0 61 11 30 0F 02 01 01 A0 0A 60 08 A1 06 06 04 88 37 05 03";
-    let unit = unit(rt.alloc(), PpduPlace::Cn, text)?;
-    assert!(rt; opens(&unit));
-    assert!(rt; lacks_the_others(&unit));
+    assert!(rt; is_unit(rt.alloc(), PpduPlace::Cn, text, opens)?);
+    assert!(rt; is_unit(rt.alloc(), PpduPlace::Cn, text, lacks_the_others)?);
     Ok(())
 }
 
-fn takes_a_default(unit: &Option<Ppdu>) -> bool {
+fn takes_a_default(unit: &Ppdu) -> bool {
     match unit {
-        Some(Ppdu::Connect(cp)) => {
+        Ppdu::Connect(cp) => {
             are(
                 &cp.default_context,
                 &[0xA6, 0x06, 0x06, 0x01, 0x2A, 0x06, 0x01, 0x2A],
@@ -204,14 +211,13 @@ fn takes_a_default(unit: &Option<Ppdu>) -> bool {
 fn a_default_context_is_told(rt: HostRuntime) -> Result<(), Fail> {
     // X.226 8.2: the fields of normal mode with a default context alone
     let text = "31 0F A0 03 80 01 01 A2 08 A6 06 06 01 2A 06 01 2A";
-    let unit = unit(rt.alloc(), PpduPlace::Cn, text)?;
-    assert!(rt; takes_a_default(&unit));
+    assert!(rt; is_unit(rt.alloc(), PpduPlace::Cn, text, takes_a_default)?);
     Ok(())
 }
 
-fn accepts_both(unit: &Option<Ppdu>) -> bool {
+fn accepts_both(unit: &Ppdu) -> bool {
     match unit {
-        Some(Ppdu::Accept(cpa)) => {
+        Ppdu::Accept(cpa) => {
             are(&cpa.responding, &[0, 1])
                 && cpa.results.len() == 2
                 && accepts(&cpa.results, 0, &BER)
@@ -229,14 +235,13 @@ fn an_acceptance_says_its_fields(rt: HostRuntime) -> Result<(), Fail> {
     // the acceptance in direct mode
     let text =
         "31 42 A0 03 80 01 01 A2 3B 83 02 00 01 A5 12 30 07 80 01 00 81 02 51 01 30 07 80 01 00 81 02 51 01 88 02 06 C0 61 1D 30 1B 02 01 01 A0 16 61 14 A1 06 06 04 88 37 05 03 A2 03 02 01 00 A3 05 A1 03 02 01 00";
-    let unit = unit(rt.alloc(), PpduPlace::Ac, text)?;
-    assert!(rt; accepts_both(&unit));
+    assert!(rt; is_unit(rt.alloc(), PpduPlace::Ac, text, accepts_both)?);
     Ok(())
 }
 
-fn accepts_without_management(unit: &Option<Ppdu>) -> bool {
+fn accepts_without_management(unit: &Ppdu) -> bool {
     match unit {
-        Some(Ppdu::Accept(cpa)) => needs(&cpa.requirements, false) && cpa.results.len() == 2,
+        Ppdu::Accept(cpa) => needs(&cpa.requirements, false) && cpa.results.len() == 2,
         _ => false,
     }
 }
@@ -246,14 +251,13 @@ fn an_acceptance_without_context_management_says_so(rt: HostRuntime) -> Result<(
     // the acceptance of a client that proposes duplex alone
     let text =
         "31 42 A0 03 80 01 01 A2 3B 83 02 00 01 A5 12 30 07 80 01 00 81 02 51 01 30 07 80 01 00 81 02 51 01 88 02 06 00 61 1D 30 1B 02 01 01 A0 16 61 14 A1 06 06 04 88 37 05 03 A2 03 02 01 00 A3 05 A1 03 02 01 00";
-    let unit = unit(rt.alloc(), PpduPlace::Ac, text)?;
-    assert!(rt; accepts_without_management(&unit));
+    assert!(rt; is_unit(rt.alloc(), PpduPlace::Ac, text, accepts_without_management)?);
     Ok(())
 }
 
-fn refuses_with_an_answer(unit: &Option<Ppdu>) -> bool {
+fn refuses_with_an_answer(unit: &Ppdu) -> bool {
     match unit {
-        Some(Ppdu::Reject(cpr)) => {
+        Ppdu::Reject(cpr) => {
             cpr.reason.is_none()
                 && cpr.results.len() == 2
                 && accepts(&cpr.results, 0, &BER)
@@ -265,9 +269,9 @@ fn refuses_with_an_answer(unit: &Option<Ppdu>) -> bool {
     }
 }
 
-fn refuses_without_an_answer(unit: &Option<Ppdu>) -> bool {
+fn refuses_without_an_answer(unit: &Ppdu) -> bool {
     match unit {
-        Some(Ppdu::Reject(cpr)) => {
+        Ppdu::Reject(cpr) => {
             cpr.reason == Some(0) && cpr.results.len() == 0 && cpr.user.len() == 0
         }
         _ => false,
@@ -280,17 +284,22 @@ fn refusals_say_their_fields(rt: HostRuntime) -> Result<(), Fail> {
     // an AARE
     let text =
         "30 32 A5 11 30 07 80 01 00 81 02 51 01 30 06 80 01 02 82 01 02 61 1D 30 1B 02 01 01 A0 16 61 14 A1 06 06 04 88 37 05 03 A2 03 02 01 01 A3 05 A1 03 02 01 01";
-    let with = unit(rt.alloc(), PpduPlace::Rf, text)?;
-    assert!(rt; refuses_with_an_answer(&with));
+    assert!(rt; is_unit(rt.alloc(), PpduPlace::Rf, text, refuses_with_an_answer)?);
     // the provider's reason alone
-    let without = unit(rt.alloc(), PpduPlace::Rf, "30 03 8A 01 00")?;
-    assert!(rt; refuses_without_an_answer(&without));
+    assert!(rt;
+        is_unit(
+            rt.alloc(),
+            PpduPlace::Rf,
+            "30 03 8A 01 00",
+            refuses_without_an_answer
+        )?
+    );
     Ok(())
 }
 
-fn alters_both(unit: &Option<Ppdu>) -> bool {
+fn alters_both(unit: &Ppdu) -> bool {
     match unit {
-        Some(Ppdu::Alter { add, delete }) => {
+        Ppdu::Alter { add, delete } => {
             add.len() == 1
                 && defines(add, 0, 7, &MODULE, &PACKED)
                 && delete.len() == 1
@@ -300,9 +309,9 @@ fn alters_both(unit: &Option<Ppdu>) -> bool {
     }
 }
 
-fn answers_both(unit: &Option<Ppdu>) -> bool {
+fn answers_both(unit: &Ppdu) -> bool {
     match unit {
-        Some(Ppdu::AlterAck { answers }) => {
+        Ppdu::AlterAck { answers } => {
             answers.added.len() == 1
                 && accepts(&answers.added, 0, &PACKED)
                 && answers.deleted.as_slice() == [1].as_slice()
@@ -316,32 +325,30 @@ fn alterations_say_their_lists(rt: HostRuntime) -> Result<(), Fail> {
     // X.226 8.3: one addition and one deletion
     let text =
         "A0 1A A0 13 30 11 02 01 07 06 04 88 37 07 01 30 06 06 04 88 37 05 01 A1 03 02 01 05";
-    let asked = unit(rt.alloc(), PpduPlace::Td, text)?;
-    assert!(rt; alters_both(&asked));
+    assert!(rt; is_unit(rt.alloc(), PpduPlace::Td, text, alters_both)?);
     // the addition is accepted, the deletion rejected
     let text = "A1 12 A0 0B 30 09 80 01 00 81 04 88 37 05 01 A1 03 02 01 01";
-    let answered = unit(rt.alloc(), PpduPlace::Td, text)?;
-    assert!(rt; answers_both(&answered));
+    assert!(rt; is_unit(rt.alloc(), PpduPlace::Td, text, answers_both)?);
     Ok(())
 }
 
-fn restarts(unit: &Option<Ppdu>) -> bool {
+fn restarts(unit: &Ppdu) -> bool {
     match unit {
-        Some(Ppdu::Resynchronize { restored }) => restores_both(restored),
+        Ppdu::Resynchronize { restored } => restores_both(restored),
         _ => false,
     }
 }
 
-fn has_restarted(unit: &Option<Ppdu>) -> bool {
+fn has_restarted(unit: &Ppdu) -> bool {
     match unit {
-        Some(Ppdu::ResynchronizeAck { restored }) => restores_both(restored),
+        Ppdu::ResynchronizeAck { restored } => restores_both(restored),
         _ => false,
     }
 }
 
-fn restarts_without_a_list(unit: &Option<Ppdu>) -> bool {
+fn restarts_without_a_list(unit: &Ppdu) -> bool {
     match unit {
-        Some(Ppdu::Resynchronize { restored }) => restored.is_none(),
+        Ppdu::Resynchronize { restored } => restored.is_none(),
         _ => false,
     }
 }
@@ -350,30 +357,25 @@ fn restarts_without_a_list(unit: &Option<Ppdu>) -> bool {
 fn restarts_say_their_lists(rt: HostRuntime) -> Result<(), Fail> {
     // a restart over two contexts, and its answer
     let text = "30 14 A0 12 30 07 02 01 01 06 02 51 01 30 07 02 01 05 06 02 51 01";
-    let asked = unit(rt.alloc(), PpduPlace::Rs, text)?;
-    assert!(rt; restarts(&asked));
-    let answered = unit(rt.alloc(), PpduPlace::Ra, text)?;
-    assert!(rt; has_restarted(&answered));
+    assert!(rt; is_unit(rt.alloc(), PpduPlace::Rs, text, restarts)?);
+    assert!(rt; is_unit(rt.alloc(), PpduPlace::Ra, text, has_restarted)?);
     // X.226 8.3: a list may lack
-    let without = unit(rt.alloc(), PpduPlace::Rs, "30 00")?;
-    assert!(rt; restarts_without_a_list(&without));
+    assert!(rt; is_unit(rt.alloc(), PpduPlace::Rs, "30 00", restarts_without_a_list)?);
     Ok(())
 }
 
-fn is_aborted_by_its_user(unit: &Option<Ppdu>) -> bool {
+fn is_aborted_by_its_user(unit: &Ppdu) -> bool {
     match unit {
-        Some(Ppdu::UserAbort { contexts, user }) => {
+        Ppdu::UserAbort { contexts, user } => {
             contexts.is_none() && user.len() == 1 && is_single(user.get(0), 1, 5)
         }
         _ => false,
     }
 }
 
-fn is_aborted_by_the_provider(unit: &Option<Ppdu>, cause: i64, number: Option<i64>) -> bool {
+fn is_aborted_by_the_provider(unit: &Ppdu, cause: i64, number: Option<i64>) -> bool {
     match unit {
-        Some(Ppdu::ProviderAbort { reason, event }) => {
-            *reason == Some(cause) && *event == number
-        }
+        Ppdu::ProviderAbort { reason, event } => { *reason == Some(cause) && *event == number }
         _ => false,
     }
 }
@@ -382,20 +384,31 @@ fn is_aborted_by_the_provider(unit: &Option<Ppdu>, cause: i64, number: Option<i6
 fn aborts_say_who_aborts(rt: HostRuntime) -> Result<(), Fail> {
     // an abort by the user
     let text = "A0 0E 61 0C 30 0A 02 01 01 A0 05 64 03 80 01 00";
-    let user = unit(rt.alloc(), PpduPlace::Ab, text)?;
-    assert!(rt; is_aborted_by_its_user(&user));
+    assert!(rt; is_unit(rt.alloc(), PpduPlace::Ab, text, is_aborted_by_its_user)?);
     // an abort for an absent context
-    let provider = unit(rt.alloc(), PpduPlace::Ab, "30 03 80 01 06")?;
-    assert!(rt; is_aborted_by_the_provider(&provider, 6, None));
+    assert!(rt;
+        is_unit(
+            rt.alloc(),
+            PpduPlace::Ab,
+            "30 03 80 01 06",
+            |unit| is_aborted_by_the_provider(unit, 6, None)
+        )?
+    );
     // X.226 8.3: with an event
-    let event = unit(rt.alloc(), PpduPlace::Ab, "30 06 80 01 01 81 01 03")?;
-    assert!(rt; is_aborted_by_the_provider(&event, 1, Some(3)));
+    assert!(rt;
+        is_unit(
+            rt.alloc(),
+            PpduPlace::Ab,
+            "30 06 80 01 01 81 01 03",
+            |unit| is_aborted_by_the_provider(unit, 1, Some(3))
+        )?
+    );
     Ok(())
 }
 
-fn has_three_forms(unit: &Option<Ppdu>) -> bool {
+fn has_three_forms(unit: &Ppdu) -> bool {
     match unit {
-        Some(Ppdu::Data { user }) => {
+        Ppdu::Data { user } => {
             user.len() == 3
                 && is_single(user.get(0), 5, 3)
                 && is_aligned(user.get(1), 7, &[1, 5])
@@ -405,9 +418,9 @@ fn has_three_forms(unit: &Option<Ppdu>) -> bool {
     }
 }
 
-fn names_its_syntax(unit: &Option<Ppdu>) -> bool {
+fn names_its_syntax(unit: &Ppdu) -> bool {
     match unit {
-        Some(Ppdu::Data { user }) => match user.get(0) {
+        Ppdu::Data { user } => match user.get(0) {
             Some(pdv) => pdv.id == 5 && is_named(&pdv.transfer, &BER),
             None => false,
         },
@@ -420,11 +433,9 @@ fn data_say_their_contexts_and_forms(rt: HostRuntime) -> Result<(), Fail> {
     // X.226 8.4: three values one after the other, each in another form
     let text =
         "61 1D 30 08 02 01 05 A0 03 02 01 05 30 07 02 01 07 81 02 01 05 30 08 02 02 01 09 82 02 04 F0";
-    let forms = unit(rt.alloc(), PpduPlace::Dt, text)?;
-    assert!(rt; has_three_forms(&forms));
+    assert!(rt; is_unit(rt.alloc(), PpduPlace::Dt, text, has_three_forms)?);
     // a value with the name of its transfer syntax
     let text = "61 0E 30 0C 06 02 51 01 02 01 05 A0 03 02 01 05";
-    let named = unit(rt.alloc(), PpduPlace::Dt, text)?;
-    assert!(rt; names_its_syntax(&named));
+    assert!(rt; is_unit(rt.alloc(), PpduPlace::Dt, text, names_its_syntax)?);
     Ok(())
 }
