@@ -1,5 +1,5 @@
 -- Tables, and octets with a first fault, by which the definitions can be read.
-use Rattle.std.specs.Prelude.{ℕ, pos, negsuc, true, false, List, [], ◌∷◌, Some, None, codes}
+use Rattle.std.specs.Prelude.{ℕ, zero, suc, pos, negsuc, true, false, List, [], ◌∷◌, Some, None, codes}
 use Rattle.asn1_types.specs.declared.row.TypeRow.{TypeRow}
 use Rattle.asn1_types.specs.declared.row.TypeRow.TheVariants.{Boolean, Integer, OctetString, Sequence, Set, SetOf}
 
@@ -41,3 +41,8 @@ half_a_mark = 36 ∷ 128 ∷ 4 ∷ 1 ∷ 7 ∷ 0 ∷ []
 -- {a 7}, and the number of a again, in a constructed value
 abbrev pub twice_and_constructed : List ℕ
 twice_and_constructed = 49 ∷ 6 ∷ 2 ∷ 1 ∷ 7 ∷ 34 ∷ 1 ∷ 5 ∷ []
+
+-- so many strings of segments, one inside the other, and the identifier of one more
+abbrev pub nested_strings : ℕ → List ℕ
+nested_strings zero = 4 ∷ []
+nested_strings (suc depth) = 36 ∷ 128 ∷ nested_strings depth

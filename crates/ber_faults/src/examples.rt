@@ -1,9 +1,9 @@
 //! Worked first faults, each the contract of a function that does nothing.
 
 ghost use Rattle.osi_base.specs.declared.words.Kind.TheVariants.{Tag, Length, Form};
-ghost use Rattle.ber_faults.specs.Examples.{with_default, set_of_integers, string_table, number_and_flag, default_written, falling_items, cut_by_its_end, half_a_mark, twice_and_constructed};
+ghost use Rattle.ber_faults.specs.Examples.{with_default, set_of_integers, string_table, number_and_flag, default_written, falling_items, cut_by_its_end, half_a_mark, twice_and_constructed, nested_strings};
 ghost use Rattle.ber_faults.specs.FirstFault.{FirstFault, BerFault, DerFault};
-ghost use Rattle.ber_spelling.specs.declared.fault.ReadFault.TheVariants.{NotSpelled, TooLong};
+ghost use Rattle.ber_spelling.specs.declared.fault.ReadFault.TheVariants.{NotSpelled, TooLong, TooDeep};
 ghost use Rattle.std.specs.Prelude.{false};
 
 /// In DER a part with its default's value has Form at its contents.
@@ -29,4 +29,9 @@ pub fn mark_passes_the_limit()
 /// A part that comes twice, in the wrong form, has Tag: that comes first.
 pub fn part_comes_twice_in_another_form()
     ensures { BerFault number_and_flag 2 twice_and_constructed (NotSpelled 5 Tag) }
+{}
+
+/// Inside 32 strings of segments one more is too deep, at its identifier.
+pub fn strings_nest_too_deep()
+    ensures { BerFault string_table 0 (nested_strings 32) (TooDeep 64) }
 {}

@@ -6,7 +6,7 @@ mod laws;
 
 pub use examples::{
     contents_cut_a_field, default_is_written, items_fall, mark_passes_the_limit,
-    part_comes_twice_in_another_form,
+    part_comes_twice_in_another_form, strings_nest_too_deep,
 };
 pub use laws::{
     first_is_given, given_is_first, one_first, short_exactly, three_cases, too_deep_is_full,

@@ -7,11 +7,11 @@ use Rattle.packed_codec.specs.declared.fault.PackedFault.TheVariants.{NotSpelled
 use Rattle.packed_codec.specs.Octets.{AreOctets}
 use Rattle.packed_codec.specs.Reading.{Spot, Reading}
 use Rattle.packed_codec.specs.Rules.{reads, read_at, start}
-use Rattle.packed_codec.specs.Laws.{IsAt}
+use Rattle.packed_codec.specs.Laws.{IsAt, OneHolds, BeginsSpelled}
 use Rattle.packed_codec.proofs.Taking.{done}
 use Rattle.packed_codec.proofs.WholeValues.{one_of_three}
 use Rattle.packed_faults.specs.FirstFault.{HasPlace, FaultBy}
-use Rattle.packed_faults.specs.Laws.{GivenIsFirst, FirstIsGiven, OneFirst, ThreeCases}
+use Rattle.packed_faults.specs.Laws.{GivenIsFirst, FirstIsGiven, OneFirst, ThreeCases, ShortExactly}
 use Rattle.packed_faults.proofs.Rows.{along_finds, along_tells}
 use Rattle.packed_faults.proofs.Steps.{bind_err, bind_fails, err_is, not_err}
 
@@ -58,3 +58,23 @@ three_cases rows n limit bytes lt are =
         | inr u ↦ inr (inr ((u.0, λ h. no_short h.0 (err_is {A = Value × ℕ} h.0 Short (sym (first_is_given rows n limit bytes h.0 lt are h.1) ∙ u.1)) h.1.0), u.1))
       ]
     ]
+
+pub short_exactly : ShortExactly
+short_exactly rows n limit bytes lt are = (
+  λ e. elim (three_cases rows n limit bytes lt are) [
+    | inl t ↦ absurd (spelled_goes (one_of_three rows n limit bytes lt are) t.0 e)
+    | inr t ↦ elim t [
+      | inl u ↦ absurd (let h = u.1 in no_short h.0 (err_is {A = Value × ℕ} h.0 Short (sym (first_is_given rows n limit bytes h.0 lt are h.1) ∙ e)) h.1.0)
+      | inr u ↦ u.0
+    ]
+  ],
+  λ s. elim (three_cases rows n limit bytes lt are) [
+    | inl t ↦ absurd (s.0 t.0)
+    | inr t ↦ elim t [ inl u ↦ absurd (s.1 u.1) | inr u ↦ u.1 ]
+  ],
+)
+  where
+    spelled_goes : OneHolds rows n limit bytes → BeginsSpelled rows n limit bytes → read_at rows n limit bytes ≡ Err Short → ⊥
+    spelled_goes (inl t) b e = t.1 Short e
+    spelled_goes (inr (inl t)) b e = t.0 b
+    spelled_goes (inr (inr t)) b e = t.0 b

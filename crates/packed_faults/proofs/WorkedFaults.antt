@@ -1,5 +1,5 @@
 -- The worked first faults: reading gives them.
-use Rattle.std.proofs.Common.{◌≡◌, ℕ, zero, suc, ◌<◌, List, [], ◌∷◌, refl, arith}
+use Rattle.std.proofs.Common.{ℕ, zero, suc, ◌<◌, List, [], ◌∷◌, refl, arith}
 use Rattle.std.specs.Prelude.{slice_index}
 use Rattle.osi_base.specs.declared.words.Kind.TheVariants.{Content}
 use Rattle.asn1_types.specs.Writing.{integer_octets as der_octets, writes, written}

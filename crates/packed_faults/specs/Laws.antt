@@ -1,5 +1,5 @@
 -- The laws of first faults in the packed syntax. A limit has 32 bits.
-use Rattle.std.specs.Prelude.{◌≡◌, ℕ, ◌^◌, ◌<◌, ◌⊎◌, List, Err}
+use Rattle.std.specs.Prelude.{◌≡◌, ℕ, ◌^◌, ◌<◌, ◌⊎◌, ◌↔◌, List, Err}
 use Rattle.asn1_types.specs.declared.row.TypeRow.{TypeRow}
 use Rattle.packed_codec.specs.declared.fault.PackedFault.{PackedFault}
 use Rattle.packed_codec.specs.declared.fault.PackedFault.TheVariants.{Short}
@@ -36,3 +36,8 @@ ThreeCases = (rows : List TypeRow) (n limit : ℕ) (bytes : List ℕ) → limit 
     → (BeginsSpelled rows n limit bytes × (HasFirst rows n limit bytes → ⊥))
     ⊎ (((BeginsSpelled rows n limit bytes → ⊥) × HasFirst rows n limit bytes)
     ⊎ (AreShort rows n limit bytes × (read_at rows n limit bytes ≡ Err Short)))
+
+-- Octets are too short exactly where no spelling begins them and they have no first fault.
+abbrev pub ShortExactly : Type 0
+ShortExactly = (rows : List TypeRow) (n limit : ℕ) (bytes : List ℕ) → limit < 2 ^ 32 → AreOctets bytes
+    → (read_at rows n limit bytes ≡ Err Short) ↔ AreShort rows n limit bytes

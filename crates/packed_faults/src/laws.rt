@@ -1,6 +1,6 @@
 //! The laws of first faults, each the contract of a function that does nothing.
 
-ghost use Rattle.packed_faults.specs.Laws.{GivenIsFirst, FirstIsGiven, OneFirst, ThreeCases};
+ghost use Rattle.packed_faults.specs.Laws.{GivenIsFirst, FirstIsGiven, OneFirst, ThreeCases, ShortExactly};
 
 /// A fault that reading gives is a first fault by the grammar.
 pub fn given_is_first()
@@ -21,4 +21,9 @@ pub fn one_first()
 /// they are too short.
 pub fn three_cases()
     ensures { ThreeCases }
+{}
+
+/// Octets are `Short` exactly where no spelling begins them and they have no first fault.
+pub fn short_exactly()
+    ensures { ShortExactly }
 {}

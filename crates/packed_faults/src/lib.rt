@@ -5,4 +5,4 @@ mod examples;
 mod laws;
 
 pub use examples::{default_is_written, items_fall, size_is_large};
-pub use laws::{first_is_given, given_is_first, one_first, three_cases};
+pub use laws::{first_is_given, given_is_first, one_first, short_exactly, three_cases};
