@@ -1,6 +1,6 @@
 -- Which values fit which rows of a table.
 use Rattle.std.specs.Prelude.{ℕ, ◌-◌, ◌%◌, ◌^◌, ℤ, pos, negsuc, Bool, true, false, not, ◌&&◌, ◌||◌, List, [], ◌∷◌, length, Option, Some, None, slice_get, slice_index, nat_lt, nat_le, nat_eq, int_lt, if◌then◌else◌}
-use Rattle.std.specs.List.{list_all, list_any}
+use Rattle.std.specs.List.{list_all}
 use Rattle.std.specs.Str.{is_utf8}
 use Rattle.osi_base.specs.Oid.{is_oid}
 use Rattle.asn1_types.specs.declared.row.Item.{Item}

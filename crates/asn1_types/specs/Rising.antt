@@ -1,6 +1,6 @@
 -- The order of the items of a SET OF: by their DER spellings, octet by octet (X.690 11.6).
 use Rattle.std.specs.Prelude.{ℕ, Bool, true, false, not, ◌&&◌, ◌||◌, List, [], ◌∷◌, nat_lt, nat_eq, if◌then◌else◌}
-use Rattle.asn1_types.specs.Value.{Value, boolean, integer, null, octets, bits, object_id, text, parts, list, chosen, any, Values, no_values, value}
+use Rattle.asn1_types.specs.Value.{Value, list, Values, no_values, value}
 
 -- the first octet that differs is less, or the others begin with these
 abbrev pub is_less : List ℕ → List ℕ → Bool

@@ -13,7 +13,7 @@ use Rattle.asn1_types.specs.Defaults.{has_default, may_be_absent, is_default, ke
 use Rattle.asn1_types.specs.Rows.{of_row, along, text_number}
 use Rattle.asn1_types.specs.Value.{Value, boolean, integer, null, octets, bits, object_id, text, parts, list, chosen, any, MaybeValues, no_parts, absent, present}
 use Rattle.asn1_types.specs.ValueView.{parts_of, values_of}
-use Rattle.asn1_types.specs.Fits.{any_fits, part_fits, parts_fit, sequence_fits, values_fit, list_fits, alternative_fits, choice_fits, form_by, nothing_fits, fits, has_form}
+use Rattle.asn1_types.specs.Fits.{any_fits, part_fits, parts_fit, sequence_fits, values_fit, list_fits, alternative_fits, choice_fits, form_by, nothing_fits, has_form}
 use Rattle.ber_spelling.specs.Octets.{AreOctets}
 use Rattle.ber_spelling.specs.Order.{Filled}
 use Rattle.asn1_types.specs.declared.row.Tag as tags

@@ -1,8 +1,7 @@
 -- A value has one spelling in DER: what is spelled is what is written.
-use Rattle.std.proofs.Common.{◌≡◌, ℕ, zero, suc, ◌+◌, ◌-◌, ◌%◌, ◌^◌, ◌<◌, ◌≤◌, ◌⊎◌, ℤ, Bool, true, false, not, ◌&&◌, ◌||◌, cond, List, [], ◌∷◌, ◌++◌, length, Option, Some, None, refl, sym, ap, ◌∙◌, subst, arith, append_assoc, append-nil, inl, inr}
-use Rattle.std.specs.Prelude.{slice_get, slice_set, slice_index, nat_lt, nat_le, nat_eq}
+use Rattle.std.proofs.Common.{◌≡◌, ℕ, zero, suc, ◌+◌, ◌<◌, ◌≤◌, ◌⊎◌, ℤ, Bool, true, false, not, cond, List, [], ◌∷◌, ◌++◌, length, Option, Some, None, refl, sym, ap, ◌∙◌, subst, arith, append_assoc, append-nil, inl, inr}
+use Rattle.std.specs.Prelude.{slice_get, slice_set, nat_le, nat_eq}
 use Rattle.std.proofs.lemmas.Bool.{and_parts}
-use Rattle.asn1_types.specs.declared.row.Class.{Class}
 use Rattle.asn1_types.specs.declared.row.Class.TheVariants.{Universal}
 use Rattle.asn1_types.specs.declared.row.Part.{Part}
 use Rattle.asn1_types.specs.declared.row.Item.{Item}
@@ -12,12 +11,12 @@ use Rattle.asn1_types.specs.declared.row.TypeRow.TheVariants as row
 use Rattle.asn1_types.specs.declared.row.Tag as tags
 use Rattle.asn1_types.specs.Rows.{along, of_row, text_number}
 use Rattle.asn1_types.specs.Tags.{tag_or, ranks, front_rank}
-use Rattle.asn1_types.specs.Defaults.{is_default, kept}
+use Rattle.asn1_types.specs.Defaults.{is_default}
 use Rattle.asn1_types.specs.Fits.{is_text}
 use Rattle.asn1_types.specs.Value.{Value, boolean, integer, null, octets, bits, object_id, text, parts, list, chosen, any, MaybeValues, no_parts, absent, present}
 use Rattle.asn1_types.specs.ValueView.{values_of, parts_of}
 use Rattle.asn1_types.specs.Rising.{behind_last, sorted, follows, rise_behind, rise}
-use Rattle.asn1_types.specs.Writing.{Writer, base_128, subidentifiers, definite, boolean_octet, boolean_contents, integer_contents, octets_contents, text_contents, bits_contents, object_id_contents, part_contents, parts_contents, sequence_contents, risen_parts, set_parts, values_contents, list_contents, alternative_written, choice_written, any_written, under, tagged_written, write_by, nothing_written, writes, written}
+use Rattle.asn1_types.specs.Writing.{Writer, subidentifiers, definite, boolean_octet, boolean_contents, integer_contents, octets_contents, text_contents, bits_contents, object_id_contents, part_contents, parts_contents, sequence_contents, risen_parts, set_parts, values_contents, list_contents, alternative_written, choice_written, any_written, under, write_by, nothing_written, writes, written}
 use Rattle.ber_spelling.specs.declared.spot.StringKind.TheVariants.{OfOctets, OfBits}
 use Rattle.ber_spelling.specs.Octets.{AreOctets}
 use Rattle.asn1_types.specs.Limits.{most_levels}

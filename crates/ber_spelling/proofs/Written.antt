@@ -18,16 +18,15 @@ use Rattle.asn1_types.specs.declared.row.TypeRow.TheVariants as row
 use Rattle.asn1_types.specs.Rows.{of_row, along, names_of, rows_of_parts, greatest, nesting, nesting_by, text_number, Opening, openings}
 use Rattle.asn1_types.specs.Table.{HasShortTag, IsSound, clash, agrees_later, has_clash}
 use Rattle.asn1_types.specs.Value.{Value, boolean, integer, null, octets, bits, object_id, text, parts, list, chosen, any, MaybeValues, no_parts, absent, present, Values, no_values, value}
-use Rattle.asn1_types.specs.ValueView.{values_of}
 use Rattle.asn1_types.specs.Whole.{is_whole}
-use Rattle.asn1_types.specs.Defaults.{is_item, may_be_absent, is_default, kept}
+use Rattle.asn1_types.specs.Defaults.{is_item, may_be_absent, is_default}
 use Rattle.asn1_types.specs.Fits.{is_number, has_32_bits, is_octet, are_bits, is_text, boolean_fits, integer_fits, enumerated_fits, null_fits, octets_fit, bits_fit, text_fits, object_id_fits, values_fit, list_fits, parts_fit, sequence_fits, alternative_fits, choice_fits, any_fits, form_by, nothing_fits, has_form}
 use Rattle.asn1_types.proofs.Along.{settled}
 use Rattle.asn1_types.proofs.Sound.{is_down, taken, nesting_cong, nesting_before, sound_row}
 use Rattle.asn1_types.specs.declared.row.Tag as tags
 use Rattle.ber_spelling.specs.declared.spot.StringKind.TheVariants.{OfOctets, OfBits}
 use Rattle.ber_spelling.specs.Rules.{always, string_rule, whole_octets, whole_text, cleared, whole_bits, has_zero_bits, bare, plain}
-use Rattle.ber_spelling.specs.Spelling.{Spelled, IsPrimitive, IsConstructed, IsWhole, PartsAre, SequenceIs, SetIs, ChoiceIs, Steps, ListStep, ListIs, BooleanIs, EnumeratedIs, IntegerIs, NullIs, ObjectIdIs, AnyIs, RowIs, RowOr, SpelledBy, Spells, OrExplicit, IsOther, PartIs, SetItemStep, SetOfIs}
+use Rattle.ber_spelling.specs.Spelling.{Spelled, IsPrimitive, IsConstructed, IsWhole, PartsAre, SequenceIs, SetIs, ChoiceIs, Steps, ListStep, ListIs, BooleanIs, EnumeratedIs, IntegerIs, NullIs, ObjectIdIs, AnyIs, RowIs, RowOr, SpelledBy, Spells, OrExplicit, IsOther, SetItemStep, SetOfIs}
 use Rattle.asn1_types.specs.Writing.{Writer, definite, boolean_contents, integer_contents, octets_contents, text_contents, bits_contents, object_id_contents, values_contents, list_contents, parts_contents, sequence_contents, set_parts, alternative_written, choice_written, any_written, under, write_by, nothing_written, writes, written, subidentifiers}
 use Rattle.asn1_types.specs.Tags.{tag_or, front_rank}
 use Rattle.ber_spelling.specs.declared.spot.Scope.{Scope}
