@@ -12,7 +12,7 @@ ghost use Rattle.asn1_types.specs.Fits.{has_32_bits, boolean_fits, integer_fits,
 
 use crate::length::ber_len;
 use crate::order::{MOST, set_rises};
-use crate::packed_size::packed_size;
+use crate::size::packed_size;
 use asn1_types::{
     Item, Node, Part, Parts, TextKind, TypeId, TypeRow, TypeTable, Val, are_bits, are_octets,
     has_default_value, is_item, is_text, is_whole, may_be_absent,

@@ -7,13 +7,13 @@ mod fitting;
 mod length;
 mod octet;
 mod order;
-mod packed_size;
+mod size;
 mod sort;
 mod write;
 
 pub use fitting::fits;
 pub use length::ber_len;
 pub use order::is_less;
-pub use packed_size::packed_size;
+pub use size::packed_size;
 pub use sort::{follows_last, in_order};
 pub use write::{ber_octets, ber_write};
