@@ -1,5 +1,6 @@
 pub mod OctetLaws
 pub mod HeadLaws
+pub mod ShortForms
 pub mod LessLaws
 pub mod MergeLaws
 pub mod Counts

@@ -1,9 +1,9 @@
 //! The order of the items of a SET OF: by their DER spellings, octet by octet (X.690 11.6).
 
-ghost use Rattle.std.specs.Prelude.{◌≡◌, ◌≤◌, length, IfSome, IfOk};
-ghost use Rattle.asn1_types.specs.Limits.{most_spelled};
+ghost use Rattle.std.specs.Prelude.{◌≡◌, IfOk};
 ghost use Rattle.asn1_types.specs.ValueView.{values_of};
-ghost use Rattle.asn1_types.specs.Rising.{is_less, follows, rise_behind, rise, set_rises};
+ghost use Rattle.asn1_types.specs.Rising.{is_less};
+ghost use Rattle.ber_writing.specs.Short.{told_less, stand_so, stand_behind, stand_rising, set_stands};
 ghost use Rattle.asn1_types.specs.Writing.{written};
 
 use crate::compare::{octets_compared, values_compared};
@@ -21,7 +21,7 @@ pub(crate) const MOST: u64 = 4_294_967_295;
 /// Whether the DER spelling of a value is less than that of another, octet by octet; `None` where one
 /// of them has more than 4,294,967,295 octets. It takes time linear in values that fit, and no memory.
 pub fn is_less(table: &TypeTable, of: TypeId, a: &Val, b: &Val) -> Option<bool>
-    ensures { IfSome result (λ less. less ≡ is_less (written table.now of.0 a.now) (written table.now of.0 b.now)) }
+    ensures { result ≡ told_less (written table.now of.0 a.now) (written table.now of.0 b.now) }
 {
     match values_compared(table, of, None, a, b) {
         Some(told) => {
@@ -38,7 +38,7 @@ pub fn is_less(table: &TypeTable, of: TypeId, a: &Val, b: &Val) -> Option<bool>
 #[tactic(auto, unfolding(asn1_types::specs::Writing::written))]
 #[inline(never)]
 fn long_less(table: &TypeTable, of: TypeId, a: &Val, b: &Val) -> Option<bool>
-    ensures { IfSome result (λ less. less ≡ is_less (written table.now of.0 a.now) (written table.now of.0 b.now)) }
+    ensures { result ≡ told_less (written table.now of.0 a.now) (written table.now of.0 b.now) }
 {
     let len = ber_len(table, of, a);
     let other = ber_len(table, of, b);
@@ -76,10 +76,8 @@ pub(crate) fn less_in_memory(
     Ok(octets_compared(spelled.as_slice(), against.as_slice()) == Ordering::Less)
 }
 
-fn follows(table: &TypeTable, of: TypeId, before: &Val, value: &Val) -> bool
-    requires short { length (written table.now of.0 value.now) ≤ most_spelled }
-    requires short_before { length (written table.now of.0 before.now) ≤ most_spelled }
-    ensures { result ≡ follows (written table.now of.0) before.now value.now }
+fn stand_so(table: &TypeTable, of: TypeId, before: &Val, value: &Val) -> bool
+    ensures { result ≡ stand_so (written table.now of.0) before.now value.now }
 {
     match is_less(table, of, value, before) {
         Some(less) => !less,
@@ -87,12 +85,12 @@ fn follows(table: &TypeTable, of: TypeId, before: &Val, value: &Val) -> bool
     }
 }
 
-fn rise_behind(table: &TypeTable, of: TypeId, first: &Val, others: &[Val]) -> bool
-    ensures { result ≡ rise_behind (written table.now of.0) first.now (values_of others.now) }
+fn stand_behind(table: &TypeTable, of: TypeId, first: &Val, others: &[Val]) -> bool
+    ensures { result ≡ stand_behind (written table.now of.0) first.now (values_of others.now) }
 {
     let mut before = first;
     for value in others {
-        if !follows(table, of, before, value) {
+        if !stand_so(table, of, before, value) {
             return false;
         }
         before = value;
@@ -100,21 +98,21 @@ fn rise_behind(table: &TypeTable, of: TypeId, first: &Val, others: &[Val]) -> bo
     true
 }
 
-fn rise(table: &TypeTable, of: TypeId, values: &[Val]) -> bool
-    ensures { result ≡ rise (written table.now of.0) (values_of values.now) }
+fn stand_rising(table: &TypeTable, of: TypeId, values: &[Val]) -> bool
+    ensures { result ≡ stand_rising (written table.now of.0) (values_of values.now) }
 {
     match values {
         [] => true,
-        [first, others @ ..] => rise_behind(table, of, first, others),
+        [first, others @ ..] => stand_behind(table, of, first, others),
     }
 }
 
-/// Whether the items of a SET OF rise.
-pub(crate) fn set_rises(table: &TypeTable, of: TypeId, value: &Val) -> bool
-    ensures { result ≡ set_rises (written table.now of.0) value.now }
+/// Whether the items of a SET OF rise, and have short spellings.
+pub(crate) fn set_stands(table: &TypeTable, of: TypeId, value: &Val) -> bool
+    ensures { result ≡ set_stands (written table.now of.0) value.now }
 {
     match &value.node {
-        Node::List(values) => rise(table, of, values),
+        Node::List(values) => stand_rising(table, of, values),
         _ => false,
     }
 }
