@@ -44,11 +44,15 @@ object_id_size v = 0
 abbrev pub mark_size : Part → ℕ
 mark_size p = if may_be_absent p then 1 else 0
 
+abbrev pub part_size : (ℕ → Value → ℕ) → Part → Option Value → ℕ
+part_size inner p None = mark_size p
+part_size inner p (Some v) = mark_size p + inner p.inner.0 v
+
 abbrev pub parts_size : (ℕ → Value → ℕ) → List Part → MaybeValues → ℕ
 parts_size inner [] vs = 0
 parts_size inner (p ∷ ps) no_parts = 0
-parts_size inner (p ∷ ps) (absent vs) = mark_size p + parts_size inner ps vs
-parts_size inner (p ∷ ps) (present v vs) = (mark_size p + inner p.inner.0 v) + parts_size inner ps vs
+parts_size inner (p ∷ ps) (absent vs) = part_size inner p None + parts_size inner ps vs
+parts_size inner (p ∷ ps) (present v vs) = part_size inner p (Some v) + parts_size inner ps vs
 
 abbrev pub sequence_size : (MaybeValues → ℕ) → Value → ℕ
 sequence_size size (parts vs) = size vs

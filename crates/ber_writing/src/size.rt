@@ -1,12 +1,12 @@
 //! How many octets values have in the packed syntax. A length past 64 bits stands still at their end.
 
-ghost use Rattle.std.specs.Prelude.{◌≡◌, ◌<◌, ◌≤◌, Some, slice_get};
+ghost use Rattle.std.specs.Prelude.{◌≡◌, ◌<◌, ◌+◌, Some, slice_get};
 ghost use Rattle.std.specs.List.{AllByRecursion};
 ghost use Rattle.asn1_types.specs.Rows.{rows_of_parts};
 ghost use Rattle.asn1_types.specs.Table.{IsSound};
 ghost use Rattle.asn1_types.specs.ValueView.{parts_of, values_of};
 ghost use Rattle.asn1_types.specs.Writing.{saturated};
-ghost use Rattle.asn1_types.specs.PackedSize.{boolean_size, number_size, octets_size, text_size, bits_size, object_id_size, mark_size, parts_size, sequence_size, values_size, list_size, alternative_size, choice_size, size_by, packed_size};
+ghost use Rattle.asn1_types.specs.PackedSize.{count_size, boolean_size, number_size, octets_size, text_size, bits_size, object_id_size, part_size, parts_size, sequence_size, values_size, list_size, alternative_size, choice_size, size_by, packed_size};
 
 use crate::length::{arcs_len, integer_len};
 use asn1_types::{Node, Part, Parts, TypeId, TypeRow, TypeTable, Val, may_be_absent};
@@ -30,7 +30,9 @@ fn number_size(value: &Val) -> u64
 }
 
 /// A count of four octets, and as many octets.
-fn counted_size(count: u64) -> u64 {
+fn counted_size(count: u64) -> u64
+    ensures { result ≡ saturated (count_size + count) }
+{
     count.saturating_add(4)
 }
 
@@ -96,8 +98,10 @@ fn row_size(table: &TypeTable, of: TypeId, row: &TypeRow, value: &Val) -> u64
         TypeRow::BitString => bits_size(value),
         TypeRow::ObjectId => object_id_size(value),
         TypeRow::Text(_) => text_size(value),
-        TypeRow::Sequence(parts) | TypeRow::Set(parts) => sequence_size(table, of, parts, value),
-        TypeRow::SequenceOf(inner) | TypeRow::SetOf(inner) => list_size(table, of, *inner, value),
+        TypeRow::Sequence(parts) => sequence_size(table, of, parts, value),
+        TypeRow::Set(parts) => sequence_size(table, of, parts, value),
+        TypeRow::SequenceOf(inner) => list_size(table, of, *inner, value),
+        TypeRow::SetOf(inner) => list_size(table, of, *inner, value),
         TypeRow::Choice(alternatives) => choice_size(table, of, alternatives, value),
         TypeRow::Tagged { inner, .. } => packed_size(table, *inner, value),
         TypeRow::Null | TypeRow::Any => 0,
@@ -146,6 +150,7 @@ fn each_size(table: &TypeTable, of: TypeId, parts: &[Part], values: &[Option<Val
 #[cycle(sizing)]
 fn part_size(table: &TypeTable, of: TypeId, part: &Part, value: &Option<Val>) -> u64
     requires below { part.now.inner.0 < of.0 }
+    ensures { result ≡ saturated (part_size (packed_size table.now) part.now value.now) }
 {
     let mark = if may_be_absent(part) { 1 } else { 0 };
     match value {
