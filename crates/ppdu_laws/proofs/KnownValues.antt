@@ -104,13 +104,21 @@ module _ (r : ℕ) (small : r < 63) (F : Relation) (as_row : (levels : ℕ) (v :
 
   slot : (levels : ℕ) (a b : Halves) (least : ℕ) (s : List ℕ) → Half levels a b s → Slot levels (filled a least) (filled b (front_rank s + 1)) s
   slot levels a b least s (inl q) = (
-    0, part (codes "mode") 31 false, q.0, refl, ap Some q.1,
+    0,
+    part (codes "mode") 31 false,
+    q.0,
+    refl,
+    ap Some q.1,
     turns_fewer ppdu_rows ppdu_sound 1 63 31 (omega arith) plain false levels q.0 s q.3,
     λ wrong. absurd (let no : false ≡ true = wrong in cc),
     ap (λ (x : Halves). filled x (front_rank s + 1)) q.2,
   )
   slot levels a b least s (inr q) = (
-    1, part (codes "fields") r false, q.0, refl, ap Some q.1,
+    1,
+    part (codes "fields") r false,
+    q.0,
+    refl,
+    ap Some q.1,
     turns_fewer ppdu_rows ppdu_sound 1 63 r small plain false levels q.0 s (as_row levels q.0 s q.3),
     λ wrong. absurd (let no : false ≡ true = wrong in cc),
     ap (λ (x : Halves). filled x (front_rank s + 1)) q.2,

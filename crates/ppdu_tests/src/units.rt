@@ -2,11 +2,11 @@
 //! written back, with fields that are passed over left out, and each fault stands where it should.
 //! The units of dialogues are those of worked dialogues; the others are laid out by hand.
 
-use worked_octets::octets_of;
 use osi_base::{Kind, NoMemory};
 use presentation_pdus::{PpduFault, PpduPlace, read_ppdu, write_ppdu};
 use std::alloc::Global;
 use std::test::*;
+use worked_octets::octets_of;
 
 /// Whether the unit of these octets is written as those.
 fn is_written(alloc: Global, place: PpduPlace, text: &str, to: &str) -> Result<bool, NoMemory> {
