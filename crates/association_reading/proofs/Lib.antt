@@ -1,2 +1,4 @@
 mod First
 mod Meant
+mod Beginnings
+mod Associating

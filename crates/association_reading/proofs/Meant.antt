@@ -9,7 +9,7 @@ use Rattle.rtse_apdus.proofs.RtseLaws.{written_rtse_is_read}
 use Rattle.end_rules.specs.Messages.{Association, Content, Value, NoData, ProviderReason, UserValues, Word, OfAssociation, Connect, Accept, Refuse, Finish, Disconnect, Abort, AbortAccept, OfData, Values, AlterContext, AlterContextAck, OfMarks, Mark, MarkAck, Restart, RestartAck, Give, Please, GiveConfirm, GiveAck, OfActivities, Start, Resume, End, EndAck, Interrupt, InterruptAck, Discard, DiscardAck}
 use Rattle.association_wire.specs.Values.{with_user as user_put, content_octets, in_form, pdv_of, pdvs_of}
 use Rattle.association_reading.specs.Values.{without_user, associated, acse_content, rtse_content, content_under, with_content, value_by, value_in, before_values, all_values, unless_fault, values_under}
-use Rattle.association_reading.specs.Laws.{AssociationIsReadBack, TransferWordsAreReadBack, SessionWordsAreReadBack, IsReadBackIn, AlterationsAreReadBack, IsMeant, AreMeantIn, DataAreReadBack, RemoteIsReadBack}
+use Rattle.association_reading.specs.Laws.{AssociationIsReadBack, TransferWordsAreReadBack, SessionWordsAreReadBack, IsWrittenIn, AlterationsAreReadBack, IsMeant, AreMeantIn, DataAreReadBack, RemoteIsReadBack}
 use Rattle.std.proofs.Common.{◌≡◌, refl, sym, ap, ◌∙◌, ℕ, true, List, [], ◌∷◌, Option, Some, None, Ok}
 use Rattle.std.specs.Prelude.{Result}
 use Rattle.osi_base.specs.PdvContent.{octets_of}
@@ -27,6 +27,7 @@ use Rattle.presentation_pdus.specs.declared.place.PpduPlace.{PpduPlace}
 use Rattle.presentation_pdus.specs.declared.place.PpduPlace.TheVariants as place
 use Rattle.presentation_pdus.specs.declared.place.PpduFault.{PpduFault}
 use Rattle.presentation_pdus.specs.Words.{written_ppdu}
+use Rattle.ppdu_laws.proofs.UnitsBack.{written_ppdu_is_read}
 use Rattle.presentation_pdus.specs.Units.{ppdu_at}
 use Rattle.end_rules.specs.Base.{Base, Fault, Head, acse_name, rtse_name}
 use Rattle.end_rules.specs.Hearing.{syntax_of}
@@ -76,15 +77,19 @@ session_words (OfActivities DiscardAck) h base body start = refl
 
 -- ---- alterations and restarts
 
-typed : (unit : PresentationWord) (word : Word) (start : ℕ) → IsReadBackIn place.Td unit → typed_meaning unit ≡ Ok word → on_ppdu start (ppdu_at place.Td (written_ppdu unit)) typed_meaning ≡ Ok word
-typed unit word start back means = ap (λ (r : Result PresentationWord PpduFault). on_ppdu start r typed_meaning) back ∙ means
+-- what may be written is read back
+pub read_in : (carrier : PpduPlace) (unit : PresentationWord) → IsWrittenIn carrier unit → ppdu_at carrier (written_ppdu unit) ≡ Ok unit
+read_in carrier unit w = (written_ppdu_is_read carrier unit w).1
+
+typed : (unit : PresentationWord) (word : Word) (start : ℕ) → IsWrittenIn place.Td unit → typed_meaning unit ≡ Ok word → on_ppdu start (ppdu_at place.Td (written_ppdu unit)) typed_meaning ≡ Ok word
+typed unit word start w means = ap (λ (r : Result PresentationWord PpduFault). on_ppdu start r typed_meaning) (read_in place.Td unit w) ∙ means
 
 pub alterations : AlterationsAreReadBack
 alterations = record {
   alter = λ add delete back base body start. typed (ppdus.Alter add delete) (OfData (AlterContext add delete)) start back refl;
   alter_ack = λ answers back base body start. typed (ppdus.AlterAck answers) (OfData (AlterContextAck answers)) start back refl;
-  restart = λ number list back base body start. ap (λ (r : Result PresentationWord PpduFault). on_ppdu start r (restart_meaning number)) back;
-  restart_ack = λ number list back base body start. ap (λ (r : Result PresentationWord PpduFault). on_ppdu start r (restart_ack_meaning number)) back;
+  restart = λ number list back base body start. ap (λ (r : Result PresentationWord PpduFault). on_ppdu start r (restart_meaning number)) (read_in place.Rs (ppdus.Resynchronize list) back);
+  restart_ack = λ number list back base body start. ap (λ (r : Result PresentationWord PpduFault). on_ppdu start r (restart_ack_meaning number)) (read_in place.Ra (ppdus.ResynchronizeAck list) back);
 }
 
 -- ---- values
@@ -142,11 +147,11 @@ module _ (tables : Tables) (set : List SetItem) (carried : List ℕ) where
       ∙ values_back vs h
 
 data_back : (base : Base) (body : Body) (carried : List ℕ) (word : List Value → Word) (carrier : PpduPlace) (start : ℕ) (vs : List Value)
-    → IsReadBackIn carrier (ppdus.Data (pdvs_of base.tables vs)) → AreMeantIn base.tables body.sets.held carried vs
+    → IsWrittenIn carrier (ppdus.Data (pdvs_of base.tables vs)) → AreMeantIn base.tables body.sets.held carried vs
     → on_ppdu start (ppdu_at carrier (written_ppdu (ppdus.Data (pdvs_of base.tables vs)))) (data_meaning base body carried word carrier start (written_ppdu (ppdus.Data (pdvs_of base.tables vs)))) ≡ Ok (word vs)
 data_back base body carried word carrier start vs back meant =
     let user : List ℕ = written_ppdu (ppdus.Data (pdvs_of base.tables vs)) in
-    ap (λ (r : Result PresentationWord PpduFault). on_ppdu start r (data_meaning base body carried word carrier start user)) back
+    ap (λ (r : Result PresentationWord PpduFault). on_ppdu start r (data_meaning base body carried word carrier start user)) (read_in carrier (ppdus.Data (pdvs_of base.tables vs)) back)
     ∙ ap (λ (r : Result (List Value) Fault). with_values word r) (all_back base.tables body.sets.held carried vs (pdv_places carrier start user) meant)
 
 pub data_words : DataAreReadBack

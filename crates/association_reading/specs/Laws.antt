@@ -8,9 +8,9 @@ use Rattle.tpkt.specs.Wire.{IsTwo, tsdu_limit}
 use Rattle.tpkt.specs.Written.{HasRoom}
 use Rattle.association_wire.specs.Written.{request_ends, confirm_ends, written_unit, with_user, session_units, tsdu_of, written}
 use Rattle.end_rules.specs.Messages.{Association, Plea, Part, TransportUnit, ConnectionRequest, ConnectionConfirm, DisconnectRequest, Remote, Value, NoData, Word, OfAssociation, Refuse, Finish, Disconnect, Abort, AbortAccept, OfData, Values, AlterContext, AlterContextAck, OfMarks, Mark, MarkAck, Restart, RestartAck, Give, Please, GiveConfirm, GiveAck, OfActivities, Session, unit_of}
-use Rattle.association_reading.specs.Front.{OfTransport, OfSession, first_in, with_octets, nothing_came}
+use Rattle.association_reading.specs.Front.{Short, OfTransport, OfSession, first_in, with_octets, nothing_came}
 use Rattle.association_reading.specs.Values.{without_user, content_under}
-use Rattle.std.specs.Prelude.{◌≡◌, ℕ, ◌≤◌, List, [], ◌∷◌, ◌++◌, length, true, false, Option, Some, None, Ok}
+use Rattle.std.specs.Prelude.{◌≡◌, ℕ, ◌<◌, ◌≤◌, List, [], ◌∷◌, ◌++◌, length, true, false, Option, Some, None, Ok}
 use Rattle.osi_base.specs.declared.syntax.Pair.{Pair}
 use Rattle.osi_base.specs.declared.words.SetItem.{SetItem}
 use Rattle.osi_base.specs.declared.words.Proposal.{Proposal}
@@ -26,8 +26,7 @@ use Rattle.tpkt.specs.Stream.{IsOctets}
 use Rattle.spdu_codec.specs.Written.{AreWritable}
 use Rattle.presentation_pdus.specs.declared.place.PpduPlace.{PpduPlace}
 use Rattle.presentation_pdus.specs.declared.place.PpduPlace.TheVariants as place
-use Rattle.presentation_pdus.specs.Words.{written_ppdu}
-use Rattle.presentation_pdus.specs.Units.{ppdu_at}
+use Rattle.ppdu_laws.specs.Written.{IsWritable as IsWritablePpdu}
 use Rattle.end_rules.specs.Base.{Base, acse_name, rtse_name}
 use Rattle.end_rules.specs.Sets.{same_name, pair_of}
 use Rattle.end_rules.specs.State.{Body}
@@ -73,16 +72,17 @@ IsReadAs word =
 abbrev pub SessionWordsAreReadBack : Type 0
 SessionWordsAreReadBack = (word : Word) → IsOfSession word → IsReadAs word
 
--- the octets of a unit of the presentation are read back in what carries it
-abbrev pub IsReadBackIn : PpduPlace → PresentationWord → Type 0
-IsReadBackIn carrier unit = ppdu_at carrier (written_ppdu unit) ≡ Ok unit
+-- a unit of the presentation may be written in what carries it: its numbers have the sizes of their types, and its value
+-- fits its row
+abbrev pub IsWrittenIn : PpduPlace → PresentationWord → Type 0
+IsWrittenIn carrier unit = IsWritablePpdu carrier unit
 
--- alterations, restarts and their answers, where their units of the presentation are read back
+-- alterations, restarts and their answers, where their units of the presentation may be written
 pub record AlterationsAreReadBack : Type 0 where
-  pub alter : (add : List Proposal) (delete : List ℕ) → IsReadBackIn place.Td (ppdus.Alter add delete) → IsReadAs (OfData (AlterContext add delete))
-  pub alter_ack : (answers : Answers) → IsReadBackIn place.Td (ppdus.AlterAck answers) → IsReadAs (OfData (AlterContextAck answers))
-  pub restart : (number : ℕ) (list : Option (List RestoredItem)) → IsReadBackIn place.Rs (ppdus.Resynchronize list) → IsReadAs (OfMarks (Restart number list))
-  pub restart_ack : (number : ℕ) (list : Option (List RestoredItem)) → IsReadBackIn place.Ra (ppdus.ResynchronizeAck list) → IsReadAs (OfMarks (RestartAck number list))
+  pub alter : (add : List Proposal) (delete : List ℕ) → IsWrittenIn place.Td (ppdus.Alter add delete) → IsReadAs (OfData (AlterContext add delete))
+  pub alter_ack : (answers : Answers) → IsWrittenIn place.Td (ppdus.AlterAck answers) → IsReadAs (OfData (AlterContextAck answers))
+  pub restart : (number : ℕ) (list : Option (List RestoredItem)) → IsWrittenIn place.Rs (ppdus.Resynchronize list) → IsReadAs (OfMarks (Restart number list))
+  pub restart_ack : (number : ℕ) (list : Option (List RestoredItem)) → IsWrittenIn place.Ra (ppdus.ResynchronizeAck list) → IsReadAs (OfMarks (RestartAck number list))
 
 -- ---- values
 
@@ -99,19 +99,19 @@ abbrev pub AreMeantIn : Tables → List SetItem → List ℕ → List Value → 
 AreMeantIn tables set carried [] = Unit {0}
 AreMeantIn tables set carried (value ∷ values) = IsMeant tables set carried value × AreMeantIn tables set carried values
 
--- data, pleas, releases and their answers, where their units are read back and their values are meant under the held set
+-- data, pleas, releases and their answers, where their units may be written and their values are meant under the held set
 pub record DataAreReadBack : Type 0 where
   pub values : (base : Base) (body : Body) (start : ℕ) (value : Value) (values : List Value) →
-      IsReadBackIn place.Dt (ppdus.Data (pdvs_of base.tables (value ∷ values))) → AreMeantIn base.tables body.sets.held (carried_by_data base) (value ∷ values) →
+      IsWrittenIn place.Dt (ppdus.Data (pdvs_of base.tables (value ∷ values))) → AreMeantIn base.tables body.sets.held (carried_by_data base) (value ∷ values) →
       meaning base body (with_user (user_octets base.tables (OfData (Values (value ∷ values)))) (unit_of (OfData (Values (value ∷ values))))) start ≡ Ok (OfData (Values (value ∷ values)))
   pub please : (base : Base) (body : Body) (start : ℕ) (tokens : ℕ) (value : Value) (values : List Value) →
-      IsReadBackIn place.Pt (ppdus.Data (pdvs_of base.tables (value ∷ values))) → AreMeantIn base.tables body.sets.held rtse_name (value ∷ values) →
+      IsWrittenIn place.Pt (ppdus.Data (pdvs_of base.tables (value ∷ values))) → AreMeantIn base.tables body.sets.held rtse_name (value ∷ values) →
       meaning base body (with_user (user_octets base.tables (OfMarks (Please (Some tokens) (value ∷ values)))) (unit_of (OfMarks (Please (Some tokens) (value ∷ values))))) start ≡ Ok (OfMarks (Please (Some tokens) (value ∷ values)))
   pub finish : (base : Base) (body : Body) (start : ℕ) (transport : Option ℕ) (value : Value) (values : List Value) →
-      IsReadBackIn place.Fn (ppdus.Data (pdvs_of base.tables (value ∷ values))) → AreMeantIn base.tables body.sets.held acse_name (value ∷ values) →
+      IsWrittenIn place.Fn (ppdus.Data (pdvs_of base.tables (value ∷ values))) → AreMeantIn base.tables body.sets.held acse_name (value ∷ values) →
       meaning base body (with_user (user_octets base.tables (OfAssociation (Finish transport (value ∷ values)))) (unit_of (OfAssociation (Finish transport (value ∷ values))))) start ≡ Ok (OfAssociation (Finish transport (value ∷ values)))
   pub disconnect : (base : Base) (body : Body) (start : ℕ) (value : Value) (values : List Value) →
-      IsReadBackIn place.Dn (ppdus.Data (pdvs_of base.tables (value ∷ values))) → AreMeantIn base.tables body.sets.held acse_name (value ∷ values) →
+      IsWrittenIn place.Dn (ppdus.Data (pdvs_of base.tables (value ∷ values))) → AreMeantIn base.tables body.sets.held acse_name (value ∷ values) →
       meaning base body (with_user (user_octets base.tables (OfAssociation (Disconnect (value ∷ values)))) (unit_of (OfAssociation (Disconnect (value ∷ values))))) start ≡ Ok (OfAssociation (Disconnect (value ∷ values)))
 
 -- An APDU of the module that may be written is what its octets are, on a context of neither association control nor
@@ -148,3 +148,16 @@ pub record TransportUnitsStandFirst : Type 0 where
       StandsFirst (ConnectionRequest source size calling called)
   pub confirm : (destination : ℕ) (size : Option ℕ) → IsTwo destination → HasRoom (confirm_ends destination size) → StandsFirst (ConnectionConfirm destination size)
   pub refuse : StandsFirst (DisconnectRequest 1)
+
+-- ---- a proper beginning of what is written is less than a message
+
+abbrev pub BeginningsOf : List ℕ → Type 0
+BeginningsOf octets = (front back : List ℕ) → octets ≡ front ++ back → 0 < length back → first_in (with_octets front nothing_came) ≡ Short
+
+pub record BeginningsAreShort : Type 0 where
+  pub words : (tables : Tables) (size : ℕ) (word : Word) → 128 ≤ size → size ≤ 65531 → IsSendable tables word → BeginningsOf (written tables size (Session word))
+  pub request : (source : ℕ) (size : Option ℕ) (calling called : List ℕ) → IsTwo source → HasRoom (request_ends source size calling called) →
+      IsOctets (written_unit (ConnectionRequest source size calling called)) → BeginningsOf (written_unit (ConnectionRequest source size calling called))
+  pub confirm : (destination : ℕ) (size : Option ℕ) → IsTwo destination → HasRoom (confirm_ends destination size) →
+      IsOctets (written_unit (ConnectionConfirm destination size)) → BeginningsOf (written_unit (ConnectionConfirm destination size))
+  pub refuse : BeginningsOf (written_unit (DisconnectRequest 1))

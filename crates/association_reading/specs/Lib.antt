@@ -8,3 +8,4 @@ pub mod Transfers
 pub mod Reacting
 pub mod Cases
 pub mod Laws
+pub mod Associating

@@ -8,3 +8,4 @@ pub mod Laws
 pub mod Cutting
 pub mod Ran
 pub mod Steps
+pub mod Cases

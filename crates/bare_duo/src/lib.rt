@@ -1,9 +1,13 @@
 //! Schedules run over two ends of bare mode that see of each other octets alone.
 #![tactic(auto)]
 
+mod cases;
 mod giving;
 mod laws;
 mod running;
 
+pub use cases::{
+    invocations_with_links, last_octets_count, one_answer_is_told, outcomes_of_open_invocations,
+};
 pub use laws::{any_cutting, every_run_keeps_laws, one_feed, one_run};
 pub use running::run_world;
