@@ -26,16 +26,16 @@ use Rattle.acse.specs.Laws.{PlainIsSpelled, WrittenAcseIsRead}
 use Rattle.acse.proofs.Added.{acse_sound}
 use Rattle.acse.proofs.AcseLaws.{writable_fits, writable_says, spelled_acse_is_read}
 
-abbrev request_parts : List Part
+abbrev pub request_parts : List Part
 request_parts = part (codes "version") 12 true ∷ part (codes "context") 13 false ∷ part (codes "user") 11 true ∷ []
 
-abbrev response_parts : List Part
+abbrev pub response_parts : List Part
 response_parts = part (codes "context") 13 false ∷ part (codes "result") 16 false ∷ part (codes "diagnostic") 20 false ∷ part (codes "user") 11 true ∷ []
 
-abbrev release_parts : List Part
+abbrev pub release_parts : List Part
 release_parts = part (codes "reason") 23 true ∷ []
 
-abbrev abort_parts : List Part
+abbrev pub abort_parts : List Part
 abort_parts = part (codes "source") 27 false ∷ part (codes "user") 11 true ∷ []
 
 opens_11 : openings acse_rows 11 ≡ tag Context 30 ∷ []
@@ -66,31 +66,31 @@ opens_27 : openings acse_rows 27 ≡ tag Context 0 ∷ []
 unfolding openings
 opens_27 = refl
 
-request_are : AreParts acse_rows acse_sound request_fields request_parts
+pub request_are : AreParts acse_rows acse_sound request_fields request_parts
 request_are =
     ((codes "version", 12, refl, refl, opens_12, omega arith), ((codes "context", 13, refl, refl, opens_13, omega arith), ((codes "user", 11, refl, refl, opens_11, omega arith), tt)))
 
-response_are : AreParts acse_rows acse_sound response_fields response_parts
+pub response_are : AreParts acse_rows acse_sound response_fields response_parts
 response_are =
     ((codes "context", 13, refl, refl, opens_13, omega arith), ((codes "result", 16, refl, refl, opens_16, omega arith), ((codes "diagnostic", 20, refl, refl, opens_20, omega arith), ((codes "user", 11, refl, refl, opens_11, omega arith), tt))))
 
-release_are : AreParts acse_rows acse_sound release_fields release_parts
+pub release_are : AreParts acse_rows acse_sound release_fields release_parts
 release_are = ((codes "reason", 23, refl, refl, opens_23, omega arith), tt)
 
-abort_are : AreParts acse_rows acse_sound abort_fields abort_parts
+pub abort_are : AreParts acse_rows acse_sound abort_fields abort_parts
 abort_are = ((codes "source", 27, refl, refl, opens_27, omega arith), ((codes "user", 11, refl, refl, opens_11, omega arith), tt))
 
 -- an APDU under its tag
-under_tag : (which : ℕ) (fields : List known.Field) (passed : List over.Passed) (ps : List Part) → AreParts acse_rows acse_sound fields ps → (w : Value) (octets : List ℕ)
+pub under_tag : (which : ℕ) (fields : List known.Field) (passed : List over.Passed) (ps : List Part) → AreParts acse_rows acse_sound fields ps → (w : Value) (octets : List ℕ)
     → IsConstructed (apdu_tag which) false 32 (λ l c. SequenceIs (SpelledBy acse_rows 28) false ps w l c) octets → FieldsSpelled which fields passed false 32 w octets
 under_tag which fields passed ps are w octets p =
     constructed_more (apdu_tag which) false 32 (λ l c. SequenceIs (SpelledBy acse_rows 28) false ps w l c) (λ l c. FieldsAre acse_rows fields passed false l w c) (λ l c q. sequence_fields acse_rows acse_sound 28 3 refl false fields passed ps are w l c q) octets p
 
-abbrev apdu_parts : List Part
+abbrev pub apdu_parts : List Part
 apdu_parts = part (codes "AARQ") 15 false ∷ part (codes "AARE") 22 false ∷ part (codes "RLRQ") 25 false ∷ part (codes "RLRE") 26 false ∷ part (codes "ABRT") 29 false ∷ []
 
 -- that of an alternative, whose row is a tag over a SEQUENCE
-row_is : (p q : Part) (w : Value) (octets : List ℕ) → Some q ≡ Some p → SpelledBy acse_rows 30 p.inner.0 plain false 32 w octets → SpelledBy acse_rows 30 q.inner.0 plain false 32 w octets
+pub row_is : (p q : Part) (w : Value) (octets : List ℕ) → Some q ≡ Some p → SpelledBy acse_rows 30 p.inner.0 plain false 32 w octets → SpelledBy acse_rows 30 q.inner.0 plain false 32 w octets
 row_is p q w octets e h = let same : p ≡ q = cc in subst (λ (x : Part). SpelledBy acse_rows 30 x.inner.0 plain false 32 w octets) same h
 
 of_which : (which : ℕ) (w : Value) (octets : List ℕ) → ChoiceIs (SpelledBy acse_rows 30) apdu_parts false 32 (chosen which w) octets → OfNumber which false 32 w octets

@@ -1,11 +1,12 @@
 -- The laws of APDUs of association control.
-use Rattle.std.specs.Prelude.{◌≡◌, ℕ, ◌<◌, ◌≤◌, List, length, take, Ok, Err}
+use Rattle.std.specs.Prelude.{◌≡◌, ◌↔◌, ℕ, ◌<◌, ◌≤◌, List, length, take, Ok, Err}
 use Rattle.osi_base.specs.declared.words.Kind.{Kind}
 use Rattle.osi_base.specs.declared.words.Kind.TheVariants.{Missing}
 use Rattle.osi_base.specs.declared.acse_word.Acse as apdus
 use Rattle.ber_spelling.specs.Octets.{AreOctets}
 use Rattle.fixed_tables.specs.declared.pdu.PduFault.TheVariants as unit
 use Rattle.acse.specs.Fields.{SpellsAcse, acse_at}
+use Rattle.acse.specs.Known.{SpellsKnown}
 use Rattle.acse.specs.Plain.{SpellsPlain}
 use Rattle.acse.specs.Written.{IsWritable, written_acse}
 
@@ -26,6 +27,10 @@ AcseFaultIsFirst = (octets : List ℕ) (place : ℕ) (kind : Kind) → acse_at o
 -- octets that spell a value of the table's row of all APDUs have no field that is passed over, and spell what it says
 abbrev pub PlainIsSpelled : Type 0
 PlainIsSpelled = (apdu : apdus.Acse) (octets : List ℕ) → SpellsPlain apdu octets → SpellsAcse apdu octets
+
+-- APDUs without fields that are passed over and values of the table's row of all APDUs stand for each other
+abbrev pub KnownArePlain : Type 0
+KnownArePlain = (apdu : apdus.Acse) (octets : List ℕ) → SpellsKnown apdu octets ↔ SpellsPlain apdu octets
 
 -- what is written of an APDU that may be written has no field that is passed over, and is read back
 abbrev pub WrittenAcseIsRead : Type 0

@@ -1,4 +1,5 @@
 pub mod Fields
+pub mod Known
 pub mod Laws
 pub mod Plain
 pub mod Rows

@@ -1,6 +1,6 @@
 //! The laws of APDUs of association control, each the contract of a function that does nothing.
 
-ghost use Rattle.acse.specs.Laws.{AcseIsSpelled, SpelledAcseIsRead, AcseFaultIsFirst, PlainIsSpelled, WrittenAcseIsRead};
+ghost use Rattle.acse.specs.Laws.{AcseIsSpelled, SpelledAcseIsRead, AcseFaultIsFirst, PlainIsSpelled, KnownArePlain, WrittenAcseIsRead};
 
 /// What is read is spelled by the octets.
 pub fn acse_is_spelled()
@@ -21,6 +21,12 @@ pub fn acse_fault_is_first()
 /// APDU that the value says.
 pub fn plain_is_spelled()
     ensures { PlainIsSpelled }
+{}
+
+/// APDUs of known fields alone, of which none is passed over, and values of the fixed table stand for
+/// each other.
+pub fn known_are_plain()
+    ensures { KnownArePlain }
 {}
 
 /// What is written of an APDU that may be written is spelled so and read back.

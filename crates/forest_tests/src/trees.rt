@@ -51,6 +51,18 @@ fn children_come_before_parents(rt: HostRuntime) -> Result<(), Fail> {
 }
 
 #[test]
+fn trees_come_in_order_of_opening(rt: HostRuntime) -> Result<(), Fail> {
+    let mut forest = family(rt.alloc())?;
+    put(&mut forest, own(3), None)?;
+    assert!(rt; forest.close(own(1)));
+    let keys = forest.post_order()?;
+    assert!(rt; keys.len() == 4);
+    assert!(rt; is_at(&keys, 0, own(2)) && is_at(&keys, 1, peer(1)));
+    assert!(rt; is_at(&keys, 2, peer(2)) && is_at(&keys, 3, own(3)));
+    Ok(())
+}
+
+#[test]
 fn children_come_in_order_of_opening(rt: HostRuntime) -> Result<(), Fail> {
     let forest = family(rt.alloc())?;
     let mut children = forest.children(own(1));

@@ -46,7 +46,7 @@ one_true false b e = e
 abbrev in_ : Key → List Entry → Bool
 in_ k xs = is_open k xs
 
-open-append : (k : Key) (xs ys : List Entry) → is_open k (xs ++ ys) ≡ (is_open k xs || is_open k ys)
+pub open-append : (k : Key) (xs ys : List Entry) → is_open k (xs ++ ys) ≡ (is_open k xs || is_open k ys)
 open-append k [] ys = refl
 open-append k (x ∷ xs) ys = ap (λ (b : Bool). same_key x.0 k || b) (open-append k xs ys) ∙ assoc (same_key x.0 k) (is_open k xs) (is_open k ys)
   where

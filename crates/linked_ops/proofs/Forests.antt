@@ -1,24 +1,26 @@
 -- What a forest keeps stays, as a key is opened and as one is closed.
-use Rattle.std.proofs.Common.{◌≡◌, ℕ, zero, suc, ◌+◌, ◌≤◌, length, Bool, true, false, cond, List, [], ◌∷◌, ◌++◌, Option, Some, None, refl, sym, ap, subst, ◌∙◌}
+use Rattle.std.proofs.Common.{◌≡◌, ℕ, zero, suc, ◌+◌, ◌≤◌, length, true, false, cond, List, [], ◌∷◌, ◌++◌, Option, Some, None, refl, sym, ap, subst, ◌∙◌, arith}
 use Rattle.std.specs.Prelude.{is_some}
 use Rattle.std.specs.Option.{option_map}
+use Rattle.std.specs.Map.{values_of}
 use Rattle.slab.specs.Slab.{Slab, get}
 use Rattle.linked_ops.specs.declared.key.Key.{Key}
 use Rattle.linked_ops.specs.declared.node.Node.{Node}
 use Rattle.linked_ops.specs.declared.node.Opening.{Opening}
 use Rattle.linked_ops.specs.declared.numbers.Numbers.{Numbers}
 use Rattle.linked_ops.specs.Keys.{same_key}
-use Rattle.linked_ops.specs.Entries.{is_open, is_open_or_none, parent_of, children_of, closed, AreBehind}
-use Rattle.linked_ops.specs.Rows.{Row, has_key, has_number, has_place, found, first_gone, number_of, key_with, place_with, opening_with, above_in, entries, node_of, node_at, AreApart, same_place, with_one_number, with_one_key, IsBelow, AreBelow, AreRows}
+use Rattle.linked_ops.specs.Entries.{is_open, is_open_or_none, parent_of, children_of, closed, post_order_of, AreBehind}
+use Rattle.linked_ops.specs.Rows.{Row, has_key, has_number, has_place, found, first_gone, number_of, key_with, place_with, opening_with, above_in, entries, node_of, node_at, same_place, with_one_number, with_one_key, IsBelow, AreRows}
 use Rattle.linked_ops.specs.Numbers.{number_in}
 use Rattle.linked_ops.specs.Links.{Nodes, first_child_at, first_child_of, linked_in, unlinked_in}
-use Rattle.linked_ops.specs.Along.{keys_along}
+use Rattle.linked_ops.specs.Along.{keys_along, roots_told}
 use Rattle.linked_ops.specs.Kept.{IsKept, IsSame, IsEntered, AreGone, IsUnder}
 use Rattle.linked_ops.proofs.Behind.{opened, closed_forest}
 use Rattle.linked_ops.proofs.Places.{cases, taken, left_out}
 use Rattle.linked_ops.proofs.Found.{keys_are, no_some, passes, apart_snoc, apart_gone, none_made, place_itself, place_either, number_itself, number_either, key_itself, key_either}
 use Rattle.linked_ops.proofs.Linked.{IsPlaced, own_place, linked_is}
 use Rattle.linked_ops.proofs.Unlinked.{unlinked_is}
+use Rattle.linked_ops.proofs.TreeKeys.{roots}
 use Rattle.linked_ops.proofs.Listed.{open_is, inserted, numbered, unnumbered, key_numbered, parent_is_above, no_parent, childless, children_along, unchanged, entries_gone, numbers_gone, entries_snoc, numbers_snoc, below_snoc, below_gone, found_below}
 
 module _ (rows : List Row) (nodes : Slab Node) (numbers : Numbers) (made : ℕ) (kept : IsKept rows nodes numbers made) where
@@ -220,6 +222,11 @@ module _ (rows : List Row) (nodes : Slab Node) (numbers : Numbers) (made : ℕ) 
           ap (λ (o : Option Row). keys_along wanted left (first_child_of wanted (option_map (λ (r : Row). r.1.place) o))) y.2
           ∙ ap (λ (o : Option Row). keys_along wanted left (first_child_at (option_map (node_of rows) o))) (own_place rows apart.places apart.numbers (has_number n) y.0 y.2)
           ∙ children_along rows apart.places apart.numbers apart.keys key y.0 y.1 left l
+
+  pub trees_are : (told : List Key) → told ≡ roots_told (get nodes) rows (length rows) (values_of rows) → told ≡ post_order_of (entries rows)
+  trees_are told e =
+      e ∙ ap (λ (f : Nodes). roots_told f rows (length rows) (values_of rows)) nodes_are
+      ∙ roots rows apart.places apart.numbers apart.keys kept.forest rows [] (length rows) refl (omega arith)
 
   pub above_open : (above : Option Key) (u : Option ℕ) → IsUnder numbers above u → is_open_or_none above (entries rows) ≡ true
   above_open None u h = refl

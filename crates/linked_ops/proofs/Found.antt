@@ -1,8 +1,7 @@
 -- Finding rows, as one more is put at the end and as one is taken out.
-use Rattle.std.proofs.Common.{◌≡◌, ℕ, ◌+◌, ◌<◌, Bool, true, false, ◌||◌, cond, List, [], ◌∷◌, ◌++◌, Option, Some, None, refl, sym, ap, subst, ◌∙◌, arith}
+use Rattle.std.proofs.Common.{◌≡◌, ℕ, Bool, true, false, ◌||◌, cond, List, [], ◌∷◌, ◌++◌, Option, Some, None, refl, sym, ap, subst, ◌∙◌, arith}
 use Rattle.std.specs.Prelude.{nat_eq}
 use Rattle.std.specs.Ordering.{nat_cmp, is_eq}
-use Rattle.std.specs.Option.{option_map}
 use Rattle.std.specs.declared.cmp.Ordering.{Ordering}
 use Rattle.std.specs.declared.cmp.Ordering.TheVariants.{Less, Equal, Greater}
 use Rattle.std.specs.List.{list_any}
@@ -12,8 +11,8 @@ use Rattle.std.proofs.lemmas.Bool.{and_parts}
 use Rattle.std.proofs.lemmas.Bool.Decides.{Decides-int_eq}
 use Rattle.linked_ops.specs.declared.key.Key.{Key}
 use Rattle.linked_ops.specs.Keys.{same_bool, same_key}
-use Rattle.linked_ops.specs.Rows.{Row, same_number, is_number, has_key, has_number, has_place, is_child, found, first_gone, places_under, siblings, AreApart, same_place, with_one_number, with_one_key, IsBelow, AreBelow}
-use Rattle.linked_ops.proofs.Places.{cases, clash, not_true, turned, nat_is, nats_are, or_parts, or_later, or_now, or_true, taken, left_out, has, AreOnce, gone}
+use Rattle.linked_ops.specs.Rows.{Row, same_number, is_number, has_number, has_place, is_child, found, first_gone, places_under, AreApart, same_place, with_one_number, with_one_key, IsBelow, AreBelow}
+use Rattle.linked_ops.proofs.Places.{cases, not_true, turned, nat_is, nats_are, or_parts, or_later, or_now, taken, left_out, has, AreOnce, gone}
 
 -- ---- numbers and keys
 

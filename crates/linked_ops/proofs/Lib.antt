@@ -4,5 +4,6 @@ pub mod Found
 pub mod Linked
 pub mod Unlinked
 pub mod Listed
+pub mod TreeKeys
 pub mod Forests
 pub mod Steps

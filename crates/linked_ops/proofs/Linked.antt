@@ -1,14 +1,14 @@
 -- Linking a node follows the rows.
-use Rattle.std.proofs.Common.{◌≡◌, ℕ, Bool, true, false, ◌||◌, cond, List, [], ◌∷◌, ◌++◌, Option, Some, None, refl, sym, ap, subst, ◌∙◌}
+use Rattle.std.proofs.Common.{◌≡◌, ℕ, Bool, true, false, cond, List, [], ◌∷◌, ◌++◌, Option, Some, None, refl, sym, ap, subst, ◌∙◌}
 use Rattle.std.specs.Prelude.{nat_eq}
 use Rattle.std.specs.Option.{option_map}
 use Rattle.std.proofs.lemmas.List.{append-nil}
 use Rattle.linked_ops.specs.declared.key.Key.{Key}
 use Rattle.linked_ops.specs.declared.node.Node.{Node}
-use Rattle.linked_ops.specs.Rows.{Row, same_number, is_number, has_number, has_place, is_child, found, first_gone, place_with, places_under, siblings, first_of, last_of, behind, before, node_of, node_at, AreApart, same_place, with_one_number, AreBelow}
-use Rattle.linked_ops.specs.Links.{Nodes, is_place, with_next, with_previous, or_place, with_child, moved, without_child, last_child_at, last_child_of, changed, put_node, linked_in, taken_out, unlinked_in}
-use Rattle.linked_ops.proofs.Places.{cases, clash, not_true, both_ways, turned, nat_is, nats_are, taken, left_out, has, AreOnce, gone, last_snoc, first_snoc, last_is_there, behind_snoc, before_snoc, before_new, behind_new, behind_is_there, before_is_there, behind_gone, before_gone, first_gone_is, last_gone_is}
-use Rattle.linked_ops.proofs.Found.{numbers_are, number_is, numbers_turned, or_row, some_is, no_some, found_snoc, passes, under_snoc, own, found_gone, found_kept, place_itself, place_either, number_itself, number_either, under_once, under_is, under_none, under_gone, none_made, no_children}
+use Rattle.linked_ops.specs.Rows.{Row, same_number, is_number, has_number, has_place, is_child, found, place_with, places_under, siblings, first_of, last_of, behind, before, node_of, node_at, AreApart, same_place, with_one_number, AreBelow}
+use Rattle.linked_ops.specs.Links.{Nodes, is_place, with_next, or_place, with_child, last_child_at, last_child_of, linked_in}
+use Rattle.linked_ops.proofs.Places.{cases, not_true, both_ways, turned, nat_is, nats_are, taken, left_out, has, AreOnce, last_snoc, first_snoc, last_is_there, behind_snoc, before_snoc, before_new, behind_new}
+use Rattle.linked_ops.proofs.Found.{numbers_are, number_is, numbers_turned, or_row, some_is, no_some, found_snoc, passes, under_snoc, own, place_itself, place_either, number_itself, number_either, under_once, under_is, under_none, none_made, no_children}
 
 -- under the same number
 abbrev pub akin : Option ℕ → Option ℕ → Bool

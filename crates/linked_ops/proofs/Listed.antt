@@ -8,18 +8,17 @@ use Rattle.std.specs.Map.{lookup, remove_entry, values_of}
 use Rattle.std.specs.BTreeMap.{is_at, insert_entry}
 use Rattle.std.specs.Cmp.{nat_cmp_is}
 use Rattle.std.specs.declared.cmp.Ordering.{Ordering}
-use Rattle.std.specs.declared.cmp.Ordering.TheVariants.{Less, Equal, Greater}
-use Rattle.std.proofs.lemmas.List.{map-append, append-nil}
+use Rattle.std.specs.declared.cmp.Ordering.TheVariants.{Greater}
+use Rattle.std.proofs.lemmas.List.{map-append}
 use Rattle.linked_ops.specs.declared.key.Key.{Key}
 use Rattle.linked_ops.specs.declared.node.Opening.{Opening}
-use Rattle.linked_ops.specs.declared.node.Node.{Node}
 use Rattle.linked_ops.specs.Keys.{same_key, is_under}
 use Rattle.linked_ops.specs.Entries.{Entry, is_open, parent_of, children_of, orphaned, without, closed}
-use Rattle.linked_ops.specs.Rows.{Row, same_number, is_number, has_key, has_number, has_place, is_child, found, first_gone, number_of, key_with, place_with, opening_with, above_in, entries_among, entries, places_under, siblings, first_of, behind, node_of, node_at, AreApart, same_place, with_one_number, with_one_key, IsBelow, AreBelow}
+use Rattle.linked_ops.specs.Rows.{Row, same_number, is_number, has_key, has_number, has_place, is_child, found, first_gone, number_of, key_with, opening_with, above_in, entries_among, entries, places_under, siblings, first_of, behind, node_of, node_at, AreApart, same_place, with_one_number, with_one_key, IsBelow, AreBelow}
 use Rattle.linked_ops.specs.Links.{Nodes}
-use Rattle.linked_ops.specs.Along.{keys_along, reached, next_of, told}
-use Rattle.linked_ops.proofs.Places.{cases, clash, not_true, both_ways, turned, nat_is, nats_are, or_now, or_true, or_later, taken, left_out, has, AreOnce, behind_split}
-use Rattle.linked_ops.proofs.Found.{numbers_are, number_is, numbers_turned, keys_are, key_is, keys_turned, or_row, some_is, no_some, found_snoc, passes, own, none_passes, found_gone, found_kept, found_none, place_itself, place_either, number_itself, number_either, key_itself, key_either, under_once, under_is, under_none, none_made}
+use Rattle.linked_ops.specs.Along.{keys_along, next_of, told}
+use Rattle.linked_ops.proofs.Places.{cases, clash, not_true, both_ways, turned, nat_is, nats_are, or_now, or_true, taken, left_out, has, AreOnce, behind_split}
+use Rattle.linked_ops.proofs.Found.{numbers_are, numbers_turned, keys_are, key_is, keys_turned, or_row, some_is, no_some, found_snoc, passes, own, none_passes, found_gone, found_kept, found_none, number_itself, number_either, key_itself, key_either, under_once, under_is, under_none}
 
 abbrev key_of_row : Row → Key
 key_of_row r = r.1.key
@@ -187,7 +186,7 @@ module _ (rows : List Row) (places : AreApart same_place rows) (numbers : AreApa
         let a : K ≡ (front ++ b ∷ []) ++ bs = e ∙ sym (append_assoc front (b ∷ []) bs) in
         ap (told (g b)) (ap (keys_along g left) n ∙ along left (front ++ b ∷ []) bs a (omega arith))
 
-    under_key : (u : Option ℕ) → is_under k (key_with u rows) ≡ is_number y.0 u
+    pub under_key : (u : Option ℕ) → is_under k (key_with u rows) ≡ is_number y.0 u
     under_key None = refl
     under_key (Some m) = by_found (found (has_number m) rows) refl
       where

@@ -1,9 +1,8 @@
 -- What a forest keeps.
-use Rattle.std.specs.Prelude.{◌≡◌, ℕ, List, [], ◌∷◌, Option, Some, None, Result, Ok, Err, if◌then◌else◌}
+use Rattle.std.specs.Prelude.{◌≡◌, ℕ, List, Option, Some, None, Result, Ok, Err, if◌then◌else◌}
 use Rattle.std.specs.Ordering.{nat_cmp}
 use Rattle.std.specs.BTreeMap.{insert_entry}
 use Rattle.slab.specs.Slab.{Slab, get}
-use Rattle.osi_base.specs.declared.fault.NoMemory.{NoMemory}
 use Rattle.linked_ops.specs.declared.key.Key.{Key}
 use Rattle.linked_ops.specs.declared.node.Node.{Node}
 use Rattle.linked_ops.specs.declared.numbers.Numbers.{Numbers}

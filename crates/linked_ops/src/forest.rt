@@ -11,7 +11,7 @@ use crate::links::first_child;
 use crate::node::Node;
 use crate::numbers::Numbers;
 use crate::openings::{Openings, above, enter, entries, leave, place_with};
-use crate::rows;
+use crate::trees::all_keys;
 use osi_base::{ListOf, NoMemory};
 use slab::Slab;
 use std::alloc::Global;
@@ -25,8 +25,8 @@ pub type Keys = ListOf<Key>;
 pub type Entries = ListOf<(Key, Option<Key>)>;
 
 /// The open invocations of both ends, in order of opening: nodes in a slab, linked by places, which
-/// a key finds by the number of its opening. All calls but `post_order` and `entries` cost at most
-/// the logarithm of what is open, and what they answer.
+/// a key finds by the number of its opening. A call costs at most the logarithm of what is open, and
+/// what it answers; `post_order` and `entries` cost that logarithm for each key that they answer.
 #[derive(Drop)]
 pub struct Forest {
     alloc: Global,
@@ -158,9 +158,7 @@ impl Forest {
     pub fn post_order(&self) -> Result<Keys, NoMemory>
         ensures { IfOk result (λ keys. keys ≡ post_order_of self.now) }
     {
-        let list = entries(self.alloc, &self.openings)?;
-        let mut told = Vec::new(self.alloc);
-        rows::put_all(list.as_slice(), &mut told)?;
+        let told = all_keys(self.alloc, &self.nodes, &self.openings)?;
         Ok(ListOf::from_vec(told))
     }
 }

@@ -9,7 +9,7 @@ mod links;
 mod node;
 mod numbers;
 mod openings;
-mod rows;
+mod trees;
 
 pub use children::Children;
 pub use forest::{Entries, Forest, Keys};

@@ -9,11 +9,13 @@ use crate::key::Key;
 use crate::links::{link, unlink};
 use crate::node::{Node, Opening};
 use crate::numbers::Numbers;
-use crate::rows::Entry;
 use osi_base::NoMemory;
 use slab::Slab;
 use std::alloc::Global;
 use std::collections::BTreeMap;
+
+/// A key, and the key above it.
+pub(crate) type Entry = (Key, Option<Key>);
 
 /// The openings of the keys that are open, by their numbers.
 pub(crate) type Openings = BTreeMap<u64, Opening>;
@@ -26,7 +28,7 @@ fn opening(openings: &Openings, number: u64) -> Option<Opening>
 }
 
 /// The key with a number, where it is still open.
-fn key_with(openings: &Openings, number: Option<u64>) -> Option<Key>
+pub(crate) fn key_with(openings: &Openings, number: Option<u64>) -> Option<Key>
     ensures { result ≡ key_with number openings.now.entries }
 {
     match number {

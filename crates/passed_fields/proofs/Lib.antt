@@ -7,3 +7,4 @@ pub mod FieldsInside
 pub mod Fronts
 pub mod MoreTurns
 pub mod PlainFields
+pub mod FieldParts

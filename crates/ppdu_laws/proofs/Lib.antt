@@ -3,3 +3,5 @@ pub mod BackValues
 pub mod SaidBack
 pub mod SetBack
 pub mod UnitsBack
+pub mod KnownUnits
+pub mod KnownValues

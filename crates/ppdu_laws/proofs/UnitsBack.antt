@@ -107,7 +107,7 @@ opens_62 = refl
 
 -- ---- the parts of each row
 
-abbrev connect_parts : List Part
+abbrev pub connect_parts : List Part
 connect_parts = part (codes "version") 32 true ∷ part (codes "calling") 33 true ∷ part (codes "called") 34 true ∷ part (codes "definitions") 36 true ∷ part (codes "requirements") 39 true ∷ part (codes "session") 40 true ∷ part (codes "user") 16 true ∷ []
 
 abbrev connect_marks : List Bool
@@ -116,7 +116,7 @@ connect_marks = true ∷ true ∷ true ∷ true ∷ false ∷ true ∷ true ∷ 
 connect_are : AreParts connect_marks connect_fields connect_parts
 connect_are = (row_part (codes "version") Context 0 32 true opens_32 (omega arith), (row_part (codes "calling") Context 1 33 true opens_33 (omega arith), (row_part (codes "called") Context 2 34 true opens_34 (omega arith), (row_part (codes "definitions") Context 4 36 true opens_36 (omega arith), (refl, (row_part (codes "requirements") Context 8 39 true opens_39 (omega arith), (row_part (codes "session") Context 9 40 true opens_40 (omega arith), (user_part, tt))))))))
 
-abbrev accept_parts : List Part
+abbrev pub accept_parts : List Part
 accept_parts = part (codes "version") 32 true ∷ part (codes "responding") 35 true ∷ part (codes "results") 37 true ∷ part (codes "requirements") 39 true ∷ part (codes "session") 40 true ∷ part (codes "user") 16 true ∷ []
 
 abbrev accept_marks : List Bool
@@ -125,7 +125,7 @@ accept_marks = true ∷ true ∷ true ∷ true ∷ true ∷ true ∷ []
 accept_are : AreParts accept_marks accept_fields accept_parts
 accept_are = (row_part (codes "version") Context 0 32 true opens_32 (omega arith), (row_part (codes "responding") Context 3 35 true opens_35 (omega arith), (row_part (codes "results") Context 5 37 true opens_37 (omega arith), (row_part (codes "requirements") Context 8 39 true opens_39 (omega arith), (row_part (codes "session") Context 9 40 true opens_40 (omega arith), (user_part, tt))))))
 
-abbrev reject_parts : List Part
+abbrev pub reject_parts : List Part
 reject_parts = part (codes "version") 32 true ∷ part (codes "responding") 35 true ∷ part (codes "results") 37 true ∷ part (codes "default") 38 true ∷ part (codes "reason") 41 true ∷ part (codes "user") 16 true ∷ []
 
 abbrev reject_marks : List Bool
@@ -134,7 +134,7 @@ reject_marks = true ∷ true ∷ true ∷ true ∷ true ∷ true ∷ []
 reject_are : AreParts reject_marks reject_fields reject_parts
 reject_are = (row_part (codes "version") Context 0 32 true opens_32 (omega arith), (row_part (codes "responding") Context 3 35 true opens_35 (omega arith), (row_part (codes "results") Context 5 37 true opens_37 (omega arith), (row_part (codes "default") Context 7 38 true opens_38 (omega arith), (row_part (codes "reason") Context 10 41 true opens_41 (omega arith), (user_part, tt))))))
 
-abbrev alter_parts : List Part
+abbrev pub alter_parts : List Part
 alter_parts = part (codes "additions") 49 true ∷ part (codes "deletions") 50 true ∷ []
 
 abbrev alter_marks : List Bool
@@ -143,7 +143,7 @@ alter_marks = true ∷ true ∷ false ∷ []
 alter_are : AreParts alter_marks alter_fields alter_parts
 alter_are = (row_part (codes "additions") Context 0 49 true opens_49 (omega arith), (row_part (codes "deletions") Context 1 50 true opens_50 (omega arith), (refl, tt)))
 
-abbrev alter_ack_parts : List Part
+abbrev pub alter_ack_parts : List Part
 alter_ack_parts = part (codes "additions") 53 true ∷ part (codes "deletions") 54 true ∷ []
 
 abbrev alter_ack_marks : List Bool
@@ -152,7 +152,7 @@ alter_ack_marks = true ∷ true ∷ false ∷ []
 alter_ack_are : AreParts alter_ack_marks alter_ack_fields alter_ack_parts
 alter_ack_are = (row_part (codes "additions") Context 0 53 true opens_53 (omega arith), (row_part (codes "deletions") Context 1 54 true opens_54 (omega arith), (refl, tt)))
 
-abbrev restart_parts : List Part
+abbrev pub restart_parts : List Part
 restart_parts = part (codes "contexts") 57 true ∷ []
 
 abbrev restart_marks : List Bool
@@ -161,7 +161,7 @@ restart_marks = true ∷ false ∷ []
 restart_are : AreParts restart_marks restart_fields restart_parts
 restart_are = (row_part (codes "contexts") Context 0 57 true opens_57 (omega arith), (refl, tt))
 
-abbrev user_abort_parts : List Part
+abbrev pub user_abort_parts : List Part
 user_abort_parts = part (codes "contexts") 57 true ∷ part (codes "user") 16 true ∷ []
 
 abbrev user_abort_marks : List Bool
@@ -170,7 +170,7 @@ user_abort_marks = true ∷ true ∷ []
 user_abort_are : AreParts user_abort_marks user_abort_fields user_abort_parts
 user_abort_are = (row_part (codes "contexts") Context 0 57 true opens_57 (omega arith), (user_part, tt))
 
-abbrev provider_abort_parts : List Part
+abbrev pub provider_abort_parts : List Part
 provider_abort_parts = part (codes "reason") 61 false ∷ part (codes "event") 62 true ∷ []
 
 abbrev provider_abort_marks : List Bool

@@ -1,4 +1,3 @@
-use Rattle.std.proofs.Common.{◌∙◌, sym}
 use Rattle.slab.specs.Slab.{get}
 use Rattle.linked_ops.proofs.Steps.{updated, unlinked_by}
 use Rattle.linked_ops.proofs.links.unlink.Goals as goal

@@ -1,4 +1,4 @@
-use Rattle.std.proofs.Common.{◌≡◌, ℕ, Option, ap, sym, ◌∙◌}
+use Rattle.std.proofs.Common.{ℕ, Option, ap, sym, ◌∙◌}
 use Rattle.slab.specs.Slab.{get}
 use Rattle.linked_ops.specs.declared.node.Opening.{Opening}
 use Rattle.linked_ops.specs.Rows.{place_with}

@@ -1,4 +1,4 @@
-use Rattle.std.proofs.Common.{◌≡◌, ◌≤◌, length, ◌∙◌, sym, ap, arith}
+use Rattle.std.proofs.Common.{◌≤◌, length, ◌∙◌, ap, arith}
 use Rattle.slab.specs.Slab.{get}
 use Rattle.linked_ops.specs.Entries.{children_of}
 use Rattle.linked_ops.specs.Rows.{place_with}

@@ -1,5 +1,5 @@
-use Rattle.std.proofs.Common.{◌≡◌, true, false, None, refl, ap, sym, subst, ◌∙◌}
-use Rattle.std.specs.Prelude.{is_some, Option, ℕ, List, ◌++◌, ◌∷◌, []}
+use Rattle.std.proofs.Common.{◌≡◌, None, refl, ap, sym, ◌∙◌}
+use Rattle.std.specs.Prelude.{is_some, List, ◌++◌, ◌∷◌, []}
 use Rattle.linked_ops.specs.Entries.{Entry, is_open, is_open_or_none}
 use Rattle.linked_ops.specs.Numbers.{number_in}
 use Rattle.linked_ops.proofs.Forests.{open_numbered, none_numbered, above_open, opened_entries, opened_kept}
