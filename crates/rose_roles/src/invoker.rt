@@ -144,7 +144,7 @@ impl Invoker {
     }
 
     /// Closes an own invocation, if it is open.
-    fn close(&mut self, forest: &mut Forest, id: &i64)
+    pub fn close(&mut self, forest: &mut Forest, id: &i64)
         requires { AreOpen true forest.old self.old.kept }
         ensures closed { (performed : Kept) → calls_of forest.new self.new performed
             ≡ close true id.now (calls_of forest.old self.old performed) }

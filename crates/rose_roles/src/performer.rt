@@ -1,15 +1,15 @@
 //! The side that performs: what becomes of invocations.
 
-ghost use Rattle.std.specs.Prelude.{◌≡◌, ℕ, ℤ, not, ◌&&◌, nat_le, [], length, None, Some, true, false, IfOk, OnOk, OnErr};
+ghost use Rattle.std.specs.Prelude.{◌≡◌, ℕ, ℤ, List, not, ◌&&◌, nat_le, [], length, None, Some, true, false, IfOk, OnOk, OnErr};
 ghost use Rattle.std.specs.Option.{option_map};
 ghost use Rattle.stub_tables.specs.Lookup.{operation_at};
 ghost use Rattle.stub_tables.specs.Apdus.{placed, argument_of};
 ghost use Rattle.apdu_spelling.specs.declared.head.ApduKind.TheVariants as kinds;
-ghost use Rattle.linked_ops.specs.Entries.{is_open, is_open_or_none};
+ghost use Rattle.linked_ops.specs.Entries.{Entry, IsForest, is_open, is_open_or_none};
 ghost use Rattle.end_rules.specs.Base.{Base, Carried};
-ghost use Rattle.end_rules.specs.State.{close};
+ghost use Rattle.end_rules.specs.State.{close, opens_of};
 ghost use Rattle.end_rules.specs.Hearing.{opening, invoked, value_in, first_problem, problem_if};
-ghost use Rattle.rose_roles.specs.Calls.{Invoking, called, key_of, AreOpen, calls_of};
+ghost use Rattle.rose_roles.specs.Calls.{Kept, Invoking, called, key_of, AreOpen, calls_of, opens_in};
 ghost use Rattle.rose_roles.specs.Heads.{is_invocation, Carries};
 ghost use Rattle.rose_roles.specs.Judging.{silent, known_problem, early_problem, invoke_problem, IsJudged, IsFree};
 ghost use Rattle.rose_roles.specs.Hearing.{Hears, heard_with};
@@ -111,9 +111,12 @@ impl Performer {
         called(&self.kept, id)
     }
 
-    /// How many invocations of the peer are open.
+    /// How many invocations of the peer are open; so many keys of the peer stand in the forest.
     pub fn open_count(&self) -> usize
-        ensures { result ≡ length self.now.kept }
+        ensures count { result ≡ length self.now.kept }
+        ensures opens { (forest : List Entry) (invoked : Kept) → IsForest forest →
+            AreOpen false forest self.now.kept →
+            length (opens_of false (opens_in forest invoked self.now.kept)) ≡ result }
     {
         self.kept.len()
     }
@@ -213,7 +216,7 @@ impl Performer {
 
     /// Opens an invocation of the operation at this place, unless it is silent. Want of memory
     /// changes nothing.
-    fn admit(
+    pub fn admit(
         &mut self,
         forest: &mut Forest,
         tables: &Tables,

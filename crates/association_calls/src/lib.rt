@@ -1,0 +1,28 @@
+//! What may be called of one end of an association, and why not: the first row that fails decides.
+#![tactic(auto)]
+
+mod altering;
+mod in_use;
+mod invoking;
+mod marks;
+mod outcomes;
+mod rows;
+mod texts;
+mod transfers;
+mod units;
+
+pub use altering::can_alter;
+use dialogue::CallRefusal;
+pub use in_use::used;
+pub use invoking::{Making, check_invoke};
+pub use marks::{can_give, can_mark, can_please, can_restart, has_activity};
+pub use outcomes::{carrier_in, check_answer, check_refuse};
+pub use rows::check_phase;
+pub use transfers::{can_release, can_resume, can_stop, has_item};
+pub use units::{
+    has_activities, has_marks, has_restarts, has_token, has_typed_data, has_units, has_version_two,
+    manages_with, needed_units, proposed_units, selected_with,
+};
+
+/// The answer to a call.
+pub type Reply = Result<Option<i64>, CallRefusal>;

@@ -1,0 +1,193 @@
+//! Outcomes of invocations of the peer.
+
+ghost use Rattle.std.specs.Prelude.{◌≡◌, Some, None, IfOk, is_some};
+ghost use Rattle.std.specs.Option.{option_copied, option_map};
+ghost use Rattle.stub_tables.specs.Lookup.{operation_at, error_at};
+ghost use Rattle.end_rules.specs.State.{OpenCall, opened_with};
+ghost use Rattle.end_rules.specs.Invoking.{carrier_in, lacks_carrier, operation_of, result_apdu, error_apdu, can_send_outcome, can_answer_open, can_answer, can_refuse_open, can_refuse};
+ghost use Rattle.end_rules.specs.Requesting.{result_in, error_for};
+ghost use Rattle.open_invocations.specs.Invocations.{called_in};
+ghost use Rattle.association_state.specs.Seen.{base_in, seen};
+ghost use Rattle.association_calls.specs.Replies.{IsChecked};
+ghost use Rattle.association_calls.specs.Outcomes.{can_send_on, can_refuse_with};
+
+use crate::invoking::{is_queue_full, is_stopped};
+use crate::texts::is_too_long;
+use asn1_types::Val;
+use association_ground::is_direct;
+use association_sets::carrier;
+use association_state::{Body, Ground};
+use dialogue::CallRefusal;
+use osi_base::{Copied, NoMemory};
+use stub_tables::{Apdu, ErrorRow, Operation, Returned};
+
+/// The context on which what belongs to a context travels.
+pub fn carrier_in(basis: &Ground<'_>, body: &Body, context: u32) -> Option<u32>
+    ensures { result ≡ carrier_in (base_in basis.now) (seen body.now) context }
+{
+    carrier(
+        basis.tables.name_oid.arcs(),
+        body.sets.held.as_slice(),
+        &body.sets.own,
+        context,
+    )
+}
+
+/// Whether an outcome for a context has no context on which it travels.
+fn lacks_carrier(basis: &Ground<'_>, body: &Body, context: u32) -> bool
+    ensures { result ≡ lacks_carrier (base_in basis.now) (seen body.now) context }
+{
+    is_direct(basis.config.mode) && carrier_in(basis, body, context).is_none()
+}
+
+/// The APDU of a result.
+fn result_apdu(
+    basis: &Ground<'_>,
+    operation: &Operation,
+    id: &i64,
+    value: &Option<Val>,
+) -> Result<Apdu, NoMemory>
+    ensures { IfOk result (λ apdu. apdu ≡ result_apdu operation.now id.now value.now) }
+{
+    let returned = match value {
+        None => None,
+        Some(value) => Some(Returned {
+            code: operation.code.copy(basis.alloc)?,
+            value: value.copy(basis.alloc)?,
+        }),
+    };
+    Ok(Apdu::Result { id: *id, returned })
+}
+
+/// The APDU of an error.
+fn error_apdu(
+    basis: &Ground<'_>,
+    error: &ErrorRow,
+    id: &i64,
+    parameter: &Option<Val>,
+) -> Result<Apdu, NoMemory>
+    ensures { IfOk result (λ apdu. apdu ≡ error_apdu error.now id.now parameter.now) }
+{
+    Ok(Apdu::Error {
+        id: *id,
+        code: error.code.copy(basis.alloc)?,
+        parameter: parameter.copy(basis.alloc)?,
+    })
+}
+
+/// An outcome for a context, or why it may not be sent.
+fn check_outcome(
+    basis: &Ground<'_>,
+    body: &Body,
+    context: u32,
+    apdu: Apdu,
+) -> Result<Apdu, CallRefusal>
+    ensures { IsChecked (can_send_on (base_in basis.now) (seen body.now) context apdu) None
+        (Some apdu) result }
+{
+    if lacks_carrier(basis, body, context) {
+        return Err(CallRefusal::NoContext);
+    }
+    if is_too_long(basis, &apdu)? {
+        return Err(CallRefusal::TooLong);
+    }
+    if is_queue_full(basis, body) {
+        return Err(CallRefusal::QueueFull);
+    }
+    Ok(apdu)
+}
+
+/// The result of an operation that was invoked on a context, or why it may not be sent.
+fn check_result(
+    basis: &Ground<'_>,
+    body: &Body,
+    context: u32,
+    id: &i64,
+    operation: &Operation,
+    value: &Option<Val>,
+) -> Result<Apdu, CallRefusal>
+    ensures { (o : OpenCall) → o.context ≡ context →
+        IsChecked (can_answer_open (base_in basis.now) (seen body.now) id.now (Some o)
+        (Some operation.now) value.now) None (Some (result_apdu operation.now id.now value.now))
+        result }
+{
+    if !operation.returns {
+        return Err(CallRefusal::NotAllowed);
+    }
+    if !operation.result.carries(&basis.tables.types, value) {
+        return Err(CallRefusal::NotTyped);
+    }
+    let apdu = result_apdu(basis, operation, id, value)?;
+    check_outcome(basis, body, context, apdu)
+}
+
+/// The result of an open invocation of the peer, or why it may not be sent.
+pub fn check_answer(
+    basis: &Ground<'_>,
+    body: &Body,
+    id: &i64,
+    value: &Option<Val>,
+) -> Result<Apdu, CallRefusal>
+    ensures { IsChecked (can_answer (base_in basis.now) (seen body.now) id.now value.now) None
+        (result_in (base_in basis.now) (seen body.now) id.now value.now) result }
+{
+    if is_stopped(basis, body) {
+        return Err(CallRefusal::Waiting);
+    }
+    let Some(called) = body.calls.called(false, id) else {
+        return Err(CallRefusal::NoInvocation(*id));
+    };
+    let Some(operation) = basis.tables.operation(called.operation) else {
+        return Err(CallRefusal::NoInvocation(*id));
+    };
+    check_result(basis, body, called.context, id, operation, value)
+}
+
+/// An error of an operation that was invoked on a context, or why it may not be sent.
+fn check_error(
+    basis: &Ground<'_>,
+    body: &Body,
+    context: u32,
+    id: &i64,
+    error: &ErrorRow,
+    parameter: &Option<Val>,
+) -> Result<Apdu, CallRefusal>
+    ensures { (o : OpenCall) → o.context ≡ context →
+        IsChecked (can_refuse_with (base_in basis.now) (seen body.now) id.now o error.now
+        parameter.now) None (Some (error_apdu error.now id.now parameter.now)) result }
+{
+    if !error.parameter.carries(&basis.tables.types, parameter) {
+        return Err(CallRefusal::NotTyped);
+    }
+    let apdu = error_apdu(basis, error, id, parameter)?;
+    check_outcome(basis, body, context, apdu)
+}
+
+/// The error of an open invocation of the peer, or why it may not be sent.
+pub fn check_refuse(
+    basis: &Ground<'_>,
+    body: &Body,
+    id: &i64,
+    place: u32,
+    parameter: &Option<Val>,
+) -> Result<Apdu, CallRefusal>
+    ensures { IsChecked (can_refuse (base_in basis.now) (seen body.now) id.now place parameter.now)
+        None (error_for id.now parameter.now (error_at basis.now.tables.now place)) result }
+{
+    if is_stopped(basis, body) {
+        return Err(CallRefusal::Waiting);
+    }
+    let Some(called) = body.calls.called(false, id) else {
+        return Err(CallRefusal::NoInvocation(*id));
+    };
+    let Some(operation) = basis.tables.operation(called.operation) else {
+        return Err(CallRefusal::NoInvocation(*id));
+    };
+    let Some(error) = basis.tables.error(place) else {
+        return Err(CallRefusal::UnknownError);
+    };
+    if !operation.has_error(place) {
+        return Err(CallRefusal::NotAllowed);
+    }
+    check_error(basis, body, called.context, id, error, parameter)
+}

@@ -1,0 +1,6 @@
+use Rattle.std.proofs.Common.{◌≡◌, drop}
+use Rattle.end_rules.specs.State.{highest}
+use Rattle.association_pieces.proofs.pieces.highest_in.Given as goal
+
+abbrev pub invariant-loop-place : goal.invariant-loop-place
+invariant-loop-place l = highest (drop l.place l.stack) ≡ highest l.stack

@@ -1,0 +1,6 @@
+use Rattle.std.proofs.Common.{◌≡◌, reverse, take}
+use Rattle.end_rules.specs.State.{joined}
+use Rattle.association_pieces.proofs.pieces.join.Given as goal
+
+abbrev pub invariant-loop-piece : goal.invariant-loop-piece
+invariant-loop-piece l = l.octets ≡ joined (reverse (take l.piece-index l.pieces))

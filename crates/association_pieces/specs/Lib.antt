@@ -1,0 +1,6 @@
+pub mod Ends
+pub mod Nodes
+pub mod Pieces
+pub mod Link
+pub mod Sending
+pub mod Seen

@@ -1,0 +1,124 @@
+//! The association and its connection.
+
+ghost use Rattle.std.specs.Prelude.{◌≡◌};
+ghost use Rattle.end_rules.specs.State.{is_free, is_unused, is_asked, is_joined, is_carrying, is_restarting};
+ghost use Rattle.association_pieces.specs.Link.{seen_stage, seen_awaited};
+
+use dialogue::Phase;
+use osi_base::{Octets, SetList};
+
+/// How far the transport connection is (X.224 6.5).
+#[derive(Clone, Copy, Debug, PartialEq, Eq)]
+pub enum Stage {
+    /// Nothing went over it.
+    Unused,
+    /// CR was sent or taken.
+    Asked,
+    /// CC was.
+    Joined,
+    /// CN was.
+    Carrying,
+}
+
+/// The own request that isn't answered yet and stops all else (X.225 7.24, 7.31, 7.33).
+#[derive(Clone, Copy, Debug, PartialEq, Eq)]
+pub enum Awaited {
+    NoAnswer,
+    /// RS with this number.
+    RestartOf(u32),
+    /// AI.
+    InterruptOf,
+    /// AD.
+    DiscardOf,
+    /// FN.
+    ReleaseOf,
+}
+
+/// The association and its connection.
+#[derive(Debug, Drop)]
+pub struct Link {
+    pub phase: Phase,
+    pub stage: Stage,
+    /// The functional units selected: the session requirements that both ends have (X.225
+    /// 8.3.1.16).
+    pub selected: u16,
+    /// Context management and restoration are selected (X.226 6.3).
+    pub manages: bool,
+    /// The minor token in direct mode, all tokens in reliable mode.
+    pub turn: bool,
+    /// A giving of all tokens isn't confirmed.
+    pub gave: bool,
+    pub awaits: Awaited,
+    /// The contexts that were accepted on this connection.
+    pub accepted: SetList,
+    /// The references of the CN that opened the association.
+    pub reference: Option<Octets>,
+    pub common: Option<Octets>,
+    /// Agreed for transfers (X.228 8.1).
+    pub checkpoint: u32,
+    pub window: u32,
+}
+
+impl Awaited {
+    /// Whether nothing is awaited.
+    pub fn is_free(self) -> bool
+        ensures { result ≡ is_free (seen_awaited self) }
+    {
+        match self {
+            Awaited::NoAnswer => true,
+            _ => false,
+        }
+    }
+
+    /// Whether a restart is.
+    pub fn is_restarting(self) -> bool
+        ensures { result ≡ is_restarting (seen_awaited self) }
+    {
+        match self {
+            Awaited::RestartOf(_) => true,
+            _ => false,
+        }
+    }
+}
+
+impl Stage {
+    /// Whether nothing went over the connection.
+    pub fn is_unused(self) -> bool
+        ensures { result ≡ is_unused (seen_stage self) }
+    {
+        match self {
+            Stage::Unused => true,
+            _ => false,
+        }
+    }
+
+    /// Whether CR went over it, and nothing else.
+    pub fn is_asked(self) -> bool
+        ensures { result ≡ is_asked (seen_stage self) }
+    {
+        match self {
+            Stage::Asked => true,
+            _ => false,
+        }
+    }
+
+    /// Whether CC went over it, and nothing behind it.
+    pub fn is_joined(self) -> bool
+        ensures { result ≡ is_joined (seen_stage self) }
+    {
+        match self {
+            Stage::Joined => true,
+            _ => false,
+        }
+    }
+
+    /// Whether CN went over it.
+    pub fn is_carrying(self) -> bool
+        ensures { result ≡ is_carrying (seen_stage self) }
+    {
+        match self {
+            Stage::Carrying => true,
+            _ => false,
+        }
+    }
+}

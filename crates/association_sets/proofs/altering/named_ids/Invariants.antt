@@ -1,0 +1,6 @@
+use Rattle.std.proofs.Common.{◌≡◌, ◌++◌, drop}
+use Rattle.end_rules.specs.Sets.{named_ids}
+use Rattle.association_sets.proofs.altering.named_ids.Given as goal
+
+abbrev pub invariant-loop-id : goal.invariant-loop-id
+invariant-loop-id l = l.ids ++ drop l.id-index l.id-items ≡ named_ids l.alteration

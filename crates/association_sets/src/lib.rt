@@ -1,0 +1,19 @@
+//! Sets of presentation contexts, and what alters them: the rules of one end over lists.
+#![tactic(auto)]
+
+mod alteration;
+mod altering;
+mod asking;
+mod fitting;
+mod restored;
+mod sets;
+
+pub use alteration::Alteration;
+pub use altering::{accepted_set, alter, named_ids, proposed_ids};
+pub use asking::{count_added, has_double, has_parity, is_bad, is_deleted_in, is_named_in};
+pub use fitting::{fit_alteration, fit_proposals, is_listed};
+pub use restored::{listed, same_lists};
+pub use sets::{
+    carrier, copy_set, has_abstract, has_name, is_fixed, lowest_with, may_send, pair_of, put,
+    without_context,
+};
