@@ -16,4 +16,4 @@ mod writing;
 pub use fault::SFault;
 pub use places::{UserPlaces, user_places};
 pub use reading::read_spdus;
-pub use writing::write_spdus;
+pub use writing::{units_written, write_spdus};

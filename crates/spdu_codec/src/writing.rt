@@ -242,8 +242,9 @@ fn push_unit(alloc: Global, out: &mut Octets, word: &SessionWord) -> Result<(), 
     push_information(out, word)
 }
 
-/// The octets of session units, wherever they may stand.
-pub(crate) fn units_written(alloc: Global, spdus: &Spdus) -> Result<Octets, NoMemory>
+/// The octets of session units as `write_spdus` writes them, also where they may not stand so or a
+/// field isn't one that is read. `NoMemory` where memory runs out.
+pub fn units_written(alloc: Global, spdus: &Spdus) -> Result<Octets, NoMemory>
     ensures { IfOk result (λ octets. octets ≡ units_written spdus.now) }
 {
     let mut out = Octets::new(alloc);

@@ -1,0 +1,7 @@
+//! The fixed tables by which the octets of an association are written and read, made once for an
+//! end.
+#![tactic(auto)]
+
+mod codecs;
+
+pub use codecs::Codecs;

@@ -1,0 +1,10 @@
+//! What comes on a connection in direct and reliable mode: octets in any cutting, and what stands
+//! first in them.
+#![tactic(auto)]
+
+mod front;
+mod intake;
+mod packets;
+
+pub use front::Front;
+pub use intake::Intake;

@@ -1,0 +1,63 @@
+//! Presentation data values, as they are meant (X.226 8.4.2, X.227 9, X.228 9, X.880 9).
+
+use osi_base::{Acse, ListOf, Octets, Pair, Rtse};
+use stub_tables::Apdu;
+
+/// An item of the user information of an APDU of association control (X.227 9, X.228 9).
+#[derive(Debug, Drop)]
+pub enum Information {
+    /// An APDU of reliable transfer on the context with this identifier.
+    Transferring { id: u32, apdu: Rtse },
+    /// Octets on the context with this identifier, which aren't read.
+    Other { id: u32, octets: Octets },
+}
+
+/// User information in its order.
+pub type UserInformation = ListOf<Information>;
+
+/// What a presentation data value is.
+#[derive(Debug, Drop)]
+pub enum Content {
+    /// An APDU of remote operations.
+    Remote(Apdu),
+    /// Octets of the module's abstract syntax that spell no APDU.
+    Unread(Octets),
+    /// An APDU of association control, whose own user information is left empty, and its user
+    /// information.
+    Association { apdu: Acse, user: UserInformation },
+    /// A plea for the turn, with its priority.
+    Plea { priority: u32 },
+    /// A part of a transfer.
+    Part(Octets),
+}
+
+/// A presentation data value (X.226 8.4.2).
+#[derive(Debug, Drop)]
+pub struct Value {
+    /// The identifier of its context.
+    pub id: u32,
+    /// The pair that the identifier stands for; `None` on a context that isn't there.
+    pub pair: Option<Pair>,
+    /// What it is.
+    pub content: Content,
+}
+
+/// Presentation data values in their order.
+pub type Values = ListOf<Value>;
+
+/// An APDU on a context, with the pair under which it is written or was read.
+#[derive(Debug, Drop)]
+pub struct Item {
+    pub id: u32,
+    pub pair: Pair,
+    pub apdu: Apdu,
+}
+
+/// What a transfer holds.
+#[derive(Debug, Drop)]
+pub enum Arrived {
+    /// An APDU.
+    Whole(Item),
+    /// Octets on a context of the module that spell none.
+    Raw { id: u32, pair: Pair, octets: Octets },
+}

@@ -1,0 +1,178 @@
+//! Messages: what the units of the transport, the session and the presentation say, without their
+//! octets. User data of the words of the layers are left empty: what they mean stands beside them.
+
+use crate::values::Values;
+use osi_base::{
+    Answers, Ids, Octets, PresentationAccept, PresentationConnect, PresentationReject, Proposals,
+    RestoredList, SessionConnect,
+};
+
+/// A transport unit (X.224 13.3 to 13.6, 13.12).
+#[derive(Debug, Drop)]
+pub enum TransportUnit {
+    /// CR: the reference of the end that asks, the code of the size of a unit, and selectors.
+    ConnectionRequest {
+        source: u16,
+        size: Option<u8>,
+        calling: Octets,
+        called: Octets,
+    },
+    /// CC: the reference of the end that asked, and the code of the size.
+    ConnectionConfirm {
+        destination: u16,
+        size: Option<u8>,
+    },
+    /// DR, with the reference of the end that it goes to.
+    DisconnectRequest {
+        destination: u16,
+    },
+    /// ER.
+    TransportError,
+}
+
+/// The parameters of an ACCEPT (X.225 8.3.4).
+#[derive(Clone, Copy, Debug, PartialEq, Eq)]
+pub struct Accepting {
+    /// Protocol options (19).
+    pub options: Option<u8>,
+    /// Version number (22).
+    pub version: Option<u8>,
+    /// Initial serial number (23).
+    pub initial: Option<u32>,
+    /// Session user requirements (20).
+    pub requirements: Option<u16>,
+}
+
+/// What an ABORT carries (X.225 8.3.9, X.226 8.2.4, 8.2.5).
+#[derive(Debug, Drop)]
+pub enum AbortData {
+    NoData,
+    /// The reason of the provider of the presentation. A reason below 0 counts as 0.
+    ProviderReason { reason: Option<i64> },
+    /// Values of the user.
+    UserValues(Values),
+}
+
+/// A word of the association (X.225 8.3.1, 8.3.4 to 8.3.10).
+#[derive(Debug, Drop)]
+pub enum AssociationWord {
+    /// CN with CP.
+    Connect {
+        session: SessionConnect,
+        presentation: PresentationConnect,
+        values: Values,
+    },
+    /// AC with CPA.
+    Accept {
+        session: Accepting,
+        presentation: PresentationAccept,
+        values: Values,
+    },
+    /// RF with CPR: transport disconnect, and the code of the reason.
+    Refuse {
+        transport: Option<u8>,
+        reason: Option<u8>,
+        presentation: Option<PresentationReject>,
+        values: Values,
+    },
+    /// FN: transport disconnect.
+    Finish {
+        transport: Option<u8>,
+        values: Values,
+    },
+    /// DN.
+    Disconnect {
+        values: Values,
+    },
+    /// AB with ARU, ARP or nothing: transport disconnect.
+    Abort {
+        transport: Option<u8>,
+        user: AbortData,
+    },
+    /// AA.
+    AbortAccept,
+}
+
+/// Values, and alterations in typed data (X.225 8.3.11, 8.3.13; X.226 8.4.1 to 8.4.3).
+#[derive(Debug, Drop)]
+pub enum DataWord {
+    /// DT.
+    Values(Values),
+    /// TD with AC.
+    AlterContext { add: Proposals, delete: Ids },
+    /// TD with ACA.
+    AlterContextAck { answers: Answers },
+}
+
+/// Marks, restarts and tokens (X.225 8.3.16 to 8.3.25).
+#[derive(Debug, Drop)]
+pub enum MarkWord {
+    /// MIP.
+    Mark {
+        number: u32,
+    },
+    /// MIA.
+    MarkAck {
+        number: u32,
+    },
+    /// RS.
+    Restart {
+        number: u32,
+        list: Option<RestoredList>,
+    },
+    /// RA.
+    RestartAck {
+        number: u32,
+        list: Option<RestoredList>,
+    },
+    /// GT.
+    Give {
+        tokens: Option<u8>,
+    },
+    /// PT.
+    Please {
+        tokens: Option<u8>,
+        values: Values,
+    },
+    /// GTC.
+    GiveConfirm,
+    /// GTA.
+    GiveAck,
+}
+
+/// Activities (X.225 8.3.29 to 8.3.36).
+#[derive(Debug, Drop)]
+pub enum ActivityWord {
+    /// AS.
+    Start { activity: u32 },
+    /// AR, with the number of the mark.
+    Resume { activity: u32, mark: u32 },
+    /// AE.
+    End { number: u32 },
+    /// AEA.
+    EndAck { number: u32 },
+    /// AI.
+    Interrupt { reason: Option<u8> },
+    /// AIA.
+    InterruptAck,
+    /// AD.
+    Discard { reason: Option<u8> },
+    /// ADA.
+    DiscardAck,
+}
+
+/// One unit of the session with what it carries.
+#[derive(Debug, Drop)]
+pub enum Word {
+    OfAssociation(AssociationWord),
+    OfData(DataWord),
+    OfMarks(MarkWord),
+    OfActivities(ActivityWord),
+}
+
+/// A message: a transport unit, or one unit of the session.
+#[derive(Debug, Drop)]
+pub enum Message {
+    Transport(TransportUnit),
+    Session(Word),
+}

@@ -1,0 +1,12 @@
+//! The octets of messages of an association: values in units of the presentation, in units of the
+//! session, in packets.
+#![tactic(auto)]
+
+mod message;
+mod session;
+mod transport;
+mod units;
+mod values;
+
+pub use message::{write_message, write_tsdu_of};
+pub use values::{write_content, write_item, write_value};

@@ -1,0 +1,4 @@
+pub mod MissingBer
+pub mod MissingPacked
+pub mod Missing
+pub mod Saying

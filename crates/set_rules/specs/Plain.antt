@@ -1,0 +1,19 @@
+-- A base whose spellings nothing asks for.
+use Rattle.std.specs.Prelude.{ℕ, List, [], Bool, not, ◌||◌, is_some, Err}
+use Rattle.osi_base.specs.declared.words.SetItem.{SetItem}
+use Rattle.stub_tables.specs.declared.tables.Tables.{Tables}
+use Rattle.dialogue.specs.declared.config.Config.{Config}
+use Rattle.end_rules.specs.Base.{Base, Spellings, BadReject, base_of}
+use Rattle.end_rules.specs.Sets.{pair_of, has_parity}
+use Rattle.end_rules.specs.Faults.{rtse_fault}
+
+abbrev pub no_spellings : Spellings
+no_spellings =
+    record { apdu = λ syntax apdu. []; head = λ syntax octets. BadReject; transfer = λ item. []; arrived = λ set octets. Err rtse_fault }
+
+abbrev pub plain_base : Tables → Config → Base
+plain_base tables config = base_of tables config no_spellings
+
+-- the identifier is in the set, or of the other end
+abbrev pub is_taken_id : Bool → List SetItem → ℕ → Bool
+is_taken_id initiates held k = is_some (pair_of held k) || not (has_parity initiates k)

@@ -1,0 +1,11 @@
+//! How an end answers proposed contexts, and which contexts stand as an opening is answered.
+#![tactic(auto)]
+
+mod answering;
+mod opening;
+
+pub use answering::answers_to_additions;
+pub use opening::{
+    accepted_for, has_context_of, is_faulty_proposal, opening_policy, proposals, set_accepted,
+    set_for,
+};
