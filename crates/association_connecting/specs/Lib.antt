@@ -1,0 +1,4 @@
+pub mod Associated
+pub mod Agreed
+pub mod Joined
+pub mod Terms

@@ -1,0 +1,14 @@
+//! What becomes of an APDU of remote operations that an end takes on a context: what it shows, what
+//! it opens and closes, which reject it brings (X.880 9, X.882 9).
+#![tactic(auto)]
+
+mod apdus;
+mod invocations;
+mod outcomes;
+mod problems;
+mod unread;
+mod values;
+
+pub use apdus::hear_apdu;
+pub use unread::hear_unread;
+pub use values::{data_on, queueing, take_value, take_values};

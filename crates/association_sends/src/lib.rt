@@ -1,0 +1,16 @@
+//! The messages that one end of an association writes, with all their fields.
+#![tactic(auto)]
+
+mod aborts;
+mod answers;
+mod opening;
+mod tokens;
+mod values;
+
+pub use aborts::{abort_of, provider_abort, session_abort, user_abort};
+pub use answers::{
+    Response, accept_message, disconnect_message, finish_message, provider_refusal, refuse_message,
+};
+pub use opening::{connect_message, connection_data, connection_request};
+pub use tokens::{give_message, pair_copied, part_message, please_message};
+pub use values::{acse_context, acse_value, information, rtse_context};
