@@ -1,17 +1,18 @@
 -- The laws of two ends of reliable mode where APDUs and transfers are spelled by the codecs. Of the tables it is asked that they
 -- are those of a module with a name of its own, and of the configurations that no end refuses them.
-use Rattle.std.specs.Prelude.{◌≡◌, List, ◌∷◌, true, None, Some, Ok}
+use Rattle.std.specs.Prelude.{◌≡◌, List, ◌∷◌, true, false, None, Some, Ok}
 use Rattle.dialogue.specs.declared.config.Config.{Config}
 use Rattle.dialogue.specs.declared.config.Mode.TheVariants.{Reliable}
 use Rattle.dialogue.specs.declared.indication.Indication.{Indication}
 use Rattle.stub_tables.specs.declared.tables.Tables.{Tables}
 use Rattle.end_rules.specs.Base.{Fault, Item, Whole}
+use Rattle.end_rules.specs.Cases.{calc, config_of}
 use Rattle.end_rules.specs.Messages.{Message}
 use Rattle.end_rules.specs.State.{Body, holds_turn}
 use Rattle.end_rules.specs.Sets.{pair_of}
 use Rattle.end_rules.specs.TakesActivities.{arrived_now}
 use Rattle.end_rules.specs.Reacting.{Fails, react}
-use Rattle.end_config.specs.Refusing.{config_refusal}
+use Rattle.end_config.specs.Refusing.{config_refusal, early_refusal}
 use Rattle.agreement.specs.Sets.{Role, other}
 use Rattle.agreement.specs.Sets.Role.{Initiator}
 use Rattle.agreement.specs.Laws.{AreFalling}
@@ -88,3 +89,8 @@ ReliableEndsTellAnswers =
     (tables : Tables) (a b : Config) → IsModule tables → IsOwnName tables.name_oid → IsReliable a → IsReliable b →
     (two : Two) (ledger : Ledger) (dealings : Dealings) → Deals (reliable_ends tables a b) two ledger dealings →
     (role : Role) → AreAnswers tables (dealt_of (other role) dealings).wrote (dealt_of role dealings).shown
+
+-- These premises are met: by a module of two operations, with a context that each end may have in reliable mode. That the CP of the
+-- initiator's configuration isn't too long isn't computed here.
+abbrev pub PremisesAreMet : Type 0
+PremisesAreMet = IsModule calc × IsOwnName calc.name_oid × IsReliable (config_of false Reliable) × (early_refusal (config_of true Reliable) ≡ None)

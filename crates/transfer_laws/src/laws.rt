@@ -3,7 +3,8 @@
 ghost use Rattle.transfer_laws.specs.Laws.{ReliableEndsAreModelled, ReliableEndsArriveOnce};
 ghost use Rattle.transfer_laws.specs.Laws.{ReliableEndsArriveWhole, ReliableEndsHaveOneHolder};
 ghost use Rattle.transfer_laws.specs.Laws.{ReliableEndsKeepItems, ReliableEndsTake};
-ghost use Rattle.transfer_laws.specs.Laws.{ReliableEndsTakeAsSent, ReliableEndsTellAnswers};
+ghost use Rattle.transfer_laws.specs.Laws.{PremisesAreMet, ReliableEndsTakeAsSent};
+ghost use Rattle.transfer_laws.specs.Laws.{ReliableEndsTellAnswers};
 
 /// Whatever two ends of reliable mode reach, through openings, transfers, interrupts, discards,
 /// resumptions, the turn, alterations, releases, aborts, breaks and recoveries, there is a run of
@@ -36,4 +37,10 @@ pub fn reliable_ends_take_as_sent()
 /// Each outcome that an end of reliable mode is told is an APDU that the other end wrote.
 pub fn reliable_ends_tell_answers()
     ensures law { ReliableEndsTellAnswers }
+{}
+
+/// The premises of these laws are met, but for the length of the CP, which the tests of `end_config`
+/// see.
+pub fn premises_are_met()
+    ensures law { PremisesAreMet }
 {}

@@ -6,6 +6,7 @@
 mod laws;
 
 pub use laws::{
-    reliable_ends_are_modelled, reliable_ends_have_one_holder, reliable_ends_take_as_sent,
-    reliable_ends_tell_answers, reliable_ends_transfer_whole_at_most_once,
+    premises_are_met, reliable_ends_are_modelled, reliable_ends_have_one_holder,
+    reliable_ends_take_as_sent, reliable_ends_tell_answers,
+    reliable_ends_transfer_whole_at_most_once,
 };

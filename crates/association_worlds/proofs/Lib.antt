@@ -1,0 +1,5 @@
+pub mod Streams
+pub mod Kept
+pub mod Heard
+pub mod Calm
+pub mod Said

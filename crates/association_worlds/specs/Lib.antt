@@ -1,0 +1,4 @@
+pub mod Lines
+pub mod Worlds
+pub mod Ways
+pub mod Laws

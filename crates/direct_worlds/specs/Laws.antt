@@ -1,0 +1,36 @@
+-- Two ends of direct mode with the codecs whose lines are octets.
+use Rattle.std.specs.Prelude.{◌≡◌, List, true, Some}
+use Rattle.dialogue.specs.declared.config.Config.{Config}
+use Rattle.dialogue.specs.declared.indication.Indication.{Indication}
+use Rattle.stub_tables.specs.declared.tables.Tables.{Tables}
+use Rattle.stub_tables.specs.Readable.{IsReadable}
+use Rattle.end_rules.specs.Base.{Fault}
+use Rattle.end_rules.specs.Messages.{Message}
+use Rattle.end_rules.specs.State.{Body, holds_turn}
+use Rattle.end_rules.specs.Reacting.{Fails}
+use Rattle.agreement.specs.Sets.{Role}
+use Rattle.end_model.specs.Pairs.{Common, base_at}
+use Rattle.association_reading.specs.Front.{Intake, first_in}
+use Rattle.association_reading.specs.Reacting.{react_to}
+use Rattle.association_worlds.specs.Worlds.{Ends, end_at, Spoken}
+use Rattle.association_worlds.specs.Laws.{IsSaid, IsSpelled}
+use Rattle.end_laws.specs.Codecs.{Transfers, direct_ends, IsDirect}
+
+abbrev pub EverInWorlds : (Common → Ends → Type 0) → Type 0
+EverInWorlds Law =
+    (tables : Tables) (transfers : Transfers) (a b : Config) → IsReadable tables → IsDirect a → IsSaid (direct_ends tables transfers a b) →
+    (ends : Ends) → Spoken (direct_ends tables transfers a b) ends → Law (direct_ends tables transfers a b) ends
+
+abbrev pub DirectWorldsAreSpelled : Type 0
+DirectWorldsAreSpelled = EverInWorlds IsSpelled
+
+-- Neither finds a fault in what came.
+abbrev pub DirectWorldsNeverFail : Type 0
+DirectWorldsNeverFail =
+    EverInWorlds (λ common ends.
+    (role : Role) (intake : Intake) (fault : Fault) (body : Body) (aborts : List Message) (shown : List Indication) →
+    (end_at role ends).line.came ≡ Some intake → react_to (base_at role common) (end_at role ends).body (first_in intake) ≡ Some (Fails fault body aborts shown) → ⊥)
+
+-- One holder: at no moment do both ends hold the turn.
+abbrev pub DirectWorldsHaveOneHolder : Type 0
+DirectWorldsHaveOneHolder = EverInWorlds (λ common ends. holds_turn ends.a.body ≡ true → holds_turn ends.b.body ≡ true → ⊥)

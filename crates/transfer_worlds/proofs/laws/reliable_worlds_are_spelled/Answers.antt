@@ -1,0 +1,10 @@
+use Rattle.transfer_worlds.proofs.Spoken as worlds
+use Rattle.transfer_worlds.proofs.laws.reliable_worlds_are_spelled.Goals as goal
+
+pub returns : goal.returns
+returns c =
+    record {
+      spelled = worlds.worlds-spelled c.said_is_meant.ensures.law;
+      calm = worlds.worlds-calm c.said_is_meant.ensures.law;
+      holder = worlds.worlds-one_holder c.said_is_meant.ensures.law;
+    }

@@ -1,0 +1,16 @@
+//! Each law is the contract of a function that does nothing.
+
+ghost use Rattle.transfer_worlds.specs.Laws.{ReliableWorldsAreSpelled, ReliableWorldsHaveOneHolder, ReliableWorldsNeverFail};
+
+use association_worlds::said_is_meant;
+
+/// Two ends of reliable mode with the codecs whose lines are octets: what they reach they reach by
+/// the messages that these octets are; no end finds a fault in what comes; at no moment do both
+/// hold the turn.
+pub fn reliable_worlds_are_spelled()
+    ensures spelled { ReliableWorldsAreSpelled }
+    ensures calm { ReliableWorldsNeverFail }
+    ensures holder { ReliableWorldsHaveOneHolder }
+{
+    said_is_meant();
+}
