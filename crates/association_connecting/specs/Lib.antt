@@ -1,4 +1,0 @@
-pub mod Associated
-pub mod Agreed
-pub mod Joined
-pub mod Terms

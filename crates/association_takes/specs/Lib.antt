@@ -1,2 +1,0 @@
-pub mod Pleas
-pub mod Acts
