@@ -1,0 +1,281 @@
+//! APDUs of association control (X.227 9) by the octets that are worked out: each is read and written
+//! back, with fields that are passed over left out, and each fault stands where it should.
+
+use acse::{AcseFault, read_acse, write_acse};
+use osi_base::{Acse, Diagnostic, External, Kind, NoMemory};
+use std::alloc::Global;
+use std::test::*;
+use worked_octets::octets_of;
+
+/// Whether the APDU of these octets is written as those.
+fn is_written(alloc: Global, text: &str, to: &str) -> Result<bool, NoMemory> {
+    let octets = octets_of(alloc, text)?;
+    let wanted = octets_of(alloc, to)?;
+    match read_acse(alloc, octets.as_slice()) {
+        Ok(apdu) => {
+            let written = write_acse(alloc, &apdu)?;
+            Ok(written.as_slice() == wanted.as_slice())
+        }
+        Err(_) => Ok(false),
+    }
+}
+
+/// Whether these octets are refused so.
+fn is_refused(alloc: Global, text: &str, fault: AcseFault) -> Result<bool, NoMemory> {
+    let octets = octets_of(alloc, text)?;
+    match read_acse(alloc, octets.as_slice()) {
+        Ok(_) => Ok(false),
+        Err(found) => Ok(found == fault),
+    }
+}
+
+/// Whether the APDU of each row is written as its octets.
+fn are_written(alloc: Global, rows: &[&'static str]) -> Result<bool, NoMemory> {
+    for text in rows {
+        if !is_written(alloc, text, text)? {
+            return Ok(false);
+        }
+    }
+    Ok(true)
+}
+
+/// Whether the APDU of each row is written as the second octets.
+fn are_written_so(alloc: Global, rows: &[(&'static str, &'static str)]) -> Result<bool, NoMemory> {
+    for (text, to) in rows {
+        if !is_written(alloc, text, to)? {
+            return Ok(false);
+        }
+    }
+    Ok(true)
+}
+
+/// Whether the octets of each row are refused with its place and kind.
+fn are_refused(alloc: Global, rows: &[(&'static str, usize, Kind)]) -> Result<bool, NoMemory> {
+    for (text, place, kind) in rows {
+        let fault = AcseFault::At {
+            place: *place,
+            kind: *kind,
+        };
+        if !is_refused(alloc, text, fault)? {
+            return Ok(false);
+        }
+    }
+    Ok(true)
+}
+
+#[test]
+fn associations_are_read_and_written(rt: HostRuntime) -> Result<(), Fail> {
+    let rows = [
+        // request
+        "60 08 A1 06 06 04 88 37 05 03",
+        // response
+        "61 14 A1 06 06 04 88 37 05 03 A2 03 02 01 00 A3 05 A1 03 02 01 00",
+        // refusal
+        "61 14 A1 06 06 04 88 37 05 03 A2 03 02 01 01 A3 05 A1 03 02 01 01",
+    ];
+    assert!(rt; are_written(rt.alloc(), &rows)?);
+    Ok(())
+}
+
+#[test]
+fn associations_of_reliable_transfer_are_read_and_written(rt: HostRuntime) -> Result<(), Fail> {
+    let rows = [
+        // request of reliable transfer
+        "60 22 A1 06 06 04 88 37 05 04 BE 18 28 16 02 01 03 A0 11 B0 0F 80 01 01 81 01 02 82 01 01 A3 04 A0 02 05 00",
+        // response of reliable transfer
+        "61 2B A1 06 06 04 88 37 05 04 A2 03 02 01 00 A3 05 A1 03 02 01 00 BE 15 28 13 02 01 03 A0 0E B1 0C 80 01 01 81 01 02 A2 04 A0 02 05 00",
+        // refusal of reliable transfer
+        "61 22 A1 06 06 04 88 37 05 04 A2 03 02 01 01 A3 05 A1 03 02 01 01 BE 0C 28 0A 02 01 03 A0 05 B2 03 80 01 02",
+        // response of a recovery
+        "61 3E A1 06 06 04 88 37 05 04 A2 03 02 01 00 A3 05 A1 03 02 01 00 BE 28 28 26 02 01 03 A0 21 B1 1F 80 01 01 81 01 02 A2 17 A1 15 04 04 72 65 66 31 17 0D 32 36 30 31 30 31 30 30 30 30 30 30 5A",
+        // request of a recovery
+        "60 35 A1 06 06 04 88 37 05 04 BE 2B 28 29 02 01 03 A0 24 B0 22 80 01 01 81 01 02 82 01 01 A3 17 A1 15 04 04 72 65 66 31 17 0D 32 36 30 31 30 31 30 30 30 30 30 30 5A",
+    ];
+    assert!(rt; are_written(rt.alloc(), &rows)?);
+    Ok(())
+}
+
+#[test]
+fn releases_and_aborts_are_read_and_written(rt: HostRuntime) -> Result<(), Fail> {
+    let rows = [
+        // release
+        "62 03 80 01 00",
+        // its answer
+        "63 03 80 01 00",
+        // abort
+        "64 03 80 01 00",
+        // abort by association control
+        "64 03 80 01 01",
+        // abort of reliable transfer
+        "64 11 80 01 00 BE 0C 28 0A 02 01 03 A0 05 B6 03 80 01 04",
+    ];
+    assert!(rt; are_written(rt.alloc(), &rows)?);
+    Ok(())
+}
+
+#[test]
+fn what_is_passed_over_is_left_out(rt: HostRuntime) -> Result<(), Fail> {
+    let rows = [
+        // a request with titles
+        (
+            "60 16 A2 03 06 01 2A A1 06 06 04 88 37 05 03 A6 80 06 01 2A 00 00 BD 00",
+            "60 08 A1 06 06 04 88 37 05 03",
+        ),
+        // a response with titles
+        (
+            "61 19 80 01 00 A1 06 06 04 88 37 05 03 A4 00 A2 03 02 01 00 A3 05 A1 03 02 01 00",
+            "61 14 A1 06 06 04 88 37 05 03 A2 03 02 01 00 A3 05 A1 03 02 01 00",
+        ),
+        // a release with user information
+        ("62 05 BE 00 80 01 00", "62 03 80 01 00"),
+        // a release without its reason
+        ("62 00", "62 03 80 01 00"),
+    ];
+    assert!(rt; are_written_so(rt.alloc(), &rows)?);
+    Ok(())
+}
+
+#[test]
+fn first_faults_of_apdus(rt: HostRuntime) -> Result<(), Fail> {
+    let rows = [
+        // no octet
+        ("", 0, Kind::Missing),
+        // another tag
+        ("65 00", 0, Kind::Tag),
+        // no context name
+        ("60 03 A2 01 05", 5, Kind::Missing),
+        // a result of 3
+        (
+            "61 14 A1 06 06 04 88 37 05 03 A2 03 02 01 03 A3 05 A1 03 02 01 00",
+            14,
+            Kind::Content,
+        ),
+        // a context name behind user information
+        ("60 0A BE 00 A1 06 06 04 88 37 05 03", 2, Kind::Missing),
+    ];
+    assert!(rt; are_refused(rt.alloc(), &rows)?);
+    Ok(())
+}
+
+#[test]
+fn faults_behind_known_fields(rt: HostRuntime) -> Result<(), Fail> {
+    let rows = [
+        // a second context name
+        (
+            "60 10 A1 06 06 04 88 37 05 03 A1 06 06 04 88 37 05 03",
+            10,
+            Kind::Extra,
+        ),
+        // a title of another length
+        ("60 0A A2 7F A1 06 06 04 88 37 05 03", 3, Kind::Length),
+        // a tag of another class
+        ("60 0A A1 06 06 04 88 37 05 03 05 00", 10, Kind::Extra),
+        // a source of 2
+        ("64 03 80 01 02", 4, Kind::Content),
+        // octets that follow
+        ("62 00 00", 2, Kind::Extra),
+    ];
+    assert!(rt; are_refused(rt.alloc(), &rows)?);
+    Ok(())
+}
+
+/// Whether these octets are an APDU of which this holds.
+fn is_apdu<J: Fn(&Acse) -> bool>(alloc: Global, text: &str, judge: J) -> Result<bool, NoMemory>
+    requires { J.IsAlwaysCallable judge }
+{
+    let octets = octets_of(alloc, text)?;
+    match read_acse(alloc, octets.as_slice()) {
+        Ok(apdu) => Ok(judge(&apdu)),
+        Err(_) => Ok(false),
+    }
+}
+
+/// Whether user information is there, on this context, with so many octets.
+fn informs(user: Option<&External>, id: u32, count: usize) -> bool {
+    match user {
+        Some(external) => external.id == id && external.value.len() == count,
+        None => false,
+    }
+}
+
+fn asks(apdu: &Acse) -> bool {
+    match apdu {
+        Acse::AssociateRequest {
+            version,
+            context,
+            user,
+        } => {
+            version.is_none()
+                && context.arcs() == [2, 999, 5, 4].as_slice()
+                && user.len() == 1
+                && informs(user.get(0), 3, 17)
+        }
+        _ => false,
+    }
+}
+
+fn refuses(apdu: &Acse) -> bool {
+    match apdu {
+        Acse::AssociateResponse {
+            context,
+            result,
+            diagnostic,
+            user,
+        } => {
+            context.arcs() == [2, 999, 5, 3].as_slice()
+                && *result == 1
+                && *diagnostic == Diagnostic::User(1)
+                && user.len() == 0
+        }
+        _ => false,
+    }
+}
+
+#[test]
+fn associations_say_their_fields(rt: HostRuntime) -> Result<(), Fail> {
+    // request of reliable transfer
+    let request =
+        "60 22 A1 06 06 04 88 37 05 04 BE 18 28 16 02 01 03 A0 11 B0 0F 80 01 01 81 01 02 82 01 01 A3 04 A0 02 05 00";
+    assert!(rt; is_apdu(rt.alloc(), request, asks)?);
+    // refusal
+    let refusal = "61 14 A1 06 06 04 88 37 05 03 A2 03 02 01 01 A3 05 A1 03 02 01 01";
+    assert!(rt; is_apdu(rt.alloc(), refusal, refuses)?);
+    Ok(())
+}
+
+fn releases(apdu: &Acse, number: i64) -> bool {
+    match apdu {
+        Acse::ReleaseRequest { reason } => *reason == number,
+        _ => false,
+    }
+}
+
+fn is_aborted(apdu: &Acse, by: u8, count: usize) -> bool {
+    match apdu {
+        Acse::Abort { source, user } => *source == by && user.len() == count,
+        _ => false,
+    }
+}
+
+/// Whether these octets ask for a release for this reason.
+fn is_release(alloc: Global, text: &str, number: i64) -> Result<bool, NoMemory> {
+    is_apdu(alloc, text, |apdu| releases(apdu, number))
+}
+
+/// Whether these octets are an abort by this source, with so many values of user information.
+fn is_abort(alloc: Global, text: &str, by: u8, count: usize) -> Result<bool, NoMemory> {
+    is_apdu(alloc, text, |apdu| is_aborted(apdu, by, count))
+}
+
+#[test]
+fn releases_and_aborts_say_their_fields(rt: HostRuntime) -> Result<(), Fail> {
+    // a release without its reason, and one with another
+    assert!(rt; is_release(rt.alloc(), "62 00", 0)?);
+    assert!(rt; is_release(rt.alloc(), "62 03 80 01 1E", 30)?);
+    // aborts by the user, by association control and by reliable transfer
+    assert!(rt; is_abort(rt.alloc(), "64 03 80 01 00", 0, 0)?);
+    assert!(rt; is_abort(rt.alloc(), "64 03 80 01 01", 1, 0)?);
+    let text = "64 11 80 01 00 BE 0C 28 0A 02 01 03 A0 05 B6 03 80 01 04";
+    assert!(rt; is_abort(rt.alloc(), text, 0, 1)?);
+    Ok(())
+}

@@ -1,0 +1,295 @@
+//! APDUs of reliable transfer (X.228 9) by the octets that are worked out: each is read and written
+//! back, and says its fields. The lengths of a transfer and of its first part are those of a worked
+//! one, whose invocation stores 2,975 octets and whose checkpoint is 1.
+
+use fixed_tables::PduFault;
+use osi_base::{ConnectionData, Kind, NoMemory, Octets, Pdv, PdvContent, Rtse};
+use rtse_apdus::{read_rtse, read_transfer, write_rtse, write_transfer};
+use std::alloc::Global;
+use std::test::*;
+use worked_octets::octets_of;
+
+/// Whether the APDU of these octets is written as those.
+fn is_written(alloc: Global, text: &str, to: &str) -> Result<bool, NoMemory> {
+    let octets = octets_of(alloc, text)?;
+    let wanted = octets_of(alloc, to)?;
+    match read_rtse(alloc, octets.as_slice()) {
+        Ok(apdu) => {
+            let written = write_rtse(alloc, &apdu)?;
+            Ok(written.as_slice() == wanted.as_slice())
+        }
+        Err(_) => Ok(false),
+    }
+}
+
+/// Whether these octets are refused so.
+fn is_refused(alloc: Global, text: &str, fault: PduFault) -> Result<bool, NoMemory> {
+    let octets = octets_of(alloc, text)?;
+    match read_rtse(alloc, octets.as_slice()) {
+        Ok(_) => Ok(false),
+        Err(found) => Ok(found == fault),
+    }
+}
+
+/// Whether the APDU of each row is written as its octets.
+fn are_written(alloc: Global, rows: &[&'static str]) -> Result<bool, NoMemory> {
+    for text in rows {
+        if !is_written(alloc, text, text)? {
+            return Ok(false);
+        }
+    }
+    Ok(true)
+}
+
+/// Whether the APDU of each row is written as the second octets.
+fn are_written_so(alloc: Global, rows: &[(&'static str, &'static str)]) -> Result<bool, NoMemory> {
+    for (text, to) in rows {
+        if !is_written(alloc, text, to)? {
+            return Ok(false);
+        }
+    }
+    Ok(true)
+}
+
+/// Whether the octets of each row are refused with its place and kind.
+fn are_refused(alloc: Global, rows: &[(&'static str, usize, Kind)]) -> Result<bool, NoMemory> {
+    for (text, place, kind) in rows {
+        let fault = PduFault::At {
+            place: *place,
+            kind: *kind,
+        };
+        if !is_refused(alloc, text, fault)? {
+            return Ok(false);
+        }
+    }
+    Ok(true)
+}
+
+#[test]
+fn openings_are_read_and_written(rt: HostRuntime) -> Result<(), Fail> {
+    let rows = [
+        // an opening
+        "B0 0F 80 01 01 81 01 02 82 01 01 A3 04 A0 02 05 00",
+        // its acceptance
+        "B1 0C 80 01 01 81 01 02 A2 04 A0 02 05 00",
+        // its refusal
+        "B2 03 80 01 02",
+        // an abort
+        "B6 03 80 01 04",
+        // a plea for the turn
+        "02 01 03",
+        // one of the highest priority
+        "02 05 00 FF FF FF FF",
+        // a part of a transfer
+        "04 02 A1 09",
+    ];
+    assert!(rt; are_written(rt.alloc(), &rows)?);
+    Ok(())
+}
+
+#[test]
+fn a_recovery_is_read_and_written(rt: HostRuntime) -> Result<(), Fail> {
+    let rows = [
+        // a recovery
+        "B0 22 80 01 01 81 01 02 82 01 01 A3 17 A1 15 04 04 72 65 66 31 17 0D 32 36 30 31 30 31 30 30 30 30 30 30 5A",
+        // its acceptance
+        "B1 1F 80 01 01 81 01 02 A2 17 A1 15 04 04 72 65 66 31 17 0D 32 36 30 31 30 31 30 30 30 30 30 30 5A",
+    ];
+    assert!(rt; are_written(rt.alloc(), &rows)?);
+    Ok(())
+}
+
+#[test]
+fn defaults_are_written(rt: HostRuntime) -> Result<(), Fail> {
+    let rows = [
+        // X.228 9: an opening without checkpoint, window and mode
+        (
+            "B0 06 A3 04 A0 02 05 00",
+            "B0 0F 80 01 00 81 01 03 82 01 00 A3 04 A0 02 05 00",
+        ),
+        // an acceptance without checkpoint and window
+        (
+            "B1 06 A2 04 A0 02 05 00",
+            "B1 0C 80 01 00 81 01 03 A2 04 A0 02 05 00",
+        ),
+        // fields of a SET in another order
+        (
+            "B0 0F A3 04 A0 02 05 00 82 01 01 81 01 02 80 01 01",
+            "B0 0F 80 01 01 81 01 02 82 01 01 A3 04 A0 02 05 00",
+        ),
+    ];
+    assert!(rt; are_written_so(rt.alloc(), &rows)?);
+    Ok(())
+}
+
+#[test]
+fn first_faults_of_transfers(rt: HostRuntime) -> Result<(), Fail> {
+    let rows = [
+        // a window of 256
+        (
+            "B0 10 80 01 01 81 02 01 00 82 01 01 A3 04 A0 02 05 00",
+            7,
+            Kind::Content,
+        ),
+        // a checkpoint of 256
+        (
+            "B1 0D 80 02 01 00 81 01 02 A2 04 A0 02 05 00",
+            4,
+            Kind::Content,
+        ),
+        // no reason
+        ("B2 00", 2, Kind::Missing),
+        // a second field behind the reason
+        ("B6 06 80 01 04 81 01 00", 5, Kind::Extra),
+        // a recovery without its common reference
+        (
+            "B0 0C A3 0A A1 08 04 04 72 65 66 31 05 00",
+            12,
+            Kind::Missing,
+        ),
+        // octets that follow
+        ("02 01 03 00", 3, Kind::Extra),
+        // too few octets
+        ("B2 03 80", 3, Kind::Missing),
+    ];
+    assert!(rt; are_refused(rt.alloc(), &rows)?);
+    Ok(())
+}
+
+/// Whether these octets are an APDU of which this holds.
+fn is_apdu<J: Fn(&Rtse) -> bool>(alloc: Global, text: &str, judge: J) -> Result<bool, NoMemory>
+    requires { J.IsAlwaysCallable judge }
+{
+    let octets = octets_of(alloc, text)?;
+    match read_rtse(alloc, octets.as_slice()) {
+        Ok(apdu) => Ok(judge(&apdu)),
+        Err(_) => Ok(false),
+    }
+}
+
+fn opens(apdu: &Rtse) -> bool {
+    match apdu {
+        Rtse::OpenRequest {
+            checkpoint,
+            window,
+            mode,
+            data: ConnectionData::Open(value),
+        } => {
+            *checkpoint == 1 && *window == 2 && *mode == 3 && value.as_slice() == [5, 0].as_slice()
+        }
+        _ => false,
+    }
+}
+
+fn recovers(apdu: &Rtse) -> bool {
+    match apdu {
+        Rtse::OpenAccept {
+            checkpoint,
+            window,
+            data: ConnectionData::Recover { reference, common },
+        } => {
+            *checkpoint == 1
+                && *window == 2
+                && reference.as_slice() == b"ref1".as_slice()
+                && common.as_slice() == b"260101000000Z".as_slice()
+        }
+        _ => false,
+    }
+}
+
+#[test]
+fn openings_say_their_fields(rt: HostRuntime) -> Result<(), Fail> {
+    // an opening, with another dialogue mode
+    let opening = "B0 0F 80 01 01 81 01 02 82 01 03 A3 04 A0 02 05 00";
+    assert!(rt; is_apdu(rt.alloc(), opening, opens)?);
+    // the acceptance of a recovery
+    let acceptance =
+        "B1 1F 80 01 01 81 01 02 A2 17 A1 15 04 04 72 65 66 31 17 0D 32 36 30 31 30 31 30 30 30 30 30 30 5A";
+    assert!(rt; is_apdu(rt.alloc(), acceptance, recovers)?);
+    Ok(())
+}
+
+/// So many octets.
+fn zeros(alloc: Global, count: usize) -> Result<Octets, NoMemory> {
+    Ok(Octets::from_vec(vec![in alloc; 0_u8; count]?))
+}
+
+/// The invocation that stores 2,975 octets, on context 5.
+fn stored(alloc: Global) -> Result<Pdv, NoMemory> {
+    let mut octets = octets_of(alloc, "A1 82 0B A9 02 01 01 02 01 02 04 82 0B 9F")?;
+    octets.extend(zeros(alloc, 2_975)?.as_slice())?;
+    Ok(Pdv {
+        transfer: None,
+        id: 5,
+        content: PdvContent::SingleAsn1Type(octets),
+    })
+}
+
+/// Whether the octets are a transfer of that invocation.
+fn is_stored(alloc: Global, octets: &[u8]) -> bool {
+    let Ok(pdv) = read_transfer(alloc, octets) else {
+        return false;
+    };
+    let id = pdv.id;
+    match &pdv.content {
+        PdvContent::SingleAsn1Type(value) => id == 5 && value.len() == 2_989,
+        _ => false,
+    }
+}
+
+/// Whether that transfer is written as so many octets that begin with these.
+fn transfer_begins(alloc: Global, count: usize, front: &str) -> Result<bool, NoMemory> {
+    let front = octets_of(alloc, front)?;
+    let octets = write_transfer(alloc, &stored(alloc)?)?;
+    Ok(octets.len() == count && octets.as_slice().starts_with(front.as_slice()))
+}
+
+/// Whether that transfer is read back as it was written.
+fn transfer_is_read(alloc: Global) -> Result<bool, NoMemory> {
+    let octets = write_transfer(alloc, &stored(alloc)?)?;
+    Ok(is_stored(alloc, octets.as_slice()))
+}
+
+#[test]
+fn a_transfer_has_3000_octets(rt: HostRuntime) -> Result<(), Fail> {
+    let front = "30 82 0B B4 02 01 05 A0 82 0B AD A1 82 0B A9";
+    assert!(rt; transfer_begins(rt.alloc(), 3_000, front)?);
+    assert!(rt; transfer_is_read(rt.alloc())?);
+    Ok(())
+}
+
+/// Whether the first part of that transfer is written as 1,024 octets behind these.
+fn part_begins(alloc: Global, front: &[u8]) -> Result<bool, NoMemory> {
+    let part = Rtse::Transfer {
+        octets: zeros(alloc, 1_024)?,
+    };
+    let value = write_rtse(alloc, &part)?;
+    Ok(value.len() == front.len() + 1_024 && value.as_slice().starts_with(front))
+}
+
+#[test]
+fn the_first_part_has_1028_octets(rt: HostRuntime) -> Result<(), Fail> {
+    assert!(rt; part_begins(rt.alloc(), &[0x04, 0x82, 0x04, 0x00])?);
+    Ok(())
+}
+
+/// Whether these octets are refused so as a transfer.
+fn is_no_transfer(alloc: Global, text: &str, fault: PduFault) -> Result<bool, NoMemory> {
+    let octets = octets_of(alloc, text)?;
+    match read_transfer(alloc, octets.as_slice()) {
+        Ok(_) => Ok(false),
+        Err(found) => Ok(found == fault),
+    }
+}
+
+#[test]
+fn what_is_no_transfer_is_refused(rt: HostRuntime) -> Result<(), Fail> {
+    // two values one after the other
+    let twice = "30 08 02 01 05 A0 03 02 01 05 30 00";
+    let fault = PduFault::At {
+        place: 10,
+        kind: Kind::Extra,
+    };
+    assert!(rt; is_no_transfer(rt.alloc(), twice, fault)?);
+    Ok(())
+}
