@@ -1,0 +1,10 @@
+//! Tests of the two sides of remote operations, by worked rows. They stand in a crate of their own,
+//! so that each layer is proved once.
+#![tactic(auto)]
+
+#[cfg(test)]
+mod invoking;
+#[cfg(test)]
+mod performing;
+#[cfg(test)]
+mod sample;
