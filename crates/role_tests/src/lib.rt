@@ -8,3 +8,5 @@ mod invoking;
 mod performing;
 #[cfg(test)]
 mod sample;
+#[cfg(test)]
+mod writing;

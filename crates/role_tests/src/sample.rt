@@ -116,6 +116,14 @@ pub(crate) fn add() -> Called {
     }
 }
 
+/// The operation `ask` as it is called on the context 5.
+pub(crate) fn ask() -> Called {
+    Called {
+        operation: 1,
+        context: 5,
+    }
+}
+
 /// Whether this is that value of INTEGER.
 pub(crate) fn is_integer(value: &Option<Val>, number: i64) -> bool {
     matches!(value, Some(Val { node: Node::Int(n) }) if *n == number)
