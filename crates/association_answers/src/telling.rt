@@ -1,0 +1,83 @@
+//! Lists of indications.
+
+ghost use Rattle.std.specs.Prelude.{◌≡◌, ◌++◌, IfOk, OnOk, [], ◌∷◌, map};
+ghost use Rattle.dialogue.specs.declared.indication.Indication.TheVariants as indications;
+ghost use Rattle.end_rules.specs.Sets.{Alteration as rule_alteration};
+ghost use Rattle.end_rules.specs.Faults.{cuts, losses};
+ghost use Rattle.association_words.specs.Seen.{seen_message};
+ghost use Rattle.association_state.specs.Seen.{seen};
+ghost use Rattle.association_answers.specs.Reacted.{TakenAs};
+
+use crate::taken::{Taken, one_message};
+use association_sets::Alteration;
+use association_state::Body;
+use association_words::Message;
+use dialogue::{Indication, Indications};
+use open_invocations::tell_cuts;
+use osi_base::{ListOf, NoMemory};
+use std::alloc::Global;
+
+/// One indication alone.
+pub fn tell(alloc: Global, indication: Indication) -> Result<Indications, NoMemory>
+    ensures { IfOk result (λ shown. shown ≡ indication ∷ []) }
+{
+    let mut shown = ListOf::new(alloc);
+    shown.push(indication)?;
+    Ok(shown)
+}
+
+/// One answer, and nothing that is shown.
+pub fn answered(alloc: Global, message: Message) -> Result<Taken, NoMemory>
+    ensures { IfOk result (TakenAs (seen_message message ∷ []) []) }
+{
+    Ok(Taken {
+        answers: one_message(alloc, message)?,
+        shown: ListOf::new(alloc),
+    })
+}
+
+/// One indication, and no answer.
+pub fn told(alloc: Global, indication: Indication) -> Result<Taken, NoMemory>
+    ensures { IfOk result (TakenAs [] (indication ∷ [])) }
+{
+    Ok(Taken {
+        answers: ListOf::new(alloc),
+        shown: tell(alloc, indication)?,
+    })
+}
+
+/// No answer, and nothing that is shown.
+pub fn quiet(alloc: Global) -> Taken
+    ensures { TakenAs [] [] result }
+{
+    Taken {
+        answers: ListOf::new(alloc),
+        shown: ListOf::new(alloc),
+    }
+}
+
+/// Tells that the open invocations are cut, children before their parents.
+pub fn push_cuts(alloc: Global, body: &Body, shown: &mut Indications) -> Result<(), NoMemory>
+    ensures { OnOk result (shown.new ≡ shown.old ++ cuts (seen body.now)) }
+{
+    let opens = body.calls.opens()?;
+    tell_cuts(alloc, opens.as_slice(), shown)
+}
+
+/// Tells for each own alteration that it wasn't answered.
+fn push_lost(own: &[Alteration], shown: &mut Indications) -> Result<(), NoMemory>
+    ensures { OnOk result (shown.new ≡ shown.old
+        ++ map (λ (a : rule_alteration). indications.AlterLost) own.now) }
+{
+    for _alteration in own {
+        shown.push(Indication::AlterLost)?;
+    }
+    Ok(())
+}
+
+/// Tells for each own alteration that it wasn't answered.
+pub fn push_losses(body: &Body, shown: &mut Indications) -> Result<(), NoMemory>
+    ensures { OnOk result (shown.new ≡ shown.old ++ losses (seen body.now)) }
+{
+    push_lost(&body.sets.own, shown)
+}
