@@ -39,8 +39,8 @@ pub fn reliable_ends_tell_answers()
     ensures law { ReliableEndsTellAnswers }
 {}
 
-/// The premises of these laws are met, but for the length of the CP, which the tests of `end_config`
-/// see.
+/// The premises of these laws are met. That the CP of the initiator isn't too long is left out; no
+/// test looks at it yet.
 pub fn premises_are_met()
     ensures law { PremisesAreMet }
 {}
