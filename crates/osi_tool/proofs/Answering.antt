@@ -1,8 +1,6 @@
--- From what is prepared to an answer, and from an answer to the end of the top call.
-use Rattle.std.proofs.Common.{ℕ, ◌≡◌, List, Option, Result, Ok, Err, IfOk, OnErr, MatchResult, sym, subst}
+-- From what is prepared to an answer.
+use Rattle.std.proofs.Common.{ℕ, ◌≡◌, List, Option, sym, subst}
 use Rattle.osi_base.specs.Outside.{FileMap}
-use Rattle.osi_base.specs.declared.words.Status.{Status}
-use Rattle.osi_base.specs.declared.words.Status.TheVariants.{NoMemory}
 use Rattle.stub_tables.specs.declared.tables.Tables.{Tables}
 use Rattle.script_text.specs.declared.schedule.Schedule.{Schedule}
 use Rattle.osi_tool.specs.declared.answers.Answer.{Answer}
@@ -10,10 +8,10 @@ use Rattle.osi_tool.specs.declared.preparing.Prepared.{Prepared}
 use Rattle.osi_tool.specs.declared.preparing.Prepared.TheVariants.{Answered, Ready}
 use Rattle.osi_tool.specs.Known.{one_tables}
 use Rattle.osi_tool.specs.Commands.{command_of}
-use Rattle.osi_tool.specs.Answers.{done_answer, KeepsCount, Ends}
+use Rattle.osi_tool.specs.Answers.{done_answer}
 use Rattle.osi_tool.specs.Preparing.{Prepares}
 use Rattle.osi_tool.specs.Replaying.{Replayed}
-use Rattle.osi_tool.specs.TopCall.{IsAnswer, refuses, replays, Closes, answered, no_room}
+use Rattle.osi_tool.specs.TopCall.{IsAnswer, refuses, replays}
 
 module _ (told : Option FileMap) (old new : ℕ) (words : List (List ℕ)) where
   made_by : (tables : Tables) → tables ≡ one_tables → (p q : Prepared) → p ≡ q → Prepares tables told old new (command_of words) p
@@ -33,11 +31,3 @@ module _ (told : Option FileMap) (old new : ℕ) (words : List (List ℕ)) where
       let R : Tables → Type 0 = λ t. Replayed t schedule text in
       let A : Answer → Type 0 = λ a. IsAnswer told old new words a in
       subst A (sym told_so) (replays schedule text (made_by tables known p (Ready schedule) is made) (subst R known run))
-
-  pub closed : {E : Type 0} (sink_old sink_new : ℕ) (before after : Option (List ℕ)) (status : Status) (r : Result Answer E)
-      → IfOk r (λ answer. IsAnswer told old new words answer) → IfOk r (λ answer. KeepsCount old new answer) → OnErr r (new ≡ old)
-      → MatchResult r (λ made. Ends sink_old sink_new before after made status) (λ _. (status ≡ NoMemory) × (sink_new ≡ sink_old) × (after ≡ before))
-      → Closes told old new words sink_old sink_new before after status
-  closed sink_old sink_new before after status (Ok answer) is counts kept ends = answered answer status is counts ends
-  closed sink_old sink_new before after status (Err fault) is counts kept ends =
-      let C : Status → Type 0 = λ s. Closes told old new words sink_old sink_new before after s in subst C (sym ends.0) (no_room kept ends.1 ends.2)

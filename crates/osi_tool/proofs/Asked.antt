@@ -1,5 +1,5 @@
 -- Which files were asked for.
-use Rattle.std.proofs.Common.{ℕ, ◌≡◌, List, Option, None, Some, Result, Ok, Err, MatchResult, IfOk, sym, subst, inl, inr}
+use Rattle.std.proofs.Common.{ℕ, ◌≡◌, List, Option, None, Some, Result, Ok, Err, IfOk, subst, inl, inr}
 use Rattle.osi_base.specs.Outside.{FileMap, logged}
 use Rattle.osi_base.specs.declared.words.Status.{Status}
 use Rattle.osi_base.specs.declared.words.Status.TheVariants.{Done, Usage, ReadFault, WriteFault, LineFault, ModuleRefused, ScriptRefused, Ended, Spent, NoMemory}
@@ -85,19 +85,9 @@ by_end command first last old new before after answer _ (failed rose part) asked
 by_end command first last old new before after answer _ (no_memory same part) asked = (cut_off command first last answer.status asked).1
 
 -- where memory was refused before there was an answer
-none_answered : (told : Option FileMap) (old new : ℕ) (command : Option Command) (before after : Option (List (List ℕ))) → Asks told old new before after command
+pub none_answered : (told : Option FileMap) (old new : ℕ) (command : Option Command) (before after : Option (List (List ℕ))) → Asks told old new before after command
     → AskedAtEnd command before after NoMemory
 none_answered told old new None before after asked = asked
 none_answered told old new (Some command) before after (inl (inl none)) = inl none
 none_answered told old new (Some command) before after (inl (inr one)) = inr (inl one)
 none_answered told old new (Some command) before after (inr both) = inr (inr both.1)
-
-module _ {E : Type 0} (command : Option Command) (first last : Option (List (List ℕ))) (old new : ℕ) (before after : Option (List ℕ)) (status : Status) where
-  -- what was asked for at the end, where the answer was made or memory was refused for it
-  pub asked_at_end : (told : Option FileMap) (files_old files_new : ℕ) (r : Result Answer E) → IfOk r (λ answer. AskedBy command first last answer.status)
-      → Asks told files_old files_new first last command
-      → MatchResult r (λ made. Ends old new before after made status) (λ _. (status ≡ NoMemory) × (new ≡ old) × (after ≡ before))
-      → AskedAtEnd command first last status
-  asked_at_end told files_old files_new (Ok answer) asked all ends = by_end command first last old new before after answer status ends asked
-  asked_at_end told files_old files_new (Err fault) asked all ends =
-      let P : Status → Type 0 = λ s. AskedAtEnd command first last s in subst P (sym ends.0) (none_answered told files_old files_new command first last all)

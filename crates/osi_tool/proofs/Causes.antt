@@ -3,7 +3,7 @@ use Rattle.std.proofs.Common.{ℕ, ◌≡◌, List, Option, None, Some, Ok, Bool
 use Rattle.std.proofs.lemmas.Slice.Eq.{bytes_eq-Decides}
 use Rattle.osi_base.specs.Outside.{IsCalm, FileMap, grown}
 use Rattle.osi_base.specs.declared.words.Status.{Status}
-use Rattle.osi_base.specs.declared.words.Status.TheVariants.{Done, Usage, ReadFault, WriteFault, LineFault, ModuleRefused, ScriptRefused, Ended, Spent, NoMemory}
+use Rattle.osi_base.specs.declared.words.Status.TheVariants.{Done, Usage, ReadFault, ModuleRefused, ScriptRefused}
 use Rattle.script_text.specs.declared.schedule.Schedule.{Schedule}
 use Rattle.script_text.specs.Schedules.{schedule_of}
 use Rattle.osi_tool.specs.declared.preparing.Prepared.{Prepared}
@@ -12,6 +12,7 @@ use Rattle.osi_tool.specs.Known.{one_module, is_one_module, one_tables}
 use Rattle.osi_tool.specs.Commands.{Command, command_of}
 use Rattle.osi_tool.specs.Answers.{usage_answer, unread_answer, script_answer}
 use Rattle.osi_tool.specs.Preparing.{WasRead, Prepares, no_command, no_module, other_module, no_schedule, bad_schedule, ready}
+use Rattle.osi_tool.proofs.Endings.{is_answers}
 use Rattle.osi_tool.specs.TopCall.{IsUsage, IsUnread, IsOtherModule, IsBadScript, due_by_module, due_if_known, due_by_script, due_by_reading, due_status}
 
 -- the status of an answer, its text, and the schedule that is to be run
@@ -31,15 +32,6 @@ schedule_in (Ready schedule) = Some schedule
 abbrev pub due_to : Prepared → Status
 due_to (Answered answer) = answer.status
 due_to (Ready schedule) = Done
-
--- the statuses of answers
-abbrev pub is_answers : Status → Bool
-is_answers WriteFault = false
-is_answers LineFault = false
-is_answers Ended = false
-is_answers Spent = false
-is_answers NoMemory = false
-is_answers _ = true
 
 -- ---- small facts
 

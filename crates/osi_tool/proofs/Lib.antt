@@ -8,7 +8,9 @@ pub mod Answering
 pub mod Closing
 pub mod Only
 pub mod Asked
-pub mod TraceWords
+pub mod CheckAnswers
+pub mod CheckEnding
 pub mod TraceAnswers
 pub mod TraceCases
 pub mod TraceEnding
+pub mod Words

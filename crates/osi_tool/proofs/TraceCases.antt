@@ -19,7 +19,8 @@ use Rattle.osi_tool.specs.declared.answers.Answer.{Answer}
 use Rattle.osi_tool.specs.Answers.{unread_answer, script_answer, done_answer}
 use Rattle.osi_tool.specs.Preparing.{WasRead}
 use Rattle.osi_tool.specs.Tracing.{TraceCommand, refused_answer, script_kind, TracedBy, TracesFile, TracesModule, TracesText, Traces, HasModule, IsTraced, IsUntold, IsFaultyModule, IsBadRecording, due_by_recording, due_by_file}
-use Rattle.osi_tool.proofs.Causes.{is_answers, has_read, lacks_it}
+use Rattle.osi_tool.proofs.Endings.{is_answers}
+use Rattle.osi_tool.proofs.Causes.{has_read, lacks_it}
 
 module _ (told : Option FileMap) (old new : ℕ) (command : TraceCommand) where
   -- each way in which a trace is answered
@@ -68,15 +69,12 @@ module _ (told : Option FileMap) (old new : ℕ) (command : TraceCommand) where
 
   -- ---- the statuses of answers
 
-  pub own_status : (answer : Answer) → TraceCase answer → (wanted : Status) → answer.status ≡ wanted → is_answers wanted ≡ true
-  own_status _ (no_module m) wanted h = ap is_answers (sym h)
-  own_status _ (faulty text number column kind m r) wanted h = ap is_answers (sym h)
-  own_status _ (no_file text tables m t f) wanted h = ap is_answers (sym h)
-  own_status _ (bad_file text tables m t octets number kind f e) wanted h = ap is_answers (sym h)
-  own_status _ (traced text tables m t octets recorded trace f e is) wanted h = ap is_answers (sym h)
-
-  pub foreign : (answer : Answer) → TraceCase answer → (wanted : Status) → is_answers wanted ≡ false → answer.status ≡ wanted → ⊥
-  foreign answer c wanted alien h = let e : true ≡ false = sym (own_status answer c wanted h) ∙ alien in cc
+  pub own_status : (answer : Answer) → TraceCase answer → is_answers answer.status ≡ true
+  own_status _ (no_module m) = refl
+  own_status _ (faulty text number column kind m r) = refl
+  own_status _ (no_file text tables m t f) = refl
+  own_status _ (bad_file text tables m t octets number kind f e) = refl
+  own_status _ (traced text tables m t octets recorded trace f e is) = refl
 
   pub never_usage : (answer : Answer) → TraceCase answer → answer.status ≡ Usage → ⊥
   never_usage _ (no_module m) h = cc

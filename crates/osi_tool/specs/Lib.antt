@@ -5,6 +5,8 @@ pub mod Answers
 pub mod Preparing
 pub mod Replaying
 pub mod TopCall
+pub mod Checking
 pub mod Tracing
+pub mod Given
 pub mod Process
 pub mod Laws

@@ -1,8 +1,8 @@
--- What the program's top call does, and why it ends as it does.
+-- A replay, and words that are no command: what the program answers, and why it ends as it does.
 use Rattle.std.specs.Prelude.{ℕ, ◌≡◌, ◌⊎◌, List, Option, None, Some, Result, Ok, Err, Bool, true, false}
-use Rattle.osi_base.specs.Outside.{Rose, IsCalm, FileMap, Lacks, Holds, grown, GrewPart}
+use Rattle.osi_base.specs.Outside.{Rose, IsCalm, FileMap, Lacks, Holds, grown}
 use Rattle.osi_base.specs.declared.words.Status.{Status}
-use Rattle.osi_base.specs.declared.words.Status.TheVariants.{Done, Usage, ReadFault, WriteFault, ModuleRefused, ScriptRefused, NoMemory}
+use Rattle.osi_base.specs.declared.words.Status.TheVariants.{Done, Usage, ReadFault, ModuleRefused, ScriptRefused}
 use Rattle.script_text.specs.declared.fault.ScriptFault.{ScriptFault}
 use Rattle.script_text.specs.declared.fault.ScriptFault.TheVariants.{At}
 use Rattle.script_text.specs.declared.fault.ScriptKind.{ScriptKind}
@@ -12,7 +12,7 @@ use Rattle.osi_tool.specs.declared.answers.Answer.{Answer}
 use Rattle.osi_tool.specs.declared.preparing.Prepared.TheVariants.{Answered, Ready}
 use Rattle.osi_tool.specs.Known.{one_module, is_one_module, one_tables}
 use Rattle.osi_tool.specs.Commands.{Command, command_of}
-use Rattle.osi_tool.specs.Answers.{usage_answer, unread_answer, module_answer, script_answer, done_answer, KeepsCount, Ends}
+use Rattle.osi_tool.specs.Answers.{usage_answer, unread_answer, module_answer, script_answer, done_answer}
 use Rattle.osi_tool.specs.Preparing.{WasRead, Prepares}
 use Rattle.osi_tool.specs.Replaying.{Replayed}
 
@@ -21,18 +21,12 @@ use Rattle.osi_tool.specs.Replaying.{Replayed}
 
 -- ---- the whole of it
 
--- What the program answers to words: what they and the files make, and where that is a schedule, the text of
+-- What the program answers to such words: what they and the files make, and where that is a schedule, the text of
 -- its replay.
 pub data IsAnswer (told : Option FileMap) (old new : ℕ) (words : List (List ℕ)) : Answer → Type 0 where
   refuses : (answer : Answer) → Prepares one_tables told old new (command_of words) (Answered answer) → IsAnswer told old new words answer
   replays : (schedule : Schedule) (text : List ℕ) → Prepares one_tables told old new (command_of words) (Ready schedule)
       → Replayed one_tables schedule text → IsAnswer told old new words (done_answer text)
-
--- An answer is written, or a beginning of it; or memory was refused before there was one, and no file had failed.
-pub data Closes (told : Option FileMap) (old new : ℕ) (words : List (List ℕ)) (sink_old sink_new : ℕ) (before after : Option (List ℕ)) : Status → Type 0 where
-  answered : (answer : Answer) (status : Status) → IsAnswer told old new words answer → KeepsCount old new answer → Ends sink_old sink_new before after answer status
-      → Closes told old new words sink_old sink_new before after status
-  no_room : new ≡ old → sink_new ≡ sink_old → after ≡ before → Closes told old new words sink_old sink_new before after NoMemory
 
 -- ---- what each status says
 
@@ -86,37 +80,7 @@ pub record IsBadScript (told : Option FileMap) (old new : ℕ) (words : List (Li
   pub fault : schedule_of one_tables script ≡ Err (At line kind)
   pub written : after ≡ grown before (script_answer line kind).text
 
--- WriteFault and NoMemory: a beginning was written of what the same words and files make the program answer.
-pub record IsBegun (told : Option FileMap) (old new : ℕ) (words : List (List ℕ)) (before after : Option (List ℕ)) : Type 0 where
-  pub answer : Answer
-  pub is : IsAnswer told old new words answer
-  pub counts : KeepsCount old new answer
-  pub part : GrewPart before after answer.text
-
--- ---- what the counts say
-
--- The answer is that a file isn't read, and a beginning of it was written.
-pub record IsUnreadBegun (told : Option FileMap) (old new : ℕ) (words : List (List ℕ)) (before after : Option (List ℕ)) : Type 0 where
-  pub answer : Answer
-  pub is : IsAnswer told old new words answer
-  pub unread : answer.status ≡ ReadFault
-  pub part : GrewPart before after answer.text
-
--- The files' count is as it was, unless a file wasn't read: that is told, or the sink failed or was refused memory
--- as it was being told.
-abbrev pub CountsFiles : Option FileMap → ℕ → ℕ → List (List ℕ) → Option (List ℕ) → Option (List ℕ) → Status → Type 0
-CountsFiles told old new words before after status =
-    (new ≡ old) ⊎ ((status ≡ ReadFault) ⊎ (((status ≡ WriteFault) ⊎ (status ≡ NoMemory)) × IsUnreadBegun told old new words before after))
-
--- The sink's count is as it was, unless the status is that of the sink.
-abbrev pub CountsWrites : ℕ → ℕ → Status → Type 0
-CountsWrites old new status = (status ≡ WriteFault) ⊎ (new ≡ old)
-
 -- ---- when each status comes
-
--- The status is this one, unless writing failed or memory was refused.
-abbrev pub IsUnless : ℕ → ℕ → Status → Status → Type 0
-IsUnless sink_old sink_new wanted status = (status ≡ wanted) ⊎ (((status ≡ WriteFault) × Rose sink_old sink_new) ⊎ (status ≡ NoMemory))
 
 abbrev pub due_by_reading : Result Schedule ScriptFault → Status
 due_by_reading (Ok schedule) = Done

@@ -1,18 +1,17 @@
 -- The command `trace`: what words and files make the program answer.
-use Rattle.std.specs.Prelude.{ℕ, ◌≡◌, ◌≢◌, ◌⊎◌, ◌&&◌, if◌then◌else◌, List, [], ◌∷◌, ◌++◌, Option, None, Some, Result, Ok, Err, codes, decimal, bytes_eq, IfSome}
-use Rattle.osi_base.specs.Outside.{Rose, IsCalm, FileMap, Lacks, logged, grown, GrewPart}
+use Rattle.std.specs.Prelude.{ℕ, ◌≡◌, ◌≢◌, ◌⊎◌, ◌&&◌, if◌then◌else◌, List, [], ◌∷◌, Option, None, Some, Result, Ok, Err, codes, bytes_eq, IfSome}
+use Rattle.osi_base.specs.Outside.{Rose, IsCalm, FileMap, Lacks, logged, grown}
 use Rattle.osi_base.specs.declared.words.Status.{Status}
-use Rattle.osi_base.specs.declared.words.Status.TheVariants.{Done, Usage, ReadFault, WriteFault, LineFault, ModuleRefused, ScriptRefused, Ended, Spent, NoMemory}
+use Rattle.osi_base.specs.declared.words.Status.TheVariants.{Done, Usage, ReadFault, ModuleRefused, ScriptRefused}
 use Rattle.stub_tables.specs.declared.tables.Tables.{Tables}
 use Rattle.script_text.specs.declared.fault.ScriptKind.{ScriptKind}
 use Rattle.script_text.specs.declared.fault.ScriptKind.TheVariants as kinds
-use Rattle.script_text.specs.Texts.{line}
 use Rattle.notation_tokens.specs.declared.faults.NotationKind.{NotationKind}
 use Rattle.module_reading.specs.declared.fault.ModuleKind.{ModuleKind}
 use Rattle.module_reading.specs.declared.fault.ModuleKind.TheVariants as module_kinds
 use Rattle.module_reading.specs.declared.fault.ModuleFault.TheVariants as faults
-use Rattle.module_reading.specs.Words.{kind_word}
 use Rattle.module_reading.specs.Modules.{HasTables, IsRefused}
+use Rattle.module_check.specs.Checking.{refused_text}
 use Rattle.trace_file.specs.declared.fault.RecordingKind.{RecordingKind}
 use Rattle.trace_file.specs.declared.fault.RecordingKind.TheVariants as recording_kinds
 use Rattle.trace_file.specs.declared.fault.RecordingFault.{RecordingFault}
@@ -22,9 +21,8 @@ use Rattle.trace_file.specs.Reading.{recording_of}
 use Rattle.trace_vectors.specs.Trace.{TraceTextOf}
 use Rattle.osi_tool.specs.declared.answers.Answer.{Answer}
 use Rattle.osi_tool.specs.Commands.{Command, is_name}
-use Rattle.osi_tool.specs.Answers.{unread_answer, script_answer, done_answer, KeepsCount, Ends}
-use Rattle.osi_tool.specs.Preparing.{WasRead, MayAsk, Asks, AskedAtEnd}
-use Rattle.osi_tool.specs.TopCall.{Closes, IsUnless, CountsWrites}
+use Rattle.osi_tool.specs.Answers.{unread_answer, script_answer, done_answer, IsUnless}
+use Rattle.osi_tool.specs.Preparing.{WasRead, MayAsk}
 
 -- ---- words
 
@@ -48,7 +46,7 @@ trace_of _ = None
 abbrev pub refused_answer : ℕ → ℕ → ModuleKind → Answer
 refused_answer number column kind = record {
   status = ModuleRefused;
-  text = line (codes "module refused " ++ decimal number ++ codes " " ++ decimal column ++ codes " " ++ kind_word kind);
+  text = refused_text number column kind;
 }
 
 -- the kind of fault in a script as which a fault of a recording is told
@@ -101,23 +99,7 @@ AsksTrace told old new before after command = MayAsk command.«module» before a
 abbrev pub files_of : TraceCommand → Command
 files_of command = record { «module» = command.«module»; schedule = command.file }
 
--- which files words ask for that are a trace, or aren't
-abbrev pub AsksFor : Option TraceCommand → Option FileMap → ℕ → ℕ → Option (List (List ℕ)) → Option (List (List ℕ)) → Option Command → Type 0
-AsksFor None told old new before after command = Asks told old new before after command
-AsksFor (Some trace) told old new before after command = AsksTrace told old new before after trace
-
--- the same by the status with which the program ends
-abbrev pub AskedForBy : Option TraceCommand → Option Command → Option (List (List ℕ)) → Option (List (List ℕ)) → Status → Type 0
-AskedForBy None command before after status = AskedAtEnd command before after status
-AskedForBy (Some trace) command before after status = AskedAtEnd (Some (files_of trace)) before after status
-
--- ---- the end of the top call
-
--- An answer is written, or a beginning of it; or memory was refused before there was one, and no file had failed.
-pub data ClosesTrace (told : Option FileMap) (old new : ℕ) (command : TraceCommand) (sink_old sink_new : ℕ) (before after : Option (List ℕ)) : Status → Type 0 where
-  answered : (answer : Answer) (status : Status) → Traces told old new command answer → KeepsCount old new answer → Ends sink_old sink_new before after answer status
-      → ClosesTrace told old new command sink_old sink_new before after status
-  no_room : new ≡ old → sink_new ≡ sink_old → after ≡ before → ClosesTrace told old new command sink_old sink_new before after NoMemory
+-- ---- what each status says
 
 -- Done: the module was read and has tables, the file was read and is a recording, and what was written is its trace.
 pub record IsTraced (told : Option FileMap) (old new : ℕ) (command : TraceCommand) (before after : Option (List ℕ)) : Type 0 where
@@ -161,23 +143,6 @@ pub record IsBadRecording (told : Option FileMap) (old new : ℕ) (command : Tra
   pub fault : recording_of octets ≡ Err (recording_faults.At number kind)
   pub written : after ≡ grown before (script_answer number (script_kind kind)).text
 
--- WriteFault and NoMemory: a beginning was written of what the same words and files make the program answer.
-pub record IsTraceBegun (told : Option FileMap) (old new : ℕ) (command : TraceCommand) (before after : Option (List ℕ)) : Type 0 where
-  pub answer : Answer
-  pub is : Traces told old new command answer
-  pub counts : KeepsCount old new answer
-  pub part : GrewPart before after answer.text
-
--- The answer is that a file isn't read, and a beginning of it was written.
-pub record IsUntoldBegun (told : Option FileMap) (old new : ℕ) (command : TraceCommand) (before after : Option (List ℕ)) : Type 0 where
-  pub begun : IsTraceBegun told old new command before after
-  pub unread : begun.answer.status ≡ ReadFault
-
--- The files' count is as it was, unless a file wasn't read.
-abbrev pub CountsTrace : Option FileMap → ℕ → ℕ → TraceCommand → Option (List ℕ) → Option (List ℕ) → Status → Type 0
-CountsTrace told old new command before after status =
-    (new ≡ old) ⊎ ((status ≡ ReadFault) ⊎ (((status ≡ WriteFault) ⊎ (status ≡ NoMemory)) × IsUntoldBegun told old new command before after))
-
 -- ---- when each status comes
 
 abbrev pub due_by_recording : Result (List Recorded) RecordingFault → Status
@@ -201,19 +166,9 @@ pub record IsTraceDue (map : FileMap) (command : TraceCommand) (sink_old sink_ne
 
 -- how the top call ends with words that are a trace
 pub record TraceEnds (told : Option FileMap) (old new : ℕ) (command : TraceCommand) (sink_old sink_new : ℕ) (before after : Option (List ℕ)) (status : Status) : Type 0 where
-  pub closes : ClosesTrace told old new command sink_old sink_new before after status
   pub done : status ≡ Done → IsTraced told old new command before after
   pub read_fault : status ≡ ReadFault → IsUntold told old new command before after
   pub module_refused : status ≡ ModuleRefused → IsFaultyModule told old new command before after
   pub script_refused : status ≡ ScriptRefused → IsBadRecording told old new command before after
-  pub write_fault : status ≡ WriteFault → Rose sink_old sink_new × IsTraceBegun told old new command before after
-  pub no_memory : status ≡ NoMemory → (after ≡ before) ⊎ IsTraceBegun told old new command before after
-  pub no_other : (status ≢ Usage) × (status ≢ LineFault) × (status ≢ Ended) × (status ≢ Spent)
-  pub files_count : CountsTrace told old new command before after status
-  pub sink_count : CountsWrites sink_old sink_new status
+  pub no_usage : status ≢ Usage
   pub due : IfSome told (λ map. IsCalm old new → IsTraceDue map command sink_old sink_new status)
-
--- how the top call ends with words that are a trace, or aren't
-abbrev pub ClosesFor : Option TraceCommand → Option FileMap → ℕ → ℕ → List (List ℕ) → ℕ → ℕ → Option (List ℕ) → Option (List ℕ) → Status → Type 0
-ClosesFor None told old new words sink_old sink_new before after status = Closes told old new words sink_old sink_new before after status
-ClosesFor (Some command) told old new words sink_old sink_new before after status = ClosesTrace told old new command sink_old sink_new before after status

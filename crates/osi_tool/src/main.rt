@@ -2,6 +2,7 @@
 #![tactic(auto)]
 
 mod answers;
+mod checking;
 mod commands;
 mod known;
 mod laws;

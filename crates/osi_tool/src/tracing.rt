@@ -12,14 +12,14 @@ ghost use Rattle.osi_tool.specs.Tracing.{TracesNamed, Traces, AsksTrace, files_o
 use crate::answers::{Answer, cannot_read, done, script_refused};
 use crate::commands::{is_name, is_word};
 use crate::preparing::read_file;
-use module_reading::{ModuleFault, ModuleKind, kind_word, read_module};
+use module_check::refused_text;
+use module_reading::{ModuleFault, ModuleKind, read_module};
 use osi_base::{Files, Name, NoMemory, Status, Words};
 use script_text::ScriptKind;
 use std::alloc::Global;
 use stub_tables::Tables;
 use trace_file::{RecordingFault, RecordingKind, read_recording};
 use trace_vectors::trace_text;
-use value_text::Text;
 
 /// A trace of a recorded dialogue with the names of a module, both of them by their files' names.
 #[derive(Clone, Copy)]
@@ -50,17 +50,10 @@ pub fn trace_given(words: &Words) -> Option<Trace<'_>>
 fn refused(alloc: Global, line: u32, column: u64, kind: ModuleKind) -> Result<Answer, NoMemory>
     ensures { IfOk result (λ answer. answer ≡ refused_answer line column kind) }
 {
-    let mut text = Text::new(alloc);
-    text.put("module refused ")?;
-    text.put_number(u64::from(line))?;
-    text.put(" ")?;
-    text.put_number(column)?;
-    text.put(" ")?;
-    text.put(kind_word(kind))?;
-    text.end_line()?;
+    let text = refused_text(alloc, line, column, kind)?;
     Ok(Answer {
         status: Status::ModuleRefused,
-        text: text.into_octets(),
+        text,
     })
 }
 

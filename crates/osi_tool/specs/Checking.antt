@@ -1,0 +1,91 @@
+-- The command `check`: what words and files make the program answer, and why it ends as it does.
+use Rattle.std.specs.Prelude.{ℕ, Bool, ◌≡◌, ◌≢◌, ◌⊎◌, List, Option, None, Some, IfSome}
+use Rattle.osi_base.specs.Outside.{Rose, IsCalm, FileMap, Lacks, grown}
+use Rattle.osi_base.specs.declared.words.Status.{Status}
+use Rattle.osi_base.specs.declared.words.Status.TheVariants.{Done, Usage, ReadFault, ModuleRefused, ScriptRefused}
+use Rattle.stub_tables.specs.declared.tables.Tables.{Tables}
+use Rattle.module_reading.specs.declared.fault.ModuleKind.{ModuleKind}
+use Rattle.module_reading.specs.declared.fault.ModuleFault.TheVariants as faults
+use Rattle.module_reading.specs.Modules.{HasTables, IsRefused}
+use Rattle.module_check.specs.Command.{Check}
+use Rattle.module_check.specs.Checking.{shown, refused_text, IsChecked}
+use Rattle.module_check.specs.declared.checking.Checked.{Checked}
+use Rattle.module_check.specs.declared.checking.Checked.TheVariants.{Shown, Refused}
+use Rattle.osi_tool.specs.declared.answers.Answer.{Answer}
+use Rattle.osi_tool.specs.Answers.{unread_answer, done_answer, IsUnless}
+use Rattle.osi_tool.specs.Preparing.{WasRead}
+
+abbrev pub check_given : List ℕ → Bool → Check
+check_given module_name table = record { «module» = module_name; table = table }
+
+-- ---- the whole of it
+
+-- the answer that has what a check writes
+abbrev pub checked_answer : Checked → Answer
+checked_answer (Shown text) = done_answer text
+checked_answer (Refused text) = record { status = ModuleRefused; text = text }
+
+-- what is answered to the octets of a module
+pub record ChecksOctets (table : Bool) (octets : List ℕ) (answer : Answer) : Type 0 where
+  pub written : Checked
+  pub is : IsChecked table octets written
+  pub answer_is : answer ≡ checked_answer written
+
+-- What a check is answered, by the told files and their count of faults, before and after: that the module isn't read, or
+-- what is written of its octets.
+pub data Checks (told : Option FileMap) (old new : ℕ) (check : Check) : Answer → Type 0 where
+  unread : WasRead told old new check.«module» None → Checks told old new check (unread_answer check.«module»)
+  read : (octets : List ℕ) (answer : Answer) → WasRead told old new check.«module» (Some octets) → ChecksOctets check.table octets answer
+      → Checks told old new check answer
+
+-- ---- what each status says
+
+-- Done: the module was read and has tables, and what was written shows them.
+pub record IsShownDone (told : Option FileMap) (old new : ℕ) (check : Check) (before after : Option (List ℕ)) : Type 0 where
+  pub octets : List ℕ
+  pub module_read : WasRead told old new check.«module» (Some octets)
+  pub tables : Tables
+  pub has : HasTables octets tables
+  pub written : after ≡ grown before (shown check.table tables)
+
+-- ModuleRefused: the module was read, and this is its fault.
+pub record IsRefusedModule (told : Option FileMap) (old new : ℕ) (check : Check) (before after : Option (List ℕ)) : Type 0 where
+  pub octets : List ℕ
+  pub module_read : WasRead told old new check.«module» (Some octets)
+  pub line : ℕ
+  pub column : ℕ
+  pub kind : ModuleKind
+  pub fault : IsRefused octets (faults.At line column kind)
+  pub written : after ≡ grown before (refused_text line column kind)
+
+-- ReadFault: the files' count rose in this call, or they tell that they lack the module.
+pub record IsUnreadModule (told : Option FileMap) (old new : ℕ) (check : Check) (before after : Option (List ℕ)) : Type 0 where
+  pub cause : Rose old new ⊎ Lacks told check.«module»
+  pub written : after ≡ grown before (unread_answer check.«module»).text
+
+-- ---- when each status comes
+
+-- no tables, and no fault
+abbrev pub HasNoTables : List ℕ → Type 0
+HasNoTables octets = (tables : Tables) → HasTables octets tables → ⊥
+
+abbrev pub HasNoFault : List ℕ → Type 0
+HasNoFault octets = (line column : ℕ) (kind : ModuleKind) → IsRefused octets (faults.At line column kind) → ⊥
+
+-- Over a told map whose files didn't fail: a module that is missing isn't read, one without tables is refused, and one
+-- without a fault is shown. A text that reads as a module is shown or refused.
+pub record IsCheckDue (map : FileMap) (check : Check) (sink_old sink_new : ℕ) (status : Status) : Type 0 where
+  pub no_module : map check.«module» ≡ None → IsUnless sink_old sink_new ReadFault status
+  pub no_tables : (octets : List ℕ) → map check.«module» ≡ Some octets → HasNoTables octets → IsUnless sink_old sink_new ModuleRefused status
+  pub no_fault : (octets : List ℕ) → map check.«module» ≡ Some octets → HasNoFault octets → IsUnless sink_old sink_new Done status
+  pub there : (octets : List ℕ) → map check.«module» ≡ Some octets → IsUnless sink_old sink_new Done status ⊎ IsUnless sink_old sink_new ModuleRefused status
+
+-- ---- all of it
+
+-- how the top call ends with words that are a check
+pub record CheckEnds (told : Option FileMap) (old new : ℕ) (check : Check) (sink_old sink_new : ℕ) (before after : Option (List ℕ)) (status : Status) : Type 0 where
+  pub done : status ≡ Done → IsShownDone told old new check before after
+  pub read_fault : status ≡ ReadFault → IsUnreadModule told old new check before after
+  pub module_refused : status ≡ ModuleRefused → IsRefusedModule told old new check before after
+  pub no_other : (status ≢ Usage) × (status ≢ ScriptRefused)
+  pub due : IfSome told (λ map. IsCalm old new → IsCheckDue map check sink_old sink_new status)
