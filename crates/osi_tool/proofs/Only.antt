@@ -7,8 +7,8 @@ use Rattle.dialogue.specs.declared.config.Mode.{Mode}
 use Rattle.dialogue.specs.declared.config.Phase.{Phase}
 use Rattle.dialogue.specs.declared.event.Entry.{Entry}
 use Rattle.dialogue.specs.declared.event.Transcript.{Transcript}
-use Rattle.dialogue.specs.World.{state_at}
-use Rattle.duo.specs.Laws.{OneRun}
+use Rattle.bare_duo.specs.Worlds.{ends_of, end_at}
+use Rattle.bare_duo.specs.Laws.{OneRun}
 use Rattle.script_text.specs.declared.schedule.Schedule.{Schedule}
 use Rattle.script_text.specs.Texts.{text_of}
 use Rattle.osi_tool.specs.declared.answers.Answer.{Answer}
@@ -70,9 +70,9 @@ one_text one tables schedule x y r s =
     let modes : told_by t.mode t.entries t.a t.b ≡ told_by u.mode t.entries t.a t.b = ap (λ m. told_by m t.entries t.a t.b) (r.mode ∙ sym s.mode) in
     let entries : told_by u.mode t.entries t.a t.b ≡ told_by u.mode u.entries t.a t.b = ap (λ es. told_by u.mode es t.a t.b) runs.0 in
     let firsts : told_by u.mode u.entries t.a t.b ≡ told_by u.mode u.entries u.a t.b =
-    ap (λ p. told_by u.mode u.entries p t.b) (r.a_phase ∙ ap (λ w. (state_at tables A w).phase) runs.1 ∙ sym s.a_phase) in
+    ap (λ p. told_by u.mode u.entries p t.b) (r.a_phase ∙ ap (λ w. (end_at (ends_of schedule.setup tables) A w).body.link.phase) runs.1 ∙ sym s.a_phase) in
     let seconds : told_by u.mode u.entries u.a t.b ≡ told_by u.mode u.entries u.a u.b =
-    ap (λ p. told_by u.mode u.entries u.a p) (r.b_phase ∙ ap (λ w. (state_at tables B w).phase) runs.1 ∙ sym s.b_phase) in
+    ap (λ p. told_by u.mode u.entries u.a p) (r.b_phase ∙ ap (λ w. (end_at (ends_of schedule.setup tables) B w).body.link.phase) runs.1 ∙ sym s.b_phase) in
     r.text_is ∙ ap (text_of tables) (modes ∙ entries ∙ firsts ∙ seconds) ∙ sym s.text_is
 
 -- ---- answers

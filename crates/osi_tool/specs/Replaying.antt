@@ -4,8 +4,9 @@ use Rattle.osi_base.specs.declared.words.Side.TheVariants.{A, B}
 use Rattle.stub_tables.specs.declared.tables.Tables.{Tables}
 use Rattle.stub_tables.specs.Readable.{IsReadable}
 use Rattle.dialogue.specs.declared.event.Transcript.{Transcript}
-use Rattle.dialogue.specs.World.{World, state_at, Runs}
-use Rattle.dialogue.specs.Laws.{KeepsLaws, ShownAsTaken}
+use Rattle.end_rules.specs.World.{World}
+use Rattle.bare_duo.specs.Worlds.{ends_of, end_at, Runs}
+use Rattle.bare_duo.specs.Laws.{KeepsLaws}
 use Rattle.script_text.specs.declared.schedule.Schedule.{Schedule}
 use Rattle.script_text.specs.Texts.{text_of}
 
@@ -15,15 +16,14 @@ pub record Replayed (tables : Tables) (schedule : Schedule) (text : List ℕ) : 
   pub transcript : Transcript
   -- the moments of both ends at the end of the run
   pub world : World
-  pub runs : Runs tables schedule.setup [] schedule.events transcript.entries world
+  pub runs : Runs (ends_of schedule.setup tables) [] schedule.events transcript.entries world
   -- what every table of a module keeps
   pub readable : IsReadable tables
   -- Each message taken is the one sent in its place, read under its pair at the sending; no invocation has
-  -- two outcomes; nothing whole waits; and no end found a fault.
-  pub laws : KeepsLaws tables world
-  -- Each carry shows what is taken in it, and nothing else.
-  pub shown : ShownAsTaken tables transcript.entries world
+  -- two outcomes; nothing whole waits; no end aborts of itself, and nothing is rejected; and each carry shows what is
+  -- taken in it, and nothing else.
+  pub laws : KeepsLaws tables (ends_of schedule.setup tables) transcript.entries world
   pub mode : transcript.mode ≡ schedule.setup.a.mode
-  pub a_phase : transcript.a ≡ (state_at tables A world).phase
-  pub b_phase : transcript.b ≡ (state_at tables B world).phase
+  pub a_phase : transcript.a ≡ (end_at (ends_of schedule.setup tables) A world).body.link.phase
+  pub b_phase : transcript.b ≡ (end_at (ends_of schedule.setup tables) B world).body.link.phase
   pub text_is : text ≡ text_of tables transcript

@@ -2,7 +2,7 @@
 
 ghost use Rattle.osi_tool.specs.Laws.{OneAnswer};
 
-use duo::one_run;
+use bare_duo::one_run;
 
 /// Words have one answer over told files that don't fail: so a beginning that was written before
 /// writing failed is one of what a sink that doesn't fail is given.

@@ -1,23 +1,27 @@
 //! The replay of a schedule.
 
-ghost use Rattle.std.specs.Prelude.{◌≡◌, None, IfOk};
+ghost use Rattle.std.specs.Prelude.{◌≡◌, [], None, IfOk};
+ghost use Rattle.dialogue.specs.declared.config.Mode.TheVariants as modes;
 ghost use Rattle.dialogue.specs.Config.{config_refusal};
-ghost use Rattle.dialogue.specs.State.{bare_start};
+ghost use Rattle.bare_end.specs.View.{StandsFor};
 ghost use Rattle.osi_tool.specs.Replaying.{Replayed};
 
+use bare_duo::run_world;
+use bare_end::End;
 use dialogue::{Config, ConfigRefusal};
-use duo::run_world;
 use osi_base::{NoMemory, Octets};
 use script_text::{Schedule, transcript_text};
-use stack::End;
 use std::alloc::Global;
 use stub_tables::Tables;
 
 /// An end that has made no step. Its configuration is one that no end refuses, so only memory can
 /// lack.
 fn new_end<'t>(alloc: Global, tables: &'t Tables, config: Config) -> Result<End<'t>, NoMemory>
-    requires { config_refusal config ≡ None }
-    ensures { IfOk result (λ end. end ≡ record { tables = tables.entry.now; config = config; state = bare_start tables.entry.now }) }
+    requires bare { config.mode ≡ modes.Bare }
+    requires accepted { config_refusal config ≡ None }
+    ensures tables { IfOk result (λ end. end.tables ≡ tables.entry.now) }
+    ensures config { IfOk result (λ end. end.config ≡ config) }
+    ensures new { IfOk result (λ end. StandsFor end []) }
 {
     match End::new(alloc, tables, config) {
         Ok(end) => Ok(end),
