@@ -6,7 +6,7 @@ use Rattle.module_check.specs.Checking.{IsChecked}
 use Rattle.module_check.specs.declared.checking.Checked.{Checked}
 use Rattle.osi_tool.specs.declared.answers.Answer.{Answer}
 use Rattle.osi_tool.specs.Answers.{unread_answer}
-use Rattle.osi_tool.specs.Preparing.{WasRead}
+use Rattle.osi_tool.specs.Reading.{WasRead}
 use Rattle.osi_tool.specs.Checking.{checked_answer, ChecksOctets, Checks, unread, read}
 
 pub checks_octets : (table : Bool) (octets : List ℕ) (written : Checked) (answer : Answer) → IsChecked table octets written → answer ≡ checked_answer written

@@ -12,10 +12,11 @@ use Rattle.module_check.specs.declared.checking.Checked.{Checked}
 use Rattle.module_check.specs.declared.checking.Checked.TheVariants.{Shown, Refused}
 use Rattle.osi_tool.specs.declared.answers.Answer.{Answer}
 use Rattle.osi_tool.specs.Answers.{Closes}
-use Rattle.osi_tool.specs.Preparing.{WasRead}
-use Rattle.osi_tool.specs.Checking.{checked_answer, ChecksOctets, Checks, unread, read, IsShownDone, IsRefusedModule, IsUnreadModule, HasNoTables, HasNoFault, IsCheckDue, CheckEnds}
+use Rattle.osi_tool.specs.Reading.{WasRead}
+use Rattle.osi_tool.specs.Causes.{IsUnread, IsRefusedModule, HasNoTables, HasNoFault}
+use Rattle.osi_tool.specs.Checking.{checked_answer, ChecksOctets, Checks, unread, read, IsShownDone, IsCheckDue, CheckEnds}
 use Rattle.osi_tool.proofs.Endings.{is_answers, whole_of, unless_of, unless_one_of}
-use Rattle.osi_tool.proofs.Causes.{has_read, lacks_it}
+use Rattle.osi_tool.proofs.Calm.{same_read, never_lacks, never_read}
 
 -- ---- the statuses of answers
 
@@ -40,10 +41,10 @@ module _ (told : Option FileMap) (old new : ℕ) (check : Check) (before after :
   shown_by octets w (Refused text) is h put = cc
 
   refused_by : (octets : List ℕ) → WasRead told old new check.«module» (Some octets) → (written : Checked) → IsChecked check.table octets written
-      → (checked_answer written).status ≡ ModuleRefused → after ≡ grown before (checked_answer written).text → IsRefusedModule told old new check before after
+      → (checked_answer written).status ≡ ModuleRefused → after ≡ grown before (checked_answer written).text → IsRefusedModule told old new check.«module» before after
   refused_by octets w (Shown text) is h put = cc
   refused_by octets w (Refused text) is h put = record {
-    octets = octets;
+    text = octets;
     module_read = w;
     line = is.line;
     column = is.column;
@@ -64,12 +65,12 @@ module _ (told : Option FileMap) (old new : ℕ) (check : Check) (before after :
   done_case answer (read octets _ w is) h put =
       shown_by octets w is.written is.is (sym (status_as answer is.written is.answer_is) ∙ h) (same_text answer is.written is.answer_is put)
 
-  module_case : (answer : Answer) → Checks told old new check answer → answer.status ≡ ModuleRefused → after ≡ grown before answer.text → IsRefusedModule told old new check before after
+  module_case : (answer : Answer) → Checks told old new check answer → answer.status ≡ ModuleRefused → after ≡ grown before answer.text → IsRefusedModule told old new check.«module» before after
   module_case _ (unread w) h put = cc
   module_case answer (read octets _ w is) h put =
       refused_by octets w is.written is.is (sym (status_as answer is.written is.answer_is) ∙ h) (same_text answer is.written is.answer_is put)
 
-  unread_case : (answer : Answer) → Checks told old new check answer → answer.status ≡ ReadFault → after ≡ grown before answer.text → IsUnreadModule told old new check before after
+  unread_case : (answer : Answer) → Checks told old new check answer → answer.status ≡ ReadFault → after ≡ grown before answer.text → IsUnread told old new check.«module» before after
   unread_case _ (unread w) h put = record { cause = w; written = put }
   unread_case answer (read octets _ w is) h put = absurd ((never_by is.written).0 (sym (status_as answer is.written is.answer_is) ∙ h))
 
@@ -81,35 +82,35 @@ module _ (told : Option FileMap) (old new : ℕ) (check : Check) (before after :
   no_script _ (unread w) h = cc
   no_script answer (read octets _ w is) h = (never_by is.written).2 (sym (status_as answer is.written is.answer_is) ∙ h)
 
+pub never_usage_check : (told : Option FileMap) (old new : ℕ) (check : Check) (answer : Answer) → Checks told old new check answer → answer.status ≡ Usage → ⊥
+never_usage_check told old new check answer is h = no_usage told old new check None None answer is h
+
 -- ---- over a told map whose files didn't fail
 
 module _ (map : FileMap) (old new : ℕ) (check : Check) (calm : IsCalm old new) where
   no_module_due : map check.«module» ≡ None → (answer : Answer) → Checks (Some map) old new check answer → answer.status ≡ ReadFault
   no_module_due h _ (unread w) = refl
-  no_module_due h answer (read octets _ w is) = let e = sym (has_read map old new check.«module» octets w) ∙ h in absurd cc
-
-  same_octets : (octets given : List ℕ) → WasRead (Some map) old new check.«module» (Some octets) → map check.«module» ≡ Some given → octets ≡ given
-  same_octets octets given w h = let e : Some octets ≡ Some given = sym (has_read map old new check.«module» octets w) ∙ h in cc
+  no_module_due h answer (read octets _ w is) = never_read map old new check.«module» octets w h
 
   refused_if_none : (octets : List ℕ) → HasNoTables octets → (written : Checked) → IsChecked check.table octets written → (checked_answer written).status ≡ ModuleRefused
   refused_if_none octets none (Shown text) is = absurd (none is.tables is.has)
   refused_if_none octets none (Refused text) is = refl
 
   no_tables_due : (given : List ℕ) → map check.«module» ≡ Some given → HasNoTables given → (answer : Answer) → Checks (Some map) old new check answer → answer.status ≡ ModuleRefused
-  no_tables_due given h none _ (unread w) = let e = sym h ∙ lacks_it map old new check.«module» calm w in absurd cc
+  no_tables_due given h none _ (unread w) = never_lacks map old new check.«module» given calm w h
   no_tables_due given h none answer (read octets _ w is) =
       let P : List ℕ → Type 0 = λ o. HasNoTables o in
-      status_as answer is.written is.answer_is ∙ refused_if_none octets (subst P (sym (same_octets octets given w h)) none) is.written is.is
+      status_as answer is.written is.answer_is ∙ refused_if_none octets (subst P (sym (same_read map old new check.«module» octets given w h)) none) is.written is.is
 
   shown_if_none : (octets : List ℕ) → HasNoFault octets → (written : Checked) → IsChecked check.table octets written → (checked_answer written).status ≡ Done
   shown_if_none octets none (Shown text) is = refl
   shown_if_none octets none (Refused text) is = absurd (none is.line is.column is.kind is.refused)
 
   no_fault_due : (given : List ℕ) → map check.«module» ≡ Some given → HasNoFault given → (answer : Answer) → Checks (Some map) old new check answer → answer.status ≡ Done
-  no_fault_due given h none _ (unread w) = let e = sym h ∙ lacks_it map old new check.«module» calm w in absurd cc
+  no_fault_due given h none _ (unread w) = never_lacks map old new check.«module» given calm w h
   no_fault_due given h none answer (read octets _ w is) =
       let P : List ℕ → Type 0 = λ o. HasNoFault o in
-      status_as answer is.written is.answer_is ∙ shown_if_none octets (subst P (sym (same_octets octets given w h)) none) is.written is.is
+      status_as answer is.written is.answer_is ∙ shown_if_none octets (subst P (sym (same_read map old new check.«module» octets given w h)) none) is.written is.is
 
   one_written : (written : Checked) → ((checked_answer written).status ≡ Done) ⊎ ((checked_answer written).status ≡ ModuleRefused)
   one_written (Shown text) = inl refl
@@ -121,7 +122,7 @@ module _ (map : FileMap) (old new : ℕ) (check : Check) (calm : IsCalm old new)
   one_answered answer written e (inr h) = inr (status_as answer written e ∙ h)
 
   there_due : (given : List ℕ) → map check.«module» ≡ Some given → (answer : Answer) → Checks (Some map) old new check answer → (answer.status ≡ Done) ⊎ (answer.status ≡ ModuleRefused)
-  there_due given h _ (unread w) = let e = sym h ∙ lacks_it map old new check.«module» calm w in absurd cc
+  there_due given h _ (unread w) = never_lacks map old new check.«module» given calm w h
   there_due given h answer (read octets _ w is) = one_answered answer is.written is.answer_is (one_written is.written)
 
   pub map_due : (before after : Option (List ℕ)) (sink_old sink_new : ℕ) (status : Status) → Closes (Checks (Some map) old new check) old new sink_old sink_new before after status
@@ -147,12 +148,12 @@ module _ (told : Option FileMap) (old new : ℕ) (check : Check) (before after :
       let a = whole_of (Checks told old new check) old new sink_old sink_new before after status Done closes h refl in
       done_case told old new check before after a.answer a.is a.status_is a.written
 
-  unread_of : status ≡ ReadFault → IsUnreadModule told old new check before after
+  unread_of : status ≡ ReadFault → IsUnread told old new check.«module» before after
   unread_of h =
       let a = whole_of (Checks told old new check) old new sink_old sink_new before after status ReadFault closes h refl in
       unread_case told old new check before after a.answer a.is a.status_is a.written
 
-  module_of : status ≡ ModuleRefused → IsRefusedModule told old new check before after
+  module_of : status ≡ ModuleRefused → IsRefusedModule told old new check.«module» before after
   module_of h =
       let a = whole_of (Checks told old new check) old new sink_old sink_new before after status ModuleRefused closes h refl in
       module_case told old new check before after a.answer a.is a.status_is a.written

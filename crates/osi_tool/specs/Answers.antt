@@ -6,6 +6,8 @@ use Rattle.osi_base.specs.declared.words.Status.TheVariants.{Done, Usage, ReadFa
 use Rattle.script_text.specs.declared.fault.ScriptKind.{ScriptKind}
 use Rattle.script_text.specs.declared.fault.ScriptKind.TheVariants as kinds
 use Rattle.script_text.specs.Texts.{line}
+use Rattle.module_reading.specs.declared.fault.ModuleKind.{ModuleKind}
+use Rattle.module_check.specs.Checking.{refused_text}
 use Rattle.osi_tool.specs.declared.answers.Answer.{Answer}
 
 -- the words are no command
@@ -19,9 +21,9 @@ usage_answer = record {
 abbrev pub unread_answer : List ℕ → Answer
 unread_answer name = record { status = ReadFault; text = line (codes "cannot read " ++ name) }
 
--- the module isn't the one that is known
-abbrev pub module_answer : Answer
-module_answer = record { status = ModuleRefused; text = line (codes "module refused 1 1 Unsupported") }
+-- the module has a fault at this line and column
+abbrev pub module_answer : ℕ → ℕ → ModuleKind → Answer
+module_answer number column kind = record { status = ModuleRefused; text = refused_text number column kind }
 
 abbrev pub kind_word : ScriptKind → List ℕ
 kind_word kinds.UnknownWord = codes "UnknownWord"

@@ -1,22 +1,18 @@
 -- The command `check`: what words and files make the program answer, and why it ends as it does.
 use Rattle.std.specs.Prelude.{ℕ, Bool, ◌≡◌, ◌≢◌, ◌⊎◌, List, Option, None, Some, IfSome}
-use Rattle.osi_base.specs.Outside.{Rose, IsCalm, FileMap, Lacks, grown}
+use Rattle.osi_base.specs.Outside.{IsCalm, FileMap, grown}
 use Rattle.osi_base.specs.declared.words.Status.{Status}
 use Rattle.osi_base.specs.declared.words.Status.TheVariants.{Done, Usage, ReadFault, ModuleRefused, ScriptRefused}
 use Rattle.stub_tables.specs.declared.tables.Tables.{Tables}
-use Rattle.module_reading.specs.declared.fault.ModuleKind.{ModuleKind}
-use Rattle.module_reading.specs.declared.fault.ModuleFault.TheVariants as faults
-use Rattle.module_reading.specs.Modules.{HasTables, IsRefused}
+use Rattle.module_reading.specs.Modules.{HasTables}
 use Rattle.module_check.specs.Command.{Check}
-use Rattle.module_check.specs.Checking.{shown, refused_text, IsChecked}
+use Rattle.module_check.specs.Checking.{shown, IsChecked}
 use Rattle.module_check.specs.declared.checking.Checked.{Checked}
 use Rattle.module_check.specs.declared.checking.Checked.TheVariants.{Shown, Refused}
 use Rattle.osi_tool.specs.declared.answers.Answer.{Answer}
 use Rattle.osi_tool.specs.Answers.{unread_answer, done_answer, IsUnless}
-use Rattle.osi_tool.specs.Preparing.{WasRead}
-
-abbrev pub check_given : List ℕ → Bool → Check
-check_given module_name table = record { «module» = module_name; table = table }
+use Rattle.osi_tool.specs.Reading.{WasRead}
+use Rattle.osi_tool.specs.Causes.{IsUnread, IsRefusedModule, HasNoTables, HasNoFault}
 
 -- ---- the whole of it
 
@@ -48,32 +44,10 @@ pub record IsShownDone (told : Option FileMap) (old new : ℕ) (check : Check) (
   pub has : HasTables octets tables
   pub written : after ≡ grown before (shown check.table tables)
 
--- ModuleRefused: the module was read, and this is its fault.
-pub record IsRefusedModule (told : Option FileMap) (old new : ℕ) (check : Check) (before after : Option (List ℕ)) : Type 0 where
-  pub octets : List ℕ
-  pub module_read : WasRead told old new check.«module» (Some octets)
-  pub line : ℕ
-  pub column : ℕ
-  pub kind : ModuleKind
-  pub fault : IsRefused octets (faults.At line column kind)
-  pub written : after ≡ grown before (refused_text line column kind)
-
--- ReadFault: the files' count rose in this call, or they tell that they lack the module.
-pub record IsUnreadModule (told : Option FileMap) (old new : ℕ) (check : Check) (before after : Option (List ℕ)) : Type 0 where
-  pub cause : Rose old new ⊎ Lacks told check.«module»
-  pub written : after ≡ grown before (unread_answer check.«module»).text
-
 -- ---- when each status comes
 
--- no tables, and no fault
-abbrev pub HasNoTables : List ℕ → Type 0
-HasNoTables octets = (tables : Tables) → HasTables octets tables → ⊥
-
-abbrev pub HasNoFault : List ℕ → Type 0
-HasNoFault octets = (line column : ℕ) (kind : ModuleKind) → IsRefused octets (faults.At line column kind) → ⊥
-
 -- Over a told map whose files didn't fail: a module that is missing isn't read, one without tables is refused, and one
--- without a fault is shown. A text that reads as a module is shown or refused.
+-- without a fault is shown. Any module that is there is shown or refused.
 pub record IsCheckDue (map : FileMap) (check : Check) (sink_old sink_new : ℕ) (status : Status) : Type 0 where
   pub no_module : map check.«module» ≡ None → IsUnless sink_old sink_new ReadFault status
   pub no_tables : (octets : List ℕ) → map check.«module» ≡ Some octets → HasNoTables octets → IsUnless sink_old sink_new ModuleRefused status
@@ -85,7 +59,7 @@ pub record IsCheckDue (map : FileMap) (check : Check) (sink_old sink_new : ℕ) 
 -- how the top call ends with words that are a check
 pub record CheckEnds (told : Option FileMap) (old new : ℕ) (check : Check) (sink_old sink_new : ℕ) (before after : Option (List ℕ)) (status : Status) : Type 0 where
   pub done : status ≡ Done → IsShownDone told old new check before after
-  pub read_fault : status ≡ ReadFault → IsUnreadModule told old new check before after
-  pub module_refused : status ≡ ModuleRefused → IsRefusedModule told old new check before after
+  pub read_fault : status ≡ ReadFault → IsUnread told old new check.«module» before after
+  pub module_refused : status ≡ ModuleRefused → IsRefusedModule told old new check.«module» before after
   pub no_other : (status ≢ Usage) × (status ≢ ScriptRefused)
   pub due : IfSome told (λ map. IsCalm old new → IsCheckDue map check sink_old sink_new status)

@@ -1,5 +1,5 @@
 -- The replay of a schedule.
-use Rattle.std.specs.Prelude.{◌≡◌, ℕ, List, []}
+use Rattle.std.specs.Prelude.{◌≡◌, ℕ, List, [], Result, Ok, Err}
 use Rattle.osi_base.specs.declared.words.Side.TheVariants.{A, B}
 use Rattle.stub_tables.specs.declared.tables.Tables.{Tables}
 use Rattle.stub_tables.specs.Readable.{IsReadable}
@@ -8,7 +8,12 @@ use Rattle.end_rules.specs.World.{World}
 use Rattle.bare_duo.specs.Worlds.{ends_of, end_at, Runs}
 use Rattle.bare_duo.specs.Laws.{KeepsLaws}
 use Rattle.script_text.specs.declared.schedule.Schedule.{Schedule}
+use Rattle.script_text.specs.declared.fault.ScriptFault.{ScriptFault}
+use Rattle.script_text.specs.declared.fault.ScriptFault.TheVariants.{At, NoMemory}
+use Rattle.script_text.specs.Schedules.{schedule_of}
 use Rattle.script_text.specs.Texts.{text_of}
+use Rattle.osi_tool.specs.declared.answers.Answer.{Answer}
+use Rattle.osi_tool.specs.Answers.{script_answer, done_answer}
 
 -- Two ends with the configurations of the schedule's setup, which had made no step, ran its events, and
 -- this is the text of what came of them.
@@ -27,3 +32,13 @@ pub record Replayed (tables : Tables) (schedule : Schedule) (text : List ℕ) : 
   pub a_phase : transcript.a ≡ (end_at (ends_of schedule.setup tables) A world).body.link.phase
   pub b_phase : transcript.b ≡ (end_at (ends_of schedule.setup tables) B world).body.link.phase
   pub text_is : text ≡ text_of tables transcript
+
+-- what is answered where the octets of a schedule were read so: the text of its run, or its first faulty line
+abbrev pub RepliedBy : Tables → Result Schedule ScriptFault → Answer → Type 0
+RepliedBy tables (Ok schedule) answer = (text : List ℕ) × Replayed tables schedule text × (answer ≡ done_answer text)
+RepliedBy tables (Err (At number kind)) answer = answer ≡ script_answer number kind
+RepliedBy tables (Err NoMemory) answer = ⊥
+
+-- what is answered to the octets of a schedule
+abbrev pub ReplayedBy : Tables → List ℕ → Answer → Type 0
+ReplayedBy tables octets answer = RepliedBy tables (schedule_of tables octets) answer

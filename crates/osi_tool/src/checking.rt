@@ -3,11 +3,12 @@
 ghost use Rattle.std.specs.Prelude.{◌≡◌, ◌≤◌, IfOk, OnOk, OnErr};
 ghost use Rattle.osi_base.specs.Outside.{logged};
 ghost use Rattle.osi_tool.specs.Answers.{KeepsCount};
-ghost use Rattle.osi_tool.specs.Preparing.{MayAsk};
-ghost use Rattle.osi_tool.specs.Checking.{check_given, checked_answer, ChecksOctets, Checks};
+ghost use Rattle.osi_tool.specs.Reading.{MayAsk};
+ghost use Rattle.osi_tool.specs.Given.{check_given};
+ghost use Rattle.osi_tool.specs.Checking.{checked_answer, ChecksOctets, Checks};
 
 use crate::answers::{Answer, cannot_read, done};
-use crate::preparing::read_file;
+use crate::reading::read_file;
 use module_check::{Check, Checked, check_module};
 use osi_base::{Files, NoMemory, Status};
 use std::alloc::Global;
@@ -45,7 +46,7 @@ pub fn answer_check<F: Files>(
     ensures count { F.faults files.old ≤ F.faults files.new }
     ensures kept { F.told files.new ≡ F.told files.old }
     ensures answer { IfOk result (λ answer. Checks (F.told files.old) (F.faults files.old)
-        (F.faults files.new) (check_given check.entry.«module».now check.entry.table) answer) }
+        (F.faults files.new) (check_given check.entry) answer) }
     ensures counts { IfOk result (λ answer. KeepsCount (F.faults files.old) (F.faults files.new)
         answer) }
     ensures err_count { OnErr result (F.faults files.new ≡ F.faults files.old) }

@@ -4,10 +4,10 @@
 mod answers;
 mod checking;
 mod commands;
-mod known;
 mod laws;
-mod preparing;
+mod pairs;
 mod process;
+mod reading;
 mod replaying;
 mod statuses;
 #[cfg(test)]

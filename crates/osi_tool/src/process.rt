@@ -1,10 +1,8 @@
 //! The program as a process: its arguments in, the number with which it ends out.
 
 ghost use Rattle.std.specs.Prelude.{◌≡◌, IfOk, map, drop, string_bytes};
-ghost use Rattle.module_check.specs.Command.{check_of};
 ghost use Rattle.osi_tool.specs.Commands.{command_of};
-ghost use Rattle.osi_tool.specs.Tracing.{trace_of};
-ghost use Rattle.osi_tool.specs.Given.{AsksGiven};
+ghost use Rattle.osi_tool.specs.TopCall.{Asks};
 ghost use Rattle.osi_tool.specs.Process.{words_given, Exits};
 
 use crate::statuses::exit_code;
@@ -58,9 +56,8 @@ pub fn run_process<F: Files, O: Sink, L: Line>(
     line: &mut L,
 ) -> u8
     ensures exits { Exits (F.told files.old) (F.faults files.old) (F.faults files.new) (words_given arguments) (O.faults out.old) (O.faults out.new) (O.told out.old) (O.told out.new) result }
-    ensures asked { let words = words_given arguments in AsksGiven (check_of words) (trace_of words)
-        (command_of words) (F.told files.old) (F.faults files.old) (F.faults files.new)
-        (F.asked files.old) (F.asked files.new) }
+    ensures asked { Asks (F.told files.old) (F.faults files.old) (F.faults files.new)
+        (command_of (words_given arguments)) (F.asked files.old) (F.asked files.new) }
 {
     match read_words(alloc, arguments) {
         Ok(words) => exit_code(osi_run(alloc, &words, files, out, line)),

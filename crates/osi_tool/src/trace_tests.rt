@@ -1,7 +1,6 @@
 //! What no clause says of traces: whole runs with ample memory, among them those of the examples.
 
-use crate::known::ONE_MODULE;
-use crate::tests::{files, words};
+use crate::tests::{ONE_MODULE, files, words};
 use crate::top::osi_run;
 use osi_base::{NoMemory, Octets, Status, SureLine, SureSink};
 use std::alloc::Global;
