@@ -12,13 +12,13 @@ use Rattle.osi_tool.specs.declared.reading.PairRead.{PairRead}
 use Rattle.osi_tool.specs.declared.reading.PairRead.TheVariants.{Answered, Whole}
 use Rattle.osi_tool.specs.Commands.{FilePair}
 use Rattle.osi_tool.specs.Answers.{unread_answer, module_answer, script_answer, done_answer}
-use Rattle.osi_tool.specs.Reading.{WasRead, ReadsSecond, no_second, second, ReadsPair, no_module, refused, has_tables, HasModule}
+use Rattle.osi_tool.specs.Reading.{WasRead, ReadsSecond, no_second, second, ReadsPair, no_module, refused, has_tables, HasModule, PairAsked, PairAskedFor}
 use Rattle.osi_tool.specs.Causes.{IsUnread, IsRefusedModule, HasNoTables, HasNoFault}
 use Rattle.osi_tool.specs.Pairs.{SecondBy, AnswersPair, refuses, works, IsPairDone, IsPairRefused, IsPairUnread, due_by_octets, due_by_second}
 use Rattle.osi_tool.proofs.Endings.{is_answers}
 use Rattle.osi_tool.proofs.Calm.{has_read, lacks_it, same_read, never_lacks, never_read}
 use Rattle.osi_tool.proofs.OneTables.{one_tables}
-use Rattle.osi_tool.proofs.Second.{SecondCase, worked, bad, case_of, due_second}
+use Rattle.osi_tool.proofs.Second.{SecondCase, worked, bad, case_of, due_second, asked_both}
 
 module _ (told : Option FileMap) (old new : ℕ) (pair : FilePair) where
   -- each way in which it is answered
@@ -240,3 +240,12 @@ module _ (map : FileMap) (old new : ℕ) (pair : FilePair) (calm : IsCalm old ne
   no_fault_due given tables e g none _ (second_unread text found w h v) = unread_due tables v
   no_fault_due given tables e g none answer (second_read text found octets _ w h v by) =
       read_due tables found octets answer (same_tables given text tables found e g w h) v by
+
+-- ---- which files were asked for
+
+-- both, where the second file was read and is answered
+pub pair_asked : (pair : FilePair) (read : PairRead) (tables : Tables) (octets given : List ℕ) (before after : Option (List (List ℕ))) (answer : Answer) → read ≡ Whole tables octets
+    → PairAskedFor pair before after read → SecondBy pair.work tables given answer → PairAsked pair before after answer.status
+pair_asked pair read tables octets given before after answer e asked by =
+    let P : PairRead → Type 0 = λ x. PairAskedFor pair before after x in
+    asked_both pair tables given before after answer (case_of pair.work tables given answer by) (subst P e asked)

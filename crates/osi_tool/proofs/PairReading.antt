@@ -29,12 +29,13 @@ pub module_none : (told : Option FileMap) (old new : ℕ) (pair : FilePair) (ans
     → ReadsPair told old new pair (Answered answer)
 module_none told old new pair answer w a = let P : Answer → Type 0 = λ x. ReadsPair told old new pair (Answered x) in subst P (sym a) (no_module w)
 
-pub module_refused : (told : Option FileMap) (old new : ℕ) (pair : FilePair) (text given : List ℕ) (line column : ℕ) (kind : ModuleKind) (answer : Answer)
-    → WasRead told old new pair.«module» (Some text) → given ≡ text → IsRefused given (faults.At line column kind) → answer ≡ module_answer line column kind
+pub module_refused : (told : Option FileMap) (old new : ℕ) (pair : FilePair) (found : Option (List ℕ)) (text given : List ℕ) (line column : ℕ) (kind : ModuleKind) (answer : Answer)
+    → WasRead told old new pair.«module» found → found ≡ Some text → given ≡ text → IsRefused given (faults.At line column kind) → answer ≡ module_answer line column kind
     → ReadsPair told old new pair (Answered answer)
-module_refused told old new pair text given line column kind answer w e r a =
+module_refused told old new pair found text given line column kind answer w s e r a =
+    let W : Option (List ℕ) → Type 0 = λ x. WasRead told old new pair.«module» x in
     let P : Answer → Type 0 = λ x. ReadsPair told old new pair (Answered x) in
-    let Q : List ℕ → Type 0 = λ o. IsRefused o (faults.At line column kind) in subst P (sym a) (refused text line column kind w (subst Q e r))
+    let Q : List ℕ → Type 0 = λ o. IsRefused o (faults.At line column kind) in subst P (sym a) (refused text line column kind (subst W s w) (subst Q e r))
 
 -- the second file was read where the first one had left the files as they were
 pub module_found : (told later : Option FileMap) (old mid new : ℕ) (pair : FilePair) (found : Option (List ℕ)) (text given : List ℕ) (tables : Tables) (read : PairRead)

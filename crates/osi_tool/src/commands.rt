@@ -49,7 +49,7 @@ fn is_word(word: &Name, text: &str) -> bool
 }
 
 /// What a first word asks for.
-fn work(word: &Name) -> Option<Work>
+fn asked_work(word: &Name) -> Option<Work>
     ensures { result ≡ work_of word.now }
 {
     if is_word(word, "replay") {
@@ -63,7 +63,7 @@ fn work(word: &Name) -> Option<Work>
 
 /// The two files that these words give, where they give them: exactly the three words `replay` or
 /// `trace`, the module's name and the second file's.
-fn pair(words: &Words) -> Option<FilePair<'_>>
+fn asked_pair(words: &Words) -> Option<FilePair<'_>>
     ensures { MatchOption result (pair_of words.now ≡ None)
         (λ pair. pair_of words.now ≡ Some (pair_given pair)) }
 {
@@ -72,7 +72,7 @@ fn pair(words: &Words) -> Option<FilePair<'_>>
             if !is_name(module) || !is_name(second) {
                 return None;
             }
-            let work = work(word)?;
+            let work = asked_work(word)?;
             Some(FilePair {
                 work,
                 module,
@@ -84,14 +84,14 @@ fn pair(words: &Words) -> Option<FilePair<'_>>
 }
 
 /// The command that these words give, where they give one.
-pub fn command(words: &Words) -> Option<Command<'_>>
+pub fn read_command(words: &Words) -> Option<Command<'_>>
     ensures { MatchOption result (command_of words.now ≡ None)
         (λ command. command_of words.now ≡ Some (given command)) }
 {
     match check_command(words) {
         Some(check) => Some(Command::Check(check)),
         None => {
-            let pair = pair(words)?;
+            let pair = asked_pair(words)?;
             Some(Command::Pair(pair))
         }
     }

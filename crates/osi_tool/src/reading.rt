@@ -72,7 +72,7 @@ fn read_second<F: Files>(
 
 /// Reads the module, and then the second file. The first that is faulty decides, and a file that
 /// isn't due isn't read.
-#[tactic(auto, using(crate::proofs::PairReading::module_none, crate::proofs::PairReading::module_refused, crate::proofs::PairReading::second_asked))]
+#[tactic(auto, using(crate::proofs::PairReading::module_none))]
 pub fn read_pair<F: Files>(
     alloc: Global,
     pair: FilePair<'_>,

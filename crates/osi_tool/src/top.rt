@@ -12,7 +12,7 @@ ghost use Rattle.osi_tool.specs.TopCall.{IsAnswer, IsUsage, Asks, AskedBy, Asked
 
 use crate::answers::{Answer, conclude, usage};
 use crate::checking::answer_check;
-use crate::commands::{Command, command};
+use crate::commands::{Command, read_command};
 use crate::pairs::answer_pair;
 use osi_base::{Files, Line, NoMemory, Sink, Status, Words};
 use std::alloc::Global;
@@ -55,7 +55,7 @@ fn answer_words<F: Files>(alloc: Global, words: &Words, files: &mut F) -> Result
     ensures asked_for { IfOk result (λ answer. AskedBy (command_of words.now) (F.asked files.old)
         (F.asked files.new) answer.status) }
 {
-    match command(words) {
+    match read_command(words) {
         None => usage(alloc),
         Some(command) => answer_command(alloc, command, files),
     }
