@@ -17,6 +17,8 @@ pub checks_unread : (told : Option FileMap) (old new : ℕ) (check : Check) (ans
     → Checks told old new check answer
 checks_unread told old new check answer w a = let P : Answer → Type 0 = λ x. Checks told old new check x in subst P (sym a) (unread w)
 
-pub checks_read : (told : Option FileMap) (old new : ℕ) (check : Check) (octets given : List ℕ) (answer : Answer) → WasRead told old new check.«module» (Some octets) → given ≡ octets
-    → ChecksOctets check.table given answer → Checks told old new check answer
-checks_read told old new check octets given answer w e h = let P : List ℕ → Type 0 = λ o. ChecksOctets check.table o answer in read octets answer w (subst P e h)
+pub checks_read : (told : Option FileMap) (old new : ℕ) (check : Check) (found : Option (List ℕ)) (octets given : List ℕ) (answer : Answer) → WasRead told old new check.«module» found
+    → found ≡ Some octets → given ≡ octets → ChecksOctets check.table given answer → Checks told old new check answer
+checks_read told old new check found octets given answer w s e h =
+    let W : Option (List ℕ) → Type 0 = λ x. WasRead told old new check.«module» x in
+    let P : List ℕ → Type 0 = λ o. ChecksOctets check.table o answer in read octets answer (subst W s w) (subst P e h)

@@ -1,6 +1,5 @@
 pub mod Exiting
 pub mod Replays
-pub mod OneTables
 pub mod Only
 pub mod Endings
 pub mod Calm

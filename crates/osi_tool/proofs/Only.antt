@@ -39,7 +39,7 @@ use Rattle.osi_tool.specs.Pairs.{SecondBy}
 use Rattle.osi_tool.specs.TopCall.{IsAnswer}
 use Rattle.osi_tool.specs.Laws.{OneAnswer}
 use Rattle.osi_tool.proofs.Calm.{has_read, lacks_it, same_read, never_lacks}
-use Rattle.osi_tool.proofs.OneTables.{one_tables}
+use Rattle.module_reading.proofs.OneTables.{one_tables}
 use Rattle.osi_tool.proofs.PairCases.{PairCase, module_unread, module_faulty, second_unread, second_read, pair_case}
 
 -- ---- what is replayed

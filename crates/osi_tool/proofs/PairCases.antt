@@ -17,7 +17,7 @@ use Rattle.osi_tool.specs.Causes.{IsUnread, IsRefusedModule, HasNoTables, HasNoF
 use Rattle.osi_tool.specs.Pairs.{SecondBy, AnswersPair, refuses, works, IsPairDone, IsPairRefused, IsPairUnread, due_by_octets, due_by_second}
 use Rattle.osi_tool.proofs.Endings.{is_answers}
 use Rattle.osi_tool.proofs.Calm.{has_read, lacks_it, same_read, never_lacks, never_read}
-use Rattle.osi_tool.proofs.OneTables.{one_tables}
+use Rattle.module_reading.proofs.OneTables.{one_tables}
 use Rattle.osi_tool.proofs.Second.{SecondCase, worked, bad, case_of, due_second, asked_both}
 
 module _ (told : Option FileMap) (old new : ℕ) (pair : FilePair) where

@@ -37,7 +37,7 @@ fn check_octets(alloc: Global, octets: &[u8], table: bool) -> Result<Answer, NoM
 
 /// What the program answers to a check. What tells that the module isn't read is made before it is
 /// asked for, so that no want of memory stands between a file that failed and its telling.
-#[tactic(auto, using(crate::proofs::CheckAnswers::checks_unread, crate::proofs::CheckAnswers::checks_read))]
+#[tactic(auto, using(crate::proofs::CheckAnswers::checks_unread))]
 pub fn answer_check<F: Files>(
     alloc: Global,
     check: Check<'_>,

@@ -11,8 +11,7 @@ use Rattle.operation_notation.specs.declared.module.ModuleText.{ModuleText}
 use Rattle.operation_notation.specs.Modules.{module_of}
 use Rattle.table_file.specs.Contents.{Contents, contents_of}
 use Rattle.table_file.specs.Loading.{load_of}
-use Rattle.module_compiler.specs.Tables.{AreTablesOf, ground_of}
-use Rattle.module_compiler.specs.Tabling.{whole_of}
+use Rattle.module_compiler.specs.Tables.{AreTablesOf}
 use Rattle.module_reading.specs.Modules.{is_table_file, TextHasTables, HasTables}
 
 abbrev Few : {X : Type 0} → List X → Type 0
@@ -64,12 +63,16 @@ same_contents t u same =
 abbrev contents_with : List ℕ → List ℕ → List TypeRow → List Operation → List ErrorRow → Contents
 contents_with name oid types operations errors = record { name = name; name_oid = oid; types = types; operations = operations; errors = errors }
 
+-- what is made of two equal things is equal
+of_same : {W B : Type 0} (x y : W) → Some x ≡ Some y → (f : W → B) → f x ≡ f y
+of_same x y e f = let same : x ≡ y = cc in ap f same
+
 same_text : (m : ModuleText) (t u : Tables) → AreTablesOf m t → AreTablesOf m u → t ≡ u
 same_text m t u h k =
     let rows = sym h.rows ∙ k.rows in
-    let types : t.types ≡ u.types = cc in
-    let operations : t.operations ≡ u.operations = cc in
-    let errors : t.errors ≡ u.errors = cc in
+    let types : t.types ≡ u.types = of_same _ _ rows (λ w. w.types) in
+    let operations : t.operations ≡ u.operations = of_same _ _ rows (λ w. w.operations) in
+    let errors : t.errors ≡ u.errors = of_same _ _ rows (λ w. w.errors) in
     same_contents t u (
     ap (λ x. contents_with x t.name_oid t.types t.operations t.errors) (h.name ∙ sym k.name)
     ∙ ap (λ x. contents_with u.name x t.types t.operations t.errors) (h.name_oid ∙ sym k.name_oid)
