@@ -1,5 +1,6 @@
 -- Two ends of bare mode reject nothing: what comes next to an end that is up is heard without a problem.
 use Rattle.std.proofs.Common.{◌≡◌, refl, true, false, ◌∙◌, sym, ap, subst, ℕ, List, [], ◌∷◌, ◌++◌, if◌then◌else◌}
+use Rattle.std.proofs.lemmas.List.{append-nil}
 use Rattle.std.specs.Prelude.{ℤ, Option, Some, None}
 use Rattle.osi_base.specs.declared.words.Problem.{Problem}
 use Rattle.osi_base.specs.declared.words.ProblemKind.TheVariants as problems
@@ -87,10 +88,6 @@ alive base body state now up e =
 none_due : (base : Base) (context : ℕ) (r : Option Rejecting) → rejects_seen base context r ≡ [] → r ≡ None
 none_due base context None e = refl
 none_due base context (Some r) e = cc
-
-append-nil : {X : Type 0} (xs : List X) → xs ++ [] ≡ xs
-append-nil [] = refl
-append-nil (x ∷ xs) = ap (λ ys. x ∷ ys) (append-nil xs)
 
 -- what is taken calmly: an APDU is heard, and nothing is answered
 pub record Calmly (base : Base) (body : Body) (message : Message) : Type 0 where

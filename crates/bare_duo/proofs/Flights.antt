@@ -30,6 +30,14 @@ pub sent-append : (t : Tables) (ms ns : List Message) → AllSent t ms → AllSe
 sent-append t [] ns h k = k
 sent-append t (m ∷ ms) ns h k = (h.0, sent-append t ms ns h.1 k)
 
+pub record Parts (t : Tables) (ms ns : List Message) : Type 0 where
+  pub front : AllSent t ms
+  pub back : AllSent t ns
+
+pub parts : (t : Tables) (ms ns : List Message) → AllSent t (ms ++ ns) → Parts t ms ns
+parts t [] ns h = record { front = tt; back = h }
+parts t (m ∷ ms) ns h = let k = parts t ms ns h.1 in record { front = (h.0, k.front); back = k.back }
+
 -- what is written of messages, one behind the other
 abbrev pub written_all : Tables → List Message → List ℕ
 written_all t [] = []
@@ -50,12 +58,12 @@ take-front [] b = refl
 take-front (x ∷ a) b = ap (λ (l : List ℕ). x ∷ l) (take-front a b)
 
 -- one list in two ways: the shorter front begins the longer
-record Cut (a b c d : List ℕ) : Type 0 where
-  more : List ℕ
-  front : a ≡ c ++ more
-  back : d ≡ more ++ b
+pub record Cut (a b c d : List ℕ) : Type 0 where
+  pub more : List ℕ
+  pub front : a ≡ c ++ more
+  pub back : d ≡ more ++ b
 
-cut : (a b c d : List ℕ) → a ++ b ≡ c ++ d → length c ≤ length a → Cut a b c d
+pub cut : (a b c d : List ℕ) → a ++ b ≡ c ++ d → length c ≤ length a → Cut a b c d
 cut a b [] d e l = record { more = a; front = refl; back = sym e }
 cut [] b (y ∷ c) d e l = absurd (omega arith)
 cut (x ∷ a) b (y ∷ c) d e l =

@@ -23,11 +23,11 @@ done x = Ok x
 
 -- ---- what stays, whatever follows
 
-record IsRead (text : List ℕ) (used : ℕ) : Type 0 where
-  value : Value
-  read : read_any text ≡ done (value, used)
+pub record IsRead (text : List ℕ) (used : ℕ) : Type 0 where
+  pub value : Value
+  pub read : read_any text ≡ done (value, used)
 
-read_of : (text : List ℕ) (used : ℕ) → first_at text ≡ Whole used → IsRead text used
+pub read_of : (text : List ℕ) (used : ℕ) → first_at text ≡ Whole used → IsRead text used
 unfolding first_at
 read_of text used e = go (read_any text) refl e
   where

@@ -1,5 +1,7 @@
 -- The laws of every run, from what two ends keep.
-use Rattle.std.proofs.Common.{◌≡◌, refl, true, false, ◌∙◌, sym, ap, subst, List, [], ◌∷◌, ◌++◌, map, ℕ, Option}
+use Rattle.std.proofs.Common.{◌≡◌, refl, true, false, ◌∙◌, sym, ap, subst, List, [], ◌∷◌, ◌++◌, map, ◌⊎◌, inl, inr}
+use Rattle.std.proofs.lemmas.List.{map-append}
+use Rattle.std.specs.List.{AllByRecursion}
 use Rattle.std.proofs.Math.Logic.{∥∥₁_elim}
 use Rattle.std.proofs.Math.Bool.{Bool-set}
 use Rattle.osi_base.specs.declared.words.Side.{Side}
@@ -10,19 +12,19 @@ use Rattle.stub_tables.specs.Readable.{IsReadable}
 use Rattle.apdu_spelling.specs.Laws.{WrittenIsSpelled}
 use Rattle.dialogue.specs.declared.config.Config.{Config}
 use Rattle.dialogue.specs.declared.config.Mode.TheVariants.{Bare}
+use Rattle.dialogue.specs.declared.config.Phase.{Phase}
+use Rattle.dialogue.specs.declared.config.Phase.TheVariants.{Up, Over}
+use Rattle.end_rules.specs.Calling.{is_dead}
 use Rattle.dialogue.specs.Config.{IsBare}
 use Rattle.dialogue.specs.declared.setup.Setup.{Setup}
 use Rattle.dialogue.specs.declared.event.Event.{Event}
-use Rattle.dialogue.specs.declared.event.Event.TheVariants as events
-use Rattle.dialogue.specs.declared.event.Entry.TheVariants as entries
-use Rattle.dialogue.specs.declared.event.Carried.{Carried}
 use Rattle.dialogue.specs.declared.event.Entry.{Entry}
 use Rattle.end_rules.specs.Base.{Base}
 use Rattle.end_rules.specs.Sets.{pair_of}
 use Rattle.end_rules.specs.Messages.{Message, Value, Remote}
 use Rattle.end_rules.specs.State.{bare_set}
 use Rattle.end_rules.specs.History.{Step, called, sent, encoded, fed, took, answered, passed, fault, aborted, feed_end, gave, broke}
-use Rattle.end_rules.specs.World.{World, Ends, Shared, base_at as base_of, shared_at, shared_after}
+use Rattle.end_rules.specs.World.{World, Ends, Shared, base_at as base_of, other, shared_at, shared_after}
 use Rattle.end_wire.specs.Bare.{bare_message}
 use Rattle.end_wire.specs.Values.{bare_spellings}
 use Rattle.end_wire.specs.Laws.{WrittenIsFirst, OneContent, ContentSays}
@@ -30,28 +32,16 @@ use Rattle.agreement.specs.Sets.Role.{Initiator, Responder}
 use Rattle.end_model.specs.Seen.{Free}
 use Rattle.end_model.specs.Acting.{ReadsBack}
 use Rattle.end_model.specs.Pairs.{base_at, bare_pair, HasCodec, BareModelled, WritesAll}
-use Rattle.bare_duo.specs.Worlds.{ends_of, Runs}
-use Rattle.bare_duo.specs.Laws.{sent_in, sent_by, taken_by, as_read, at_sending, values_in, sendings, TakenAsSent, IsCalm, NothingWrong, ShownAsTaken, KeepsLaws, EveryRunKeepsLaws, ShowsItsTakings, EachCarryShows}
+use Rattle.bare_duo.specs.Worlds.{ends_of, end_at, Runs}
+use Rattle.bare_duo.specs.Passing.{sent_in, sent_by, taken_by, as_read, at_sending, values_in, sendings, BeginsWith, TakenAsSent, ShownAsTaken}
+use Rattle.bare_duo.specs.Outcomes.{Invocation, Outcome, invocations, answers, invocations_in, outcomes_in, told_invocations, outcomes, IsAllowed, AreNumbered, Differ}
+use Rattle.bare_duo.specs.Laws.{IsCalm, NothingWrong, NobodyIsDead, KeepsLaws, EveryRunKeepsLaws}
 use Rattle.bare_duo.specs.Shows.{shown_all}
-use Rattle.bare_duo.proofs.Flights.{IsSent, AllSent}
+use Rattle.bare_duo.proofs.Flights.{IsSent, AllSent, parts}
 use Rattle.bare_duo.proofs.Writable.{reads_back}
+use Rattle.bare_duo.proofs.Kept.{phases, asked, answered_in, asked-append, answered-append}
 use Rattle.bare_duo.proofs.AllRuns.{Added, first_kept, runs_keep}
-
-map-append : {X Y : Type 0} (f : X → Y) (xs ys : List X) → map f (xs ++ ys) ≡ map f xs ++ map f ys
-map-append f [] ys = refl
-map-append f (x ∷ xs) ys = ap (λ zs. f x ∷ zs) (map-append f xs ys)
-
-append-nil : {X : Type 0} (xs : List X) → xs ++ [] ≡ xs
-append-nil [] = refl
-append-nil (x ∷ xs) = ap (λ ys. x ∷ ys) (append-nil xs)
-
-record Parts (t : Tables) (ms ns : List Message) : Type 0 where
-  front : AllSent t ms
-  back : AllSent t ns
-
-parts : (t : Tables) (ms ns : List Message) → AllSent t (ms ++ ns) → Parts t ms ns
-parts t [] ns h = record { front = tt; back = h }
-parts t (m ∷ ms) ns h = let k = parts t ms ns h.1 in record { front = (h.0, k.front); back = k.back }
+use Rattle.bare_duo.proofs.Carries.{taken_whole, carries_show}
 
 -- ---- the one shared set stays, so each value has its pair
 
@@ -138,9 +128,14 @@ module _ (t : Tables) (ca cb : Config) (free : Free) (readable : IsReadable t) (
       let h = x.kept.holds in
       record {
         taken_as_sent = as_sent x;
+        takes_allowed = x.kept.allowed;
+        one_outcome = record { invoked = invoked x; numbered = numbered x; answered = answered_so x; once = once x; allowed = allowed x };
         nothing_wrong = x.kept.calm;
+        nobody_is_dead = nobody x;
         nothing_whole_waits = x.kept.whole;
+        taken_when_whole = taken_whole t ca cb free readable writes modelled first_law one_content back w x.kept;
         shown_as_taken = shown x;
+        carries_show = carries_show t ca cb free readable writes modelled first_law one_content back all told w r;
       }
     where
       as_sent : Added t ca cb free readable writes modelled first_law one_content back [] w told → TakenAsSent (model_of t ca cb) w
@@ -157,19 +152,65 @@ module _ (t : Tables) (ca cb : Config) (free : Free) (readable : IsReadable t) (
       shown x A = x.shown_a ∙ ap (shown_all t) (sym x.took_a)
       shown x B = x.shown_b ∙ ap (shown_all t) (sym x.took_b)
 
-  model_carry : (all : List Event) (told : List Entry) (before later : World) (from : Side) (most : Option ℕ) (carried : Carried) → Runs (model_of t ca cb) [] all told before → Runs (model_of t ca cb) before (events.Carry from most ∷ []) (entries.Carry from most carried ∷ []) later → ShowsItsTakings t from before later carried
-  model_carry all told before later from most carried r one = go from one
-    where
-      x : Added t ca cb free readable writes modelled first_law one_content back [] before told
-      x = runs_keep t ca cb free readable writes modelled first_law one_content back [] before all told r (first_kept t ca cb free readable writes modelled first_law one_content back)
+      not-dead : (p : Phase) → (p ≡ Up) ⊎ (p ≡ Over) → is_dead p ≡ false
+      not-dead p (inl e) = ap is_dead e
+      not-dead p (inr e) = ap is_dead e
 
-      go : (from : Side) → Runs (model_of t ca cb) before (events.Carry from most ∷ []) (entries.Carry from most carried ∷ []) later → ShowsItsTakings t from before later carried
-      go A one =
-          let y = runs_keep t ca cb free readable writes modelled first_law one_content back before later (events.Carry A most ∷ []) (entries.Carry A most carried ∷ []) one x.kept in
-          record { new = y.new_b; took = y.took_b; shown = sym (append-nil carried.shown) ∙ y.shown_b }
-      go B one =
-          let y = runs_keep t ca cb free readable writes modelled first_law one_content back before later (events.Carry B most ∷ []) (entries.Carry B most carried ∷ []) one x.kept in
-          record { new = y.new_a; took = y.took_a; shown = sym (append-nil carried.shown) ∙ y.shown_a }
+      nobody : Added t ca cb free readable writes modelled first_law one_content back [] w told → NobodyIsDead (model_of t ca cb) w
+      nobody x A =
+          let h = x.kept.holds in
+          not-dead (end_at (model_of t ca cb) A w).body.link.phase (phases t ca cb free readable writes modelled first_law one_content back Initiator h.two (end_at (model_of t ca cb) A w).body h.reached h.own_is)
+      nobody x B =
+          let h = x.kept.holds in
+          not-dead (end_at (model_of t ca cb) B w).body.link.phase (phases t ca cb free readable writes modelled first_law one_content back Responder h.two (end_at (model_of t ca cb) B w).body h.reached h.peer_is)
+
+      -- what an end was told of is the beginning of what the other said
+      begins : {X : Type 0} (f : List Message → List X) → ((ms ns : List Message) → f (ms ++ ns) ≡ f ms ++ f ns) → (all front : List X) (sent_all taken rest : List Message) → all ≡ f sent_all → sent_all ≡ taken ++ rest
+          → front ≡ f taken → BeginsWith all front
+      begins f splits all front sent_all taken rest e k g = record { more = f rest; whole = e ∙ ap f k ∙ splits taken rest ∙ ap (λ xs. xs ++ f rest) (sym g) }
+
+      invoked : Added t ca cb free readable writes modelled first_law one_content back [] w told → (side : Side) → BeginsWith (invocations side told) (told_invocations (other side) told)
+      invoked x A =
+          let h = x.kept.holds in
+          begins (asked t) (asked-append t) (invocations A told) (told_invocations B told) (sent_by A w) (taken_by B w) (h.from.gone ++ h.two.to_b)
+          (x.asks_a ∙ ap (asked t) (sym x.sent_a)) h.from.kept (ap invocations_in (shown x B))
+      invoked x B =
+          let h = x.kept.holds in
+          begins (asked t) (asked-append t) (invocations B told) (told_invocations A told) (sent_by B w) (taken_by A w) (h.to.gone ++ h.two.to_a)
+          (x.asks_b ∙ ap (asked t) (sym x.sent_b)) h.to.kept (ap invocations_in (shown x A))
+
+      answered_so : Added t ca cb free readable writes modelled first_law one_content back [] w told → (side : Side) → BeginsWith (answers side told) (outcomes (other side) told)
+      answered_so x A =
+          let h = x.kept.holds in
+          begins (answered_in t) (answered-append t) (answers A told) (outcomes B told) (sent_by A w) (taken_by B w) (h.from.gone ++ h.two.to_b)
+          (x.gives_a ∙ ap (answered_in t) (sym x.sent_a)) h.from.kept (ap outcomes_in (shown x B))
+      answered_so x B =
+          let h = x.kept.holds in
+          begins (answered_in t) (answered-append t) (answers B told) (outcomes A told) (sent_by B w) (taken_by A w) (h.to.gone ++ h.two.to_a)
+          (x.gives_b ∙ ap (answered_in t) (sym x.sent_b)) h.to.kept (ap outcomes_in (shown x A))
+
+      -- what an end invoked, as the transcript tells it
+      made_is : Added t ca cb free readable writes modelled first_law one_content back [] w told → (side : Side) → asked t (sent_by side w) ≡ invocations side told
+      made_is x A = ap (asked t) x.sent_a ∙ sym x.asks_a
+      made_is x B = ap (asked t) x.sent_b ∙ sym x.asks_b
+
+      told_is : Added t ca cb free readable writes modelled first_law one_content back [] w told → (side : Side) → answered_in t (taken_by side w) ≡ outcomes side told
+      told_is x side = ap outcomes_in (sym (shown x side))
+
+      numbered : Added t ca cb free readable writes modelled first_law one_content back [] w told → (side : Side) → AreNumbered 0 (invocations side told)
+      numbered x A = subst (AreNumbered 0) (made_is x A) x.kept.holds.own_settled.numbered
+      numbered x B = subst (AreNumbered 0) (made_is x B) x.kept.holds.peer_settled.numbered
+
+      once : Added t ca cb free readable writes modelled first_law one_content back [] w told → (side : Side) → Differ (outcomes side told)
+      once x A = subst Differ (told_is x A) x.kept.holds.own_settled.once
+      once x B = subst Differ (told_is x B) x.kept.holds.peer_settled.once
+
+      of_these : (made was : List Invocation) (now is_now : List Outcome) → made ≡ was → now ≡ is_now → AllByRecursion (IsAllowed t made) now → AllByRecursion (IsAllowed t was) is_now
+      of_these made was now is_now e f h = subst (λ (os : List Outcome). AllByRecursion (IsAllowed t was) os) f (subst (λ (is : List Invocation). AllByRecursion (IsAllowed t is) now) e h)
+
+      allowed : Added t ca cb free readable writes modelled first_law one_content back [] w told → (side : Side) → AllByRecursion (IsAllowed t (invocations side told)) (outcomes side told)
+      allowed x A = of_these (asked t (sent_by A w)) (invocations A told) (answered_in t (taken_by A w)) (outcomes A told) (made_is x A) (told_is x A) x.kept.holds.own_settled.allowed
+      allowed x B = of_these (asked t (sent_by B w)) (invocations B told) (answered_in t (taken_by B w)) (outcomes B told) (made_is x B) (told_is x B) x.kept.holds.peer_settled.allowed
 
 -- ---- the laws of ends of a setup
 
@@ -191,10 +232,3 @@ every_run_keeps_laws codec modelled first_law one_content says spelled tables se
     let back : ReadsBack (base_at Initiator pair) = reads_back tables setup.a (base_at Initiator pair) readable refl refl spelled says in
     subst (λ (e : Ends). Runs e [] all told w → KeepsLaws tables e told w) (same_ends tables setup)
     (model_laws tables setup.a setup.b codec.0 readable codec.1 modelled first_law one_content back all told w)
-
-pub each_carry_shows : HasCodec → BareModelled → WrittenIsFirst → OneContent → ContentSays → WrittenIsSpelled → EachCarryShows
-each_carry_shows codec modelled first_law one_content says spelled tables setup all told before later from most carried readable =
-    let pair = bare_pair tables (bare_spellings tables) setup.a setup.b in
-    let back : ReadsBack (base_at Initiator pair) = reads_back tables setup.a (base_at Initiator pair) readable refl refl spelled says in
-    subst (λ (e : Ends). Runs e [] all told before → Runs e before (events.Carry from most ∷ []) (entries.Carry from most carried ∷ []) later → ShowsItsTakings tables from before later carried) (same_ends tables setup)
-    (model_carry tables setup.a setup.b codec.0 readable codec.1 modelled first_law one_content back all told before later from most carried)

@@ -1,5 +1,5 @@
 -- Events have one run.
-use Rattle.std.proofs.Common.{◌≡◌, refl, true, false, ◌∙◌, sym, ap, subst, ℕ, List, [], ◌∷◌, ◌++◌, length, take, Option}
+use Rattle.std.proofs.Common.{◌≡◌, refl, true, false, ◌∙◌, sym, ap, subst, ℕ, List, [], ◌∷◌, ◌++◌, length}
 use Rattle.osi_base.specs.declared.words.Side.{Side}
 use Rattle.osi_base.specs.declared.words.Side.TheVariants.{A, B}
 use Rattle.osi_base.specs.declared.words.Layer.TheVariants.{Rose}
@@ -10,7 +10,7 @@ use Rattle.dialogue.specs.declared.event.Entry.TheVariants as entries
 use Rattle.dialogue.specs.declared.indication.Indication.{Indication}
 use Rattle.end_rules.specs.Base.{Base}
 use Rattle.end_rules.specs.Sets.{pair_of}
-use Rattle.end_rules.specs.Messages.{Message, Content}
+use Rattle.end_rules.specs.Messages.{Message}
 use Rattle.end_rules.specs.State.{Body, passes_over}
 use Rattle.end_rules.specs.Faults.{fault_at, shown_at_fault}
 use Rattle.end_rules.specs.Hearing.{syntax_of}
@@ -18,7 +18,7 @@ use Rattle.end_rules.specs.Reacting.{Takes, react}
 use Rattle.end_rules.specs.Calling.{can_call}
 use Rattle.end_rules.specs.History.{Step, fed, fault, feed_end, gave, broke, call_steps}
 use Rattle.end_rules.specs.World.{World, Ends, base_at, other}
-use Rattle.end_wire.specs.Bare.{First, Short, Whole, Faulty, first_at, front, bare_message}
+use Rattle.end_wire.specs.Bare.{Short, Whole, Faulty, first_at, front, bare_message}
 use Rattle.end_wire.specs.Values.{IsContent}
 use Rattle.end_wire.specs.Line.{End, after, after_all}
 use Rattle.end_wire.specs.Feeding.{Reads, Feeds, passes, waits, takes, fails, taking}
@@ -26,9 +26,9 @@ use Rattle.end_wire.specs.Laws.{OneContent}
 use Rattle.bare_duo.specs.Laws.{OneRun}
 use Rattle.bare_duo.specs.Worlds.{ends_of, end_at, stepping, first_octets, Runs, rests, calls, carries, breaks}
 
-record SameReads (steps steps' : List Step) (shown shown' : List Indication) : Type 0 where
-  steps_are : steps ≡ steps'
-  shown_are : shown ≡ shown'
+pub record SameReads (steps steps' : List Step) (shown shown' : List Indication) : Type 0 where
+  pub steps_are : steps ≡ steps'
+  pub shown_are : shown ≡ shown'
 
 record SameTakings (answers answers' : List Message) (told told' : List Indication) : Type 0 where
   answers_are : answers ≡ answers'
@@ -46,7 +46,7 @@ same_faulty : (m n : ℕ) → Faulty m ≡ Faulty n → m ≡ n
 same_faulty m n e = cc
 
 module _ (base : Base) (readable : IsReadable base.tables) (one_content : OneContent) where
-  same_reads : (e f : End) (steps steps' : List Step) (shown shown' : List Indication) → e ≡ f → Reads base e steps shown → Reads base f steps' shown' → SameReads steps steps' shown shown'
+  pub same_reads : (e f : End) (steps steps' : List Step) (shown shown' : List Indication) → e ≡ f → Reads base e steps shown → Reads base f steps' shown' → SameReads steps steps' shown shown'
   same_reads e f steps steps' shown shown' is (passes o) (passes p) = record { steps_are = refl; shown_are = refl }
   same_reads e f steps steps' shown shown' is (passes o) (waits u first) = let k : true ≡ false = sym o ∙ ap (λ (x : End). passes_over x.body.link.phase) is ∙ u in cc
   same_reads e f steps steps' shown shown' is (passes o) (takes used content body answers told u first isc re next) = let k : true ≡ false = sym o ∙ ap (λ (x : End). passes_over x.body.link.phase) is ∙ u in cc

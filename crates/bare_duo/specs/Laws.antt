@@ -1,106 +1,21 @@
 -- The laws of every run of two ends in bare mode.
-use Rattle.std.specs.Prelude.{◌≡◌, List, [], ◌∷◌, ◌++◌, map, false, if◌then◌else◌, Option, ℕ}
+use Rattle.std.specs.Prelude.{◌≡◌, List, [], ◌∷◌, false}
 use Rattle.osi_base.specs.declared.words.Side.{Side}
-use Rattle.osi_base.specs.declared.syntax.Pair.{Pair}
 use Rattle.stub_tables.specs.declared.tables.Tables.{Tables}
 use Rattle.stub_tables.specs.Readable.{IsReadable}
 use Rattle.dialogue.specs.declared.setup.Setup.{Setup}
 use Rattle.dialogue.specs.declared.event.Event.{Event}
-use Rattle.dialogue.specs.declared.event.Event.TheVariants as events
-use Rattle.dialogue.specs.declared.event.Carried.{Carried}
 use Rattle.dialogue.specs.declared.event.Entry.{Entry}
-use Rattle.dialogue.specs.declared.event.Entry.TheVariants as entries
-use Rattle.dialogue.specs.declared.indication.Indication.{Indication}
-use Rattle.end_rules.specs.Messages.{Message, Session, Word, OfData, DataWord, Values, Value}
 use Rattle.end_rules.specs.State.{passes_over}
+use Rattle.end_rules.specs.Calling.{is_dead}
 use Rattle.end_rules.specs.History.{Step, called, sent, encoded, fed, took, answered, passed, fault, aborted, feed_end, gave, broke}
-use Rattle.end_rules.specs.World.{World, Ends, is_side, other, pair_at_sending}
+use Rattle.end_rules.specs.World.{World, Ends}
 use Rattle.end_wire.specs.Bare.{Short, first_at}
-use Rattle.bare_duo.specs.Shows.{shown_all}
 use Rattle.bare_duo.specs.Worlds.{ends_of, end_at, Runs}
-
--- ---- what is sent and taken
-
-abbrev pub sent_in : Step → List Message
-sent_in (sent m) = m ∷ []
-sent_in (answered to m) = m ∷ []
-sent_in (aborted m) = m ∷ []
-sent_in (called call reply) = []
-sent_in (encoded context) = []
-sent_in (fed octets) = []
-sent_in (took m) = []
-sent_in passed = []
-sent_in (fault layer place reason) = []
-sent_in feed_end = []
-sent_in (gave n) = []
-sent_in broke = []
-
-abbrev pub took_in : Step → List Message
-took_in (took m) = m ∷ []
-took_in (sent m) = []
-took_in (answered to m) = []
-took_in (aborted m) = []
-took_in (called call reply) = []
-took_in (encoded context) = []
-took_in (fed octets) = []
-took_in passed = []
-took_in (fault layer place reason) = []
-took_in feed_end = []
-took_in (gave n) = []
-took_in broke = []
-
--- what one end sent, and what it took, oldest first
-abbrev pub sent_by : Side → World → List Message
-sent_by side [] = []
-sent_by side (m ∷ w) = if is_side side m.side then sent_by side w ++ sent_in m.step else sent_by side w
-
-abbrev pub taken_by : Side → World → List Message
-taken_by side [] = []
-taken_by side (m ∷ w) = if is_side side m.side then taken_by side w ++ took_in m.step else taken_by side w
-
--- ---- taken as sent
-
-abbrev pub values_in_data : DataWord → List Value
-values_in_data (Values values) = values
-values_in_data _ = []
-
-abbrev pub values_in_word : Word → List Value
-values_in_word (OfData word) = values_in_data word
-values_in_word _ = []
-
-abbrev pub values_in : Message → List Value
-values_in (Session word) = values_in_word word
-values_in _ = []
-
--- a message with a pair for each of its values
-pub record Passed : Type 0 where
-  pub message : Message
-  pub pairs : List (Option Pair)
-
--- with the pairs that the one shared set gave the identifiers just before its sending, and with those under which its
--- values were read
-abbrev pub at_sending : Ends → World → Message → Passed
-at_sending ends w m = record { message = m; pairs = map (λ (v : Value). pair_at_sending ends w v.id) (values_in m) }
-
-abbrev pub as_read : Message → Passed
-as_read m = record { message = m; pairs = map (λ (v : Value). v.pair) (values_in m) }
-
-abbrev pub sendings : Ends → Side → World → List Passed
-sendings ends side [] = []
-sendings ends side (m ∷ w) = if is_side side m.side then sendings ends side w ++ map (at_sending ends w) (sent_in m.step) else sendings ends side w
-
-abbrev pub takings : Side → World → List Passed
-takings side w = map as_read (taken_by side w)
-
--- what the second list has is the beginning of the first
-pub record BeginsWith {X : Type 0} (all front : List X) : Type 0 where
-  pub more : List X
-  pub whole : all ≡ front ++ more
-
--- Each message taken is the one that the other end sent in its place, and each of its values was read under the pair that
--- the shared set gave its identifier at its sending.
-abbrev pub TakenAsSent : Ends → World → Type 0
-TakenAsSent ends w = (side : Side) → BeginsWith (sendings ends side w) (takings (other side) w)
+use Rattle.bare_duo.specs.Passing.{TakenAsSent, ShownAsTaken}
+use Rattle.bare_duo.specs.Outcomes.{OneOutcome}
+use Rattle.bare_duo.specs.Allowed.{TakesAllowed}
+use Rattle.bare_duo.specs.Carrying.{TakenWhenWhole, EachCarryShows}
 
 -- ---- no end aborts of itself, and nothing is rejected
 
@@ -128,29 +43,28 @@ NothingWrong (m ∷ w) = IsCalm m.step × NothingWrong w
 abbrev pub NothingWholeWaits : Ends → World → Type 0
 NothingWholeWaits ends w = (side : Side) → passes_over (end_at ends side w).body.link.phase ≡ false → first_at (end_at ends side w).line.rest ≡ Short
 
--- ---- what is shown
-
--- what carries to one end showed
-abbrev pub shown_to : Side → Entry → List Indication
-shown_to side (entries.Carry from most carried) = if is_side side (other from) then carried.shown else []
-shown_to side (entries.Call from call answer) = []
-shown_to side entries.Break = []
-
-abbrev pub indications_at : Side → List Entry → List Indication
-indications_at side [] = []
-indications_at side (e ∷ es) = shown_to side e ++ indications_at side es
-
--- Carries to an end showed what its takings show, in their order, and nothing else.
-abbrev pub ShownAsTaken : Tables → List Entry → World → Type 0
-ShownAsTaken tables told w = (side : Side) → indications_at side told ≡ shown_all tables (taken_by side w)
+-- only want of memory makes an end dead
+abbrev pub NobodyIsDead : Ends → World → Type 0
+NobodyIsDead ends w = (side : Side) → is_dead (end_at ends side w).body.link.phase ≡ false
 
 -- ---- what every run keeps
 
 pub record KeepsLaws (tables : Tables) (ends : Ends) (told : List Entry) (w : World) : Type 0 where
+  -- each message taken is the one sent in its place, with its pairs at the sending
   pub taken_as_sent : TakenAsSent ends w
+  -- what is taken is allowed then
+  pub takes_allowed : TakesAllowed tables ends w
+  -- each invocation has one outcome at most, which is allowed to it
+  pub one_outcome : OneOutcome tables told
+  -- no end aborts of itself, and nothing is rejected
   pub nothing_wrong : NothingWrong w
+  pub nobody_is_dead : NobodyIsDead ends w
+  -- nothing whole waits: an end that isn't over took what came whole, and no more
   pub nothing_whole_waits : NothingWholeWaits ends w
+  pub taken_when_whole : TakenWhenWhole tables ends w
+  -- what is shown is what is taken shows, and each carry shows what comes whole in it
   pub shown_as_taken : ShownAsTaken tables told w
+  pub carries_show : EachCarryShows tables told w
 
 -- What every table of a module keeps is enough (`Tables::is_readable` says that each does). As each beginning of a run is a
 -- run, the laws hold before and after each event.
@@ -158,20 +72,6 @@ abbrev pub EveryRunKeepsLaws : Type 0
 EveryRunKeepsLaws =
     (tables : Tables) (setup : Setup) (all : List Event) (told : List Entry) (w : World) → IsReadable tables → Runs (ends_of setup tables) [] all told w
     → KeepsLaws tables (ends_of setup tables) told w
-
--- ---- each carry
-
--- What a carry showed is what the messages show that were taken in it, in their order, and nothing else.
-pub record ShowsItsTakings (tables : Tables) (from : Side) (before later : World) (carried : Carried) : Type 0 where
-  pub new : List Message
-  pub took : taken_by (other from) later ≡ taken_by (other from) before ++ new
-  pub shown : carried.shown ≡ shown_all tables new
-
-abbrev pub EachCarryShows : Type 0
-EachCarryShows =
-    (tables : Tables) (setup : Setup) (all : List Event) (told : List Entry) (before later : World) (from : Side) (most : Option ℕ) (carried : Carried) → IsReadable tables
-    → Runs (ends_of setup tables) [] all told before → Runs (ends_of setup tables) before (events.Carry from most ∷ []) (entries.Carry from most carried ∷ []) later
-    → ShowsItsTakings tables from before later carried
 
 -- ---- one run
 

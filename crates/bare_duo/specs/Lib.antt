@@ -1,5 +1,10 @@
 pub mod Shows
 pub mod Worlds
+pub mod Passing
+pub mod Outcomes
+pub mod Allowed
+pub mod Carrying
 pub mod Laws
+pub mod Cutting
 pub mod Ran
 pub mod Steps

@@ -38,3 +38,7 @@ pub record RanFromStart (setup : Setup) (tables : Tables) (all : List Event) (tr
   pub mode : transcript.mode ≡ setup.a.mode
   pub a_phase : transcript.a ≡ (end_at (ends_of setup tables) A ran.world).body.link.phase
   pub b_phase : transcript.b ≡ (end_at (ends_of setup tables) B ran.world).body.link.phase
+
+-- From every setup for which the ends stand and had made no step.
+abbrev pub RunsFromStart : List Event → Transcript → EndView → EndView → EndView → EndView → Type 0
+RunsFromStart all transcript a b a_after b_after = (setup : Setup) → Stand setup a.tables [] a b → RanFromStart setup a.tables all transcript a_after b_after

@@ -1,5 +1,5 @@
 -- What the events of a run do to two ends.
-use Rattle.std.specs.Prelude.{◌≡◌, ℕ, List, [], ◌∷◌, length, Option}
+use Rattle.std.specs.Prelude.{◌≡◌, ℕ, List, [], ◌∷◌, length, drop, Option}
 use Rattle.osi_base.specs.declared.words.Side.{Side}
 use Rattle.osi_base.specs.declared.words.Side.TheVariants.{A, B}
 use Rattle.stub_tables.specs.declared.tables.Tables.{Tables}
@@ -21,9 +21,21 @@ use Rattle.bare_duo.specs.Ran.{Stand, Ran}
 abbrev pub RunsOn : List Event → List Entry → EndView → EndView → EndView → EndView → Type 0
 RunsOn all told a b a_after b_after = (setup : Setup) (tables : Tables) (w : World) → Stand setup tables w a b → Ran setup tables w all told a_after b_after
 
+-- One event ran.
+abbrev pub RunsOne : Event → Entry → EndView → EndView → EndView → EndView → Type 0
+RunsOne event entry a b a_after b_after = RunsOn (event ∷ []) (entry ∷ []) a b a_after b_after
+
+-- The call got the answer that can be given to it.
+abbrev pub AnsweredTo : Call → Reply → EndView → EndView → Type 0
+AnsweredTo call answer end end_after = Answered (can_call (base end) (body end) call) end end_after call answer
+
+-- so many octets less wait
+abbrev pub given_out : ℕ → EndView → EndView
+given_out n end = record end { waiting = drop n end.waiting }
+
 -- One end answered a call, and the other is as it was.
 pub record AnsweredOne (call : Call) (answer : Reply) (end rest end_after rest_after : EndView) : Type 0 where
-  pub answered : Answered (can_call (base end) (body end) call) end end_after call answer
+  pub answered : AnsweredTo call answer end end_after
   pub kept : rest_after ≡ rest
 
 abbrev pub AnsweredAt : Side → Call → Reply → EndView → EndView → EndView → EndView → Type 0

@@ -1,6 +1,7 @@
 //! Octets that an end gives out.
 
-ghost use Rattle.std.specs.Prelude.{◌≡◌, ◌++◌, ◌∷◌, [], min, length, take, drop, IfOk};
+ghost use Rattle.std.specs.Prelude.{◌≡◌, ◌++◌, ◌∷◌, [], min, length, take, IfOk};
+ghost use Rattle.bare_duo.specs.Steps.{given_out};
 ghost use Rattle.bare_duo.specs.Worlds.{first_octets};
 
 use bare_end::End;
@@ -14,7 +15,7 @@ const BLOCK: usize = 256;
 fn give_block(end: &mut End<'_>, octets: &mut Octets, most: usize) -> Result<usize, NoMemory>
     ensures count { IfOk result (λ count. count ≡ min (min most 256) (length end.old.waiting)) }
     ensures octets { IfOk result (λ count. octets.new ≡ octets.old ++ take count end.old.waiting) }
-    ensures end { IfOk result (λ count. end.new ≡ record end.old { waiting = drop count end.old.waiting }) }
+    ensures end { IfOk result (λ count. end.new ≡ given_out count end.old) }
 {
     let mut room = [0u8; BLOCK];
     let count = end.give_out(&mut room[..most.min(BLOCK)]);
@@ -25,7 +26,7 @@ fn give_block(end: &mut End<'_>, octets: &mut Octets, most: usize) -> Result<usi
 /// Gives out all octets that wait.
 fn give_all(alloc: Global, end: &mut End<'_>) -> Result<Octets, NoMemory>
     ensures octets { IfOk result (λ octets. octets ≡ end.old.waiting) }
-    ensures end { IfOk result (λ octets. end.new ≡ record end.old { waiting = drop (length octets) end.old.waiting }) }
+    ensures end { IfOk result (λ octets. end.new ≡ given_out (length octets) end.old) }
 {
     let mut octets = Octets::new(alloc);
     loop {
@@ -39,7 +40,7 @@ fn give_all(alloc: Global, end: &mut End<'_>) -> Result<Octets, NoMemory>
 /// Gives out at most so many octets.
 fn give_most(alloc: Global, end: &mut End<'_>, most: usize) -> Result<Octets, NoMemory>
     ensures octets { IfOk result (λ octets. octets ≡ take most end.old.waiting) }
-    ensures end { IfOk result (λ octets. end.new ≡ record end.old { waiting = drop (length octets) end.old.waiting }) }
+    ensures end { IfOk result (λ octets. end.new ≡ given_out (length octets) end.old) }
 {
     let mut octets = Octets::new(alloc);
     let mut left = most;
@@ -55,7 +56,7 @@ fn give_most(alloc: Global, end: &mut End<'_>, most: usize) -> Result<Octets, No
 /// Gives out at most so many octets, or all that wait.
 pub fn give_octets(alloc: Global, end: &mut End<'_>, most: Option<u32>) -> Result<Octets, NoMemory>
     ensures octets { IfOk result (λ octets. octets ≡ first_octets most end.old.waiting) }
-    ensures end { IfOk result (λ octets. end.new ≡ record end.old { waiting = drop (length octets) end.old.waiting }) }
+    ensures end { IfOk result (λ octets. end.new ≡ given_out (length octets) end.old) }
 {
     match most {
         Some(most) => give_most(alloc, end, most as usize),

@@ -5,5 +5,5 @@ mod giving;
 mod laws;
 mod running;
 
-pub use laws::{each_carry_shows, every_run_keeps_laws, one_run};
+pub use laws::{any_cutting, every_run_keeps_laws, one_feed, one_run};
 pub use running::run_world;

@@ -1,12 +1,9 @@
 //! Schedules that are run over two ends.
 
-ghost use Rattle.std.specs.Prelude.{◌≡◌, ◌∷◌, [], IfOk};
-ghost use Rattle.dialogue.specs.declared.setup.Setup.{Setup};
+ghost use Rattle.std.specs.Prelude.{IfOk};
 ghost use Rattle.dialogue.specs.declared.event.Event.TheVariants as the_events;
-ghost use Rattle.end_rules.specs.Calling.{can_call};
-ghost use Rattle.bare_end.specs.View.{base, body, Answered};
-ghost use Rattle.bare_duo.specs.Ran.{Stand, RanFromStart};
-ghost use Rattle.bare_duo.specs.Steps.{AnsweredAt, CarriedOver, CarriedFrom, RunsOn};
+ghost use Rattle.bare_duo.specs.Ran.{RunsFromStart};
+ghost use Rattle.bare_duo.specs.Steps.{AnsweredAt, AnsweredTo, CarriedOver, CarriedFrom, RunsOn, RunsOne};
 
 use crate::giving::give_octets;
 use crate::laws::every_run_keeps_laws;
@@ -21,7 +18,7 @@ fn call_end(
     end: &mut End<'_>,
     call: &Call,
 ) -> Result<Result<Option<i64>, CallRefusal>, NoMemory>
-    ensures { IfOk result (λ answer. Answered (can_call (base end.old) (body end.old) call.now) end.old end.new call.now answer) }
+    ensures { IfOk result (λ answer. AnsweredTo call.now answer end.old end.new) }
 {
     let made = call.copy(alloc)?;
     let answer = end.call(made);
@@ -55,7 +52,7 @@ fn run_call(
     side: Side,
     call: &Call,
 ) -> Result<Entry, NoMemory>
-    ensures { IfOk result (λ entry. RunsOn (the_events.Call side call.now ∷ []) (entry ∷ []) a.old b.old a.new b.new) }
+    ensures { IfOk result (λ entry. RunsOne (the_events.Call side call.now) entry a.old b.old a.new b.new) }
 {
     let kept = call.copy(alloc)?;
     let answer = answer_at(alloc, a, b, side, call)?;
@@ -105,7 +102,7 @@ fn run_carry(
     side: Side,
     most: Option<u32>,
 ) -> Result<Entry, NoMemory>
-    ensures { IfOk result (λ entry. RunsOn (the_events.Carry side most ∷ []) (entry ∷ []) a.old b.old a.new b.new) }
+    ensures { IfOk result (λ entry. RunsOne (the_events.Carry side most) entry a.old b.old a.new b.new) }
 {
     let carried = carry_from(alloc, a, b, side, most)?;
     Ok(Entry::Carry {
@@ -117,7 +114,7 @@ fn run_carry(
 
 /// Runs a break.
 fn run_break(a: &mut End<'_>, b: &mut End<'_>) -> Entry
-    ensures { RunsOn (the_events.Break ∷ []) (result ∷ []) a.old b.old a.new b.new }
+    ensures { RunsOne the_events.Break result a.old b.old a.new b.new }
 {
     a.broke();
     b.broke();
@@ -131,7 +128,7 @@ fn run_event(
     b: &mut End<'_>,
     event: &Event,
 ) -> Result<Entry, NoMemory>
-    ensures { IfOk result (λ entry. RunsOn (event.now ∷ []) (entry ∷ []) a.old b.old a.new b.new) }
+    ensures { IfOk result (λ entry. RunsOne event.now entry a.old b.old a.new b.new) }
 {
     match event {
         Event::Call { side, call } => run_call(alloc, a, b, *side, call),
@@ -173,7 +170,7 @@ pub fn run_world(
     b: &mut End<'_>,
     events: &Events,
 ) -> Result<Transcript, NoMemory>
-    ensures { IfOk result (λ transcript. (setup : Setup) → Stand setup a.old.tables [] a.old b.old → RanFromStart setup a.old.tables events.now transcript a.new b.new) }
+    ensures { IfOk result (λ transcript. RunsFromStart events.now transcript a.old b.old a.new b.new) }
 {
     a.tables().is_readable();
     every_run_keeps_laws();
