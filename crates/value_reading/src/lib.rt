@@ -10,3 +10,4 @@ mod word;
 pub use form::read_form;
 pub use front::{Front, Items};
 pub use typed::read_typed;
+pub use word::{after_spaces, len_to};

@@ -5,7 +5,7 @@ ghost use Rattle.value_reading.specs.Words.{len_to, is_sign, word_len, word, beh
 
 /// How many octets stand before the first such mark, or all of them.
 #[tactic(auto, using(crate::proofs::Until::goes_on, crate::proofs::Until::stops_here, crate::proofs::Until::ends))]
-pub(crate) fn len_to(text: &[u8], mark: u8) -> usize
+pub fn len_to(text: &[u8], mark: u8) -> usize
     ensures value { result ≡ len_to mark text.now }
     ensures within { result ≤ length text.now }
 {
@@ -59,7 +59,7 @@ pub(crate) fn behind_word(text: &[u8]) -> &[u8]
 }
 
 /// A text without the spaces before it.
-pub(crate) fn after_spaces(text: &[u8]) -> &[u8]
+pub fn after_spaces(text: &[u8]) -> &[u8]
     ensures { result.now ≡ after_spaces text.now }
 {
     let mut rest = text;

@@ -1,0 +1,5 @@
+pub mod Drafts
+pub mod Turns
+pub mod LineLaws
+pub mod Bare
+pub mod Settled

@@ -1,0 +1,7 @@
+pub mod Lines
+pub mod Reading
+pub mod Fields
+pub mod Syntaxes
+pub mod Values
+pub mod Operations
+pub mod Invoked

@@ -1,0 +1,19 @@
+//! The lines of schedules, scripts and books, the fields of a line, and how a line breaks the
+//! grammar of its text.
+#![tactic(auto)]
+
+mod fault;
+mod fields;
+mod invoked;
+mod line_fault;
+mod splitting;
+mod syntax;
+mod value;
+
+pub use fault::{ScriptFault, ScriptKind};
+pub use fields::{field, identifier, is_next, is_over, number, over, skip};
+pub use invoked::{InvokedOperations, result_type};
+pub use line_fault::LineFault;
+pub use splitting::Lines;
+pub use syntax::{EndsBefore, object_identifier, syntaxes};
+pub use value::{used_value, value_of_result};

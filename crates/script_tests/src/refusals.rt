@@ -1,0 +1,288 @@
+//! Schedules that are refused: the line, and the kind of its first faulty field.
+
+use module_reading::read_module;
+use schedule_text::{Modes, read_schedule};
+use script_lines::{ScriptFault, ScriptKind};
+use std::alloc::Global;
+use std::test::Fail;
+use stub_tables::Tables;
+
+/// A module with four operations and an error, as one of a calculator.
+const CALC: &str = "Calc {2 999 7 1} DEFINITIONS IMPLICIT TAGS ::= BEGIN
+add OPERATION ::= {ARGUMENT INTEGER RESULT INTEGER ERRORS {overflow} LINKED {ask} CODE local:1}
+store OPERATION ::= {ARGUMENT OCTET STRING RESULT NULL CODE local:2}
+ask OPERATION ::= {ARGUMENT INTEGER RESULT INTEGER CODE local:3}
+note OPERATION ::= {ARGUMENT IA5String RETURN RESULT FALSE CODE local:4}
+overflow ERROR ::= {PARAMETER INTEGER CODE local:1}
+END
+";
+
+pub(crate) fn calc(alloc: Global) -> Result<Tables, Fail> {
+    read_module(alloc, CALC.as_bytes()).map_err(|_| Fail::from("the module isn't read"))
+}
+
+pub(crate) fn all_modes() -> Modes {
+    Modes {
+        direct: true,
+        reliable: true,
+    }
+}
+
+/// The line and the kind that are told, or none.
+fn told(alloc: Global, modes: Modes, text: &str) -> Result<Option<(u32, ScriptKind)>, Fail> {
+    let tables = calc(alloc)?;
+    match read_schedule(alloc, modes, &tables, text.as_bytes()) {
+        Ok(_) => Ok(None),
+        Err(ScriptFault::At { line, kind }) => Ok(Some((line, kind))),
+        Err(ScriptFault::NoMemory) => Err(Fail::from("no memory")),
+    }
+}
+
+#[test]
+fn words_and_fields(rt: HostRuntime) -> Result<(), Fail> {
+    for (shows, text, line, kind) in [
+        (
+            "an unknown call",
+            "mode bare\nA dance\n",
+            2,
+            ScriptKind::UnknownWord,
+        ),
+        (
+            "an unknown first word",
+            "C open",
+            1,
+            ScriptKind::UnknownWord,
+        ),
+        (
+            "a tab parts no fields",
+            "A\topen",
+            1,
+            ScriptKind::UnknownWord,
+        ),
+        (
+            "a carriage return is a character",
+            "A open\r\n",
+            1,
+            ScriptKind::UnknownWord,
+        ),
+        ("an unknown side", "carry C all", 1, ScriptKind::UnknownWord),
+        ("an unknown mode", "mode fast", 1, ScriptKind::UnknownWord),
+        (
+            "the first faulty line",
+            "# x\n\nA open 1\nA dance",
+            3,
+            ScriptKind::BadField,
+        ),
+        (
+            "the first faulty field",
+            "A invoke x dance",
+            1,
+            ScriptKind::BadNumber,
+        ),
+        ("a missing call", "A ", 1, ScriptKind::BadField),
+        ("a missing amount", "carry A", 1, ScriptKind::BadField),
+        ("a further field", "break now", 1, ScriptKind::BadField),
+        ("a leading zero", "carry A 05", 1, ScriptKind::BadNumber),
+        (
+            "more than 32 bits",
+            "carry A 4294967296",
+            1,
+            ScriptKind::BadNumber,
+        ),
+        ("a sign", "A answer -1 5", 1, ScriptKind::BadNumber),
+        ("a missing priority", "B please", 1, ScriptKind::BadField),
+    ] {
+        let was = told(rt.alloc(), all_modes(), text)?;
+        assert!(rt; was == Some((line, kind)), "{shows}");
+    }
+    Ok(())
+}
+
+#[test]
+fn names_and_values(rt: HostRuntime) -> Result<(), Fail> {
+    for (shows, text, kind) in [
+        (
+            "an unknown operation",
+            "A invoke 5 dance 1",
+            ScriptKind::BadName,
+        ),
+        (
+            "an error for an operation",
+            "A invoke 5 overflow 1",
+            ScriptKind::BadName,
+        ),
+        (
+            "an argument that lacks",
+            "A invoke 5 add",
+            ScriptKind::BadValue,
+        ),
+        (
+            "an argument of another type",
+            "A invoke 5 add TRUE",
+            ScriptKind::BadValue,
+        ),
+        (
+            "a text without its end",
+            "A invoke 5 note \"x",
+            ScriptKind::BadValue,
+        ),
+        (
+            "a link without a number",
+            "A invoke 5 add 5 linked",
+            ScriptKind::BadField,
+        ),
+        (
+            "another word behind an argument",
+            "A invoke 5 add 5 to 1",
+            ScriptKind::BadField,
+        ),
+        (
+            "a value that isn't parted",
+            "A invoke 5 note \"x\"y",
+            ScriptKind::BadField,
+        ),
+        (
+            "a parameter that lacks",
+            "A refuse 1 overflow",
+            ScriptKind::BadValue,
+        ),
+        ("an unknown error", "A refuse 1 add 1", ScriptKind::BadName),
+        (
+            "a result without a form",
+            "A answer 1 {a 1}",
+            ScriptKind::BadValue,
+        ),
+        (
+            "a field behind a result",
+            "A answer 1 5 6",
+            ScriptKind::BadField,
+        ),
+    ] {
+        let was = told(rt.alloc(), all_modes(), text)?;
+        assert!(rt; was == Some((1, kind)), "{shows}");
+    }
+    Ok(())
+}
+
+#[test]
+fn alterations(rt: HostRuntime) -> Result<(), Fail> {
+    for (shows, text, kind) in [
+        ("no syntax", "A alter add 7", ScriptKind::BadField),
+        (
+            "no syntax before the deletions",
+            "A alter add 7 delete 5",
+            ScriptKind::BadField,
+        ),
+        (
+            "an unknown syntax",
+            "A alter add 7 per",
+            ScriptKind::BadName,
+        ),
+        (
+            "arcs that are no identifier",
+            "A alter add 7 {3 1}",
+            ScriptKind::BadName,
+        ),
+        (
+            "no identifier behind as",
+            "A alter add 7 as ber ber",
+            ScriptKind::BadField,
+        ),
+        (
+            "no number behind delete",
+            "A alter delete all",
+            ScriptKind::BadNumber,
+        ),
+        (
+            "nothing behind delete",
+            "A alter delete",
+            ScriptKind::BadField,
+        ),
+        ("another word", "A alter 7", ScriptKind::BadField),
+    ] {
+        let was = told(rt.alloc(), all_modes(), text)?;
+        assert!(rt; was == Some((1, kind)), "{shows}");
+    }
+    Ok(())
+}
+
+#[test]
+fn lines_of_the_setup(rt: HostRuntime) -> Result<(), Fail> {
+    for (shows, text, line, kind) in [
+        (
+            "a mode behind an event",
+            "A open\nmode direct",
+            2,
+            ScriptKind::OutOfOrder,
+        ),
+        ("two modes", "mode bare\nmode bare", 2, ScriptKind::BadSetup),
+        (
+            "a context in bare mode",
+            "mode bare\ncontext 5 ber",
+            2,
+            ScriptKind::BadSetup,
+        ),
+        (
+            "bare mode behind a context",
+            "context 5 ber\nmode bare",
+            2,
+            ScriptKind::BadSetup,
+        ),
+        (
+            "a context twice",
+            "context 5 ber\ncontext 5 der",
+            2,
+            ScriptKind::BadSetup,
+        ),
+        ("an even context", "context 4 ber", 1, ScriptKind::BadSetup),
+        (
+            "what A accepts twice",
+            "accepts A ber\naccepts A der",
+            2,
+            ScriptKind::BadSetup,
+        ),
+        (
+            "a window of 0",
+            "mode reliable 0 0",
+            1,
+            ScriptKind::BadSetup,
+        ),
+        ("no window", "mode reliable 2", 1, ScriptKind::BadField),
+        ("no mode", "mode", 1, ScriptKind::BadField),
+    ] {
+        let was = told(rt.alloc(), all_modes(), text)?;
+        assert!(rt; was == Some((line, kind)), "{shows}");
+    }
+    Ok(())
+}
+
+#[test]
+fn modes_that_are_not_run(rt: HostRuntime) -> Result<(), Fail> {
+    let bare_alone = Modes {
+        direct: false,
+        reliable: false,
+    };
+    for (shows, text, was_told) in [
+        ("no mode", "A open\n", Some((1, ScriptKind::BadSetup))),
+        (
+            "no mode, and a fault of line 1",
+            "A dance\n",
+            Some((1, ScriptKind::UnknownWord)),
+        ),
+        (
+            "direct mode",
+            "\nmode direct\n",
+            Some((2, ScriptKind::BadSetup)),
+        ),
+        (
+            "reliable mode",
+            "mode reliable 1 2\n",
+            Some((1, ScriptKind::BadSetup)),
+        ),
+        ("bare mode", "# bare\nmode bare\nA open\n", None),
+    ] {
+        let was = told(rt.alloc(), bare_alone, text)?;
+        assert!(rt; was == was_told, "{shows}");
+    }
+    Ok(())
+}

@@ -1,0 +1,176 @@
+//! Transcripts as texts, whole and as summaries.
+
+use crate::refusals::calc;
+use asn1_types::{Node, Val};
+use dialogue::{Call, CallRefusal, Carried, Entries, Entry, Indication, Mode, Phase, Transcript};
+use module_reading::read_module;
+use osi_base::{ListOf, Octets, Problem, ProblemKind, Side};
+use std::alloc::Global;
+use std::test::Fail;
+use transcript_text::{summary_text, transcript_text};
+
+fn number(number: i64) -> Option<Val> {
+    Some(Val {
+        node: Node::Int(number),
+    })
+}
+
+fn call(side: Side, call: Call, answer: Result<Option<i64>, CallRefusal>) -> Entry {
+    Entry::Call { side, call, answer }
+}
+
+fn invoke(operation: u32, argument: Option<Val>) -> Call {
+    Call::Invoke {
+        context: 0,
+        operation,
+        argument,
+        linked: None,
+    }
+}
+
+fn carry(alloc: Global, side: Side, octets: &[u8], indication: Indication) -> Result<Entry, Fail> {
+    let mut shown = ListOf::new(alloc);
+    shown.push(indication)?;
+    let octets = Octets::from_slice(alloc, octets)?;
+    Ok(Entry::Carry {
+        side,
+        most: None,
+        carried: Carried { octets, shown },
+    })
+}
+
+fn of_bare_mode(entries: Entries) -> Transcript {
+    Transcript {
+        mode: Mode::Bare,
+        entries,
+        a: Phase::Up,
+        b: Phase::Up,
+    }
+}
+
+/// One addition and its result (X.880 8).
+fn addition(alloc: Global) -> Result<Transcript, Fail> {
+    let mut entries = ListOf::new(alloc);
+    entries.push(call(Side::A, invoke(0, number(5)), Ok(Some(1))))?;
+    let invoked = Indication::Invoked {
+        id: 1,
+        operation: 0,
+        linked: None,
+        argument: number(5),
+    };
+    let octets = b"\xA1\x09\x02\x01\x01\x02\x01\x01\x02\x01\x05";
+    entries.push(carry(alloc, Side::A, octets.as_slice(), invoked)?)?;
+    let answer = Call::Answer {
+        id: 1,
+        result: number(5),
+    };
+    entries.push(call(Side::B, answer, Ok(None)))?;
+    let result_shown = Indication::Result {
+        id: 1,
+        value: number(5),
+    };
+    let octets = b"\xA2\x0B\x02\x01\x01\x30\x06\x02\x01\x01\x02\x01\x05";
+    entries.push(carry(alloc, Side::B, octets.as_slice(), result_shown)?)?;
+    Ok(of_bare_mode(entries))
+}
+
+#[test]
+fn an_addition(rt: HostRuntime) -> Result<(), Fail> {
+    let alloc = rt.alloc();
+    let tables = calc(alloc)?;
+    let text = transcript_text(alloc, &tables, &addition(alloc)?)?;
+    let wanted = "mode bare
+1 A invoke 0 add 5
+  ok 1
+2 carry A all
+  A>B A1 09 02 01 01 02 01 01 02 01 05
+  B: invoked 1 add 5
+3 B answer 1 5
+  ok
+4 carry B all
+  B>A A2 0B 02 01 01 30 06 02 01 01 02 01 05
+  A: result 1 5
+end A up
+end B up
+";
+    assert!(rt; text.as_slice() == wanted.as_bytes());
+    Ok(())
+}
+
+#[test]
+fn an_addition_summed_up(rt: HostRuntime) -> Result<(), Fail> {
+    let alloc = rt.alloc();
+    let text = summary_text(alloc, &addition(alloc)?)?;
+    let wanted = "events 4
+octets A>B 11
+octets B>A 13
+values 2
+outcomes 1
+rejects 0
+cut 0
+transfers 0
+refused 0
+end A up
+end B up
+";
+    assert!(rt; text.as_slice() == wanted.as_bytes());
+    Ok(())
+}
+
+/// Colours are printed by their names, of results by the invocation that was accepted.
+#[test]
+fn values_print_by_their_types(rt: HostRuntime) -> Result<(), Fail> {
+    let alloc = rt.alloc();
+    let module = "M {2 999 1} DEFINITIONS ::= BEGIN
+ask OPERATION ::= {ARGUMENT INTEGER RESULT INTEGER CODE local:1}
+pick OPERATION ::= {RESULT ENUMERATED {red(0), light-blue(1)} CODE local:2}
+END
+";
+    let Ok(tables) = read_module(alloc, module.as_bytes()) else {
+        assert!(rt; false, "the module isn't read");
+        return Ok(());
+    };
+    let mut entries = ListOf::new(alloc);
+    entries.push(call(Side::A, invoke(0, None), Err(CallRefusal::NotTyped)))?;
+    entries.push(call(Side::A, invoke(1, None), Ok(Some(1))))?;
+    let answer = Call::Answer {
+        id: 2,
+        result: number(1),
+    };
+    entries.push(call(Side::B, answer, Err(CallRefusal::NoInvocation(2))))?;
+    let result_shown = Indication::Result {
+        id: 1,
+        value: number(1),
+    };
+    entries.push(carry(alloc, Side::B, &[], result_shown)?)?;
+    let sent = Indication::RejectSent {
+        id: None,
+        problem: Problem {
+            kind: ProblemKind::General,
+            number: 1,
+        },
+    };
+    entries.push(carry(alloc, Side::A, &[0], sent)?)?;
+    entries.push(Entry::Break)?;
+    let transcript = of_bare_mode(entries);
+    let text = transcript_text(alloc, &tables, &transcript)?;
+    let wanted = "mode bare
+1 A invoke 0 ask
+  refused NotTyped
+2 A invoke 0 pick
+  ok 1
+3 B answer 2 light-blue
+  refused NoInvocation 2
+4 carry B all
+  B>A
+  A: result 1 light-blue
+5 carry A all
+  A>B 00
+  B: reject sent - general 1
+6 break
+end A up
+end B up
+";
+    assert!(rt; text.as_slice() == wanted.as_bytes());
+    Ok(())
+}

@@ -1,0 +1,14 @@
+pub mod Tests
+pub mod Words
+pub mod Numbers
+pub mod Octets
+pub mod Bits
+pub mod Characters
+pub mod Arcs
+pub mod Forms
+pub mod Starts
+pub mod Items
+pub mod Lists
+pub mod Parts
+pub mod Choices
+pub mod Typed

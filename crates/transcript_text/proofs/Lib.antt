@@ -1,0 +1,4 @@
+pub mod Arcs
+pub mod Answered
+pub mod Entries
+pub mod Counting

@@ -1,0 +1,50 @@
+-- Words and numbers of texts.
+use Rattle.std.specs.Prelude.{ℕ, List, codes}
+use Rattle.osi_base.specs.declared.words.Side.{Side}
+use Rattle.osi_base.specs.declared.words.Side.TheVariants.{A, B}
+use Rattle.osi_base.specs.declared.words.Layer.{Layer}
+use Rattle.osi_base.specs.declared.words.Layer.TheVariants.{Transport, Session, Presentation, Acse, Rtse, Rose}
+use Rattle.osi_base.specs.declared.words.ProblemKind.{ProblemKind}
+use Rattle.osi_base.specs.declared.words.ProblemKind.TheVariants as kinds
+use Rattle.dialogue.specs.declared.config.Mode.{Mode}
+use Rattle.dialogue.specs.declared.config.Mode.TheVariants.{Bare, Direct, Reliable}
+use Rattle.dialogue.specs.declared.config.Phase.{Phase}
+use Rattle.dialogue.specs.declared.config.Phase.TheVariants.{Idle, Opening, Up, Releasing, Broken, Recovering, Over, Dead}
+
+abbrev pub side_word : Side → List ℕ
+side_word A = codes "A"
+side_word B = codes "B"
+
+-- the other end
+abbrev pub peer_of : Side → Side
+peer_of A = B
+peer_of B = A
+
+abbrev pub mode_word : Mode → List ℕ
+mode_word Bare = codes "bare"
+mode_word Direct = codes "direct"
+mode_word Reliable = codes "reliable"
+
+abbrev pub phase_word : Phase → List ℕ
+phase_word Idle = codes "idle"
+phase_word Opening = codes "opening"
+phase_word Up = codes "up"
+phase_word Releasing = codes "releasing"
+phase_word Broken = codes "broken"
+phase_word Recovering = codes "recovering"
+phase_word Over = codes "over"
+phase_word Dead = codes "dead"
+
+abbrev pub layer_word : Layer → List ℕ
+layer_word Transport = codes "transport"
+layer_word Session = codes "session"
+layer_word Presentation = codes "presentation"
+layer_word Acse = codes "acse"
+layer_word Rtse = codes "rtse"
+layer_word Rose = codes "rose"
+
+abbrev pub problem_word : ProblemKind → List ℕ
+problem_word kinds.General = codes "general"
+problem_word kinds.Invoke = codes "invoke"
+problem_word kinds.Result = codes "result"
+problem_word kinds.Error = codes "error"

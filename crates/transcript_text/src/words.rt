@@ -1,0 +1,80 @@
+//! The words of sides, modes, phases, layers and problems in texts.
+
+ghost use Rattle.std.specs.Prelude.{◌≡◌};
+ghost use Rattle.transcript_text.specs.Words.{side_word, peer_of, mode_word, phase_word, layer_word, problem_word};
+
+use dialogue::{Mode, Phase};
+use osi_base::{Layer, ProblemKind, Side};
+
+/// The letter of an end.
+pub fn side_word(side: Side) -> &'static str
+    ensures { result.now ≡ side_word side }
+{
+    match side {
+        Side::A => "A",
+        Side::B => "B",
+    }
+}
+
+/// The other end.
+pub fn peer_of(side: Side) -> Side
+    ensures { result ≡ peer_of side }
+{
+    match side {
+        Side::A => Side::B,
+        Side::B => Side::A,
+    }
+}
+
+/// The word of a mode.
+pub fn mode_word(mode: Mode) -> &'static str
+    ensures { result.now ≡ mode_word mode }
+{
+    match mode {
+        Mode::Bare => "bare",
+        Mode::Direct => "direct",
+        Mode::Reliable => "reliable",
+    }
+}
+
+/// The word of a phase.
+pub fn phase_word(phase: Phase) -> &'static str
+    ensures { result.now ≡ phase_word phase }
+{
+    match phase {
+        Phase::Idle => "idle",
+        Phase::Opening => "opening",
+        Phase::Up => "up",
+        Phase::Releasing => "releasing",
+        Phase::Broken => "broken",
+        Phase::Recovering => "recovering",
+        Phase::Over => "over",
+        Phase::Dead => "dead",
+    }
+}
+
+/// The word of a layer.
+pub fn layer_word(layer: Layer) -> &'static str
+    ensures { result.now ≡ layer_word layer }
+{
+    match layer {
+        Layer::Transport => "transport",
+        Layer::Session => "session",
+        Layer::Presentation => "presentation",
+        Layer::Acse => "acse",
+        Layer::Rtse => "rtse",
+        Layer::Rose => "rose",
+    }
+}
+
+/// The word of what a reject speaks of.
+pub fn problem_word(kind: ProblemKind) -> &'static str
+    ensures { result.now ≡ problem_word kind }
+{
+    match kind {
+        ProblemKind::General => "general",
+        ProblemKind::Invoke => "invoke",
+        ProblemKind::Result => "result",
+        ProblemKind::Error => "error",
+    }
+}
