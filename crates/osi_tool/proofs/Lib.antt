@@ -1,4 +1,5 @@
 pub mod Exiting
+pub mod Modes
 pub mod Replays
 pub mod Only
 pub mod Endings

@@ -5,22 +5,25 @@ use Rattle.osi_base.specs.declared.words.Side.TheVariants.{A, B}
 use Rattle.osi_base.specs.declared.words.Status.{Status}
 use Rattle.osi_base.specs.declared.words.Status.TheVariants.{ModuleRefused}
 use Rattle.stub_tables.specs.declared.tables.Tables.{Tables}
+use Rattle.dialogue.specs.declared.config.Config.{Config}
+use Rattle.dialogue.specs.declared.setup.Setup.{Setup}
 use Rattle.dialogue.specs.declared.config.Mode.{Mode}
 use Rattle.dialogue.specs.declared.config.Phase.{Phase}
 use Rattle.dialogue.specs.declared.event.Entry.{Entry}
 use Rattle.dialogue.specs.declared.event.Transcript.{Transcript}
-use Rattle.bare_duo.specs.Worlds.{ends_of, end_at}
+use Rattle.end_rules.specs.World.{Ends}
+use Rattle.end_wire.specs.Bare.{bare_base}
+use Rattle.bare_duo.specs.Worlds.{ends_of, end_at, Runs}
 use Rattle.bare_duo.specs.Laws.{OneRun}
 use Rattle.module_reading.specs.Modules.{HasTables}
 use Rattle.module_check.specs.Command.{Check}
 use Rattle.module_check.specs.Checking.{shown, IsChecked}
 use Rattle.module_check.specs.declared.checking.Checked.{Checked}
 use Rattle.module_check.specs.declared.checking.Checked.TheVariants.{Shown, Refused}
-use Rattle.script_text.specs.declared.fault.ScriptFault.{ScriptFault}
-use Rattle.script_text.specs.declared.fault.ScriptFault.TheVariants.{At, NoMemory}
-use Rattle.script_text.specs.declared.schedule.Schedule.{Schedule}
-use Rattle.script_text.specs.Schedules.{schedule_of}
-use Rattle.script_text.specs.Texts.{text_of}
+use Rattle.script_lines.specs.declared.fault.ScriptFault.{ScriptFault}
+use Rattle.script_lines.specs.declared.fault.ScriptFault.TheVariants.{At, NoMemory}
+use Rattle.schedule_text.specs.Schedules.{Said, schedule_of}
+use Rattle.transcript_text.specs.Texts.{text_of}
 use Rattle.trace_file.specs.declared.fault.RecordingFault.{RecordingFault}
 use Rattle.trace_file.specs.declared.fault.RecordingFault.TheVariants as recording_faults
 use Rattle.trace_file.specs.declared.reading.Recorded.{Recorded}
@@ -32,7 +35,7 @@ use Rattle.osi_tool.specs.declared.commands.Work.TheVariants.{Replay, Trace}
 use Rattle.osi_tool.specs.Commands.{FilePair, Command, checks, pairs}
 use Rattle.osi_tool.specs.Answers.{usage_answer, done_answer}
 use Rattle.osi_tool.specs.Reading.{WasRead}
-use Rattle.osi_tool.specs.Replaying.{Replayed, RepliedBy}
+use Rattle.osi_tool.specs.Replaying.{bare_alone, Replayed, RepliedBy}
 use Rattle.osi_tool.specs.Tracing.{ToldBy}
 use Rattle.osi_tool.specs.Checking.{checked_answer, ChecksOctets, Checks, unread, read}
 use Rattle.osi_tool.specs.Pairs.{SecondBy}
@@ -44,25 +47,37 @@ use Rattle.osi_tool.proofs.PairCases.{PairCase, module_unread, module_faulty, se
 
 -- ---- what is replayed
 
+abbrev ends_with : Tables → Config → Config → Ends
+ends_with tables a b = record { a = bare_base tables a; b = bare_base tables b }
+
 abbrev told_by : Mode → List Entry → Phase → Phase → Transcript
 told_by mode entries a b = record { mode = mode; entries = entries; a = a; b = b }
 
-one_text : OneRun → (tables : Tables) (schedule : Schedule) (x y : List ℕ) → Replayed tables schedule x → Replayed tables schedule y → x ≡ y
+-- setups with these configurations make the same ends
+same_ends : (tables : Tables) (r s : Setup) → r.a ≡ s.a → r.b ≡ s.b → ends_of r tables ≡ ends_of s tables
+same_ends tables r s a b =
+    let first : ends_with tables r.a r.b ≡ ends_with tables s.a r.b = ap (λ x. ends_with tables x r.b) a in first ∙ ap (λ x. ends_with tables s.a x) b
+
+one_text : OneRun → (tables : Tables) (schedule : Said) (x y : List ℕ) → Replayed tables schedule x → Replayed tables schedule y → x ≡ y
 one_text one tables schedule x y r s =
-    let runs = one tables schedule.setup [] r.world s.world schedule.events r.transcript.entries s.transcript.entries r.readable r.runs s.runs in
+    let ends : ends_of s.setup tables ≡ ends_of r.setup tables = same_ends tables s.setup r.setup (s.a_is ∙ sym r.a_is) (s.b_is ∙ sym r.b_is) in
+    let R : Ends → Type 0 = λ e. Runs e [] schedule.events s.transcript.entries s.world in
+    let runs = one tables r.setup [] r.world s.world schedule.events r.transcript.entries s.transcript.entries r.readable r.runs (subst R ends s.runs) in
     let t = r.transcript in
     let u = s.transcript in
     let modes : told_by t.mode t.entries t.a t.b ≡ told_by u.mode t.entries t.a t.b = ap (λ m. told_by m t.entries t.a t.b) (r.mode ∙ sym s.mode) in
     let entries : told_by u.mode t.entries t.a t.b ≡ told_by u.mode u.entries t.a t.b = ap (λ es. told_by u.mode es t.a t.b) runs.0 in
     let firsts : told_by u.mode u.entries t.a t.b ≡ told_by u.mode u.entries u.a t.b =
-    ap (λ p. told_by u.mode u.entries p t.b) (r.a_phase ∙ ap (λ w. (end_at (ends_of schedule.setup tables) A w).body.link.phase) runs.1 ∙ sym s.a_phase) in
+    ap (λ p. told_by u.mode u.entries p t.b)
+    (r.a_phase ∙ ap (λ w. (end_at (ends_of r.setup tables) A w).body.link.phase) runs.1 ∙ ap (λ (e : Ends). (end_at e A s.world).body.link.phase) (sym ends) ∙ sym s.a_phase) in
     let seconds : told_by u.mode u.entries u.a t.b ≡ told_by u.mode u.entries u.a u.b =
-    ap (λ p. told_by u.mode u.entries u.a p) (r.b_phase ∙ ap (λ w. (end_at (ends_of schedule.setup tables) B w).body.link.phase) runs.1 ∙ sym s.b_phase) in
+    ap (λ p. told_by u.mode u.entries u.a p)
+    (r.b_phase ∙ ap (λ w. (end_at (ends_of r.setup tables) B w).body.link.phase) runs.1 ∙ ap (λ (e : Ends). (end_at e B s.world).body.link.phase) (sym ends) ∙ sym s.b_phase) in
     r.text_is ∙ ap (text_of tables) (modes ∙ entries ∙ firsts ∙ seconds) ∙ sym s.text_is
 
 -- ---- the second file
 
-one_reply : OneRun → (tables : Tables) (r : Result Schedule ScriptFault) (first other : Answer) → RepliedBy tables r first → RepliedBy tables r other → first ≡ other
+one_reply : OneRun → (tables : Tables) (r : Result Said ScriptFault) (first other : Answer) → RepliedBy tables r first → RepliedBy tables r other → first ≡ other
 one_reply one tables (Ok schedule) first other x y = x.2 ∙ ap done_answer (one_text one tables schedule x.0 y.0 x.1 y.1) ∙ sym y.2
 one_reply one tables (Err (At number kind)) first other x y = x ∙ sym y
 one_reply one tables (Err NoMemory) first other x y = absurd x
@@ -74,7 +89,7 @@ one_telling one tables (Err recording_faults.NoMemory) first other x y = absurd 
 
 module _ (runs : OneRun) (traces : OneTrace) where
   one_second : (work : Work) (tables : Tables) (octets : List ℕ) (first other : Answer) → SecondBy work tables octets first → SecondBy work tables octets other → first ≡ other
-  one_second Replay tables octets first other x y = one_reply runs tables (schedule_of tables octets) first other x y
+  one_second Replay tables octets first other x y = one_reply runs tables (schedule_of bare_alone tables octets) first other x y
   one_second Trace tables octets first other x y = one_telling traces tables (recording_of octets) first other x y
 
   module _ (map : FileMap) (old new : ℕ) (calm : IsCalm old new) where

@@ -5,11 +5,10 @@ use Rattle.osi_base.specs.declared.words.Status.{Status}
 use Rattle.osi_base.specs.declared.words.Status.TheVariants.{Done, Usage, ReadFault, ModuleRefused, ScriptRefused}
 use Rattle.stub_tables.specs.declared.tables.Tables.{Tables}
 use Rattle.module_reading.specs.Modules.{HasTables}
-use Rattle.script_text.specs.declared.fault.ScriptFault.{ScriptFault}
-use Rattle.script_text.specs.declared.fault.ScriptFault.TheVariants.{At}
-use Rattle.script_text.specs.declared.fault.ScriptKind.{ScriptKind}
-use Rattle.script_text.specs.declared.schedule.Schedule.{Schedule}
-use Rattle.script_text.specs.Schedules.{schedule_of}
+use Rattle.script_lines.specs.declared.fault.ScriptFault.{ScriptFault}
+use Rattle.script_lines.specs.declared.fault.ScriptFault.TheVariants.{At}
+use Rattle.script_lines.specs.declared.fault.ScriptKind.{ScriptKind}
+use Rattle.schedule_text.specs.Schedules.{Said, schedule_of}
 use Rattle.trace_file.specs.declared.fault.RecordingKind.{RecordingKind}
 use Rattle.trace_file.specs.declared.fault.RecordingFault.{RecordingFault}
 use Rattle.trace_file.specs.declared.fault.RecordingFault.TheVariants as recording_faults
@@ -25,7 +24,7 @@ use Rattle.osi_tool.specs.Commands.{FilePair}
 use Rattle.osi_tool.specs.Answers.{script_answer, IsUnless}
 use Rattle.osi_tool.specs.Reading.{WasRead, ReadsPair, HasModule}
 use Rattle.osi_tool.specs.Causes.{IsUnread, IsRefusedModule, HasNoTables, HasNoFault}
-use Rattle.osi_tool.specs.Replaying.{Replayed, ReplayedBy}
+use Rattle.osi_tool.specs.Replaying.{bare_alone, Replayed, ReplayedBy}
 use Rattle.osi_tool.specs.Tracing.{script_kind, TracedBy}
 
 -- ---- the whole of it
@@ -46,8 +45,8 @@ pub data AnswersPair (told : Option FileMap) (old new : ℕ) (pair : FilePair) :
 
 -- what was written of a schedule that was run, or of a recording
 pub record IsReplayed (tables : Tables) (octets text : List ℕ) : Type 0 where
-  pub schedule : Schedule
-  pub reads : schedule_of tables octets ≡ Ok schedule
+  pub schedule : Said
+  pub reads : schedule_of bare_alone tables octets ≡ Ok schedule
   pub replayed : Replayed tables schedule text
 
 pub record IsTraced (tables : Tables) (octets text : List ℕ) : Type 0 where
@@ -76,7 +75,7 @@ pub record IsPairDone (told : Option FileMap) (old new : ℕ) (pair : FilePair) 
 pub record IsBadSchedule (tables : Tables) (octets text : List ℕ) : Type 0 where
   pub line : ℕ
   pub kind : ScriptKind
-  pub fault : schedule_of tables octets ≡ Err (At line kind)
+  pub fault : schedule_of bare_alone tables octets ≡ Err (At line kind)
   pub is : text ≡ (script_answer line kind).text
 
 pub record IsBadRecording (octets text : List ℕ) : Type 0 where
@@ -109,7 +108,7 @@ IsPairUnread told old new pair before after =
 
 -- ---- when each status comes
 
-abbrev pub due_by_schedule : Result Schedule ScriptFault → Status
+abbrev pub due_by_schedule : Result Said ScriptFault → Status
 due_by_schedule (Ok schedule) = Done
 due_by_schedule (Err fault) = ScriptRefused
 
@@ -118,7 +117,7 @@ due_by_recording (Ok recorded) = Done
 due_by_recording (Err fault) = ScriptRefused
 
 abbrev pub due_by_octets : Work → Tables → List ℕ → Status
-due_by_octets Replay tables octets = due_by_schedule (schedule_of tables octets)
+due_by_octets Replay tables octets = due_by_schedule (schedule_of bare_alone tables octets)
 due_by_octets Trace tables octets = due_by_recording (recording_of octets)
 
 -- the status that a second file is due by these tables

@@ -1,8 +1,8 @@
 -- The trace of a recorded dialogue.
 use Rattle.std.specs.Prelude.{ℕ, ◌≡◌, List, Result, Ok, Err}
 use Rattle.stub_tables.specs.declared.tables.Tables.{Tables}
-use Rattle.script_text.specs.declared.fault.ScriptKind.{ScriptKind}
-use Rattle.script_text.specs.declared.fault.ScriptKind.TheVariants as kinds
+use Rattle.script_lines.specs.declared.fault.ScriptKind.{ScriptKind}
+use Rattle.script_lines.specs.declared.fault.ScriptKind.TheVariants as kinds
 use Rattle.trace_file.specs.declared.fault.RecordingKind.{RecordingKind}
 use Rattle.trace_file.specs.declared.fault.RecordingKind.TheVariants as recording_kinds
 use Rattle.trace_file.specs.declared.fault.RecordingFault.{RecordingFault}

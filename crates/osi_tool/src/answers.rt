@@ -7,7 +7,7 @@ ghost use Rattle.osi_base.specs.declared.words.Status.TheVariants.{NoMemory as n
 use module_check::refused_text;
 use module_reading::ModuleKind;
 use osi_base::{Name, NoMemory, Octets, Sink, SinkFault, Status, write_all};
-use script_text::ScriptKind;
+use script_lines::ScriptKind;
 use std::alloc::Global;
 use value_text::Text;
 

@@ -5,7 +5,7 @@ ghost use Rattle.osi_tool.specs.Tracing.{script_kind, TracedBy};
 
 use crate::answers::{Answer, done, script_refused};
 use osi_base::NoMemory;
-use script_text::ScriptKind;
+use script_lines::ScriptKind;
 use std::alloc::Global;
 use stub_tables::Tables;
 use trace_file::{RecordingFault, RecordingKind, read_recording};
