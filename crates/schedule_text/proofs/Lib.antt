@@ -3,3 +3,5 @@ pub mod Turns
 pub mod LineLaws
 pub mod Bare
 pub mod Settled
+pub mod Run
+pub mod BareRun

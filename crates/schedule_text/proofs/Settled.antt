@@ -53,11 +53,11 @@ second_of_pair d (Err kind) = d
 
 by_parts : (t : Bool) (o p : Option ConfigRefusal) (a b x y : Config)
     → (let both : Reading (Config × Config) = if t then ((unless_refused o >>= λ _. Ok a) >>= λ v. (unless_refused p >>= λ _. Ok b) >>= λ w. let pair : Config × Config = (v, w) in Ok pair) else Err BadSetup in both ≡ Ok (x, y))
-    → (o ≡ None) × (p ≡ None) × (a ≡ x) × (b ≡ y)
+    → (o ≡ None) × (p ≡ None) × (a ≡ x) × (b ≡ y) × (t ≡ true)
 by_parts false o p a b x y e = absurd (let no : ⊥ = cc in no)
 by_parts true (Some r) p a b x y e = absurd (let no : ⊥ = cc in no)
 by_parts true None (Some r) a b x y e = absurd (let no : ⊥ = cc in no)
-by_parts true None None a b x y e = (refl, refl, ap (first_of_pair a) e, ap (second_of_pair b) e)
+by_parts true None None a b x y e = (refl, refl, ap (first_of_pair a) e, ap (second_of_pair b) e, refl)
 
 no_contexts : (tables : Tables) (s : Setting) → mode_of s ≡ Bare → contexts_of tables true s ≡ []
 no_contexts tables s e = rw e refl
@@ -81,3 +81,17 @@ settled_meet modes tables s x y e =
     let b = config_of tables false s in
     let p = by_parts (runs modes (mode_of s)) (config_refusal a) (config_refusal b) a b x y e in
     subst (λ (c : Config). Meet c y) p.2 (subst (λ (c : Config). Meet a c) p.3 (meet_of tables s p.0 p.1))
+
+own_mode : (tables : Tables) (s : Setting) → (config_of tables true s).mode ≡ mode_of s
+unfolding config_of
+own_mode tables s = refl
+
+-- the ends run what is settled
+pub settled_runs : (modes : Modes) (tables : Tables) (s : Setting) (x y : Config) → settled modes tables s ≡ Ok (x, y) → runs modes x.mode ≡ true
+unfolding settled accepted
+settled_runs modes tables s x y e =
+    let a = config_of tables true s in
+    let b = config_of tables false s in
+    let p = by_parts (runs modes (mode_of s)) (config_refusal a) (config_refusal b) a b x y e in
+    let same : x.mode ≡ mode_of s = ap (λ (c : Config). c.mode) (sym p.2) ∙ own_mode tables s in
+    ap (runs modes) same ∙ p.4

@@ -13,6 +13,7 @@ use Rattle.script_lines.specs.Reading.{Reading, ◌>>=◌}
 use Rattle.schedule_text.specs.declared.draft.Draft.{Draft}
 use Rattle.schedule_text.specs.declared.setting.Modes.{Modes}
 use Rattle.schedule_text.specs.Meeting.{Meet}
+use Rattle.schedule_text.specs.Settings.{runs}
 use Rattle.schedule_text.specs.Events.{no_draft}
 use Rattle.schedule_text.specs.Schedules.{Said, after_line, finished, schedule_of}
 
@@ -57,3 +58,17 @@ EveryTextHasOneReading = (modes : Modes) (tables : Tables) (text : List ℕ) →
 -- two configurations that meet in bare mode are ones that ends of bare mode don't refuse
 abbrev pub SetupsOfBareMode : Type 0
 SetupsOfBareMode = (a b : Config) → Meet a b → a.mode ≡ Bare → IsBare true a × IsBare false b
+
+-- The ends run the mode, and the two configurations meet.
+pub record IsRun (modes : Modes) (s : Said) : Type 0 where
+  pub runs : runs modes s.a.mode ≡ true
+  pub meet : Meet s.a s.b
+
+-- what a schedule sets up is run
+abbrev pub SchedulesAreRun : Type 0
+SchedulesAreRun = (modes : Modes) (tables : Tables) (text : List ℕ) (s : Said) → schedule_of modes tables text ≡ Ok s → IsRun modes s
+
+-- where the ends run bare mode alone, a schedule is in bare mode, and its configurations are ones that no end of it refuses
+abbrev pub BareSchedulesAreBare : Type 0
+BareSchedulesAreBare = (modes : Modes) (tables : Tables) (text : List ℕ) (s : Said) → modes.direct ≡ false → modes.reliable ≡ false
+    → schedule_of modes tables text ≡ Ok s → IsBare true s.a × IsBare false s.b

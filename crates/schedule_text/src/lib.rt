@@ -12,7 +12,9 @@ mod setup;
 mod setup_line;
 
 pub use draft::Draft;
-pub use laws::{every_text_has_one_reading, setups_of_bare_mode};
+pub use laws::{
+    bare_schedules_are_bare, every_text_has_one_reading, schedules_are_run, setups_of_bare_mode,
+};
 pub use schedule::{Schedule, read_schedule};
 pub use setting::{Modes, Setting};
 pub use setup::Setup;
