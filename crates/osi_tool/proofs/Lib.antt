@@ -1,5 +1,4 @@
 pub mod Exiting
-pub mod Modes
 pub mod Replays
 pub mod Only
 pub mod Endings

@@ -1,5 +1,5 @@
 -- What is answered to a second file, case by case.
-use Rattle.std.proofs.Common.{ℕ, ◌≡◌, ◌⊎◌, List, Option, Result, Ok, Err, Bool, true, refl, sym, ap, subst, inl, inr, ◌∙◌}
+use Rattle.std.proofs.Common.{ℕ, ◌≡◌, ◌⊎◌, List, Option, Result, Ok, Err, Bool, true, false, refl, sym, ap, subst, inl, inr, ◌∙◌}
 use Rattle.osi_base.specs.Outside.{logged}
 use Rattle.osi_base.specs.declared.words.Status.{Status}
 use Rattle.osi_base.specs.declared.words.Status.TheVariants.{Done, ScriptRefused}
@@ -7,6 +7,8 @@ use Rattle.stub_tables.specs.declared.tables.Tables.{Tables}
 use Rattle.script_lines.specs.declared.fault.ScriptFault.{ScriptFault}
 use Rattle.script_lines.specs.declared.fault.ScriptFault.TheVariants.{At, NoMemory}
 use Rattle.script_lines.specs.declared.fault.ScriptKind.{ScriptKind}
+use Rattle.dialogue.specs.Config.{IsBare}
+use Rattle.schedule_text.specs.Laws.{BareSchedulesAreBare}
 use Rattle.schedule_text.specs.Schedules.{Said, schedule_of}
 use Rattle.trace_file.specs.declared.fault.RecordingKind.{RecordingKind}
 use Rattle.trace_file.specs.declared.fault.RecordingFault.{RecordingFault}
@@ -25,6 +27,10 @@ use Rattle.osi_tool.specs.Tracing.{script_kind, ToldBy, TracedBy}
 use Rattle.osi_tool.specs.Pairs.{SecondBy, IsWorked, IsBadSecond, due_by_schedule, due_by_recording, due_by_octets}
 
 -- ---- from the steps of the code
+
+-- a schedule that is read where bare mode alone is run is one of bare mode
+pub is_of_bare_mode : BareSchedulesAreBare → (tables : Tables) (octets : List ℕ) (s : Said) → schedule_of bare_alone tables octets ≡ Ok s → IsBare true s.a × IsBare false s.b
+is_of_bare_mode law tables octets s e = law bare_alone tables octets s refl refl e
 
 pub replayed_ok : (tables : Tables) (octets : List ℕ) (schedule : Said) (text : List ℕ) (answer : Answer) → schedule_of bare_alone tables octets ≡ Ok schedule → Replayed tables schedule text
     → answer ≡ done_answer text → ReplayedBy tables octets answer

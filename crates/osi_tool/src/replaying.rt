@@ -1,32 +1,22 @@
 //! The replay of a schedule.
 
-ghost use Rattle.std.specs.Prelude.{◌≡◌, [], None, IfOk};
+ghost use Rattle.std.specs.Prelude.{◌≡◌, true, false, [], None, IfOk};
 ghost use Rattle.dialogue.specs.declared.config.Mode.TheVariants as modes;
-ghost use Rattle.dialogue.specs.Config.{config_refusal};
+ghost use Rattle.dialogue.specs.Config.{config_refusal, IsBare};
 ghost use Rattle.bare_end.specs.View.{StandsFor};
 ghost use Rattle.schedule_text.specs.Schedules.{said};
-ghost use Rattle.osi_tool.specs.Replaying.{bare_alone, Replayed, ReplayedBy};
+ghost use Rattle.osi_tool.specs.Replaying.{Replayed, ReplayedBy};
 
 use crate::answers::{Answer, done, script_refused};
 use bare_duo::run_world;
 use bare_end::End;
 use dialogue::{Config, ConfigRefusal};
 use osi_base::{NoMemory, Octets};
-use schedule_text::{Modes, Schedule, read_schedule, setups_of_bare_mode};
+use schedule_text::{Modes, Schedule, bare_schedules_are_bare, read_schedule};
 use script_lines::ScriptFault;
 use std::alloc::Global;
 use stub_tables::Tables;
 use transcript_text::transcript_text;
-
-/// The modes that are run: bare mode alone.
-fn modes_run() -> Modes
-    ensures { result ≡ bare_alone }
-{
-    Modes {
-        direct: false,
-        reliable: false,
-    }
-}
 
 /// An end that has made no step. Its configuration is one that no end refuses, so only memory can
 /// lack.
@@ -47,10 +37,10 @@ fn new_end<'t>(alloc: Global, tables: &'t Tables, config: Config) -> Result<End<
 /// Runs the events of a schedule of bare mode over two new ends with the configurations of its
 /// setup, and answers the text of what came of them.
 fn replay(alloc: Global, tables: &Tables, schedule: Schedule) -> Result<Octets, NoMemory>
-    requires { schedule.setup.a.mode ≡ modes.Bare }
+    requires a { IsBare true schedule.setup.a }
+    requires b { IsBare false schedule.setup.b }
     ensures { IfOk result (λ text. Replayed tables.now (said schedule) text) }
 {
-    setups_of_bare_mode();
     let Schedule { setup, events } = schedule;
     let mut a = new_end(alloc, tables, setup.a)?;
     let mut b = new_end(alloc, tables, setup.b)?;
@@ -64,7 +54,12 @@ fn replay(alloc: Global, tables: &Tables, schedule: Schedule) -> Result<Octets, 
 pub fn replay_octets(alloc: Global, tables: &Tables, octets: &[u8]) -> Result<Answer, NoMemory>
     ensures { IfOk result (ReplayedBy tables.now octets.now) }
 {
-    match read_schedule(alloc, modes_run(), tables, octets) {
+    bare_schedules_are_bare();
+    let bare_alone = Modes {
+        direct: false,
+        reliable: false,
+    };
+    match read_schedule(alloc, bare_alone, tables, octets) {
         Ok(schedule) => {
             let text = replay(alloc, tables, schedule)?;
             Ok(done(text))
