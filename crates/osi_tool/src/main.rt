@@ -2,6 +2,8 @@
 #![tactic(auto)]
 
 mod answers;
+#[cfg(test)]
+mod check_tests;
 mod checking;
 mod commands;
 mod laws;

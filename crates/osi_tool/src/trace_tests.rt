@@ -71,7 +71,7 @@ fn refuses_a_recording_with_an_odd_digit(rt: HostRuntime) -> Result<(), Fail> {
 }
 
 /// The module of the recordings in `examples/`.
-const CALC_MODULE: &str = "Calc {2 999 7 1} DEFINITIONS IMPLICIT TAGS ::= BEGIN
+pub(crate) const CALC_MODULE: &str = "Calc {2 999 7 1} DEFINITIONS IMPLICIT TAGS ::= BEGIN
 IMPORTS OPERATION, ERROR FROM Remote-Operations-Information-Objects
   {joint-iso-itu-t remote-operations(4) informationObjects(5) version1(0)};
 add OPERATION ::= {ARGUMENT INTEGER RESULT INTEGER ERRORS {overflow} LINKED {ask} CODE local:1}
