@@ -117,7 +117,8 @@ fn user_part(alloc: Global, user: &Externals) -> Result<Option<Val>, NoMemory>
 
 /// A BIT STRING as a part.
 fn bits_part(alloc: Global, string: &Option<BitString>) -> Result<Option<Val>, NoMemory>
-    ensures { IfOk result (λ part. (more : List (Option tree.Value)) → parts_of (part ∷ more) ≡ bits_part string.now (parts_of more)) }
+    ensures { IfOk result (λ part. (more : List (Option tree.Value)) → parts_of (part ∷ more)
+        ≡ bits_part string.now (parts_of more)) }
 {
     match string {
         Some(string) => Ok(Some(bits(alloc, string)?)),

@@ -34,7 +34,12 @@ impl Model for Heads {
 
 /// A part, or one that may lack.
 fn part(alloc: Global, name: &str, row: u32, optional: bool) -> Result<Part, NoMemory>
-    ensures { IfOk result (λ p. p ≡ record { name = name.now; inner = record { 0 = row }; optional = optional; default = None }) }
+    ensures { IfOk result (λ p. p ≡ record {
+      name = name.now;
+      inner = record { 0 = row };
+      optional = optional;
+      default = None;
+    }) }
 {
     Ok(Part {
         name: Name::from_str(alloc, name)?,

@@ -42,7 +42,8 @@ fn outcome_in(
     code: &Option<Val>,
     rest: &[u8],
 ) -> Result<Option<Option<Returning>>, NoMemory>
-    ensures { IfOk result (λ o. option_map (option_map outcome_of) o ≡ outcome_in code.now rest.now) }
+    ensures { IfOk result (λ o. option_map (option_map outcome_of) o ≡ outcome_in code.now
+        rest.now) }
 {
     if code.is_none() {
         if rest.is_empty() {
@@ -66,7 +67,9 @@ fn invoke_by(
     mark: &Option<Val>,
     rest: &[u8],
 ) -> Result<Option<ApduHead>, NoMemory>
-    ensures { IfOk result (λ o. o ≡ option_map fields_of (invoke_by (integer_in id.now) (linked_in linked.now) (code_in code.now) (marked_in mark.now rest.now))) }
+    ensures { IfOk result (λ o. o ≡ option_map fields_of
+        (invoke_by (integer_in id.now) (linked_in linked.now) (code_in code.now)
+        (marked_in mark.now rest.now))) }
 {
     let id = integer_in(id);
     let (Some(_), Some(linked)) = (id, linked_in(linked)) else {
@@ -96,7 +99,8 @@ fn result_by(
     code: &Option<Val>,
     rest: &[u8],
 ) -> Result<Option<ApduHead>, NoMemory>
-    ensures { IfOk result (λ o. o ≡ option_map fields_of (result_by (integer_in id.now) (outcome_in code.now rest.now))) }
+    ensures { IfOk result (λ o. o ≡ option_map fields_of
+        (result_by (integer_in id.now) (outcome_in code.now rest.now))) }
 {
     let id = integer_in(id);
     let (Some(_), Some(returned)) = (id, outcome_in(alloc, code, rest)?) else {
@@ -113,7 +117,8 @@ fn error_by(
     mark: &Option<Val>,
     rest: &[u8],
 ) -> Result<Option<ApduHead>, NoMemory>
-    ensures { IfOk result (λ o. o ≡ option_map fields_of (error_by (integer_in id.now) (code_in code.now) (marked_in mark.now rest.now))) }
+    ensures { IfOk result (λ o. o ≡ option_map fields_of
+        (error_by (integer_in id.now) (code_in code.now) (marked_in mark.now rest.now))) }
 {
     let id = integer_in(id);
     let Some(_) = id else { return Ok(None) };
@@ -139,7 +144,8 @@ fn packed_invoke_pieces(
     pieces: &[Option<Val>],
     rest: &[u8],
 ) -> Result<Option<ApduHead>, NoMemory>
-    ensures { IfOk result (λ o. o ≡ option_map fields_of (packed_invoke_pieces pieces.now rest.now)) }
+    ensures { IfOk result (λ o. o ≡ option_map fields_of
+        (packed_invoke_pieces pieces.now rest.now)) }
 {
     match pieces {
         [id, linked, code, mark] => invoke_by(alloc, id, linked, code, mark, rest),
@@ -152,7 +158,8 @@ fn packed_result_pieces(
     pieces: &[Option<Val>],
     rest: &[u8],
 ) -> Result<Option<ApduHead>, NoMemory>
-    ensures { IfOk result (λ o. o ≡ option_map fields_of (packed_result_pieces pieces.now rest.now)) }
+    ensures { IfOk result (λ o. o ≡ option_map fields_of
+        (packed_result_pieces pieces.now rest.now)) }
 {
     match pieces {
         [id, code] => result_by(alloc, id, code, rest),
@@ -165,7 +172,8 @@ fn packed_error_pieces(
     pieces: &[Option<Val>],
     rest: &[u8],
 ) -> Result<Option<ApduHead>, NoMemory>
-    ensures { IfOk result (λ o. o ≡ option_map fields_of (packed_error_pieces pieces.now rest.now)) }
+    ensures { IfOk result (λ o. o ≡ option_map fields_of
+        (packed_error_pieces pieces.now rest.now)) }
 {
     match pieces {
         [id, code, mark] => error_by(alloc, id, code, mark, rest),
@@ -191,7 +199,8 @@ fn packed_pieces(
     pieces: &[Option<Val>],
     rest: &[u8],
 ) -> Result<Option<ApduHead>, NoMemory>
-    ensures { IfOk result (λ o. o ≡ option_map fields_of (packed_pieces which pieces.now rest.now)) }
+    ensures { IfOk result (λ o. o ≡ option_map fields_of
+        (packed_pieces which pieces.now rest.now)) }
 {
     match which {
         1 => packed_invoke_pieces(alloc, pieces, rest),

@@ -148,7 +148,8 @@ fn outcome_by(
     code: &Option<Val>,
     value: &Option<Val>,
 ) -> Result<Option<Returning>, NoMemory>
-    ensures { IfOk result (λ o. option_map outcome_of o ≡ outcome_by (code_in code.now) (octets_in value.now)) }
+    ensures { IfOk result (λ o. option_map outcome_of o ≡ outcome_by (code_in code.now)
+        (octets_in value.now)) }
 {
     let Some(code) = code_in(alloc, code)? else {
         return Ok(None);
@@ -204,7 +205,9 @@ fn invoke_by(
     code: &Option<Val>,
     argument: &Option<Val>,
 ) -> Result<Option<ApduHead>, NoMemory>
-    ensures { IfOk result (λ o. o ≡ option_map fields_of (invoke_by (integer_in id.now) (linked_in linked.now) (code_in code.now) (any_in argument.now))) }
+    ensures { IfOk result (λ o. o ≡ option_map fields_of
+        (invoke_by (integer_in id.now) (linked_in linked.now) (code_in code.now)
+        (any_in argument.now))) }
 {
     let id = integer_in(id);
     let (Some(_), Some(linked), Some(argument)) = (id, linked_in(linked), any_in(argument)) else {
@@ -230,7 +233,8 @@ fn result_by(
     id: &Option<Val>,
     returned: &Option<Val>,
 ) -> Result<Option<ApduHead>, NoMemory>
-    ensures { IfOk result (λ o. o ≡ option_map fields_of (result_by (integer_in id.now) (returned_in returned.now))) }
+    ensures { IfOk result (λ o. o ≡ option_map fields_of
+        (result_by (integer_in id.now) (returned_in returned.now))) }
 {
     let id = integer_in(id);
     let (Some(_), Some(returned)) = (id, returned_in(alloc, returned)?) else {
@@ -241,7 +245,8 @@ fn result_by(
 
 /// The head of a result with this identifier.
 pub(crate) fn result_head(id: Option<i64>, returned: Option<Returning>) -> ApduHead
-    ensures { (i : ℤ) → id ≡ Some i → result ≡ fields_of (heads.result i (option_map outcome_of returned)) }
+    ensures { (i : ℤ) → id ≡ Some i →
+        result ≡ fields_of (heads.result i (option_map outcome_of returned)) }
 {
     let (code, rest) = match returned {
         Some(Returning { code, octets }) => (Some(code), Some(octets)),
@@ -265,7 +270,8 @@ fn error_by(
     code: &Option<Val>,
     parameter: &Option<Val>,
 ) -> Result<Option<ApduHead>, NoMemory>
-    ensures { IfOk result (λ o. o ≡ option_map fields_of (error_by (integer_in id.now) (code_in code.now) (any_in parameter.now))) }
+    ensures { IfOk result (λ o. o ≡ option_map fields_of
+        (error_by (integer_in id.now) (code_in code.now) (any_in parameter.now))) }
 {
     let id = integer_in(id);
     let (Some(_), Some(parameter)) = (id, any_in(parameter)) else {
@@ -287,7 +293,8 @@ fn error_by(
 
 /// A reject, by its two parts.
 fn reject_by(id: &Option<Val>, problem: &Option<Val>) -> Option<ApduHead>
-    ensures { result ≡ option_map fields_of (reject_by (rejected_in id.now) (problem_in problem.now)) }
+    ensures { result ≡ option_map fields_of
+        (reject_by (rejected_in id.now) (problem_in problem.now)) }
 {
     match (rejected_in(id), problem_in(problem)) {
         (Some(id), Some(problem)) => Some(ApduHead {

@@ -118,7 +118,8 @@ pub(crate) fn packed_invoke(
     operation: &Code,
     octets: &Option<Octets>,
 ) -> Result<Val, NoMemory>
-    ensures { IfOk result (λ head. head ≡ packed_value (heads.invoke id linked operation.now octets.now)) }
+    ensures { IfOk result (λ head. head
+        ≡ packed_value (heads.invoke id linked operation.now octets.now)) }
 {
     let mut parts = Vec::new(alloc);
     parts.push(Some(integer(id)))?;
@@ -162,7 +163,8 @@ pub(crate) fn packed_error(
 
 /// What is returned, in BER and DER.
 fn returned(alloc: Global, operation: &Code, octets: Octets) -> Result<Val, NoMemory>
-    ensures { IfOk result (λ value. value ≡ tree_parts (present (code_value operation.now) (present (any octets) no_parts))) }
+    ensures { IfOk result (λ value. value
+        ≡ tree_parts (present (code_value operation.now) (present (any octets) no_parts))) }
 {
     let mut parts = Vec::new(alloc);
     parts.push(Some(code(alloc, operation)?))?;
@@ -199,7 +201,8 @@ pub(crate) fn ber_result(
     operation: &Code,
     octets: Octets,
 ) -> Result<Val, NoMemory>
-    ensures { IfOk result (λ head. head ≡ ber_value (heads.result id (Some (record { code = operation.now; octets = octets })))) }
+    ensures { IfOk result (λ head. head
+        ≡ ber_value (heads.result id (Some (record { code = operation.now; octets = octets })))) }
 {
     let mut parts = Vec::new(alloc);
     parts.push(Some(integer(id)))?;
@@ -214,7 +217,9 @@ pub(crate) fn packed_result(
     operation: &Code,
     behind: &Octets,
 ) -> Result<Val, NoMemory>
-    ensures { IfOk result (λ head. head ≡ packed_value (heads.result id (Some (record { code = operation.now; octets = behind.now })))) }
+    ensures { IfOk result (λ head. head
+        ≡ packed_value (heads.result id (Some
+        (record { code = operation.now; octets = behind.now })))) }
 {
     let mut parts = Vec::new(alloc);
     parts.push(Some(integer(id)))?;

@@ -137,7 +137,8 @@ impl Heads {
         code: &Code,
         octets: Option<Octets>,
     ) -> Result<Octets, NoMemory>
-        ensures { IfOk result (λ text. text ≡ written_head syntax (heads.invoke id linked code.now octets)) }
+        ensures { IfOk result (λ text. text ≡ written_head syntax
+            (heads.invoke id linked code.now octets)) }
     {
         match syntax {
             Syntax::Ber => self.ber_text(
@@ -164,7 +165,8 @@ impl Heads {
         code: &Code,
         octets: Option<Octets>,
     ) -> Result<Octets, NoMemory>
-        ensures { IfOk result (λ text. text ≡ written_head syntax (heads.error id code.now octets)) }
+        ensures { IfOk result (λ text. text ≡ written_head syntax
+            (heads.error id code.now octets)) }
     {
         match syntax {
             Syntax::Ber => self.ber_text(alloc, &values::ber_error(alloc, id, code, octets)?),
@@ -199,7 +201,8 @@ impl Heads {
         code: &Code,
         octets: Octets,
     ) -> Result<Octets, NoMemory>
-        ensures { IfOk result (λ text. text ≡ written_head syntax (heads.result id (Some (record { code = code.now; octets = octets })))) }
+        ensures { IfOk result (λ text. text ≡ written_head syntax
+            (heads.result id (Some (record { code = code.now; octets = octets })))) }
     {
         match syntax {
             Syntax::Ber => self.ber_text(alloc, &values::ber_result(alloc, id, code, octets)?),
@@ -240,7 +243,8 @@ impl Heads {
         id: i64,
         returned: &Option<Returned>,
     ) -> Result<Octets, NoMemory>
-        ensures { IfOk result (λ text. text ≡ written_head syntax (heads.result id (outcome_of tables.now syntax returned.now))) }
+        ensures { IfOk result (λ text. text ≡ written_head syntax
+            (heads.result id (outcome_of tables.now syntax returned.now))) }
     {
         let Some(returned) = returned else {
             return self.none_text(alloc, syntax, id);
@@ -299,7 +303,8 @@ fn returned_octets(
     used: Option<Use>,
     value: &Val,
 ) -> Result<Octets, NoMemory>
-    ensures { IfOk result (λ octets. octets ≡ or_none (written_carried syntax types.now used (Some value.now))) }
+    ensures { IfOk result (λ octets. octets
+        ≡ or_none (written_carried syntax types.now used (Some value.now))) }
 {
     let Some(used) = used else {
         return Ok(Octets::new(alloc));

@@ -91,7 +91,8 @@ fn opens_row(table: &TypeTable, of: TypeId, row: &TypeRow, class: Class, number:
 fn any_opens(table: &TypeTable, of: TypeId, parts: &[Part], class: Class, number: u64) -> bool
     requires below { AllByRecursion (λ m. m < of.0) (rows_of_parts parts.now) }
     requires within { of.0 ≤ length table.now }
-    ensures { result ≡ list_any (allows class number) (flat_map (λ p. openings table.now p.inner.0) parts.now) }
+    ensures { result ≡ list_any (allows class number) (flat_map (λ p. openings table.now p.inner.0)
+        parts.now) }
 {
     for part in parts {
         if opens(table, part.inner, class, number) {
@@ -106,7 +107,8 @@ fn any_opens(table: &TypeTable, of: TypeId, parts: &[Part], class: Class, number
 pub(crate) fn meet(table: &TypeTable, a: TypeId, b: TypeId) -> bool
     requires a { a.0 < length table.now }
     requires b { b.0 < length table.now }
-    ensures { result ≡ list_any (λ o. list_any (meets o) (openings table.now b.0)) (openings table.now a.0) }
+    ensures { result ≡ list_any (λ o. list_any (meets o) (openings table.now b.0))
+        (openings table.now a.0) }
 {
     meets_row(table, a, table.row(a), b)
 }
@@ -116,7 +118,8 @@ fn meets_row(table: &TypeTable, a: TypeId, row: &TypeRow, b: TypeId) -> bool
     requires row { slice_get table.now a.0 ≡ Some row.now }
     requires sound { IsSound table.now }
     requires b { b.0 < length table.now }
-    ensures { result ≡ list_any (λ o. list_any (meets o) (openings table.now b.0)) (openings_by (openings table.now) row.now) }
+    ensures { result ≡ list_any (λ o. list_any (meets o) (openings table.now b.0))
+        (openings_by (openings table.now) row.now) }
 {
     let own = match row {
         TypeRow::Choice(parts) => return any_meets(table, a, parts.as_slice(), b),
@@ -143,7 +146,8 @@ fn any_meets(table: &TypeTable, a: TypeId, parts: &[Part], b: TypeId) -> bool
     requires below { AllByRecursion (λ m. m < a.0) (rows_of_parts parts.now) }
     requires within { a.0 ≤ length table.now }
     requires b { b.0 < length table.now }
-    ensures { result ≡ list_any (λ o. list_any (meets o) (openings table.now b.0)) (flat_map (λ p. openings table.now p.inner.0) parts.now) }
+    ensures { result ≡ list_any (λ o. list_any (meets o) (openings table.now b.0))
+        (flat_map (λ p. openings table.now p.inner.0) parts.now) }
 {
     for part in parts {
         if meet(table, part.inner, b) {

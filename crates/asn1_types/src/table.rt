@@ -74,9 +74,11 @@ impl TypeTable {
     /// Puts a row behind the others, if the table then is sound. The table is unchanged after a
     /// refusal, which is the first that holds in the order of `RowRefusal`.
     pub fn add(&mut self, row: TypeRow) -> Result<TypeId, RowRefusal>
-        ensures ok { IfOk result (λ id. (id.0 ≡ length self.old) × (self.new ≡ self.old ++ row ∷ [])) }
+        ensures ok { IfOk result (λ id. (id.0 ≡ length self.old) ×
+            (self.new ≡ self.old ++ row ∷ [])) }
         ensures err { OnErr result (self.new ≡ self.old) }
-        ensures refused { MatchResult result (λ _. refusal self.old row ≡ None) (IsRefused (refusal self.old row)) }
+        ensures refused { MatchResult result (λ _. refusal self.old row ≡ None)
+            (IsRefused (refusal self.old row)) }
     {
         match self.refusal(&row) {
             Some(refusal) => Err(refusal),
@@ -86,7 +88,8 @@ impl TypeTable {
 
     fn push(&mut self, row: TypeRow) -> Result<TypeId, RowRefusal>
         requires { refusal self.old row ≡ None }
-        ensures ok { IfOk result (λ id. (id.0 ≡ length self.old) × (self.new ≡ self.old ++ row ∷ [])) }
+        ensures ok { IfOk result (λ id. (id.0 ≡ length self.old) ×
+            (self.new ≡ self.old ++ row ∷ [])) }
         ensures err { OnErr result (self.new ≡ self.old) }
         ensures memory { IfErr result (λ e. e ≡ RowRefusal.NoMemory) }
     {

@@ -129,7 +129,8 @@ fn behind(count: usize, octets: &[u8]) -> &[u8]
 /// What stands behind whole values and end-of-contents.
 #[cycle(wholes)]
 fn behind_values(levels: u32, octets: &[u8]) -> Option<&[u8]>
-    ensures { option_map (λ rest. rest.now) result ≡ behind_values (behind_whole levels) (length octets.now) octets.now }
+    ensures { option_map (λ rest. rest.now) result ≡ behind_values (behind_whole levels)
+        (length octets.now) octets.now }
 {
     let mut rest = octets;
     for _turn in 0..octets.len() {

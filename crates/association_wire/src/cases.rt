@@ -12,8 +12,10 @@ ghost use Rattle.association_wire.specs.Cases as row;
 
 /// The transport connection: CR and CC.
 pub fn connection_is_written()
-    ensures request { written row.calc 1024 (connection_request row.initiator) ≡ row.request_octets }
-    ensures confirm { written row.calc 1024 (answer_to_request 1 (Some 10) true) ≡ row.confirm_octets }
+    ensures request { written row.calc 1024 (connection_request row.initiator)
+        ≡ row.request_octets }
+    ensures confirm { written row.calc 1024 (answer_to_request 1 (Some 10) true)
+        ≡ row.confirm_octets }
 {}
 
 /// An invocation on a context in BER, and on one in the packed syntax.
@@ -25,9 +27,11 @@ pub fn values_are_written()
 /// An addition and a deletion, and their answers.
 pub fn alterations_are_written()
     ensures addition { written row.calc 1024 row.addition ≡ row.alteration_octets }
-    ensures addition_answer { written row.calc 1024 row.addition_answer ≡ row.alteration_answer_octets }
+    ensures addition_answer { written row.calc 1024 row.addition_answer
+        ≡ row.alteration_answer_octets }
     ensures deletion { written row.calc 1024 row.deletion ≡ row.deletion_octets }
-    ensures deletion_answer { written row.calc 1024 row.deletion_answer ≡ row.deletion_answer_octets }
+    ensures deletion_answer { written row.calc 1024 row.deletion_answer
+        ≡ row.deletion_answer_octets }
 {}
 
 /// A mark, a restart and its answer, and the token given and asked for.

@@ -52,7 +52,8 @@ fn run_call(
     side: Side,
     call: &Call,
 ) -> Result<Entry, NoMemory>
-    ensures { IfOk result (λ entry. RunsOne (the_events.Call side call.now) entry a.old b.old a.new b.new) }
+    ensures { IfOk result (λ entry. RunsOne (the_events.Call side call.now) entry a.old b.old a.new
+        b.new) }
 {
     let kept = call.copy(alloc)?;
     let answer = answer_at(alloc, a, b, side, call)?;
@@ -102,7 +103,8 @@ fn run_carry(
     side: Side,
     most: Option<u32>,
 ) -> Result<Entry, NoMemory>
-    ensures { IfOk result (λ entry. RunsOne (the_events.Carry side most) entry a.old b.old a.new b.new) }
+    ensures { IfOk result (λ entry. RunsOne (the_events.Carry side most) entry a.old b.old a.new
+        b.new) }
 {
     let carried = carry_from(alloc, a, b, side, most)?;
     Ok(Entry::Carry {
@@ -170,7 +172,8 @@ pub fn run_world(
     b: &mut End<'_>,
     events: &Events,
 ) -> Result<Transcript, NoMemory>
-    ensures { IfOk result (λ transcript. RunsFromStart events.now transcript a.old b.old a.new b.new) }
+    ensures { IfOk result (λ transcript. RunsFromStart events.now transcript a.old b.old a.new
+        b.new) }
 {
     a.tables().is_readable();
     every_run_keeps_laws();

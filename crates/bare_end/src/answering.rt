@@ -21,7 +21,8 @@ use stub_tables::{Apdu, ErrorRow, Operation, Returned};
 impl<'t> End<'t> {
     /// The operation of an open invocation of the peer.
     fn operation_of(&self, id: &i64) -> Option<&'t Operation>
-        ensures { option_copied result ≡ operation_of (base self.now) (opened_with false id.now self.now.calls.opens) }
+        ensures { option_copied result ≡ operation_of (base self.now)
+            (opened_with false id.now self.now.calls.opens) }
     {
         let place = self.invocations.operation(false, id)?;
         self.tables.operation(place)
@@ -29,7 +30,8 @@ impl<'t> End<'t> {
 
     /// Writes the outcome of an open invocation of the peer.
     fn end_invocation(&mut self, id: &i64, text: &[u8]) -> Result<(), NoMemory>
-        ensures ok { OnOk result (self.new ≡ with_waiting text.now (with_calls (close false id.now self.old.calls) self.old)) }
+        ensures ok { OnOk result (self.new ≡ with_waiting text.now
+            (with_calls (close false id.now self.old.calls) self.old)) }
         ensures err { OnErr result (Keeps self.old self.new) }
     {
         self.send(text)?;
@@ -39,7 +41,9 @@ impl<'t> End<'t> {
 
     /// The text of an outcome, unless it is too long.
     fn check_outcome(&self, apdu: &Apdu) -> Result<Checked, NoMemory>
-        ensures { IfOk result (λ checked. (o : OpenCall) → IsChecked (can_send_outcome (base self.now) (body self.now) o apdu.now) None (written_apdu self.now.tables syntaxes.Ber apdu.now) checked) }
+        ensures { IfOk result (λ checked. (o : OpenCall) →
+            IsChecked (can_send_outcome (base self.now) (body self.now) o apdu.now) None
+            (written_apdu self.now.tables syntaxes.Ber apdu.now) checked) }
     {
         match self.short_text(apdu)? {
             Some(text) => Ok(Checked::Sends(text)),
@@ -89,7 +93,11 @@ impl<'t> End<'t> {
         operation: &Operation,
         value: &Option<Val>,
     ) -> Result<Checked, NoMemory>
-        ensures { IfOk result (λ checked. (o : OpenCall) → IsChecked (can_answer_open (base self.now) (body self.now) id.now (Some o) (Some operation.now) value.now) None (written_apdu self.now.tables syntaxes.Ber (result_apdu operation.now id.now value.now)) checked) }
+        ensures { IfOk result (λ checked. (o : OpenCall) →
+            IsChecked (can_answer_open (base self.now) (body self.now) id.now (Some o)
+            (Some operation.now) value.now) None
+            (written_apdu self.now.tables syntaxes.Ber (result_apdu operation.now id.now value.now))
+            checked) }
     {
         if !operation.returns {
             return Ok(Checked::Refused(CallRefusal::NotAllowed));
@@ -110,7 +118,10 @@ impl<'t> End<'t> {
         error: &ErrorRow,
         parameter: &Option<Val>,
     ) -> Result<Checked, NoMemory>
-        ensures { IfOk result (λ checked. (o : OpenCall) → IsChecked (can_refuse_with (base self.now) (body self.now) id.now o error.now parameter.now) None (written_apdu self.now.tables syntaxes.Ber (error_apdu error.now id.now parameter.now)) checked) }
+        ensures { IfOk result (λ checked. (o : OpenCall) →
+            IsChecked (can_refuse_with (base self.now) (body self.now) id.now o error.now
+            parameter.now) None (written_apdu self.now.tables syntaxes.Ber
+            (error_apdu error.now id.now parameter.now)) checked) }
     {
         if !error.parameter.carries(&self.tables.types, parameter) {
             return Ok(Checked::Refused(CallRefusal::NotTyped));
@@ -128,8 +139,10 @@ impl<'t> End<'t> {
         operation: &Operation,
         value: &Option<Val>,
     ) -> Result<Option<i64>, CallRefusal>
-        requires { operation_of (base self.old) (opened_with false id.now self.old.calls.opens) ≡ Some operation.now }
-        ensures { Answers (can_answer (base self.old) (body self.old) id.now value.now) self.old self.new (the_calls.Answer id.now value.now) result }
+        requires { operation_of (base self.old) (opened_with false id.now self.old.calls.opens)
+            ≡ Some operation.now }
+        ensures { Answers (can_answer (base self.old) (body self.old) id.now value.now) self.old
+            self.new (the_calls.Answer id.now value.now) result }
     {
         let checked = self.check_answer(id, operation, value)?;
         match checked {
@@ -147,7 +160,8 @@ impl<'t> End<'t> {
         id: &i64,
         value: &Option<Val>,
     ) -> Result<Option<i64>, CallRefusal>
-        ensures { Answers (can_answer (base self.old) (body self.old) id.now value.now) self.old self.new (the_calls.Answer id.now value.now) result }
+        ensures { Answers (can_answer (base self.old) (body self.old) id.now value.now) self.old
+            self.new (the_calls.Answer id.now value.now) result }
     {
         let Some(operation) = self.operation_of(id) else {
             return Err(CallRefusal::NoInvocation(*id));
@@ -164,7 +178,9 @@ impl<'t> End<'t> {
         parameter: &Option<Val>,
     ) -> Result<Option<i64>, CallRefusal>
         requires there { error_at self.old.tables place ≡ Some error.now }
-        ensures { (o : OpenCall) → opened_with false id.now self.old.calls.opens ≡ Some o → Answers (can_refuse_with (base self.old) (body self.old) id.now o error.now parameter.now) self.old self.new (the_calls.Refuse id.now place parameter.now) result }
+        ensures { (o : OpenCall) → opened_with false id.now self.old.calls.opens ≡ Some o →
+            Answers (can_refuse_with (base self.old) (body self.old) id.now o error.now
+            parameter.now) self.old self.new (the_calls.Refuse id.now place parameter.now) result }
     {
         let checked = self.check_refuse(id, error, parameter)?;
         match checked {
@@ -183,7 +199,8 @@ impl<'t> End<'t> {
         place: u32,
         parameter: &Option<Val>,
     ) -> Result<Option<i64>, CallRefusal>
-        ensures { Answers (can_refuse (base self.old) (body self.old) id.now place parameter.now) self.old self.new (the_calls.Refuse id.now place parameter.now) result }
+        ensures { Answers (can_refuse (base self.old) (body self.old) id.now place parameter.now)
+            self.old self.new (the_calls.Refuse id.now place parameter.now) result }
     {
         let tables = self.tables;
         let Some(operation) = self.operation_of(id) else {

@@ -25,7 +25,8 @@ impl<'t> End<'t> {
         requires open_ { is_phase_for call.now self.old.phase ≡ true }
         requires mine { is_initiators call.now && not self.old.config.initiator ≡ false }
         requires alive { is_dead self.old.phase ≡ false }
-        ensures { Answers (can_call (base self.old) (body self.old) call.now) self.old self.new call.now result }
+        ensures { Answers (can_call (base self.old) (body self.old) call.now) self.old self.new
+            call.now result }
     {
         if !is_of_bare_mode(call) {
             return Err(CallRefusal::NotNegotiated);
@@ -56,7 +57,8 @@ impl<'t> End<'t> {
 
     /// Makes a call, or refuses it by the first row that fails.
     fn call_now(&mut self, call: &Call) -> Result<Option<i64>, CallRefusal>
-        ensures { Answers (can_call (base self.old) (body self.old) call.now) self.old self.new call.now result }
+        ensures { Answers (can_call (base self.old) (body self.old) call.now) self.old self.new
+            call.now result }
     {
         if is_dead(self.phase) {
             return Err(CallRefusal::Dead);
@@ -72,7 +74,9 @@ impl<'t> End<'t> {
 
     /// Makes a call; where memory is refused, the end dies.
     fn call_or_die(&mut self, call: &Call) -> Result<Option<i64>, CallRefusal>
-        ensures { MatchBool (is_memory result) (Died self.old self.new) (Answered (can_call (base self.old) (body self.old) call.now) self.old self.new call.now result) }
+        ensures { MatchBool (is_memory result) (Died self.old self.new)
+            (Answered (can_call (base self.old) (body self.old) call.now) self.old self.new call.now
+            result) }
     {
         let answer = self.call_now(call);
         if is_memory(&answer) {
@@ -86,9 +90,13 @@ impl<'t> End<'t> {
     /// but after a refusal by want of memory the end is dead, and answers `Dead` from then on. An
     /// accepted invocation is answered by its identifier, all else by `None`.
     pub fn call(&mut self, call: Call) -> Result<Option<i64>, CallRefusal>
-        ensures answer { MatchBool (is_memory result) (Died self.old self.new) (Answered (can_call (base self.old) (body self.old) call) self.old self.new call result) }
+        ensures answer { MatchBool (is_memory result) (Died self.old self.new)
+            (Answered (can_call (base self.old) (body self.old) call) self.old self.new call
+            result) }
         // Where the end stood for a history, it stands for it with the steps of the call.
-        ensures history { (h : History) → StandsFor self.old h → OnFalse (is_memory result) (StandsFor self.new (going_on h (call_steps (base self.old) (end_of (base self.old) h).body call))) }
+        ensures history { (h : History) → StandsFor self.old h →
+            OnFalse (is_memory result) (StandsFor self.new
+            (going_on h (call_steps (base self.old) (end_of (base self.old) h).body call))) }
     {
         let answer = self.call_or_die(&call);
         drop(call);

@@ -55,10 +55,18 @@ impl<'t> End<'t> {
     /// modes aren't built yet. Refused is what `check_config` refuses, and want of memory.
     pub fn new(alloc: Global, tables: &'t Tables, config: Config) -> Result<End<'t>, ConfigRefusal>
         requires bare { config.mode ≡ modes.Bare }
-        ensures made { IfOk result (λ end. end ≡ record { tables = tables.entry.now; config = config; phase = phases.Up; calls = record { opens = []; made = 0 }; waiting = []; rest = [] }) }
+        ensures made { IfOk result (λ end. end ≡ record {
+          tables = tables.entry.now;
+          config = config;
+          phase = phases.Up;
+          calls = record { opens = []; made = 0 };
+          waiting = [];
+          rest = [];
+        }) }
         ensures history { IfOk result (λ end. StandsFor end []) }
         ensures accepted { OnOk result (config_refusal config ≡ None) }
-        ensures refused { IfErr result (λ refusal. (refusal ≢ config_refusals.NoMemory) → config_refusal config ≡ Some refusal) }
+        ensures refused { IfErr result (λ refusal. (refusal ≢ config_refusals.NoMemory) →
+            config_refusal config ≡ Some refusal) }
     {
         check_config(alloc, &config)?;
         let Ok(heads) = Heads::new(alloc) else {
@@ -123,7 +131,8 @@ impl<'t> End<'t> {
 
     /// The lowest identifier that may be sent and has the module's abstract syntax: 0.
     pub fn lowest(&self) -> Option<u32>
-        ensures { result ≡ lowest_with self.now.tables.name_oid (body self.now).sets.own (body self.now).sets.held }
+        ensures { result ≡ lowest_with self.now.tables.name_oid (body self.now).sets.own
+            (body self.now).sets.held }
     {
         Some(0)
     }
@@ -149,7 +158,8 @@ impl<'t> End<'t> {
         ensures given { out.new ≡ take result self.old.waiting ++ drop result out.old }
         ensures end { self.new ≡ record self.old { waiting = drop result self.old.waiting } }
         ensures steps { Stepped self.old self.new (gave result ∷ []) }
-        ensures history { (h : History) → StandsFor self.old h → StandsFor self.new (gave result ∷ h) }
+        ensures history { (h : History) → StandsFor self.old h →
+            StandsFor self.new (gave result ∷ h) }
     {
         let count = copy_front(self.waiting.as_slice(), out);
         self.waiting.skip(count);

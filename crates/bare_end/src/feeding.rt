@@ -58,7 +58,8 @@ impl<'t> End<'t> {
     /// Ends the association for a fault at this place.
     fn abort(&mut self, place: usize, shown: &mut Indications) -> Result<(), NoMemory>
         ensures ok { OnOk result (Stepped self.old self.new (fault Rose place 0 ∷ feed_end ∷ [])) }
-        ensures shown { OnOk result (shown.new ≡ shown.old ++ shown_at_fault (body self.old) (fault_at Rose place 0)) }
+        ensures shown { OnOk result (shown.new ≡ shown.old ++ shown_at_fault (body self.old)
+            (fault_at Rose place 0)) }
         ensures err { OnErr result (Keeps self.old self.new) }
     {
         let opens = self.invocations.opens()?;
@@ -79,7 +80,8 @@ impl<'t> End<'t> {
     fn read(&mut self, front: Front, shown: &mut Indications) -> Result<bool, NoMemory>
         requires first { IsFirst self.old.rest front }
         requires up { passes_over self.old.phase ≡ false }
-        ensures { MatchResult result (λ more. Goes more self.old self.new shown.old shown.new) (λ _. Keeps self.old self.new) }
+        ensures { MatchResult result (λ more. Goes more self.old self.new shown.old shown.new)
+            (λ _. Keeps self.old self.new) }
     {
         match front {
             Front::Short => Ok(false),
@@ -97,7 +99,8 @@ impl<'t> End<'t> {
     /// Reads what stands first, and answers whether more may follow.
     fn read_next(&mut self, shown: &mut Indications) -> Result<bool, NoMemory>
         requires { passes_over self.old.phase ≡ false }
-        ensures { MatchResult result (λ more. Goes more self.old self.new shown.old shown.new) (λ _. Keeps self.old self.new) }
+        ensures { MatchResult result (λ more. Goes more self.old self.new shown.old shown.new)
+            (λ _. Keeps self.old self.new) }
     {
         let front = self.front();
         self.read(front, shown)
@@ -133,7 +136,8 @@ impl<'t> End<'t> {
 
     /// Keeps what came.
     fn keep(&mut self, bytes: &[u8]) -> Result<(), NoMemory>
-        ensures ok { OnOk result (self.new ≡ record self.old { rest = self.old.rest ++ bytes.now }) }
+        ensures ok { OnOk result (self.new ≡ record self.old
+            { rest = self.old.rest ++ bytes.now }) }
         ensures err { OnErr result (Keeps self.old self.new) }
     {
         self.rest.extend(bytes)?;
@@ -149,7 +153,9 @@ impl<'t> End<'t> {
 
     /// Takes octets, unless memory is refused.
     fn feed_now(&mut self, bytes: &[u8]) -> Result<Indications, NoMemory>
-        ensures { MatchResult result (λ shown. Fed self.old self.new bytes.now shown) (λ _. KeepsDue self.old self.new (after (base self.old) (seen self.old) (fed bytes.now))) }
+        ensures { MatchResult result (λ shown. Fed self.old self.new bytes.now shown)
+            (λ _. KeepsDue self.old self.new
+            (after (base self.old) (seen self.old) (fed bytes.now))) }
     {
         let mut shown = self.nothing_shown();
         if self.is_over() {
@@ -166,7 +172,8 @@ impl<'t> End<'t> {
     /// for the messages that it took before. Each octet is looked at a bounded number of times,
     /// however the octets are cut.
     pub fn feed(&mut self, bytes: &[u8]) -> Result<Indications, NoMemory>
-        ensures { MatchResult result (λ shown. Fed self.old self.new bytes.now shown) (λ _. DiedFed self.old self.new bytes.now) }
+        ensures { MatchResult result (λ shown. Fed self.old self.new bytes.now shown)
+            (λ _. DiedFed self.old self.new bytes.now) }
     {
         match self.feed_now(bytes) {
             Ok(shown) => Ok(shown),

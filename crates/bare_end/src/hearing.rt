@@ -101,8 +101,11 @@ impl<'t> End<'t> {
     /// Hears the APDU with which what came begins, which has so many octets.
     pub(crate) fn hear(&mut self, used: usize) -> Result<Taken, NoMemory>
         requires { used ≤ length self.old.rest }
-        ensures heard { IfOk result (Heard self.old self.new (head_at self.old.tables syntaxes.Ber (take used self.old.rest))) }
-        ensures means { OnOk result (IsContent self.old.tables syntaxes.Ber (take used self.old.rest) (content_at self.old.tables syntaxes.Ber (take used self.old.rest))) }
+        ensures heard { IfOk result (Heard self.old self.new
+            (head_at self.old.tables syntaxes.Ber (take used self.old.rest))) }
+        ensures means { OnOk result (IsContent self.old.tables syntaxes.Ber
+            (take used self.old.rest) (content_at self.old.tables syntaxes.Ber
+            (take used self.old.rest))) }
         ensures err { OnErr result (self.new ≡ self.old) }
     {
         self.tables.is_readable();
@@ -121,7 +124,9 @@ impl<'t> End<'t> {
 
     /// Writes a reject.
     fn send_reject(&mut self, id: Option<i64>, problem: Problem) -> Result<(), NoMemory>
-        ensures ok { OnOk result (self.new ≡ with_waiting (written_apdu self.old.tables syntaxes.Ber (reject_apdu (record { id = id; problem = problem }))) self.old) }
+        ensures ok { OnOk result (self.new
+            ≡ with_waiting (written_apdu self.old.tables syntaxes.Ber
+            (reject_apdu (record { id = id; problem = problem }))) self.old) }
         ensures err { OnErr result (self.new ≡ self.old) }
     {
         let apdu = Apdu::Reject { id, problem };

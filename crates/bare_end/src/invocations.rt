@@ -98,7 +98,17 @@ impl Invocations {
         requires room { length (opens_of true self.old.opens) < 4096 }
         requires linked { is_link linked self.old.opens ≡ true }
         ensures id { IfOk result (λ id. id ≡ pos (self.old.made + 1)) }
-        ensures opened { OnOk result (self.new ≡ record { opens = self.old.opens ++ record { own = true; id = pos (self.old.made + 1); operation = operation; context = context; parent = linked } ∷ []; made = self.old.made + 1 }) }
+        ensures opened { OnOk result (self.new
+            ≡ record {
+              opens = self.old.opens ++ record {
+                own = true;
+                id = pos (self.old.made + 1);
+                operation = operation;
+                context = context;
+                parent = linked;
+              } ∷ [];
+              made = self.old.made + 1;
+            }) }
         ensures err { OnErr result (self.new ≡ self.old) }
     {
         self.forest.is_forest();
@@ -126,7 +136,8 @@ impl Invocations {
     /// What becomes of an APDU that came in BER on context 0. Want of memory changes nothing.
     pub fn take(&mut self, tables: &Tables, head: ApduHead) -> Result<RoseTaken, NoMemory>
         requires { SomeCarried tables.now head }
-        ensures heard { IfOk result (λ taken. Hears tables.now syntaxes.Ber 0 head self.old self.new taken) }
+        ensures heard { IfOk result (λ taken. Hears tables.now syntaxes.Ber 0 head self.old self.new
+            taken) }
         ensures err { OnErr result (self.new ≡ self.old) }
     {
         match head.kind {

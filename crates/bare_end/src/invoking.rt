@@ -111,7 +111,8 @@ impl<'t> End<'t> {
         linked: Option<i64>,
         argument: &Option<Val>,
     ) -> Result<Apdu, NoMemory>
-        ensures { IfOk result (λ apdu. apdu ≡ invoke_apdu operation.now (next_id (body self.now)) linked argument.now) }
+        ensures { IfOk result (λ apdu. apdu ≡ invoke_apdu operation.now (next_id (body self.now))
+            linked argument.now) }
     {
         let id = self.next_id();
         self.invoke_apdu(operation, id, linked, argument)
@@ -119,7 +120,11 @@ impl<'t> End<'t> {
 
     /// Why there is no room or no number for one more invocation of an operation.
     fn room_refusal(&self, operation: &Operation) -> Option<CallRefusal>
-        ensures { (go : Reply) → IsNumbered self.now.calls operation.now result (if not (is_silent operation.now) && nat_le 4096 (length (opens_of true self.now.calls.opens)) then Err refusals.TooManyOpen else (if nat_le 2147483647 self.now.calls.made then Err refusals.NumbersSpent else go)) go }
+        ensures { (go : Reply) → IsNumbered self.now.calls operation.now result
+            (if not (is_silent operation.now)
+            && nat_le 4096 (length (opens_of true self.now.calls.opens)) then Err
+            refusals.TooManyOpen else (if nat_le 2147483647 self.now.calls.made then Err
+            refusals.NumbersSpent else go)) go }
     {
         if !operation.is_silent() && self.invocations.own_count() >= MOST_OPEN {
             return Some(CallRefusal::TooManyOpen);
@@ -137,7 +142,10 @@ impl<'t> End<'t> {
         argument: &Option<Val>,
         linked: Option<i64>,
     ) -> Result<Checked, NoMemory>
-        ensures checked { IfOk result (IsChecked (can_send_invoke (base self.now) (body self.now) operation.now argument.now linked) (Some (next_id (body self.now))) (written_apdu self.now.tables syntaxes.Ber (invoke_apdu operation.now (next_id (body self.now)) linked argument.now))) }
+        ensures checked { IfOk result (IsChecked (can_send_invoke (base self.now) (body self.now)
+            operation.now argument.now linked) (Some (next_id (body self.now)))
+            (written_apdu self.now.tables syntaxes.Ber
+            (invoke_apdu operation.now (next_id (body self.now)) linked argument.now))) }
         ensures free { IfOk result (IsFree self.now.calls operation.now) }
     {
         if !operation.argument.carries(&self.tables.types, argument) {
@@ -160,7 +168,16 @@ impl<'t> End<'t> {
         requires there { operation_at self.old.tables making.place ≡ Some operation.now }
         requires room { HasRoom self.old.calls operation.now }
         requires linked { is_link making.linked self.old.calls.opens ≡ true }
-        ensures ok { OnOk result (self.new ≡ with_calls (opening (base self.old) (record { own = true; id = next_id (body self.old); operation = making.place; context = making.context; parent = making.linked }) (record self.old.calls { made = suc self.old.calls.made })) self.old) }
+        ensures ok { OnOk result (self.new
+            ≡ with_calls (opening (base self.old)
+            (record {
+              own = true;
+              id = next_id (body self.old);
+              operation = making.place;
+              context = making.context;
+              parent = making.linked;
+            })
+            (record self.old.calls { made = suc self.old.calls.made })) self.old) }
         ensures err { OnErr result (self.new ≡ self.old) }
     {
         if operation.is_silent() {
@@ -177,7 +194,15 @@ impl<'t> End<'t> {
         requires there { operation_at self.old.tables making.place ≡ Some operation.now }
         requires room { HasRoom self.old.calls operation.now }
         requires linked { is_link making.linked self.old.calls.opens ≡ true }
-        ensures ok { OnOk result (self.new ≡ with_waiting text.now (with_calls (opening (base self.old) (record { own = true; id = next_id (body self.old); operation = making.place; context = making.context; parent = making.linked }) (record self.old.calls { made = suc self.old.calls.made })) self.old)) }
+        ensures ok { OnOk result (self.new ≡ with_waiting text.now
+            (with_calls (opening (base self.old) (record {
+              own = true;
+              id = next_id (body self.old);
+              operation = making.place;
+              context = making.context;
+              parent = making.linked;
+            })
+            (record self.old.calls { made = suc self.old.calls.made })) self.old)) }
         ensures err { OnErr result (Keeps self.old self.new) }
     {
         self.open_call(operation, making)?;
@@ -194,7 +219,9 @@ impl<'t> End<'t> {
     ) -> Result<Option<i64>, CallRefusal>
         requires there { operation_at self.old.tables making.place ≡ Some operation.now }
         requires linked { is_link making.linked self.old.calls.opens ≡ true }
-        ensures { Answers (can_send_invoke (base self.old) (body self.old) operation.now argument.now making.linked) self.old self.new (the_calls.Invoke making.context making.place argument.now making.linked) result }
+        ensures { Answers (can_send_invoke (base self.old) (body self.old) operation.now
+            argument.now making.linked) self.old self.new
+            (the_calls.Invoke making.context making.place argument.now making.linked) result }
     {
         let id = self.next_id();
         let checked = self.check_invoke(operation, argument, making.linked)?;
@@ -213,7 +240,9 @@ impl<'t> End<'t> {
         making: Making,
         argument: &Option<Val>,
     ) -> Result<Option<i64>, CallRefusal>
-        ensures { Answers (can_invoke (base self.old) (body self.old) making.context making.place argument.now making.linked) self.old self.new (the_calls.Invoke making.context making.place argument.now making.linked) result }
+        ensures { Answers (can_invoke (base self.old) (body self.old) making.context making.place
+            argument.now making.linked) self.old self.new
+            (the_calls.Invoke making.context making.place argument.now making.linked) result }
     {
         let tables = self.tables;
         let Some(operation) = tables.operation(making.place) else {

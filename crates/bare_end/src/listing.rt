@@ -83,7 +83,8 @@ pub(crate) fn opens_in(
     invoker: &Invoker,
     performer: &Performer,
 ) -> Result<Vec<OpenCall>, NoMemory>
-    ensures { IfOk result (λ opens. opens.items ≡ opens_in entries.now invoker.now.kept performer.now.kept) }
+    ensures { IfOk result (λ opens. opens.items ≡ opens_in entries.now invoker.now.kept
+        performer.now.kept) }
 {
     let mut opens = Vec::new(alloc);
     for entry in entries {

@@ -43,7 +43,9 @@ pub(crate) fn reach(scope: &Scope, spot: Spot) -> usize
 #[inline(always)]
 #[tactic(auto, unfolding(ber_spelling::specs::Fields::identifier_at, ber_spelling::specs::Reading::within))]
 pub(crate) fn first_identifier<'a>(limit: u32, bytes: &'a [u8]) -> Option<(Opened<'a>, Spot<'a>)>
-    ensures gives { (strict : Bool) → IfSome result (λ x. identifier_at (outermost limit strict) 0 bytes.now ≡ Ok (opened_of x.0, spot_of x.1)) }
+    ensures gives { (strict : Bool) →
+        IfSome result (λ x. identifier_at (outermost limit strict) 0 bytes.now
+        ≡ Ok (opened_of x.0, spot_of x.1)) }
     ensures stops { IfSome result (λ x. Opens 0 (length bytes.now) x.0 x.1) }
 {
     let start = Spot {
@@ -86,8 +88,11 @@ pub(crate) fn integer_ahead<'a>(
 ) -> Option<(i64, Spot<'a>)>
     requires whole { spot.place + length spot.rest.now < 2 ^ 63 }
     requires reach { IsReach scope.now (spot.place + length spot.rest.now) reach }
-    ensures looks { IfSome result (λ x. look_at scope.now spot.entry.place spot.entry.rest.now ≡ Ok (begun (integer_opened (spot_of spot.entry)) (behind (spot_of spot.entry)))) }
-    ensures gives { IfSome result (λ x. primitive_at (integer_rule low high) always integer_tag scope.now (integer_opened (spot_of spot.entry)) (behind (spot_of spot.entry)) ≡ Ok (tree.integer x.0, spot_of x.1)) }
+    ensures looks { IfSome result (λ x. look_at scope.now spot.entry.place spot.entry.rest.now
+        ≡ Ok (begun (integer_opened (spot_of spot.entry)) (behind (spot_of spot.entry)))) }
+    ensures gives { IfSome result (λ x. primitive_at (integer_rule low high) always integer_tag
+        scope.now (integer_opened (spot_of spot.entry)) (behind (spot_of spot.entry))
+        ≡ Ok (tree.integer x.0, spot_of x.1)) }
     ensures stops { IfSome result (λ x. GoesOn spot.entry.place (length spot.entry.rest.now) x.1) }
 {
     let [first, count, ..] = spot.rest else {
@@ -114,8 +119,11 @@ fn first_ahead<'a>(
     requires below { AllByRecursion (λ m. m < length table.now) (rows_of_parts alternatives.now) }
     requires whole { spot.place + length spot.rest.now < 2 ^ 63 }
     requires reach { IsReach scope.now (spot.place + length spot.rest.now) reach }
-    ensures looks { IfSome result (λ x. look_at scope.now spot.entry.place spot.entry.rest.now ≡ Ok (begun (integer_opened (spot_of spot.entry)) (behind (spot_of spot.entry)))) }
-    ensures gives { IfSome result (λ x. choice_at (begins table.now) (reads table.now) 0 alternatives.now scope.now (integer_opened (spot_of spot.entry)) (behind (spot_of spot.entry)) ≡ Ok (tree.chosen 0 (tree.integer x.0), spot_of x.1)) }
+    ensures looks { IfSome result (λ x. look_at scope.now spot.entry.place spot.entry.rest.now
+        ≡ Ok (begun (integer_opened (spot_of spot.entry)) (behind (spot_of spot.entry)))) }
+    ensures gives { IfSome result (λ x. choice_at (begins table.now) (reads table.now) 0
+        alternatives.now scope.now (integer_opened (spot_of spot.entry))
+        (behind (spot_of spot.entry)) ≡ Ok (tree.chosen 0 (tree.integer x.0), spot_of x.1)) }
     ensures stops { IfSome result (λ x. GoesOn spot.entry.place (length spot.entry.rest.now) x.1) }
 {
     let [first, ..] = alternatives else {
@@ -161,7 +169,8 @@ fn is_absent(
     requires sound { IsSound table.now }
     requires whole { spot.place + length spot.rest.now < 2 ^ 63 }
     requires reach { IsReach scope.now (spot.place + length spot.rest.now) reach }
-    ensures { result ≡ true → part_from (begins table.now) (reads table.now part.now.inner.0) part.now scope.now (spot_of spot.entry) ≡ Ok (None, spot_of spot.entry) }
+    ensures { result ≡ true → part_from (begins table.now) (reads table.now part.now.inner.0)
+        part.now scope.now (spot_of spot.entry) ≡ Ok (None, spot_of spot.entry) }
 {
     match spot.rest {
         [first, ..] if may_be_absent(part) && *first % 32 != 31 && spot.place < reach => {
@@ -195,7 +204,10 @@ pub(crate) fn parts_at_once<'a>(
     ensures few { vec_len found.new ≤ vec_len found.old + length parts.now }
     ensures room { vec_capacity found.new ≡ vec_capacity found.old }
     ensures stops { GoesOn spot.entry.place (length spot.entry.rest.now) result }
-    ensures gives { parts_behind found.new.items (parts_from (begins table.now) (reads table.now) scope.now (spot_of result) (drop (vec_len found.new - vec_len found.old) parts.now)) ≡ parts_behind found.old.items (parts_from (begins table.now) (reads table.now) scope.now (spot_of spot.entry) parts.now) }
+    ensures gives { parts_behind found.new.items (parts_from (begins table.now) (reads table.now)
+        scope.now (spot_of result) (drop (vec_len found.new - vec_len found.old) parts.now))
+        ≡ parts_behind found.old.items (parts_from (begins table.now) (reads table.now) scope.now
+        (spot_of spot.entry) parts.now) }
 {
     let reach = reach(scope, spot);
     let mut spot = spot;

@@ -36,11 +36,14 @@ pub fn ber_read(
 ) -> Result<Read, ReadFault>
     requires { of.0 < length table.now }
     // What is read is spelled by the octets used.
-    ensures found { IfOk result (λ r. (r.used ≤ length bytes.now) × Spells table.now of.0 false most_octets r.value (take r.used bytes.now)) }
+    ensures found { IfOk result (λ r. (r.used ≤ length bytes.now) × Spells table.now of.0 false
+        most_octets r.value (take r.used bytes.now)) }
     // What the octets spell is read, unless memory is refused.
-    ensures only { (v : tree.Value) (n : ℕ) → n ≤ length bytes.now → Spells table.now of.0 false most_octets v (take n bytes.now) → IsRead result v n }
+    ensures only { (v : tree.Value) (n : ℕ) → n ≤ length bytes.now →
+        Spells table.now of.0 false most_octets v (take n bytes.now) → IsRead result v n }
     // The fault is the first from the left.
-    ensures exact { Gives (λ r. (r.value, r.used)) result (read_at table.now of.0 false most_octets bytes.now) }
+    ensures exact { Gives (λ r. (r.value, r.used)) result
+        (read_at table.now of.0 false most_octets bytes.now) }
 {
     read_whole(alloc, table, of, bytes, LIMIT, false)
 }
@@ -54,9 +57,12 @@ pub fn ber_read_within(
     most: u32,
 ) -> Result<Read, ReadFault>
     requires { of.0 < length table.now }
-    ensures found { IfOk result (λ r. (r.used ≤ length bytes.now) × Spells table.now of.0 false most r.value (take r.used bytes.now)) }
-    ensures only { (v : tree.Value) (n : ℕ) → n ≤ length bytes.now → Spells table.now of.0 false most v (take n bytes.now) → IsRead result v n }
-    ensures exact { Gives (λ r. (r.value, r.used)) result (read_at table.now of.0 false most bytes.now) }
+    ensures found { IfOk result (λ r. (r.used ≤ length bytes.now) × Spells table.now of.0 false most
+        r.value (take r.used bytes.now)) }
+    ensures only { (v : tree.Value) (n : ℕ) → n ≤ length bytes.now →
+        Spells table.now of.0 false most v (take n bytes.now) → IsRead result v n }
+    ensures exact { Gives (λ r. (r.value, r.used)) result
+        (read_at table.now of.0 false most bytes.now) }
 {
     read_whole(alloc, table, of, bytes, most, false)
 }
@@ -70,9 +76,12 @@ pub fn der_read(
     bytes: &[u8],
 ) -> Result<Read, ReadFault>
     requires { of.0 < length table.now }
-    ensures found { IfOk result (λ r. (r.used ≤ length bytes.now) × Spells table.now of.0 true most_octets r.value (take r.used bytes.now)) }
-    ensures only { (v : tree.Value) (n : ℕ) → n ≤ length bytes.now → Spells table.now of.0 true most_octets v (take n bytes.now) → IsRead result v n }
-    ensures exact { Gives (λ r. (r.value, r.used)) result (read_at table.now of.0 true most_octets bytes.now) }
+    ensures found { IfOk result (λ r. (r.used ≤ length bytes.now) × Spells table.now of.0 true
+        most_octets r.value (take r.used bytes.now)) }
+    ensures only { (v : tree.Value) (n : ℕ) → n ≤ length bytes.now →
+        Spells table.now of.0 true most_octets v (take n bytes.now) → IsRead result v n }
+    ensures exact { Gives (λ r. (r.value, r.used)) result
+        (read_at table.now of.0 true most_octets bytes.now) }
 {
     read_whole(alloc, table, of, bytes, LIMIT, true)
 }
@@ -88,7 +97,8 @@ fn read_all(
     strict: bool,
 ) -> Result<Read, ReadFault>
     requires { of.0 < length table.now }
-    ensures exact { Gives (λ r. (r.value, r.used)) result (read_at table.now of.0 strict limit bytes.now) }
+    ensures exact { Gives (λ r. (r.value, r.used)) result
+        (read_at table.now of.0 strict limit bytes.now) }
 {
     let scope = outermost(limit, strict);
     match first_identifier(limit, bytes) {
@@ -123,7 +133,8 @@ fn read_from(
     strict: bool,
 ) -> Result<Read, ReadFault>
     requires { of.0 < length table.now }
-    ensures exact { Gives (λ r. (r.value, r.used)) result (read_at table.now of.0 strict limit bytes.now) }
+    ensures exact { Gives (λ r. (r.value, r.used)) result
+        (read_at table.now of.0 strict limit bytes.now) }
 {
     let scope = outermost(limit, strict);
     let start = Spot {
@@ -140,7 +151,8 @@ fn sequence_of(table: &TypeTable, of: TypeId) -> Option<(TypeId, &Parts, Tag)>
     requires { of.0 < length table.now }
     ensures row { IfSome result (λ x. x.0.0 ≤ length table.now) }
     ensures below { IfSome result (λ x. AllByRecursion (λ m. m < x.0.0) (rows_of_parts x.1.now)) }
-    ensures is { IfSome result (λ x. reads table.now of.0 plain ≡ sequence_at (begins table.now) (reads table.now) x.1.now x.2) }
+    ensures is { IfSome result (λ x. reads table.now of.0 plain ≡ sequence_at (begins table.now)
+        (reads table.now) x.1.now x.2) }
 {
     match table.row(of) {
         TypeRow::Tagged {
@@ -184,9 +196,11 @@ fn read_sequence<'a>(
 ) -> Result<(Val, Spot<'a>), ReadFault>
     requires row { row.0 ≤ length table.now }
     requires below { AllByRecursion (λ m. m < row.0) (rows_of_parts parts.now) }
-    requires is { reads table.now of.0 plain ≡ sequence_at (begins table.now) (reads table.now) parts.now tag }
+    requires is { reads table.now of.0 plain ≡ sequence_at (begins table.now) (reads table.now)
+        parts.now tag }
     requires whole { spot.place + length spot.rest.now < 2 ^ 63 }
-    ensures gives { Gives (λ x. (x.0, spot_of x.1)) result (reads table.now of.0 plain scope.now (opened_of opened.now) (spot_of spot.entry)) }
+    ensures gives { Gives (λ x. (x.0, spot_of x.1)) result
+        (reads table.now of.0 plain scope.now (opened_of opened.now) (spot_of spot.entry)) }
     ensures stops { IfOk result (λ x. GoesOn spot.entry.place (length spot.entry.rest.now) x.1) }
 {
     sequence(alloc, table, row, parts, tag, scope, opened, spot)
@@ -205,7 +219,8 @@ fn read_behind<'a>(
     requires row { of.0 < length table.now }
     requires whole { spot.place + length spot.rest.now < 2 ^ 63 }
     requires start { GoesOn opened.now.start.place (length opened.now.start.rest.now) spot }
-    ensures { GivesRead result (reads table.now of.0 plain scope.now (opened_of opened.now) (spot_of spot.entry)) }
+    ensures { GivesRead result (reads table.now of.0 plain scope.now (opened_of opened.now)
+        (spot_of spot.entry)) }
 {
     if let Some((row, parts, tag)) = sequence_of(table, of) {
         let (value, after) = read_sequence(alloc, table, of, row, parts, tag, scope, opened, spot)?;
@@ -227,9 +242,12 @@ fn read_whole(
     strict: bool,
 ) -> Result<Read, ReadFault>
     requires { of.0 < length table.now }
-    ensures found { IfOk result (λ r. (r.used ≤ length bytes.now) × Spells table.now of.0 strict limit r.value (take r.used bytes.now)) }
-    ensures only { (v : tree.Value) (n : ℕ) → n ≤ length bytes.now → Spells table.now of.0 strict limit v (take n bytes.now) → IsRead result v n }
-    ensures exact { Gives (λ r. (r.value, r.used)) result (read_at table.now of.0 strict limit bytes.now) }
+    ensures found { IfOk result (λ r. (r.used ≤ length bytes.now) × Spells table.now of.0 strict
+        limit r.value (take r.used bytes.now)) }
+    ensures only { (v : tree.Value) (n : ℕ) → n ≤ length bytes.now →
+        Spells table.now of.0 strict limit v (take n bytes.now) → IsRead result v n }
+    ensures exact { Gives (λ r. (r.value, r.used)) result
+        (read_at table.now of.0 strict limit bytes.now) }
 {
     let _rows = table.len();
     read_all(alloc, table, of, bytes, limit, strict)

@@ -36,7 +36,8 @@ fn open<'a>(
     spot: Spot<'a>,
 ) -> Result<(Scope, Opened<'a>, Spot<'a>), ReadFault>
     requires { spot.place + length spot.rest.now < 2 ^ 63 }
-    ensures gives { Gives (λ x. (x.0, opened_of x.1, spot_of x.2)) result (open_at tag scope.now (opened_of opened.now) (spot_of spot.entry)) }
+    ensures gives { Gives (λ x. (x.0, opened_of x.1, spot_of x.2)) result
+        (open_at tag scope.now (opened_of opened.now) (spot_of spot.entry)) }
     ensures stops { IfOk result (λ x. GoesOn x.1.start.place (length x.1.start.rest.now) x.2) }
     ensures onward { IfOk result (λ x. GoesOn spot.entry.place (length spot.entry.rest.now) x.2) }
 {
@@ -89,7 +90,8 @@ fn any<'a>(
 ) -> Result<(Val, Spot<'a>), ReadFault>
     requires whole { spot.place + length spot.rest.now < 2 ^ 63 }
     requires start { GoesOn opened.now.start.place (length opened.now.start.rest.now) spot }
-    ensures gives { Gives (λ x. (x.0, spot_of x.1)) result (any_at scope.now (opened_of opened.now) (spot_of spot.entry)) }
+    ensures gives { Gives (λ x. (x.0, spot_of x.1)) result
+        (any_at scope.now (opened_of opened.now) (spot_of spot.entry)) }
     ensures stops { IfOk result (λ x. GoesOn spot.entry.place (length spot.entry.rest.now) x.1) }
 {
     let after = whole_value(32, scope, opened, spot)?;
@@ -118,7 +120,9 @@ pub fn value<'a>(
     requires row { of.0 < length table.now }
     requires whole { spot.place + length spot.rest.now < 2 ^ 63 }
     requires start { GoesOn opened.now.start.place (length opened.now.start.rest.now) spot }
-    ensures gives { Gives (λ x. (x.0, spot_of x.1)) result (reads table.now of.0 (under tag default) scope.now (opened_of opened.now) (spot_of spot.entry)) }
+    ensures gives { Gives (λ x. (x.0, spot_of x.1)) result
+        (reads table.now of.0 (under tag default) scope.now (opened_of opened.now)
+        (spot_of spot.entry)) }
     ensures stops { IfOk result (λ x. GoesOn spot.entry.place (length spot.entry.rest.now) x.1) }
 {
     let row = table.row(of);
@@ -143,7 +147,9 @@ fn value_as<'a>(
     requires sound { IsSound table.now }
     requires whole { spot.place + length spot.rest.now < 2 ^ 63 }
     requires start { GoesOn opened.now.start.place (length opened.now.start.rest.now) spot }
-    ensures gives { Gives (λ x. (x.0, spot_of x.1)) result (read_by (begins table.now) (written table.now) (reads table.now) row.now (under tag default) scope.now (opened_of opened.now) (spot_of spot.entry)) }
+    ensures gives { Gives (λ x. (x.0, spot_of x.1)) result
+        (read_by (begins table.now) (written table.now) (reads table.now) row.now
+        (under tag default) scope.now (opened_of opened.now) (spot_of spot.entry)) }
     ensures stops { IfOk result (λ x. GoesOn spot.entry.place (length spot.entry.rest.now) x.1) }
 {
     match row {
@@ -254,7 +260,9 @@ fn list<'a>(
     requires below { inner.0 < of.0 }
     requires row { of.0 ≤ length table.now }
     requires whole { spot.place + length spot.rest.now < 2 ^ 63 }
-    ensures gives { Gives (λ x. (x.0, spot_of x.1)) result (list_at (reads table.now inner.0) tag scope.now (opened_of opened.now) (spot_of spot.entry)) }
+    ensures gives { Gives (λ x. (x.0, spot_of x.1)) result
+        (list_at (reads table.now inner.0) tag scope.now (opened_of opened.now)
+        (spot_of spot.entry)) }
     ensures stops { IfOk result (λ x. GoesOn spot.entry.place (length spot.entry.rest.now) x.1) }
 {
     expect(tag, true, opened)?;
@@ -281,7 +289,9 @@ fn items<'a>(
     requires below { inner.0 < of.0 }
     requires row { of.0 ≤ length table.now }
     requires whole { spot.place + length spot.rest.now < 2 ^ 63 }
-    ensures gives { Gives (λ x. (tree.list (values_of x.0.items), spot_of x.1)) result (all_items_at (list_item_at (reads table.now inner.0)) list_done [] scope.now (spot_of spot.entry)) }
+    ensures gives { Gives (λ x. (tree.list (values_of x.0.items), spot_of x.1)) result
+        (all_items_at (list_item_at (reads table.now inner.0)) list_done [] scope.now
+        (spot_of spot.entry)) }
     ensures stops { IfOk result (λ x. GoesOn spot.entry.place (length spot.entry.rest.now) x.1) }
 {
     let row = table.row(inner);
@@ -325,7 +335,9 @@ fn set_of<'a>(
     requires below { inner.0 < of.0 }
     requires row { of.0 ≤ length table.now }
     requires whole { spot.place + length spot.rest.now < 2 ^ 63 }
-    ensures gives { Gives (λ x. (x.0, spot_of x.1)) result (set_of_at (written table.now inner.0) (reads table.now inner.0) tag scope.now (opened_of opened.now) (spot_of spot.entry)) }
+    ensures gives { Gives (λ x. (x.0, spot_of x.1)) result
+        (set_of_at (written table.now inner.0) (reads table.now inner.0) tag scope.now
+        (opened_of opened.now) (spot_of spot.entry)) }
     ensures stops { IfOk result (λ x. GoesOn spot.entry.place (length spot.entry.rest.now) x.1) }
 {
     expect(tag, true, opened)?;
@@ -354,7 +366,13 @@ fn set_items<'a>(
     requires below { inner.0 < of.0 }
     requires row { of.0 ≤ length table.now }
     requires whole { spot.place + length spot.rest.now < 2 ^ 63 }
-    ensures gives { Gives (λ x. (tree.list (values_of (sorted (written table.now inner.0) x.0.items)), spot_of x.1)) result (all_items_at (set_item_at (written table.now inner.0) (reads table.now inner.0)) (set_of_done (written table.now inner.0)) [] scope.now (spot_of spot.entry)) }
+    ensures gives { Gives (λ x. (
+      tree.list
+          (values_of (sorted (written table.now inner.0) x.0.items)),
+      spot_of x.1,
+    )) result
+        (all_items_at (set_item_at (written table.now inner.0) (reads table.now inner.0))
+        (set_of_done (written table.now inner.0)) [] scope.now (spot_of spot.entry)) }
     ensures stops { IfOk result (λ x. GoesOn spot.entry.place (length spot.entry.rest.now) x.1) }
 {
     let mut found = Vec::new(alloc);
@@ -389,7 +407,9 @@ fn set_item<'a>(
     requires row { of.0 ≤ length table.now }
     requires whole { spot.place + length spot.rest.now < 2 ^ 63 }
     requires start { GoesOn opened.now.start.place (length opened.now.start.rest.now) spot }
-    ensures gives { Gives (λ x. (before.now ++ x.0 ∷ [], spot_of x.1)) result (set_item_at (written table.now inner.0) (reads table.now inner.0) before.now scope.now (opened_of opened.now) (spot_of spot.entry)) }
+    ensures gives { Gives (λ x. (before.now ++ x.0 ∷ [], spot_of x.1)) result
+        (set_item_at (written table.now inner.0) (reads table.now inner.0) before.now scope.now
+        (opened_of opened.now) (spot_of spot.entry)) }
     ensures stops { IfOk result (λ x. GoesOn spot.entry.place (length spot.entry.rest.now) x.1) }
 {
     let (value, after) = value(alloc, table, inner, None, None, scope, opened, spot)?;
@@ -409,7 +429,8 @@ fn tagged_any<'a>(
     spot: Spot<'a>,
 ) -> Result<(Val, Spot<'a>), ReadFault>
     requires { spot.place + length spot.rest.now < 2 ^ 63 }
-    ensures gives { Gives (λ x. (x.0, spot_of x.1)) result (explicit_at any_at tag scope.now (opened_of opened.now) (spot_of spot.entry)) }
+    ensures gives { Gives (λ x. (x.0, spot_of x.1)) result
+        (explicit_at any_at tag scope.now (opened_of opened.now) (spot_of spot.entry)) }
     ensures stops { IfOk result (λ x. GoesOn spot.entry.place (length spot.entry.rest.now) x.1) }
 {
     let (inside, first, spot) = open(tag, scope, opened, spot)?;
@@ -434,7 +455,9 @@ fn tagged<'a>(
     requires below { inner.0 < of.0 }
     requires row { of.0 ≤ length table.now }
     requires whole { spot.place + length spot.rest.now < 2 ^ 63 }
-    ensures gives { Gives (λ x. (x.0, spot_of x.1)) result (explicit_at (reads table.now inner.0 (bare default)) tag scope.now (opened_of opened.now) (spot_of spot.entry)) }
+    ensures gives { Gives (λ x. (x.0, spot_of x.1)) result
+        (explicit_at (reads table.now inner.0 (bare default)) tag scope.now (opened_of opened.now)
+        (spot_of spot.entry)) }
     ensures stops { IfOk result (λ x. GoesOn spot.entry.place (length spot.entry.rest.now) x.1) }
 {
     let (inside, first, spot) = open(tag, scope, opened, spot)?;
@@ -459,7 +482,9 @@ fn tagged_choice<'a>(
     requires row { of.0 ≤ length table.now }
     requires few { length alternatives.now < 2 ^ 32 }
     requires whole { spot.place + length spot.rest.now < 2 ^ 63 }
-    ensures gives { Gives (λ x. (x.0, spot_of x.1)) result (explicit_at (choice_at (begins table.now) (reads table.now) 0 alternatives.now) tag scope.now (opened_of opened.now) (spot_of spot.entry)) }
+    ensures gives { Gives (λ x. (x.0, spot_of x.1)) result
+        (explicit_at (choice_at (begins table.now) (reads table.now) 0 alternatives.now) tag
+        scope.now (opened_of opened.now) (spot_of spot.entry)) }
     ensures stops { IfOk result (λ x. GoesOn spot.entry.place (length spot.entry.rest.now) x.1) }
 {
     let (inside, first, spot) = open(tag, scope, opened, spot)?;
@@ -493,7 +518,9 @@ fn choice<'a>(
     requires few { length alternatives.now < 2 ^ 32 }
     requires whole { spot.place + length spot.rest.now < 2 ^ 63 }
     requires start { GoesOn opened.now.start.place (length opened.now.start.rest.now) spot }
-    ensures gives { Gives (λ x. (x.0, spot_of x.1)) result (choice_at (begins table.now) (reads table.now) 0 alternatives.now scope.now (opened_of opened.now) (spot_of spot.entry)) }
+    ensures gives { Gives (λ x. (x.0, spot_of x.1)) result
+        (choice_at (begins table.now) (reads table.now) 0 alternatives.now scope.now
+        (opened_of opened.now) (spot_of spot.entry)) }
     ensures stops { IfOk result (λ x. GoesOn spot.entry.place (length spot.entry.rest.now) x.1) }
 {
     for (which, part) in alternatives.iter().enumerate() {
@@ -525,7 +552,9 @@ pub(crate) fn sequence<'a>(
     requires below { AllByRecursion (λ m. m < of.0) (rows_of_parts parts.now) }
     requires row { of.0 ≤ length table.now }
     requires whole { spot.place + length spot.rest.now < 2 ^ 63 }
-    ensures gives { Gives (λ x. (x.0, spot_of x.1)) result (sequence_at (begins table.now) (reads table.now) parts.now tag scope.now (opened_of opened.now) (spot_of spot.entry)) }
+    ensures gives { Gives (λ x. (x.0, spot_of x.1)) result
+        (sequence_at (begins table.now) (reads table.now) parts.now tag scope.now
+        (opened_of opened.now) (spot_of spot.entry)) }
     ensures stops { IfOk result (λ x. GoesOn spot.entry.place (length spot.entry.rest.now) x.1) }
 {
     expect(tag, true, opened)?;
@@ -553,7 +582,8 @@ fn parts_of<'a>(
     requires below { AllByRecursion (λ m. m < of.0) (rows_of_parts parts.now) }
     requires row { of.0 ≤ length table.now }
     requires whole { spot.place + length spot.rest.now < 2 ^ 63 }
-    ensures gives { Gives (λ x. (x.0.items, spot_of x.1)) result (parts_from (begins table.now) (reads table.now) scope.now (spot_of spot.entry) parts.now) }
+    ensures gives { Gives (λ x. (x.0.items, spot_of x.1)) result
+        (parts_from (begins table.now) (reads table.now) scope.now (spot_of spot.entry) parts.now) }
     ensures stops { IfOk result (λ x. GoesOn spot.entry.place (length spot.entry.rest.now) x.1) }
 {
     let mut found = Vec::with_capacity(alloc, parts.len())?;
@@ -584,7 +614,9 @@ fn part_of<'a>(
     requires below { part.now.inner.0 < of.0 }
     requires row { of.0 ≤ length table.now }
     requires whole { spot.place + length spot.rest.now < 2 ^ 63 }
-    ensures gives { Gives (λ x. (x.0, spot_of x.1)) result (part_from (begins table.now) (reads table.now part.now.inner.0) part.now scope.now (spot_of spot.entry)) }
+    ensures gives { Gives (λ x. (x.0, spot_of x.1)) result
+        (part_from (begins table.now) (reads table.now part.now.inner.0) part.now scope.now
+        (spot_of spot.entry)) }
     ensures stops { IfOk result (λ x. GoesOn spot.entry.place (length spot.entry.rest.now) x.1) }
 {
     match look(scope, spot)? {
@@ -614,7 +646,8 @@ fn absent<'a>(
     place: usize,
     spot: Spot<'a>,
 ) -> Result<(Option<Val>, Spot<'a>), ReadFault>
-    ensures gives { Gives (λ x. (x.0, spot_of x.1)) result (absent_at (may_be_absent part.now) place (spot_of spot.entry)) }
+    ensures gives { Gives (λ x. (x.0, spot_of x.1)) result
+        (absent_at (may_be_absent part.now) place (spot_of spot.entry)) }
     ensures stops { IfOk result (λ x. GoesOn spot.entry.place (length spot.entry.rest.now) x.1) }
 {
     if may_be_absent(part) {
@@ -641,7 +674,9 @@ fn part_begun<'a>(
     requires row { of.0 ≤ length table.now }
     requires whole { spot.place + length spot.rest.now < 2 ^ 63 }
     requires start { Opens spot.place (length spot.rest.now) opened.now after }
-    ensures gives { Gives (λ x. (x.0, spot_of x.1)) result (found_at (begins table.now) (reads table.now part.now.inner.0) part.now scope.now (spot_of spot.entry) (begun (opened_of opened.now) (spot_of after.entry))) }
+    ensures gives { Gives (λ x. (x.0, spot_of x.1)) result
+        (found_at (begins table.now) (reads table.now part.now.inner.0) part.now scope.now
+        (spot_of spot.entry) (begun (opened_of opened.now) (spot_of after.entry))) }
     ensures stops { IfOk result (λ x. GoesOn spot.entry.place (length spot.entry.rest.now) x.1) }
 {
     if begins(table, part.inner, opened.class, opened.number) {
@@ -671,7 +706,9 @@ fn set<'a>(
     requires below { AllByRecursion (λ m. m < of.0) (rows_of_parts parts.now) }
     requires row { of.0 ≤ length table.now }
     requires whole { spot.place + length spot.rest.now < 2 ^ 63 }
-    ensures gives { Gives (λ x. (x.0, spot_of x.1)) result (set_at (begins table.now) (reads table.now) parts.now tag scope.now (opened_of opened.now) (spot_of spot.entry)) }
+    ensures gives { Gives (λ x. (x.0, spot_of x.1)) result
+        (set_at (begins table.now) (reads table.now) parts.now tag scope.now (opened_of opened.now)
+        (spot_of spot.entry)) }
     ensures stops { IfOk result (λ x. GoesOn spot.entry.place (length spot.entry.rest.now) x.1) }
 {
     expect(tag, true, opened)?;
@@ -712,7 +749,9 @@ fn slots<'a>(
     requires row { of.0 ≤ length table.now }
     requires none { found.items ≡ no_parts_of parts.now }
     requires whole { spot.place + length spot.rest.now < 2 ^ 63 }
-    ensures gives { Gives (λ x. (tree.parts (parts_of x.0.items), spot_of x.1)) result (all_items_at (slot_at (begins table.now) (reads table.now) 0 parts.now) (set_done parts.now) (nothing_filled parts.now) scope.now (spot_of spot.entry)) }
+    ensures gives { Gives (λ x. (tree.parts (parts_of x.0.items), spot_of x.1)) result
+        (all_items_at (slot_at (begins table.now) (reads table.now) 0 parts.now)
+        (set_done parts.now) (nothing_filled parts.now) scope.now (spot_of spot.entry)) }
     ensures stops { IfOk result (λ x. GoesOn spot.entry.place (length spot.entry.rest.now) x.1) }
 {
     let mut found = found;
@@ -814,7 +853,16 @@ fn slot<'a>(
     requires slots { length found.now ≡ length parts.now }
     requires whole { spot.place + length spot.rest.now < 2 ^ 63 }
     requires start { GoesOn opened.now.start.place (length opened.now.start.rest.now) spot }
-    ensures gives { Gives (λ x. (record { found = slice_set found.now x.0 (Some x.1); least = rank opened.now.class opened.now.number + 1 }, spot_of x.2)) result (slot_at (begins table.now) (reads table.now) 0 parts.now (record { found = found.now; least = least }) scope.now (opened_of opened.now) (spot_of spot.entry)) }
+    ensures gives { Gives (λ x. (
+      record {
+        found = slice_set found.now x.0 (Some x.1);
+        least = rank opened.now.class opened.now.number + 1;
+      },
+      spot_of x.2,
+    )) result
+        (slot_at (begins table.now) (reads table.now) 0 parts.now
+        (record { found = found.now; least = least }) scope.now (opened_of opened.now)
+        (spot_of spot.entry)) }
     ensures slot { IfOk result (λ x. x.0 < length found.now) }
     ensures stops { IfOk result (λ x. GoesOn spot.entry.place (length spot.entry.rest.now) x.2) }
 {
@@ -847,7 +895,9 @@ fn ordered<'a>(
     requires row { of.0 ≤ length table.now }
     requires whole { spot.place + length spot.rest.now < 2 ^ 63 }
     requires start { GoesOn opened.now.start.place (length opened.now.start.rest.now) spot }
-    ensures gives { Gives (λ x. (x.0, spot_of x.1)) result (ordered_at (reads table.now part.now.inner.0 (bare part.now.default)) least scope.now (opened_of opened.now) (spot_of spot.entry)) }
+    ensures gives { Gives (λ x. (x.0, spot_of x.1)) result
+        (ordered_at (reads table.now part.now.inner.0 (bare part.now.default)) least scope.now
+        (opened_of opened.now) (spot_of spot.entry)) }
     ensures stops { IfOk result (λ x. GoesOn spot.entry.place (length spot.entry.rest.now) x.1) }
 {
     if scope.strict && rank(opened.class, opened.number) < least {
@@ -872,7 +922,9 @@ fn late<'a>(
     requires below { part.now.inner.0 < of.0 }
     requires row { of.0 ≤ length table.now }
     requires whole { spot.place + length spot.rest.now < 2 ^ 63 }
-    ensures { Fails result (late_at {A = Unit {0}} kind (reads table.now part.now.inner.0 (bare part.now.default)) scope.now (opened_of opened.now) (spot_of spot.entry)) }
+    ensures { Fails result (late_at {A = Unit {0}} kind
+        (reads table.now part.now.inner.0 (bare part.now.default)) scope.now (opened_of opened.now)
+        (spot_of spot.entry)) }
 {
     let behind = Spot {
         place: spot.place,

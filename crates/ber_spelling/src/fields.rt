@@ -83,7 +83,8 @@ fn is_constructed(first: u8) -> bool
 #[tactic(auto, unfolding(crate::specs::Fields::digits_at))]
 fn digits<'a>(scope: &Scope, place: usize, digits: &'a [u8]) -> Result<(u64, Spot<'a>), ReadFault>
     requires { place + length digits.now + 1 < 2 ^ 63 }
-    ensures gives { Gives (λ x. (x.0, spot_of x.1)) result (digits_at scope.now place 0 (place + 1) digits.now) }
+    ensures gives { Gives (λ x. (x.0, spot_of x.1)) result
+        (digits_at scope.now place 0 (place + 1) digits.now) }
     ensures no_memory { IfErr result (λ e. e ≢ ReadFault.NoMemory) }
     ensures stops { IfOk result (λ x. GoesOn (place + 1) (length digits.now) x.1) }
     ensures small { IfOk result (λ x. x.0 ≤ 2 ^ 32) }
@@ -117,9 +118,11 @@ fn high<'a>(
 ) -> Result<(Opened<'a>, Spot<'a>), ReadFault>
     requires whole { start.place + length digits_of.now + 1 < 2 ^ 63 }
     requires first { start.rest.now ≡ first ∷ digits_of.now }
-    ensures gives { Gives (λ x. (opened_of x.0, spot_of x.1)) result (high_at scope.now start.entry.place first digits_of.now) }
+    ensures gives { Gives (λ x. (opened_of x.0, spot_of x.1)) result
+        (high_at scope.now start.entry.place first digits_of.now) }
     ensures no_memory { IfErr result (λ e. e ≢ ReadFault.NoMemory) }
-    ensures stops { IfOk result (λ x. Opens start.entry.place (length start.entry.rest.now) x.0 x.1) }
+    ensures stops { IfOk result (λ x. Opens start.entry.place (length start.entry.rest.now) x.0
+        x.1) }
 {
     let (number, after) = digits(scope, start.place, digits_of)?;
     if number < 31 || digits_of.first() == Some(&0x80) {
@@ -139,9 +142,11 @@ fn high<'a>(
 #[inline(always)]
 pub fn identifier<'a>(scope: &Scope, start: Spot<'a>) -> Result<(Opened<'a>, Spot<'a>), ReadFault>
     requires { start.place + length start.rest.now < 2 ^ 63 }
-    ensures gives { Gives (λ x. (opened_of x.0, spot_of x.1)) result (identifier_at scope.now start.entry.place start.entry.rest.now) }
+    ensures gives { Gives (λ x. (opened_of x.0, spot_of x.1)) result
+        (identifier_at scope.now start.entry.place start.entry.rest.now) }
     ensures no_memory { IfErr result (λ e. e ≢ ReadFault.NoMemory) }
-    ensures stops { IfOk result (λ x. Opens start.entry.place (length start.entry.rest.now) x.0 x.1) }
+    ensures stops { IfOk result (λ x. Opens start.entry.place (length start.entry.rest.now) x.0
+        x.1) }
 {
     match start.rest {
         [] => Err(ReadFault::Short),
@@ -210,9 +215,11 @@ fn announced<'a>(
     spot: Spot<'a>,
 ) -> Result<(u64, Spot<'a>), ReadFault>
     requires { spot.place < 2 ^ 63 }
-    ensures gives { Gives (λ x. (x.0, spot_of x.1)) result (announced_at scope.now place count minimal spot.entry.place spot.entry.rest.now) }
+    ensures gives { Gives (λ x. (x.0, spot_of x.1)) result
+        (announced_at scope.now place count minimal spot.entry.place spot.entry.rest.now) }
     ensures no_memory { IfErr result (λ e. e ≢ ReadFault.NoMemory) }
-    ensures stops { IfOk result (λ x. (x.1.place ≡ spot.entry.place) × (x.1.rest.now ≡ spot.entry.rest.now) × (spot.entry.place + x.0 ≤ scope.now.limit)) }
+    ensures stops { IfOk result (λ x. (x.1.place ≡ spot.entry.place) ×
+        (x.1.rest.now ≡ spot.entry.rest.now) × (spot.entry.place + x.0 ≤ scope.now.limit)) }
 {
     check_reach(scope, place, spot.place, count)?;
     if scope.strict && !minimal {
@@ -310,7 +317,8 @@ fn cut_off(scope: &Scope, place: usize, until: usize) -> ReadFault
 #[inline(always)]
 fn definite<'a>(scope: &Scope, spot: Spot<'a>) -> Result<(u64, Spot<'a>), ReadFault>
     requires { spot.place + length spot.rest.now < 2 ^ 63 }
-    ensures gives { Gives (λ x. (x.0, spot_of x.1)) result (definite_at scope.now spot.entry.place spot.entry.rest.now) }
+    ensures gives { Gives (λ x. (x.0, spot_of x.1)) result
+        (definite_at scope.now spot.entry.place spot.entry.rest.now) }
     ensures no_memory { IfErr result (λ e. e ≢ ReadFault.NoMemory) }
     ensures stops { IfOk result (λ x. GoesOn spot.entry.place (length spot.entry.rest.now) x.1) }
     ensures reach { IfOk result (λ x. x.1.place + x.0 ≤ scope.now.limit) }
@@ -340,7 +348,8 @@ pub(crate) fn contents<'a>(
     spot: Spot<'a>,
 ) -> Result<(usize, &'a [u8], Spot<'a>), ReadFault>
     requires { spot.place + length spot.rest.now < 2 ^ 63 }
-    ensures gives { Gives (λ x. (x.0, x.1.now, spot_of x.2)) result (contents_at scope.now spot.entry.place spot.entry.rest.now) }
+    ensures gives { Gives (λ x. (x.0, x.1.now, spot_of x.2)) result
+        (contents_at scope.now spot.entry.place spot.entry.rest.now) }
     ensures no_memory { IfErr result (λ e. e ≢ ReadFault.NoMemory) }
     ensures stops { IfOk result (λ x. GoesOn spot.entry.place (length spot.entry.rest.now) x.2) }
 {
@@ -365,7 +374,8 @@ pub(crate) fn contents<'a>(
 #[inline(always)]
 pub fn extent<'a>(scope: &Scope, spot: Spot<'a>) -> Result<(Scope, Spot<'a>), ReadFault>
     requires { spot.place + length spot.rest.now < 2 ^ 63 }
-    ensures gives { Gives (λ x. (x.0, spot_of x.1)) result (extent_at scope.now spot.entry.place spot.entry.rest.now) }
+    ensures gives { Gives (λ x. (x.0, spot_of x.1)) result
+        (extent_at scope.now spot.entry.place spot.entry.rest.now) }
     ensures no_memory { IfErr result (λ e. e ≢ ReadFault.NoMemory) }
     ensures stops { IfOk result (λ x. GoesOn spot.entry.place (length spot.entry.rest.now) x.1) }
 {
@@ -395,7 +405,13 @@ pub fn extent<'a>(scope: &Scope, spot: Spot<'a>) -> Result<(Scope, Spot<'a>), Re
 /// The scope of contents.
 #[inline(always)]
 fn inside(scope: &Scope, end: Option<usize>, marked: bool) -> Scope
-    ensures { result ≡ record { levels = scope.now.levels - 1; limit = scope.now.limit; end = end; marked = marked; strict = scope.now.strict } }
+    ensures { result ≡ record {
+      levels = scope.now.levels - 1;
+      limit = scope.now.limit;
+      end = end;
+      marked = marked;
+      strict = scope.now.strict;
+    } }
 {
     Scope {
         levels: scope.levels.saturating_sub(1),
@@ -411,7 +427,8 @@ fn inside(scope: &Scope, end: Option<usize>, marked: bool) -> Scope
 #[inline(always)]
 fn begin<'a>(scope: &Scope, spot: Spot<'a>) -> Result<Ahead<'a>, ReadFault>
     requires { spot.place + length spot.rest.now < 2 ^ 63 }
-    ensures gives { Gives (λ x. ahead_of x) result (begin_at scope.now spot.entry.place spot.entry.rest.now) }
+    ensures gives { Gives (λ x. ahead_of x) result
+        (begin_at scope.now spot.entry.place spot.entry.rest.now) }
     ensures no_memory { IfErr result (λ e. e ≢ ReadFault.NoMemory) }
     ensures stops { IfOk result (LiesIn spot.entry.place (length spot.entry.rest.now)) }
 {
@@ -423,7 +440,8 @@ fn begin<'a>(scope: &Scope, spot: Spot<'a>) -> Result<Ahead<'a>, ReadFault>
 #[inline(never)]
 fn mark<'a>(scope: &Scope, spot: Spot<'a>) -> Result<Ahead<'a>, ReadFault>
     requires { spot.place + length spot.rest.now < 2 ^ 63 }
-    ensures gives { Gives (λ x. ahead_of x) result (mark_at scope.now spot.entry.place spot.entry.rest.now) }
+    ensures gives { Gives (λ x. ahead_of x) result
+        (mark_at scope.now spot.entry.place spot.entry.rest.now) }
     ensures no_memory { IfErr result (λ e. e ≢ ReadFault.NoMemory) }
     ensures stops { IfOk result (LiesIn spot.entry.place (length spot.entry.rest.now)) }
 {
@@ -459,7 +477,8 @@ fn mark<'a>(scope: &Scope, spot: Spot<'a>) -> Result<Ahead<'a>, ReadFault>
 #[inline(always)]
 pub fn look<'a>(scope: &Scope, spot: Spot<'a>) -> Result<Ahead<'a>, ReadFault>
     requires { spot.place + length spot.rest.now < 2 ^ 63 }
-    ensures gives { Gives (λ x. ahead_of x) result (look_at scope.now spot.entry.place spot.entry.rest.now) }
+    ensures gives { Gives (λ x. ahead_of x) result
+        (look_at scope.now spot.entry.place spot.entry.rest.now) }
     ensures no_memory { IfErr result (λ e. e ≢ ReadFault.NoMemory) }
     ensures stops { IfOk result (LiesIn spot.entry.place (length spot.entry.rest.now)) }
 {

@@ -92,7 +92,8 @@ fn rank_by(table: &TypeTable, of: TypeId, row: &TypeRow, value: &Val) -> u64
 fn rank_of_chosen(table: &TypeTable, of: TypeId, alternatives: &Parts, value: &Val) -> u64
     requires below { AllByRecursion (λ m. m < of.0) (rows_of_parts alternatives.now) }
     requires row { of.0 ≤ length table.now }
-    ensures { result ≡ front_rank (choice_written (λ which. alternative_written (writes table.now) (slice_get alternatives.now which)) value.now) }
+    ensures { result ≡ front_rank (choice_written (λ which. alternative_written (writes table.now)
+        (slice_get alternatives.now which)) value.now) }
 {
     match &value.node {
         Node::Chosen { which, value } => match alternatives.get(*which as usize) {

@@ -91,7 +91,8 @@ fn long_integer_of(octets: &[u8]) -> Option<i64>
 
 /// The subidentifiers that these octets are, if they are some (X.690 8.19.2).
 fn subidentifiers(alloc: Global, octets: &[u8]) -> Result<Option<Vec<u64>>, NoMemory>
-    ensures { IfOk result (λ found. option_map (λ v. v.items) found ≡ subidentifiers_of 0 false octets.now) }
+    ensures { IfOk result (λ found. option_map (λ v. v.items) found ≡ subidentifiers_of 0 false
+        octets.now) }
 {
     let mut found: Vec<u64> = Vec::new(alloc);
     let mut number: u64 = 0;
@@ -137,7 +138,8 @@ fn arcs_from(alloc: Global, found: &[u64]) -> Result<Vec<u64>, NoMemory>
 
 /// The numbers, if each has 32 bits.
 fn narrowed(alloc: Global, numbers: &[u64]) -> Result<Option<Vec<u32>>, NoMemory>
-    ensures { IfOk result (λ narrow. option_map (λ v. v.items) narrow ≡ (if list_all is_arc numbers.now then Some numbers.now else None)) }
+    ensures { IfOk result (λ narrow. option_map (λ v. v.items) narrow
+        ≡ (if list_all is_arc numbers.now then Some numbers.now else None)) }
 {
     let mut narrow: Vec<u32> = Vec::new(alloc);
     for number in numbers {

@@ -85,7 +85,8 @@ fn segments<'a>(
     before: Gathered,
 ) -> Result<(Gathered, Spot<'a>), ReadFault>
     requires { spot.place + length spot.rest.now < 2 ^ 63 }
-    ensures gives { Gives (λ x. (x.0, spot_of x.1)) result (all_items_at (segment_at kind depth) (λ g. Some g) before scope.now (spot_of spot.entry)) }
+    ensures gives { Gives (λ x. (x.0, spot_of x.1)) result
+        (all_items_at (segment_at kind depth) (λ g. Some g) before scope.now (spot_of spot.entry)) }
     ensures stops { IfOk result (λ x. GoesOn spot.entry.place (length spot.entry.rest.now) x.1) }
 {
     let mut spot = spot;
@@ -114,7 +115,8 @@ fn segment<'a>(
     before: Gathered,
 ) -> Result<(Gathered, Spot<'a>), ReadFault>
     requires { spot.place + length spot.rest.now < 2 ^ 63 }
-    ensures gives { Gives (λ x. (x.0, spot_of x.1)) result (segment_at kind depth before scope.now (opened_of opened.now) (spot_of spot.entry)) }
+    ensures gives { Gives (λ x. (x.0, spot_of x.1)) result
+        (segment_at kind depth before scope.now (opened_of opened.now) (spot_of spot.entry)) }
     ensures stops { IfOk result (λ x. GoesOn spot.entry.place (length spot.entry.rest.now) x.1) }
 {
     if depth == 0 {
@@ -138,7 +140,9 @@ fn nested<'a>(
     before: Gathered,
 ) -> Result<(Gathered, Spot<'a>), ReadFault>
     requires { spot.place + length spot.rest.now < 2 ^ 63 }
-    ensures gives { Gives (λ x. (x.0, spot_of x.1)) result (constructed_at (all_items_at (segment_at kind depth) (λ g. Some g) before) (segment_tag kind) scope.now (opened_of opened.now) (spot_of spot.entry)) }
+    ensures gives { Gives (λ x. (x.0, spot_of x.1)) result
+        (constructed_at (all_items_at (segment_at kind depth) (λ g. Some g) before)
+        (segment_tag kind) scope.now (opened_of opened.now) (spot_of spot.entry)) }
     ensures stops { IfOk result (λ x. GoesOn spot.entry.place (length spot.entry.rest.now) x.1) }
 {
     expect(segment_tag(kind), true, opened)?;
@@ -156,7 +160,9 @@ fn single<'a>(
     before: Gathered,
 ) -> Result<(Gathered, Spot<'a>), ReadFault>
     requires { spot.place + length spot.rest.now < 2 ^ 63 }
-    ensures gives { Gives (λ x. (x.0, spot_of x.1)) result (primitive_at (segment_rule kind before) always (segment_tag kind) scope.now (opened_of opened.now) (spot_of spot.entry)) }
+    ensures gives { Gives (λ x. (x.0, spot_of x.1)) result
+        (primitive_at (segment_rule kind before) always (segment_tag kind) scope.now
+        (opened_of opened.now) (spot_of spot.entry)) }
     ensures stops { IfOk result (λ x. GoesOn spot.entry.place (length spot.entry.rest.now) x.1) }
 {
     expect(segment_tag(kind), false, opened)?;
@@ -279,7 +285,9 @@ fn segmented<'a>(
     spot: Spot<'a>,
 ) -> Result<(Val, Spot<'a>), ReadFault>
     requires { spot.place + length spot.rest.now < 2 ^ 63 }
-    ensures gives { Gives (λ x. (x.0, spot_of x.1)) result (segmented_at (kind_of rule) (whole_by rule) tag scope.now (opened_of opened.now) (spot_of spot.entry)) }
+    ensures gives { Gives (λ x. (x.0, spot_of x.1)) result
+        (segmented_at (kind_of rule) (whole_by rule) tag scope.now (opened_of opened.now)
+        (spot_of spot.entry)) }
     ensures stops { IfOk result (λ x. GoesOn spot.entry.place (length spot.entry.rest.now) x.1) }
 {
     expect(tag, true, opened)?;
@@ -305,7 +313,9 @@ fn primitive<'a>(
     spot: Spot<'a>,
 ) -> Result<(Val, Spot<'a>), ReadFault>
     requires { spot.place + length spot.rest.now < 2 ^ 63 }
-    ensures gives { Gives (λ x. (x.0, spot_of x.1)) result (primitive_at (string_rule (kind_of rule) (whole_by rule)) (canonical_by rule) tag scope.now (opened_of opened.now) (spot_of spot.entry)) }
+    ensures gives { Gives (λ x. (x.0, spot_of x.1)) result
+        (primitive_at (string_rule (kind_of rule) (whole_by rule)) (canonical_by rule) tag scope.now
+        (opened_of opened.now) (spot_of spot.entry)) }
     ensures stops { IfOk result (λ x. GoesOn spot.entry.place (length spot.entry.rest.now) x.1) }
 {
     expect(tag, false, opened)?;
@@ -343,7 +353,9 @@ fn string<'a>(
     spot: Spot<'a>,
 ) -> Result<(Val, Spot<'a>), ReadFault>
     requires { spot.place + length spot.rest.now < 2 ^ 63 }
-    ensures gives { Gives (λ x. (x.0, spot_of x.1)) result (string_at (kind_of rule) (whole_by rule) (canonical_by rule) tag scope.now (opened_of opened.now) (spot_of spot.entry)) }
+    ensures gives { Gives (λ x. (x.0, spot_of x.1)) result
+        (string_at (kind_of rule) (whole_by rule) (canonical_by rule) tag scope.now
+        (opened_of opened.now) (spot_of spot.entry)) }
     ensures stops { IfOk result (λ x. GoesOn spot.entry.place (length spot.entry.rest.now) x.1) }
 {
     if opened.constructed {
@@ -365,7 +377,9 @@ pub fn octet_string<'a>(
     spot: Spot<'a>,
 ) -> Result<(Val, Spot<'a>), ReadFault>
     requires { spot.place + length spot.rest.now < 2 ^ 63 }
-    ensures gives { Gives (λ x. (x.0, spot_of x.1)) result (string_at OfOctets (whole_octets most) always tag scope.now (opened_of opened.now) (spot_of spot.entry)) }
+    ensures gives { Gives (λ x. (x.0, spot_of x.1)) result
+        (string_at OfOctets (whole_octets most) always tag scope.now (opened_of opened.now)
+        (spot_of spot.entry)) }
     ensures stops { IfOk result (λ x. GoesOn spot.entry.place (length spot.entry.rest.now) x.1) }
 {
     string(alloc, StringRule::Octets { most }, tag, scope, opened, spot)
@@ -381,7 +395,9 @@ pub fn bit_string<'a>(
     spot: Spot<'a>,
 ) -> Result<(Val, Spot<'a>), ReadFault>
     requires { spot.place + length spot.rest.now < 2 ^ 63 }
-    ensures gives { Gives (λ x. (x.0, spot_of x.1)) result (string_at OfBits whole_bits has_zero_bits tag scope.now (opened_of opened.now) (spot_of spot.entry)) }
+    ensures gives { Gives (λ x. (x.0, spot_of x.1)) result
+        (string_at OfBits whole_bits has_zero_bits tag scope.now (opened_of opened.now)
+        (spot_of spot.entry)) }
     ensures stops { IfOk result (λ x. GoesOn spot.entry.place (length spot.entry.rest.now) x.1) }
 {
     string(alloc, StringRule::Bits, tag, scope, opened, spot)
@@ -399,7 +415,9 @@ pub fn text<'a>(
     spot: Spot<'a>,
 ) -> Result<(Val, Spot<'a>), ReadFault>
     requires { spot.place + length spot.rest.now < 2 ^ 63 }
-    ensures gives { Gives (λ x. (x.0, spot_of x.1)) result (string_at OfOctets (whole_text kind) always tag scope.now (opened_of opened.now) (spot_of spot.entry)) }
+    ensures gives { Gives (λ x. (x.0, spot_of x.1)) result
+        (string_at OfOctets (whole_text kind) always tag scope.now (opened_of opened.now)
+        (spot_of spot.entry)) }
     ensures stops { IfOk result (λ x. GoesOn spot.entry.place (length spot.entry.rest.now) x.1) }
 {
     string(alloc, StringRule::Text(kind), tag, scope, opened, spot)

@@ -36,7 +36,8 @@ fn sized<'a>(scope: &Scope, spot: Spot<'a>) -> Result<Spot<'a>, ReadFault>
 #[cycle(wholes)]
 fn whole_values<'a>(levels: u32, scope: &Scope, spot: Spot<'a>) -> Result<Spot<'a>, ReadFault>
     requires { spot.place + length spot.rest.now < 2 ^ 63 }
-    ensures gives { Gives behind_of result (all_items_at (whole_at levels) (λ u. Some u) tt scope.now (spot_of spot.entry)) }
+    ensures gives { Gives behind_of result (all_items_at (whole_at levels) (λ u. Some u) tt
+        scope.now (spot_of spot.entry)) }
     ensures no_memory { IfErr result (λ e. e ≢ ReadFault.NoMemory) }
     ensures stops { IfOk result (λ to. GoesOn spot.entry.place (length spot.entry.rest.now) to) }
 {
@@ -54,7 +55,9 @@ fn whole_values<'a>(levels: u32, scope: &Scope, spot: Spot<'a>) -> Result<Spot<'
 #[cycle(wholes)]
 fn marked<'a>(levels: u32, scope: &Scope, spot: Spot<'a>) -> Result<Spot<'a>, ReadFault>
     requires { spot.place + length spot.rest.now < 2 ^ 63 }
-    ensures gives { Gives behind_of result (marked_at (all_items_at (whole_at levels) (λ u. Some u) tt) scope.now (spot_of spot.entry)) }
+    ensures gives { Gives behind_of result
+        (marked_at (all_items_at (whole_at levels) (λ u. Some u) tt) scope.now
+        (spot_of spot.entry)) }
     ensures no_memory { IfErr result (λ e. e ≢ ReadFault.NoMemory) }
     ensures stops { IfOk result (λ to. GoesOn spot.entry.place (length spot.entry.rest.now) to) }
 {
@@ -72,7 +75,8 @@ pub fn whole_value<'a>(
     spot: Spot<'a>,
 ) -> Result<Spot<'a>, ReadFault>
     requires { spot.place + length spot.rest.now < 2 ^ 63 }
-    ensures gives { Gives behind_of result (whole_at levels tt scope.now (opened_of opened.now) (spot_of spot.entry)) }
+    ensures gives { Gives behind_of result (whole_at levels tt scope.now (opened_of opened.now)
+        (spot_of spot.entry)) }
     ensures no_memory { IfErr result (λ e. e ≢ ReadFault.NoMemory) }
     ensures stops { IfOk result (λ to. GoesOn spot.entry.place (length spot.entry.rest.now) to) }
 {

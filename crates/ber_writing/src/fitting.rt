@@ -220,7 +220,8 @@ fn part_fits(table: &TypeTable, of: TypeId, part: &Part, value: &Option<Val>) ->
 fn choice_fits(table: &TypeTable, of: TypeId, alternatives: &Parts, value: &Val) -> bool
     requires below { AllByRecursion (λ m. m < of.0) (rows_of_parts alternatives.now) }
     requires within { of.0 ≤ length table.now }
-    ensures { result ≡ choice_fits (λ which. alternative_fits (fits table.now) (slice_get alternatives.now which)) value.now }
+    ensures { result ≡ choice_fits (λ which. alternative_fits (fits table.now)
+        (slice_get alternatives.now which)) value.now }
 {
     match &value.node {
         Node::Chosen { which, value } => match alternatives.get(*which as usize) {

@@ -85,7 +85,8 @@ pub(crate) fn length_len(count: u64) -> u64
 
 /// The length of a spelling that has contents of this length.
 fn definite_len(tag: Tag, count: u64) -> u64
-    ensures { result ≡ saturated (length (identifier tag.class false tag.number) + (length (length_octets count) + count)) }
+    ensures { result ≡ saturated (length (identifier tag.class false tag.number)
+        + (length (length_octets count) + count)) }
 {
     let head = identifier_len(tag) + length_len(count);
     count.saturating_add(head)
@@ -255,7 +256,8 @@ fn row_len(table: &TypeTable, of: TypeId, row: &TypeRow, tag: Option<Tag>, value
 #[cycle(measuring)]
 fn list_len(table: &TypeTable, of: TypeId, inner: TypeId, tag: Tag, value: &Val) -> u64
     requires below { inner.0 < of.0 }
-    ensures { result ≡ saturated (length (definite true tag (list_contents (writes table.now inner.0) value.now))) }
+    ensures { result ≡ saturated (length
+        (definite true tag (list_contents (writes table.now inner.0) value.now))) }
 {
     let count = match &value.node {
         Node::List(values) => values_len(table, of, inner, values),
@@ -267,7 +269,8 @@ fn list_len(table: &TypeTable, of: TypeId, inner: TypeId, tag: Tag, value: &Val)
 #[cycle(measuring)]
 pub(crate) fn values_len(table: &TypeTable, of: TypeId, inner: TypeId, values: &[Val]) -> u64
     requires below { inner.0 < of.0 }
-    ensures { result ≡ saturated (length (values_contents (writes table.now inner.0) (values_of values.now))) }
+    ensures { result ≡ saturated (length
+        (values_contents (writes table.now inner.0) (values_of values.now))) }
 {
     let mut count: u64 = 0;
     let mut index = values.len();
@@ -281,7 +284,8 @@ pub(crate) fn values_len(table: &TypeTable, of: TypeId, inner: TypeId, values: &
 #[cycle(measuring)]
 fn explicit_len(table: &TypeTable, of: TypeId, inner: TypeId, tag: Tag, value: &Val) -> u64
     requires below { inner.0 < of.0 }
-    ensures { result ≡ saturated (length (definite true tag (writes table.now inner.0 None value.now))) }
+    ensures { result ≡ saturated (length
+        (definite true tag (writes table.now inner.0 None value.now))) }
 {
     let count = value_len(table, inner, None, value);
     definite_len(tag, count)
@@ -296,7 +300,9 @@ fn choice_len(
     value: &Val,
 ) -> u64
     requires below { AllByRecursion (λ m. m < of.0) (rows_of_parts alternatives.now) }
-    ensures { result ≡ saturated (length (under (choice_written (λ which. alternative_written (writes table.now) (slice_get alternatives.now which))) tag value.now)) }
+    ensures { result ≡ saturated (length
+        (under (choice_written (λ which. alternative_written (writes table.now)
+        (slice_get alternatives.now which))) tag value.now)) }
 {
     let count = alternative_len(table, of, alternatives, value);
     match tag {
@@ -313,7 +319,9 @@ pub(crate) fn alternative_len(
     value: &Val,
 ) -> u64
     requires below { AllByRecursion (λ m. m < of.0) (rows_of_parts alternatives.now) }
-    ensures { result ≡ saturated (length (choice_written (λ which. alternative_written (writes table.now) (slice_get alternatives.now which)) value.now)) }
+    ensures { result ≡ saturated (length
+        (choice_written (λ which. alternative_written (writes table.now)
+        (slice_get alternatives.now which)) value.now)) }
 {
     match &value.node {
         Node::Chosen { which, value } => match alternatives.get(*which as usize) {
@@ -327,7 +335,9 @@ pub(crate) fn alternative_len(
 #[cycle(measuring)]
 fn sequence_len(table: &TypeTable, of: TypeId, parts: &[Part], tag: Tag, value: &Val) -> u64
     requires below { AllByRecursion (λ m. m < of.0) (rows_of_parts parts.now) }
-    ensures { result ≡ saturated (length (definite true tag (sequence_contents (parts_contents (writes table.now) parts.now) value.now))) }
+    ensures { result ≡ saturated (length
+        (definite true tag (sequence_contents (parts_contents (writes table.now) parts.now)
+        value.now))) }
 {
     let count = match &value.node {
         Node::Parts(values) => parts_len(table, of, parts, values),
@@ -344,7 +354,8 @@ pub(crate) fn parts_len(
     values: &[Option<Val>],
 ) -> u64
     requires below { AllByRecursion (λ m. m < of.0) (rows_of_parts parts.now) }
-    ensures { result ≡ saturated (length (parts_contents (writes table.now) parts.now (parts_of values.now))) }
+    ensures { result ≡ saturated (length
+        (parts_contents (writes table.now) parts.now (parts_of values.now))) }
 {
     let mut count: u64 = 0;
     let mut index = parts.len().min(values.len());

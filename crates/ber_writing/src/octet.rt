@@ -149,8 +149,10 @@ fn object_id_octet(tag: Tag, value: &Val, at: u64) -> u8
 }
 
 fn subidentifiers_octet(tag: Tag, arcs: &[u32], at: u64) -> u8
-    requires { length (definite false tag (flat_map base_128 (subidentifiers arcs.now))) ≤ most_spelled }
-    ensures { result ≡ slice_index (definite false tag (flat_map base_128 (subidentifiers arcs.now))) at }
+    requires { length (definite false tag (flat_map base_128 (subidentifiers arcs.now)))
+        ≤ most_spelled }
+    ensures { result ≡ slice_index (definite false tag
+        (flat_map base_128 (subidentifiers arcs.now))) at }
 {
     match head_or_place(tag, false, arcs_len(arcs), at) {
         Ok(octet) => octet,
@@ -312,8 +314,10 @@ fn row_octet(
 #[cycle(picking)]
 fn list_octet(table: &TypeTable, of: TypeId, inner: TypeId, tag: Tag, value: &Val, at: u64) -> u8
     requires below { inner.0 < of.0 }
-    requires short { length (definite true tag (list_contents (writes table.now inner.0) value.now)) ≤ most_spelled }
-    ensures { result ≡ slice_index (definite true tag (list_contents (writes table.now inner.0) value.now)) at }
+    requires short { length (definite true tag (list_contents (writes table.now inner.0) value.now))
+        ≤ most_spelled }
+    ensures { result ≡ slice_index (definite true tag
+        (list_contents (writes table.now inner.0) value.now)) at }
 {
     let values: &[Val] = match &value.node {
         Node::List(values) => values,
@@ -338,8 +342,10 @@ fn null_constructed(tag: Tag, at: u64) -> u8
 #[cycle(picking)]
 fn values_octet(table: &TypeTable, of: TypeId, inner: TypeId, values: &[Val], at: u64) -> u8
     requires below { inner.0 < of.0 }
-    requires short { length (values_contents (writes table.now inner.0) (values_of values.now)) ≤ most_spelled }
-    ensures { result ≡ slice_index (values_contents (writes table.now inner.0) (values_of values.now)) at }
+    requires short { length (values_contents (writes table.now inner.0) (values_of values.now))
+        ≤ most_spelled }
+    ensures { result ≡ slice_index (values_contents (writes table.now inner.0)
+        (values_of values.now)) at }
 {
     let mut place = at;
     for value in values {
@@ -362,8 +368,10 @@ fn explicit_octet(
     at: u64,
 ) -> u8
     requires below { inner.0 < of.0 }
-    requires short { length (definite true tag (writes table.now inner.0 None value.now)) ≤ most_spelled }
-    ensures { result ≡ slice_index (definite true tag (writes table.now inner.0 None value.now)) at }
+    requires short { length (definite true tag (writes table.now inner.0 None value.now))
+        ≤ most_spelled }
+    ensures { result ≡ slice_index (definite true tag (writes table.now inner.0 None value.now))
+        at }
 {
     match head_or_place(tag, true, value_len(table, inner, None, value), at) {
         Ok(octet) => octet,
@@ -381,8 +389,11 @@ fn choice_octet(
     at: u64,
 ) -> u8
     requires below { AllByRecursion (λ m. m < of.0) (rows_of_parts alternatives.now) }
-    requires short { length (under (choice_written (λ which. alternative_written (writes table.now) (slice_get alternatives.now which))) tag value.now) ≤ most_spelled }
-    ensures { result ≡ slice_index (under (choice_written (λ which. alternative_written (writes table.now) (slice_get alternatives.now which))) tag value.now) at }
+    requires short { length (under (choice_written (λ which. alternative_written (writes table.now)
+        (slice_get alternatives.now which))) tag value.now) ≤ most_spelled }
+    ensures { result ≡ slice_index (under
+        (choice_written (λ which. alternative_written (writes table.now)
+        (slice_get alternatives.now which))) tag value.now) at }
 {
     match tag {
         None => alternative_octet(table, of, alternatives, value, at),
@@ -405,8 +416,10 @@ fn alternative_octet(
     at: u64,
 ) -> u8
     requires below { AllByRecursion (λ m. m < of.0) (rows_of_parts alternatives.now) }
-    requires short { length (choice_written (λ which. alternative_written (writes table.now) (slice_get alternatives.now which)) value.now) ≤ most_spelled }
-    ensures { result ≡ slice_index (choice_written (λ which. alternative_written (writes table.now) (slice_get alternatives.now which)) value.now) at }
+    requires short { length (choice_written (λ which. alternative_written (writes table.now)
+        (slice_get alternatives.now which)) value.now) ≤ most_spelled }
+    ensures { result ≡ slice_index (choice_written (λ which. alternative_written (writes table.now)
+        (slice_get alternatives.now which)) value.now) at }
 {
     match &value.node {
         Node::Chosen { which, value } => match alternatives.get(*which as usize) {
@@ -427,8 +440,11 @@ fn sequence_octet(
     at: u64,
 ) -> u8
     requires below { AllByRecursion (λ m. m < of.0) (rows_of_parts parts.now) }
-    requires short { length (definite true tag (sequence_contents (parts_contents (writes table.now) parts.now) value.now)) ≤ most_spelled }
-    ensures { result ≡ slice_index (definite true tag (sequence_contents (parts_contents (writes table.now) parts.now) value.now)) at }
+    requires short { length (definite true tag
+        (sequence_contents (parts_contents (writes table.now) parts.now) value.now))
+        ≤ most_spelled }
+    ensures { result ≡ slice_index (definite true tag
+        (sequence_contents (parts_contents (writes table.now) parts.now) value.now)) at }
 {
     let values: &[Option<Val>] = match &value.node {
         Node::Parts(values) => values,
@@ -443,8 +459,10 @@ fn sequence_octet(
 #[cycle(picking)]
 fn parts_octet(table: &TypeTable, of: TypeId, parts: &[Part], values: &[Option<Val>], at: u64) -> u8
     requires below { AllByRecursion (λ m. m < of.0) (rows_of_parts parts.now) }
-    requires short { length (parts_contents (writes table.now) parts.now (parts_of values.now)) ≤ most_spelled }
-    ensures { result ≡ slice_index (parts_contents (writes table.now) parts.now (parts_of values.now)) at }
+    requires short { length (parts_contents (writes table.now) parts.now (parts_of values.now))
+        ≤ most_spelled }
+    ensures { result ≡ slice_index (parts_contents (writes table.now) parts.now
+        (parts_of values.now)) at }
 {
     let mut place = at;
     for index in 0..parts.len().min(values.len()) {
@@ -473,8 +491,10 @@ fn part_octet(table: &TypeTable, of: TypeId, part: &Part, value: &Option<Val>, a
 fn set_octet(table: &TypeTable, of: TypeId, parts: &[Part], tag: Tag, value: &Val, at: u64) -> u8
     requires below { AllByRecursion (λ m. m < of.0) (rows_of_parts parts.now) }
     requires row { of.0 ≤ length table.now }
-    requires short { length (definite true tag (sequence_contents (set_parts (writes table.now) parts.now) value.now)) ≤ most_spelled }
-    ensures { result ≡ slice_index (definite true tag (sequence_contents (set_parts (writes table.now) parts.now) value.now)) at }
+    requires short { length (definite true tag
+        (sequence_contents (set_parts (writes table.now) parts.now) value.now)) ≤ most_spelled }
+    ensures { result ≡ slice_index (definite true tag
+        (sequence_contents (set_parts (writes table.now) parts.now) value.now)) at }
 {
     match &value.node {
         Node::Parts(values) => set_parts_octet(table, of, parts, tag, values, at),
@@ -493,8 +513,10 @@ fn set_parts_octet(
 ) -> u8
     requires below { AllByRecursion (λ m. m < of.0) (rows_of_parts parts.now) }
     requires row { of.0 ≤ length table.now }
-    requires short { length (definite true tag (set_parts (writes table.now) parts.now (parts_of values.now))) ≤ most_spelled }
-    ensures { result ≡ slice_index (definite true tag (set_parts (writes table.now) parts.now (parts_of values.now))) at }
+    requires short { length (definite true tag
+        (set_parts (writes table.now) parts.now (parts_of values.now))) ≤ most_spelled }
+    ensures { result ≡ slice_index (definite true tag
+        (set_parts (writes table.now) parts.now (parts_of values.now))) at }
 {
     let count = set_len(table, of, parts, values);
     match head_or_place(tag, true, count, at) {
@@ -506,7 +528,8 @@ fn set_parts_octet(
 /// The length of the parts of a SET.
 fn set_len(table: &TypeTable, of: TypeId, parts: &[Part], values: &[Option<Val>]) -> u64
     requires below { AllByRecursion (λ m. m < of.0) (rows_of_parts parts.now) }
-    requires short { length (set_parts (writes table.now) parts.now (parts_of values.now)) ≤ most_spelled }
+    requires short { length (set_parts (writes table.now) parts.now (parts_of values.now))
+        ≤ most_spelled }
     ensures { result ≡ length (set_parts (writes table.now) parts.now (parts_of values.now)) }
 {
     parts_len(table, of, parts, values)
@@ -526,7 +549,8 @@ fn risen_octet(
     requires row { of.0 ≤ length table.now }
     requires count { count ≡ length (set_parts (writes table.now) parts.now (parts_of values.now)) }
     requires short { count ≤ most_spelled }
-    ensures { result ≡ slice_index (set_parts (writes table.now) parts.now (parts_of values.now)) at }
+    ensures { result ≡ slice_index (set_parts (writes table.now) parts.now (parts_of values.now))
+        at }
 {
     if count <= at {
         return 0;
@@ -557,8 +581,10 @@ fn ranked_len(
 ) -> u64
     requires below { AllByRecursion (λ m. m < of.0) (rows_of_parts parts.now) }
     requires row { of.0 ≤ length table.now }
-    requires short { length (parts_contents (of_rank rank (writes table.now)) parts.now (parts_of values.now)) ≤ most_spelled }
-    ensures { result ≡ length (parts_contents (of_rank rank (writes table.now)) parts.now (parts_of values.now)) }
+    requires short { length (parts_contents (of_rank rank (writes table.now)) parts.now
+        (parts_of values.now)) ≤ most_spelled }
+    ensures { result ≡ length (parts_contents (of_rank rank (writes table.now)) parts.now
+        (parts_of values.now)) }
 {
     let mut count: u64 = 0;
     let mut index = parts.len().min(values.len());
@@ -572,7 +598,8 @@ fn ranked_len(
 fn if_ranked_len(table: &TypeTable, of: TypeId, part: &Part, value: &Option<Val>, rank: u64) -> u64
     requires below { part.now.inner.0 < of.0 }
     requires row { of.0 ≤ length table.now }
-    requires short { length (part_contents (of_rank rank (writes table.now)) part.now value.now) ≤ most_spelled }
+    requires short { length (part_contents (of_rank rank (writes table.now)) part.now value.now)
+        ≤ most_spelled }
     ensures { result ≡ length (part_contents (of_rank rank (writes table.now)) part.now value.now) }
 {
     match value {
@@ -598,8 +625,10 @@ fn ranked_octet(
 ) -> u8
     requires below { AllByRecursion (λ m. m < of.0) (rows_of_parts parts.now) }
     requires row { of.0 ≤ length table.now }
-    requires short { length (parts_contents (of_rank rank (writes table.now)) parts.now (parts_of values.now)) ≤ most_spelled }
-    ensures { result ≡ slice_index (parts_contents (of_rank rank (writes table.now)) parts.now (parts_of values.now)) at }
+    requires short { length (parts_contents (of_rank rank (writes table.now)) parts.now
+        (parts_of values.now)) ≤ most_spelled }
+    ensures { result ≡ slice_index (parts_contents (of_rank rank (writes table.now)) parts.now
+        (parts_of values.now)) at }
 {
     let mut place = at;
     for index in 0..parts.len().min(values.len()) {

@@ -57,7 +57,8 @@ pub(crate) fn less_in_memory(
     a: &Val,
     b: &Val,
 ) -> Result<bool, NoMemory>
-    ensures { IfOk result (λ less. less ≡ is_less (written table.now of.0 a.now) (written table.now of.0 b.now)) }
+    ensures { IfOk result (λ less. less ≡ is_less (written table.now of.0 a.now)
+        (written table.now of.0 b.now)) }
 {
     let len = ber_len(table, of, a);
     let other = ber_len(table, of, b);
@@ -114,7 +115,8 @@ fn stand_so(table: &TypeTable, of: TypeId, before: &Val, value: &Val) -> bool
 }
 
 fn rise_behind(table: &TypeTable, of: TypeId, first: &Val, others: &[Val]) -> bool
-    ensures { result ≡ rise_behind is_short (written table.now of.0) first.now (values_of others.now) }
+    ensures { result ≡ rise_behind is_short (written table.now of.0) first.now
+        (values_of others.now) }
 {
     let mut before = first;
     for value in others {

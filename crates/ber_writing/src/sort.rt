@@ -90,8 +90,10 @@ fn take_least(
     back: &mut VecDeque<Val>,
 ) -> Result<Val, NoMemory>
     requires { 0 < length front.old.items + length back.old.items }
-    ensures least { IfOk result (λ v. merged (written table.now of.0) front.old.items back.old.items ≡ v ∷ merged (written table.now of.0) front.new.items back.new.items) }
-    ensures fewer { IfOk result (λ v. length front.new.items + length back.new.items < length front.old.items + length back.old.items) }
+    ensures least { IfOk result (λ v. merged (written table.now of.0) front.old.items back.old.items
+        ≡ v ∷ merged (written table.now of.0) front.new.items back.new.items) }
+    ensures fewer { IfOk result (λ v. length front.new.items + length back.new.items < length
+        front.old.items + length back.old.items) }
 {
     if back_is_next(alloc, table, of, front, back)? {
         Ok(take_first(back))
@@ -118,7 +120,8 @@ fn back_is_next(
     front: &VecDeque<Val>,
     back: &VecDeque<Val>,
 ) -> Result<bool, NoMemory>
-    ensures { IfOk result (λ b. b ≡ first_less (written table.now of.0) front.now.items back.now.items) }
+    ensures { IfOk result (λ b. b ≡ first_less (written table.now of.0) front.now.items
+        back.now.items) }
 {
     match front.front() {
         None => Ok(true),

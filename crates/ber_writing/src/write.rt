@@ -104,8 +104,10 @@ fn put_natural(number: u64, room: &mut [u8], end: usize) -> usize
 fn put_negative(number: u64, room: &mut [u8], end: usize) -> usize
     requires room { length (map (λ octet. 255 - octet) (natural_octets number number [])) ≤ end }
     requires end { end ≤ length room.old }
-    ensures start { result + length (map (λ octet. 255 - octet) (natural_octets number number [])) ≡ end }
-    ensures put { drop result room.new ≡ map (λ octet. 255 - octet) (natural_octets number number []) ++ drop end room.old }
+    ensures start { result + length (map (λ octet. 255 - octet) (natural_octets number number []))
+        ≡ end }
+    ensures put { drop result room.new ≡ map (λ octet. 255 - octet)
+        (natural_octets number number []) ++ drop end room.old }
 {
     let mut start = end;
     let mut high = number;
@@ -134,7 +136,8 @@ fn put_identifier(tag: Tag, constructed: bool, room: &mut [u8], end: usize) -> u
     requires room { length (identifier tag.class constructed tag.number) ≤ end }
     requires end { end ≤ length room.old }
     ensures start { result + length (identifier tag.class constructed tag.number) ≡ end }
-    ensures put { drop result room.new ≡ identifier tag.class constructed tag.number ++ drop end room.old }
+    ensures put { drop result room.new ≡ identifier tag.class constructed tag.number
+        ++ drop end room.old }
 {
     let first = leading(tag.class, constructed);
     if tag.number < 31 {
@@ -165,10 +168,13 @@ pub(crate) fn put_head(
     room: &mut [u8],
     end: usize,
 ) -> usize
-    requires room { length (identifier tag.class constructed tag.number ++ length_octets count) ≤ end }
+    requires room { length (identifier tag.class constructed tag.number ++ length_octets count)
+        ≤ end }
     requires end { end ≤ length room.old }
-    ensures start { result + length (identifier tag.class constructed tag.number ++ length_octets count) ≡ end }
-    ensures put { drop result room.new ≡ identifier tag.class constructed tag.number ++ length_octets count ++ drop end room.old }
+    ensures start { result + length (identifier tag.class constructed tag.number
+        ++ length_octets count) ≡ end }
+    ensures put { drop result room.new ≡ identifier tag.class constructed tag.number
+        ++ length_octets count ++ drop end room.old }
 {
     let start = put_length(count, room, end);
     put_identifier(tag, constructed, room, start)
@@ -178,7 +184,8 @@ fn put_integer_value(tag: Tag, value: &Val, room: &mut [u8], end: usize) -> usiz
     requires room { length (definite false tag (integer_contents value.now)) ≤ end }
     requires end { end ≤ length room.old }
     ensures start { result + length (definite false tag (integer_contents value.now)) ≡ end }
-    ensures put { drop result room.new ≡ definite false tag (integer_contents value.now) ++ drop end room.old }
+    ensures put { drop result room.new ≡ definite false tag (integer_contents value.now)
+        ++ drop end room.old }
 {
     let start = match &value.node {
         Node::Int(number) => put_integer(*number, room, end),
@@ -192,7 +199,8 @@ fn put_boolean(tag: Tag, value: &Val, room: &mut [u8], end: usize) -> usize
     requires room { length (definite false tag (boolean_contents value.now)) ≤ end }
     requires end { end ≤ length room.old }
     ensures start { result + length (definite false tag (boolean_contents value.now)) ≡ end }
-    ensures put { drop result room.new ≡ definite false tag (boolean_contents value.now) ++ drop end room.old }
+    ensures put { drop result room.new ≡ definite false tag (boolean_contents value.now)
+        ++ drop end room.old }
 {
     let start = match &value.node {
         Node::Bool(truth) => put(if *truth { 255 } else { 0 }, room, end),
@@ -205,7 +213,8 @@ fn put_octets(tag: Tag, value: &Val, room: &mut [u8], end: usize) -> usize
     requires room { length (definite false tag (octets_contents value.now)) ≤ end }
     requires end { end ≤ length room.old }
     ensures start { result + length (definite false tag (octets_contents value.now)) ≡ end }
-    ensures put { drop result room.new ≡ definite false tag (octets_contents value.now) ++ drop end room.old }
+    ensures put { drop result room.new ≡ definite false tag (octets_contents value.now)
+        ++ drop end room.old }
 {
     let start = match &value.node {
         Node::Octets(octets) => put_all(octets.as_slice(), room, end),
@@ -218,7 +227,8 @@ fn put_text(tag: Tag, value: &Val, room: &mut [u8], end: usize) -> usize
     requires room { length (definite false tag (text_contents value.now)) ≤ end }
     requires end { end ≤ length room.old }
     ensures start { result + length (definite false tag (text_contents value.now)) ≡ end }
-    ensures put { drop result room.new ≡ definite false tag (text_contents value.now) ++ drop end room.old }
+    ensures put { drop result room.new ≡ definite false tag (text_contents value.now)
+        ++ drop end room.old }
 {
     let start = match &value.node {
         Node::Text(octets) => put_all(octets.as_slice(), room, end),
@@ -232,7 +242,8 @@ fn put_bits(tag: Tag, value: &Val, room: &mut [u8], end: usize) -> usize
     requires room { length (definite false tag (bits_contents value.now)) ≤ end }
     requires end { end ≤ length room.old }
     ensures start { result + length (definite false tag (bits_contents value.now)) ≡ end }
-    ensures put { drop result room.new ≡ definite false tag (bits_contents value.now) ++ drop end room.old }
+    ensures put { drop result room.new ≡ definite false tag (bits_contents value.now)
+        ++ drop end room.old }
 {
     let start = match &value.node {
         Node::Bits { octets, unused } => put_segment(octets.as_slice(), *unused, room, end),
@@ -256,7 +267,8 @@ fn put_arcs(arcs: &[u32], room: &mut [u8], end: usize) -> usize
     requires room { length (flat_map base_128 (subidentifiers arcs.now)) ≤ end }
     requires end { end ≤ length room.old }
     ensures start { result + length (flat_map base_128 (subidentifiers arcs.now)) ≡ end }
-    ensures put { drop result room.new ≡ flat_map base_128 (subidentifiers arcs.now) ++ drop end room.old }
+    ensures put { drop result room.new ≡ flat_map base_128 (subidentifiers arcs.now)
+        ++ drop end room.old }
 {
     match arcs {
         [] => end,
@@ -287,7 +299,8 @@ fn put_object_id(tag: Tag, value: &Val, room: &mut [u8], end: usize) -> usize
     requires room { length (definite false tag (object_id_contents value.now)) ≤ end }
     requires end { end ≤ length room.old }
     ensures start { result + length (definite false tag (object_id_contents value.now)) ≡ end }
-    ensures put { drop result room.new ≡ definite false tag (object_id_contents value.now) ++ drop end room.old }
+    ensures put { drop result room.new ≡ definite false tag (object_id_contents value.now)
+        ++ drop end room.old }
 {
     let start = match &value.node {
         Node::ObjectId(oid) => put_arcs(oid.arcs(), room, end),
@@ -351,7 +364,8 @@ fn put_row(
     requires room { length (write_by (writes table.now) row.now tag value.now) ≤ end }
     requires end { end ≤ length room.old }
     ensures start { result + length (write_by (writes table.now) row.now tag value.now) ≡ end }
-    ensures put { drop result room.new ≡ write_by (writes table.now) row.now tag value.now ++ drop end room.old }
+    ensures put { drop result room.new ≡ write_by (writes table.now) row.now tag value.now
+        ++ drop end room.old }
 {
     match row {
         TypeRow::Boolean => put_boolean(tag_or(tag, Class::Universal, 1), value, room, end),
@@ -418,10 +432,13 @@ fn put_list(
     end: usize,
 ) -> usize
     requires below { inner.0 < of.0 }
-    requires room { length (definite true tag (list_contents (writes table.now inner.0) value.now)) ≤ end }
+    requires room { length (definite true tag (list_contents (writes table.now inner.0) value.now))
+        ≤ end }
     requires end { end ≤ length room.old }
-    ensures start { result + length (definite true tag (list_contents (writes table.now inner.0) value.now)) ≡ end }
-    ensures put { drop result room.new ≡ definite true tag (list_contents (writes table.now inner.0) value.now) ++ drop end room.old }
+    ensures start { result + length (definite true tag
+        (list_contents (writes table.now inner.0) value.now)) ≡ end }
+    ensures put { drop result room.new ≡ definite true tag
+        (list_contents (writes table.now inner.0) value.now) ++ drop end room.old }
 {
     let start = match &value.node {
         Node::List(values) => put_values(table, of, inner, values, room, end),
@@ -441,10 +458,13 @@ fn put_values(
     end: usize,
 ) -> usize
     requires below { inner.0 < of.0 }
-    requires room { length (values_contents (writes table.now inner.0) (values_of values.now)) ≤ end }
+    requires room { length (values_contents (writes table.now inner.0) (values_of values.now))
+        ≤ end }
     requires end { end ≤ length room.old }
-    ensures start { result + length (values_contents (writes table.now inner.0) (values_of values.now)) ≡ end }
-    ensures put { drop result room.new ≡ values_contents (writes table.now inner.0) (values_of values.now) ++ drop end room.old }
+    ensures start { result + length (values_contents (writes table.now inner.0)
+        (values_of values.now)) ≡ end }
+    ensures put { drop result room.new ≡ values_contents (writes table.now inner.0)
+        (values_of values.now) ++ drop end room.old }
 {
     let mut start = end;
     let mut index = values.len();
@@ -468,8 +488,10 @@ fn put_explicit(
     requires below { inner.0 < of.0 }
     requires room { length (definite true tag (writes table.now inner.0 None value.now)) ≤ end }
     requires end { end ≤ length room.old }
-    ensures start { result + length (definite true tag (writes table.now inner.0 None value.now)) ≡ end }
-    ensures put { drop result room.new ≡ definite true tag (writes table.now inner.0 None value.now) ++ drop end room.old }
+    ensures start { result + length (definite true tag (writes table.now inner.0 None value.now))
+        ≡ end }
+    ensures put { drop result room.new ≡ definite true tag (writes table.now inner.0 None value.now)
+        ++ drop end room.old }
 {
     let start = put_value(table, inner, None, value, room, end);
     put_head(tag, true, end - start, room, start)
@@ -486,10 +508,15 @@ fn put_choice(
     end: usize,
 ) -> usize
     requires below { AllByRecursion (λ m. m < of.0) (rows_of_parts alternatives.now) }
-    requires room { length (under (choice_written (λ which. alternative_written (writes table.now) (slice_get alternatives.now which))) tag value.now) ≤ end }
+    requires room { length (under (choice_written (λ which. alternative_written (writes table.now)
+        (slice_get alternatives.now which))) tag value.now) ≤ end }
     requires end { end ≤ length room.old }
-    ensures start { result + length (under (choice_written (λ which. alternative_written (writes table.now) (slice_get alternatives.now which))) tag value.now) ≡ end }
-    ensures put { drop result room.new ≡ under (choice_written (λ which. alternative_written (writes table.now) (slice_get alternatives.now which))) tag value.now ++ drop end room.old }
+    ensures start { result + length (under
+        (choice_written (λ which. alternative_written (writes table.now)
+        (slice_get alternatives.now which))) tag value.now) ≡ end }
+    ensures put { drop result room.new
+        ≡ under (choice_written (λ which. alternative_written (writes table.now)
+        (slice_get alternatives.now which))) tag value.now ++ drop end room.old }
 {
     let start = put_alternative(table, of, alternatives, value, room, end);
     match tag {
@@ -508,10 +535,14 @@ fn put_alternative(
     end: usize,
 ) -> usize
     requires below { AllByRecursion (λ m. m < of.0) (rows_of_parts alternatives.now) }
-    requires room { length (choice_written (λ which. alternative_written (writes table.now) (slice_get alternatives.now which)) value.now) ≤ end }
+    requires room { length (choice_written (λ which. alternative_written (writes table.now)
+        (slice_get alternatives.now which)) value.now) ≤ end }
     requires end { end ≤ length room.old }
-    ensures start { result + length (choice_written (λ which. alternative_written (writes table.now) (slice_get alternatives.now which)) value.now) ≡ end }
-    ensures put { drop result room.new ≡ choice_written (λ which. alternative_written (writes table.now) (slice_get alternatives.now which)) value.now ++ drop end room.old }
+    ensures start { result + length (choice_written (λ which. alternative_written (writes table.now)
+        (slice_get alternatives.now which)) value.now) ≡ end }
+    ensures put { drop result room.new
+        ≡ choice_written (λ which. alternative_written (writes table.now)
+        (slice_get alternatives.now which)) value.now ++ drop end room.old }
 {
     match &value.node {
         Node::Chosen { which, value } => match alternatives.get(*which as usize) {
@@ -533,10 +564,14 @@ fn put_sequence(
     end: usize,
 ) -> usize
     requires below { AllByRecursion (λ m. m < of.0) (rows_of_parts parts.now) }
-    requires room { length (definite true tag (sequence_contents (parts_contents (writes table.now) parts.now) value.now)) ≤ end }
+    requires room { length (definite true tag
+        (sequence_contents (parts_contents (writes table.now) parts.now) value.now)) ≤ end }
     requires end { end ≤ length room.old }
-    ensures start { result + length (definite true tag (sequence_contents (parts_contents (writes table.now) parts.now) value.now)) ≡ end }
-    ensures put { drop result room.new ≡ definite true tag (sequence_contents (parts_contents (writes table.now) parts.now) value.now) ++ drop end room.old }
+    ensures start { result + length (definite true tag
+        (sequence_contents (parts_contents (writes table.now) parts.now) value.now)) ≡ end }
+    ensures put { drop result room.new ≡ definite true tag
+        (sequence_contents (parts_contents (writes table.now) parts.now) value.now)
+        ++ drop end room.old }
 {
     let start = match &value.node {
         Node::Parts(values) => put_parts(table, of, parts, values, room, end),
@@ -556,10 +591,13 @@ fn put_parts(
     end: usize,
 ) -> usize
     requires below { AllByRecursion (λ m. m < of.0) (rows_of_parts parts.now) }
-    requires room { length (parts_contents (writes table.now) parts.now (parts_of values.now)) ≤ end }
+    requires room { length (parts_contents (writes table.now) parts.now (parts_of values.now))
+        ≤ end }
     requires end { end ≤ length room.old }
-    ensures start { result + length (parts_contents (writes table.now) parts.now (parts_of values.now)) ≡ end }
-    ensures put { drop result room.new ≡ parts_contents (writes table.now) parts.now (parts_of values.now) ++ drop end room.old }
+    ensures start { result + length (parts_contents (writes table.now) parts.now
+        (parts_of values.now)) ≡ end }
+    ensures put { drop result room.new ≡ parts_contents (writes table.now) parts.now
+        (parts_of values.now) ++ drop end room.old }
 {
     let mut start = end;
     let mut index = parts.len().min(values.len());
@@ -583,7 +621,8 @@ fn put_part(
     requires room { length (part_contents (writes table.now) part.now value.now) ≤ end }
     requires end { end ≤ length room.old }
     ensures start { result + length (part_contents (writes table.now) part.now value.now) ≡ end }
-    ensures put { drop result room.new ≡ part_contents (writes table.now) part.now value.now ++ drop end room.old }
+    ensures put { drop result room.new ≡ part_contents (writes table.now) part.now value.now
+        ++ drop end room.old }
 {
     match value {
         Some(value) => put_value(table, part.inner, None, value, room, end),
@@ -603,10 +642,14 @@ fn put_set(
 ) -> usize
     requires below { AllByRecursion (λ m. m < of.0) (rows_of_parts parts.now) }
     requires row { of.0 ≤ length table.now }
-    requires room { length (definite true tag (sequence_contents (set_parts (writes table.now) parts.now) value.now)) ≤ end }
+    requires room { length (definite true tag
+        (sequence_contents (set_parts (writes table.now) parts.now) value.now)) ≤ end }
     requires end { end ≤ length room.old }
-    ensures start { result + length (definite true tag (sequence_contents (set_parts (writes table.now) parts.now) value.now)) ≡ end }
-    ensures put { drop result room.new ≡ definite true tag (sequence_contents (set_parts (writes table.now) parts.now) value.now) ++ drop end room.old }
+    ensures start { result + length (definite true tag
+        (sequence_contents (set_parts (writes table.now) parts.now) value.now)) ≡ end }
+    ensures put { drop result room.new ≡ definite true tag
+        (sequence_contents (set_parts (writes table.now) parts.now) value.now)
+        ++ drop end room.old }
 {
     let start = match &value.node {
         Node::Parts(values) => put_risen(table, of, parts, values, room, end),
@@ -629,8 +672,10 @@ fn put_risen(
     requires row { of.0 ≤ length table.now }
     requires room { length (set_parts (writes table.now) parts.now (parts_of values.now)) ≤ end }
     requires end { end ≤ length room.old }
-    ensures start { result + length (set_parts (writes table.now) parts.now (parts_of values.now)) ≡ end }
-    ensures put { drop result room.new ≡ set_parts (writes table.now) parts.now (parts_of values.now) ++ drop end room.old }
+    ensures start { result + length (set_parts (writes table.now) parts.now (parts_of values.now))
+        ≡ end }
+    ensures put { drop result room.new ≡ set_parts (writes table.now) parts.now
+        (parts_of values.now) ++ drop end room.old }
 {
     let mut start = end;
     let mut bound = RANKS;
@@ -658,10 +703,13 @@ fn put_of_rank(
 ) -> usize
     requires below { AllByRecursion (λ m. m < of.0) (rows_of_parts parts.now) }
     requires row { of.0 ≤ length table.now }
-    requires room { length (parts_contents (of_rank rank (writes table.now)) parts.now (parts_of values.now)) ≤ end }
+    requires room { length (parts_contents (of_rank rank (writes table.now)) parts.now
+        (parts_of values.now)) ≤ end }
     requires end { end ≤ length room.old }
-    ensures start { result + length (parts_contents (of_rank rank (writes table.now)) parts.now (parts_of values.now)) ≡ end }
-    ensures put { drop result room.new ≡ parts_contents (of_rank rank (writes table.now)) parts.now (parts_of values.now) ++ drop end room.old }
+    ensures start { result + length (parts_contents (of_rank rank (writes table.now)) parts.now
+        (parts_of values.now)) ≡ end }
+    ensures put { drop result room.new ≡ parts_contents (of_rank rank (writes table.now)) parts.now
+        (parts_of values.now) ++ drop end room.old }
 {
     let mut start = end;
     let mut index = parts.len().min(values.len());
@@ -684,10 +732,13 @@ fn put_if_of_rank(
 ) -> usize
     requires below { part.now.inner.0 < of.0 }
     requires row { of.0 ≤ length table.now }
-    requires room { length (part_contents (of_rank rank (writes table.now)) part.now value.now) ≤ end }
+    requires room { length (part_contents (of_rank rank (writes table.now)) part.now value.now)
+        ≤ end }
     requires end { end ≤ length room.old }
-    ensures start { result + length (part_contents (of_rank rank (writes table.now)) part.now value.now) ≡ end }
-    ensures put { drop result room.new ≡ part_contents (of_rank rank (writes table.now)) part.now value.now ++ drop end room.old }
+    ensures start { result + length (part_contents (of_rank rank (writes table.now)) part.now
+        value.now) ≡ end }
+    ensures put { drop result room.new ≡ part_contents (of_rank rank (writes table.now)) part.now
+        value.now ++ drop end room.old }
 {
     match value {
         Some(value) => {
@@ -712,7 +763,8 @@ pub(crate) fn next_rank(
     requires below { AllByRecursion (λ m. m < of.0) (rows_of_parts parts.now) }
     requires row { of.0 ≤ length table.now }
     ensures within { result ≤ bound }
-    ensures none { (k : ℕ) → result ≤ k → k < bound → parts_contents (of_rank k (writes table.now)) parts.now (parts_of values.now) ≡ [] }
+    ensures none { (k : ℕ) → result ≤ k → k < bound → parts_contents (of_rank k (writes table.now))
+        parts.now (parts_of values.now) ≡ [] }
 {
     let mut next = 0;
     let mut index = parts.len().min(values.len());
@@ -737,7 +789,8 @@ fn raised(
     requires within { next ≤ bound }
     ensures within { result ≤ bound }
     ensures more { next ≤ result }
-    ensures none { (k : ℕ) → result ≤ k → k < bound → part_contents (of_rank k (writes table.now)) part.now value.now ≡ [] }
+    ensures none { (k : ℕ) → result ≤ k → k < bound → part_contents (of_rank k (writes table.now))
+        part.now value.now ≡ [] }
 {
     match value {
         Some(value) => {

@@ -34,7 +34,8 @@ pub fn write_rounds<S: Syntax>(
 
 /// A room for the sample's spelling.
 fn room<S: Syntax>(alloc: Global, sample: &Sample) -> Result<Vec<u8>, Stopped>
-    ensures { IfOk result (λ room. length (S.spelling sample.now.table sample.now.of.0 sample.now.value) ≤ length room.items) }
+    ensures { IfOk result (λ room. length
+        (S.spelling sample.now.table sample.now.of.0 sample.now.value) ≤ length room.items) }
 {
     let len = S::len(sample);
     if len == u64::MAX {
@@ -44,7 +45,8 @@ fn room<S: Syntax>(alloc: Global, sample: &Sample) -> Result<Vec<u8>, Stopped>
 }
 
 fn write_over<S: Syntax>(sample: &Sample, room: &mut [u8], rounds: u64) -> u64
-    requires { length (S.spelling sample.now.table sample.now.of.0 sample.now.value) ≤ length room.old }
+    requires { length (S.spelling sample.now.table sample.now.of.0 sample.now.value) ≤ length
+        room.old }
 {
     let mut written: u64 = 0;
     for _ in 0..rounds {

@@ -25,7 +25,8 @@ pub trait Syntax {
 
     /// Writes the spelling at the front of the room, and answers how many octets it has.
     fn write(sample: &Sample, room: &mut [u8]) -> usize
-        requires { length (spelling sample.now.table sample.now.of.0 sample.now.value) ≤ length room.old }
+        requires { length (spelling sample.now.table sample.now.of.0 sample.now.value) ≤ length
+            room.old }
         ensures { result ≡ length (spelling sample.now.table sample.now.of.0 sample.now.value) };
 
     /// Reads the value of the sample's type that the octets begin with, and answers how many octets

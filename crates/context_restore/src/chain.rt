@@ -18,7 +18,8 @@ fn undo_at(
     nodes: &Slab<VersionNode>,
     key: u32,
 ) -> Result<Option<u32>, NoMemory>
-    ensures set { OnOk result (set.new.items ≡ applied (back_of (get nodes.now key)) set.old.items) }
+    ensures set { OnOk result (set.new.items ≡ applied (back_of (get nodes.now key))
+        set.old.items) }
     ensures parent { IfOk result (λ parent. parent ≡ parent_of (get nodes.now key)) }
 {
     match nodes.get(key as usize) {
@@ -99,7 +100,8 @@ pub(crate) fn drop_newest(
     head: Option<u32>,
     count: usize,
 ) -> Option<u32>
-    ensures { (keys : List ℕ) → IsLinked nodes.old head keys → count ≤ length keys → IsCut nodes.old nodes.new result (drop count keys) count }
+    ensures { (keys : List ℕ) → IsLinked nodes.old head keys → count ≤ length keys →
+        IsCut nodes.old nodes.new result (drop count keys) count }
 {
     let mut at = head;
     for place in 0..count {

@@ -81,7 +81,11 @@ impl Saved {
     /// Begins an activity over a set, which is the one that is restored after it, and the one of
     /// number 0. What was saved before is gone.
     pub fn begin(&mut self, set: &Contexts) -> Result<(), SaveRefusal>
-        ensures ok { OnOk result (self.new ≡ record { nodes = root set.now.set ∷ []; inter = set.now.set; active = true }) }
+        ensures ok { OnOk result (self.new ≡ record {
+          nodes = root set.now.set ∷ [];
+          inter = set.now.set;
+          active = true;
+        }) }
         ensures err { OnErr result (self.new ≡ self.old) }
         ensures memory { IfErr result (λ refusal. refusal ≡ no_room) }
     {
@@ -99,10 +103,15 @@ impl Saved {
     /// Saves a set under the next number, which is answered: the numbers count from 1.
     #[tactic(auto, using(crate::proofs::Sound::marks_more))]
     pub fn mark(&mut self, set: &Contexts) -> Result<u32, SaveRefusal>
-        ensures refused { MatchResult result (λ _. mark_refusal self.old ≡ None) (IsRefused (mark_refusal self.old)) }
+        ensures refused { MatchResult result (λ _. mark_refusal self.old ≡ None)
+            (IsRefused (mark_refusal self.old)) }
         ensures number { IfOk result (λ n. n ≡ next_number self.old.nodes) }
-        ensures marks { IfOk result (λ n. marks_of self.new.nodes ≡ record { number = n; set = set.now.set } ∷ marks_of self.old.nodes) }
-        ensures ok { OnOk result (self.new ≡ record self.old { nodes = version (set_of self.old.nodes) set.now.set ∷ self.old.nodes }) }
+        ensures marks { IfOk result (λ n. marks_of self.new.nodes ≡ record {
+          number = n;
+          set = set.now.set;
+        } ∷ marks_of self.old.nodes) }
+        ensures ok { OnOk result (self.new ≡ record self.old
+            { nodes = version (set_of self.old.nodes) set.now.set ∷ self.old.nodes }) }
         ensures err { OnErr result (self.new ≡ self.old) }
     {
         let number = self.nodes();
@@ -119,7 +128,8 @@ impl Saved {
     /// Puts the version that leads to a set at the head of the chain.
     fn push(&mut self, set: &Contexts) -> Result<(), SaveRefusal>
         requires { length self.old.nodes ≤ 65536 }
-        ensures ok { OnOk result (self.new ≡ record self.old { nodes = version (set_of self.old.nodes) set.now.set ∷ self.old.nodes }) }
+        ensures ok { OnOk result (self.new ≡ record self.old
+            { nodes = version (set_of self.old.nodes) set.now.set ∷ self.old.nodes }) }
         ensures rises { IsRising set.now.set }
         ensures err { OnErr result (self.new ≡ self.old) }
         ensures memory { IfErr result (λ refusal. refusal ≡ no_room) }
@@ -138,7 +148,8 @@ impl Saved {
 
     /// The set saved by the highest number below this one, to which a restart would go.
     pub fn set_below(&self, n: u32) -> Result<SetList, SaveRefusal>
-        ensures refused { MatchResult result (λ _. restart_refusal self.now n ≡ None) (IsRefused (restart_refusal self.now n)) }
+        ensures refused { MatchResult result (λ _. restart_refusal self.now n ≡ None)
+            (IsRefused (restart_refusal self.now n)) }
         ensures list { IfOk result (λ list. list ≡ set_of (below n self.now.nodes)) }
         ensures rises { IfOk result (λ list. IsRising list) }
     {
@@ -149,7 +160,8 @@ impl Saved {
     /// Goes back to the set saved by the highest number below this one, which is answered, and
     /// forgets the marks from this one on.
     pub fn restart(&mut self, n: u32) -> Result<SetList, SaveRefusal>
-        ensures refused { MatchResult result (λ _. restart_refusal self.old n ≡ None) (IsRefused (restart_refusal self.old n)) }
+        ensures refused { MatchResult result (λ _. restart_refusal self.old n ≡ None)
+            (IsRefused (restart_refusal self.old n)) }
         ensures list { IfOk result (λ list. list ≡ set_of (below n self.old.nodes)) }
         ensures rises { IfOk result (λ list. IsRising list) }
         ensures ok { OnOk result (self.new ≡ record self.old { nodes = below n self.old.nodes }) }
@@ -163,10 +175,15 @@ impl Saved {
     /// it, the marks past this one are gone, and the mark's set is answered. At nothing all marks are
     /// gone, and `now` is the set of number 0 and the answer.
     pub fn resume(&mut self, n: u32, now: &Contexts) -> Result<SetList, SaveRefusal>
-        ensures refused { MatchResult result (λ _. resume_refusal self.old n ≡ None) (IsRefused (resume_refusal self.old n)) }
+        ensures refused { MatchResult result (λ _. resume_refusal self.old n ≡ None)
+            (IsRefused (resume_refusal self.old n)) }
         ensures list { IfOk result (λ list. list ≡ resumed_set self.old n now.now.set) }
         ensures rises { IfOk result (λ list. IsRising list) }
-        ensures ok { OnOk result (self.new ≡ record { nodes = resumed_nodes self.old n now.now.set; inter = now.now.set; active = true }) }
+        ensures ok { OnOk result (self.new ≡ record {
+          nodes = resumed_nodes self.old n now.now.set;
+          inter = now.now.set;
+          active = true;
+        }) }
         ensures err { OnErr result (self.new ≡ self.old) }
     {
         if n == 0 {
@@ -186,7 +203,8 @@ impl Saved {
 
     /// The activity ended; the set from before it is answered. The marks stay.
     pub fn end(&mut self) -> Result<SetList, SaveRefusal>
-        ensures refused { MatchResult result (λ _. leave_refusal self.old ≡ None) (IsRefused (leave_refusal self.old)) }
+        ensures refused { MatchResult result (λ _. leave_refusal self.old ≡ None)
+            (IsRefused (leave_refusal self.old)) }
         ensures list { IfOk result (λ list. list ≡ self.old.inter) }
         ensures rises { IfOk result (λ list. IsRising list) }
         ensures ok { OnOk result (self.new ≡ record self.old { active = false }) }
@@ -199,7 +217,8 @@ impl Saved {
 
     /// The activity was interrupted; the set from before it is answered. The marks stay.
     pub fn interrupt(&mut self) -> Result<SetList, SaveRefusal>
-        ensures refused { MatchResult result (λ _. leave_refusal self.old ≡ None) (IsRefused (leave_refusal self.old)) }
+        ensures refused { MatchResult result (λ _. leave_refusal self.old ≡ None)
+            (IsRefused (leave_refusal self.old)) }
         ensures list { IfOk result (λ list. list ≡ self.old.inter) }
         ensures rises { IfOk result (λ list. IsRising list) }
         ensures ok { OnOk result (self.new ≡ record self.old { active = false }) }
@@ -210,7 +229,8 @@ impl Saved {
 
     /// The activity was discarded; the set from before it is answered. The marks are gone.
     pub fn discard(&mut self) -> Result<SetList, SaveRefusal>
-        ensures refused { MatchResult result (λ _. leave_refusal self.old ≡ None) (IsRefused (leave_refusal self.old)) }
+        ensures refused { MatchResult result (λ _. leave_refusal self.old ≡ None)
+            (IsRefused (leave_refusal self.old)) }
         ensures list { IfOk result (λ list. list ≡ self.old.inter) }
         ensures rises { IfOk result (λ list. IsRising list) }
         ensures ok { OnOk result (self.new ≡ record self.old { nodes = []; active = false }) }
@@ -226,7 +246,8 @@ impl Saved {
 
     /// A copy of the set from before the activity, which is in progress.
     fn left_set(&self) -> Result<SetList, SaveRefusal>
-        ensures refused { MatchResult result (λ _. leave_refusal self.now ≡ None) (IsRefused (leave_refusal self.now)) }
+        ensures refused { MatchResult result (λ _. leave_refusal self.now ≡ None)
+            (IsRefused (leave_refusal self.now)) }
         ensures list { IfOk result (λ list. list ≡ self.now.inter) }
         ensures rises { IfOk result (λ list. IsRising list) }
     {
@@ -238,7 +259,8 @@ impl Saved {
 
     /// Whether a restart may go to this number.
     fn may_restart(&self, n: u32) -> Result<(), SaveRefusal>
-        ensures { MatchOption (restart_refusal self.now n) (IsOk result) (λ refusal. result ≡ Err refusal) }
+        ensures { MatchOption (restart_refusal self.now n) (IsOk result)
+            (λ refusal. result ≡ Err refusal) }
     {
         if n == 0 || n > self.nodes().max(1) {
             return Err(SaveRefusal::NoSuchMark(n));
@@ -268,7 +290,8 @@ impl Saved {
         requires { 0 < count }
         ensures list { IfOk result (λ list. list ≡ set_of (below count self.old.nodes)) }
         ensures rises { IfOk result (λ list. IsRising list) }
-        ensures ok { OnOk result (self.new ≡ record self.old { nodes = below count self.old.nodes }) }
+        ensures ok { OnOk result (self.new ≡ record self.old
+            { nodes = below count self.old.nodes }) }
         ensures err { OnErr result (self.new ≡ self.old) }
         ensures memory { IfErr result (λ refusal. refusal ≡ no_room) }
     {

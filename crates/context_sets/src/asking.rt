@@ -160,7 +160,8 @@ pub(crate) struct Ground<'a> {
 }
 
 fn addition_refusal(ground: &Ground<'_>, proposal: &Proposal) -> Option<SetRefusal>
-    ensures { result ≡ addition_refusal ground.now.initiator ground.now.items.now ground.now.own.now proposal.now }
+    ensures { result ≡ addition_refusal ground.now.initiator ground.now.items.now ground.now.own.now
+        proposal.now }
 {
     let id = proposal.id;
     if !is_of(ground.initiator, id) {
@@ -193,7 +194,8 @@ fn pair_refusal(used: &[u32], id: u32, pair: Option<&Pair>) -> Option<SetRefusal
 }
 
 fn deletion_refusal(ground: &Ground<'_>, id: u32) -> Option<SetRefusal>
-    ensures { result ≡ deletion_refusal ground.now.items.now ground.now.own.now ground.now.used.now id }
+    ensures { result ≡ deletion_refusal ground.now.items.now ground.now.own.now ground.now.used.now
+        id }
 {
     if is_named(ground.own, id) {
         return Some(SetRefusal::Named(id));
@@ -203,7 +205,8 @@ fn deletion_refusal(ground: &Ground<'_>, id: u32) -> Option<SetRefusal>
 
 /// The first refusal of an addition.
 fn additions_refusal(ground: &Ground<'_>, added: &[Proposal]) -> Option<SetRefusal>
-    ensures { result ≡ first_of (addition_refusal ground.now.initiator ground.now.items.now ground.now.own.now) added.now }
+    ensures { result ≡ first_of (addition_refusal ground.now.initiator ground.now.items.now
+        ground.now.own.now) added.now }
 {
     for proposal in added {
         if let Some(refusal) = addition_refusal(ground, proposal) {
@@ -215,7 +218,8 @@ fn additions_refusal(ground: &Ground<'_>, added: &[Proposal]) -> Option<SetRefus
 
 /// The first refusal of a deletion.
 fn deletions_refusal(ground: &Ground<'_>, deleted: &[u32]) -> Option<SetRefusal>
-    ensures { result ≡ first_of (deletion_refusal ground.now.items.now ground.now.own.now ground.now.used.now) deleted.now }
+    ensures { result ≡ first_of (deletion_refusal ground.now.items.now ground.now.own.now
+        ground.now.used.now) deleted.now }
 {
     for id in deleted {
         if let Some(refusal) = deletion_refusal(ground, *id) {
@@ -240,7 +244,8 @@ pub(crate) fn refusal(
     asked: &Alteration,
 ) -> Result<Option<SetRefusal>, NoMemory>
     requires { length ground.now.items.now + additions ground.now.own.now ≤ 64 }
-    ensures { IfOk result (λ first. first ≡ refusal ground.now.initiator ground.now.items.now ground.now.own.now ground.now.used.now asked.now) }
+    ensures { IfOk result (λ first. first ≡ refusal ground.now.initiator ground.now.items.now
+        ground.now.own.now ground.now.used.now asked.now) }
 {
     if ground.own.len() >= 4 {
         return Ok(Some(SetRefusal::AlterPending));

@@ -82,8 +82,13 @@ impl Contexts {
     /// identifiers are in use. It waits for its answer behind those that wait, and room is made for
     /// its additions. After a refusal nothing has changed but the room.
     pub fn propose(&mut self, add: Proposals, delete: Ids, used: &Ids) -> Result<(), SetRefusal>
-        ensures refused { let first = refusal self.old.initiator self.old.set self.old.own used.now (record { added = add; deleted = delete }) in MatchResult result (λ _. first ≡ None) (IsRefused first) }
-        ensures ok { OnOk result (self.new ≡ record self.old { own = self.old.own ++ record { added = add; deleted = delete } ∷ []; room = self.new.room }) }
+        ensures refused { let first = refusal self.old.initiator self.old.set self.old.own used.now
+            (record { added = add; deleted = delete }) in
+            MatchResult result (λ _. first ≡ None) (IsRefused first) }
+        ensures ok { OnOk result (self.new ≡ record self.old {
+          own = self.old.own ++ record { added = add; deleted = delete } ∷ [];
+          room = self.new.room;
+        }) }
         ensures err { OnErr result (self.new ≡ record self.old { room = self.new.room }) }
         ensures roomy { HasRoom self.new }
     {
@@ -115,9 +120,14 @@ impl Contexts {
         used: &Ids,
         rules: &Rules,
     ) -> Result<Answers, SetFault>
-        ensures faulty { let first = peer_fault (not self.old.initiator) self.old.set [] add.now in MatchResult result (λ _. first ≡ None) (IsFault first) }
-        ensures answers { IfOk result (λ answers. answers ≡ policy rules.now self.old.set self.old.own used.now (record { added = add.now; deleted = delete.now })) }
-        ensures ok { IfOk result (λ answers. self.new ≡ record self.old { set = altered (record { added = add.now; deleted = delete.now }) answers self.old.set; room = self.new.room }) }
+        ensures faulty { let first = peer_fault (not self.old.initiator) self.old.set [] add.now in
+            MatchResult result (λ _. first ≡ None) (IsFault first) }
+        ensures answers { IfOk result (λ answers. answers ≡ policy rules.now self.old.set
+            self.old.own used.now (record { added = add.now; deleted = delete.now })) }
+        ensures ok { IfOk result (λ answers. self.new ≡ record self.old {
+          set = altered (record { added = add.now; deleted = delete.now }) answers self.old.set;
+          room = self.new.room;
+        }) }
         ensures err { OnErr result (self.new ≡ record self.old { room = self.new.room }) }
         ensures roomy { HasRoom self.new }
     {
@@ -142,8 +152,13 @@ impl Contexts {
     /// Changes the set by the answers to the own alteration that waits longest, which then waits no
     /// more. Where none waits, nothing was asked. After a fault nothing has changed.
     pub fn confirm(&mut self, answers: &Answers) -> Result<(), SetFault>
-        ensures answered { MatchOption (mismatch (oldest self.old.own) answers.now) (IsOk result) (λ fault. result ≡ Err fault) }
-        ensures ok { OnOk result (self.new ≡ record self.old { set = altered (oldest self.old.own) answers.now self.old.set; own = later self.old.own; room = self.new.room }) }
+        ensures answered { MatchOption (mismatch (oldest self.old.own) answers.now) (IsOk result)
+            (λ fault. result ≡ Err fault) }
+        ensures ok { OnOk result (self.new ≡ record self.old {
+          set = altered (oldest self.old.own) answers.now self.old.set;
+          own = later self.old.own;
+          room = self.new.room;
+        }) }
         ensures err { OnErr result (self.new ≡ self.old) }
         ensures roomy { HasRoom self.new }
     {

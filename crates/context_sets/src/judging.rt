@@ -196,8 +196,10 @@ fn next_fault(
     items: &[SetItem],
     id: u32,
 ) -> Result<Option<SetFault>, NoMemory>
-    ensures fault { IfOk result (λ fault. fault ≡ next_fault peer items.now (contains nat_cmp met.old id) id) }
-    ensures updates { IfOk result (λ fault. IfNone fault (Updates nat_cmp met.old met.new id true)) }
+    ensures fault { IfOk result (λ fault. fault ≡ next_fault peer items.now
+        (contains nat_cmp met.old id) id) }
+    ensures updates { IfOk result (λ fault. IfNone fault
+        (Updates nat_cmp met.old met.new id true)) }
 {
     if pair_of(items, id).is_some() || meets_again(met, id)? {
         return Ok(Some(SetFault::PeerPresent(id)));

@@ -51,9 +51,12 @@ pub fn settle_between(
     rules: &Rules,
 ) -> Result<(), SetFault>
     requires { oldest asking.old.own ≡ asked.now }
-    ensures faulty { let first = peer_fault (not answering.old.initiator) answering.old.set [] asked.now.added in MatchResult result (λ _. first ≡ None) (IsFault first) }
-    ensures settles { OnOk result (Settles rules.now used.now asking.old asking.new answering.old answering.new) }
-    ensures agree { OnOk result (asking.old.set ≡ answering.old.set → asking.new.set ≡ answering.new.set) }
+    ensures faulty { let first = peer_fault (not answering.old.initiator) answering.old.set []
+        asked.now.added in MatchResult result (λ _. first ≡ None) (IsFault first) }
+    ensures settles { OnOk result (Settles rules.now used.now asking.old asking.new answering.old
+        answering.new) }
+    ensures agree { OnOk result (asking.old.set ≡ answering.old.set →
+        asking.new.set ≡ answering.new.set) }
     ensures settled { OnOk result (asking.new.own ≡ later asking.old.own) }
     ensures err { OnErr result (asking.new ≡ asking.old) }
     ensures err_answering { OnErr result (answering.new.set ≡ answering.old.set) }

@@ -63,7 +63,8 @@ pub(crate) fn mismatch(
     added_answers: &[AddAnswer],
     deleted_answers: &[u8],
 ) -> Option<SetFault>
-    ensures { result ≡ mismatch (record { added = added.now; deleted = deleted.now }) (record { added = added_answers.now; deleted = deleted_answers.now }) }
+    ensures { result ≡ mismatch (record { added = added.now; deleted = deleted.now })
+        (record { added = added_answers.now; deleted = deleted_answers.now }) }
 {
     if added.len() != added_answers.len() {
         return Some(mismatch_of(added.len(), added_answers.len()));
@@ -85,7 +86,9 @@ pub fn accepted_list(
     proposals: &Proposals,
     results: &AddAnswers,
 ) -> Result<SetList, SetFault>
-    ensures fits { let first = mismatch (record { added = proposals.now; deleted = [] }) (record { added = results.now; deleted = [] }) in MatchResult result (λ _. first ≡ None) (IsFault first) }
+    ensures fits { let first = mismatch (record { added = proposals.now; deleted = [] })
+        (record { added = results.now; deleted = [] }) in
+        MatchResult result (λ _. first ≡ None) (IsFault first) }
     ensures list { IfOk result (λ list. list ≡ with_additions proposals.now results.now []) }
     ensures rises { IfOk result (λ list. IsRising list) }
     ensures within { IfOk result (λ list. length list ≤ length proposals.now) }

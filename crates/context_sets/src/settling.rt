@@ -39,7 +39,8 @@ pub(crate) fn acceptances(answers: &[AddAnswer]) -> usize
 /// Puts a proposed context into a set that has room for it, if this answer accepts it.
 fn put_accepted(items: &mut Vec<SetItem>, proposal: Proposal, answer: &AddAnswer)
     requires { vec_len items.old + acceptances (answer.now ∷ []) ≤ vec_capacity items.old }
-    ensures items { items.new.items ≡ with_syntax proposal (accepted_as answer.now) items.old.items }
+    ensures items { items.new.items ≡ with_syntax proposal (accepted_as answer.now)
+        items.old.items }
     ensures len { vec_len items.new ≤ vec_len items.old + acceptances (answer.now ∷ []) }
     ensures capacity { vec_capacity items.new ≡ vec_capacity items.old }
 {

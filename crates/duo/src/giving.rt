@@ -14,8 +14,10 @@ const BLOCK: usize = 256;
 
 /// Gives out at most so many octets, but not more than a block, and answers how many.
 fn give_block(end: &mut End<'_>, octets: &mut Octets, most: usize) -> Result<usize, NoMemory>
-    ensures count { IfOk result (λ count. count ≡ min (min most 256) (length end.old.state.waiting)) }
-    ensures octets { IfOk result (λ count. octets.new ≡ octets.old ++ take count end.old.state.waiting) }
+    ensures count { IfOk result (λ count. count ≡ min (min most 256)
+        (length end.old.state.waiting)) }
+    ensures octets { IfOk result (λ count. octets.new ≡ octets.old
+        ++ take count end.old.state.waiting) }
     ensures end { IfOk result (λ count. end.new ≡ stepped end.old (gave count ∷ [])) }
 {
     let mut room = [0u8; BLOCK];

@@ -20,7 +20,8 @@ fn call_end(
     end: &mut End<'_>,
     call: &Call,
 ) -> Result<Result<Option<i64>, CallRefusal>, NoMemory>
-    ensures { IfOk result (λ answer. Answered (can_call end.old.tables end.old.config end.old.state call.now) end.old end.new call.now answer) }
+    ensures { IfOk result (λ answer. Answered (can_call end.old.tables end.old.config end.old.state
+        call.now) end.old end.new call.now answer) }
 {
     let made = call.copy(alloc)?;
     let answer = end.call(made);
@@ -54,7 +55,8 @@ fn run_call(
     side: Side,
     call: &Call,
 ) -> Result<Entry, NoMemory>
-    ensures { IfOk result (λ entry. RunsOn (the_events.Call side call.now ∷ []) (entry ∷ []) a.old b.old a.new b.new) }
+    ensures { IfOk result (λ entry. RunsOn (the_events.Call side call.now ∷ []) (entry ∷ []) a.old
+        b.old a.new b.new) }
 {
     let kept = call.copy(alloc)?;
     let answer = answer_at(alloc, a, b, side, call)?;
@@ -103,7 +105,8 @@ fn run_carry(
     side: Side,
     most: Option<u32>,
 ) -> Result<Entry, NoMemory>
-    ensures { IfOk result (λ entry. RunsOn (the_events.Carry side most ∷ []) (entry ∷ []) a.old b.old a.new b.new) }
+    ensures { IfOk result (λ entry. RunsOn (the_events.Carry side most ∷ []) (entry ∷ []) a.old
+        b.old a.new b.new) }
 {
     let carried = carry_from(alloc, a, b, side, most)?;
     Ok(Entry::Carry {
@@ -171,7 +174,8 @@ pub fn run_world<'t>(
     b: &mut End<'t>,
     events: &Events,
 ) -> Result<Transcript, NoMemory>
-    ensures { IfOk result (λ transcript. (setup : Setup) → Stand setup a.old.tables [] a.old b.old → RanFromStart setup a.old.tables events.now transcript a.new b.new) }
+    ensures { IfOk result (λ transcript. (setup : Setup) → Stand setup a.old.tables [] a.old b.old →
+        RanFromStart setup a.old.tables events.now transcript a.new b.new) }
 {
     a.tables().is_readable();
     let mode = a.config().mode;

@@ -103,7 +103,8 @@ pub fn second_result_is_rejected()
         ∷ indications.RejectSent (Some (pos 1)) (record { kind = problems.Result; number = pos 0 }) ∷ [])
         × (result_twice.told_b ≡ indications.Invoked (pos 1) 0 None None
         ∷ indications.RejectTaken (Some (pos 1)) (record { kind = problems.Result; number = pos 0 }) ∷ []) }
-    ensures phases { (result_twice.a.link.phase ≡ phases.Up) × (result_twice.b.link.phase ≡ phases.Up) }
+    ensures phases { (result_twice.a.link.phase ≡ phases.Up) ×
+        (result_twice.b.link.phase ≡ phases.Up) }
 {}
 
 /// An answer to a restart that nobody asked for ends the association from the taker's side.

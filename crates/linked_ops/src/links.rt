@@ -45,7 +45,9 @@ pub(crate) fn first_child(nodes: &Slab<Node>, place: Option<usize>) -> Option<us
 
 /// Changes what follows a node.
 fn set_next(nodes: &mut Slab<Node>, at: Option<usize>, next: Option<usize>)
-    ensures { (p : ℕ) → get nodes.new p ≡ (if is_place p at then option_map (with_next next) (get nodes.old p) else get nodes.old p) }
+    ensures { (p : ℕ) → get nodes.new p
+        ≡ (if is_place p at then option_map (with_next next) (get nodes.old p) else get nodes.old
+        p) }
 {
     if let Some(place) = at {
         if let Some(node) = nodes.get_mut(place) {
@@ -56,7 +58,9 @@ fn set_next(nodes: &mut Slab<Node>, at: Option<usize>, next: Option<usize>)
 
 /// Changes what a node follows.
 fn set_previous(nodes: &mut Slab<Node>, at: Option<usize>, previous: Option<usize>)
-    ensures { (p : ℕ) → get nodes.new p ≡ (if is_place p at then option_map (with_previous previous) (get nodes.old p) else get nodes.old p) }
+    ensures { (p : ℕ) → get nodes.new p
+        ≡ (if is_place p at then option_map (with_previous previous) (get nodes.old p) else get
+        nodes.old p) }
 {
     if let Some(place) = at {
         if let Some(node) = nodes.get_mut(place) {
@@ -67,7 +71,9 @@ fn set_previous(nodes: &mut Slab<Node>, at: Option<usize>, previous: Option<usiz
 
 /// Puts a child behind the others of a node.
 fn add_child(nodes: &mut Slab<Node>, parent: Option<usize>, child: usize)
-    ensures { (p : ℕ) → get nodes.new p ≡ (if is_place p parent then option_map (with_child child) (get nodes.old p) else get nodes.old p) }
+    ensures { (p : ℕ) → get nodes.new p
+        ≡ (if is_place p parent then option_map (with_child child) (get nodes.old p) else get
+        nodes.old p) }
 {
     if let Some(place) = parent {
         if let Some(node) = nodes.get_mut(place) {
@@ -81,7 +87,9 @@ fn add_child(nodes: &mut Slab<Node>, parent: Option<usize>, child: usize)
 
 /// Takes a child, as its node was, from among those of a node.
 fn drop_child(nodes: &mut Slab<Node>, parent: Option<usize>, child: &Node)
-    ensures { (p : ℕ) → get nodes.new p ≡ (if is_place p parent then option_map (without_child child.now) (get nodes.old p) else get nodes.old p) }
+    ensures { (p : ℕ) → get nodes.new p
+        ≡ (if is_place p parent then option_map (without_child child.now) (get nodes.old p) else get
+        nodes.old p) }
 {
     if let Some(place) = parent {
         if let Some(node) = nodes.get_mut(place) {

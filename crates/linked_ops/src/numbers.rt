@@ -55,7 +55,8 @@ impl Numbers {
 
     /// Gives a key its number. Want of memory changes nothing.
     pub(crate) fn put(&mut self, key: &Key, number: u64) -> Result<(), NoMemory>
-        ensures ok { OnOk result ((k : one_key) → number_in k self.new ≡ (if same_key key.now k then Some number else number_in k self.old)) }
+        ensures ok { OnOk result ((k : one_key) → number_in k self.new
+            ≡ (if same_key key.now k then Some number else number_in k self.old)) }
         ensures err { OnErr result ((k : one_key) → number_in k self.new ≡ number_in k self.old) }
     {
         let kept = if key.own {
@@ -72,7 +73,8 @@ impl Numbers {
     /// Takes the number of a key away.
     pub(crate) fn take(&mut self, key: &Key) -> Option<u64>
         ensures number { result ≡ number_in key.now self.old }
-        ensures taken { (k : one_key) → number_in k self.new ≡ (if same_key key.now k then None else number_in k self.old) }
+        ensures taken { (k : one_key) → number_in k self.new
+            ≡ (if same_key key.now k then None else number_in k self.old) }
     {
         if key.own {
             self.own.remove(&key.id)

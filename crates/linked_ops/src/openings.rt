@@ -81,8 +81,10 @@ pub(crate) fn enter(
     parent: Option<u64>,
 ) -> Result<(), NoMemory>
     requires { number_in key numbers.old ≡ None }
-    ensures ok { OnOk result (IsEntered made key parent openings.old.entries openings.new.entries nodes.old nodes.new numbers.old numbers.new) }
-    ensures err { OnErr result (IsSame openings.old.entries openings.new.entries nodes.old nodes.new numbers.old numbers.new) }
+    ensures ok { OnOk result (IsEntered made key parent openings.old.entries openings.new.entries
+        nodes.old nodes.new numbers.old numbers.new) }
+    ensures err { OnErr result (IsSame openings.old.entries openings.new.entries nodes.old nodes.new
+        numbers.old numbers.new) }
 {
     nodes.reserve(1)?;
     numbers.put(&key, made)?;

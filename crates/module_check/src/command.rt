@@ -42,7 +42,8 @@ struct SoFar<'a> {
 
 /// One more word behind `check`; nothing where it can't stand.
 fn one_more<'a>(so_far: SoFar<'a>, word: &'a Name) -> Option<SoFar<'a>>
-    ensures { MatchOption result ((words : _) → check_from so_far.entry (word.now ∷ words) ≡ None) (λ more. (words : _) → check_from so_far.entry (word.now ∷ words) ≡ check_from more words) }
+    ensures { MatchOption result ((words : _) → check_from so_far.entry (word.now ∷ words) ≡ None)
+        (λ more. (words : _) → check_from so_far.entry (word.now ∷ words) ≡ check_from more words) }
 {
     if !so_far.ended && is_word(word, "--") {
         return Some(SoFar {
@@ -70,7 +71,9 @@ fn one_more<'a>(so_far: SoFar<'a>, word: &'a Name) -> Option<SoFar<'a>>
 
 /// The check that these words behind `check` give.
 fn check_words(words: &[Name]) -> Option<Check<'_>>
-    ensures { MatchOption result (check_words false false None words.now ≡ None) (λ check. check_words false false None words.now ≡ Some (record { «module» = check.«module».now; table = check.table })) }
+    ensures { MatchOption result (check_words false false None words.now ≡ None)
+        (λ check. check_words false false None words.now
+        ≡ Some (record { «module» = check.«module».now; table = check.table })) }
 {
     let mut so_far = SoFar {
         ended: false,
@@ -91,7 +94,8 @@ fn check_words(words: &[Name]) -> Option<Check<'_>>
 /// The check that words give, where they give one: the word `check`, and behind it the module's
 /// name and perhaps the flag `--table` before or after it. `--` ends the flags.
 pub fn check_command(words: &Words) -> Option<Check<'_>>
-    ensures { MatchOption result (check_of words.now ≡ None) (λ check. check_of words.now ≡ Some (record { «module» = check.«module».now; table = check.table })) }
+    ensures { MatchOption result (check_of words.now ≡ None) (λ check. check_of words.now
+        ≡ Some (record { «module» = check.«module».now; table = check.table })) }
 {
     match words.as_slice() {
         [word, others @ ..] if is_word(word, "check") => check_words(others),

@@ -42,7 +42,10 @@ fn least_fault(alloc: Global, scope: &Scope<'_>) -> Result<Option<Found>, Halt> 
 
 /// The tables of rows, where each operation and each error has a code of its own.
 fn tables(alloc: Global, text: &ModuleText, whole: Whole) -> Result<Tables, TableFault>
-    ensures { IfOk result (λ tables. (tables.name ≡ text.now.name.text) × (tables.name_oid ≡ text.now.name_oid) × (record { types = tables.types; operations = tables.operations; errors = tables.errors } ≡ whole)) }
+    ensures { IfOk result (λ tables. (tables.name ≡ text.now.name.text) ×
+        (tables.name_oid ≡ text.now.name_oid) ×
+        (record { types = tables.types; operations = tables.operations; errors = tables.errors }
+        ≡ whole)) }
 {
     let Ok(true) = operations_have_own_codes(alloc, whole.operations.as_slice()) else {
         return Err(TableFault::NoMemory);

@@ -42,7 +42,10 @@ impl Model for Numbering {
 impl Numbering {
     /// No rows yet, for so many assignments.
     pub fn new(alloc: Global, assignments: usize) -> Result<Numbering, NoMemory>
-        ensures { IfOk result (λ numbering. numbering ≡ record { rows = []; given = replicate assignments None }) }
+        ensures { IfOk result (λ numbering. numbering ≡ record {
+          rows = [];
+          given = replicate assignments None;
+        }) }
     {
         Ok(Numbering {
             types: TypeTable::new(alloc),
@@ -64,7 +67,10 @@ impl Numbering {
 
     /// Notes the row of the type at a place.
     fn note(&mut self, place: u32, id: TypeId)
-        ensures { self.new ≡ record { rows = self.old.rows; given = slice_set self.old.given place (Some id) } }
+        ensures { self.new ≡ record {
+          rows = self.old.rows;
+          given = slice_set self.old.given place (Some id);
+        } }
     {
         if (place as usize) < self.given.len() {
             self.given[place as usize] = Some(id);
@@ -227,7 +233,8 @@ impl Numbering {
     /// A part of this type.
     #[tactic(auto, unfolding(crate::specs::Numbering::part_of))]
     fn part(&self, alloc: Global, text: &PartText, of: TypeId) -> Result<Part, Halt>
-        ensures { Gives result self.now (part_of text.now.name text.now.optional text.now.dflt of self.now) }
+        ensures { Gives result self.now (part_of text.now.name text.now.optional text.now.dflt of
+            self.now) }
     {
         Ok(Part {
             name: text.name.text.copy(alloc)?,
@@ -278,7 +285,8 @@ impl Numbering {
         turns: u32,
         texts: &[PartText],
     ) -> Result<Parts, Halt>
-        ensures { Gives result self.new (parts_of (walk scope.now turns) [] (trees texts.now) self.old) }
+        ensures { Gives result self.new (parts_of (walk scope.now turns) [] (trees texts.now)
+            self.old) }
     {
         let mut parts = ListOf::new(alloc);
         let mut rest = texts;
@@ -325,7 +333,8 @@ impl Numbering {
         turns: u32,
         name: &Name,
     ) -> Result<TypeId, Halt>
-        ensures { Gives result self.new (named_row scope.now (walk scope.now turns) name.now self.old) }
+        ensures { Gives result self.new (named_row scope.now (walk scope.now turns) name.now
+            self.old) }
     {
         match scope.find(name) {
             Some(place) => match scope.behind(place) {
@@ -346,7 +355,8 @@ impl Numbering {
         turns: u32,
         plain: &PlainText,
     ) -> Result<TypeId, Halt>
-        ensures { Gives result self.new (plain_row scope.now (walk scope.now turns) (plain_of plain.now) self.old) }
+        ensures { Gives result self.new (plain_row scope.now (walk scope.now turns)
+            (plain_of plain.now) self.old) }
     {
         match plain {
             PlainText::Boolean => self.add(TypeRow::Boolean),
@@ -417,7 +427,8 @@ impl Numbering {
         scope: &Scope<'_>,
         place: u32,
     ) -> Result<TypeId, Halt>
-        ensures { Gives result self.new (row_behind scope.now (type_row scope.now) (behind scope.now.assignments place) self.old) }
+        ensures { Gives result self.new (row_behind scope.now (type_row scope.now)
+            (behind scope.now.assignments place) self.old) }
     {
         match scope.behind(place) {
             Some(behind) => self.row_of(alloc, scope, MOST_TURNS, behind),

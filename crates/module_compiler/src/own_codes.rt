@@ -29,7 +29,8 @@ impl<'m> Seen<'m> {
     /// Sees a code; whether it is seen for the first time.
     fn see(&mut self, code: &'m Code) -> Result<bool, Halt>
         ensures first { IfOk result (λ is_new. is_new ≡ not (has self.old code.now)) }
-        ensures seen { OnOk result ((other : _) → has self.new other ≡ (same_code code.now other || has self.old other)) }
+        ensures seen { OnOk result ((other : _) → has self.new other
+            ≡ (same_code code.now other || has self.old other)) }
     {
         match code {
             Code::Local(number) => Ok(self.locals.insert(*number)?),
@@ -43,7 +44,8 @@ pub(crate) fn operations_have_own_codes(
     alloc: Global,
     operations: &[Operation],
 ) -> Result<bool, Halt>
-    ensures { IfOk result (λ own. IsTrue own → IsTrue (have_own_codes (λ o. o.code) operations.now)) }
+    ensures { IfOk result (λ own. IsTrue own →
+        IsTrue (have_own_codes (λ o. o.code) operations.now)) }
 {
     let mut seen = Seen::new(alloc);
     for operation in operations {

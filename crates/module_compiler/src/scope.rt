@@ -103,7 +103,8 @@ fn place_of(places: &IndexMap<&str, u32>, name: &Name) -> Option<u32>
 /// The place of the next type behind an alias.
 fn next(assignments: &[Assignment], places: &IndexMap<&str, u32>, place: u32) -> Option<u32>
     requires { AreFound assignments.now places.now }
-    ensures { result ≡ or_none (or_none (type_at assignments.now place) alias) (find assignments.now) }
+    ensures { result ≡ or_none (or_none (type_at assignments.now place) alias)
+        (find assignments.now) }
 {
     match &assignments.get(place as usize)?.body {
         Body::Typed(of) => place_of(places, alias(of)?),
@@ -126,7 +127,10 @@ fn is_type(assignments: &[Assignment], place: u32) -> bool
 impl<'m> Scope<'m> {
     /// The scope of a module.
     pub fn new(alloc: Global, text: &'m ModuleText) -> Result<Scope<'m>, NoMemory>
-        ensures { IfOk result (λ scope. scope ≡ record { assignments = text.now.assignments; implicit = text.now.implicit }) }
+        ensures { IfOk result (λ scope. scope ≡ record {
+          assignments = text.now.assignments;
+          implicit = text.now.implicit;
+        }) }
     {
         let assignments = text.assignments.as_slice();
         let places = name_places(alloc, assignments)?;

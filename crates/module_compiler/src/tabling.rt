@@ -84,7 +84,8 @@ fn numbers(alloc: Global, assignments: &[Assignment]) -> Result<Vec<u32>, Halt>
 #[tactic(auto, unfolding(crate::specs::Tabling::number_by))]
 fn number_of(scope: &Scope<'_>, numbers: &[u32], sort: Sort, name: &Located) -> Result<u32, Halt>
     requires { numbers.now ≡ own_numbers 0 0 scope.now.assignments }
-    ensures { IfOk result (λ n. number_by (sort_test sort) scope.now.assignments name.now.text ≡ Some n) }
+    ensures { IfOk result (λ n. number_by (sort_test sort) scope.now.assignments name.now.text
+        ≡ Some n) }
 {
     let Some(place) = scope.find(&name.text) else {
         return Err(Halt::NoTables);
@@ -108,7 +109,8 @@ fn numbers_of(
     names: &[Located],
 ) -> Result<Indices, Halt>
     requires { numbers.now ≡ own_numbers 0 0 scope.now.assignments }
-    ensures { IfOk result (λ of. numbers_of (sort_test sort) scope.now.assignments [] names.now ≡ Some of) }
+    ensures { IfOk result (λ of. numbers_of (sort_test sort) scope.now.assignments [] names.now
+        ≡ Some of) }
 {
     let mut of = Indices::new(alloc);
     for name in names {
@@ -199,7 +201,8 @@ fn assign(
     assignment: &Assignment,
 ) -> Result<(), Halt>
     requires { numbers.now ≡ own_numbers 0 0 scope.now.assignments }
-    ensures { GivesMade result made.new numbering.new (assignment_of scope.now place made.old assignment.now numbering.old) }
+    ensures { GivesMade result made.new numbering.new
+        (assignment_of scope.now place made.old assignment.now numbering.old) }
 {
     match &assignment.body {
         Body::Typed(_) => {
@@ -227,7 +230,8 @@ fn assign_all(
     made: &mut Made,
 ) -> Result<(), Halt>
     requires { numbers.now ≡ own_numbers 0 0 scope.now.assignments }
-    ensures { GivesMade result made.new numbering.new (walk_all scope.now 0 made.old scope.now.assignments numbering.old) }
+    ensures { GivesMade result made.new numbering.new
+        (walk_all scope.now 0 made.old scope.now.assignments numbering.old) }
 {
     let mut rest = scope.assignments();
     let mut place: u32 = 0;

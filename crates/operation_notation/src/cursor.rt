@@ -42,7 +42,11 @@ impl<'t> Model for Cursor<'t> {
 /// The name that a word's octets are, at a place.
 fn located(alloc: Global, text: &[u8], place: Place) -> Result<Located, NoMemory>
     requires { IsTrue (is_word text.now) }
-    ensures { IfOk result (λ name. name ≡ record { text = text.now; line = place.line; column = place.column }) }
+    ensures { IfOk result (λ name. name ≡ record {
+      text = text.now;
+      line = place.line;
+      column = place.column;
+    }) }
 {
     let text = str::from_utf8(text).unwrap();
     Ok(Located {

@@ -19,5 +19,6 @@ pub fn module_or_fault()
 
 /// No text has two first faults: its place and its kind are one.
 pub fn one_fault()
-    ensures { (text : List ℕ) (f g : Faulty text) → faults.At f.line f.column f.kind ≡ faults.At g.line g.column g.kind }
+    ensures { (text : List ℕ) (f g : Faulty text) → faults.At f.line f.column f.kind
+        ≡ faults.At g.line g.column g.kind }
 {}

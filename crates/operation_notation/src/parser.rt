@@ -33,7 +33,8 @@ fn fault_of(lexed: &Lexed, cursor: &Cursor<'_>, kind: NotationKind) -> NotationF
 /// The module that the tokens of a text are.
 fn parse(alloc: Global, text: &[u8], lexed: &Lexed) -> Result<ModuleText, NotationFault>
     requires { AllByRecursion (IsSpan text.now (length text.now)) lexed.now.tokens }
-    ensures { Answers result (verdict lexed.now (whole_at narrow (lexemes text.now lexed.now.tokens))) }
+    ensures { Answers result (verdict lexed.now
+        (whole_at narrow (lexemes text.now lexed.now.tokens))) }
 {
     let mut cursor = Cursor::new(text, lexed.tokens.as_slice());
     match cursor.whole(alloc) {

@@ -154,7 +154,8 @@ impl<'t> Cursor<'t> {
     #[cycle(types)]
     #[tactic(auto, unfolding(crate::specs::ReadingTypes::sequence_at))]
     fn sequence(&mut self, alloc: Global, levels: u32) -> Result<PlainText, Refusal>
-        ensures gives { GivesAs plain_of result self.new (sequence_at (type_at narrow levels) self.old) }
+        ensures gives { GivesAs plain_of result self.new
+            (sequence_at (type_at narrow levels) self.old) }
         ensures takes { OnOk result (length self.new < length self.old) }
         ensures keeps { length self.new ≤ length self.old }
     {
@@ -192,7 +193,8 @@ impl<'t> Cursor<'t> {
     #[cycle(types)]
     #[tactic(auto, unfolding(crate::specs::ReadingTypes::choice_at))]
     fn choice(&mut self, alloc: Global, levels: u32) -> Result<PlainText, Refusal>
-        ensures gives { GivesAs plain_of result self.new (choice_at (type_at narrow levels) self.old) }
+        ensures gives { GivesAs plain_of result self.new
+            (choice_at (type_at narrow levels) self.old) }
         ensures takes { OnOk result (length self.new < length self.old) }
         ensures keeps { length self.new ≤ length self.old }
     {
@@ -205,7 +207,8 @@ impl<'t> Cursor<'t> {
     #[cycle(types)]
     #[tactic(auto, unfolding(crate::specs::ReadingTypes::plain_at))]
     fn plain(&mut self, alloc: Global, levels: u32) -> Result<PlainText, Refusal>
-        ensures gives { GivesAs plain_of result self.new (plain_at narrow (type_at narrow levels) self.old) }
+        ensures gives { GivesAs plain_of result self.new
+            (plain_at narrow (type_at narrow levels) self.old) }
         ensures takes { OnOk result (length self.new < length self.old) }
         ensures keeps { length self.new ≤ length self.old }
     {
@@ -224,7 +227,8 @@ impl<'t> Cursor<'t> {
     #[cycle(types)]
     #[tactic(auto, unfolding(crate::specs::ReadingTypes::type_text_at))]
     fn type_over(&mut self, alloc: Global, levels: u32) -> Result<TypeText, Refusal>
-        ensures gives { Gives result self.new (type_text_at narrow (type_at narrow levels) self.old) }
+        ensures gives { Gives result self.new
+            (type_text_at narrow (type_at narrow levels) self.old) }
         ensures takes { OnOk result (length self.new < length self.old) }
         ensures keeps { length self.new ≤ length self.old }
     {

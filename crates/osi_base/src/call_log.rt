@@ -30,7 +30,8 @@ impl Model for CallLog {
 
 /// Writes out the calls of `shut` that were only counted.
 fn write_shuts(calls: &mut Vec<LineCall>, shuts: &mut u64) -> Result<(), NoMemory>
-    ensures same { shut_after shuts.new (reverse calls.new.items) ≡ shut_after shuts.old (reverse calls.old.items) }
+    ensures same { shut_after shuts.new (reverse calls.new.items) ≡ shut_after shuts.old
+        (reverse calls.old.items) }
     ensures ok { OnOk result (shuts.new ≡ 0) }
 {
     while *shuts > 0 {
@@ -68,8 +69,10 @@ impl CallLog {
     /// calls stand in a row, the log is told no longer.
     #[tactic(auto, using(crate::proofs::Shuts::shuts_counted))]
     pub fn push_shut(&mut self)
-        ensures told { IfSome self.new (λ log. Some log ≡ logged (LineCall.Shut Outcome.Done) self.old) }
-        ensures kept { shuts_told self.old < last_count → self.new ≡ logged (LineCall.Shut Outcome.Done) self.old }
+        ensures told { IfSome self.new (λ log. Some log ≡ logged (LineCall.Shut Outcome.Done)
+            self.old) }
+        ensures kept { shuts_told self.old < last_count →
+            self.new ≡ logged (LineCall.Shut Outcome.Done) self.old }
     {
         match self.shuts.checked_add(1) {
             Some(shuts) => self.shuts = shuts,

@@ -42,7 +42,8 @@ impl FailingCalls {
         ensures numbers { self.new.numbers.items ≡ self.old.numbers.items }
         ensures made { self.new.made ≡ min (self.old.made + 1) last_count }
         ensures count { self.old.faults ≤ self.new.faults }
-        ensures faults { self.new.faults ≡ (if result then min (self.old.faults + 1) last_count else self.old.faults) }
+        ensures faults { self.new.faults
+            ≡ (if result then min (self.old.faults + 1) last_count else self.old.faults) }
     {
         let is_due = self.numbers.contains(&self.made);
         self.made = self.made.saturating_add(1);

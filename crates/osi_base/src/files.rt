@@ -69,20 +69,26 @@ pub trait Files {
         ensures kept { told self.new ≡ told self.old }
 
         // What is handed up
-        ensures contents { IfOk result (λ octets. IfSome (told self.old) (λ files. files name.now ≡ Some octets)) }
+        ensures contents { IfOk result (λ octets. IfSome (told self.old)
+            (λ files. files name.now ≡ Some octets)) }
         ensures bounded { IfOk result (λ octets. length octets ≤ file_most) }
-        ensures told_bounded { IfSome (told self.old) (λ files. IfSome (files name.now) (λ octets. length octets ≤ file_most)) }
+        ensures told_bounded { IfSome (told self.old)
+            (λ files. IfSome (files name.now) (λ octets. length octets ≤ file_most)) }
         ensures ok { OnOk result (faults self.new ≡ faults self.old) }
         ensures ok_asked { OnOk result (asked self.new ≡ logged name.now (asked self.old)) }
 
         // Reading failed
-        ensures failed { IsErrOf result FileFault.Failed → Rose (faults self.old) (faults self.new) }
-        ensures failed_asked { IsErrOf result FileFault.Failed → asked self.new ≡ logged name.now (asked self.old) }
+        ensures failed { IsErrOf result FileFault.Failed →
+            Rose (faults self.old) (faults self.new) }
+        ensures failed_asked { IsErrOf result FileFault.Failed →
+            asked self.new ≡ logged name.now (asked self.old) }
 
         // There is no such file
         ensures missing { IsErrOf result FileFault.Missing → Lacks (told self.old) name.now }
-        ensures missing_count { IsErrOf result FileFault.Missing → faults self.new ≡ faults self.old }
-        ensures missing_asked { IsErrOf result FileFault.Missing → asked self.new ≡ logged name.now (asked self.old) }
+        ensures missing_count { IsErrOf result FileFault.Missing →
+            faults self.new ≡ faults self.old }
+        ensures missing_asked { IsErrOf result FileFault.Missing →
+            asked self.new ≡ logged name.now (asked self.old) }
 
         // An allocation was refused
         ensures no_memory { IsErrOf result FileFault.NoMemory → faults self.new ≡ faults self.old }

@@ -87,13 +87,16 @@ pub trait Line {
     /// Calls for a connection to this host and port.
     fn open(&mut self, alloc: Global, host: &Name, port: u16) -> Result<(), LineFault>
         ensures count { faults self.old ≤ faults self.new }
-        ensures ok { OnOk result (told self.new ≡ logged (LineCall.Open host.now port Outcome.Done) (told self.old)) }
+        ensures ok { OnOk result (told self.new ≡ logged (LineCall.Open host.now port Outcome.Done)
+            (told self.old)) }
         ensures ok_count { OnOk result (faults self.new ≡ faults self.old) }
         ensures begins { OnOk result (octets_read self.new ≡ 0) }
 
         // The line failed
-        ensures failed { IsErrOf result LineFault.Failed → Rose (faults self.old) (faults self.new) }
-        ensures failed_log { IsErrOf result LineFault.Failed → told self.new ≡ logged (LineCall.Open host.now port Outcome.Failed) (told self.old) }
+        ensures failed { IsErrOf result LineFault.Failed →
+            Rose (faults self.old) (faults self.new) }
+        ensures failed_log { IsErrOf result LineFault.Failed →
+            told self.new ≡ logged (LineCall.Open host.now port Outcome.Failed) (told self.old) }
         ensures failed_begins { IsErrOf result LineFault.Failed → octets_read self.new ≡ 0 }
 
         // An allocation was refused
@@ -104,13 +107,16 @@ pub trait Line {
     /// Waits for a connection from a peer at this port.
     fn accept(&mut self, alloc: Global, port: u16) -> Result<(), LineFault>
         ensures count { faults self.old ≤ faults self.new }
-        ensures ok { OnOk result (told self.new ≡ logged (LineCall.Accept port Outcome.Done) (told self.old)) }
+        ensures ok { OnOk result (told self.new ≡ logged (LineCall.Accept port Outcome.Done)
+            (told self.old)) }
         ensures ok_count { OnOk result (faults self.new ≡ faults self.old) }
         ensures begins { OnOk result (octets_read self.new ≡ 0) }
 
         // The line failed
-        ensures failed { IsErrOf result LineFault.Failed → Rose (faults self.old) (faults self.new) }
-        ensures failed_log { IsErrOf result LineFault.Failed → told self.new ≡ logged (LineCall.Accept port Outcome.Failed) (told self.old) }
+        ensures failed { IsErrOf result LineFault.Failed →
+            Rose (faults self.old) (faults self.new) }
+        ensures failed_log { IsErrOf result LineFault.Failed →
+            told self.new ≡ logged (LineCall.Accept port Outcome.Failed) (told self.old) }
         ensures failed_begins { IsErrOf result LineFault.Failed → octets_read self.new ≡ 0 }
 
         // An allocation was refused
@@ -123,14 +129,18 @@ pub trait Line {
         requires { 0 < length room.old }
         ensures count { faults self.old ≤ faults self.new }
         ensures within { IfOk result (λ filled. filled ≤ length room.new) }
-        ensures ok { IfOk result (λ filled. told self.new ≡ logged (LineCall.Read (take filled room.new) Outcome.Done) (told self.old)) }
+        ensures ok { IfOk result (λ filled. told self.new
+            ≡ logged (LineCall.Read (take filled room.new) Outcome.Done) (told self.old)) }
         ensures ok_count { OnOk result (faults self.new ≡ faults self.old) }
-        ensures counts { IfOk result (λ filled. octets_read self.new ≡ counted (octets_read self.old) filled) }
+        ensures counts { IfOk result (λ filled. octets_read self.new
+            ≡ counted (octets_read self.old) filled) }
         ensures err { OnErr result (octets_read self.new ≡ octets_read self.old) }
 
         // The line failed
-        ensures failed { IsErrOf result LineFault.Failed → Rose (faults self.old) (faults self.new) }
-        ensures failed_log { IsErrOf result LineFault.Failed → told self.new ≡ logged (LineCall.Read [] Outcome.Failed) (told self.old) }
+        ensures failed { IsErrOf result LineFault.Failed →
+            Rose (faults self.old) (faults self.new) }
+        ensures failed_log { IsErrOf result LineFault.Failed →
+            told self.new ≡ logged (LineCall.Read [] Outcome.Failed) (told self.old) }
 
         // An allocation was refused
         ensures no_memory { IsErrOf result LineFault.NoMemory → faults self.new ≡ faults self.old }
@@ -142,13 +152,16 @@ pub trait Line {
         ensures count { faults self.old ≤ faults self.new }
         ensures within { IfOk result (λ taken. taken ≤ length bytes.now) }
         ensures some { IfOk result (λ taken. 0 < length bytes.now → 0 < taken) }
-        ensures ok { IfOk result (λ taken. told self.new ≡ logged (LineCall.Write (take taken bytes.now) Outcome.Done) (told self.old)) }
+        ensures ok { IfOk result (λ taken. told self.new
+            ≡ logged (LineCall.Write (take taken bytes.now) Outcome.Done) (told self.old)) }
         ensures ok_count { OnOk result (faults self.new ≡ faults self.old) }
         ensures read { octets_read self.new ≡ octets_read self.old }
 
         // The line failed
-        ensures failed { IsErrOf result LineFault.Failed → Rose (faults self.old) (faults self.new) }
-        ensures failed_log { IsErrOf result LineFault.Failed → told self.new ≡ logged (LineCall.Write [] Outcome.Failed) (told self.old) }
+        ensures failed { IsErrOf result LineFault.Failed →
+            Rose (faults self.old) (faults self.new) }
+        ensures failed_log { IsErrOf result LineFault.Failed →
+            told self.new ≡ logged (LineCall.Write [] Outcome.Failed) (told self.old) }
 
         // An allocation was refused
         ensures no_memory { IsErrOf result LineFault.NoMemory → faults self.new ≡ faults self.old }
@@ -157,7 +170,8 @@ pub trait Line {
     /// Shuts the connection.
     fn shut(&mut self) -> Result<(), Failed>
         ensures count { faults self.old ≤ faults self.new }
-        ensures ok { OnOk result (IfSome (told self.new) (λ log. Some log ≡ logged (LineCall.Shut Outcome.Done) (told self.old))) }
+        ensures ok { OnOk result (IfSome (told self.new)
+            (λ log. Some log ≡ logged (LineCall.Shut Outcome.Done) (told self.old))) }
         ensures ok_count { OnOk result (faults self.new ≡ faults self.old) }
         ensures read { octets_read self.new ≡ octets_read self.old }
         ensures failed { OnErr result (Rose (faults self.old) (faults self.new)) }

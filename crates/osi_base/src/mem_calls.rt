@@ -46,7 +46,8 @@ impl MemLine {
     /// What of the present peer's octets is read into this room.
     fn due(&self, room: usize) -> &[u8]
         ensures due { result.now ≡ due_in self.now room }
-        ensures within { self.now.octets_read + length (due_in self.now room) ≤ length self.now.said }
+        ensures within { self.now.octets_read + length (due_in self.now room) ≤ length
+            self.now.said }
         ensures fits { length self.now.said < 2 ^ 64 }
     {
         let left = &self.said.as_slice()[self.octets_read..];
@@ -71,8 +72,10 @@ impl Line for MemLine {
         ensures no_memory { IsErrOf result LineFault.NoMemory → StaysAsItWas self.old self.new }
 
         // What stands in the log
-        ensures ok_log { OnOk result (self.new.log ≡ logged (LineCall.Open host.now port Outcome.Done) self.old.log) }
-        ensures failed_log { IsErrOf result LineFault.Failed → self.new.log ≡ logged (LineCall.Open host.now port Outcome.Failed) self.old.log }
+        ensures ok_log { OnOk result (self.new.log
+            ≡ logged (LineCall.Open host.now port Outcome.Done) self.old.log) }
+        ensures failed_log { IsErrOf result LineFault.Failed →
+            self.new.log ≡ logged (LineCall.Open host.now port Outcome.Failed) self.old.log }
     {
         let outcome = self.failing.next_outcome();
         let call = LineCall::Open(host.copy(alloc)?, port, outcome);
@@ -90,8 +93,10 @@ impl Line for MemLine {
         ensures no_memory { IsErrOf result LineFault.NoMemory → StaysAsItWas self.old self.new }
 
         // What stands in the log
-        ensures ok_log { OnOk result (self.new.log ≡ logged (LineCall.Accept port Outcome.Done) self.old.log) }
-        ensures failed_log { IsErrOf result LineFault.Failed → self.new.log ≡ logged (LineCall.Accept port Outcome.Failed) self.old.log }
+        ensures ok_log { OnOk result (self.new.log ≡ logged (LineCall.Accept port Outcome.Done)
+            self.old.log) }
+        ensures failed_log { IsErrOf result LineFault.Failed →
+            self.new.log ≡ logged (LineCall.Accept port Outcome.Failed) self.old.log }
     {
         let outcome = self.failing.next_outcome();
         self.log.push(LineCall::Accept(port, outcome))?;
@@ -105,14 +110,19 @@ impl Line for MemLine {
         // It fails exactly where it is to
         ensures reads { IfOk result (λ filled. ReadsOn self.old self.new filled) }
         ensures within { IfOk result (λ filled. filled ≤ length room.new) }
-        ensures counts { IfOk result (λ filled. self.new.octets_read ≡ counted self.old.octets_read filled) }
-        ensures filled { IfOk result (λ filled. take filled room.new ≡ due_in self.old (length room.old)) }
+        ensures counts { IfOk result (λ filled. self.new.octets_read ≡ counted self.old.octets_read
+            filled) }
+        ensures filled { IfOk result (λ filled. take filled room.new ≡ due_in self.old
+            (length room.old)) }
         ensures failed { IsErrOf result LineFault.Failed → KeepsFailed self.old self.new }
         ensures no_memory { IsErrOf result LineFault.NoMemory → StaysAsItWas self.old self.new }
 
         // What stands in the log
-        ensures ok_log { OnOk result (self.new.log ≡ logged (LineCall.Read (due_in self.old (length room.old)) Outcome.Done) self.old.log) }
-        ensures failed_log { IsErrOf result LineFault.Failed → self.new.log ≡ logged (LineCall.Read [] Outcome.Failed) self.old.log }
+        ensures ok_log { OnOk result (self.new.log
+            ≡ logged (LineCall.Read (due_in self.old (length room.old)) Outcome.Done)
+            self.old.log) }
+        ensures failed_log { IsErrOf result LineFault.Failed →
+            self.new.log ≡ logged (LineCall.Read [] Outcome.Failed) self.old.log }
     {
         let outcome = self.failing.next_outcome();
         let octets = match outcome {
@@ -143,8 +153,10 @@ impl Line for MemLine {
         ensures no_memory { IsErrOf result LineFault.NoMemory → StaysAsItWas self.old self.new }
 
         // What stands in the log
-        ensures ok_log { IfOk result (λ taken. self.new.log ≡ logged (LineCall.Write (take taken bytes.now) Outcome.Done) self.old.log) }
-        ensures failed_log { IsErrOf result LineFault.Failed → self.new.log ≡ logged (LineCall.Write [] Outcome.Failed) self.old.log }
+        ensures ok_log { IfOk result (λ taken. self.new.log
+            ≡ logged (LineCall.Write (take taken bytes.now) Outcome.Done) self.old.log) }
+        ensures failed_log { IsErrOf result LineFault.Failed →
+            self.new.log ≡ logged (LineCall.Write [] Outcome.Failed) self.old.log }
     {
         let outcome = self.failing.next_outcome();
         let taken = match outcome {
@@ -169,9 +181,13 @@ impl Line for MemLine {
         ensures failed { OnErr result (KeepsFailed self.old self.new) }
 
         // What stands in the log
-        ensures ok_log { OnOk result (IfSome self.new.log (λ log. Some log ≡ logged (LineCall.Shut Outcome.Done) self.old.log)) }
-        ensures kept { OnOk result (shuts_told self.old.log < last_count → self.new.log ≡ logged (LineCall.Shut Outcome.Done) self.old.log) }
-        ensures failed_log { OnErr result (IfSome self.new.log (λ log. Some log ≡ logged (LineCall.Shut Outcome.Failed) self.old.log)) }
+        ensures ok_log { OnOk result (IfSome self.new.log
+            (λ log. Some log ≡ logged (LineCall.Shut Outcome.Done) self.old.log)) }
+        ensures kept { OnOk result (shuts_told self.old.log < last_count →
+            self.new.log ≡ logged (LineCall.Shut Outcome.Done) self.old.log) }
+        ensures failed_log { OnErr result
+            (IfSome self.new.log (λ log. Some log ≡ logged (LineCall.Shut Outcome.Failed)
+            self.old.log)) }
     {
         if !self.failing.is_next() {
             self.log.push_shut();

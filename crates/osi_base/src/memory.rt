@@ -91,7 +91,8 @@ fn cut(contents: &[u8]) -> &[u8]
 #[tactic(auto, using(crate::proofs::Contents::contents_in_bounded))]
 fn read_in(files: &[MemFile], alloc: Global, name: &Name) -> Result<Octets, FileFault>
     ensures contents { IfOk result (λ octets. contents_in files.now name.now ≡ Some octets) }
-    ensures bounded { IfSome (contents_in files.now name.now) (λ octets. length octets ≤ file_most) }
+    ensures bounded { IfSome (contents_in files.now name.now)
+        (λ octets. length octets ≤ file_most) }
     ensures missing { IsErrOf result FileFault.Missing → contents_in files.now name.now ≡ None }
     ensures never_failed { ¬ (IsErrOf result FileFault.Failed) }
 {
@@ -113,23 +114,31 @@ impl Files for MemFiles {
         ensures count { self.old.failing.faults ≤ self.new.failing.faults }
         ensures files { self.new.files ≡ self.old.files }
         ensures asked { OnOk result (self.new.asked.items ≡ self.old.asked.items ++ name.now ∷ []) }
-        ensures contents { IfOk result (λ octets. contents_in self.old.files name.now ≡ Some octets) }
+        ensures contents { IfOk result (λ octets. contents_in self.old.files name.now
+            ≡ Some octets) }
         ensures bounded { IfOk result (λ octets. length octets ≤ file_most) }
-        ensures told_bounded { IfSome (contents_in self.old.files name.now) (λ octets. length octets ≤ file_most) }
+        ensures told_bounded { IfSome (contents_in self.old.files name.now)
+            (λ octets. length octets ≤ file_most) }
 
         // It fails exactly where it is to
         ensures ok { OnOk result (Passes self.old.failing self.new.failing) }
         ensures failed { IsErrOf result FileFault.Failed → Fails self.old.failing self.new.failing }
-        ensures failed_asked { IsErrOf result FileFault.Failed → self.new.asked.items ≡ self.old.asked.items ++ name.now ∷ [] }
+        ensures failed_asked { IsErrOf result FileFault.Failed → self.new.asked.items
+            ≡ self.old.asked.items ++ name.now ∷ [] }
 
         // There is no such file
-        ensures missing { IsErrOf result FileFault.Missing → contents_in self.old.files name.now ≡ None }
-        ensures missing_passes { IsErrOf result FileFault.Missing → Passes self.old.failing self.new.failing }
-        ensures missing_asked { IsErrOf result FileFault.Missing → self.new.asked.items ≡ self.old.asked.items ++ name.now ∷ [] }
+        ensures missing { IsErrOf result FileFault.Missing → contents_in self.old.files name.now
+            ≡ None }
+        ensures missing_passes { IsErrOf result FileFault.Missing →
+            Passes self.old.failing self.new.failing }
+        ensures missing_asked { IsErrOf result FileFault.Missing → self.new.asked.items
+            ≡ self.old.asked.items ++ name.now ∷ [] }
 
         // An allocation was refused
-        ensures no_memory { IsErrOf result FileFault.NoMemory → self.new.failing ≡ self.old.failing }
-        ensures no_memory_asked { IsErrOf result FileFault.NoMemory → self.new.asked.items ≡ self.old.asked.items }
+        ensures no_memory { IsErrOf result FileFault.NoMemory →
+            self.new.failing ≡ self.old.failing }
+        ensures no_memory_asked { IsErrOf result FileFault.NoMemory → self.new.asked.items
+            ≡ self.old.asked.items }
     {
         let title = name.copy(alloc)?;
         self.asked.reserve(1)?;
@@ -216,7 +225,8 @@ impl Sink for MemSink {
 
     fn write(&mut self, bytes: &[u8]) -> Result<usize, SinkFault>
         ensures count { self.old.failing.faults ≤ self.new.failing.faults }
-        ensures ok { IfOk result (λ taken. self.new.written ≡ self.old.written ++ take taken bytes.now) }
+        ensures ok { IfOk result (λ taken. self.new.written ≡ self.old.written
+            ++ take taken bytes.now) }
         ensures taken { IfOk result (λ taken. taken ≡ min self.old.most (length bytes.now)) }
         ensures most { self.new.most ≡ self.old.most }
         ensures err { OnErr result (self.new.written ≡ self.old.written) }
@@ -224,7 +234,8 @@ impl Sink for MemSink {
         // It fails exactly where it is to
         ensures passes { OnOk result (Passes self.old.failing self.new.failing) }
         ensures failed { IsErrOf result SinkFault.Failed → Fails self.old.failing self.new.failing }
-        ensures no_memory { IsErrOf result SinkFault.NoMemory → self.new.failing ≡ self.old.failing }
+        ensures no_memory { IsErrOf result SinkFault.NoMemory →
+            self.new.failing ≡ self.old.failing }
     {
         let outcome = self.failing.next_outcome();
         let taken = match outcome {

@@ -30,7 +30,8 @@ pub struct StdSink<R> {
 
 /// Reads a file to its end, or as many of its octets as are handed up.
 fn read_whole<T: Read>(alloc: Global, file: &mut T) -> Result<Octets, FileFault>
-    ensures whole { IfOk result (λ octets. IfSome (T.remaining file.old) (λ contents. octets ≡ take file_most contents)) }
+    ensures whole { IfOk result (λ octets. IfSome (T.remaining file.old)
+        (λ contents. octets ≡ take file_most contents)) }
     ensures bounded { IfOk result (λ octets. length octets ≤ file_most) }
     ensures found { ¬ (IsErrOf result FileFault.Missing) }
 {

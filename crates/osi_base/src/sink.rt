@@ -49,12 +49,14 @@ pub trait Sink {
         // What is written
         ensures within { IfOk result (λ taken. taken ≤ length bytes.now) }
         ensures some { IfOk result (λ taken. 0 < length bytes.now → 0 < taken) }
-        ensures ok { IfOk result (λ taken. told self.new ≡ grown (told self.old) (take taken bytes.now)) }
+        ensures ok { IfOk result (λ taken. told self.new ≡ grown (told self.old)
+            (take taken bytes.now)) }
         ensures ok_count { OnOk result (faults self.new ≡ faults self.old) }
         ensures err { OnErr result (told self.new ≡ told self.old) }
 
         // Why nothing is
-        ensures failed { IsErrOf result SinkFault.Failed → Rose (faults self.old) (faults self.new) }
+        ensures failed { IsErrOf result SinkFault.Failed →
+            Rose (faults self.old) (faults self.new) }
         ensures no_memory { IsErrOf result SinkFault.NoMemory → faults self.new ≡ faults self.old };
 }
 

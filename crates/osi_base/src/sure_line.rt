@@ -73,8 +73,10 @@ impl Line for SureLine {
 
     fn shut(&mut self) -> Result<(), Failed>
         ensures done { IsOk result }
-        ensures log { IfSome self.new (λ log. Some log ≡ logged (LineCall.Shut Outcome.Done) self.old) }
-        ensures kept { shuts_told self.old < last_count → self.new ≡ logged (LineCall.Shut Outcome.Done) self.old }
+        ensures log { IfSome self.new (λ log. Some log ≡ logged (LineCall.Shut Outcome.Done)
+            self.old) }
+        ensures kept { shuts_told self.old < last_count →
+            self.new ≡ logged (LineCall.Shut Outcome.Done) self.old }
     {
         self.log.push_shut();
         Ok(())

@@ -108,7 +108,10 @@ pub fn done(text: Octets) -> Answer
 /// Writes the text of an answer, where memory sufficed to make one.
 pub fn conclude<O: Sink>(out: &mut O, answer: Result<Answer, NoMemory>) -> Status
     ensures count { O.faults out.old ≤ O.faults out.new }
-    ensures ends { MatchResult answer (λ made. Ends (O.faults out.old) (O.faults out.new) (O.told out.old) (O.told out.new) made result) (λ _. (result ≡ no_room) × (O.faults out.new ≡ O.faults out.old) × (O.told out.new ≡ O.told out.old)) }
+    ensures ends { MatchResult answer (λ made. Ends (O.faults out.old) (O.faults out.new)
+        (O.told out.old) (O.told out.new) made result)
+        (λ _. (result ≡ no_room) × (O.faults out.new ≡ O.faults out.old) ×
+        (O.told out.new ≡ O.told out.old)) }
 {
     match answer {
         Ok(answer) => finish(out, answer),
@@ -120,7 +123,8 @@ pub fn conclude<O: Sink>(out: &mut O, answer: Result<Answer, NoMemory>) -> Statu
 /// of the write.
 pub fn finish<O: Sink>(out: &mut O, answer: Answer) -> Status
     ensures count { O.faults out.old ≤ O.faults out.new }
-    ensures ends { Ends (O.faults out.old) (O.faults out.new) (O.told out.old) (O.told out.new) answer result }
+    ensures ends { Ends (O.faults out.old) (O.faults out.new) (O.told out.old) (O.told out.new)
+        answer result }
 {
     let Answer { status, text } = answer;
     match write_all(out, text.as_slice()) {

@@ -23,7 +23,8 @@ pub enum Arguments {
 
 /// The arguments but the first, as words.
 fn words_of(alloc: Global, arguments: &[String]) -> Result<Words, NoMemory>
-    ensures { IfOk result (λ words. words ≡ map (λ argument. string_bytes argument) (drop 1 arguments.now)) }
+    ensures { IfOk result (λ words. words ≡ map (λ argument. string_bytes argument)
+        (drop 1 arguments.now)) }
 {
     let [_, given @ ..] = arguments else {
         return Ok(Words::new(alloc));
@@ -55,7 +56,9 @@ pub fn run_process<F: Files, O: Sink, L: Line>(
     out: &mut O,
     line: &mut L,
 ) -> u8
-    ensures exits { Exits (F.told files.old) (F.faults files.old) (F.faults files.new) (words_given arguments) (O.faults out.old) (O.faults out.new) (O.told out.old) (O.told out.new) result }
+    ensures exits { Exits (F.told files.old) (F.faults files.old) (F.faults files.new)
+        (words_given arguments) (O.faults out.old) (O.faults out.new) (O.told out.old)
+        (O.told out.new) result }
     ensures asked { Asks (F.told files.old) (F.faults files.old) (F.faults files.new)
         (command_of (words_given arguments)) (F.asked files.old) (F.asked files.new) }
 {

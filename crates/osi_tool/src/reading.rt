@@ -29,8 +29,10 @@ pub fn read_file<F: Files>(
 ) -> Result<Option<Octets>, NoMemory>
     ensures count { F.faults files.old ≤ F.faults files.new }
     ensures kept { F.told files.new ≡ F.told files.old }
-    ensures read { IfOk result (λ octets. WasRead (F.told files.old) (F.faults files.old) (F.faults files.new) name.now octets) }
-    ensures ok_count { IfOk result (λ octets. KeepsCountAt (F.faults files.old) (F.faults files.new) octets) }
+    ensures read { IfOk result (λ octets. WasRead (F.told files.old) (F.faults files.old)
+        (F.faults files.new) name.now octets) }
+    ensures ok_count { IfOk result (λ octets. KeepsCountAt (F.faults files.old) (F.faults files.new)
+        octets) }
     ensures ok_asked { OnOk result (F.asked files.new ≡ logged name.now (F.asked files.old)) }
     ensures err_count { OnErr result (F.faults files.new ≡ F.faults files.old) }
     ensures err_asked { OnErr result (F.asked files.new ≡ F.asked files.old) }

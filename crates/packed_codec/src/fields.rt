@@ -40,7 +40,8 @@ pub(crate) fn announced<'a>(
     spot: Spot<'a>,
 ) -> Result<(&'a [u8], Spot<'a>), PackedFault>
     requires { spot.place + length spot.rest.now < 2 ^ 63 }
-    ensures gives { Gives (λ x. (x.0.now, spot_of x.1)) result (announced_at limit place allowed size (spot_of spot.entry)) }
+    ensures gives { Gives (λ x. (x.0.now, spot_of x.1)) result
+        (announced_at limit place allowed size (spot_of spot.entry)) }
     ensures stops { IfOk result (λ x. GoesOn spot.entry.place (length spot.entry.rest.now) x.1) }
     ensures size { IfOk result (λ x. length x.0.now ≡ size) }
 {
@@ -64,7 +65,8 @@ pub(crate) fn announced<'a>(
 #[tactic(auto, unfolding(crate::specs::Fields::field_at))]
 fn field<'a>(limit: u32, size: u32, spot: Spot<'a>) -> Result<(&'a [u8], Spot<'a>), PackedFault>
     requires { spot.place + length spot.rest.now < 2 ^ 63 }
-    ensures gives { Gives (λ x. (x.0.now, spot_of x.1)) result (field_at limit size (spot_of spot.entry)) }
+    ensures gives { Gives (λ x. (x.0.now, spot_of x.1)) result
+        (field_at limit size (spot_of spot.entry)) }
     ensures stops { IfOk result (λ x. GoesOn spot.entry.place (length spot.entry.rest.now) x.1) }
     ensures size { IfOk result (λ x. length x.0.now ≡ size) }
 {

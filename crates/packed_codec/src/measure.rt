@@ -141,7 +141,8 @@ fn of_row(table: &TypeTable, of: TypeId, row: &TypeRow, value: &Val) -> u64
 #[cycle(measuring)]
 fn of_choice(table: &TypeTable, of: TypeId, alternatives: &Parts, value: &Val) -> u64
     requires below { AllByRecursion (λ m. m < of.0) (rows_of_parts alternatives.now) }
-    ensures { result ≡ min (length (choice_written (packed table.now) alternatives.now value.now)) last_count }
+    ensures { result ≡ min (length (choice_written (packed table.now) alternatives.now value.now))
+        last_count }
 {
     match &value.node {
         Node::Chosen { which, value } => match alternatives.get(*which as usize) {
@@ -155,7 +156,8 @@ fn of_choice(table: &TypeTable, of: TypeId, alternatives: &Parts, value: &Val) -
 #[cycle(measuring)]
 fn of_sequence(table: &TypeTable, of: TypeId, parts: &Parts, value: &Val) -> u64
     requires below { AllByRecursion (λ m. m < of.0) (rows_of_parts parts.now) }
-    ensures { result ≡ min (length (sequence_written (packed table.now) parts.now value.now)) last_count }
+    ensures { result ≡ min (length (sequence_written (packed table.now) parts.now value.now))
+        last_count }
 {
     match &value.node {
         Node::Parts(values) => of_parts(table, of, parts.as_slice(), values),
@@ -166,7 +168,8 @@ fn of_sequence(table: &TypeTable, of: TypeId, parts: &Parts, value: &Val) -> u64
 #[cycle(measuring)]
 fn of_parts(table: &TypeTable, of: TypeId, parts: &[Part], values: &[Option<Val>]) -> u64
     requires below { AllByRecursion (λ m. m < of.0) (rows_of_parts parts.now) }
-    ensures { result ≡ min (length (parts_written (packed table.now) parts.now (parts_of values.now))) last_count }
+    ensures { result ≡ min (length (parts_written (packed table.now) parts.now
+        (parts_of values.now))) last_count }
 {
     let count = parts.len().min(values.len());
     let mut size: u64 = 0;
@@ -179,7 +182,8 @@ fn of_parts(table: &TypeTable, of: TypeId, parts: &[Part], values: &[Option<Val>
 #[cycle(measuring)]
 fn of_part(table: &TypeTable, of: TypeId, part: &Part, value: &Option<Val>) -> u64
     requires below { part.now.inner.0 < of.0 }
-    ensures { result ≡ min (length (part_written (packed table.now) part.now value.now)) last_count }
+    ensures { result ≡ min (length (part_written (packed table.now) part.now value.now))
+        last_count }
 {
     let mark = if may_be_absent(part) { 1 } else { 0 };
     match value {
@@ -202,7 +206,8 @@ fn of_list(table: &TypeTable, of: TypeId, inner: TypeId, value: &Val) -> u64
 #[cycle(measuring)]
 fn of_items(table: &TypeTable, of: TypeId, inner: TypeId, values: &[Val]) -> u64
     requires below { inner.0 < of.0 }
-    ensures { result ≡ min (length (values_written (packed table.now inner.0) (values_of values.now))) last_count }
+    ensures { result ≡ min (length (values_written (packed table.now inner.0)
+        (values_of values.now))) last_count }
 {
     let mut size: u64 = 0;
     for value in values {

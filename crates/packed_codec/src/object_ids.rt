@@ -26,7 +26,8 @@ fn first_arc(number: u64) -> u64
 /// Puts the arcs that the next subidentifier stands for at the end. The answer is false where they
 /// are too many or one has more than 32 bits.
 fn push_arcs(arcs: &mut Vec<u32>, number: u64) -> Result<bool, NoMemory>
-    ensures { IfOk result (λ put. MatchBool put (arcs.new.items ≡ joined arcs.old.items number) (IsNoEnd (joined arcs.old.items number))) }
+    ensures { IfOk result (λ put. MatchBool put (arcs.new.items ≡ joined arcs.old.items number)
+        (IsNoEnd (joined arcs.old.items number))) }
 {
     let mut last = number;
     if arcs.is_empty() {

@@ -37,11 +37,14 @@ pub fn packed_read(
 ) -> Result<Read, PackedFault>
     requires { of.0 < length table.now }
     // What is read is spelled by the octets used.
-    ensures found { IfOk result (λ r. (r.used ≤ length bytes.now) × Packed table.now of.0 most_octets r.value (take r.used bytes.now)) }
+    ensures found { IfOk result (λ r. (r.used ≤ length bytes.now) × Packed table.now of.0
+        most_octets r.value (take r.used bytes.now)) }
     // What the octets spell is read, unless memory is refused.
-    ensures only { (v : tree.Value) (n : ℕ) → n ≤ length bytes.now → Packed table.now of.0 most_octets v (take n bytes.now) → IsRead result v n }
+    ensures only { (v : tree.Value) (n : ℕ) → n ≤ length bytes.now →
+        Packed table.now of.0 most_octets v (take n bytes.now) → IsRead result v n }
     // The fault is the first from the left.
-    ensures exact { Gives (λ r. (r.value, r.used)) result (read_at table.now of.0 most_octets bytes.now) }
+    ensures exact { Gives (λ r. (r.value, r.used)) result
+        (read_at table.now of.0 most_octets bytes.now) }
 {
     read_whole(alloc, table, of, bytes, LIMIT)
 }
@@ -55,8 +58,10 @@ pub fn packed_read_within(
     most: u32,
 ) -> Result<Read, PackedFault>
     requires { of.0 < length table.now }
-    ensures found { IfOk result (λ r. (r.used ≤ length bytes.now) × Packed table.now of.0 most r.value (take r.used bytes.now)) }
-    ensures only { (v : tree.Value) (n : ℕ) → n ≤ length bytes.now → Packed table.now of.0 most v (take n bytes.now) → IsRead result v n }
+    ensures found { IfOk result (λ r. (r.used ≤ length bytes.now) × Packed table.now of.0 most
+        r.value (take r.used bytes.now)) }
+    ensures only { (v : tree.Value) (n : ℕ) → n ≤ length bytes.now →
+        Packed table.now of.0 most v (take n bytes.now) → IsRead result v n }
     ensures exact { Gives (λ r. (r.value, r.used)) result (read_at table.now of.0 most bytes.now) }
 {
     read_whole(alloc, table, of, bytes, most)
@@ -93,8 +98,10 @@ fn read_whole(
     limit: u32,
 ) -> Result<Read, PackedFault>
     requires { of.0 < length table.now }
-    ensures found { IfOk result (λ r. (r.used ≤ length bytes.now) × Packed table.now of.0 limit r.value (take r.used bytes.now)) }
-    ensures only { (v : tree.Value) (n : ℕ) → n ≤ length bytes.now → Packed table.now of.0 limit v (take n bytes.now) → IsRead result v n }
+    ensures found { IfOk result (λ r. (r.used ≤ length bytes.now) × Packed table.now of.0 limit
+        r.value (take r.used bytes.now)) }
+    ensures only { (v : tree.Value) (n : ℕ) → n ≤ length bytes.now →
+        Packed table.now of.0 limit v (take n bytes.now) → IsRead result v n }
     ensures exact { Gives (λ r. (r.value, r.used)) result (read_at table.now of.0 limit bytes.now) }
 {
     read_all(alloc, table, of, bytes, limit)

@@ -33,7 +33,8 @@ pub(crate) fn value<'a>(
 ) -> Result<(Val, Spot<'a>), PackedFault>
     requires row { of.0 < length table.now }
     requires whole { spot.place + length spot.rest.now < 2 ^ 63 }
-    ensures gives { Gives (λ x. (x.0, spot_of x.1)) result (reads table.now of.0 limit (spot_of spot.entry)) }
+    ensures gives { Gives (λ x. (x.0, spot_of x.1)) result
+        (reads table.now of.0 limit (spot_of spot.entry)) }
     ensures stops { IfOk result (λ x. GoesOn spot.entry.place (length spot.entry.rest.now) x.1) }
 {
     value_as(alloc, table, of, table.row(of), limit, spot)
@@ -51,7 +52,8 @@ fn value_as<'a>(
     requires row { slice_get table.now of.0 ≡ Some row.now }
     requires sound { IsSound table.now }
     requires whole { spot.place + length spot.rest.now < 2 ^ 63 }
-    ensures gives { Gives (λ x. (x.0, spot_of x.1)) result (read_by (written table.now) (reads table.now) row.now limit (spot_of spot.entry)) }
+    ensures gives { Gives (λ x. (x.0, spot_of x.1)) result
+        (read_by (written table.now) (reads table.now) row.now limit (spot_of spot.entry)) }
     ensures stops { IfOk result (λ x. GoesOn spot.entry.place (length spot.entry.rest.now) x.1) }
 {
     match row {
@@ -86,7 +88,8 @@ fn tagged<'a>(
     requires below { inner.0 < of.0 }
     requires row { of.0 ≤ length table.now }
     requires whole { spot.place + length spot.rest.now < 2 ^ 63 }
-    ensures gives { Gives (λ x. (x.0, spot_of x.1)) result (reads table.now inner.0 limit (spot_of spot.entry)) }
+    ensures gives { Gives (λ x. (x.0, spot_of x.1)) result
+        (reads table.now inner.0 limit (spot_of spot.entry)) }
     ensures stops { IfOk result (λ x. GoesOn spot.entry.place (length spot.entry.rest.now) x.1) }
 {
     value(alloc, table, inner, limit, spot)
@@ -106,7 +109,8 @@ fn choice<'a>(
     requires below { AllByRecursion (λ m. m < of.0) (rows_of_parts alternatives.now) }
     requires row { of.0 ≤ length table.now }
     requires whole { spot.place + length spot.rest.now < 2 ^ 63 }
-    ensures gives { Gives (λ x. (x.0, spot_of x.1)) result (choice_at (reads table.now) alternatives.now limit (spot_of spot.entry)) }
+    ensures gives { Gives (λ x. (x.0, spot_of x.1)) result
+        (choice_at (reads table.now) alternatives.now limit (spot_of spot.entry)) }
     ensures stops { IfOk result (λ x. GoesOn spot.entry.place (length spot.entry.rest.now) x.1) }
 {
     let (which, behind) = octet(limit, spot)?;
@@ -134,7 +138,8 @@ fn sequence<'a>(
     requires below { AllByRecursion (λ m. m < of.0) (rows_of_parts parts.now) }
     requires row { of.0 ≤ length table.now }
     requires whole { spot.place + length spot.rest.now < 2 ^ 63 }
-    ensures gives { Gives (λ x. (x.0, spot_of x.1)) result (sequence_at (reads table.now) parts.now limit (spot_of spot.entry)) }
+    ensures gives { Gives (λ x. (x.0, spot_of x.1)) result
+        (sequence_at (reads table.now) parts.now limit (spot_of spot.entry)) }
     ensures stops { IfOk result (λ x. GoesOn spot.entry.place (length spot.entry.rest.now) x.1) }
 {
     let (found, after) = parts_of(alloc, table, of, parts.as_slice(), limit, spot)?;
@@ -160,7 +165,8 @@ fn parts_of<'a>(
     requires below { AllByRecursion (λ m. m < of.0) (rows_of_parts parts.now) }
     requires row { of.0 ≤ length table.now }
     requires whole { spot.place + length spot.rest.now < 2 ^ 63 }
-    ensures gives { Gives (λ x. (x.0.items, spot_of x.1)) result (parts_at (reads table.now) limit (spot_of spot.entry) parts.now) }
+    ensures gives { Gives (λ x. (x.0.items, spot_of x.1)) result
+        (parts_at (reads table.now) limit (spot_of spot.entry) parts.now) }
     ensures stops { IfOk result (λ x. GoesOn spot.entry.place (length spot.entry.rest.now) x.1) }
 {
     let mut found = Vec::new(alloc);
@@ -200,7 +206,8 @@ fn part_of<'a>(
     requires below { part.now.inner.0 < of.0 }
     requires row { of.0 ≤ length table.now }
     requires whole { spot.place + length spot.rest.now < 2 ^ 63 }
-    ensures gives { Gives (λ x. (x.0, spot_of x.1)) result (part_at (reads table.now part.now.inner.0) part.now limit (spot_of spot.entry)) }
+    ensures gives { Gives (λ x. (x.0, spot_of x.1)) result
+        (part_at (reads table.now part.now.inner.0) part.now limit (spot_of spot.entry)) }
     ensures stops { IfOk result (λ x. GoesOn spot.entry.place (length spot.entry.rest.now) x.1) }
 {
     let mut behind = spot;
@@ -233,7 +240,8 @@ fn list<'a>(
     requires below { inner.0 < of.0 }
     requires row { of.0 ≤ length table.now }
     requires whole { spot.place + length spot.rest.now < 2 ^ 63 }
-    ensures gives { Gives (λ x. (x.0, spot_of x.1)) result (list_at (reads table.now inner.0) limit (spot_of spot.entry)) }
+    ensures gives { Gives (λ x. (x.0, spot_of x.1)) result
+        (list_at (reads table.now inner.0) limit (spot_of spot.entry)) }
     ensures stops { IfOk result (λ x. GoesOn spot.entry.place (length spot.entry.rest.now) x.1) }
 {
     let (number, behind) = count(limit, spot)?;
@@ -269,7 +277,8 @@ fn items_of<'a>(
     requires below { inner.0 < of.0 }
     requires row { of.0 ≤ length table.now }
     requires whole { spot.place + length spot.rest.now < 2 ^ 63 }
-    ensures gives { Gives (λ x. (x.0.items, spot_of x.1)) result (items_at (reads table.now inner.0) number limit (spot_of spot.entry)) }
+    ensures gives { Gives (λ x. (x.0.items, spot_of x.1)) result
+        (items_at (reads table.now inner.0) number limit (spot_of spot.entry)) }
     ensures stops { IfOk result (λ x. GoesOn spot.entry.place (length spot.entry.rest.now) x.1) }
 {
     let mut found = Vec::new(alloc);
@@ -296,7 +305,9 @@ fn set_of<'a>(
     requires below { inner.0 < of.0 }
     requires row { of.0 ≤ length table.now }
     requires whole { spot.place + length spot.rest.now < 2 ^ 63 }
-    ensures gives { Gives (λ x. (x.0, spot_of x.1)) result (set_of_at (written table.now inner.0) (reads table.now inner.0) limit (spot_of spot.entry)) }
+    ensures gives { Gives (λ x. (x.0, spot_of x.1)) result
+        (set_of_at (written table.now inner.0) (reads table.now inner.0) limit
+        (spot_of spot.entry)) }
     ensures stops { IfOk result (λ x. GoesOn spot.entry.place (length spot.entry.rest.now) x.1) }
 {
     let (number, ahead) = count(limit, spot)?;
@@ -332,7 +343,9 @@ fn set_items<'a>(
     requires below { inner.0 < of.0 }
     requires row { of.0 ≤ length table.now }
     requires whole { spot.place + length spot.rest.now < 2 ^ 63 }
-    ensures gives { Gives (λ x. (x.0.items, spot_of x.1)) result (set_items_at (set_item_at (written table.now inner.0) (reads table.now inner.0)) [] number limit (spot_of spot.entry)) }
+    ensures gives { Gives (λ x. (x.0.items, spot_of x.1)) result
+        (set_items_at (set_item_at (written table.now inner.0) (reads table.now inner.0)) [] number
+        limit (spot_of spot.entry)) }
     ensures stops { IfOk result (λ x. GoesOn spot.entry.place (length spot.entry.rest.now) x.1) }
 {
     let mut found = Vec::new(alloc);
@@ -360,7 +373,9 @@ fn set_item<'a>(
     requires below { inner.0 < of.0 }
     requires row { of.0 ≤ length table.now }
     requires whole { spot.place + length spot.rest.now < 2 ^ 63 }
-    ensures gives { Gives (λ x. (x.0, spot_of x.1)) result (set_item_at (written table.now inner.0) (reads table.now inner.0) before.now limit (spot_of spot.entry)) }
+    ensures gives { Gives (λ x. (x.0, spot_of x.1)) result
+        (set_item_at (written table.now inner.0) (reads table.now inner.0) before.now limit
+        (spot_of spot.entry)) }
     ensures stops { IfOk result (λ x. GoesOn spot.entry.place (length spot.entry.rest.now) x.1) }
 {
     let (value, after) = value(alloc, table, inner, limit, spot)?;

@@ -53,7 +53,8 @@ pub(crate) fn integer<'a>(
     spot: Spot<'a>,
 ) -> Result<(Val, Spot<'a>), PackedFault>
     requires { spot.place + length spot.rest.now < 2 ^ 63 }
-    ensures gives { Gives (λ x. (x.0, spot_of x.1)) result (number_at (number_rule (in_range low high)) limit (spot_of spot.entry)) }
+    ensures gives { Gives (λ x. (x.0, spot_of x.1)) result
+        (number_at (number_rule (in_range low high)) limit (spot_of spot.entry)) }
     ensures stops { IfOk result (λ x. GoesOn spot.entry.place (length spot.entry.rest.now) x.1) }
 {
     let (size, behind) = octet(limit, spot)?;
@@ -80,7 +81,8 @@ pub(crate) fn enumerated<'a>(
     spot: Spot<'a>,
 ) -> Result<(Val, Spot<'a>), PackedFault>
     requires { spot.place + length spot.rest.now < 2 ^ 63 }
-    ensures gives { Gives (λ x. (x.0, spot_of x.1)) result (number_at (number_rule (is_item items.now)) limit (spot_of spot.entry)) }
+    ensures gives { Gives (λ x. (x.0, spot_of x.1)) result
+        (number_at (number_rule (is_item items.now)) limit (spot_of spot.entry)) }
     ensures stops { IfOk result (λ x. GoesOn spot.entry.place (length spot.entry.rest.now) x.1) }
 {
     let (size, behind) = octet(limit, spot)?;
@@ -108,7 +110,8 @@ pub(crate) fn octet_string<'a>(
     spot: Spot<'a>,
 ) -> Result<(Val, Spot<'a>), PackedFault>
     requires { spot.place + length spot.rest.now < 2 ^ 63 }
-    ensures gives { Gives (λ x. (x.0, spot_of x.1)) result (string_at (at_most most) octets_rule limit (spot_of spot.entry)) }
+    ensures gives { Gives (λ x. (x.0, spot_of x.1)) result
+        (string_at (at_most most) octets_rule limit (spot_of spot.entry)) }
     ensures stops { IfOk result (λ x. GoesOn spot.entry.place (length spot.entry.rest.now) x.1) }
 {
     let (size, behind) = count(limit, spot)?;
@@ -126,7 +129,8 @@ pub(crate) fn text<'a>(
     spot: Spot<'a>,
 ) -> Result<(Val, Spot<'a>), PackedFault>
     requires { spot.place + length spot.rest.now < 2 ^ 63 }
-    ensures gives { Gives (λ x. (x.0, spot_of x.1)) result (string_at any_size (text_rule kind) limit (spot_of spot.entry)) }
+    ensures gives { Gives (λ x. (x.0, spot_of x.1)) result
+        (string_at any_size (text_rule kind) limit (spot_of spot.entry)) }
     ensures stops { IfOk result (λ x. GoesOn spot.entry.place (length spot.entry.rest.now) x.1) }
 {
     let (size, behind) = count(limit, spot)?;
@@ -146,7 +150,8 @@ pub(crate) fn object_id<'a>(
     spot: Spot<'a>,
 ) -> Result<(Val, Spot<'a>), PackedFault>
     requires { spot.place + length spot.rest.now < 2 ^ 63 }
-    ensures gives { Gives (λ x. (x.0, spot_of x.1)) result (string_at any_size object_id_rule limit (spot_of spot.entry)) }
+    ensures gives { Gives (λ x. (x.0, spot_of x.1)) result
+        (string_at any_size object_id_rule limit (spot_of spot.entry)) }
     ensures stops { IfOk result (λ x. GoesOn spot.entry.place (length spot.entry.rest.now) x.1) }
 {
     let (size, behind) = count(limit, spot)?;
@@ -171,7 +176,8 @@ fn bits_behind<'a>(
     spot: Spot<'a>,
 ) -> Result<(Val, Spot<'a>), PackedFault>
     requires { spot.place + length spot.rest.now < 2 ^ 63 }
-    ensures gives { Gives (λ x. (x.0, spot_of x.1)) result (string_at (bits_size unused) (bits_rule unused) limit (spot_of spot.entry)) }
+    ensures gives { Gives (λ x. (x.0, spot_of x.1)) result
+        (string_at (bits_size unused) (bits_rule unused) limit (spot_of spot.entry)) }
     ensures stops { IfOk result (λ x. GoesOn spot.entry.place (length spot.entry.rest.now) x.1) }
 {
     let (size, behind) = count(limit, spot)?;

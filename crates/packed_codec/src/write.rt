@@ -74,8 +74,10 @@ fn put_choice(
 ) -> usize
     requires below { AllByRecursion (λ m. m < of.0) (rows_of_parts alternatives.now) }
     requires few { length alternatives.now ≤ 256 }
-    requires room { at + length (choice_written (packed table.now) alternatives.now value.now) ≤ length out.old }
-    ensures { IsPut (choice_written (packed table.now) alternatives.now value.now) at out.old out.new result }
+    requires room { at + length (choice_written (packed table.now) alternatives.now value.now)
+        ≤ length out.old }
+    ensures { IsPut (choice_written (packed table.now) alternatives.now value.now) at out.old
+        out.new result }
 {
     match &value.node {
         Node::Chosen { which, value } => match alternatives.get(*which as usize) {
@@ -99,8 +101,10 @@ fn put_sequence(
     at: usize,
 ) -> usize
     requires below { AllByRecursion (λ m. m < of.0) (rows_of_parts parts.now) }
-    requires room { at + length (sequence_written (packed table.now) parts.now value.now) ≤ length out.old }
-    ensures { IsPut (sequence_written (packed table.now) parts.now value.now) at out.old out.new result }
+    requires room { at + length (sequence_written (packed table.now) parts.now value.now) ≤ length
+        out.old }
+    ensures { IsPut (sequence_written (packed table.now) parts.now value.now) at out.old out.new
+        result }
 {
     match &value.node {
         Node::Parts(values) => put_parts(table, of, parts.as_slice(), values, out, at),
@@ -119,8 +123,10 @@ fn put_parts(
     at: usize,
 ) -> usize
     requires below { AllByRecursion (λ m. m < of.0) (rows_of_parts parts.now) }
-    requires room { at + length (parts_written (packed table.now) parts.now (parts_of values.now)) ≤ length out.old }
-    ensures { IsPut (parts_written (packed table.now) parts.now (parts_of values.now)) at out.old out.new result }
+    requires room { at + length (parts_written (packed table.now) parts.now (parts_of values.now))
+        ≤ length out.old }
+    ensures { IsPut (parts_written (packed table.now) parts.now (parts_of values.now)) at out.old
+        out.new result }
 {
     let count = parts.len().min(values.len());
     let mut behind = at;
@@ -141,7 +147,8 @@ fn put_part(
     at: usize,
 ) -> usize
     requires below { part.now.inner.0 < of.0 }
-    requires room { at + length (part_written (packed table.now) part.now value.now) ≤ length out.old }
+    requires room { at + length (part_written (packed table.now) part.now value.now) ≤ length
+        out.old }
     ensures { IsPut (part_written (packed table.now) part.now value.now) at out.old out.new result }
 {
     match value {
@@ -172,7 +179,8 @@ fn put_list(
     at: usize,
 ) -> usize
     requires below { inner.0 < of.0 }
-    requires room { at + length (list_written (packed table.now inner.0) value.now) ≤ length out.old }
+    requires room { at + length (list_written (packed table.now inner.0) value.now) ≤ length
+        out.old }
     ensures { IsPut (list_written (packed table.now inner.0) value.now) at out.old out.new result }
 {
     match &value.node {
@@ -194,8 +202,10 @@ fn put_items(
     at: usize,
 ) -> usize
     requires below { inner.0 < of.0 }
-    requires room { at + length (values_written (packed table.now inner.0) (values_of values.now)) ≤ length out.old }
-    ensures { IsPut (values_written (packed table.now inner.0) (values_of values.now)) at out.old out.new result }
+    requires room { at + length (values_written (packed table.now inner.0) (values_of values.now))
+        ≤ length out.old }
+    ensures { IsPut (values_written (packed table.now inner.0) (values_of values.now)) at out.old
+        out.new result }
 {
     let mut behind = at;
     for value in values {
@@ -211,7 +221,8 @@ fn put_items(
 pub fn packed_write(table: &TypeTable, of: TypeId, value: &Val, out: &mut [u8]) -> usize
     requires { length (packed table.now of.0 value.now) ≤ length out.old }
     ensures count { result ≡ length (packed table.now of.0 value.now) }
-    ensures text { out.new ≡ packed table.now of.0 value.now ++ drop (length (packed table.now of.0 value.now)) out.old }
+    ensures text { out.new ≡ packed table.now of.0 value.now
+        ++ drop (length (packed table.now of.0 value.now)) out.old }
 {
     put_value(table, of, value, out, 0)
 }

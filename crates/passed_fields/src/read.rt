@@ -31,7 +31,8 @@ pub fn some_values<'a>(
 ) -> Result<(Val, Spot<'a>), ReadFault>
     requires row { of.0 < length table.now }
     requires whole { spot.place + length spot.rest.now < 2 ^ 63 }
-    ensures gives { Gives (λ x. (x.0, spot_of x.1)) result (some_at (reads table.now of.0) tag scope.now (opened_of opened.now) (spot_of spot.entry)) }
+    ensures gives { Gives (λ x. (x.0, spot_of x.1)) result
+        (some_at (reads table.now of.0) tag scope.now (opened_of opened.now) (spot_of spot.entry)) }
     ensures stops { IfOk result (λ x. GoesOn spot.entry.place (length spot.entry.rest.now) x.1) }
 {
     expect(tag, true, opened)?;
@@ -49,7 +50,8 @@ fn some_items<'a>(
 ) -> Result<(Val, Spot<'a>), ReadFault>
     requires row { of.0 < length table.now }
     requires whole { spot.place + length spot.rest.now < 2 ^ 63 }
-    ensures gives { Gives (λ x. (x.0, spot_of x.1)) result (some_items_at (reads table.now of.0) scope.now (spot_of spot.entry)) }
+    ensures gives { Gives (λ x. (x.0, spot_of x.1)) result
+        (some_items_at (reads table.now of.0) scope.now (spot_of spot.entry)) }
     ensures stops { IfOk result (λ x. GoesOn spot.entry.place (length spot.entry.rest.now) x.1) }
 {
     let mut found = Vec::new(alloc);
@@ -94,7 +96,8 @@ fn any<'a>(
 ) -> Result<(Val, Spot<'a>), ReadFault>
     requires whole { spot.place + length spot.rest.now < 2 ^ 63 }
     requires start { GoesOn opened.now.start.place (length opened.now.start.rest.now) spot }
-    ensures gives { Gives (λ x. (x.0, spot_of x.1)) result (any_at scope.now (opened_of opened.now) (spot_of spot.entry)) }
+    ensures gives { Gives (λ x. (x.0, spot_of x.1)) result
+        (any_at scope.now (opened_of opened.now) (spot_of spot.entry)) }
     ensures stops { IfOk result (λ x. GoesOn spot.entry.place (length spot.entry.rest.now) x.1) }
 {
     let after = whole_value(32, scope, opened, spot)?;
@@ -121,7 +124,8 @@ fn held<'a>(
     requires row { HasRow table.now holds }
     requires whole { spot.place + length spot.rest.now < 2 ^ 63 }
     requires start { GoesOn opened.now.start.place (length opened.now.start.rest.now) spot }
-    ensures gives { Gives (λ x. (x.0, spot_of x.1)) result (held_by table.now tag holds scope.now (opened_of opened.now) (spot_of spot.entry)) }
+    ensures gives { Gives (λ x. (x.0, spot_of x.1)) result
+        (held_by table.now tag holds scope.now (opened_of opened.now) (spot_of spot.entry)) }
     ensures stops { IfOk result (λ x. GoesOn spot.entry.place (length spot.entry.rest.now) x.1) }
 {
     match holds {
@@ -152,7 +156,9 @@ fn known<'a>(
     requires rows { HaveRows table.now fields.now }
     requires whole { spot.place + length spot.rest.now < 2 ^ 63 }
     requires start { GoesOn opened.now.start.place (length opened.now.start.rest.now) spot }
-    ensures gives { Gives (λ x. (x.0.items, spot_of x.1)) result (known_at table.now fields.now found.items scope.now (opened_of opened.now) (spot_of spot.entry)) }
+    ensures gives { Gives (λ x. (x.0.items, spot_of x.1)) result
+        (known_at table.now fields.now found.items scope.now (opened_of opened.now)
+        (spot_of spot.entry)) }
     ensures stops { IfOk result (λ x. GoesOn spot.entry.place (length spot.entry.rest.now) x.1) }
 {
     let mut found = found;
@@ -227,7 +233,8 @@ fn pass<'a>(
     spot: Spot<'a>,
 ) -> Result<(MaybeVals, Spot<'a>), ReadFault>
     requires { spot.place + length spot.rest.now < 2 ^ 63 }
-    ensures gives { Gives (λ x. (x.0.items, spot_of x.1)) result (pass_at found.items told scope.now (opened_of opened.now) (spot_of spot.entry)) }
+    ensures gives { Gives (λ x. (x.0.items, spot_of x.1)) result
+        (pass_at found.items told scope.now (opened_of opened.now) (spot_of spot.entry)) }
     ensures stops { IfOk result (λ x. GoesOn spot.entry.place (length spot.entry.rest.now) x.1) }
 {
     let mut found = found;
@@ -251,7 +258,9 @@ fn field<'a>(
     requires rows { HaveRows table.now fields.now.known.now }
     requires whole { spot.place + length spot.rest.now < 2 ^ 63 }
     requires start { GoesOn opened.now.start.place (length opened.now.start.rest.now) spot }
-    ensures gives { Gives (λ x. (x.0.items, spot_of x.1)) result (field_at table.now fields.now.known.now fields.now.passed.now found.items scope.now (opened_of opened.now) (spot_of spot.entry)) }
+    ensures gives { Gives (λ x. (x.0.items, spot_of x.1)) result
+        (field_at table.now fields.now.known.now fields.now.passed.now found.items scope.now
+        (opened_of opened.now) (spot_of spot.entry)) }
     ensures stops { IfOk result (λ x. GoesOn spot.entry.place (length spot.entry.rest.now) x.1) }
 {
     match passes(fields.passed, found.len(), opened.class, opened.number) {
@@ -310,7 +319,9 @@ fn all_fields<'a>(
 ) -> Result<(Val, Spot<'a>), ReadFault>
     requires rows { HaveRows table.now fields.now.known.now }
     requires whole { spot.place + length spot.rest.now < 2 ^ 63 }
-    ensures gives { Gives (λ x. (x.0, spot_of x.1)) result (fields_at table.now fields.now.known.now fields.now.passed.now scope.now (spot_of spot.entry)) }
+    ensures gives { Gives (λ x. (x.0, spot_of x.1)) result
+        (fields_at table.now fields.now.known.now fields.now.passed.now scope.now
+        (spot_of spot.entry)) }
     ensures stops { IfOk result (λ x. GoesOn spot.entry.place (length spot.entry.rest.now) x.1) }
 {
     let mut found = Vec::new(alloc);
@@ -346,7 +357,9 @@ pub fn fields<'a>(
 ) -> Result<(Val, Spot<'a>), ReadFault>
     requires rows { HaveRows table.now fields.now.known.now }
     requires whole { spot.place + length spot.rest.now < 2 ^ 63 }
-    ensures gives { Gives (λ x. (x.0, spot_of x.1)) result (fielded_at table.now fields.now.known.now fields.now.passed.now tag scope.now (opened_of opened.now) (spot_of spot.entry)) }
+    ensures gives { Gives (λ x. (x.0, spot_of x.1)) result
+        (fielded_at table.now fields.now.known.now fields.now.passed.now tag scope.now
+        (opened_of opened.now) (spot_of spot.entry)) }
     ensures stops { IfOk result (λ x. GoesOn spot.entry.place (length spot.entry.rest.now) x.1) }
 {
     expect(tag, true, opened)?;

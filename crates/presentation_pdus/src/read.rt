@@ -80,7 +80,10 @@ fn half<'a>(
     requires all { length table.now ≡ 64 }
     requires whole { spot.place + length spot.rest.now < 2 ^ 63 }
     requires start { GoesOn opened.now.start.place (length opened.now.start.rest.now) spot }
-    ensures gives { Gives (λ x. (x.0, spot_of x.1)) result (half_at (reads table.now mode_row plain) (fielded_at table.now shape.now.known.now shape.now.passed.now (context_tag 2)) before scope.now (opened_of opened.now) (spot_of spot.entry)) }
+    ensures gives { Gives (λ x. (x.0, spot_of x.1)) result
+        (half_at (reads table.now mode_row plain)
+        (fielded_at table.now shape.now.known.now shape.now.passed.now (context_tag 2)) before
+        scope.now (opened_of opened.now) (spot_of spot.entry)) }
     ensures stops { IfOk result (λ x. GoesOn spot.entry.place (length spot.entry.rest.now) x.1) }
 {
     let (mode, under) = before;
@@ -147,7 +150,10 @@ fn all_halves<'a>(
     requires rows { HaveRows table.now shape.now.known.now }
     requires all { length table.now ≡ 64 }
     requires whole { spot.place + length spot.rest.now < 2 ^ 63 }
-    ensures gives { Gives (λ x. (x.0, spot_of x.1)) result (halves_at (reads table.now mode_row plain) (fielded_at table.now shape.now.known.now shape.now.passed.now (context_tag 2)) scope.now (spot_of spot.entry)) }
+    ensures gives { Gives (λ x. (x.0, spot_of x.1)) result
+        (halves_at (reads table.now mode_row plain)
+        (fielded_at table.now shape.now.known.now shape.now.passed.now (context_tag 2)) scope.now
+        (spot_of spot.entry)) }
     ensures stops { IfOk result (λ x. GoesOn spot.entry.place (length spot.entry.rest.now) x.1) }
 {
     let mut halves: Halves = (None, None);
@@ -182,7 +188,10 @@ fn selected<'a>(
     requires rows { HaveRows table.now shape.now.known.now }
     requires all { length table.now ≡ 64 }
     requires whole { spot.place + length spot.rest.now < 2 ^ 63 }
-    ensures gives { Gives (λ x. (x.0, spot_of x.1)) result (selected_at (reads table.now mode_row plain) (fielded_at table.now shape.now.known.now shape.now.passed.now (context_tag 2)) scope.now (opened_of opened.now) (spot_of spot.entry)) }
+    ensures gives { Gives (λ x. (x.0, spot_of x.1)) result
+        (selected_at (reads table.now mode_row plain)
+        (fielded_at table.now shape.now.known.now shape.now.passed.now (context_tag 2)) scope.now
+        (opened_of opened.now) (spot_of spot.entry)) }
     ensures stops { IfOk result (λ x. GoesOn spot.entry.place (length spot.entry.rest.now) x.1) }
 {
     let set_tag = Tag {
@@ -208,7 +217,10 @@ fn with_mode<'a>(
     requires rows { HaveRows table.now known.now }
     requires all { length table.now ≡ 64 }
     requires whole { spot.place + length spot.rest.now < 2 ^ 63 }
-    ensures gives { Gives (λ x. (x.0, spot_of x.1)) result (unit_at which (selected_at (reads table.now mode_row plain) (fielded_at table.now known.now passed.now (context_tag 2))) scope.now (opened_of opened.now) (spot_of spot.entry)) }
+    ensures gives { Gives (λ x. (x.0, spot_of x.1)) result
+        (unit_at which (selected_at (reads table.now mode_row plain)
+        (fielded_at table.now known.now passed.now (context_tag 2))) scope.now
+        (opened_of opened.now) (spot_of spot.entry)) }
     ensures stops { IfOk result (λ x. GoesOn spot.entry.place (length spot.entry.rest.now) x.1) }
 {
     let shape = Fields { known, passed };
@@ -229,7 +241,9 @@ fn plain_unit<'a>(
 ) -> Result<(Val, Spot<'a>), ReadFault>
     requires rows { HaveRows table.now known.now }
     requires whole { spot.place + length spot.rest.now < 2 ^ 63 }
-    ensures gives { Gives (λ x. (x.0, spot_of x.1)) result (unit_at which (fielded_at table.now known.now [] tag) scope.now (opened_of opened.now) (spot_of spot.entry)) }
+    ensures gives { Gives (λ x. (x.0, spot_of x.1)) result
+        (unit_at which (fielded_at table.now known.now [] tag) scope.now (opened_of opened.now)
+        (spot_of spot.entry)) }
     ensures stops { IfOk result (λ x. GoesOn spot.entry.place (length spot.entry.rest.now) x.1) }
 {
     let shape = Fields { known, passed: &[] };
@@ -247,7 +261,8 @@ fn data<'a>(
 ) -> Result<(Val, Spot<'a>), ReadFault>
     requires all { length table.now ≡ 64 }
     requires whole { spot.place + length spot.rest.now < 2 ^ 63 }
-    ensures gives { Gives (λ x. (x.0, spot_of x.1)) result (data_at table.now scope.now (opened_of opened.now) (spot_of spot.entry)) }
+    ensures gives { Gives (λ x. (x.0, spot_of x.1)) result
+        (data_at table.now scope.now (opened_of opened.now) (spot_of spot.entry)) }
     ensures stops { IfOk result (λ x. GoesOn spot.entry.place (length spot.entry.rest.now) x.1) }
 {
     let user_tag = Tag {
@@ -269,7 +284,8 @@ fn alteration<'a>(
 ) -> Result<(Val, Spot<'a>), ReadFault>
     requires all { length table.now ≡ 64 }
     requires whole { spot.place + length spot.rest.now < 2 ^ 63 }
-    ensures gives { Gives (λ x. (x.0, spot_of x.1)) result (alteration_at table.now scope.now (opened_of opened.now) (spot_of spot.entry)) }
+    ensures gives { Gives (λ x. (x.0, spot_of x.1)) result
+        (alteration_at table.now scope.now (opened_of opened.now) (spot_of spot.entry)) }
     ensures stops { IfOk result (λ x. GoesOn spot.entry.place (length spot.entry.rest.now) x.1) }
 {
     if opened.number == 0 {
@@ -292,7 +308,8 @@ fn abort<'a>(
 ) -> Result<(Val, Spot<'a>), ReadFault>
     requires all { length table.now ≡ 64 }
     requires whole { spot.place + length spot.rest.now < 2 ^ 63 }
-    ensures gives { Gives (λ x. (x.0, spot_of x.1)) result (abort_at table.now scope.now (opened_of opened.now) (spot_of spot.entry)) }
+    ensures gives { Gives (λ x. (x.0, spot_of x.1)) result
+        (abort_at table.now scope.now (opened_of opened.now) (spot_of spot.entry)) }
     ensures stops { IfOk result (λ x. GoesOn spot.entry.place (length spot.entry.rest.now) x.1) }
 {
     if same_class(opened.class, Class::Context) {
@@ -315,7 +332,8 @@ fn connect<'a>(
 ) -> Result<(Val, Spot<'a>), ReadFault>
     requires all { length table.now ≡ 64 }
     requires whole { spot.place + length spot.rest.now < 2 ^ 63 }
-    ensures gives { Gives (λ x. (x.0, spot_of x.1)) result (unit_at 0 (connect_at table.now) scope.now (opened_of opened.now) (spot_of spot.entry)) }
+    ensures gives { Gives (λ x. (x.0, spot_of x.1)) result
+        (unit_at 0 (connect_at table.now) scope.now (opened_of opened.now) (spot_of spot.entry)) }
     ensures stops { IfOk result (λ x. GoesOn spot.entry.place (length spot.entry.rest.now) x.1) }
 {
     let known = connect_fields();
@@ -334,7 +352,8 @@ fn accept<'a>(
 ) -> Result<(Val, Spot<'a>), ReadFault>
     requires all { length table.now ≡ 64 }
     requires whole { spot.place + length spot.rest.now < 2 ^ 63 }
-    ensures gives { Gives (λ x. (x.0, spot_of x.1)) result (unit_at 1 (accept_at table.now) scope.now (opened_of opened.now) (spot_of spot.entry)) }
+    ensures gives { Gives (λ x. (x.0, spot_of x.1)) result
+        (unit_at 1 (accept_at table.now) scope.now (opened_of opened.now) (spot_of spot.entry)) }
     ensures stops { IfOk result (λ x. GoesOn spot.entry.place (length spot.entry.rest.now) x.1) }
 {
     let known = accept_fields();
@@ -353,7 +372,9 @@ fn reject<'a>(
 ) -> Result<(Val, Spot<'a>), ReadFault>
     requires all { length table.now ≡ 64 }
     requires whole { spot.place + length spot.rest.now < 2 ^ 63 }
-    ensures gives { Gives (λ x. (x.0, spot_of x.1)) result (unit_at 2 (fielded_at table.now reject_fields [] sequence_tag) scope.now (opened_of opened.now) (spot_of spot.entry)) }
+    ensures gives { Gives (λ x. (x.0, spot_of x.1)) result
+        (unit_at 2 (fielded_at table.now reject_fields [] sequence_tag) scope.now
+        (opened_of opened.now) (spot_of spot.entry)) }
     ensures stops { IfOk result (λ x. GoesOn spot.entry.place (length spot.entry.rest.now) x.1) }
 {
     let known = reject_fields();
@@ -372,7 +393,9 @@ fn restart<'a>(
 ) -> Result<(Val, Spot<'a>), ReadFault>
     requires all { length table.now ≡ 64 }
     requires whole { spot.place + length spot.rest.now < 2 ^ 63 }
-    ensures gives { Gives (λ x. (x.0, spot_of x.1)) result (unit_at which (fielded_at table.now restart_fields [] sequence_tag) scope.now (opened_of opened.now) (spot_of spot.entry)) }
+    ensures gives { Gives (λ x. (x.0, spot_of x.1)) result
+        (unit_at which (fielded_at table.now restart_fields [] sequence_tag) scope.now
+        (opened_of opened.now) (spot_of spot.entry)) }
     ensures stops { IfOk result (λ x. GoesOn spot.entry.place (length spot.entry.rest.now) x.1) }
 {
     let known = restart_fields();
@@ -400,7 +423,8 @@ fn unit<'a>(
 ) -> Result<(Val, Spot<'a>), ReadFault>
     requires all { length table.now ≡ 64 }
     requires whole { spot.place + length spot.rest.now < 2 ^ 63 }
-    ensures gives { Gives (λ x. (x.0, spot_of x.1)) result (ppdu_run table.now place scope.now (opened_of opened.now) (spot_of spot.entry)) }
+    ensures gives { Gives (λ x. (x.0, spot_of x.1)) result
+        (ppdu_run table.now place scope.now (opened_of opened.now) (spot_of spot.entry)) }
     ensures stops { IfOk result (λ x. GoesOn spot.entry.place (length spot.entry.rest.now) x.1) }
 {
     match place {
@@ -426,7 +450,8 @@ pub(crate) fn front(
     bytes: &[u8],
 ) -> Result<(Val, usize), ReadFault>
     requires all { length table.now ≡ 64 }
-    ensures gives { Gives (λ x. x) result (front_at (ppdu_run table.now place) 4294967295 bytes.now) }
+    ensures gives { Gives (λ x. x) result (front_at (ppdu_run table.now place) 4294967295
+        bytes.now) }
 {
     let scope = Scope {
         levels: 32,

@@ -34,7 +34,12 @@ impl Model for Heads {
 }
 
 fn part(alloc: Global, name: &str, row: u32, optional: bool) -> Result<Part, NoMemory>
-    ensures { IfOk result (λ p. p ≡ record { name = name.now; inner = record { 0 = row }; optional = optional; default = None }) }
+    ensures { IfOk result (λ p. p ≡ record {
+      name = name.now;
+      inner = record { 0 = row };
+      optional = optional;
+      default = None;
+    }) }
 {
     Ok(Part {
         name: Name::from_str(alloc, name)?,
@@ -120,7 +125,8 @@ fn add(types: &mut TypeTable, row: TypeRow) -> Result<(), NoMemory>
 
 /// Puts a tag of the context class in the place of a row's own.
 fn add_tagged(types: &mut TypeTable, number: u32, inner: u32) -> Result<(), NoMemory>
-    ensures { OnOk result (types.new ≡ types.old ++ row.Tagged Context number false (record { 0 = inner }) ∷ []) }
+    ensures { OnOk result (types.new ≡ types.old ++ row.Tagged Context number false
+        (record { 0 = inner }) ∷ []) }
 {
     add(
         types,

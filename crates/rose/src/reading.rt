@@ -64,7 +64,9 @@ fn invoke(
     code: &Option<Val>,
     argument: &Option<Val>,
 ) -> Result<Content, NoMemory>
-    ensures { IfOk result (IsSaid tables.now (chosen 0 (parts (maybe id.now (maybe linked.now (maybe code.now (maybe argument.now no_parts))))))) }
+    ensures { IfOk result (IsSaid tables.now
+        (chosen 0 (parts (maybe id.now (maybe linked.now
+        (maybe code.now (maybe argument.now no_parts))))))) }
 {
     let (Some(id), Some(linked), Some(octets)) = (
         identifier_in(id),
@@ -116,7 +118,8 @@ fn error(
     code: &Option<Val>,
     parameter: &Option<Val>,
 ) -> Result<Content, NoMemory>
-    ensures { IfOk result (IsSaid tables.now (chosen 2 (parts (maybe id.now (maybe code.now (maybe parameter.now no_parts)))))) }
+    ensures { IfOk result (IsSaid tables.now
+        (chosen 2 (parts (maybe id.now (maybe code.now (maybe parameter.now no_parts)))))) }
 {
     let (Some(id), Some(octets)) = (identifier_in(id), any_in(parameter)) else {
         return Ok(Content::Unread);
@@ -147,7 +150,8 @@ fn returned_parts(
     code: &Option<Val>,
     value: &Option<Val>,
 ) -> Result<Option<Returned>, NoMemory>
-    ensures { IfOk result (IsReturnedSome tables.now (Some (parts (maybe code.now (maybe value.now no_parts))))) }
+    ensures { IfOk result (IsReturnedSome tables.now
+        (Some (parts (maybe code.now (maybe value.now no_parts))))) }
 {
     let Some(octets) = octets_in(value) else {
         return Ok(None);
@@ -219,7 +223,8 @@ fn result(
     id: &Option<Val>,
     part: &Option<Val>,
 ) -> Result<Content, NoMemory>
-    ensures { IfOk result (IsSaid tables.now (chosen 1 (parts (maybe id.now (maybe part.now no_parts))))) }
+    ensures { IfOk result (IsSaid tables.now
+        (chosen 1 (parts (maybe id.now (maybe part.now no_parts))))) }
 {
     let Some(id) = identifier_in(id) else {
         return Ok(Content::Unread);

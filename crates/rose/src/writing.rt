@@ -110,7 +110,8 @@ fn error_head(alloc: Global, id: i64, code: &Code, octets: Option<Octets>) -> Re
 
 /// What is returned, as a value.
 fn returned_val(alloc: Global, code: &Code, octets: Octets) -> Result<Val, NoMemory>
-    ensures { IfOk result (λ value. value ≡ tree_parts (present (code_value code.now) (present (any octets) no_parts))) }
+    ensures { IfOk result (λ value. value
+        ≡ tree_parts (present (code_value code.now) (present (any octets) no_parts))) }
 {
     let mut parts = Vec::new(alloc);
     parts.push(Some(code_val(alloc, code)?))?;
@@ -147,7 +148,8 @@ impl Heads {
         argument: &Option<Val>,
     ) -> Result<Octets, NoMemory>
         requires coded { operation_coded tables.now operation.now.code ≡ Some operation.now }
-        ensures { IfOk result (λ octets. octets ≡ written_apdu tables.now Ber (invoke_apdu operation.now id argument.now)) }
+        ensures { IfOk result (λ octets. octets ≡ written_apdu tables.now Ber
+            (invoke_apdu operation.now id argument.now)) }
     {
         let octets = carried_octets(alloc, &tables.types, &operation.argument, argument)?;
         let head = invoke_head(alloc, id, &operation.code, octets)?;
@@ -166,7 +168,8 @@ impl Heads {
     ) -> Result<Octets, NoMemory>
         requires coded { operation_coded tables.now operation.now.code ≡ Some operation.now }
         requires carried { is_carried tables.now.types operation.now.result value.now ≡ true }
-        ensures { IfOk result (λ octets. octets ≡ written_apdu tables.now Ber (result_apdu operation.now id value.now)) }
+        ensures { IfOk result (λ octets. octets ≡ written_apdu tables.now Ber
+            (result_apdu operation.now id value.now)) }
     {
         let octets = carried_octets(alloc, &tables.types, &operation.result, value)?;
         let head = result_head(alloc, id, &operation.code, octets)?;
@@ -184,7 +187,8 @@ impl Heads {
         parameter: &Option<Val>,
     ) -> Result<Octets, NoMemory>
         requires coded { error_coded tables.now error.now.code ≡ Some error.now }
-        ensures { IfOk result (λ octets. octets ≡ written_apdu tables.now Ber (error_apdu error.now id parameter.now)) }
+        ensures { IfOk result (λ octets. octets ≡ written_apdu tables.now Ber
+            (error_apdu error.now id parameter.now)) }
     {
         let octets = carried_octets(alloc, &tables.types, &error.parameter, parameter)?;
         let head = error_head(alloc, id, &error.code, octets)?;

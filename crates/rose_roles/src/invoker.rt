@@ -66,7 +66,9 @@ impl Invoker {
     /// How many own invocations are open; so many keys of this end stand in the forest.
     pub fn open_count(&self) -> usize
         ensures count { result ≡ length self.now.kept }
-        ensures opens { (forest : List Entry) (performed : Kept) → IsForest forest → AreOpen true forest self.now.kept → length (opens_of true (opens_in forest self.now.kept performed)) ≡ result }
+        ensures opens { (forest : List Entry) (performed : Kept) → IsForest forest →
+            AreOpen true forest self.now.kept →
+            length (opens_of true (opens_in forest self.now.kept performed)) ≡ result }
     {
         self.kept.len()
     }
@@ -93,9 +95,21 @@ impl Invoker {
         requires linked { is_open_or_none (option_map (key_of false) linked) forest.old ≡ true }
         requires own { AreOpen true forest.old self.old.kept }
         ensures id { IfOk result (λ id. id ≡ pos (self.old.made + 1)) }
-        ensures opened { OnOk result ((performed : Kept) → calls_of forest.new self.new performed ≡ record { opens = (calls_of forest.old self.old performed).opens ++ record { own = true; id = pos (self.old.made + 1); operation = called.operation; context = called.context; parent = linked } ∷ []; made = self.old.made + 1 }) }
+        ensures opened { OnOk result ((performed : Kept) → calls_of forest.new self.new performed
+            ≡ record {
+              opens = (calls_of forest.old self.old performed).opens
+                  ++ record {
+                    own = true;
+                    id = pos (self.old.made + 1);
+                    operation = called.operation;
+                    context = called.context;
+                    parent = linked;
+                  } ∷ [];
+              made = self.old.made + 1;
+            }) }
         ensures own { AreOpen true forest.new self.new.kept }
-        ensures peer { (performed : Kept) → AreOpen false forest.old performed → AreOpen false forest.new performed }
+        ensures peer { (performed : Kept) → AreOpen false forest.old performed →
+            AreOpen false forest.new performed }
         ensures err { OnErr result ((self.new ≡ self.old) × (forest.new ≡ forest.old)) }
     {
         let made = self.made + 1;
@@ -132,9 +146,11 @@ impl Invoker {
     /// Closes an own invocation, if it is open.
     fn close(&mut self, forest: &mut Forest, id: &i64)
         requires { AreOpen true forest.old self.old.kept }
-        ensures closed { (performed : Kept) → calls_of forest.new self.new performed ≡ close true id.now (calls_of forest.old self.old performed) }
+        ensures closed { (performed : Kept) → calls_of forest.new self.new performed
+            ≡ close true id.now (calls_of forest.old self.old performed) }
         ensures own { AreOpen true forest.new self.new.kept }
-        ensures peer { (performed : Kept) → AreOpen false forest.old performed → AreOpen false forest.new performed }
+        ensures peer { (performed : Kept) → AreOpen false forest.old performed →
+            AreOpen false forest.new performed }
     {
         forest.is_forest();
         let key = key_of(true, id);
@@ -151,9 +167,12 @@ impl Invoker {
     ) -> Result<RoseTaken, NoMemory>
         requires kind { head.kind ≡ kinds.Result }
         requires own { AreOpen true forest.old self.old.kept }
-        ensures heard { IfOk result (λ taken. (performed : Kept) (context : ℕ) → Hears tables.now syntax context head (calls_of forest.old self.old performed) (calls_of forest.new self.new performed) taken) }
+        ensures heard { IfOk result (λ taken. (performed : Kept) (context : ℕ) →
+            Hears tables.now syntax context head (calls_of forest.old self.old performed)
+            (calls_of forest.new self.new performed) taken) }
         ensures own { AreOpen true forest.new self.new.kept }
-        ensures peer { (performed : Kept) → AreOpen false forest.old performed → AreOpen false forest.new performed }
+        ensures peer { (performed : Kept) → AreOpen false forest.old performed →
+            AreOpen false forest.new performed }
         ensures err { OnErr result ((self.new ≡ self.old) × (forest.new ≡ forest.old)) }
     {
         let Some(id) = &head.id else {
@@ -180,9 +199,15 @@ impl Invoker {
     ) -> Result<RoseTaken, NoMemory>
         requires call { called id.now self.old.kept ≡ Some call }
         requires own { AreOpen true forest.old self.old.kept }
-        ensures heard { IfOk result (λ taken. (performed : Kept) (context : ℕ) → HearsHead tables.now context (ResultHead id.now head.now.code) (Carries syntax tables.now.types head.now.room (use_by tables.now kinds.Result head.now.code) head.now.rest) (calls_of forest.old self.old performed) (calls_of forest.new self.new performed) taken) }
+        ensures heard { IfOk result (λ taken. (performed : Kept) (context : ℕ) →
+            HearsHead tables.now context (ResultHead id.now head.now.code)
+            (Carries syntax tables.now.types head.now.room
+            (use_by tables.now kinds.Result head.now.code) head.now.rest)
+            (calls_of forest.old self.old performed) (calls_of forest.new self.new performed)
+            taken) }
         ensures own { AreOpen true forest.new self.new.kept }
-        ensures peer { (performed : Kept) → AreOpen false forest.old performed → AreOpen false forest.new performed }
+        ensures peer { (performed : Kept) → AreOpen false forest.old performed →
+            AreOpen false forest.new performed }
         ensures err { OnErr result ((self.new ≡ self.old) × (forest.new ≡ forest.old)) }
     {
         let judged = judge_result(
@@ -208,9 +233,12 @@ impl Invoker {
     ) -> Result<RoseTaken, NoMemory>
         requires kind { head.kind ≡ kinds.Error }
         requires own { AreOpen true forest.old self.old.kept }
-        ensures heard { IfOk result (λ taken. (performed : Kept) (context : ℕ) → Hears tables.now syntax context head (calls_of forest.old self.old performed) (calls_of forest.new self.new performed) taken) }
+        ensures heard { IfOk result (λ taken. (performed : Kept) (context : ℕ) →
+            Hears tables.now syntax context head (calls_of forest.old self.old performed)
+            (calls_of forest.new self.new performed) taken) }
         ensures own { AreOpen true forest.new self.new.kept }
-        ensures peer { (performed : Kept) → AreOpen false forest.old performed → AreOpen false forest.new performed }
+        ensures peer { (performed : Kept) → AreOpen false forest.old performed →
+            AreOpen false forest.new performed }
         ensures err { OnErr result ((self.new ≡ self.old) × (forest.new ≡ forest.old)) }
     {
         let Some(id) = &head.id else {
@@ -241,9 +269,15 @@ impl Invoker {
     ) -> Result<RoseTaken, NoMemory>
         requires call { called id.now self.old.kept ≡ Some call }
         requires own { AreOpen true forest.old self.old.kept }
-        ensures heard { IfOk result (λ taken. (performed : Kept) (context : ℕ) → HearsHead tables.now context (ErrorHead id.now code.now) (Carries syntax tables.now.types head.now.room (parameter_placed tables.now (error_with tables.now code.now)) head.now.rest) (calls_of forest.old self.old performed) (calls_of forest.new self.new performed) taken) }
+        ensures heard { IfOk result (λ taken. (performed : Kept) (context : ℕ) →
+            HearsHead tables.now context (ErrorHead id.now code.now)
+            (Carries syntax tables.now.types head.now.room
+            (parameter_placed tables.now (error_with tables.now code.now)) head.now.rest)
+            (calls_of forest.old self.old performed) (calls_of forest.new self.new performed)
+            taken) }
         ensures own { AreOpen true forest.new self.new.kept }
-        ensures peer { (performed : Kept) → AreOpen false forest.old performed → AreOpen false forest.new performed }
+        ensures peer { (performed : Kept) → AreOpen false forest.old performed →
+            AreOpen false forest.new performed }
         ensures err { OnErr result ((self.new ≡ self.old) × (forest.new ≡ forest.old)) }
     {
         let error = tables.error_with(code);
@@ -268,9 +302,12 @@ impl Invoker {
         problem: Option<Problem>,
     ) -> RoseTaken
         requires { AreOpen true forest.old self.old.kept }
-        ensures heard { (performed : Kept) (context : ℕ) (base : Base) → heard_with (calls_of forest.new self.new performed) result ≡ hear base (calls_of forest.old self.old performed) context (reject_by id problem) }
+        ensures heard { (performed : Kept) (context : ℕ) (base : Base) →
+            heard_with (calls_of forest.new self.new performed) result
+            ≡ hear base (calls_of forest.old self.old performed) context (reject_by id problem) }
         ensures own { AreOpen true forest.new self.new.kept }
-        ensures peer { (performed : Kept) → AreOpen false forest.old performed → AreOpen false forest.new performed }
+        ensures peer { (performed : Kept) → AreOpen false forest.old performed →
+            AreOpen false forest.new performed }
     {
         let Some(problem) = problem else {
             return RoseTaken::BadReject;
@@ -285,9 +322,12 @@ impl Invoker {
     fn end_rejected(&mut self, forest: &mut Forest, id: Option<i64>, problem: Problem) -> RoseTaken
         requires kind { is_of_invocation problem.kind ≡ true }
         requires own { AreOpen true forest.old self.old.kept }
-        ensures heard { (performed : Kept) (context : ℕ) (base : Base) → heard_with (calls_of forest.new self.new performed) result ≡ hear base (calls_of forest.old self.old performed) context (RejectHead id problem) }
+        ensures heard { (performed : Kept) (context : ℕ) (base : Base) →
+            heard_with (calls_of forest.new self.new performed) result
+            ≡ hear base (calls_of forest.old self.old performed) context (RejectHead id problem) }
         ensures own { AreOpen true forest.new self.new.kept }
-        ensures peer { (performed : Kept) → AreOpen false forest.old performed → AreOpen false forest.new performed }
+        ensures peer { (performed : Kept) → AreOpen false forest.old performed →
+            AreOpen false forest.new performed }
     {
         let Some(named) = &id else {
             return RoseTaken::RejectTaken { id, problem };
@@ -313,9 +353,12 @@ impl Invoker {
     ) -> Result<RoseTaken, NoMemory>
         requires kind { is_invocation head.kind ≡ false }
         requires own { AreOpen true forest.old self.old.kept }
-        ensures heard { IfOk result (λ taken. (performed : Kept) (context : ℕ) → Hears tables.now syntax context head (calls_of forest.old self.old performed) (calls_of forest.new self.new performed) taken) }
+        ensures heard { IfOk result (λ taken. (performed : Kept) (context : ℕ) →
+            Hears tables.now syntax context head (calls_of forest.old self.old performed)
+            (calls_of forest.new self.new performed) taken) }
         ensures own { AreOpen true forest.new self.new.kept }
-        ensures peer { (performed : Kept) → AreOpen false forest.old performed → AreOpen false forest.new performed }
+        ensures peer { (performed : Kept) → AreOpen false forest.old performed →
+            AreOpen false forest.new performed }
         ensures err { OnErr result ((self.new ≡ self.old) × (forest.new ≡ forest.old)) }
     {
         match head.kind {

@@ -89,7 +89,10 @@ pub(crate) fn judge_value(
     room: u32,
     problem: u8,
 ) -> Result<Judged, NoMemory>
-    ensures { IfOk result (λ judged. (carried : Carried) → Carries syntax tables.now.types room (Some used.now) octets.now carried → IsJudged (problem_if (not (is_right tables.now.types used.now carried)) problem) (value_in carried) judged) }
+    ensures { IfOk result (λ judged. (carried : Carried) → Carries syntax tables.now.types room
+        (Some used.now) octets.now carried →
+        IsJudged (problem_if (not (is_right tables.now.types used.now carried)) problem)
+        (value_in carried) judged) }
 {
     tables.is_readable();
     match allowed(alloc, syntax, &tables.types, used, octets, room)? {
@@ -108,7 +111,10 @@ pub(crate) fn judge_result(
     octets: &Option<Octets>,
     room: u32,
 ) -> Result<Judged, NoMemory>
-    ensures { IfOk result (λ judged. (carried : Carried) → Carries syntax tables.now.types room (use_by tables.now kinds.Result code.now) octets.now carried → IsJudged (result_problem tables.now place (operation_at tables.now place) code.now carried) (value_in carried) judged) }
+    ensures { IfOk result (λ judged. (carried : Carried) → Carries syntax tables.now.types room
+        (use_by tables.now kinds.Result code.now) octets.now carried →
+        IsJudged (result_problem tables.now place (operation_at tables.now place) code.now carried)
+        (value_in carried) judged) }
 {
     let Some(operation) = tables.operation(place) else {
         return Ok(Judged::Wrong(1));
@@ -138,7 +144,10 @@ fn judge_known_error(
     octets: &Option<Octets>,
     room: u32,
 ) -> Result<Judged, NoMemory>
-    ensures { IfOk result (λ judged. (carried : Carried) → Carries syntax tables.now.types room (parameter_at tables.now error) octets.now carried → IsJudged (known_error_problem tables.now operation.now (Some error) carried) (value_in carried) judged) }
+    ensures { IfOk result (λ judged. (carried : Carried) → Carries syntax tables.now.types room
+        (parameter_at tables.now error) octets.now carried →
+        IsJudged (known_error_problem tables.now operation.now (Some error) carried)
+        (value_in carried) judged) }
 {
     if !operation.has_error(error) {
         return Ok(Judged::Wrong(3));
@@ -159,7 +168,10 @@ pub(crate) fn judge_error(
     octets: &Option<Octets>,
     room: u32,
 ) -> Result<Judged, NoMemory>
-    ensures { IfOk result (λ judged. (carried : Carried) → Carries syntax tables.now.types room (parameter_placed tables.now error) octets.now carried → IsJudged (error_problem tables.now (operation_at tables.now place) error carried) (value_in carried) judged) }
+    ensures { IfOk result (λ judged. (carried : Carried) → Carries syntax tables.now.types room
+        (parameter_placed tables.now error) octets.now carried →
+        IsJudged (error_problem tables.now (operation_at tables.now place) error carried)
+        (value_in carried) judged) }
 {
     let Some(operation) = tables.operation(place) else {
         return Ok(Judged::Wrong(1));
@@ -182,7 +194,9 @@ pub(crate) fn judge_argument(
     octets: &Option<Octets>,
     room: u32,
 ) -> Result<Judged, NoMemory>
-    ensures { IfOk result (λ judged. (carried : Carried) → Carries syntax tables.now.types room (option_map argument_of (placed (operation_at tables.now) place)) octets.now carried → IsJudged (argument_problem tables.now place carried) (value_in carried) judged) }
+    ensures { IfOk result (λ judged. (carried : Carried) → Carries syntax tables.now.types room
+        (option_map argument_of (placed (operation_at tables.now) place)) octets.now carried →
+        IsJudged (argument_problem tables.now place carried) (value_in carried) judged) }
 {
     let Some(place) = place else {
         return Ok(Judged::Wrong(1));

@@ -49,8 +49,10 @@ pub(crate) fn called(kept: &BTreeMap<i64, Called>, id: &i64) -> Option<Called>
 
 /// Puts what is called under a key; want of memory changes nothing.
 fn put(kept: &mut BTreeMap<i64, Called>, key: &Key, call: Called) -> Result<(), NoMemory>
-    ensures kept { OnOk result (kept.new.entries ≡ insert_entry int_cmp kept.old.entries key.now.id call) }
-    ensures updated { OnOk result ((q : ℤ) → called q kept.new.entries ≡ (if int_eq key.now.id q then Some call else called q kept.old.entries)) }
+    ensures kept { OnOk result (kept.new.entries ≡ insert_entry int_cmp kept.old.entries key.now.id
+        call) }
+    ensures updated { OnOk result ((q : ℤ) → called q kept.new.entries
+        ≡ (if int_eq key.now.id q then Some call else called q kept.old.entries)) }
     ensures err { OnErr result (kept.new.entries ≡ kept.old.entries) }
 {
     match kept.insert(key.id, call) {
@@ -62,7 +64,8 @@ fn put(kept: &mut BTreeMap<i64, Called>, key: &Key, call: Called) -> Result<(), 
 /// Takes away what is called under a key.
 fn take_away(kept: &mut BTreeMap<i64, Called>, key: &Key)
     ensures kept { kept.new.entries ≡ remove_entry (is_at (int_cmp key.now.id)) kept.old.entries }
-    ensures updated { (q : ℤ) → called q kept.new.entries ≡ (if int_eq key.now.id q then None else called q kept.old.entries) }
+    ensures updated { (q : ℤ) → called q kept.new.entries
+        ≡ (if int_eq key.now.id q then None else called q kept.old.entries) }
 {
     kept.remove(&key.id);
 }
@@ -78,9 +81,12 @@ pub(crate) fn enter(
 ) -> Result<(), NoMemory>
     requires shut { called key.now.id kept.old.entries ≡ None }
     requires fresh { is_open key.now forest.old ≡ false }
-    requires placed { is_open_or_none (option_map (key_of (not key.now.own)) linked) forest.old ≡ true }
-    ensures updated { OnOk result ((q : ℤ) → called q kept.new.entries ≡ (if int_eq key.now.id q then Some call else called q kept.old.entries)) }
-    ensures forest { OnOk result (forest.new ≡ forest.old ++ (key.now, option_map (key_of (not key.now.own)) linked) ∷ []) }
+    requires placed { is_open_or_none (option_map (key_of (not key.now.own)) linked) forest.old
+        ≡ true }
+    ensures updated { OnOk result ((q : ℤ) → called q kept.new.entries
+        ≡ (if int_eq key.now.id q then Some call else called q kept.old.entries)) }
+    ensures forest { OnOk result (forest.new ≡ forest.old
+        ++ (key.now, option_map (key_of (not key.now.own)) linked) ∷ []) }
     ensures err { OnErr result ((kept.new.entries ≡ kept.old.entries) × (forest.new ≡ forest.old)) }
 {
     let parent = above(key.own, linked);
@@ -96,7 +102,8 @@ pub(crate) fn enter(
 
 /// Closes an invocation of one end, if it is open, whose children are roots then.
 pub(crate) fn leave(kept: &mut BTreeMap<i64, Called>, forest: &mut Forest, key: &Key)
-    ensures kept { (q : ℤ) → called q kept.new.entries ≡ (if int_eq key.now.id q then None else called q kept.old.entries) }
+    ensures kept { (q : ℤ) → called q kept.new.entries
+        ≡ (if int_eq key.now.id q then None else called q kept.old.entries) }
     ensures forest { forest.new ≡ closed key.now forest.old }
 {
     take_away(kept, key);

@@ -121,10 +121,12 @@ impl Performer {
     /// Closes an invocation of the peer, if it is open: it was answered.
     pub fn close(&mut self, forest: &mut Forest, id: i64)
         requires { AreOpen false forest.old self.old.kept }
-        ensures closed { (invoked : Invoking) → calls_of forest.new invoked self.new.kept ≡ close false id (calls_of forest.old invoked self.old.kept) }
+        ensures closed { (invoked : Invoking) → calls_of forest.new invoked self.new.kept
+            ≡ close false id (calls_of forest.old invoked self.old.kept) }
         ensures context { self.new.context ≡ self.old.context }
         ensures peer { AreOpen false forest.new self.new.kept }
-        ensures own { (invoked : Invoking) → AreOpen true forest.old invoked.kept → AreOpen true forest.new invoked.kept }
+        ensures own { (invoked : Invoking) → AreOpen true forest.old invoked.kept →
+            AreOpen true forest.new invoked.kept }
     {
         forest.is_forest();
         let key = key_of(false, &id);
@@ -134,10 +136,12 @@ impl Performer {
     /// As `close`.
     pub fn close_at(&mut self, forest: &mut Forest, id: &i64)
         requires { AreOpen false forest.old self.old.kept }
-        ensures closed { (invoked : Invoking) → calls_of forest.new invoked self.new.kept ≡ close false id.now (calls_of forest.old invoked self.old.kept) }
+        ensures closed { (invoked : Invoking) → calls_of forest.new invoked self.new.kept
+            ≡ close false id.now (calls_of forest.old invoked self.old.kept) }
         ensures context { self.new.context ≡ self.old.context }
         ensures peer { AreOpen false forest.new self.new.kept }
-        ensures own { (invoked : Invoking) → AreOpen true forest.old invoked.kept → AreOpen true forest.new invoked.kept }
+        ensures own { (invoked : Invoking) → AreOpen true forest.old invoked.kept →
+            AreOpen true forest.new invoked.kept }
     {
         forest.is_forest();
         let key = key_of(false, id);
@@ -153,7 +157,8 @@ impl Performer {
 
     /// Whether no more invocation is opened, and this is one that would be.
     fn is_full(&self, tables: &Tables, place: Option<u32>) -> bool
-        ensures { result ≡ (nat_le 4096 (length self.now.kept) && not (silent (placed (operation_at tables.now) place))) }
+        ensures { result ≡ (nat_le 4096 (length self.now.kept)
+            && not (silent (placed (operation_at tables.now) place))) }
     {
         let many = self.open_count() >= 4096;
         let silent = is_silent_at(tables, place);
@@ -169,7 +174,8 @@ impl Performer {
         linked: &Option<i64>,
         place: Option<u32>,
     ) -> Option<u8>
-        ensures { result ≡ early_problem tables.now own.now.kept self.now.kept id.now linked.now place }
+        ensures { result ≡ early_problem tables.now own.now.kept self.now.kept id.now linked.now
+            place }
     {
         let duplicate = problem_if(called(&self.kept, id).is_some(), 0);
         let full = problem_if(self.is_full(tables, place), 3);
@@ -187,8 +193,13 @@ impl Performer {
         place: Option<u32>,
         head: &ApduHead,
     ) -> Result<Judged, NoMemory>
-        ensures judged { IfOk result (λ judged. (carried : Carried) → Carries syntax tables.now.types head.now.room (option_map argument_of (placed (operation_at tables.now) place)) head.now.rest carried → IsJudged (invoke_problem tables.now own.now.kept self.now.kept id.now head.now.linked place carried) (value_in carried) judged) }
-        ensures free { IfOk result (IsFree (early_problem tables.now own.now.kept self.now.kept id.now head.now.linked place)) }
+        ensures judged { IfOk result (λ judged. (carried : Carried) →
+            Carries syntax tables.now.types head.now.room
+            (option_map argument_of (placed (operation_at tables.now) place)) head.now.rest carried
+            → IsJudged (invoke_problem tables.now own.now.kept self.now.kept id.now head.now.linked
+            place carried) (value_in carried) judged) }
+        ensures free { IfOk result (IsFree (early_problem tables.now own.now.kept self.now.kept
+            id.now head.now.linked place)) }
     {
         match self.early_problem(own, tables, id, &head.linked, place) {
             Some(number) => Ok(Judged::Wrong(number)),
@@ -213,9 +224,19 @@ impl Performer {
         requires shut { called id.now self.old.kept ≡ None }
         requires linked { is_open_or_none (option_map (key_of true) linked) forest.old ≡ true }
         requires peer { AreOpen false forest.old self.old.kept }
-        ensures admitted { OnOk result ((base : Base) (own : Invoking) → base.tables ≡ tables.now → calls_of forest.new own self.new.kept ≡ opening base (record { own = false; id = id.now; operation = place; context = self.old.context; parent = linked }) (calls_of forest.old own self.old.kept)) }
+        ensures admitted { OnOk result ((base : Base) (own : Invoking) → base.tables ≡ tables.now →
+            calls_of forest.new own self.new.kept
+            ≡ opening base (record {
+              own = false;
+              id = id.now;
+              operation = place;
+              context = self.old.context;
+              parent = linked;
+            })
+            (calls_of forest.old own self.old.kept)) }
         ensures peer { AreOpen false forest.new self.new.kept }
-        ensures own { (own : Invoking) → AreOpen true forest.old own.kept → AreOpen true forest.new own.kept }
+        ensures own { (own : Invoking) → AreOpen true forest.old own.kept →
+            AreOpen true forest.new own.kept }
         ensures err { OnErr result ((self.new ≡ self.old) × (forest.new ≡ forest.old)) }
     {
         if is_silent_at(tables, Some(place)) {
@@ -243,9 +264,14 @@ impl Performer {
         requires shut { called id.now self.old.kept ≡ None }
         requires linked { is_open_or_none (option_map (key_of true) linked) forest.old ≡ true }
         requires peer { AreOpen false forest.old self.old.kept }
-        ensures performed { IfOk result (λ taken. (base : Base) (own : Invoking) (carried : Carried) → base.tables ≡ tables.now → argument ≡ value_in carried → heard_with (calls_of forest.new own self.new.kept) taken ≡ invoked base (calls_of forest.old own self.old.kept) self.old.context id.now linked place carried) }
+        ensures performed { IfOk result (λ taken. (base : Base) (own : Invoking) (carried : Carried)
+            → base.tables ≡ tables.now → argument ≡ value_in carried →
+            heard_with (calls_of forest.new own self.new.kept) taken
+            ≡ invoked base (calls_of forest.old own self.old.kept) self.old.context id.now linked
+            place carried) }
         ensures peer { AreOpen false forest.new self.new.kept }
-        ensures own { (own : Invoking) → AreOpen true forest.old own.kept → AreOpen true forest.new own.kept }
+        ensures own { (own : Invoking) → AreOpen true forest.old own.kept →
+            AreOpen true forest.new own.kept }
         ensures err { OnErr result ((self.new ≡ self.old) × (forest.new ≡ forest.old)) }
     {
         match place {
@@ -269,7 +295,9 @@ impl Performer {
         requires kind { head.kind ≡ kinds.Invoke }
         requires own { AreOpen true forest.old own.now.kept }
         requires peer { AreOpen false forest.old self.old.kept }
-        ensures heard { IfOk result (λ taken. Hears tables.now syntax self.old.context head (calls_of forest.old own.now self.old.kept) (calls_of forest.new own.now self.new.kept) taken) }
+        ensures heard { IfOk result (λ taken. Hears tables.now syntax self.old.context head
+            (calls_of forest.old own.now self.old.kept) (calls_of forest.new own.now self.new.kept)
+            taken) }
         ensures own { AreOpen true forest.new own.now.kept }
         ensures peer { AreOpen false forest.new self.new.kept }
         ensures err { OnErr result ((self.new ≡ self.old) × (forest.new ≡ forest.old)) }
@@ -307,7 +335,9 @@ impl Performer {
         requires kind { is_invocation head.kind ≡ true }
         requires own { AreOpen true forest.old own.now.kept }
         requires peer { AreOpen false forest.old self.old.kept }
-        ensures heard { IfOk result (λ taken. Hears tables.now syntax self.old.context head (calls_of forest.old own.now self.old.kept) (calls_of forest.new own.now self.new.kept) taken) }
+        ensures heard { IfOk result (λ taken. Hears tables.now syntax self.old.context head
+            (calls_of forest.old own.now self.old.kept) (calls_of forest.new own.now self.new.kept)
+            taken) }
         ensures own { AreOpen true forest.new own.now.kept }
         ensures peer { AreOpen false forest.new self.new.kept }
         ensures err { OnErr result ((self.new ≡ self.old) × (forest.new ≡ forest.old)) }

@@ -74,7 +74,8 @@ impl Outgoing {
 
     /// What is to be sent next, which counts as sent. Where memory runs out nothing has changed.
     pub fn next(&mut self) -> Result<Step, NoMemory>
-        ensures ok { IfOk result (λ step. (step ≡ step_of self.old) × (self.new ≡ stepped self.old)) }
+        ensures ok { IfOk result (λ step. (step ≡ step_of self.old) ×
+            (self.new ≡ stepped self.old)) }
         ensures err { OnErr result (self.new ≡ self.old) }
     {
         if self.waits() {

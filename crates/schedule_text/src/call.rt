@@ -50,7 +50,8 @@ fn narrowed(place: Option<usize>) -> Result<u32, LineFault>
 
 /// The operation of this name.
 fn operation_named(tables: &Tables, name: &[u8]) -> Result<u32, LineFault>
-    ensures { Gives (λ x. x) result (or_kind ScriptKind.BadName (operation_named tables.now name.now)) }
+    ensures { Gives (λ x. x) result (or_kind ScriptKind.BadName
+        (operation_named tables.now name.now)) }
 {
     narrowed(operation_place(tables.operations.as_slice(), name))
 }

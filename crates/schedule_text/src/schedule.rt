@@ -127,8 +127,10 @@ fn read_lines(
     tables: &Tables,
     lines: &mut Lines<'_>,
 ) -> Result<Draft, ScriptFault>
-    ensures ok { IfOk result (λ draft. lines_read modes tables.now no_draft lines.old.number lines.old.lines ≡ Ok draft) }
-    ensures err { IfErr result (λ fault. fault ≢ no_room → lines_read modes tables.now no_draft lines.old.number lines.old.lines ≡ Err fault) }
+    ensures ok { IfOk result (λ draft. lines_read modes tables.now no_draft lines.old.number
+        lines.old.lines ≡ Ok draft) }
+    ensures err { IfErr result (λ fault. fault ≢ no_room → lines_read modes tables.now no_draft
+        lines.old.number lines.old.lines ≡ Err fault) }
 {
     let mut draft = no_draft(alloc);
     'lines: loop {
@@ -199,8 +201,10 @@ pub fn read_schedule(
     tables: &Tables,
     bytes: &[u8],
 ) -> Result<Schedule, ScriptFault>
-    ensures ok { IfOk result (λ schedule. schedule_of modes tables.now bytes.now ≡ Ok (said schedule)) }
-    ensures err { IfErr result (λ fault. fault ≢ no_room → schedule_of modes tables.now bytes.now ≡ Err fault) }
+    ensures ok { IfOk result (λ schedule. schedule_of modes tables.now bytes.now
+        ≡ Ok (said schedule)) }
+    ensures err { IfErr result (λ fault. fault ≢ no_room → schedule_of modes tables.now bytes.now
+        ≡ Err fault) }
 {
     if bytes.len() > SCHEDULE_MOST {
         return Err(at_line(1, LineFault::Kind(ScriptKind::TooMany)));

@@ -15,8 +15,10 @@ fn find(text: &[u8], separator: u8) -> Option<usize>
 /// The octets before the first separator, and those after it, where there is one.
 #[tactic(auto, using(crate::proofs::Pieces::pieces_one, crate::proofs::Pieces::pieces_more, crate::proofs::Pieces::position_within))]
 fn cut(text: &[u8], separator: u8) -> (&[u8], Option<&[u8]>)
-    ensures pieces { MatchOption result.1 (pieces separator text.entry.now ≡ result.0.now ∷ []) (λ rest. pieces separator text.entry.now ≡ result.0.now ∷ pieces separator rest.now) }
-    ensures shorter { MatchOption result.1 (length result.0.now ≡ length text.entry.now) (λ rest. length result.0.now + 1 + length rest.now ≡ length text.entry.now) }
+    ensures pieces { MatchOption result.1 (pieces separator text.entry.now ≡ result.0.now ∷ [])
+        (λ rest. pieces separator text.entry.now ≡ result.0.now ∷ pieces separator rest.now) }
+    ensures shorter { MatchOption result.1 (length result.0.now ≡ length text.entry.now)
+        (λ rest. length result.0.now + 1 + length rest.now ≡ length text.entry.now) }
 {
     match find(text, separator) {
         None => (text, None),
@@ -63,8 +65,10 @@ impl<'a> Lines<'a> {
 
     /// The next line.
     pub fn next(&mut self) -> Option<&'a [u8]>
-        ensures none { MatchOption result (self.old.lines ≡ []) (λ line. self.old.lines ≡ line.now ∷ self.new.lines) }
-        ensures number { MatchOption result (self.new ≡ self.old) (λ line. self.new.number ≡ self.old.number + 1) }
+        ensures none { MatchOption result (self.old.lines ≡ [])
+            (λ line. self.old.lines ≡ line.now ∷ self.new.lines) }
+        ensures number { MatchOption result (self.new ≡ self.old)
+            (λ line. self.new.number ≡ self.old.number + 1) }
     {
         let (line, rest) = cut(self.rest?, b'\n');
         self.rest = rest;

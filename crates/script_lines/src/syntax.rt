@@ -129,7 +129,8 @@ fn are_over(before: EndsBefore, text: &[u8]) -> bool
 /// The syntaxes up to the end of their list.
 #[tactic(auto, using(crate::proofs::Turns::syntaxes_end, crate::proofs::Turns::syntaxes_more, crate::proofs::Turns::syntaxes_bad, crate::proofs::Turns::syntaxes_over))]
 fn more_syntaxes(alloc: Global, before: EndsBefore, text: &[u8]) -> Result<(Oids, &[u8]), LineFault>
-    ensures { Gives (λ x. (x.0, x.1.now)) result (more_syntaxes before (length text.now) [] text.now) }
+    ensures { Gives (λ x. (x.0, x.1.now)) result
+        (more_syntaxes before (length text.now) [] text.now) }
 {
     let mut names = ListOf::new(alloc);
     let mut rest = text;

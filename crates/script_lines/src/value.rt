@@ -42,7 +42,8 @@ fn bad_value(here: &[u8]) -> ScriptKind
 
 /// A value that is parted from what follows it.
 fn if_parted(front: Front<'_>) -> Result<(Option<Val>, &[u8]), LineFault>
-    ensures { Gives (λ x. (x.0, x.1.now)) result (if_parted (record { value = front.entry.value; rest = front.entry.rest.now })) }
+    ensures { Gives (λ x. (x.0, x.1.now)) result
+        (if_parted (record { value = front.entry.value; rest = front.entry.rest.now })) }
 {
     let Front { value, rest } = front;
     if is_parted(rest) {
@@ -84,7 +85,8 @@ fn used_found<'a>(
     here: &'a [u8],
     front: Option<Front<'a>>,
 ) -> Result<(Option<Val>, &'a [u8]), LineFault>
-    ensures { Gives (λ x. (x.0, x.1.now)) result (used_found used links here.now (found front.entry)) }
+    ensures { Gives (λ x. (x.0, x.1.now)) result
+        (used_found used links here.now (found front.entry)) }
 {
     match front {
         Some(front) => if_parted(front),

@@ -84,7 +84,8 @@ fn put_addition(text: &mut Text, tables: &Tables, addition: &Proposal) -> Result
 
 /// The additions of an alteration.
 fn put_additions(text: &mut Text, tables: &Tables, additions: &[Proposal]) -> Result<(), NoMemory>
-    ensures { OnOk result (text.new ≡ text.old ++ flat_map (addition_text tables.now) additions.now) }
+    ensures { OnOk result (text.new ≡ text.old ++ flat_map (addition_text tables.now)
+        additions.now) }
 {
     for addition in additions {
         put_addition(text, tables, addition)?;
@@ -180,7 +181,8 @@ pub fn put_call_event(
     side: Side,
     call: &Call,
 ) -> Result<(), NoMemory>
-    ensures { OnOk result (text.new ≡ text.old ++ event_text tables.now (events.Call side call.now)) }
+    ensures { OnOk result (text.new ≡ text.old ++ event_text tables.now
+        (events.Call side call.now)) }
 {
     text.put(side_word(side))?;
     text.put(" ")?;

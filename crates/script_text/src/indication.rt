@@ -44,7 +44,8 @@ fn put_added_field(
     answers: &[AddAnswer],
     place: usize,
 ) -> Result<(), NoMemory>
-    ensures { OnOk result (text.new ≡ text.old ++ answered added_field id (slice_get answers.now place)) }
+    ensures { OnOk result (text.new ≡ text.old ++ answered added_field id
+        (slice_get answers.now place)) }
 {
     match item_at(answers, place) {
         Some(answer) => {
@@ -59,7 +60,8 @@ fn put_added_field(
 
 /// A deletion with its result, where there is one.
 fn put_deleted_field(text: &mut Text, id: u32, answers: &[u8], place: usize) -> Result<(), NoMemory>
-    ensures { OnOk result (text.new ≡ text.old ++ answered deleted_field id (slice_get answers.now place)) }
+    ensures { OnOk result (text.new ≡ text.old ++ answered deleted_field id
+        (slice_get answers.now place)) }
 {
     match item_at(answers, place) {
         Some(answer) => {
@@ -100,7 +102,8 @@ fn put_altered(
     delete: &Ids,
     answers: &Answers,
 ) -> Result<(), NoMemory>
-    ensures { OnOk result (text.new ≡ text.old ++ (name.now ++ altered_text add.now delete.now answers.now)) }
+    ensures { OnOk result (text.new ≡ text.old
+        ++ (name.now ++ altered_text add.now delete.now answers.now)) }
 {
     text.put(name)?;
     put_added(text, add.as_slice(), answers.added.as_slice())?;

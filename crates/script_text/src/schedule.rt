@@ -183,8 +183,10 @@ fn read_event(tables: &Tables, line: &[u8]) -> Option<Event>
 /// The events of the lines.
 #[tactic(auto, using(crate::proofs::Events::steps))]
 fn read_events(alloc: Global, tables: &Tables, lines: &mut Lines<'_>) -> Result<Events, ScriptFault>
-    ensures ok { IfOk result (λ events. events_from tables.now lines.old.number event_most lines.old.lines ≡ Ok events) }
-    ensures err { IfErr result (λ fault. fault ≢ no_room → events_from tables.now lines.old.number event_most lines.old.lines ≡ Err fault) }
+    ensures ok { IfOk result (λ events. events_from tables.now lines.old.number event_most
+        lines.old.lines ≡ Ok events) }
+    ensures err { IfErr result (λ fault. fault ≢ no_room → events_from tables.now lines.old.number
+        event_most lines.old.lines ≡ Err fault) }
 {
     let mut events = ListOf::new(alloc);
     'lines: loop {
@@ -215,8 +217,10 @@ fn at(line: u32, kind: ScriptKind) -> ScriptFault
 /// The mode, which the first line that says something has to name.
 #[tactic(auto, using(crate::proofs::Events::steps))]
 fn read_mode(tables: &Tables, lines: &mut Lines<'_>) -> Result<(), ScriptFault>
-    ensures ok { OnOk result (mode_and_events tables.now lines.old.number lines.old.lines ≡ events_from tables.now lines.new.number event_most lines.new.lines) }
-    ensures err { IfErr result (λ fault. mode_and_events tables.now lines.old.number lines.old.lines ≡ Err fault) }
+    ensures ok { OnOk result (mode_and_events tables.now lines.old.number lines.old.lines
+        ≡ events_from tables.now lines.new.number event_most lines.new.lines) }
+    ensures err { IfErr result (λ fault. mode_and_events tables.now lines.old.number lines.old.lines
+        ≡ Err fault) }
 {
     'lines: loop {
         let line_number = lines.number();
@@ -267,7 +271,8 @@ fn bare_setup(alloc: Global) -> Result<Setup, NoMemory>
 /// and 16,777,216 octets are read; more is `TooMany`.
 pub fn read_schedule(alloc: Global, tables: &Tables, bytes: &[u8]) -> Result<Schedule, ScriptFault>
     ensures ok { IfOk result (λ schedule. schedule_of tables.now bytes.now ≡ Ok schedule) }
-    ensures err { IfErr result (λ fault. fault ≢ no_room → schedule_of tables.now bytes.now ≡ Err fault) }
+    ensures err { IfErr result (λ fault. fault ≢ no_room → schedule_of tables.now bytes.now
+        ≡ Err fault) }
 {
     if bytes.len() > SCHEDULE_MOST {
         return Err(at(1, ScriptKind::TooMany));

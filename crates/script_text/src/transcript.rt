@@ -59,7 +59,8 @@ fn put_indication_lines(
     side: Side,
     indications: &[Indication],
 ) -> Result<(), NoMemory>
-    ensures { OnOk result (text.new ≡ text.old ++ flat_map (indication_line tables.now side) indications.now) }
+    ensures { OnOk result (text.new ≡ text.old ++ flat_map (indication_line tables.now side)
+        indications.now) }
 {
     for indication in indications {
         put_indication_line(text, tables, side, indication)?;

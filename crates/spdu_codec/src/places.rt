@@ -72,8 +72,10 @@ fn user_among(table: &[(u8, Slot)], end: usize, octets: &[u8]) -> Option<usize>
 #[tactic(auto, unfolding(crate::specs::Places::head_at))]
 fn head_at<'a>(table: &[(u8, SpduKind)], end: usize, octets: &'a [u8]) -> Option<Head<'a>>
     requires { length octets.now ≤ end }
-    ensures within { IfSome result (λ u. length u.value.now + length u.behind.now < length octets.now) }
-    ensures read { option_map (λ u. head u.kind u.value.now u.behind.now) result ≡ head_at table.now end octets.now }
+    ensures within { IfSome result (λ u. length u.value.now + length u.behind.now < length
+        octets.now) }
+    ensures read { option_map (λ u. head u.kind u.value.now u.behind.now) result ≡ head_at table.now
+        end octets.now }
 {
     let (code, rest) = first_of(octets)?;
     let kind = row_of(code, table)?;
@@ -90,7 +92,8 @@ fn head_at<'a>(table: &[(u8, SpduKind)], end: usize, octets: &'a [u8]) -> Option
 fn user_in(end: usize, unit: Head<'_>) -> Option<usize>
     requires within { length unit.value.now + length unit.behind.now ≤ end }
     requires fits { end < 2 ^ 63 }
-    ensures { result ≡ user_in end (head unit.entry.kind unit.entry.value.now unit.entry.behind.now) }
+    ensures { result ≡ user_in end (head unit.entry.kind unit.entry.value.now
+        unit.entry.behind.now) }
 {
     user_among(
         parameters_of(unit.kind),
@@ -102,7 +105,8 @@ fn user_in(end: usize, unit: Head<'_>) -> Option<usize>
 fn user_of_last(end: usize, unit: Head<'_>) -> Option<usize>
     requires within { length unit.value.now + length unit.behind.now ≤ end }
     requires fits { end < 2 ^ 63 }
-    ensures { result ≡ user_of_last end (head unit.entry.kind unit.entry.value.now unit.entry.behind.now) }
+    ensures { result ≡ user_of_last end
+        (head unit.entry.kind unit.entry.value.now unit.entry.behind.now) }
 {
     if has_information(unit.kind) {
         return Some(end - unit.behind.len());
@@ -113,7 +117,8 @@ fn user_of_last(end: usize, unit: Head<'_>) -> Option<usize>
 fn last_of(end: usize, unit: Option<Head<'_>>) -> Option<usize>
     requires within { ForSome unit (λ u. length u.value.now + length u.behind.now ≤ end) }
     requires fits { end < 2 ^ 63 }
-    ensures { result ≡ last_of end (option_map (λ u. head u.kind u.value.now u.behind.now) unit.entry) }
+    ensures { result ≡ last_of end (option_map (λ u. head u.kind u.value.now u.behind.now)
+        unit.entry) }
 {
     user_of_last(end, unit?)
 }

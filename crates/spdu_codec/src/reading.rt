@@ -32,7 +32,8 @@ fn unit_at<'a>(
 ) -> Result<Unit<'a>, SFault>
     requires { length octets.now ≤ end }
     ensures within { IfOk result (λ u. length u.behind.now < length octets.now) }
-    ensures read { GivesBy (λ u. (u.kind, u.parameters, u.behind.now)) result (unit_at table.now end octets.now) }
+    ensures read { GivesBy (λ u. (u.kind, u.parameters, u.behind.now)) result
+        (unit_at table.now end octets.now) }
 {
     let [code, rest @ ..] = octets else {
         return fault(end, Kind::Missing);
@@ -81,7 +82,8 @@ fn second_at(alloc: Global, end: usize, octets: &[u8]) -> Result<SessionWord, SF
 
 fn behind_first(alloc: Global, end: usize, unit: Unit<'_>) -> Result<Spdus, SFault>
     requires { length unit.behind.now ≤ end }
-    ensures { Gives result (behind_first end (unit.entry.kind, unit.entry.parameters, unit.entry.behind.now)) }
+    ensures { Gives result (behind_first end
+        (unit.entry.kind, unit.entry.parameters, unit.entry.behind.now)) }
 {
     let mut spdus = Spdus::new(alloc);
     if leads(unit.kind) && !unit.behind.is_empty() {

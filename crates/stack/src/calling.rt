@@ -40,7 +40,14 @@ impl<'t> End<'t> {
     fn begin(&mut self, opened: Opened, silent: bool, text: &[u8]) -> Result<(), NoMemory>
         requires few { self.old.state.invoked ≤ 2147483646 }
         requires identified { IsIdentifier opened.id }
-        ensures ok { OnOk result (self.new ≡ record self.old { state = record self.old.state { opens = self.old.state.opens ++ (if silent then [] else opened ∷ []); invoked = self.old.state.invoked + 1; waiting = self.old.state.waiting ++ text.now } }) }
+        ensures ok { OnOk result (self.new ≡ record self.old {
+          state = record self.old.state {
+            opens = self.old.state.opens
+                ++ (if silent then [] else opened ∷ []);
+            invoked = self.old.state.invoked + 1;
+            waiting = self.old.state.waiting ++ text.now;
+          };
+        }) }
         ensures err { OnErr result (Keeps self.old self.new) }
     {
         if !silent {
@@ -60,8 +67,10 @@ impl<'t> End<'t> {
         argument: &Option<Val>,
     ) -> Result<Option<i64>, CallRefusal>
         requires there { operation_at self.old.tables place ≡ Some operation.now }
-        requires carried { is_carried self.old.tables.types operation.now.argument argument.now ≡ true }
-        ensures { Answers (can_invoke_unlinked self.old.tables self.old.state 0 operation.now argument.now) self.old self.new (the_calls.Invoke 0 place argument.now None) result }
+        requires carried { is_carried self.old.tables.types operation.now.argument argument.now
+            ≡ true }
+        ensures { Answers (can_invoke_unlinked self.old.tables self.old.state 0 operation.now
+            argument.now) self.old self.new (the_calls.Invoke 0 place argument.now None) result }
     {
         let id = self.invoked.min(LAST_ID - 1) + 1;
         let text = self.heads.invoke_text(
@@ -100,7 +109,8 @@ impl<'t> End<'t> {
         argument: &Option<Val>,
     ) -> Result<Option<i64>, CallRefusal>
         requires { operation_at self.old.tables place ≡ Some operation.now }
-        ensures { Answers (can_invoke_unlinked self.old.tables self.old.state 0 operation.now argument.now) self.old self.new (the_calls.Invoke 0 place argument.now None) result }
+        ensures { Answers (can_invoke_unlinked self.old.tables self.old.state 0 operation.now
+            argument.now) self.old self.new (the_calls.Invoke 0 place argument.now None) result }
     {
         if !operation.argument.carries(&self.tables.types, argument) {
             return Err(CallRefusal::NotTyped);
@@ -117,7 +127,9 @@ impl<'t> End<'t> {
         argument: &Option<Val>,
         linked: Option<i64>,
     ) -> Result<Option<i64>, CallRefusal>
-        ensures { Answers (can_bare self.old.tables self.old.state (the_calls.Invoke context place argument.now linked)) self.old self.new (the_calls.Invoke context place argument.now linked) result }
+        ensures { Answers (can_bare self.old.tables self.old.state
+            (the_calls.Invoke context place argument.now linked)) self.old self.new
+            (the_calls.Invoke context place argument.now linked) result }
     {
         let tables = self.tables;
         let Some(operation) = tables.operation(place) else {
@@ -134,7 +146,12 @@ impl<'t> End<'t> {
 
     /// Writes the outcome of an open invocation of the peer.
     fn end_invocation(&mut self, id: i64, text: &[u8]) -> Result<(), NoMemory>
-        ensures ok { OnOk result (self.new ≡ record self.old { state = record self.old.state { opens = without false id self.old.state.opens; waiting = self.old.state.waiting ++ text.now } }) }
+        ensures ok { OnOk result (self.new ≡ record self.old {
+          state = record self.old.state {
+            opens = without false id self.old.state.opens;
+            waiting = self.old.state.waiting ++ text.now;
+          };
+        }) }
         ensures err { OnErr result (Keeps self.old self.new) }
     {
         self.waiting.extend(text)?;
@@ -145,7 +162,8 @@ impl<'t> End<'t> {
     /// Answers an invocation of the peer by its result.
     #[tactic(auto, using(crate::proofs::Due::answered), unfolding(dialogue::specs::Calls::can_answer))]
     fn answer(&mut self, id: i64, value: &Option<Val>) -> Result<Option<i64>, CallRefusal>
-        ensures { Answers (can_bare self.old.tables self.old.state (the_calls.Answer id value.now)) self.old self.new (the_calls.Answer id value.now) result }
+        ensures { Answers (can_bare self.old.tables self.old.state (the_calls.Answer id value.now))
+            self.old self.new (the_calls.Answer id value.now) result }
     {
         let tables = self.tables;
         let Some(opened) = self.opens.find(false, id) else {
@@ -178,7 +196,9 @@ impl<'t> End<'t> {
         place: u32,
         parameter: &Option<Val>,
     ) -> Result<Option<i64>, CallRefusal>
-        ensures { Answers (can_bare self.old.tables self.old.state (the_calls.Refuse id place parameter.now)) self.old self.new (the_calls.Refuse id place parameter.now) result }
+        ensures { Answers (can_bare self.old.tables self.old.state
+            (the_calls.Refuse id place parameter.now)) self.old self.new
+            (the_calls.Refuse id place parameter.now) result }
     {
         let tables = self.tables;
         let Some(opened) = self.opens.find(false, id) else {
@@ -208,7 +228,8 @@ impl<'t> End<'t> {
 
     /// Makes a call that the phase allows.
     fn call_allowed(&mut self, call: &Call) -> Result<Option<i64>, CallRefusal>
-        ensures { Answers (can_bare self.old.tables self.old.state call.now) self.old self.new call.now result }
+        ensures { Answers (can_bare self.old.tables self.old.state call.now) self.old self.new
+            call.now result }
     {
         match call {
             Call::Invoke {
@@ -230,7 +251,8 @@ impl<'t> End<'t> {
     /// Makes a call, or refuses it by the first row that fails.
     #[tactic(auto, unfolding(dialogue::specs::Calls::can_call))]
     fn call_now(&mut self, call: &Call) -> Result<Option<i64>, CallRefusal>
-        ensures { Answers (can_call self.old.tables self.old.config self.old.state call.now) self.old self.new call.now result }
+        ensures { Answers (can_call self.old.tables self.old.config self.old.state call.now)
+            self.old self.new call.now result }
     {
         if is_dead(self.phase) {
             return Err(CallRefusal::Dead);
@@ -246,7 +268,9 @@ impl<'t> End<'t> {
 
     /// Makes a call; where memory is refused, the end dies.
     fn call_or_die(&mut self, call: &Call) -> Result<Option<i64>, CallRefusal>
-        ensures { MatchBool (is_memory result) (Died self.old self.new) (Answered (can_call self.old.tables self.old.config self.old.state call.now) self.old self.new call.now result) }
+        ensures { MatchBool (is_memory result) (Died self.old self.new)
+            (Answered (can_call self.old.tables self.old.config self.old.state call.now) self.old
+            self.new call.now result) }
     {
         let answer = self.call_now(call);
         if matches!(answer, Err(CallRefusal::NoMemory)) {
@@ -259,9 +283,14 @@ impl<'t> End<'t> {
     /// but after a refusal by want of memory the end is dead, and answers `Dead` from then on. An
     /// accepted invocation is answered by its identifier, all else by `None`.
     pub fn call(&mut self, call: Call) -> Result<Option<i64>, CallRefusal>
-        ensures answer { MatchBool (is_memory result) (Died self.old self.new) (Answered (can_call self.old.tables self.old.config self.old.state call) self.old self.new call result) }
+        ensures answer { MatchBool (is_memory result) (Died self.old self.new)
+            (Answered (can_call self.old.tables self.old.config self.old.state call) self.old
+            self.new call result) }
         // Where the end stood for a history, it stands for it with the steps of the call.
-        ensures history { (h : History) → StandsFor self.old h → OnFalse (is_memory result) (StandsFor self.new (going_on h (call_steps self.old.tables self.old.config (state_of self.old.tables h) call))) }
+        ensures history { (h : History) → StandsFor self.old h →
+            OnFalse (is_memory result) (StandsFor self.new
+            (going_on h (call_steps self.old.tables self.old.config (state_of self.old.tables h)
+            call))) }
     {
         self.call_or_die(&call)
     }

@@ -54,10 +54,15 @@ impl<'t> End<'t> {
     /// other modes aren't built yet, and no `Setup` has one. The end is up at once, and its one
     /// context is that of bare mode. Refused is what `check_config` refuses, and want of memory.
     pub fn new(alloc: Global, tables: &'t Tables, config: Config) -> Result<End<'t>, ConfigRefusal>
-        ensures made { IfOk result (λ end. end ≡ record { tables = tables.entry.now; config = config; state = bare_start tables.entry.now }) }
+        ensures made { IfOk result (λ end. end ≡ record {
+          tables = tables.entry.now;
+          config = config;
+          state = bare_start tables.entry.now;
+        }) }
         ensures history { IfOk result (λ end. StandsFor end []) }
         ensures accepted { OnOk result (config_refusal config ≡ None) }
-        ensures refused { IfErr result (λ refusal. (refusal ≢ config_refusals.NoMemory) → config_refusal config ≡ Some refusal) }
+        ensures refused { IfErr result (λ refusal. (refusal ≢ config_refusals.NoMemory) →
+            config_refusal config ≡ Some refusal) }
     {
         check_config(alloc, &config)?;
         let Ok(heads) = Heads::new(alloc) else {
@@ -144,7 +149,8 @@ impl<'t> End<'t> {
         ensures count { result ≡ min (length out.old) (length self.old.state.waiting) }
         ensures given { out.new ≡ take result self.old.state.waiting ++ drop result out.old }
         ensures end { self.new ≡ stepped self.old (gave result ∷ []) }
-        ensures history { (h : History) → StandsFor self.old h → StandsFor self.new (gave result ∷ h) }
+        ensures history { (h : History) → StandsFor self.old h →
+            StandsFor self.new (gave result ∷ h) }
     {
         let count = copy_front(self.waiting.as_slice(), out);
         self.waiting.skip(count);

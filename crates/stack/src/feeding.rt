@@ -38,7 +38,8 @@ fn push_cuts(opens: &[Opened], shown: &mut Indications) -> Result<(), NoMemory>
 impl<'t> End<'t> {
     /// Ends the association for a fault at this place.
     fn abort(&mut self, place: usize, shown: &mut Indications) -> Result<(), NoMemory>
-        ensures ok { OnOk result (self.new ≡ stepped self.old (fault Rose place 0 ∷ feed_end ∷ [])) }
+        ensures ok { OnOk result (self.new ≡ stepped self.old
+            (fault Rose place 0 ∷ feed_end ∷ [])) }
         ensures shown { OnOk result (shown.new ≡ shown.old ++ shown_abort self.old.state place) }
         ensures err { OnErr result (Keeps self.old self.new) }
     {
@@ -59,8 +60,14 @@ impl<'t> End<'t> {
     fn take(&mut self, apdu: Apdu, used: usize, shown: &mut Indications) -> Result<(), NoMemory>
         requires within { used ≤ length self.old.state.rest }
         requires identifier { HasIdentifier apdu }
-        ensures ok { OnOk result (self.new ≡ record self.old { state = record self.old.state { opens = opens_after self.old.tables self.old.state.opens (the_apdu apdu); rest = drop used self.old.state.rest } }) }
-        ensures shown { OnOk result (shown.new ≡ shown.old ++ shown_of self.old.tables (the_apdu apdu)) }
+        ensures ok { OnOk result (self.new ≡ record self.old {
+          state = record self.old.state {
+            opens = opens_after self.old.tables self.old.state.opens (the_apdu apdu);
+            rest = drop used self.old.state.rest;
+          };
+        }) }
+        ensures shown { OnOk result (shown.new ≡ shown.old ++ shown_of self.old.tables
+            (the_apdu apdu)) }
         ensures err { OnErr result (Keeps self.old self.new) }
     {
         settle(self.tables, &mut self.opens, &apdu)?;
@@ -73,8 +80,10 @@ impl<'t> End<'t> {
 
     /// The APDU, if it may be taken now.
     fn accepted(&self, apdu: Apdu) -> Option<Apdu>
-        ensures taken { IfSome result (λ taken. (taken ≡ apdu) × (may_take_apdu self.now.tables self.now.state.opens apdu ≡ true)) }
-        ensures refused { IfNone result (may_take_apdu self.now.tables self.now.state.opens apdu ≡ false) }
+        ensures taken { IfSome result (λ taken. (taken ≡ apdu) ×
+            (may_take_apdu self.now.tables self.now.state.opens apdu ≡ true)) }
+        ensures refused { IfNone result (may_take_apdu self.now.tables self.now.state.opens apdu
+            ≡ false) }
     {
         accepted(self.tables, &self.opens, apdu)
     }
@@ -89,7 +98,8 @@ impl<'t> End<'t> {
         requires first { IsFirst self.old.tables (content.Apdu apdu) used self.old.state.rest }
         requires open_ { passes_over self.old.state.phase ≡ false }
         requires held { self.old.state.held ≡ bare_set self.old.tables }
-        ensures { MatchResult result (λ more. Goes more self.old self.new shown.old shown.new) (λ _. Keeps self.old self.new) }
+        ensures { MatchResult result (λ more. Goes more self.old self.new shown.old shown.new)
+            (λ _. Keeps self.old self.new) }
     {
         match self.accepted(apdu) {
             Some(apdu) => {
@@ -115,7 +125,8 @@ impl<'t> End<'t> {
     /// Reads what stands first, and answers whether more may follow.
     fn read_next(&mut self, shown: &mut Indications) -> Result<bool, NoMemory>
         requires { passes_over self.old.state.phase ≡ false }
-        ensures { MatchResult result (λ more. Goes more self.old self.new shown.old shown.new) (λ _. Keeps self.old self.new) }
+        ensures { MatchResult result (λ more. Goes more self.old self.new shown.old shown.new)
+            (λ _. Keeps self.old self.new) }
     {
         match self.first()? {
             First::Short => Ok(false),
@@ -163,7 +174,8 @@ impl<'t> End<'t> {
 
     /// Keeps what came.
     fn keep(&mut self, bytes: &[u8]) -> Result<(), NoMemory>
-        ensures ok { OnOk result (self.new ≡ record self.old { state = record self.old.state { rest = self.old.state.rest ++ bytes.now } }) }
+        ensures ok { OnOk result (self.new ≡ record self.old
+            { state = record self.old.state { rest = self.old.state.rest ++ bytes.now } }) }
         ensures err { OnErr result (Keeps self.old self.new) }
     {
         self.rest.extend(bytes)?;
@@ -179,7 +191,8 @@ impl<'t> End<'t> {
 
     /// Takes octets, unless memory is refused.
     fn feed_now(&mut self, bytes: &[u8]) -> Result<Indications, NoMemory>
-        ensures { MatchResult result (λ shown. Fed self.old self.new bytes.now shown) (λ _. Keeps self.old self.new) }
+        ensures { MatchResult result (λ shown. Fed self.old self.new bytes.now shown)
+            (λ _. Keeps self.old self.new) }
     {
         let mut shown = self.nothing_shown();
         if self.is_over() {
@@ -194,7 +207,8 @@ impl<'t> End<'t> {
     /// Takes octets that came, and answers the indications of all messages that became whole with
     /// them. After want of memory the end is dead.
     pub fn feed(&mut self, bytes: &[u8]) -> Result<Indications, NoMemory>
-        ensures { MatchResult result (λ shown. Fed self.old self.new bytes.now shown) (λ _. Died self.old self.new) }
+        ensures { MatchResult result (λ shown. Fed self.old self.new bytes.now shown)
+            (λ _. Died self.old self.new) }
     {
         let fed = self.feed_now(bytes);
         if fed.is_err() {

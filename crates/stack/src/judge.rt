@@ -71,7 +71,8 @@ fn may_result(tables: &Tables, opens: &Opens, id: i64, returned: &Option<Returne
 }
 
 fn may_error(tables: &Tables, opens: &Opens, id: i64, code: &Code) -> bool
-    ensures { result ≡ may_error (operation_of tables.now (opened_with true id opens.now)) (error_with tables.now code.now) }
+    ensures { result ≡ may_error (operation_of tables.now (opened_with true id opens.now))
+        (error_with tables.now code.now) }
 {
     let Some(opened) = opens.find(true, id) else {
         return false;
@@ -102,7 +103,8 @@ fn may_take(tables: &Tables, opens: &Opens, apdu: &Apdu) -> bool
 
 /// The APDU, if it may be taken while these invocations are open.
 pub fn accepted(tables: &Tables, opens: &Opens, apdu: Apdu) -> Option<Apdu>
-    ensures taken { IfSome result (λ taken. (taken ≡ apdu) × (may_take_apdu tables.now opens.now apdu ≡ true)) }
+    ensures taken { IfSome result (λ taken. (taken ≡ apdu) ×
+        (may_take_apdu tables.now opens.now apdu ≡ true)) }
     ensures refused { IfNone result (may_take_apdu tables.now opens.now apdu ≡ false) }
 {
     if may_take(tables, opens, &apdu) {

@@ -23,7 +23,8 @@ pub(crate) struct CodePlaces {
 
 /// Gives a local code its place.
 fn put_local(locals: &mut BTreeMap<i64, usize>, number: &i64, place: usize) -> Result<(), NoMemory>
-    ensures ok { OnOk result ((q : ℤ) → local_place locals.new.entries q ≡ (if int_eq number.now q then Some place else local_place locals.old.entries q)) }
+    ensures ok { OnOk result ((q : ℤ) → local_place locals.new.entries q
+        ≡ (if int_eq number.now q then Some place else local_place locals.old.entries q)) }
     ensures err { OnErr result (locals.new.entries ≡ locals.old.entries) }
 {
     match locals.insert(*number, place) {
@@ -39,7 +40,9 @@ fn put_global(
     arcs: &[u32],
     place: usize,
 ) -> Result<(), NoMemory>
-    ensures ok { OnOk result ((q : List ℕ) → global_place globals.new.entries q ≡ (if pointwise nat_eq arcs.now q then Some place else global_place globals.old.entries q)) }
+    ensures ok { OnOk result ((q : List ℕ) → global_place globals.new.entries q
+        ≡ (if pointwise nat_eq arcs.now q then Some place else global_place globals.old.entries
+        q)) }
     ensures err { OnErr result (globals.new.entries ≡ globals.old.entries) }
 {
     let key = Vec::from_slice(alloc, arcs)?;
@@ -73,7 +76,8 @@ impl CodePlaces {
 
     /// Gives a code its place, unless it has one. Want of memory changes nothing.
     pub(crate) fn put(&mut self, code: &Code, place: usize) -> Result<(), NoMemory>
-        ensures ok { OnOk result ((q : Code) → place_in self.new q ≡ first_of (place_in self.old q) (if same_code code.now q then Some place else None)) }
+        ensures ok { OnOk result ((q : Code) → place_in self.new q ≡ first_of (place_in self.old q)
+            (if same_code code.now q then Some place else None)) }
         ensures err { OnErr result ((q : Code) → place_in self.new q ≡ place_in self.old q) }
     {
         if self.place(code).is_some() {

@@ -27,7 +27,8 @@ pub trait Stubs {
 impl Stubs for Tables {
     fn stub(&self, operation: u32) -> Option<Stub<'_>>
         ensures there { is_some result ≡ is_some (operation_at self.now operation) }
-        ensures stub { IfSome result (λ stub. (stub.tables.now ≡ self.now) × (stub.operation ≡ operation)) }
+        ensures stub { IfSome result (λ stub. (stub.tables.now ≡ self.now) ×
+            (stub.operation ≡ operation)) }
     {
         if (operation as usize) < self.operations.len() {
             Some(Stub {
@@ -67,7 +68,8 @@ impl<'t> Stub<'t> {
     ///
     /// `Unfit`, with the value, exactly where it doesn't fit.
     pub fn argument(&self, value: Option<Val>) -> Result<TypedVal<'t>, Unfit>
-        ensures { IsTyped self.now.tables.now.types (argument_of self.now.tables.now self.now.operation) value result }
+        ensures { IsTyped self.now.tables.now.types
+            (argument_of self.now.tables.now self.now.operation) value result }
     {
         typed(&self.tables.types, Some(self.row().argument), value)
     }
@@ -78,7 +80,8 @@ impl<'t> Stub<'t> {
     ///
     /// `Unfit`, with the value, exactly where it doesn't fit or the operation returns no result.
     pub fn result(&self, value: Option<Val>) -> Result<TypedVal<'t>, Unfit>
-        ensures { IsTyped self.now.tables.now.types (result_of self.now.tables.now self.now.operation) value result }
+        ensures { IsTyped self.now.tables.now.types
+            (result_of self.now.tables.now self.now.operation) value result }
     {
         let row = self.row();
         let carried = if row.returns { Some(row.result) } else { None };
@@ -91,7 +94,8 @@ impl<'t> Stub<'t> {
     ///
     /// `Unfit`, with the value, exactly where it doesn't fit or the error isn't the operation's.
     pub fn error(&self, error: u32, value: Option<Val>) -> Result<TypedVal<'t>, Unfit>
-        ensures { IsTyped self.now.tables.now.types (parameter_of self.now.tables.now self.now.operation error) value result }
+        ensures { IsTyped self.now.tables.now.types
+            (parameter_of self.now.tables.now self.now.operation error) value result }
     {
         typed(&self.tables.types, self.parameter_use(error), value)
     }

@@ -17,7 +17,8 @@ use std::alloc::Global;
 /// So many octets.
 #[tactic(auto, unfolding(crate::specs::Fields::octets_at))]
 fn octets<'a>(size: u32, spot: Spot<'a>) -> Result<(&'a [u8], Spot<'a>), Stop>
-    ensures gives { Gives (λ x. (x.0.now, spot_of x.1)) result (octets_at size (spot_of spot.entry)) }
+    ensures gives { Gives (λ x. (x.0.now, spot_of x.1)) result
+        (octets_at size (spot_of spot.entry)) }
     ensures size { IfOk result (λ x. length x.0.now ≡ size) }
 {
     if spot.rest.len() < size as usize {

@@ -34,7 +34,8 @@ impl Codes {
     /// Sees a code; whether it is seen for the first time.
     pub fn see(&mut self, code: &Code) -> Result<bool, NoMemory>
         ensures first { IfOk result (λ is_new. is_new ≡ not (has_code self.old code.now)) }
-        ensures seen { OnOk result ((other : _) → has_code self.new other ≡ (same_code code.now other || has_code self.old other)) }
+        ensures seen { OnOk result ((other : _) → has_code self.new other
+            ≡ (same_code code.now other || has_code self.old other)) }
     {
         match code {
             Code::Local(number) => Ok(self.locals.insert(*number)?),
@@ -67,7 +68,8 @@ impl Names {
     /// Sees a name; whether it is seen for the first time.
     pub fn see(&mut self, name: &Name) -> Result<bool, NoMemory>
         ensures first { IfOk result (λ is_new. is_new ≡ not (has_name self.old name.now)) }
-        ensures seen { OnOk result ((other : _) → has_name self.new other ≡ (pointwise nat_eq name.now other || has_name self.old other)) }
+        ensures seen { OnOk result ((other : _) → has_name self.new other
+            ≡ (pointwise nat_eq name.now other || has_name self.old other)) }
     {
         let octets = Vec::from_slice(self.alloc, name.as_bytes())?;
         Ok(self.names.insert(octets)?)

@@ -72,7 +72,8 @@ fn contents<'a>(
     spot: Spot<'a>,
 ) -> Result<(Tables, Spot<'a>), Stop>
     requires { fields.now ≡ field_types }
-    ensures { Gives (λ x. (contents_of x.0, spot_of x.1)) result (contents_at version (spot_of spot.entry)) }
+    ensures { Gives (λ x. (contents_of x.0, spot_of x.1)) result
+        (contents_at version (spot_of spot.entry)) }
 {
     let (name, behind_name) = module_name(alloc, spot)?;
     let (name_oid, behind_oid) = object_id(alloc, fields, behind_name)?;

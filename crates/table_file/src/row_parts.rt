@@ -99,7 +99,8 @@ fn one_item<'a>(
     spot: Spot<'a>,
 ) -> Result<(Option<Named>, Spot<'a>), Stop>
     requires { fields.now ≡ field_types }
-    ensures { Gives (λ x. (x.0, spot_of x.1)) result (found.joins found.item_at before (spot_of spot.entry)) }
+    ensures { Gives (λ x. (x.0, spot_of x.1)) result
+        (found.joins found.item_at before (spot_of spot.entry)) }
 {
     let (one, after) = item(alloc, fields, spot)?;
     Ok((joined(before, one)?, after))
@@ -112,7 +113,8 @@ pub(crate) fn items<'a>(
     spot: Spot<'a>,
 ) -> Result<(Option<Named>, Spot<'a>), Stop>
     requires { fields.now ≡ field_types }
-    ensures { Gives (λ x. (x.0, spot_of x.1)) result (found.list_at found.item_at (spot_of spot.entry)) }
+    ensures { Gives (λ x. (x.0, spot_of x.1)) result
+        (found.list_at found.item_at (spot_of spot.entry)) }
 {
     let (number, behind) = counted(spot)?;
     let mut spot = behind;
@@ -134,7 +136,8 @@ fn default<'a>(
     spot: Spot<'a>,
 ) -> Result<(Option<i64>, Spot<'a>), Stop>
     requires { fields.now ≡ field_types }
-    ensures { Gives (λ x. (x.0, spot_of x.1)) result (found.default_at version (spot_of spot.entry)) }
+    ensures { Gives (λ x. (x.0, spot_of x.1)) result
+        (found.default_at version (spot_of spot.entry)) }
 {
     match version {
         Version::One => Ok((None, spot)),
@@ -197,7 +200,8 @@ fn one_part<'a>(
     spot: Spot<'a>,
 ) -> Result<(Option<Parts>, Spot<'a>), Stop>
     requires { fields.now ≡ field_types }
-    ensures { Gives (λ x. (x.0, spot_of x.1)) result (found.joins (found.part_at version) before (spot_of spot.entry)) }
+    ensures { Gives (λ x. (x.0, spot_of x.1)) result
+        (found.joins (found.part_at version) before (spot_of spot.entry)) }
 {
     let (one, after) = part(alloc, fields, version, spot)?;
     Ok((joined(before, one)?, after))
@@ -211,7 +215,8 @@ pub(crate) fn parts<'a>(
     spot: Spot<'a>,
 ) -> Result<(Option<Parts>, Spot<'a>), Stop>
     requires { fields.now ≡ field_types }
-    ensures { Gives (λ x. (x.0, spot_of x.1)) result (found.list_at (found.part_at version) (spot_of spot.entry)) }
+    ensures { Gives (λ x. (x.0, spot_of x.1)) result
+        (found.list_at (found.part_at version) (spot_of spot.entry)) }
 {
     let (number, behind) = counted(spot)?;
     let mut spot = behind;
@@ -252,7 +257,8 @@ fn one_index<'a>(
     spot: Spot<'a>,
 ) -> Result<(Option<Indices>, Spot<'a>), Stop>
     requires { fields.now ≡ field_types }
-    ensures { Gives (λ x. (x.0, spot_of x.1)) result (found.joins (found.index_at most) before (spot_of spot.entry)) }
+    ensures { Gives (λ x. (x.0, spot_of x.1)) result
+        (found.joins (found.index_at most) before (spot_of spot.entry)) }
 {
     let (one, after) = index(alloc, fields, most, spot)?;
     Ok((joined(before, one)?, after))
@@ -266,7 +272,8 @@ pub(crate) fn indices<'a>(
     spot: Spot<'a>,
 ) -> Result<(Option<Indices>, Spot<'a>), Stop>
     requires { fields.now ≡ field_types }
-    ensures { Gives (λ x. (x.0, spot_of x.1)) result (found.list_at (found.index_at most) (spot_of spot.entry)) }
+    ensures { Gives (λ x. (x.0, spot_of x.1)) result
+        (found.list_at (found.index_at most) (spot_of spot.entry)) }
 {
     let (number, behind) = counted(spot)?;
     let mut spot = behind;

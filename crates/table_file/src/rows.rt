@@ -154,7 +154,8 @@ fn of_parts<'a>(
     spot: Spot<'a>,
 ) -> Result<(Option<TypeRow>, Spot<'a>), Stop>
     requires { fields.now ≡ field_types }
-    ensures { Gives (λ x. (x.0, spot_of x.1)) result (found.of_parts_at version (found.made_row made) (spot_of spot.entry)) }
+    ensures { Gives (λ x. (x.0, spot_of x.1)) result
+        (found.of_parts_at version (found.made_row made) (spot_of spot.entry)) }
 {
     let (found, after) = parts(alloc, fields, version, spot)?;
     match found {
@@ -207,7 +208,8 @@ fn set_of<'a>(
     spot: Spot<'a>,
 ) -> Result<(Option<TypeRow>, Spot<'a>), Stop>
     requires { fields.now ≡ field_types }
-    ensures { Gives (λ x. (x.0, spot_of x.1)) result (found.set_of_at version place (spot_of spot.entry)) }
+    ensures { Gives (λ x. (x.0, spot_of x.1)) result
+        (found.set_of_at version place (spot_of spot.entry)) }
 {
     match version {
         Version::One => Err(Stop::Bad(place)),
@@ -276,7 +278,8 @@ fn one_row<'a>(
     spot: Spot<'a>,
 ) -> Result<Spot<'a>, Stop>
     requires { fields.now ≡ field_types }
-    ensures { Gives (λ after. (types.new, spot_of after)) result (found.adds version types.old (spot_of spot.entry)) }
+    ensures { Gives (λ after. (types.new, spot_of after)) result
+        (found.adds version types.old (spot_of spot.entry)) }
 {
     let (row, after) = row(alloc, fields, version, spot)?;
     add(types, row, spot.place)?;

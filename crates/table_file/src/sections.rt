@@ -57,7 +57,8 @@ fn inner<'a>(
     spot: Spot<'a>,
 ) -> Result<(Option<Option<TypeId>>, Spot<'a>), Stop>
     requires { fields.now ≡ field_types }
-    ensures { Gives (λ x. (x.0, spot_of x.1)) result (found.type_at types.now (spot_of spot.entry)) }
+    ensures { Gives (λ x. (x.0, spot_of x.1)) result
+        (found.type_at types.now (spot_of spot.entry)) }
 {
     let (is_there, behind) = truth(spot)?;
     if !is_there {
@@ -112,7 +113,8 @@ fn error<'a>(
     spot: Spot<'a>,
 ) -> Result<(Option<ErrorRow>, Spot<'a>), Stop>
     requires { fields.now ≡ field_types }
-    ensures { Gives (λ x. (x.0, spot_of x.1)) result (found.error_at types.now (spot_of spot.entry)) }
+    ensures { Gives (λ x. (x.0, spot_of x.1)) result
+        (found.error_at types.now (spot_of spot.entry)) }
 {
     let (name, behind_name) = name(alloc, spot)?;
     let (code, behind_code) = code(alloc, fields, behind_name)?;
@@ -133,7 +135,8 @@ fn add_error(
     ensures gives { Gives (λ _. errors.new) result (found.error_added place errors.old row) }
     ensures names { OnOk result (AreErrorNames names.new errors.new) }
     ensures codes { OnOk result (AreErrorCodes codes.new errors.new) }
-    ensures own { OnOk result (IsTrue (have_own_codes (λ e. e.code) errors.old) → IsTrue (have_own_codes (λ e. e.code) errors.new)) }
+    ensures own { OnOk result (IsTrue (have_own_codes (λ e. e.code) errors.old) →
+        IsTrue (have_own_codes (λ e. e.code) errors.new)) }
     ensures count { OnOk result (length errors.new ≡ length errors.old + 1) }
 {
     let Some(row) = row else {
@@ -162,10 +165,12 @@ fn one_error<'a>(
     requires fields { fields.now ≡ field_types }
     requires names { AreErrorNames names.old errors.old }
     requires codes { AreErrorCodes codes.old errors.old }
-    ensures gives { Gives (λ after. (errors.new, spot_of after)) result (found.adds_error types.now errors.old (spot_of spot.entry)) }
+    ensures gives { Gives (λ after. (errors.new, spot_of after)) result
+        (found.adds_error types.now errors.old (spot_of spot.entry)) }
     ensures names { OnOk result (AreErrorNames names.new errors.new) }
     ensures codes { OnOk result (AreErrorCodes codes.new errors.new) }
-    ensures own { OnOk result (IsTrue (have_own_codes (λ e. e.code) errors.old) → IsTrue (have_own_codes (λ e. e.code) errors.new)) }
+    ensures own { OnOk result (IsTrue (have_own_codes (λ e. e.code) errors.old) →
+        IsTrue (have_own_codes (λ e. e.code) errors.new)) }
     ensures count { OnOk result (length errors.new ≡ length errors.old + 1) }
 {
     let (row, after) = error(alloc, fields, types, spot)?;
@@ -183,7 +188,8 @@ pub(crate) fn errors<'a>(
 ) -> Result<(ErrorRows, Spot<'a>), Stop>
     requires fields { fields.now ≡ field_types }
     requires names { (name : _) → has_name names.old name ≡ false }
-    ensures gives { Gives (λ x. (x.0, spot_of x.1)) result (found.errors_at types.now (spot_of spot.entry)) }
+    ensures gives { Gives (λ x. (x.0, spot_of x.1)) result
+        (found.errors_at types.now (spot_of spot.entry)) }
     ensures names { IfOk result (λ x. AreErrorNames names.new x.0) }
     ensures own { IfOk result (λ x. IsTrue (have_own_codes (λ e. e.code) x.0)) }
     ensures few { IfOk result (λ x. length x.0 < 2 ^ 32) }
@@ -246,7 +252,8 @@ fn operation<'a>(
     spot: Spot<'a>,
 ) -> Result<(Option<Operation>, Spot<'a>), Stop>
     requires { fields.now ≡ field_types }
-    ensures { Gives (λ x. (x.0, spot_of x.1)) result (found.operation_at types.now errors operations (spot_of spot.entry)) }
+    ensures { Gives (λ x. (x.0, spot_of x.1)) result (found.operation_at types.now errors operations
+        (spot_of spot.entry)) }
 {
     let (name, behind_name) = name(alloc, spot)?;
     let (code, behind_code) = code(alloc, fields, behind_name)?;
@@ -275,10 +282,12 @@ fn add_operation(
 ) -> Result<(), Stop>
     requires names { AreNames names.old errors.now operations.old }
     requires codes { AreOperationCodes codes.old operations.old }
-    ensures gives { Gives (λ _. operations.new) result (found.operation_added place errors.now operations.old row) }
+    ensures gives { Gives (λ _. operations.new) result
+        (found.operation_added place errors.now operations.old row) }
     ensures names { OnOk result (AreNames names.new errors.now operations.new) }
     ensures codes { OnOk result (AreOperationCodes codes.new operations.new) }
-    ensures own { OnOk result (IsTrue (have_own_codes (λ o. o.code) operations.old) → IsTrue (have_own_codes (λ o. o.code) operations.new)) }
+    ensures own { OnOk result (IsTrue (have_own_codes (λ o. o.code) operations.old) →
+        IsTrue (have_own_codes (λ o. o.code) operations.new)) }
     ensures count { OnOk result (length operations.new ≡ length operations.old + 1) }
 {
     let Some(row) = row else {
@@ -309,10 +318,12 @@ fn one_operation<'a>(
     requires fields { fields.now ≡ field_types }
     requires names { AreNames names.old errors.now operations.old }
     requires codes { AreOperationCodes codes.old operations.old }
-    ensures gives { Gives (λ after. (operations.new, spot_of after)) result (found.adds_operation types.now errors.now count operations.old (spot_of spot.entry)) }
+    ensures gives { Gives (λ after. (operations.new, spot_of after)) result
+        (found.adds_operation types.now errors.now count operations.old (spot_of spot.entry)) }
     ensures names { OnOk result (AreNames names.new errors.now operations.new) }
     ensures codes { OnOk result (AreOperationCodes codes.new operations.new) }
-    ensures own { OnOk result (IsTrue (have_own_codes (λ o. o.code) operations.old) → IsTrue (have_own_codes (λ o. o.code) operations.new)) }
+    ensures own { OnOk result (IsTrue (have_own_codes (λ o. o.code) operations.old) →
+        IsTrue (have_own_codes (λ o. o.code) operations.new)) }
     ensures count { OnOk result (length operations.new ≡ length operations.old + 1) }
 {
     let (row, after) = operation(alloc, fields, types, errors.len(), count, spot)?;
@@ -331,7 +342,8 @@ pub(crate) fn operations<'a>(
 ) -> Result<(Operations, Spot<'a>), Stop>
     requires fields { fields.now ≡ field_types }
     requires names { AreErrorNames names.old errors.now }
-    ensures gives { Gives (λ x. (x.0, spot_of x.1)) result (found.operations_at types.now errors.now (spot_of spot.entry)) }
+    ensures gives { Gives (λ x. (x.0, spot_of x.1)) result
+        (found.operations_at types.now errors.now (spot_of spot.entry)) }
     ensures own { IfOk result (λ x. IsTrue (have_own_codes (λ o. o.code) x.0)) }
     ensures few { IfOk result (λ x. length x.0 < 2 ^ 32) }
 {

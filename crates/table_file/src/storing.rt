@@ -225,7 +225,10 @@ fn put_error(
 /// Puts what an operation returns, its errors and its linked operations.
 fn put_outcome(fields: &TypeTable, operation: &Operation, out: &mut Octets) -> Result<(), NoMemory>
     requires { fields.now ≡ field_types }
-    ensures { OnOk result (out.new ≡ out.old ++ (truth_file operation.now.returns ++ (truth_file operation.now.always ++ (list_file number_file operation.now.errors ++ list_file number_file operation.now.linked)))) }
+    ensures { OnOk result (out.new ≡ out.old
+        ++ (truth_file operation.now.returns
+        ++ (truth_file operation.now.always ++ (list_file number_file operation.now.errors
+        ++ list_file number_file operation.now.linked)))) }
 {
     put_truth(out, operation.returns)?;
     put_truth(out, operation.always)?;
@@ -305,7 +308,8 @@ fn put_contents(
     out: &mut Octets,
 ) -> Result<(), NoMemory>
     requires { fields.now ≡ field_types }
-    ensures { OnOk result (out.new ≡ out.old ++ contents_file versions.Two (contents_of tables.now)) }
+    ensures { OnOk result (out.new ≡ out.old ++ contents_file versions.Two
+        (contents_of tables.now)) }
 {
     put_counted(out, tables.name.as_bytes())?;
     put_oid(alloc, fields, &tables.name_oid, out)?;

@@ -40,7 +40,8 @@ fn put_head_or_count(
     head: &ApduHead,
     octets: &Octets,
 ) -> Result<(), NoMemory>
-    ensures { OnOk result (text.new ≡ text.old ++ words_or octets.now (head_told tables.now head.now)) }
+    ensures { OnOk result (text.new ≡ text.old ++ words_or octets.now
+        (head_told tables.now head.now)) }
 {
     if put_head(text, tables, head)? {
         return Ok(());
@@ -57,7 +58,8 @@ fn put_value(
     text: &mut Text,
     octets: &Octets,
 ) -> Result<(), NoMemory>
-    ensures { OnOk result (Puts (IsContentText tables.now (contents.SingleAsn1Type octets.now)) text.old text.new) }
+    ensures { OnOk result (Puts (IsContentText tables.now (contents.SingleAsn1Type octets.now))
+        text.old text.new) }
 {
     match head_of(alloc, heads, octets)? {
         None => {

@@ -69,7 +69,8 @@ fn put_named(text: &mut Text, word: &str, id: Option<i64>, name: &Name) -> Resul
 }
 
 fn put_invoke(text: &mut Text, tables: &Tables, head: &ApduHead) -> Result<bool, NoMemory>
-    ensures { IfOk result (λ told. WasTold told text.old text.new (invoke_told tables.now head.now.id head.now.code)) }
+    ensures { IfOk result (λ told. WasTold told text.old text.new
+        (invoke_told tables.now head.now.id head.now.code)) }
 {
     let Some(code) = &head.code else {
         return Ok(false);
@@ -84,7 +85,8 @@ fn put_invoke(text: &mut Text, tables: &Tables, head: &ApduHead) -> Result<bool,
 }
 
 fn put_error(text: &mut Text, tables: &Tables, head: &ApduHead) -> Result<bool, NoMemory>
-    ensures { IfOk result (λ told. WasTold told text.old text.new (error_told tables.now head.now.id head.now.code)) }
+    ensures { IfOk result (λ told. WasTold told text.old text.new
+        (error_told tables.now head.now.id head.now.code)) }
 {
     let Some(code) = &head.code else {
         return Ok(false);
@@ -106,7 +108,8 @@ fn put_bare_result(text: &mut Text, id: Option<i64>) -> Result<(), NoMemory>
 }
 
 fn put_result(text: &mut Text, tables: &Tables, head: &ApduHead) -> Result<bool, NoMemory>
-    ensures { IfOk result (λ told. WasTold told text.old text.new (result_told tables.now head.now.id head.now.code)) }
+    ensures { IfOk result (λ told. WasTold told text.old text.new
+        (result_told tables.now head.now.id head.now.code)) }
 {
     let Some(code) = &head.code else {
         put_bare_result(text, head.id)?;
@@ -122,7 +125,8 @@ fn put_result(text: &mut Text, tables: &Tables, head: &ApduHead) -> Result<bool,
 }
 
 fn put_reject(text: &mut Text, head: &ApduHead) -> Result<bool, NoMemory>
-    ensures { IfOk result (λ told. WasTold told text.old text.new (reject_told head.now.id head.now.problem)) }
+    ensures { IfOk result (λ told. WasTold told text.old text.new
+        (reject_told head.now.id head.now.problem)) }
 {
     match head.problem {
         None => Ok(false),

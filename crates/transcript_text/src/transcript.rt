@@ -45,7 +45,8 @@ fn put_indication_line(
     side: Side,
     indication: &Indication,
 ) -> Result<(), NoMemory>
-    ensures { OnOk result (text.new ≡ text.old ++ indication_line tables.now own.now side indication.now) }
+    ensures { OnOk result (text.new ≡ text.old ++ indication_line tables.now own.now side
+        indication.now) }
 {
     text.put("  ")?;
     text.put(side_word(side))?;
@@ -62,7 +63,8 @@ fn put_indication_lines(
     side: Side,
     indications: &[Indication],
 ) -> Result<(), NoMemory>
-    ensures { OnOk result (text.new ≡ text.old ++ flat_map (indication_line tables.now own.now side) indications.now) }
+    ensures { OnOk result (text.new ≡ text.old ++ flat_map (indication_line tables.now own.now side)
+        indications.now) }
 {
     for indication in indications {
         put_indication_line(text, tables, own, side, indication)?;
@@ -143,7 +145,8 @@ fn put_entry(
     number: u64,
     entry: &Entry,
 ) -> Result<(), NoMemory>
-    ensures { OnOk result (text.new ≡ text.old ++ entry_text tables.now before.now number entry.now) }
+    ensures { OnOk result (text.new ≡ text.old ++ entry_text tables.now before.now number
+        entry.now) }
 {
     text.put_number(number)?;
     text.put(" ")?;
@@ -182,7 +185,8 @@ fn put_entries(
     tables: &Tables,
     entries: &[Entry],
 ) -> Result<(), NoMemory>
-    ensures { OnOk result (text.new ≡ text.old ++ entries_text tables.now nothing_yet 1 entries.now) }
+    ensures { OnOk result (text.new ≡ text.old ++ entries_text tables.now nothing_yet 1
+        entries.now) }
 {
     let mut number: u64 = 0;
     let mut so_far = nothing_yet(alloc);

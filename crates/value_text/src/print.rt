@@ -114,7 +114,8 @@ fn put_sequence(
     value: &Val,
 ) -> Result<(), NoMemory>
     requires below { AllByRecursion (λ m. m < of.0) (rows_of_parts parts.now) }
-    ensures { OnOk result (text.new ≡ text.old ++ sequence_text (printed table.now) parts.now value.now) }
+    ensures { OnOk result (text.new ≡ text.old ++ sequence_text (printed table.now) parts.now
+        value.now) }
 {
     match &value.node {
         Node::Parts(values) => {
@@ -143,7 +144,8 @@ fn put_parts(
     values: &[Option<Val>],
 ) -> Result<(), NoMemory>
     requires below { AllByRecursion (λ m. m < of.0) (rows_of_parts parts.now) }
-    ensures { OnOk result (text.new ≡ text.old ++ parts_text (printed table.now) true parts.now (parts_of values.now)) }
+    ensures { OnOk result (text.new ≡ text.old ++ parts_text (printed table.now) true parts.now
+        (parts_of values.now)) }
 {
     let count = parts.len().min(values.len());
     let mut first = true;
@@ -164,7 +166,8 @@ fn put_slot(
     first: bool,
 ) -> Result<bool, NoMemory>
     requires below { part.now.inner.0 < of.0 }
-    ensures text { OnOk result (text.new ≡ text.old ++ slot_text (printed table.now) first part.now value.now) }
+    ensures text { OnOk result (text.new ≡ text.old ++ slot_text (printed table.now) first part.now
+        value.now) }
     ensures first { IfOk result (λ after. after ≡ still_first first value.now) }
 {
     let Some(value) = value else {
@@ -223,7 +226,8 @@ fn put_items(
     values: &[Val],
 ) -> Result<(), NoMemory>
     requires below { inner.0 < of.0 }
-    ensures { OnOk result (text.new ≡ text.old ++ items_text (printed table.now inner.0) true (values_of values.now)) }
+    ensures { OnOk result (text.new ≡ text.old ++ items_text (printed table.now inner.0) true
+        (values_of values.now)) }
 {
     let mut first = true;
     for value in values {
@@ -244,7 +248,8 @@ fn put_choice(
     value: &Val,
 ) -> Result<(), NoMemory>
     requires below { AllByRecursion (λ m. m < of.0) (rows_of_parts alternatives.now) }
-    ensures { OnOk result (text.new ≡ text.old ++ choice_text (printed table.now) alternatives.now value.now) }
+    ensures { OnOk result (text.new ≡ text.old ++ choice_text (printed table.now) alternatives.now
+        value.now) }
 {
     match &value.node {
         Node::Chosen { which, value } => match alternatives.get(*which as usize) {
