@@ -1,29 +1,52 @@
 -- The replay of a schedule.
-use Rattle.std.specs.Prelude.{◌≡◌, ℕ, List, []}
+use Rattle.std.specs.Prelude.{◌≡◌, ℕ, false, List, [], Result, Ok, Err}
 use Rattle.osi_base.specs.declared.words.Side.TheVariants.{A, B}
 use Rattle.stub_tables.specs.declared.tables.Tables.{Tables}
 use Rattle.stub_tables.specs.Readable.{IsReadable}
+use Rattle.dialogue.specs.declared.setup.Setup.{Setup}
 use Rattle.dialogue.specs.declared.event.Transcript.{Transcript}
-use Rattle.dialogue.specs.World.{World, state_at, Runs}
-use Rattle.dialogue.specs.Laws.{KeepsLaws, ShownAsTaken}
-use Rattle.script_text.specs.declared.schedule.Schedule.{Schedule}
-use Rattle.script_text.specs.Texts.{text_of}
+use Rattle.end_rules.specs.World.{World}
+use Rattle.bare_duo.specs.Worlds.{ends_of, end_at, Runs}
+use Rattle.bare_duo.specs.Laws.{KeepsLaws}
+use Rattle.script_lines.specs.declared.fault.ScriptFault.{ScriptFault}
+use Rattle.script_lines.specs.declared.fault.ScriptFault.TheVariants.{At, NoMemory}
+use Rattle.schedule_text.specs.declared.setting.Modes.{Modes}
+use Rattle.schedule_text.specs.Schedules.{Said, schedule_of}
+use Rattle.transcript_text.specs.Texts.{text_of}
+use Rattle.osi_tool.specs.declared.answers.Answer.{Answer}
+use Rattle.osi_tool.specs.Answers.{script_answer, done_answer}
+
+-- the modes that are run: bare mode alone
+abbrev pub bare_alone : Modes
+bare_alone = record { direct = false; reliable = false }
 
 -- Two ends with the configurations of the schedule's setup, which had made no step, ran its events, and
 -- this is the text of what came of them.
-pub record Replayed (tables : Tables) (schedule : Schedule) (text : List ℕ) : Type 0 where
+pub record Replayed (tables : Tables) (schedule : Said) (text : List ℕ) : Type 0 where
+  pub setup : Setup
+  pub a_is : setup.a ≡ schedule.a
+  pub b_is : setup.b ≡ schedule.b
   pub transcript : Transcript
   -- the moments of both ends at the end of the run
   pub world : World
-  pub runs : Runs tables schedule.setup [] schedule.events transcript.entries world
+  pub runs : Runs (ends_of setup tables) [] schedule.events transcript.entries world
   -- what every table of a module keeps
   pub readable : IsReadable tables
   -- Each message taken is the one sent in its place, read under its pair at the sending; no invocation has
-  -- two outcomes; nothing whole waits; and no end found a fault.
-  pub laws : KeepsLaws tables world
-  -- Each carry shows what is taken in it, and nothing else.
-  pub shown : ShownAsTaken tables transcript.entries world
-  pub mode : transcript.mode ≡ schedule.setup.a.mode
-  pub a_phase : transcript.a ≡ (state_at tables A world).phase
-  pub b_phase : transcript.b ≡ (state_at tables B world).phase
+  -- two outcomes, and each is allowed to it; nothing whole waits; no end aborts of itself, and nothing is rejected;
+  -- and each carry shows what comes whole in it, and nothing else.
+  pub laws : KeepsLaws tables (ends_of setup tables) transcript.entries world
+  pub mode : transcript.mode ≡ schedule.a.mode
+  pub a_phase : transcript.a ≡ (end_at (ends_of setup tables) A world).body.link.phase
+  pub b_phase : transcript.b ≡ (end_at (ends_of setup tables) B world).body.link.phase
   pub text_is : text ≡ text_of tables transcript
+
+-- what is answered where the octets of a schedule were read so: the text of its run, or its first faulty line
+abbrev pub RepliedBy : Tables → Result Said ScriptFault → Answer → Type 0
+RepliedBy tables (Ok schedule) answer = (text : List ℕ) × Replayed tables schedule text × (answer ≡ done_answer text)
+RepliedBy tables (Err (At number kind)) answer = answer ≡ script_answer number kind
+RepliedBy tables (Err NoMemory) answer = ⊥
+
+-- what is answered to the octets of a schedule
+abbrev pub ReplayedBy : Tables → List ℕ → Answer → Type 0
+ReplayedBy tables octets answer = RepliedBy tables (schedule_of bare_alone tables octets) answer

@@ -2,12 +2,15 @@
 
 ghost use Rattle.osi_tool.specs.Laws.{OneAnswer};
 
-use duo::one_run;
+use bare_duo::one_run;
+use trace_vectors::one_trace;
 
-/// Words have one answer over told files that don't fail: so a beginning that was written before
-/// writing failed is one of what a sink that doesn't fail is given.
+/// Words have one answer over told files that don't fail, but for the fault of a module: so a
+/// beginning that was written before writing failed is one of what a sink that doesn't fail is
+/// given.
 pub fn one_answer()
     ensures { OneAnswer }
 {
-    one_run()
+    one_run();
+    one_trace();
 }

@@ -1,27 +1,31 @@
 //! The replay of a schedule.
 
-ghost use Rattle.std.specs.Prelude.{◌≡◌, None, IfOk};
-ghost use Rattle.dialogue.specs.Config.{config_refusal};
-ghost use Rattle.dialogue.specs.State.{bare_start};
-ghost use Rattle.osi_tool.specs.Replaying.{Replayed};
+ghost use Rattle.std.specs.Prelude.{◌≡◌, true, false, [], None, IfOk};
+ghost use Rattle.dialogue.specs.declared.config.Mode.TheVariants as modes;
+ghost use Rattle.dialogue.specs.Config.{config_refusal, IsBare};
+ghost use Rattle.bare_end.specs.View.{StandsFor};
+ghost use Rattle.schedule_text.specs.Schedules.{said};
+ghost use Rattle.osi_tool.specs.Replaying.{Replayed, ReplayedBy};
 
+use crate::answers::{Answer, done, script_refused};
+use bare_duo::run_world;
+use bare_end::End;
 use dialogue::{Config, ConfigRefusal};
-use duo::run_world;
 use osi_base::{NoMemory, Octets};
-use script_text::{Schedule, transcript_text};
-use stack::End;
+use schedule_text::{Modes, Schedule, bare_schedules_are_bare, read_schedule};
+use script_lines::ScriptFault;
 use std::alloc::Global;
 use stub_tables::Tables;
+use transcript_text::transcript_text;
 
 /// An end that has made no step. Its configuration is one that no end refuses, so only memory can
 /// lack.
 fn new_end<'t>(alloc: Global, tables: &'t Tables, config: Config) -> Result<End<'t>, NoMemory>
-    requires { config_refusal config ≡ None }
-    ensures { IfOk result (λ end. end ≡ record {
-      tables = tables.entry.now;
-      config = config;
-      state = bare_start tables.entry.now;
-    }) }
+    requires bare { config.mode ≡ modes.Bare }
+    requires accepted { config_refusal config ≡ None }
+    ensures tables { IfOk result (λ end. end.tables ≡ tables.entry.now) }
+    ensures config { IfOk result (λ end. end.config ≡ config) }
+    ensures new { IfOk result (λ end. StandsFor end []) }
 {
     match End::new(alloc, tables, config) {
         Ok(end) => Ok(end),
@@ -30,14 +34,40 @@ fn new_end<'t>(alloc: Global, tables: &'t Tables, config: Config) -> Result<End<
     }
 }
 
-/// Runs the events of a schedule over two new ends with the configurations of its setup, and
-/// answers the text of what came of them.
-pub fn replay(alloc: Global, tables: &Tables, schedule: Schedule) -> Result<Octets, NoMemory>
-    ensures { IfOk result (λ text. Replayed tables.now schedule text) }
+/// Runs the events of a schedule of bare mode over two new ends with the configurations of its
+/// setup, and answers the text of what came of them.
+fn replay(alloc: Global, tables: &Tables, schedule: Schedule) -> Result<Octets, NoMemory>
+    requires a { IsBare true schedule.setup.a }
+    requires b { IsBare false schedule.setup.b }
+    ensures { IfOk result (λ text. Replayed tables.now (said schedule) text) }
 {
     let Schedule { setup, events } = schedule;
     let mut a = new_end(alloc, tables, setup.a)?;
     let mut b = new_end(alloc, tables, setup.b)?;
     let transcript = run_world(alloc, &mut a, &mut b, &events)?;
     transcript_text(alloc, tables, &transcript)
+}
+
+/// What is answered to the octets of a schedule: the text of what came of its run, or the first
+/// faulty line.
+#[tactic(auto, using(crate::proofs::Second::replayed_ok, crate::proofs::Second::replayed_err))]
+pub fn replay_octets(alloc: Global, tables: &Tables, octets: &[u8]) -> Result<Answer, NoMemory>
+    ensures { IfOk result (ReplayedBy tables.now octets.now) }
+{
+    bare_schedules_are_bare();
+    let bare_alone = Modes {
+        direct: false,
+        reliable: false,
+    };
+    match read_schedule(alloc, bare_alone, tables, octets) {
+        Ok(schedule) => {
+            let text = replay(alloc, tables, schedule)?;
+            Ok(done(text))
+        }
+        Err(ScriptFault::At { line, kind }) => {
+            let answer = script_refused(alloc, line, kind)?;
+            Ok(answer)
+        }
+        Err(ScriptFault::NoMemory) => Err(NoMemory),
+    }
 }

@@ -1,6 +1,5 @@
 //! What no clause says: whole runs with ample memory, and the texts of the refusing statuses.
 
-use crate::known::ONE_MODULE;
 use crate::top::osi_run;
 use osi_base::{
     FailingCalls, ListOf, MemFile, MemFiles, MemSink, Name, NoMemory, Octets, Status, SureLine,
@@ -8,6 +7,10 @@ use osi_base::{
 };
 use std::alloc::Global;
 use std::test::Fail;
+
+/// The text of a module with one operation.
+pub(crate) const ONE_MODULE: &str =
+    "One {2 999 7 4} DEFINITIONS ::= BEGIN\nadd OPERATION ::= {ARGUMENT INTEGER RESULT INTEGER CODE local:1}\nEND\n";
 
 /// Words of these texts.
 pub(crate) fn words(alloc: Global, texts: &[&str]) -> Result<Words, NoMemory> {
@@ -166,7 +169,7 @@ fn refuses_in_the_order_of_words_module_and_schedule(rt: HostRuntime) -> Result<
         (
             &["replay", "other", "gone"],
             Status::ModuleRefused,
-            "module refused 1 1 Unsupported\n",
+            "module refused 2 1 UnexpectedToken\n",
         ),
         (
             &["replay", "one", "away"],

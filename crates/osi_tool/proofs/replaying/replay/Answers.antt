@@ -1,15 +1,21 @@
-use Rattle.std.proofs.Common.{true, false}
 use Rattle.std.proofs.lemmas.Result.{IfOk-weaker}
-use Rattle.osi_tool.proofs.Replays.{accepted, replays}
+use Rattle.osi_tool.proofs.Replays.{replays}
 use Rattle.osi_tool.proofs.replaying.replay.Goals as goal
 
 pub returns : goal.returns
 returns c =
     IfOk-weaker c.transcript_text.result _ _
-    (λ text is. replays _ _ _ _ _ _ _ text c.in_ok-a.ensures c.in_ok-b.ensures c.in_ok-transcript.ensures is) c.transcript_text.ensures
+    (λ text is. replays c.args.schedule.setup.a c.args.schedule.setup.b c.requires.a c.requires.b c.args.tables.now c.args.schedule.events c.in_ok-transcript.transcript text is c.in_ok-a.a c.in_ok-b.b c.run_world.new.a c.run_world.new.b c.in_ok-a.ensures.tables c.in_ok-a.ensures.config c.in_ok-a.ensures.new c.in_ok-b.ensures.tables c.in_ok-b.ensures.config c.in_ok-b.ensures.new c.in_ok-transcript.ensures)
+    c.transcript_text.ensures
 
-pub new_end-requires : goal.new_end-requires
-new_end-requires c = accepted true c.args.schedule.setup.a c.args.schedule.setup.initiator
+pub new_end-requires-clause-bare : goal.new_end-requires-clause-bare
+new_end-requires-clause-bare c = c.requires.a.mode
 
-pub new_end-requires-2 : goal.new_end-requires-2
-new_end-requires-2 c = accepted false c.args.schedule.setup.b c.args.schedule.setup.responder
+pub new_end-requires-clause-accepted : goal.new_end-requires-clause-accepted
+new_end-requires-clause-accepted c = c.requires.a.accepted
+
+pub new_end-requires-2-clause-bare : goal.new_end-requires-2-clause-bare
+new_end-requires-2-clause-bare c = c.requires.b.mode
+
+pub new_end-requires-2-clause-accepted : goal.new_end-requires-2-clause-accepted
+new_end-requires-2-clause-accepted c = c.requires.b.accepted
