@@ -35,7 +35,7 @@ use Rattle.osi_tool.specs.declared.commands.Work.TheVariants.{Replay, Trace}
 use Rattle.osi_tool.specs.Commands.{FilePair, Command, checks, pairs}
 use Rattle.osi_tool.specs.Answers.{usage_answer, done_answer}
 use Rattle.osi_tool.specs.Reading.{WasRead}
-use Rattle.osi_tool.specs.Replaying.{bare_alone, Replayed, RepliedBy}
+use Rattle.osi_tool.specs.Replaying.{bare_alone, RanSchedule, Replayed, RepliedBy}
 use Rattle.osi_tool.specs.Tracing.{ToldBy}
 use Rattle.osi_tool.specs.Checking.{checked_answer, ChecksOctets, Checks, unread, read}
 use Rattle.osi_tool.specs.Pairs.{SecondBy}
@@ -59,21 +59,23 @@ same_ends tables r s a b =
     let first : ends_with tables r.a r.b ≡ ends_with tables s.a r.b = ap (λ x. ends_with tables x r.b) a in first ∙ ap (λ x. ends_with tables s.a x) b
 
 one_text : OneRun → (tables : Tables) (schedule : Said) (x y : List ℕ) → Replayed tables schedule x → Replayed tables schedule y → x ≡ y
-one_text one tables schedule x y r s =
+one_text one tables schedule x y p q =
+    let r : RanSchedule tables schedule p.transcript = p.ran in
+    let s : RanSchedule tables schedule q.transcript = q.ran in
     let ends : ends_of s.setup tables ≡ ends_of r.setup tables = same_ends tables s.setup r.setup (s.a_is ∙ sym r.a_is) (s.b_is ∙ sym r.b_is) in
-    let R : Ends → Type 0 = λ e. Runs e [] schedule.events s.transcript.entries s.world in
-    let runs = one tables r.setup [] r.world s.world schedule.events r.transcript.entries s.transcript.entries r.readable r.runs (subst R ends s.runs) in
-    let t = r.transcript in
-    let u = s.transcript in
+    let R : Ends → Type 0 = λ e. Runs e [] schedule.events q.transcript.entries s.world in
+    let runs = one tables r.setup [] r.world s.world schedule.events p.transcript.entries q.transcript.entries r.readable r.runs (subst R ends s.runs) in
+    let t = p.transcript in
+    let u = q.transcript in
     let modes : told_by t.mode t.entries t.a t.b ≡ told_by u.mode t.entries t.a t.b = ap (λ m. told_by m t.entries t.a t.b) (r.mode ∙ sym s.mode) in
     let entries : told_by u.mode t.entries t.a t.b ≡ told_by u.mode u.entries t.a t.b = ap (λ es. told_by u.mode es t.a t.b) runs.0 in
     let firsts : told_by u.mode u.entries t.a t.b ≡ told_by u.mode u.entries u.a t.b =
-    ap (λ p. told_by u.mode u.entries p t.b)
+    ap (λ x. told_by u.mode u.entries x t.b)
     (r.a_phase ∙ ap (λ w. (end_at (ends_of r.setup tables) A w).body.link.phase) runs.1 ∙ ap (λ (e : Ends). (end_at e A s.world).body.link.phase) (sym ends) ∙ sym s.a_phase) in
     let seconds : told_by u.mode u.entries u.a t.b ≡ told_by u.mode u.entries u.a u.b =
-    ap (λ p. told_by u.mode u.entries u.a p)
+    ap (λ x. told_by u.mode u.entries u.a x)
     (r.b_phase ∙ ap (λ w. (end_at (ends_of r.setup tables) B w).body.link.phase) runs.1 ∙ ap (λ (e : Ends). (end_at e B s.world).body.link.phase) (sym ends) ∙ sym s.b_phase) in
-    r.text_is ∙ ap (text_of tables) (modes ∙ entries ∙ firsts ∙ seconds) ∙ sym s.text_is
+    p.text_is ∙ ap (text_of tables) (modes ∙ entries ∙ firsts ∙ seconds) ∙ sym q.text_is
 
 -- ---- the second file
 

@@ -36,12 +36,15 @@ module _ (told : Option FileMap) (old new : ℕ) (pair : FilePair) where
 
   by_second : (text : List ℕ) (tables : Tables) (read : PairRead) (answer : Answer) → WasRead told old new pair.«module» (Some text) → HasTables text tables
       → ReadsSecond tables told old new pair.second read → read ≡ Answered answer → PairCase answer
-  by_second text tables _ answer w h (no_second v) e = along (unread_answer pair.second) answer cc (second_unread text tables w h v)
+  by_second text tables _ answer w h (no_second v) e =
+      let same : unread_answer pair.second ≡ answer = cc in along (unread_answer pair.second) answer same (second_unread text tables w h v)
   by_second text tables _ answer w h (second octets v) e = cc
 
   by_read : (read : PairRead) (answer : Answer) → ReadsPair told old new pair read → read ≡ Answered answer → PairCase answer
-  by_read _ answer (no_module w) e = along (unread_answer pair.«module») answer cc (module_unread w)
-  by_read _ answer (refused text line column kind w r) e = along (module_answer line column kind) answer cc (module_faulty text line column kind w r)
+  by_read _ answer (no_module w) e =
+      let same : unread_answer pair.«module» ≡ answer = cc in along (unread_answer pair.«module») answer same (module_unread w)
+  by_read _ answer (refused text line column kind w r) e =
+      let same : module_answer line column kind ≡ answer = cc in along (module_answer line column kind) answer same (module_faulty text line column kind w r)
   by_read _ answer (has_tables text tables read w h t) e = by_second text tables read answer w h t e
 
   -- the module and the second file, where both were read

@@ -7,26 +7,25 @@ use Rattle.dialogue.specs.declared.setup.Setup.{Setup}
 use Rattle.dialogue.specs.declared.event.Event.{Event}
 use Rattle.dialogue.specs.declared.event.Transcript.{Transcript}
 use Rattle.bare_end.specs.View.{EndView, StandsFor}
-use Rattle.bare_duo.specs.Ran.{Stand, RanFromStart}
+use Rattle.bare_duo.specs.Ran.{Stand, RanFromStart, RunsFromStart}
 use Rattle.schedule_text.specs.Schedules.{Said}
 use Rattle.transcript_text.specs.Texts.{text_of}
-use Rattle.osi_tool.specs.Replaying.{Replayed}
+use Rattle.osi_tool.specs.Replaying.{RanOver, RanSchedule, Replayed}
 
 -- two configurations of bare mode
 module _ (a b : Config) (a_is : IsBare true a) (b_is : IsBare false b) where
-  module _ (tables : Tables) (events : List Event) (transcript : Transcript) (text : List ℕ) (is : text ≡ text_of tables transcript) where
+  module _ (tables : Tables) (events : List Event) (transcript : Transcript) where
     abbrev schedule : Said
     schedule = record { a = a; b = b; events = events }
 
     abbrev setup : Setup
     setup = record { a = a; b = b; initiator = ∣ a_is ∣₁; responder = ∣ b_is ∣₁ }
 
-    from_run : (a_after b_after : EndView) → RanFromStart setup tables events transcript a_after b_after → Replayed tables schedule text
+    from_run : (a_after b_after : EndView) → RanFromStart setup tables events transcript a_after b_after → RanSchedule tables schedule transcript
     from_run a_after b_after run = record {
       setup = setup;
       a_is = refl;
       b_is = refl;
-      transcript = transcript;
       world = run.ran.world;
       runs = run.ran.runs;
       readable = run.readable;
@@ -34,12 +33,10 @@ module _ (a b : Config) (a_is : IsBare true a) (b_is : IsBare false b) where
       mode = run.mode;
       a_phase = run.a_phase;
       b_phase = run.b_phase;
-      text_is = is;
     }
 
     pub replays : (x y x_after y_after : EndView) → x.tables ≡ tables → x.config ≡ a → StandsFor x [] → y.tables ≡ tables → y.config ≡ b → StandsFor y []
-        → ((s : Setup) → Stand s x.tables [] x y → RanFromStart s x.tables events transcript x_after y_after)
-        → Replayed tables schedule text
+        → RunsFromStart events transcript x y x_after y_after → RanSchedule tables schedule transcript
     replays x y x_after y_after x_tables x_config x_new y_tables y_config y_new run =
         let P : Tables → Type 0 = λ t. RanFromStart setup t events transcript x_after y_after in
         let ran : RanFromStart setup x.tables events transcript x_after y_after =
@@ -48,3 +45,13 @@ module _ (a b : Config) (a_is : IsBare true a) (b_is : IsBare false b) where
           b_stands = record { tables_are = y_tables ∙ sym x_tables; config_is = y_config; stands = y_new };
         }) in
         from_run x_after y_after (subst P x_tables ran)
+
+    -- the run of two new ends is one of the schedule
+    pub scheduled : (x y : EndView) → x.tables ≡ tables → x.config ≡ a → StandsFor x [] → y.tables ≡ tables → y.config ≡ b → StandsFor y []
+        → RanOver events x y transcript → RanSchedule tables schedule transcript
+    scheduled x y x_tables x_config x_new y_tables y_config y_new over =
+        replays x y over.a_after over.b_after x_tables x_config x_new y_tables y_config y_new over.runs
+
+pub told : {tables : Tables} {schedule : Said} {transcript : Transcript} {text : List ℕ}
+    → RanSchedule tables schedule transcript → text ≡ text_of tables transcript → Replayed tables schedule text
+told {transcript = transcript} ran is = record { transcript = transcript; ran = ran; text_is = is }

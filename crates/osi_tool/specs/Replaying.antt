@@ -4,10 +4,13 @@ use Rattle.osi_base.specs.declared.words.Side.TheVariants.{A, B}
 use Rattle.stub_tables.specs.declared.tables.Tables.{Tables}
 use Rattle.stub_tables.specs.Readable.{IsReadable}
 use Rattle.dialogue.specs.declared.setup.Setup.{Setup}
+use Rattle.dialogue.specs.declared.event.Event.{Event}
 use Rattle.dialogue.specs.declared.event.Transcript.{Transcript}
 use Rattle.end_rules.specs.World.{World}
 use Rattle.bare_duo.specs.Worlds.{ends_of, end_at, Runs}
+use Rattle.bare_end.specs.View.{EndView}
 use Rattle.bare_duo.specs.Laws.{KeepsLaws}
+use Rattle.bare_duo.specs.Ran.{RunsFromStart}
 use Rattle.script_lines.specs.declared.fault.ScriptFault.{ScriptFault}
 use Rattle.script_lines.specs.declared.fault.ScriptFault.TheVariants.{At, NoMemory}
 use Rattle.schedule_text.specs.declared.setting.Modes.{Modes}
@@ -20,13 +23,18 @@ use Rattle.osi_tool.specs.Answers.{script_answer, done_answer}
 abbrev pub bare_alone : Modes
 bare_alone = record { direct = false; reliable = false }
 
+-- Two ends that had these views ran events, and this transcript tells it.
+pub record RanOver (all : List Event) (a b : EndView) (transcript : Transcript) : Type 0 where
+  pub a_after : EndView
+  pub b_after : EndView
+  pub runs : RunsFromStart all transcript a b a_after b_after
+
 -- Two ends with the configurations of the schedule's setup, which had made no step, ran its events, and
--- this is the text of what came of them.
-pub record Replayed (tables : Tables) (schedule : Said) (text : List ℕ) : Type 0 where
+-- this transcript tells it.
+pub record RanSchedule (tables : Tables) (schedule : Said) (transcript : Transcript) : Type 0 where
   pub setup : Setup
   pub a_is : setup.a ≡ schedule.a
   pub b_is : setup.b ≡ schedule.b
-  pub transcript : Transcript
   -- the moments of both ends at the end of the run
   pub world : World
   pub runs : Runs (ends_of setup tables) [] schedule.events transcript.entries world
@@ -39,6 +47,11 @@ pub record Replayed (tables : Tables) (schedule : Said) (text : List ℕ) : Type
   pub mode : transcript.mode ≡ schedule.a.mode
   pub a_phase : transcript.a ≡ (end_at (ends_of setup tables) A world).body.link.phase
   pub b_phase : transcript.b ≡ (end_at (ends_of setup tables) B world).body.link.phase
+
+-- and this is the text of what came of them
+pub record Replayed (tables : Tables) (schedule : Said) (text : List ℕ) : Type 0 where
+  pub transcript : Transcript
+  pub ran : RanSchedule tables schedule transcript
   pub text_is : text ≡ text_of tables transcript
 
 -- what is answered where the octets of a schedule were read so: the text of its run, or its first faulty line

@@ -5,12 +5,12 @@ ghost use Rattle.dialogue.specs.declared.config.Mode.TheVariants as modes;
 ghost use Rattle.dialogue.specs.Config.{config_refusal, IsBare};
 ghost use Rattle.bare_end.specs.View.{StandsFor};
 ghost use Rattle.schedule_text.specs.Schedules.{said};
-ghost use Rattle.osi_tool.specs.Replaying.{Replayed, ReplayedBy};
+ghost use Rattle.osi_tool.specs.Replaying.{RanOver, RanSchedule, Replayed, ReplayedBy};
 
 use crate::answers::{Answer, done, script_refused};
 use bare_duo::run_world;
 use bare_end::End;
-use dialogue::{Config, ConfigRefusal};
+use dialogue::{Config, ConfigRefusal, Events, Transcript};
 use osi_base::{NoMemory, Octets};
 use schedule_text::{Modes, Schedule, bare_schedules_are_bare, read_schedule};
 use script_lines::ScriptFault;
@@ -34,17 +34,43 @@ fn new_end<'t>(alloc: Global, tables: &'t Tables, config: Config) -> Result<End<
     }
 }
 
+/// Runs events over two ends, which end with them.
+fn run_ends(
+    alloc: Global,
+    mut a: End<'_>,
+    mut b: End<'_>,
+    events: &Events,
+) -> Result<Transcript, NoMemory>
+    ensures { IfOk result (RanOver events.now a.entry b.entry) }
+{
+    run_world(alloc, &mut a, &mut b, events)
+}
+
 /// Runs the events of a schedule of bare mode over two new ends with the configurations of its
-/// setup, and answers the text of what came of them.
+/// setup.
+fn run_schedule(
+    alloc: Global,
+    tables: &Tables,
+    schedule: Schedule,
+) -> Result<Transcript, NoMemory>
+    requires a { IsBare true schedule.setup.a }
+    requires b { IsBare false schedule.setup.b }
+    ensures { IfOk result (RanSchedule tables.now (said schedule)) }
+{
+    let Schedule { setup, events } = schedule;
+    let a = new_end(alloc, tables, setup.a)?;
+    let b = new_end(alloc, tables, setup.b)?;
+    run_ends(alloc, a, b, &events)
+}
+
+/// Runs a schedule of bare mode, and answers the text of what came of it.
+#[tactic(auto, using(crate::proofs::Replays::told))]
 fn replay(alloc: Global, tables: &Tables, schedule: Schedule) -> Result<Octets, NoMemory>
     requires a { IsBare true schedule.setup.a }
     requires b { IsBare false schedule.setup.b }
     ensures { IfOk result (λ text. Replayed tables.now (said schedule) text) }
 {
-    let Schedule { setup, events } = schedule;
-    let mut a = new_end(alloc, tables, setup.a)?;
-    let mut b = new_end(alloc, tables, setup.b)?;
-    let transcript = run_world(alloc, &mut a, &mut b, &events)?;
+    let transcript = run_schedule(alloc, tables, schedule)?;
     transcript_text(alloc, tables, &transcript)
 }
 

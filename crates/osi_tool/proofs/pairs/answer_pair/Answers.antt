@@ -11,4 +11,4 @@ returns-in_ok-answer-in-Whole-clause-answer g c =
 
 pub returns-in_ok-answer-in-Whole-clause-asked_for : goal.returns-in_ok-answer-in-Whole-clause-asked_for
 returns-in_ok-answer-in-Whole-clause-asked_for g c =
-    pair_asked (pair_given c.args.pair) _ _ _ _ _ _ c.in-Whole.is c.in_ok-answer.ensures.asked_for c.in_ok-answer-in-Whole.ensures
+    pair_asked (pair_given c.args.pair) _ _ _ _ _ _ _ c.in-Whole.is c.in_ok-answer.ensures.asked_for c.in_ok-answer-in-Whole.ensures

@@ -1,12 +1,12 @@
 use Rattle.std.proofs.lemmas.Result.{IfOk-weaker}
-use Rattle.osi_tool.proofs.Replays.{replays}
-use Rattle.osi_tool.proofs.replaying.replay.Goals as goal
+use Rattle.osi_tool.proofs.Replays.{scheduled}
+use Rattle.osi_tool.proofs.replaying.run_schedule.Goals as goal
 
 pub returns : goal.returns
 returns c =
-    IfOk-weaker c.transcript_text.result _ _
-    (λ text is. replays c.args.schedule.setup.a c.args.schedule.setup.b c.requires.a c.requires.b c.args.tables.now c.args.schedule.events c.in_ok-transcript.transcript text is c.in_ok-a.a c.in_ok-b.b c.run_world.new.a c.run_world.new.b c.in_ok-a.ensures.tables c.in_ok-a.ensures.config c.in_ok-a.ensures.new c.in_ok-b.ensures.tables c.in_ok-b.ensures.config c.in_ok-b.ensures.new c.in_ok-transcript.ensures)
-    c.transcript_text.ensures
+    IfOk-weaker c.run_ends.result _ _
+    (λ transcript over. scheduled c.args.schedule.setup.a c.args.schedule.setup.b c.requires.a c.requires.b c.args.tables.now c.args.schedule.events transcript c.in_ok-a.a c.in_ok-b.b c.in_ok-a.ensures.tables c.in_ok-a.ensures.config c.in_ok-a.ensures.new c.in_ok-b.ensures.tables c.in_ok-b.ensures.config c.in_ok-b.ensures.new over)
+    c.run_ends.ensures
 
 pub new_end-requires-clause-bare : goal.new_end-requires-clause-bare
 new_end-requires-clause-bare c = c.requires.a.mode
