@@ -25,5 +25,4 @@ IsChecked can answer apdu (Err refusal) = can ≡ Err refusal
 -- why a call is refused, or where it isn't what else is asked
 abbrev pub IsRefusal : Reply → Reply → Option CallRefusal → Type 0
 IsRefusal can go None = can ≡ go
-IsRefusal can go (Some NoMemory) = Unit {0}
 IsRefusal can go (Some refusal) = can ≡ Err refusal

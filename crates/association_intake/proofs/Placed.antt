@@ -1,5 +1,5 @@
 -- User data begin where their octets have places.
-use Rattle.std.proofs.Common.{◌≡◌, ℕ, ◌+◌, ◌<◌, ◌^◌, List, [], ◌∷◌, ◌++◌, length, Option, Some, None, arith}
+use Rattle.std.proofs.Common.{ℕ, ◌<◌, ◌^◌, List, [], ◌∷◌, ◌++◌, length, Option, Some, None, arith}
 use Rattle.spdu_codec.specs.Places.{StandsAt}
 use Rattle.association_reading.specs.Front.{start_of}
 use Rattle.association_intake.specs.declared.front.Front.{Front}

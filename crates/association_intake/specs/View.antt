@@ -1,5 +1,5 @@
 -- The parts of what came, as one. No public clause cites this module.
-use Rattle.std.specs.Prelude.{◌≡◌, List, Option, Some, None}
+use Rattle.std.specs.Prelude.{◌≡◌, List, Option, Some, None, IsSome}
 use Rattle.tpkt.specs.declared.packet.TFault.{TFault}
 use Rattle.tpkt.specs.declared.held.Held.{Held}
 use Rattle.association_reading.specs.Front as reading
@@ -28,6 +28,12 @@ abbrev pub HasPlaced : Option Parts → Type 0
 HasPlaced None = Unit {0}
 HasPlaced (Some parts) = ArePlaced parts.fronts.items
 
+-- the reader wants no memory
+abbrev pub IsReading : Option Parts → Type 0
+IsReading None = Unit {0}
+IsReading (Some parts) = IsSome parts.reader
+
 pub record IsSound (parts : Option Parts) : Type 0 where
   pub fault : KnowsFault parts
   pub placed : HasPlaced parts
+  pub reading : IsReading parts

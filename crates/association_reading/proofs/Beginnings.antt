@@ -132,7 +132,7 @@ short_so front n =
 unit_short : (p : Packet) (unit : List ℕ) → IsUnit [] (Whole p) unit → IsOctets (packet unit) → BeginningsOf (packet unit)
 unit_short p unit is fits front back e some = short_so front (unit_begins p unit front back is (octets-front front back (subst IsOctets e fits)) e some)
 
-few-octets : IsOctets (packet (header (128 ∷ two 1 ++ two 2 ++ 0 ∷ [])))
+few-octets : IsOctets (packet (header (128 ∷ two 1 ++ two 0 ++ 0 ∷ [])))
 few-octets zero = omega arith
 few-octets (suc zero) = omega arith
 few-octets (suc (suc zero)) = omega arith
@@ -154,5 +154,5 @@ beginnings_short = record {
   request = λ source size calling called two_of room fits.
       unit_short (Connect (request_ends source size calling called)) _ (connect_is [] (request_ends source size calling called) (omega arith) two_of room) fits;
   confirm = λ destination size two_of room fits. unit_short (Confirm (confirm_ends destination size)) _ (confirm_is [] (confirm_ends destination size) two_of (omega arith) room) fits;
-  refuse = unit_short Disconnect _ (disconnect_is [] 1 2 0 (omega arith) (omega arith)) few-octets;
+  refuse = unit_short Disconnect _ (disconnect_is [] 1 0 0 (omega arith) (omega arith)) few-octets;
 }

@@ -81,5 +81,5 @@ pub units_first : TransportUnitsStandFirst
 units_first = record {
   request = λ source size calling called two room more fits. whole_first (Connect (request_ends source size calling called)) _ _ more (connect_is [] (request_ends source size calling called) (omega arith) two room) fits refl;
   confirm = λ destination size two room more fits. whole_first (Confirm (confirm_ends destination size)) _ _ more (confirm_is [] (confirm_ends destination size) two (omega arith) room) fits refl;
-  refuse = λ more fits. whole_first Disconnect _ _ more (disconnect_is [] 1 2 0 (omega arith) (omega arith)) fits refl;
+  refuse = λ more fits. whole_first Disconnect _ _ more (disconnect_is [] 1 0 0 (omega arith) (omega arith)) fits refl;
 }

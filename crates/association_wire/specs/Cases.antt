@@ -107,6 +107,11 @@ abbrev pub confirm_octets : List ℕ
 confirm_octets =
     3 ∷ 0 ∷ 0 ∷ 14 ∷ 9 ∷ 208 ∷ 0 ∷ 1 ∷ 0 ∷ 2 ∷ 0 ∷ 192 ∷ 1 ∷ 10 ∷ []
 
+-- DR that refuses a CR
+abbrev pub refusal_octets : List ℕ
+refusal_octets =
+    3 ∷ 0 ∷ 0 ∷ 11 ∷ 6 ∷ 128 ∷ 0 ∷ 1 ∷ 0 ∷ 0 ∷ 0 ∷ []
+
 -- FN with RLRQ
 abbrev pub finish_octets : List ℕ
 finish_octets =

@@ -55,7 +55,7 @@ confirm_ends destination size = record { destination = destination; source = 2; 
 abbrev pub written_unit : TransportUnit → List ℕ
 written_unit (ConnectionRequest source size calling called) = control_packet (connection_fields 224 (request_ends source size calling called))
 written_unit (ConnectionConfirm destination size) = control_packet (connection_fields 208 (confirm_ends destination size))
-written_unit (DisconnectRequest destination) = control_packet (128 ∷ two destination ++ two 2 ++ 0 ∷ [])
+written_unit (DisconnectRequest destination) = control_packet (128 ∷ two destination ++ two 0 ++ 0 ∷ [])
 written_unit TransportError = []
 
 -- a message, with so many octets in a DT at most

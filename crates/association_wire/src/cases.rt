@@ -4,18 +4,20 @@ ghost use Rattle.std.specs.Prelude.{◌≡◌, [], ◌∷◌, Some, true, false}
 ghost use Rattle.osi_base.specs.declared.syntax.Syntax.TheVariants.{Ber, Packed};
 ghost use Rattle.dialogue.specs.declared.config.Mode.TheVariants.{Direct};
 ghost use Rattle.end_rules.specs.State.{new_body};
-ghost use Rattle.end_rules.specs.Messages.{Mark, Restart, RestartAck, OfMarks, Session};
+ghost use Rattle.end_rules.specs.Messages.{DisconnectRequest, Mark, Restart, RestartAck, OfMarks, Session, Transport};
 ghost use Rattle.end_rules.specs.TakesTransport.{answer_to_request};
 ghost use Rattle.end_rules.specs.Writing.{connection_request, finish_message, disconnect_message, user_abort, provider_abort, session_abort, give_message, please_message};
 ghost use Rattle.association_wire.specs.Written.{written};
 ghost use Rattle.association_wire.specs.Cases as row;
 
-/// The transport connection: CR and CC.
+/// The transport connection: CR and CC, and DR where a CR is refused.
 pub fn connection_is_written()
     ensures request { written row.calc 1024 (connection_request row.initiator)
         ≡ row.request_octets }
     ensures confirm { written row.calc 1024 (answer_to_request 1 (Some 10) true)
         ≡ row.confirm_octets }
+    ensures refusal { written row.calc 1024 (Transport (DisconnectRequest 1))
+        ≡ row.refusal_octets }
 {}
 
 /// An invocation on a context in BER, and on one in the packed syntax.

@@ -18,11 +18,12 @@ use Rattle.spdu_codec.specs.Written.{stands_alone}
 use Rattle.agreement.specs.Sets.{Role}
 use Rattle.agreement.specs.Sets.Role.{Initiator, Responder}
 use Rattle.end_model.specs.Pairs.{base_at, Two, body_at, coming_to}
-use Rattle.reliable_model.specs.Goes.{Ledger, Goes}
+use Rattle.reliable_model.specs.Goes.{Ledger}
 use Rattle.association_wire.specs.Written.{with_user, tsdu_of}
 use Rattle.association_reading.specs.Front.{OfSession}
 use Rattle.association_reading.specs.Meaning.{meaning}
 use Rattle.association_reading.specs.Reacting.{on_meaning, react_to_unit, react_to}
+use Rattle.said_words.specs.Calls.{Speaks}
 use Rattle.association_worlds.specs.Ways.{start_in, front_of}
 use Rattle.association_worlds.specs.Laws.{MeantIsHeard}
 
@@ -258,24 +259,24 @@ meant-heard common h = record { carried = h.carried; heard = λ two ledger g rol
     tables-at Initiator = refl
     tables-at Responder = refl
 
-    never : (two : Two) (ledger : Ledger) → Goes common two ledger → (role : Role) (message : Message) (left : List Message) → coming_to role two ≡ message ∷ left → (r : Reaction) → react (base_at role common) (body_at role two) message ≡ r → NeverFails r
-    never two ledger g role message left e (Fails fault body aborts shown) k = h.faultless two ledger g role message left fault body aborts shown e k
+    never : (two : Two) (ledger : Ledger) → Speaks common two ledger → (role : Role) (message : Message) (left : List Message) → coming_to role two ≡ message ∷ left → (r : Reaction) → react (base_at role common) (body_at role two) message ≡ r → NeverFails r
+    never two ledger g role message left e (Fails fault body aborts shown) k = h.faultless two ledger g.goes role message left fault body aborts shown e k
     never two ledger g role message left e (Takes body answers shown) k = tt
     never two ledger g role message left e Passes k = tt
 
-    taken : (two : Two) (ledger : Ledger) → Goes common two ledger → (role : Role) (word : Word) (left : List Message) → coming_to role two ≡ Session word ∷ left → (start : ℕ) → (r : Reaction) → react (base_at role common) (body_at role two) (Session word) ≡ r → IsTaken r
+    taken : (two : Two) (ledger : Ledger) → Speaks common two ledger → (role : Role) (word : Word) (left : List Message) → coming_to role two ≡ Session word ∷ left → (start : ℕ) → (r : Reaction) → react (base_at role common) (body_at role two) (Session word) ≡ r → IsTaken r
         → meaning (base_at role common) (body_at role two) (with_user (user_octets (base_at role common).tables word) (unit_of word)) start ≡ Ok word
     taken two ledger g role word left e start (Takes body answers shown) k t = h.meant two ledger g role word left body answers shown start e k
     taken two ledger g role word left e start (Fails fault body aborts shown) k t = absurd t
     taken two ledger g role word left e start Passes k t = absurd t
 
-    of-word : (two : Two) (ledger : Ledger) → Goes common two ledger → (role : Role) (left : List Message) (word : Word) (start : ℕ) → coming_to role two ≡ Session word ∷ left → (p : Bool) → passes_over (body_at role two).link.phase ≡ p
+    of-word : (two : Two) (ledger : Ledger) → Speaks common two ledger → (role : Role) (left : List Message) (word : Word) (start : ℕ) → coming_to role two ≡ Session word ∷ left → (p : Bool) → passes_over (body_at role two).link.phase ≡ p
         → react_to (base_at role common) (body_at role two) (OfSession (with_user (user_octets (base_at role common).tables word) (unit_of word)) start) ≡ Some (react (base_at role common) (body_at role two) (Session word))
     of-word two ledger g role left word start e true up = over-so (base_at role common) (body_at role two) word start up
     of-word two ledger g role left word start e false up =
         up-so (base_at role common) (body_at role two) word start up (associated-at role) (never two ledger g role (Session word) left e _ refl) (taken two ledger g role word left e start _ refl)
 
-    go : (two : Two) (ledger : Ledger) → Goes common two ledger → (role : Role) (left : List Message) (message : Message) → coming_to role two ≡ message ∷ left
+    go : (two : Two) (ledger : Ledger) → Speaks common two ledger → (role : Role) (left : List Message) (message : Message) → coming_to role two ≡ message ∷ left
         → react_to (base_at role common) (body_at role two) (front_of common.tables message) ≡ Some (react (base_at role common) (body_at role two) message)
     go two ledger g role left (Transport _) e = refl
     go two ledger g role left (Session word) e =

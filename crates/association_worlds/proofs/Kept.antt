@@ -23,10 +23,11 @@ use Rattle.agreement.specs.Sets.{Role, other}
 use Rattle.agreement.specs.Sets.Role.{Initiator, Responder}
 use Rattle.end_model.specs.Requests.{after_called}
 use Rattle.end_model.specs.Pairs.{Common, base_at, Two, two_new, body_at, coming_to, stepped, both_broke}
-use Rattle.reliable_model.specs.Goes.{Ledger, first_ledger, Goes, own_messages}
+use Rattle.reliable_model.specs.Goes.{Ledger, first_ledger, own_messages}
 use Rattle.reliable_model.specs.Goes as goes
 use Rattle.association_reading.specs.Front.{Front, Short, Intake, front_held, first_front, first_in, behind_first, without_first, all_fronts, fronts_of}
 use Rattle.association_reading.specs.Reacting.{react_to}
+use Rattle.said_words.specs.Calls.{IsCall, Speaks}
 use Rattle.association_worlds.specs.Lines.{End, IsSize, written_all, more_came}
 use Rattle.association_worlds.specs.Worlds.{Ends, ends_new, end_at, with_end, sending, carried, both_cut, Spoken}
 use Rattle.association_worlds.specs.Worlds as spoken
@@ -80,7 +81,7 @@ written-sized tables size (m ∷ ms) z h = (h.0, z, written-sized tables size ms
 
 -- ---- one way
 
-way-sent : (tables : Tables) (came : Option Intake) (waiting : List ℕ) (coming ms : List Message) (size : ℕ) → IsSize size → AreCarried tables (coming ++ ms) → Way tables came waiting coming
+pub way-sent : (tables : Tables) (came : Option Intake) (waiting : List ℕ) (coming ms : List Message) (size : ℕ) → IsSize size → AreCarried tables (coming ++ ms) → Way tables came waiting coming
     → Way tables came (waiting ++ written_all tables size ms) (coming ++ ms)
 way-sent tables None waiting coming ms size z h w = tt
 way-sent tables (Some intake) waiting coming ms size z h w = record {
@@ -100,7 +101,7 @@ way-sent tables (Some intake) waiting coming ms size z h w = record {
   fronts = w.fronts;
 }
 
-way-moved : (tables : Tables) (came : Option Intake) (waiting : List ℕ) (coming : List Message) (n : ℕ) → Way tables came waiting coming → Way tables (more_came (take n waiting) came) (drop n waiting) coming
+pub way-moved : (tables : Tables) (came : Option Intake) (waiting : List ℕ) (coming : List Message) (n : ℕ) → Way tables came waiting coming → Way tables (more_came (take n waiting) came) (drop n waiting) coming
 way-moved tables None waiting coming n w = tt
 way-moved tables (Some intake) waiting coming n w =
     let cut = any_cut nothing w.got (take n waiting) in record {
@@ -162,7 +163,7 @@ pub record FirstOf (tables : Tables) (intake : Intake) (waiting : List ℕ) (com
   pub front : first_in intake ≡ front_of tables message
   pub way : IsWay tables (behind_first intake) waiting left
 
-first-of : (tables : Tables) (base : Base) (body : Body) (intake : Intake) (waiting : List ℕ) (coming : List Message) (r : Reaction) → IsWay tables intake waiting coming → react_to base body (first_in intake) ≡ Some r → FirstOf tables intake waiting coming
+pub first-of : (tables : Tables) (base : Base) (body : Body) (intake : Intake) (waiting : List ℕ) (coming : List Message) (r : Reaction) → IsWay tables intake waiting coming → react_to base body (first_in intake) ≡ Some r → FirstOf tables intake waiting coming
 first-of tables base body intake waiting coming r w h =
     let a = what-is-ahead tables intake waiting coming w in go a intake.fronts w.ahead refl refl
   where
@@ -209,16 +210,16 @@ module _ (common : Common) (h : IsHeard common) where
   abbrev WayTo : Role → Ends → List Message → Type 0
   WayTo role ends coming = Way common.tables (end_at role ends).line.came (end_at (other role) ends).line.waiting coming
 
-  sends-carried : (role : Role) (two : Two) (body : Body) (left more : List Message) (ledger : Ledger) → Goes common (stepped role body left more two) ledger → AreCarried common.tables (coming_to (other role) two ++ more)
+  sends-carried : (role : Role) (two : Two) (body : Body) (left more : List Message) (ledger : Ledger) → Speaks common (stepped role body left more two) ledger → AreCarried common.tables (coming_to (other role) two ++ more)
   sends-carried Initiator two body left more ledger g = h.carried _ ledger g Responder
   sends-carried Responder two body left more ledger g = h.carried _ ledger g Initiator
 
   -- an end moved: what is left of what came to it, and what it sent
-  moved-on : (role : Role) (ends : Ends) (two : Two) (ledger : Ledger) (end : End) (left more : List Message) → Goes common (stepped role end.body left more two) ledger
+  moved-on : (role : Role) (ends : Ends) (two : Two) (ledger : Ledger) (end : End) (left more : List Message) → Speaks common (stepped role end.body left more two) ledger
       → ((r : Role) → (end_at r ends).body ≡ body_at r two) → Way common.tables end.line.came (end_at (other role) ends).line.waiting left
       → Way common.tables (end_at (other role) ends).line.came end.line.waiting (coming_to (other role) two ++ more) → IsSpelled common (with_end role end ends)
   moved-on role ends two ledger end left more g bodies own peer =
-      record { two = stepped role end.body left more two; ledger = ledger; goes = g; bodies = bodies-so role bodies; ways = ways-so role own peer }
+      record { two = stepped role end.body left more two; ledger = ledger; speaks = g; bodies = bodies-so role bodies; ways = ways-so role own peer }
     where
       bodies-so : (role : Role) → ((r : Role) → (end_at r ends).body ≡ body_at r two) → (r : Role) → (end_at r (with_end role end ends)).body ≡ body_at r (stepped role end.body left more two)
       bodies-so Initiator b Initiator = refl
@@ -238,22 +239,22 @@ module _ (common : Common) (h : IsHeard common) where
   way-other Responder ends two w = w Initiator
 
   abbrev Goes-on : Two → Type 0
-  Goes-on two = (ledger : Ledger) × Goes common two ledger
+  Goes-on two = (ledger : Ledger) × Speaks common two ledger
 
-  called-so : (two : Two) (ledger : Ledger) (role : Role) (call : Call) (answer : Option ℤ) (b : Body) → b ≡ body_at role two → Goes common two ledger → can_call (base_at role common) b call ≡ Ok answer
+  called-so : (two : Two) (ledger : Ledger) (role : Role) (call : Call) (answer : Option ℤ) (b : Body) → b ≡ body_at role two → Speaks common two ledger → IsCall call → can_call (base_at role common) b call ≡ Ok answer
       → Goes-on (stepped role (after_called common.mode (base_at role common) b call answer) (coming_to role two) (due_of (base_at role common) b call (Ok answer)) two)
-  called-so two ledger role call answer b e g c =
+  called-so two ledger role call answer b e g typed c =
       subst (λ (b : Body). can_call (base_at role common) b call ≡ Ok answer → Goes-on (stepped role (after_called common.mode (base_at role common) b call answer) (coming_to role two) (due_of (base_at role common) b call (Ok answer)) two)) (sym e)
-      (λ c. (_, goes.calls two ledger role call answer g c)) c
+      (λ c. (_, record { goes = goes.calls two ledger role call answer g.goes c; calls = (typed, g.calls) })) c
 
-  acted-so : (two : Two) (ledger : Ledger) (role : Role) (own : OwnAct) (b : Body) → b ≡ body_at role two → Goes common two ledger → next_own (base_at role common) b ≡ Some own
+  acted-so : (two : Two) (ledger : Ledger) (role : Role) (own : OwnAct) (b : Body) → b ≡ body_at role two → Speaks common two ledger → next_own (base_at role common) b ≡ Some own
       → Goes-on (stepped role (after_step (base_at role common) b (step_of own)) (coming_to role two) (own_messages own) two)
   acted-so two ledger role own b e g c =
       subst (λ (b : Body). next_own (base_at role common) b ≡ Some own → Goes-on (stepped role (after_step (base_at role common) b (step_of own)) (coming_to role two) (own_messages own) two)) (sym e)
-      (λ c. (_, goes.acts two ledger role own g c)) c
+      (λ c. (_, record { goes = goes.acts two ledger role own g.goes c; calls = g.calls })) c
 
   -- what stands first is the message that comes next, and is heard as itself
-  pub heard-so : (two : Two) (ledger : Ledger) (role : Role) (b : Body) (intake : Intake) (waiting : List ℕ) (r : Reaction) → b ≡ body_at role two → Goes common two ledger
+  pub heard-so : (two : Two) (ledger : Ledger) (role : Role) (b : Body) (intake : Intake) (waiting : List ℕ) (r : Reaction) → b ≡ body_at role two → Speaks common two ledger
       → (f : FirstOf common.tables intake waiting (coming_to role two)) → react_to (base_at role common) b (first_in intake) ≡ Some r → react (base_at role common) (body_at role two) f.message ≡ r
   heard-so two ledger role b intake waiting r e g f t =
       one _ _ (sym (h.heard two ledger g role f.message f.left f.is) ∙ ap (react_to (base_at role common) (body_at role two)) (sym f.front) ∙ ap (λ (b : Body). react_to (base_at role common) b (first_in intake)) (sym e) ∙ t)
@@ -274,14 +275,14 @@ module _ (common : Common) (h : IsHeard common) where
 
   -- the end of this role sent these messages in a step to which this is left
   sent-so : (role : Role) (ends : Ends) (size : ℕ) (body : Body) (left more : List Message) (came : Option Intake) (ledger : Ledger) (s : IsSpelled common ends) → IsSize size
-      → Goes common (stepped role body left more s.two) ledger → Way common.tables came (end_at (other role) ends).line.waiting left
+      → Speaks common (stepped role body left more s.two) ledger → Way common.tables came (end_at (other role) ends).line.waiting left
       → IsSpelled common (with_end role (sending common.tables size (end_at role ends) body more came) ends)
   sent-so role ends size body left more came ledger s z g own =
       moved-on role ends s.two ledger (sending common.tables size (end_at role ends) body more came) left more g s.bodies own
       (way-sent common.tables (end_at (other role) ends).line.came (end_at role ends).line.waiting (coming_to (other role) s.two) more size z (sends-carried role s.two body left more ledger g) (way-other role ends s.two s.ways))
 
   closed-so : (role : Role) (ends : Ends) → IsSpelled common ends → IsSpelled common (with_end role (sending common.tables 128 (end_at role ends) (end_at role ends).body [] None) ends)
-  closed-so role ends s = record { two = s.two; ledger = s.ledger; goes = s.goes; bodies = bodies-so role; ways = ways-so role }
+  closed-so role ends s = record { two = s.two; ledger = s.ledger; speaks = s.speaks; bodies = bodies-so role; ways = ways-so role }
     where
       plus-none : (came : Option Intake) (waiting : List ℕ) (coming : List Message) → Way common.tables came waiting coming → Way common.tables came (waiting ++ []) coming
       plus-none came waiting coming w = subst (λ (os : List ℕ). Way common.tables came os coming) (sym (append-nil waiting)) w
@@ -299,7 +300,7 @@ module _ (common : Common) (h : IsHeard common) where
       ways-so Responder Responder = tt
 
   carried-so : (role : Role) (n : ℕ) (ends : Ends) → IsSpelled common ends → IsSpelled common (carried role n ends)
-  carried-so role n ends s = record { two = s.two; ledger = s.ledger; goes = s.goes; bodies = bodies-so role; ways = ways-so role }
+  carried-so role n ends s = record { two = s.two; ledger = s.ledger; speaks = s.speaks; bodies = bodies-so role; ways = ways-so role }
     where
       bodies-so : (role r : Role) → (end_at r (carried role n ends)).body ≡ body_at r s.two
       bodies-so Initiator Initiator = s.bodies Initiator
@@ -327,7 +328,7 @@ module _ (common : Common) (h : IsHeard common) where
   }
 
   begun-so : IsSpelled common (ends_new common)
-  begun-so = record { two = two_new common; ledger = first_ledger common; goes = goes.begins; bodies = b; ways = w }
+  begun-so = record { two = two_new common; ledger = first_ledger common; speaks = record { goes = goes.begins; calls = tt }; bodies = b; ways = w }
     where
       b : (r : Role) → (end_at r (ends_new common)).body ≡ body_at r (two_new common)
       b Initiator = refl
@@ -338,7 +339,7 @@ module _ (common : Common) (h : IsHeard common) where
       w Responder = new-way
 
   broken-so : (ends : Ends) → IsSpelled common ends → IsSpelled common (both_cut common ends)
-  broken-so ends s = record { two = both_broke common s.two; ledger = s.ledger; goes = goes.breaks s.two s.ledger s.goes; bodies = b; ways = w }
+  broken-so ends s = record { two = both_broke common s.two; ledger = s.ledger; speaks = record { goes = goes.breaks s.two s.ledger s.speaks.goes; calls = s.speaks.calls }; bodies = b; ways = w }
     where
       b : (r : Role) → (end_at r (both_cut common ends)).body ≡ body_at r (both_broke common s.two)
       b Initiator = ap (after_broke (base_at Initiator common)) (s.bodies Initiator)
@@ -350,31 +351,31 @@ module _ (common : Common) (h : IsHeard common) where
 
   pub spelled-so : (ends : Ends) → Spoken common ends → IsSpelled common ends
   spelled-so ends spoken.begins = begun-so
-  spelled-so ends (spoken.calls before role call answer size z so c) =
+  spelled-so ends (spoken.calls before role call answer size z typed so c) =
       let s = spelled-so before so in
-      let g = called-so s.two s.ledger role call answer (end_at role before).body (s.bodies role) s.goes c in
+      let g = called-so s.two s.ledger role call answer (end_at role before).body (s.bodies role) s.speaks typed c in
       sent-so role before size _ (coming_to role s.two) _ (end_at role before).line.came g.0 s z g.1 (s.ways role)
   spelled-so ends (spoken.acts before role own size z so c) =
       let s = spelled-so before so in
-      let g = acted-so s.two s.ledger role own (end_at role before).body (s.bodies role) s.goes c in
+      let g = acted-so s.two s.ledger role own (end_at role before).body (s.bodies role) s.speaks c in
       sent-so role before size _ (coming_to role s.two) _ (end_at role before).line.came g.0 s z g.1 (s.ways role)
   spelled-so ends (spoken.carries before role n so) = carried-so role n before (spelled-so before so)
   spelled-so ends (spoken.takes before role intake body answers shown size z so e t) =
       let s = spelled-so before so in
       let f = next-so role before intake _ s e t in
-      let r = heard-so s.two s.ledger role (end_at role before).body intake _ _ (s.bodies role) s.goes f t in
-      sent-so role before size body f.left answers (Some (behind_first intake)) _ s z (goes.takes s.two s.ledger role f.message f.left body answers shown s.goes f.is r) f.way
+      let r = heard-so s.two s.ledger role (end_at role before).body intake _ _ (s.bodies role) s.speaks f t in
+      sent-so role before size body f.left answers (Some (behind_first intake)) _ s z (record { goes = goes.takes s.two s.ledger role f.message f.left body answers shown s.speaks.goes f.is r; calls = s.speaks.calls }) f.way
   spelled-so ends (spoken.passes before role intake so e t) =
       let s = spelled-so before so in
       let f = next-so role before intake _ s e t in
-      let r = heard-so s.two s.ledger role (end_at role before).body intake _ _ (s.bodies role) s.goes f t in
+      let r = heard-so s.two s.ledger role (end_at role before).body intake _ _ (s.bodies role) s.speaks f t in
       sent-so role before 128 (end_at role before).body f.left [] (Some (behind_first intake)) s.ledger s (record { least = omega arith; most = omega arith })
-      (subst (λ (b : Body). Goes common (stepped role b f.left [] s.two) s.ledger) (sym (s.bodies role)) (goes.passes s.two s.ledger role f.message f.left s.goes f.is r)) f.way
+      (subst (λ (b : Body). Speaks common (stepped role b f.left [] s.two) s.ledger) (sym (s.bodies role)) (record { goes = goes.passes s.two s.ledger role f.message f.left s.speaks.goes f.is r; calls = s.speaks.calls })) f.way
   spelled-so ends (spoken.fails before role intake fault body aborts shown size z so e t) =
       let s = spelled-so before so in
       let f = next-so role before intake _ s e t in
-      let r = heard-so s.two s.ledger role (end_at role before).body intake _ _ (s.bodies role) s.goes f t in
-      sent-so role before size body f.left aborts None _ s z (goes.fails s.two s.ledger role f.message f.left fault body aborts shown s.goes f.is r) tt
+      let r = heard-so s.two s.ledger role (end_at role before).body intake _ _ (s.bodies role) s.speaks f t in
+      sent-so role before size body f.left aborts None _ s z (record { goes = goes.fails s.two s.ledger role f.message f.left fault body aborts shown s.speaks.goes f.is r; calls = s.speaks.calls }) tt
   spelled-so ends (spoken.closes before role so e) = closed-so role before (spelled-so before so)
   spelled-so ends (spoken.breaks before so) = broken-so before (spelled-so before so)
 

@@ -60,7 +60,7 @@ adds-transport tables (ConnectionConfirm destination size) more us h sp =
     adds-unit tables (Confirm (confirm_ends destination size)) _ _ more us (confirm_is [] (confirm_ends destination size) h.0 (omega arith) h.1) refl sp
 adds-transport tables (DisconnectRequest destination) more us h sp =
     subst (λ (d : ℕ). Adds tables (written_unit (DisconnectRequest d)) (OfTransport (DisconnectRequest d)) more us) (sym h)
-    (adds-unit tables Disconnect _ _ more us (disconnect_is [] 1 2 0 (omega arith) (omega arith)) refl sp)
+    (adds-unit tables Disconnect _ _ more us (disconnect_is [] 1 0 0 (omega arith) (omega arith)) refl sp)
 adds-transport tables TransportError more us h sp = absurd h
 
 adds : (tables : Tables) (s : Sent) (more : List ℕ) (us : List Tpdu) → IsCarried tables s.message → IsSize s.size → Splits [] more us [] → Adds tables (text_of tables s) (front_of tables s.message) more us
@@ -86,7 +86,7 @@ small-octets tables s h z = by s.message h
     dr destination e = subst (λ (d : ℕ). IsOctets (written_unit (DisconnectRequest d))) (sym e) eleven
       where
         eleven : IsOctets (written_unit (DisconnectRequest 1))
-        eleven = o 3 (0 ∷ 0 ∷ 11 ∷ 6 ∷ 128 ∷ 0 ∷ 1 ∷ 0 ∷ 2 ∷ 0 ∷ []) (omega arith) (o 0 (0 ∷ 11 ∷ 6 ∷ 128 ∷ 0 ∷ 1 ∷ 0 ∷ 2 ∷ 0 ∷ []) (omega arith) (o 0 (11 ∷ 6 ∷ 128 ∷ 0 ∷ 1 ∷ 0 ∷ 2 ∷ 0 ∷ []) (omega arith) (o 11 (6 ∷ 128 ∷ 0 ∷ 1 ∷ 0 ∷ 2 ∷ 0 ∷ []) (omega arith) (o 6 (128 ∷ 0 ∷ 1 ∷ 0 ∷ 2 ∷ 0 ∷ []) (omega arith) (o 128 (0 ∷ 1 ∷ 0 ∷ 2 ∷ 0 ∷ []) (omega arith) (o 0 (1 ∷ 0 ∷ 2 ∷ 0 ∷ []) (omega arith) (o 1 (0 ∷ 2 ∷ 0 ∷ []) (omega arith) (o 0 (2 ∷ 0 ∷ []) (omega arith) (o 2 (0 ∷ []) (omega arith) (o 0 [] (omega arith) none))))))))))
+        eleven = o 3 (0 ∷ 0 ∷ 11 ∷ 6 ∷ 128 ∷ 0 ∷ 1 ∷ 0 ∷ 0 ∷ 0 ∷ []) (omega arith) (o 0 (0 ∷ 11 ∷ 6 ∷ 128 ∷ 0 ∷ 1 ∷ 0 ∷ 0 ∷ 0 ∷ []) (omega arith) (o 0 (11 ∷ 6 ∷ 128 ∷ 0 ∷ 1 ∷ 0 ∷ 0 ∷ 0 ∷ []) (omega arith) (o 11 (6 ∷ 128 ∷ 0 ∷ 1 ∷ 0 ∷ 0 ∷ 0 ∷ []) (omega arith) (o 6 (128 ∷ 0 ∷ 1 ∷ 0 ∷ 0 ∷ 0 ∷ []) (omega arith) (o 128 (0 ∷ 1 ∷ 0 ∷ 0 ∷ 0 ∷ []) (omega arith) (o 0 (1 ∷ 0 ∷ 0 ∷ 0 ∷ []) (omega arith) (o 1 (0 ∷ 0 ∷ 0 ∷ []) (omega arith) (o 0 (0 ∷ 0 ∷ []) (omega arith) (o 0 (0 ∷ []) (omega arith) (o 0 [] (omega arith) none))))))))))
 
     of-unit : (unit : TransportUnit) → IsOfTransport unit → IsOctets (written_unit unit)
     of-unit (ConnectionRequest source size calling called) h = h.2

@@ -14,31 +14,32 @@ use Rattle.end_model.specs.Pairs.{Common, base_at, Two, body_at, coming_to}
 use Rattle.reliable_model.specs.Goes.{Ledger, Goes}
 use Rattle.association_reading.specs.Front.{Intake, Short, first_in}
 use Rattle.association_reading.specs.Reacting.{react_to}
+use Rattle.said_words.specs.Calls.{Speaks}
 use Rattle.association_worlds.specs.Worlds.{Ends, end_at, Spoken}
 use Rattle.association_worlds.specs.Ways.{AreCarried, front_of, Sent, texts, IsWay, Way}
 
 -- Whatever is on its way may be written, and what comes next to an end is heard as itself: its octets mean it to the end as it
 -- is then.
 pub record IsHeard (common : Common) : Type 0 where
-  pub carried : (two : Two) (ledger : Ledger) → Goes common two ledger → (role : Role) → AreCarried common.tables (coming_to role two)
-  pub heard : (two : Two) (ledger : Ledger) → Goes common two ledger → (role : Role) (message : Message) (left : List Message) → coming_to role two ≡ message ∷ left
+  pub carried : (two : Two) (ledger : Ledger) → Speaks common two ledger → (role : Role) → AreCarried common.tables (coming_to role two)
+  pub heard : (two : Two) (ledger : Ledger) → Speaks common two ledger → (role : Role) (message : Message) (left : List Message) → coming_to role two ≡ message ∷ left
       → react_to (base_at role common) (body_at role two) (front_of common.tables message) ≡ Some (react (base_at role common) (body_at role two) message)
 
 -- So it is where the mode isn't bare, neither end ever fails, and each word that is taken means itself.
 pub record IsMeant (common : Common) : Type 0 where
   pub associated : is_bare common.mode ≡ false
-  pub carried : (two : Two) (ledger : Ledger) → Goes common two ledger → (role : Role) → AreCarried common.tables (coming_to role two)
+  pub carried : (two : Two) (ledger : Ledger) → Speaks common two ledger → (role : Role) → AreCarried common.tables (coming_to role two)
   pub faultless : (two : Two) (ledger : Ledger) → Goes common two ledger → (role : Role) (message : Message) (left : List Message) (fault : Fault) (body : Body) (aborts : List Message) (shown : List Indication)
       → coming_to role two ≡ message ∷ left → react (base_at role common) (body_at role two) message ≡ Fails fault body aborts shown → ⊥
-  pub meant : (two : Two) (ledger : Ledger) → Goes common two ledger → (role : Role) (word : Word) (left : List Message) (body : Body) (answers : List Message) (shown : List Indication) (start : ℕ)
+  pub meant : (two : Two) (ledger : Ledger) → Speaks common two ledger → (role : Role) (word : Word) (left : List Message) (body : Body) (answers : List Message) (shown : List Indication) (start : ℕ)
       → coming_to role two ≡ Session word ∷ left → react (base_at role common) (body_at role two) (Session word) ≡ Takes body answers shown
       → meaning (base_at role common) (body_at role two) (with_user (user_octets (base_at role common).tables word) (unit_of word)) start ≡ Ok word
 
 -- What is presumed of the messages of such ends: each may be written, and a word that asks something of the presentation means
 -- itself where it is taken. That the words of the session alone do is proved.
 pub record IsSaid (common : Common) : Type 0 where
-  pub carried : (two : Two) (ledger : Ledger) → Goes common two ledger → (role : Role) → AreCarried common.tables (coming_to role two)
-  pub meant : (two : Two) (ledger : Ledger) → Goes common two ledger → (role : Role) (word : Word) (left : List Message) (body : Body) (answers : List Message) (shown : List Indication) (start : ℕ)
+  pub carried : (two : Two) (ledger : Ledger) → Speaks common two ledger → (role : Role) → AreCarried common.tables (coming_to role two)
+  pub meant : (two : Two) (ledger : Ledger) → Speaks common two ledger → (role : Role) (word : Word) (left : List Message) (body : Body) (answers : List Message) (shown : List Indication) (start : ℕ)
       → (IsOfSession word → ⊥) → coming_to role two ≡ Session word ∷ left → react (base_at role common) (body_at role two) (Session word) ≡ Takes body answers shown
       → meaning (base_at role common) (body_at role two) (with_user (user_octets (base_at role common).tables word) (unit_of word)) start ≡ Ok word
 
@@ -59,7 +60,7 @@ MeantIsHeard = (common : Common) → IsMeant common → IsHeard common
 pub record IsSpelled (common : Common) (ends : Ends) : Type 0 where
   pub two : Two
   pub ledger : Ledger
-  pub goes : Goes common two ledger
+  pub speaks : Speaks common two ledger
   pub bodies : (role : Role) → (end_at role ends).body ≡ body_at role two
   pub ways : (role : Role) → Way common.tables (end_at role ends).line.came (end_at (other role) ends).line.waiting (coming_to role two)
 

@@ -19,6 +19,7 @@ use Rattle.end_model.specs.Pairs.{Common, base_at}
 use Rattle.reliable_model.specs.Goes.{own_messages}
 use Rattle.association_reading.specs.Front.{Intake, first_in, behind_first}
 use Rattle.association_reading.specs.Reacting.{react_to}
+use Rattle.said_words.specs.Calls.{IsCall}
 use Rattle.association_worlds.specs.Lines.{End, IsSize, new_line, new_end, written_all, more_came}
 
 pub record Ends : Type 0 where
@@ -62,7 +63,7 @@ both_cut common ends =
 pub data Spoken (common : Common) : Ends → Type 0 where
   begins : Spoken common (ends_new common)
   -- An accepted call is made, and sends what it makes due.
-  calls : (ends : Ends) (role : Role) (call : Call) (answer : Option ℤ) (size : ℕ) → IsSize size → Spoken common ends
+  calls : (ends : Ends) (role : Role) (call : Call) (answer : Option ℤ) (size : ℕ) → IsSize size → IsCall call → Spoken common ends
       → can_call (base_at role common) (end_at role ends).body call ≡ Ok answer
       → Spoken common (with_end role (sending common.tables size (end_at role ends) (after_called common.mode (base_at role common) (end_at role ends).body call answer) (due_of (base_at role common) (end_at role ends).body call (Ok answer)) (end_at role ends).line.came) ends)
   -- An end makes a step by itself.

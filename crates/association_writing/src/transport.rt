@@ -65,7 +65,7 @@ pub(crate) fn written_unit(alloc: Global, unit: &TransportUnit) -> Result<Octets
             confirm(alloc, *destination, *size)
         }
         TransportUnit::DisconnectRequest { destination } => {
-            write_disconnect(alloc, *destination, 2, 0)
+            write_disconnect(alloc, *destination, 0, 0)
         }
         TransportUnit::TransportError => Ok(Octets::new(alloc)),
     }

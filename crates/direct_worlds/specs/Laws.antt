@@ -3,7 +3,6 @@ use Rattle.std.specs.Prelude.{◌≡◌, List, true, Some}
 use Rattle.dialogue.specs.declared.config.Config.{Config}
 use Rattle.dialogue.specs.declared.indication.Indication.{Indication}
 use Rattle.stub_tables.specs.declared.tables.Tables.{Tables}
-use Rattle.stub_tables.specs.Readable.{IsReadable}
 use Rattle.end_rules.specs.Base.{Fault}
 use Rattle.end_rules.specs.Messages.{Message}
 use Rattle.end_rules.specs.State.{Body, holds_turn}
@@ -13,12 +12,14 @@ use Rattle.end_model.specs.Pairs.{Common, base_at}
 use Rattle.association_reading.specs.Front.{Intake, first_in}
 use Rattle.association_reading.specs.Reacting.{react_to}
 use Rattle.association_worlds.specs.Worlds.{Ends, end_at, Spoken}
-use Rattle.association_worlds.specs.Laws.{IsSaid, IsSpelled}
-use Rattle.end_laws.specs.Codecs.{Transfers, direct_ends, IsDirect}
+use Rattle.association_worlds.specs.Laws.{IsSpelled}
+use Rattle.end_laws.specs.Codecs.{Transfers, direct_ends}
+use Rattle.said_worlds.specs.Laws.{AreEnds}
 
+-- of every module and every two configurations that may be ends of direct mode
 abbrev pub EverInWorlds : (Common → Ends → Type 0) → Type 0
 EverInWorlds Law =
-    (tables : Tables) (transfers : Transfers) (a b : Config) → IsReadable tables → IsDirect a → IsSaid (direct_ends tables transfers a b) →
+    (tables : Tables) (transfers : Transfers) (a b : Config) → AreEnds tables a b →
     (ends : Ends) → Spoken (direct_ends tables transfers a b) ends → Law (direct_ends tables transfers a b) ends
 
 abbrev pub DirectWorldsAreSpelled : Type 0

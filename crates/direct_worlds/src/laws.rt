@@ -5,6 +5,7 @@ ghost use Rattle.direct_worlds.specs.Laws.{DirectWorldsAreSpelled, DirectWorldsH
 use association_worlds::said_is_meant;
 use end_laws::{direct_ends_are_modelled, direct_turn_has_one_holder};
 use end_model::bare_pairs_are_modelled;
+use said_worlds::direct_ends_are_said;
 
 /// Two ends of direct mode with the codecs whose lines are octets: what they reach they reach by
 /// the messages that these octets are; no end finds a fault in what comes; at no moment do both
@@ -15,6 +16,7 @@ pub fn direct_worlds_are_spelled()
     ensures holder { DirectWorldsHaveOneHolder }
 {
     said_is_meant();
+    direct_ends_are_said();
     direct_ends_are_modelled();
     direct_turn_has_one_holder();
     bare_pairs_are_modelled();

@@ -1,1 +1,1 @@
-mod Premises
+pub mod Premises

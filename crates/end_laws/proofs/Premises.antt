@@ -138,7 +138,7 @@ module _ (tables : Tables) (transfers : Transfers) (a b : Config) (readable : Is
       heard-back a tables (apdus.Error id code parameter) readable (record { numbers = identifier id proper.0; values = parameter-carried base (error_with tables code) parameter proper.1; short = short })
   read-back (apdus.Reject id problem) proper short = tt
 
-  direct-back : ReadsBack base
+  pub direct-back : ReadsBack base
   direct-back = record { reads = λ apdu proper fits. read-back apdu proper (short-in_der base apdu fits) }
 
   -- the same in bare mode, where the rules stand on the same spellings
@@ -155,7 +155,7 @@ module _ (tables : Tables) (transfers : Transfers) (a b : Config) (readable : Is
       by-kind (apdus.Reject id problem) proper short = tt
 
   -- the contexts of a configuration that isn't refused are proposed rightly
-  rightly : IsDirect a → ProposesRightly (direct_ends tables transfers a b)
+  pub rightly : IsDirect a → ProposesRightly (direct_ends tables transfers a b)
   rightly right = subst (λ (m : Mode). is_faulty_proposal true [] (own_proposals m ++ a.contexts) ≡ false) right.mode (proposes-rightly a right.accepted)
 
 -- ---- the laws

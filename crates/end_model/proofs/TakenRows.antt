@@ -1,7 +1,8 @@
 -- The takings of each kind of word, in direct and in reliable mode.
 use Rattle.std.proofs.Common.{◌≡◌, refl, true, ◌∙◌, sym, ap, subst, ℕ, suc, List, [], ◌∷◌, ◌≤◌, map}
 use Rattle.std.proofs.Common.{length}
-use Rattle.std.specs.Prelude.{Option, Some, nat_eq, nat_le}
+use Rattle.std.specs.Prelude.{Option, Some, nat_eq, nat_le, false, ◌||◌}
+use Rattle.std.specs.List.{list_any}
 use Rattle.osi_base.specs.declared.words.Proposal.{Proposal}
 use Rattle.osi_base.specs.declared.words.Answers.{Answers}
 use Rattle.osi_base.specs.declared.words.RestoredItem.{RestoredItem}
@@ -15,8 +16,9 @@ use Rattle.end_rules.specs.InPlace.{may_send_typed}
 use Rattle.end_rules.specs.Policy.{policy}
 use Rattle.end_rules.specs.Connecting.{the_one}
 use Rattle.end_rules.specs.TakesAssociation.{is_release_request, is_release_response}
-use Rattle.end_rules.specs.TakesData.{alteration, settled}
+use Rattle.end_rules.specs.TakesData.{alteration, settled, is_associated}
 use Rattle.end_rules.specs.TakesMarks.{priority_in}
+use Rattle.end_rules.specs.Messages.{Content, Remote, Unread, Association, Plea, Part}
 use Rattle.end_rules.specs.Messages.{AbortData, Value, OfAssociation, OfData, OfMarks, OfActivities}
 use Rattle.end_rules.specs.Messages.{Finish, Disconnect, Abort, AlterContext, AlterContextAck, Mark}
 use Rattle.end_rules.specs.Messages.{Restart, RestartAck, Give, Please, GiveConfirm, GiveAck, Start}
@@ -98,10 +100,23 @@ please-direct tokens free base proposed body sound joined may =
     let up : is_up body.link.phase ≡ true = up-now (at Direct base) body may.is_up in
     record { no_fault = fine (at Direct base) body (OfMarks (Please (Some tokens) [])) (rw (up, joined.selected) refl) refl; chosen = tt; after = refl; means = tt }
 
+-- a plea is no value of association control
+no-plea : (v : Value) (priority : ℕ) (c : Content) → priority_in (record v { content = c } ∷ []) ≡ Some priority → is_associated c ≡ false
+no-plea v priority (Remote apdu) h = cc
+no-plea v priority (Unread octets) h = cc
+no-plea v priority (Association apdu user) h = cc
+no-plea v priority (Plea p) h = refl
+no-plea v priority (Part octets) h = refl
+
+plea-alone : (values : List Value) (priority : ℕ) → priority_in values ≡ Some priority → list_any (λ (v : Value). is_associated v.content) values ≡ false
+plea-alone [] priority h = refl
+plea-alone (v ∷ []) priority h = ap (λ b. b || false) (no-plea v priority v.content h)
+plea-alone (v ∷ more ∷ values) priority h = cc
+
 pub please-reliable : (tokens priority : ℕ) (values : List Value) → priority_in values ≡ Some priority → TakenWhere Reliable (OfMarks (Please (Some tokens) values)) (model_please priority) nothing
 please-reliable tokens priority values plea free base proposed body sound joined may =
     let up : is_up body.link.phase ≡ true = up-now (at Reliable base) body may.is_up in
-    record { no_fault = fine (at Reliable base) body (OfMarks (Please (Some tokens) values)) (rw up refl) (rw plea refl); chosen = tt; after = refl; means = tt }
+    record { no_fault = fine (at Reliable base) body (OfMarks (Please (Some tokens) values)) (rw up refl) (rw (plea-alone values priority plea, plea) refl); chosen = tt; after = refl; means = tt }
 
 -- ---- restarts
 

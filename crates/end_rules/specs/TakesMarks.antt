@@ -1,5 +1,6 @@
 -- Marks, restarts and tokens (X.225 7.14 to 7.25; what is restored is this project's own rule).
 use Rattle.std.specs.Prelude.{ℕ, List, [], ◌∷◌, ◌++◌, Bool, true, false, not, if◌then◌else◌, Option, Some, None}
+use Rattle.std.specs.List.{list_any}
 use Rattle.osi_base.specs.declared.words.SetItem.{SetItem}
 use Rattle.osi_base.specs.declared.words.RestoredItem.{RestoredItem}
 use Rattle.osi_base.specs.declared.words.Layer.TheVariants as layers
@@ -11,7 +12,8 @@ use Rattle.end_rules.specs.Base.{Base, Fault}
 use Rattle.end_rules.specs.Sets.{listed, same_lists, below, newest}
 use Rattle.end_rules.specs.Messages.{Content, Plea, Value, MarkWord, Mark, MarkAck, Restart, RestartAck, Give, Please, GiveConfirm, GiveAck, OfMarks, Message, Session}
 use Rattle.end_rules.specs.State.{Body, NoAnswer, Marked, Transfer, on_transfer}
-use Rattle.end_rules.specs.Faults.{rtse_fault, fault_if, cuts, losses}
+use Rattle.end_rules.specs.TakesData.{is_associated}
+use Rattle.end_rules.specs.Faults.{acse_fault, rtse_fault, fault_if, or_fault, cuts, losses}
 
 -- ---- marks
 
@@ -88,9 +90,12 @@ abbrev pub is_plea : Option ℕ → Bool
 is_plea None = false
 is_plea (Some priority) = true
 
+-- values of association control are its fault, and what else is no plea one of reliable transfer
 abbrev pub please_fault : Option ℕ → List Value → Option Fault
 please_fault None values = None
-please_fault (Some tokens) values = fault_if (not (is_plea (priority_in values))) rtse_fault
+please_fault (Some tokens) values =
+    or_fault (fault_if (list_any (λ (v : Value). is_associated v.content) values) acse_fault)
+    (fault_if (not (is_plea (priority_in values))) rtse_fault)
 
 abbrev pub shown_plea : Option ℕ → List Indication
 shown_plea None = []

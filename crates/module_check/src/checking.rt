@@ -20,8 +20,18 @@ pub enum Checked {
     Refused(Octets),
 }
 
-/// The line that says where a module is at fault.
-fn refused_text(alloc: Global, line: u32, column: u64, kind: ModuleKind) -> Result<Octets, NoMemory>
+/// The line that says where a module is at fault: `module refused`, the line, the column and the
+/// kind of the fault. Of a table file the line is 0 and the column is a place.
+///
+/// # Errors
+///
+/// Where memory is refused.
+pub fn refused_text(
+    alloc: Global,
+    line: u32,
+    column: u64,
+    kind: ModuleKind,
+) -> Result<Octets, NoMemory>
     ensures { IfOk result (λ text. text ≡ refused_text line column kind) }
 {
     let mut text = Text::new(alloc);

@@ -14,8 +14,8 @@ pub struct Check<'a> {
     pub table: bool,
 }
 
-/// Whether a word is a flag: it begins with `-`, and isn't `-` alone.
-fn is_flag(word: &Name) -> bool
+/// Whether a word of a command is a flag: it begins with `-`, and isn't `-` alone.
+pub fn is_flag(word: &Name) -> bool
     ensures { result ≡ is_flag word.now }
 {
     match word.as_bytes() {
@@ -24,8 +24,8 @@ fn is_flag(word: &Name) -> bool
     }
 }
 
-/// Whether the word has this text.
-fn is_word(word: &Name, text: &str) -> bool
+/// Whether a word of a command has this text.
+pub fn is_word(word: &Name, text: &str) -> bool
     ensures { result ≡ bytes_eq word.now text.now }
 {
     word.as_bytes() == text.as_bytes()

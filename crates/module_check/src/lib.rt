@@ -4,5 +4,5 @@
 mod checking;
 mod command;
 
-pub use checking::{Checked, check_module};
-pub use command::{Check, check_command};
+pub use checking::{Checked, check_module, refused_text};
+pub use command::{Check, check_command, is_flag, is_word};

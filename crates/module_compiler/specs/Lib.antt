@@ -4,3 +4,4 @@ pub mod Numbering
 pub mod Tabling
 pub mod Seen
 pub mod Tables
+pub mod Refusals

@@ -1,8 +1,9 @@
 //! Codes that come twice.
 
-use crate::fault::{Halt, TableKind};
+use crate::fault::Halt;
 use crate::least::Least;
 use indexmap::IndexSet;
+use module_faults::TableKind;
 use notation_tokens::Place;
 use operation_notation::{Assignment, Body, CodeText};
 use std::alloc::Global;

@@ -1,17 +1,19 @@
 //! Compiling a module.
 
-ghost use Rattle.std.specs.Prelude.{◌≡◌, IfOk};
+ghost use Rattle.std.specs.Prelude.{◌≡◌, IfOk, IfErr, IfSome};
 ghost use Rattle.module_compiler.specs.Tables.{AreTablesOf};
+ghost use Rattle.module_compiler.specs.Refusals.{MayBeRefused, MayBeFound};
 
 use crate::codes::double_codes;
 use crate::facts::fact_faults;
-use crate::fault::{Halt, TableFault, TableKind};
+use crate::fault::{Halt, TableFault};
 use crate::least::{Found, Least};
 use crate::local_faults::local_faults;
 use crate::own_codes::{errors_have_own_codes, operations_have_own_codes};
 use crate::scope::Scope;
 use crate::survey::{Survey, surveyed};
 use crate::tabling::{Whole, tabled};
+use module_faults::{TableKind, may_be_fault};
 use operation_notation::ModuleText;
 use osi_base::Copied;
 use std::alloc::Global;
@@ -42,10 +44,11 @@ fn least_fault(alloc: Global, scope: &Scope<'_>) -> Result<Option<Found>, Halt> 
 
 /// The tables of rows, where each operation and each error has a code of its own.
 fn tables(alloc: Global, text: &ModuleText, whole: Whole) -> Result<Tables, TableFault>
-    ensures { IfOk result (λ tables. (tables.name ≡ text.now.name.text) ×
+    ensures made { IfOk result (λ tables. (tables.name ≡ text.now.name.text) ×
         (tables.name_oid ≡ text.now.name_oid) ×
         (record { types = tables.types; operations = tables.operations; errors = tables.errors }
         ≡ whole)) }
+    ensures no_memory { IfErr result (MayBeRefused text.now) }
 {
     let Ok(true) = operations_have_own_codes(alloc, whole.operations.as_slice()) else {
         return Err(TableFault::NoMemory);
@@ -65,17 +68,31 @@ fn tables(alloc: Global, text: &ModuleText, whole: Whole) -> Result<Tables, Tabl
     })
 }
 
+/// The least fault of a module, if it has one. A fault is told only where one of its kind may stand.
+fn told_fault(alloc: Global, scope: &Scope<'_>) -> Result<Option<Found>, Halt>
+    ensures { IfOk result (MayBeFound scope.now.assignments) }
+{
+    match least_fault(alloc, scope)? {
+        Some(found) if may_be_fault(found.kind, found.place, scope.assignments()) => {
+            Ok(Some(found))
+        }
+        _ => Ok(None),
+    }
+}
+
 /// The tables of a module.
 ///
 /// # Errors
 ///
-/// `At` where the module has a fault: the least one by line, column and the order of kinds.
+/// `At` where the module has a fault: the least one by line, column and the order of kinds; a fault
+/// of this kind may stand there, as `may_be_fault` says.
 /// `NoMemory` where an allocation is refused.
 pub fn compile(alloc: Global, text: &ModuleText) -> Result<Tables, TableFault>
-    ensures { IfOk result (λ tables. AreTablesOf text.now tables) }
+    ensures found { IfOk result (λ tables. AreTablesOf text.now tables) }
+    ensures refused { IfErr result (MayBeRefused text.now) }
 {
     let scope = Scope::new(alloc, text)?;
-    match least_fault(alloc, &scope) {
+    match told_fault(alloc, &scope) {
         Err(_) => return Err(TableFault::NoMemory),
         Ok(Some(found)) => {
             return Err(TableFault::At {

@@ -1,11 +1,12 @@
 //! What types are as a whole: how deep their rows nest, with which tags their values begin, and which
 //! defaults they have; and the faults that these show.
 
-use crate::fault::{Halt, TableKind};
+use crate::fault::Halt;
 use crate::least::Least;
 use crate::scope::Scope;
 use crate::survey::Survey;
 use indexmap::IndexSet;
+use module_faults::TableKind;
 use notation_tokens::Place;
 use operation_notation::{Body, DfltValue, ItemText, PartText, PlainText, TypeText, UseText};
 use osi_base::Name;

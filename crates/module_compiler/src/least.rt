@@ -1,6 +1,6 @@
 //! The least fault of those that are found.
 
-use crate::fault::TableKind;
+use module_faults::TableKind;
 use notation_tokens::{Located, Place};
 
 /// The order of kinds at one token.

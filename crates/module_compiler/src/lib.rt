@@ -15,4 +15,5 @@ mod survey;
 mod tabling;
 
 pub use compiling::compile;
-pub use fault::{TableFault, TableKind};
+pub use fault::TableFault;
+pub use module_faults::TableKind;

@@ -1,9 +1,10 @@
 //! Faults that the words of an assignment show by themselves: names, ranges, items, parts.
 
-use crate::fault::{Halt, TableKind};
+use crate::fault::Halt;
 use crate::least::Least;
 use crate::scope::Scope;
 use indexmap::IndexSet;
+use module_faults::{TableKind, is_bad_range, is_bad_size, is_bad_tag};
 use notation_tokens::{Located, Place};
 use operation_notation::{
     Assignment, Body, ItemText, OpText, PartText, PlainText, RangeText, TagText, TypeText, UseText,
@@ -45,7 +46,7 @@ fn range_place(range: &RangeText) -> Place {
 /// A range whose low end is above its high end.
 fn range(range: &Option<RangeText>, least: &mut Least) {
     if let Some(range) = range
-        && range.high < range.low
+        && is_bad_range(range)
     {
         least.note(range_place(range), TableKind::BadRange);
     }
@@ -54,7 +55,7 @@ fn range(range: &Option<RangeText>, least: &mut Least) {
 /// A size that doesn't begin with 0, or passes 32 bits.
 fn size(size: &Option<RangeText>, least: &mut Least) {
     if let Some(size) = size
-        && (size.low != 0 || size.high < 0 || size.high > 4_294_967_295)
+        && is_bad_size(size)
     {
         least.note(range_place(size), TableKind::BadRange);
     }
@@ -63,8 +64,7 @@ fn size(size: &Option<RangeText>, least: &mut Least) {
 /// The tag UNIVERSAL 0.
 fn tag(of: &TypeText, tag: &Option<TagText>, least: &mut Least) {
     if let Some(tag) = tag
-        && tag.class == 0
-        && tag.number == 0
+        && is_bad_tag(tag)
     {
         least.note(
             Place {

@@ -19,9 +19,9 @@ pub text_found : (bytes : List ℕ) (read : ModuleText) (r : Result Tables Modul
 text_found bytes read (Ok tables) is e h = inr (is, record { read = read; reads = e; has = h })
 text_found bytes read (Err fault) is e h = tt
 
-pub text_refused : (bytes : List ℕ) (read : ModuleText) (r : Result Tables ModuleFault) → is_table_file bytes ≡ false → module_of bytes ≡ Ok read → IfErr r IsTableRefusal → IfErr r (IsRefused bytes)
+pub text_refused : (bytes : List ℕ) (read : ModuleText) (r : Result Tables ModuleFault) → is_table_file bytes ≡ false → module_of bytes ≡ Ok read → IfErr r (IsTableRefusal read) → IfErr r (IsRefused bytes)
 text_refused bytes read (Ok tables) is e h = tt
 text_refused bytes read (Err (faults.At line column (kinds.Notation kind))) is e h = absurd h
-text_refused bytes read (Err (faults.At line column (kinds.Table kind))) is e h = (is, read, e)
+text_refused bytes read (Err (faults.At line column (kinds.Table kind))) is e h = (is, read, e, h)
 text_refused bytes read (Err (faults.At line column (kinds.File kind))) is e h = absurd h
 text_refused bytes read (Err faults.NoMemory) is e h = tt

@@ -4,8 +4,8 @@ use Rattle.osi_base.specs.declared.words.Kind.{Kind}
 use Rattle.osi_base.specs.declared.words.Kind.TheVariants as file
 use Rattle.notation_tokens.specs.declared.faults.NotationKind.{NotationKind}
 use Rattle.notation_tokens.specs.declared.faults.NotationKind.TheVariants as notation
-use Rattle.module_compiler.specs.declared.fault.TableKind.{TableKind}
-use Rattle.module_compiler.specs.declared.fault.TableKind.TheVariants as table
+use Rattle.module_faults.specs.declared.kind.TableKind.{TableKind}
+use Rattle.module_faults.specs.declared.kind.TableKind.TheVariants as table
 use Rattle.module_reading.specs.declared.fault.ModuleKind.{ModuleKind}
 use Rattle.module_reading.specs.declared.fault.ModuleKind.TheVariants as kinds
 

@@ -2,7 +2,9 @@
 #![tactic(auto)]
 
 mod fault;
+mod laws;
 mod reading;
 
 pub use fault::{ModuleFault, ModuleKind, kind_word};
+pub use laws::one_tables;
 pub use reading::read_module;

@@ -27,7 +27,7 @@ fn is_table_file(bytes: &[u8]) -> bool
 /// The tables of a module that reads.
 fn tables_of(alloc: Global, module: &ModuleText) -> Result<Tables, ModuleFault>
     ensures found { IfOk result (AreTablesOf «module».now) }
-    ensures refused { IfErr result IsTableRefusal }
+    ensures refused { IfErr result (IsTableRefusal «module».now) }
 {
     match compile(alloc, module) {
         Ok(tables) => Ok(tables),

@@ -1,63 +1,56 @@
 -- The replay of a schedule, from what the run of two new ends says.
-use Rattle.std.proofs.Common.{◌≡◌, ℕ, Bool, true, List, [], Option, None, Some, is_none, refl, ap, subst}
-use Rattle.std.proofs.Math.Logic.{∥∥₁_elim}
-use mathlib.Core.Bool.{Bool-set}
+use Rattle.std.proofs.Common.{◌≡◌, ℕ, Bool, true, false, List, [], refl, sym, subst, ◌∙◌}
 use Rattle.stub_tables.specs.declared.tables.Tables.{Tables}
 use Rattle.dialogue.specs.declared.config.Config.{Config}
-use Rattle.dialogue.specs.declared.config.ConfigRefusal.{ConfigRefusal}
-use Rattle.dialogue.specs.Config.{config_refusal, IsBare}
+use Rattle.dialogue.specs.Config.{IsBare}
 use Rattle.dialogue.specs.declared.setup.Setup.{Setup}
+use Rattle.dialogue.specs.declared.event.Event.{Event}
 use Rattle.dialogue.specs.declared.event.Transcript.{Transcript}
-use Rattle.dialogue.specs.State.{bare_start}
-use Rattle.stack.specs.End.{EndView}
-use Rattle.duo.specs.Ran.{Stand, RanFromStart}
-use Rattle.script_text.specs.declared.schedule.Schedule.{Schedule}
-use Rattle.script_text.specs.Texts.{text_of}
-use Rattle.osi_tool.specs.Replaying.{Replayed}
+use Rattle.bare_end.specs.View.{EndView, StandsFor}
+use Rattle.bare_duo.specs.Ran.{Stand, RanFromStart, RunsFromStart}
+use Rattle.schedule_text.specs.Schedules.{Said}
+use Rattle.osi_tool.specs.Replaying.{RanOver, RanSchedule, written_of, Replayed}
 
--- no end refuses a configuration of a setup
-none_of : (x : Option ConfigRefusal) → is_none x ≡ true → x ≡ None
-none_of None e = refl
-none_of (Some r) e = absurd cc
+-- two configurations of bare mode
+module _ (a b : Config) (a_is : IsBare true a) (b_is : IsBare false b) where
+  module _ (tables : Tables) (events : List Event) (transcript : Transcript) where
+    abbrev schedule : Said
+    schedule = record { a = a; b = b; events = events }
 
-pub accepted : (initiator : Bool) (config : Config) → ∥ IsBare initiator config ∥₁ → config_refusal config ≡ None
-accepted initiator config h =
-    none_of (config_refusal config) (∥∥₁_elim h (Bool-set (is_none (config_refusal config)) true) (λ (is : IsBare initiator config). ap is_none is.accepted))
+    abbrev setup : Setup
+    setup = record { a = a; b = b; initiator = ∣ a_is ∣₁; responder = ∣ b_is ∣₁ }
 
--- an end that has made no step
-abbrev new_view : Tables → Config → EndView
-new_view tables config = record { tables = tables; config = config; state = bare_start tables }
-
-abbrev RunFrom : Schedule → Transcript → EndView → EndView → EndView → EndView → Type 0
-RunFrom schedule transcript a_after b_after a b =
-    (setup : Setup) → Stand setup a.tables [] a b → RanFromStart setup a.tables schedule.events transcript a_after b_after
-
-from_new : (tables : Tables) (schedule : Schedule) (a_after b_after : EndView) (transcript : Transcript) (text : List ℕ)
-    → RunFrom schedule transcript a_after b_after (new_view tables schedule.setup.a) (new_view tables schedule.setup.b)
-    → text ≡ text_of tables transcript → Replayed tables schedule text
-from_new tables schedule a_after b_after transcript text run is =
-    let ran = run schedule.setup (record { a_is = refl; b_is = refl }) in
-    record {
-      transcript = transcript;
-      world = ran.ran.world;
-      runs = ran.ran.runs;
-      readable = ran.readable;
-      laws = ran.laws;
-      shown = ran.shown;
-      mode = ran.mode;
-      a_phase = ran.a_phase;
-      b_phase = ran.b_phase;
-      text_is = is;
+    from_run : (a_after b_after : EndView) → RanFromStart setup tables events transcript a_after b_after → RanSchedule tables schedule transcript
+    from_run a_after b_after run = record {
+      setup = setup;
+      a_is = refl;
+      b_is = refl;
+      world = run.ran.world;
+      runs = run.ran.runs;
+      readable = run.readable;
+      laws = run.laws;
+      mode = run.mode;
+      a_phase = run.a_phase;
+      b_phase = run.b_phase;
     }
 
-pub replays : (tables : Tables) (schedule : Schedule) (a b a_after b_after : EndView) (transcript : Transcript) (text : List ℕ)
-    → a ≡ record { tables = tables; config = schedule.setup.a; state = bare_start tables }
-    → b ≡ record { tables = tables; config = schedule.setup.b; state = bare_start tables }
-    → ((setup : Setup) → Stand setup a.tables [] a b → RanFromStart setup a.tables schedule.events transcript a_after b_after)
-    → text ≡ text_of tables transcript → Replayed tables schedule text
-replays tables schedule a b a_after b_after transcript text a_is b_is run is =
-    let at_b : RunFrom schedule transcript a_after b_after a (new_view tables schedule.setup.b) =
-    subst (RunFrom schedule transcript a_after b_after a) b_is run in
-    let at_both : RunFrom schedule transcript a_after b_after (new_view tables schedule.setup.a) (new_view tables schedule.setup.b) =
-    subst (λ x. RunFrom schedule transcript a_after b_after x (new_view tables schedule.setup.b)) a_is at_b in
-    from_new tables schedule a_after b_after transcript text at_both is
+    pub replays : (x y x_after y_after : EndView) → x.tables ≡ tables → x.config ≡ a → StandsFor x [] → y.tables ≡ tables → y.config ≡ b → StandsFor y []
+        → RunsFromStart events transcript x y x_after y_after → RanSchedule tables schedule transcript
+    replays x y x_after y_after x_tables x_config x_new y_tables y_config y_new run =
+        let P : Tables → Type 0 = λ t. RanFromStart setup t events transcript x_after y_after in
+        let ran : RanFromStart setup x.tables events transcript x_after y_after =
+        run setup (record {
+          a_stands = record { tables_are = refl; config_is = x_config; stands = x_new };
+          b_stands = record { tables_are = y_tables ∙ sym x_tables; config_is = y_config; stands = y_new };
+        }) in
+        from_run x_after y_after (subst P x_tables ran)
+
+    -- the run of two new ends is one of the schedule
+    pub scheduled : (x y : EndView) → x.tables ≡ tables → x.config ≡ a → StandsFor x [] → y.tables ≡ tables → y.config ≡ b → StandsFor y []
+        → RanOver events x y transcript → RanSchedule tables schedule transcript
+    scheduled x y x_tables x_config x_new y_tables y_config y_new over =
+        replays x y over.a_after over.b_after x_tables x_config x_new y_tables y_config y_new over.runs
+
+pub told : {brief : Bool} {tables : Tables} {schedule : Said} {transcript : Transcript} {text : List ℕ}
+    → RanSchedule tables schedule transcript → text ≡ written_of brief tables transcript → Replayed brief tables schedule text
+told {transcript = transcript} ran is = record { transcript = transcript; ran = ran; text_is = is }

@@ -1,10 +1,14 @@
-pub mod Known
 pub mod Commands
+pub mod SoFar
+pub mod Given
 pub mod Statuses
 pub mod Answers
-pub mod Preparing
+pub mod Reading
+pub mod Causes
+pub mod Checking
 pub mod Replaying
-pub mod TopCall
 pub mod Tracing
+pub mod Pairs
+pub mod TopCall
 pub mod Process
 pub mod Laws

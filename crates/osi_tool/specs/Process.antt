@@ -5,7 +5,9 @@ use Rattle.osi_base.specs.declared.words.Status.{Status}
 use Rattle.osi_tool.specs.declared.process.Arguments.{Arguments}
 use Rattle.osi_tool.specs.declared.process.Arguments.TheVariants.{Given, NotText, Unread}
 use Rattle.osi_tool.specs.Statuses.{exit_code}
-use Rattle.osi_tool.specs.Tracing.{trace_of, ClosesFor}
+use Rattle.osi_tool.specs.Answers.{Closes}
+use Rattle.osi_tool.specs.Commands.{command_of}
+use Rattle.osi_tool.specs.TopCall.{IsAnswer}
 
 -- the words that arguments give: all but the first, which is the program's name; none where one is no text
 abbrev pub words_given : Arguments → List (List ℕ)
@@ -16,5 +18,5 @@ words_given Unread = []
 -- The process ends with the number of the status with which the top call ends for these words.
 pub record Exits (told : Option FileMap) (old new : ℕ) (words : List (List ℕ)) (sink_old sink_new : ℕ) (before after : Option (List ℕ)) (code : ℕ) : Type 0 where
   pub status : Status
-  pub closes : ClosesFor (trace_of words) told old new words sink_old sink_new before after status
+  pub closes : Closes (IsAnswer told old new (command_of words)) old new sink_old sink_new before after status
   pub code_is : code ≡ exit_code status

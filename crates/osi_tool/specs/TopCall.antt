@@ -1,153 +1,44 @@
--- What the program's top call does, and why it ends as it does.
-use Rattle.std.specs.Prelude.{ℕ, ◌≡◌, ◌⊎◌, List, Option, None, Some, Result, Ok, Err, Bool, true, false}
-use Rattle.osi_base.specs.Outside.{Rose, IsCalm, FileMap, Lacks, Holds, grown, GrewPart}
+-- The program's top call: what it answers to words, and which files it asks for.
+use Rattle.std.specs.Prelude.{ℕ, ◌≡◌, List, Option, None, Some}
+use Rattle.osi_base.specs.Outside.{FileMap, logged, grown}
 use Rattle.osi_base.specs.declared.words.Status.{Status}
-use Rattle.osi_base.specs.declared.words.Status.TheVariants.{Done, Usage, ReadFault, WriteFault, ModuleRefused, ScriptRefused, NoMemory}
-use Rattle.script_text.specs.declared.fault.ScriptFault.{ScriptFault}
-use Rattle.script_text.specs.declared.fault.ScriptFault.TheVariants.{At}
-use Rattle.script_text.specs.declared.fault.ScriptKind.{ScriptKind}
-use Rattle.script_text.specs.declared.schedule.Schedule.{Schedule}
-use Rattle.script_text.specs.Schedules.{schedule_of}
 use Rattle.osi_tool.specs.declared.answers.Answer.{Answer}
-use Rattle.osi_tool.specs.declared.preparing.Prepared.TheVariants.{Answered, Ready}
-use Rattle.osi_tool.specs.Known.{one_module, is_one_module, one_tables}
-use Rattle.osi_tool.specs.Commands.{Command, command_of}
-use Rattle.osi_tool.specs.Answers.{usage_answer, unread_answer, module_answer, script_answer, done_answer, KeepsCount, Ends}
-use Rattle.osi_tool.specs.Preparing.{WasRead, Prepares}
-use Rattle.osi_tool.specs.Replaying.{Replayed}
+use Rattle.osi_tool.specs.Commands.{Command, checks, pairs}
+use Rattle.osi_tool.specs.Answers.{usage_answer}
+use Rattle.osi_tool.specs.Reading.{MayAsk, AsksPair, PairAsked, PairAskedAtEnd, CheckAskedAtEnd}
+use Rattle.osi_tool.specs.Checking.{Checks}
+use Rattle.osi_tool.specs.Pairs.{AnswersPair}
 
 -- The names here: what the files tell is `told`, their count of faults `old` before the call and `new` after
--- it; what the sink tells is `before` and `after`.
+-- it; what the sink tells, and the names that were asked for, are `before` and `after`.
 
--- ---- the whole of it
-
--- What the program answers to words: what they and the files make, and where that is a schedule, the text of
--- its replay.
-pub data IsAnswer (told : Option FileMap) (old new : ℕ) (words : List (List ℕ)) : Answer → Type 0 where
-  refuses : (answer : Answer) → Prepares one_tables told old new (command_of words) (Answered answer) → IsAnswer told old new words answer
-  replays : (schedule : Schedule) (text : List ℕ) → Prepares one_tables told old new (command_of words) (Ready schedule)
-      → Replayed one_tables schedule text → IsAnswer told old new words (done_answer text)
-
--- An answer is written, or a beginning of it; or memory was refused before there was one, and no file had failed.
-pub data Closes (told : Option FileMap) (old new : ℕ) (words : List (List ℕ)) (sink_old sink_new : ℕ) (before after : Option (List ℕ)) : Status → Type 0 where
-  answered : (answer : Answer) (status : Status) → IsAnswer told old new words answer → KeepsCount old new answer → Ends sink_old sink_new before after answer status
-      → Closes told old new words sink_old sink_new before after status
-  no_room : new ≡ old → sink_new ≡ sink_old → after ≡ before → Closes told old new words sink_old sink_new before after NoMemory
-
--- ---- what each status says
-
--- Done: the words are a replay, the module is the one that is known, the schedule reads, and what was written
--- is the text of its replay.
-pub record IsDone (told : Option FileMap) (old new : ℕ) (words : List (List ℕ)) (before after : Option (List ℕ)) : Type 0 where
-  pub command : Command
-  pub words_are : command_of words ≡ Some command
-  pub module_read : WasRead told old new command.«module» (Some one_module)
-  pub script : List ℕ
-  pub schedule_read : WasRead told old new command.schedule (Some script)
-  pub schedule : Schedule
-  pub reads : schedule_of one_tables script ≡ Ok schedule
-  pub text : List ℕ
-  pub replayed : Replayed one_tables schedule text
-  pub written : after ≡ grown before text
+-- what the program answers to a command, or to words that are none
+abbrev pub IsAnswer : Option FileMap → ℕ → ℕ → Option Command → Answer → Type 0
+IsAnswer told old new None answer = answer ≡ usage_answer
+IsAnswer told old new (Some (checks check)) answer = Checks told old new check answer
+IsAnswer told old new (Some (pairs pair)) answer = AnswersPair told old new pair answer
 
 -- Usage: the words are no command.
-pub record IsUsage (words : List (List ℕ)) (before after : Option (List ℕ)) : Type 0 where
-  pub words_are : command_of words ≡ None
+pub record IsUsage (command : Option Command) (before after : Option (List ℕ)) : Type 0 where
+  pub no_command : command ≡ None
   pub written : after ≡ grown before usage_answer.text
 
--- ReadFault: the files' count rose in this call, or they tell that they lack the name. The name is the
--- module's; or the schedule's, once the module was read and is the one that is known.
-pub record IsUnread (told : Option FileMap) (old new : ℕ) (words : List (List ℕ)) (before after : Option (List ℕ)) : Type 0 where
-  pub command : Command
-  pub words_are : command_of words ≡ Some command
-  pub name : List ℕ
-  pub which : (name ≡ command.«module») ⊎ ((name ≡ command.schedule) × WasRead told old new command.«module» (Some one_module))
-  pub cause : Rose old new ⊎ Lacks told name
-  pub written : after ≡ grown before (unread_answer name).text
+-- ---- which files are asked for
 
--- ModuleRefused: the module was read, and isn't the one that is known.
-pub record IsOtherModule (told : Option FileMap) (old new : ℕ) (words : List (List ℕ)) (before after : Option (List ℕ)) : Type 0 where
-  pub command : Command
-  pub words_are : command_of words ≡ Some command
-  pub text : List ℕ
-  pub module_read : WasRead told old new command.«module» (Some text)
-  pub other : is_one_module text ≡ false
-  pub written : after ≡ grown before module_answer.text
+-- None where the words are no command, the module first, and a second file only once the module was read and has tables.
+abbrev pub Asks : Option FileMap → ℕ → ℕ → Option Command → Option (List (List ℕ)) → Option (List (List ℕ)) → Type 0
+Asks told old new None before after = after ≡ before
+Asks told old new (Some (checks check)) before after = MayAsk check.«module» before after
+Asks told old new (Some (pairs pair)) before after = AsksPair told old new pair before after
 
--- ScriptRefused: the schedule was read, and its first faulty line has this number and kind of fault.
-pub record IsBadScript (told : Option FileMap) (old new : ℕ) (words : List (List ℕ)) (before after : Option (List ℕ)) : Type 0 where
-  pub command : Command
-  pub words_are : command_of words ≡ Some command
-  pub module_read : WasRead told old new command.«module» (Some one_module)
-  pub script : List ℕ
-  pub schedule_read : WasRead told old new command.schedule (Some script)
-  pub line : ℕ
-  pub kind : ScriptKind
-  pub fault : schedule_of one_tables script ≡ Err (At line kind)
-  pub written : after ≡ grown before (script_answer line kind).text
+-- by the status of the answer
+abbrev pub AskedBy : Option Command → Option (List (List ℕ)) → Option (List (List ℕ)) → Status → Type 0
+AskedBy None before after status = after ≡ before
+AskedBy (Some (checks check)) before after status = after ≡ logged check.«module» before
+AskedBy (Some (pairs pair)) before after status = PairAsked pair before after status
 
--- WriteFault and NoMemory: a beginning was written of what the same words and files make the program answer.
-pub record IsBegun (told : Option FileMap) (old new : ℕ) (words : List (List ℕ)) (before after : Option (List ℕ)) : Type 0 where
-  pub answer : Answer
-  pub is : IsAnswer told old new words answer
-  pub counts : KeepsCount old new answer
-  pub part : GrewPart before after answer.text
-
--- ---- what the counts say
-
--- The answer is that a file isn't read, and a beginning of it was written.
-pub record IsUnreadBegun (told : Option FileMap) (old new : ℕ) (words : List (List ℕ)) (before after : Option (List ℕ)) : Type 0 where
-  pub answer : Answer
-  pub is : IsAnswer told old new words answer
-  pub unread : answer.status ≡ ReadFault
-  pub part : GrewPart before after answer.text
-
--- The files' count is as it was, unless a file wasn't read: that is told, or the sink failed or was refused memory
--- as it was being told.
-abbrev pub CountsFiles : Option FileMap → ℕ → ℕ → List (List ℕ) → Option (List ℕ) → Option (List ℕ) → Status → Type 0
-CountsFiles told old new words before after status =
-    (new ≡ old) ⊎ ((status ≡ ReadFault) ⊎ (((status ≡ WriteFault) ⊎ (status ≡ NoMemory)) × IsUnreadBegun told old new words before after))
-
--- The sink's count is as it was, unless the status is that of the sink.
-abbrev pub CountsWrites : ℕ → ℕ → Status → Type 0
-CountsWrites old new status = (status ≡ WriteFault) ⊎ (new ≡ old)
-
--- ---- when each status comes
-
--- The status is this one, unless writing failed or memory was refused.
-abbrev pub IsUnless : ℕ → ℕ → Status → Status → Type 0
-IsUnless sink_old sink_new wanted status = (status ≡ wanted) ⊎ (((status ≡ WriteFault) × Rose sink_old sink_new) ⊎ (status ≡ NoMemory))
-
-abbrev pub due_by_reading : Result Schedule ScriptFault → Status
-due_by_reading (Ok schedule) = Done
-due_by_reading (Err fault) = ScriptRefused
-
-abbrev pub due_by_script : Option (List ℕ) → Status
-due_by_script None = ReadFault
-due_by_script (Some script) = due_by_reading (schedule_of one_tables script)
-
-abbrev pub due_if_known : Bool → Option (List ℕ) → Status
-due_if_known true script = due_by_script script
-due_if_known false script = ModuleRefused
-
-abbrev pub due_by_module : Option (List ℕ) → Option (List ℕ) → Status
-due_by_module None script = ReadFault
-due_by_module (Some text) script = due_if_known (is_one_module text) script
-
--- The status that words and files are due: the words decide first, then the module, then the schedule.
-abbrev pub due_status : FileMap → Option Command → Status
-due_status files None = Usage
-due_status files (Some command) = due_by_module (files command.«module») (files command.schedule)
-
--- The words are a replay, the files tell the known module and a schedule that reads, and neither the files
--- nor the sink failed.
-pub record IsSure (told : Option FileMap) (old new : ℕ) (words : List (List ℕ)) (sink_old sink_new : ℕ) : Type 0 where
-  pub command : Command
-  pub words_are : command_of words ≡ Some command
-  pub has_module : Holds told command.«module» one_module
-  pub script : List ℕ
-  pub has_schedule : Holds told command.schedule script
-  pub schedule : Schedule
-  pub reads : schedule_of one_tables script ≡ Ok schedule
-  pub files_calm : IsCalm old new
-  pub sink_calm : IsCalm sink_old sink_new
+-- by the status with which the program ends
+abbrev pub AskedAtEnd : Option Command → Option (List (List ℕ)) → Option (List (List ℕ)) → Status → Type 0
+AskedAtEnd None before after status = after ≡ before
+AskedAtEnd (Some (checks check)) before after status = CheckAskedAtEnd check.«module» before after status
+AskedAtEnd (Some (pairs pair)) before after status = PairAskedAtEnd pair before after status

@@ -4,8 +4,10 @@ ghost use Rattle.std.specs.Prelude.{◌≡◌, ◌≤◌, ◌++◌, IfOk, MatchR
 ghost use Rattle.osi_tool.specs.Answers.{usage_answer, unread_answer, module_answer, kind_word, script_answer, done_answer, Ends};
 ghost use Rattle.osi_base.specs.declared.words.Status.TheVariants.{NoMemory as no_room};
 
+use module_check::refused_text;
+use module_reading::ModuleKind;
 use osi_base::{Name, NoMemory, Octets, Sink, SinkFault, Status, write_all};
-use script_text::ScriptKind;
+use script_lines::ScriptKind;
 use std::alloc::Global;
 use value_text::Text;
 
@@ -45,16 +47,19 @@ pub fn cannot_read(alloc: Global, name: &Name) -> Result<Answer, NoMemory>
     })
 }
 
-/// The module isn't the one that is known.
-pub fn module_refused(alloc: Global) -> Result<Answer, NoMemory>
-    ensures { IfOk result (λ answer. answer ≡ module_answer) }
+/// The module has a fault at this line and column.
+pub fn module_refused(
+    alloc: Global,
+    line: u32,
+    column: u64,
+    kind: ModuleKind,
+) -> Result<Answer, NoMemory>
+    ensures { IfOk result (λ answer. answer ≡ module_answer line column kind) }
 {
-    let mut text = Text::new(alloc);
-    text.put("module refused 1 1 Unsupported")?;
-    text.end_line()?;
+    let text = refused_text(alloc, line, column, kind)?;
     Ok(Answer {
         status: Status::ModuleRefused,
-        text: text.into_octets(),
+        text,
     })
 }
 

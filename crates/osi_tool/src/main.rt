@@ -2,11 +2,14 @@
 #![tactic(auto)]
 
 mod answers;
+#[cfg(test)]
+mod check_tests;
+mod checking;
 mod commands;
-mod known;
 mod laws;
-mod preparing;
+mod pairs;
 mod process;
+mod reading;
 mod replaying;
 mod statuses;
 #[cfg(test)]

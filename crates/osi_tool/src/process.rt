@@ -2,7 +2,7 @@
 
 ghost use Rattle.std.specs.Prelude.{◌≡◌, IfOk, map, drop, string_bytes};
 ghost use Rattle.osi_tool.specs.Commands.{command_of};
-ghost use Rattle.osi_tool.specs.Tracing.{trace_of, AsksFor};
+ghost use Rattle.osi_tool.specs.TopCall.{Asks};
 ghost use Rattle.osi_tool.specs.Process.{words_given, Exits};
 
 use crate::statuses::exit_code;
@@ -59,9 +59,8 @@ pub fn run_process<F: Files, O: Sink, L: Line>(
     ensures exits { Exits (F.told files.old) (F.faults files.old) (F.faults files.new)
         (words_given arguments) (O.faults out.old) (O.faults out.new) (O.told out.old)
         (O.told out.new) result }
-    ensures asked { AsksFor (trace_of (words_given arguments)) (F.told files.old)
-        (F.faults files.old) (F.faults files.new) (F.asked files.old) (F.asked files.new)
-        (command_of (words_given arguments)) }
+    ensures asked { Asks (F.told files.old) (F.faults files.old) (F.faults files.new)
+        (command_of (words_given arguments)) (F.asked files.old) (F.asked files.new) }
 {
     match read_words(alloc, arguments) {
         Ok(words) => exit_code(osi_run(alloc, &words, files, out, line)),

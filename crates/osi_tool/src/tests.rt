@@ -1,6 +1,5 @@
 //! What no clause says: whole runs with ample memory, and the texts of the refusing statuses.
 
-use crate::known::ONE_MODULE;
 use crate::top::osi_run;
 use osi_base::{
     FailingCalls, ListOf, MemFile, MemFiles, MemSink, Name, NoMemory, Octets, Status, SureLine,
@@ -8,6 +7,10 @@ use osi_base::{
 };
 use std::alloc::Global;
 use std::test::Fail;
+
+/// The text of a module with one operation.
+pub(crate) const ONE_MODULE: &str =
+    "One {2 999 7 4} DEFINITIONS ::= BEGIN\nadd OPERATION ::= {ARGUMENT INTEGER RESULT INTEGER CODE local:1}\nEND\n";
 
 /// Words of these texts.
 pub(crate) fn words(alloc: Global, texts: &[&str]) -> Result<Words, NoMemory> {
@@ -147,6 +150,52 @@ end B up
     Ok(())
 }
 
+const EMPTY_SUMMARY: &str = "events 0
+octets A>B 0
+octets B>A 0
+values 0
+outcomes 0
+rejects 0
+cut 0
+transfers 0
+refused 0
+end A up
+end B up
+";
+
+#[test]
+fn writes_a_summary_in_brief(rt: HostRuntime) -> Result<(), Fail> {
+    let rows: [(&[&str], Status, &str); 5] = [
+        (
+            &["replay", "one", "bare", "--brief"],
+            Status::Done,
+            EMPTY_SUMMARY,
+        ),
+        (
+            &["replay", "--brief", "--", "one", "bare"],
+            Status::Done,
+            EMPTY_SUMMARY,
+        ),
+        (
+            &["replay", "--brief", "one", "bare", "--brief"],
+            Status::Usage,
+            USAGE,
+        ),
+        (
+            &["replay", "one", "--", "--brief"],
+            Status::ReadFault,
+            "cannot read --brief\n",
+        ),
+        (&["trace", "one", "bare", "--brief"], Status::Usage, USAGE),
+    ];
+    for (words, expected, text) in rows {
+        let (status, written) = run(rt.alloc(), words)?;
+        assert_eq!(rt; status, expected);
+        assert_eq!(rt; written.as_slice(), text.as_bytes());
+    }
+    Ok(())
+}
+
 const USAGE: &str =
     "usage: osi_tool check MODULE [--table] | replay MODULE SCHEDULE [--brief] | replay --made N | call MODULE SCRIPT | serve MODULE BOOK CONNECTIONS | trace MODULE FILE\n";
 
@@ -166,7 +215,7 @@ fn refuses_in_the_order_of_words_module_and_schedule(rt: HostRuntime) -> Result<
         (
             &["replay", "other", "gone"],
             Status::ModuleRefused,
-            "module refused 1 1 Unsupported\n",
+            "module refused 2 1 UnexpectedToken\n",
         ),
         (
             &["replay", "one", "away"],

@@ -1,7 +1,6 @@
 //! What no clause says of traces: whole runs with ample memory, among them those of the examples.
 
-use crate::known::ONE_MODULE;
-use crate::tests::{files, words};
+use crate::tests::{ONE_MODULE, files, words};
 use crate::top::osi_run;
 use osi_base::{NoMemory, Octets, Status, SureLine, SureSink};
 use std::alloc::Global;
@@ -72,7 +71,7 @@ fn refuses_a_recording_with_an_odd_digit(rt: HostRuntime) -> Result<(), Fail> {
 }
 
 /// The module of the recordings in `examples/`.
-const CALC_MODULE: &str = "Calc {2 999 7 1} DEFINITIONS IMPLICIT TAGS ::= BEGIN
+pub(crate) const CALC_MODULE: &str = "Calc {2 999 7 1} DEFINITIONS IMPLICIT TAGS ::= BEGIN
 IMPORTS OPERATION, ERROR FROM Remote-Operations-Information-Objects
   {joint-iso-itu-t remote-operations(4) informationObjects(5) version1(0)};
 add OPERATION ::= {ARGUMENT INTEGER RESULT INTEGER ERRORS {overflow} LINKED {ask} CODE local:1}

@@ -2,8 +2,8 @@
 
 ghost use Rattle.std.specs.Prelude.{◌≡◌, ◌++◌, IfOk, OnOk};
 ghost use Rattle.std.specs.Option.{option_copied};
-ghost use Rattle.script_text.specs.Indications.{id_text, problem_text};
-ghost use Rattle.script_text.specs.Words.{problem_word};
+ghost use Rattle.transcript_text.specs.Indications.{id_text, problem_text};
+ghost use Rattle.transcript_text.specs.Words.{problem_word};
 ghost use Rattle.trace_values.specs.Heads.{operation_named, error_named, named_text, result_text, invoke_told, result_told, error_told, reject_told, WasTold, head_told};
 
 use apdu_spelling::{ApduHead, ApduKind};

@@ -15,7 +15,7 @@ use Rattle.transfer_laws.proofs.Premises.{ends-take, ends-one_holder}
 use Rattle.transfer_worlds.specs.Laws.{ReliableWorldsAreSpelled, ReliableWorldsNeverFail, ReliableWorldsHaveOneHolder}
 
 module _ (law : SaidIsMeant) (tables : Tables) (a b : Config) (m : IsModule tables) (own : IsOwnName tables.name_oid) (x : IsReliable a) (y : IsReliable b) (said : IsSaid (reliable_ends tables a b)) where
-  all-meant : IsMeant (reliable_ends tables a b)
+  pub all-meant : IsMeant (reliable_ends tables a b)
   all-meant =
       law (reliable_ends tables a b) refl
       (λ two ledger g role message left fault body aborts shown. ends-take tables a b m own x y two ledger g role message left fault body aborts shown) said
@@ -29,5 +29,5 @@ worlds-calm law tables a b m own x y said ends s = nothing-fails (reliable_ends 
 pub worlds-one_holder : SaidIsMeant → ReliableWorldsHaveOneHolder
 worlds-one_holder law tables a b m own x y said ends s h k =
     let r = worlds-spelled law tables a b m own x y said ends s in
-    ends-one_holder tables a b m own x y r.two r.ledger r.goes
+    ends-one_holder tables a b m own x y r.two r.ledger r.speaks.goes
     (ap holds_turn (sym (r.bodies Initiator)) ∙ h) (ap holds_turn (sym (r.bodies Responder)) ∙ k)

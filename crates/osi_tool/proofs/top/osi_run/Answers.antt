@@ -1,45 +1,41 @@
-use Rattle.osi_tool.proofs.Closing.{done_of, usage_of, unread_of, module_of, script_of, write_fault_of, no_memory_of, files_count_of, sink_count_of, no_command_of, due_of, complete_of}
-use Rattle.osi_tool.proofs.TraceEnding.{trace_ends, others_close, no_other_for}
+use Rattle.osi_tool.specs.Commands.{command_of}
+use Rattle.osi_tool.specs.TopCall.{IsAnswer}
+use Rattle.osi_tool.proofs.Endings.{files_count_of, sink_count_of, write_fault_of, no_memory_of, no_other_of}
+use Rattle.osi_tool.proofs.TopEnding.{own, usage_of, no_command_of, check_ends_so, pair_ends_so}
 use Rattle.osi_tool.proofs.top.osi_run.Goals as goal
 
-pub returns-clause-done : goal.returns-clause-done
-returns-clause-done g c = λ none. done_of _ _ _ _ _ _ _ _ _ (others_close _ _ _ _ _ _ _ _ _ _ c.run_words.ensures.closes none)
-
-pub returns-clause-usage : goal.returns-clause-usage
-returns-clause-usage g c = λ none. usage_of _ _ _ _ _ _ _ _ _ (others_close _ _ _ _ _ _ _ _ _ _ c.run_words.ensures.closes none)
-
-pub returns-clause-read_fault : goal.returns-clause-read_fault
-returns-clause-read_fault g c = λ none. unread_of _ _ _ _ _ _ _ _ _ (others_close _ _ _ _ _ _ _ _ _ _ c.run_words.ensures.closes none)
-
-pub returns-clause-module_refused : goal.returns-clause-module_refused
-returns-clause-module_refused g c = λ none. module_of _ _ _ _ _ _ _ _ _ (others_close _ _ _ _ _ _ _ _ _ _ c.run_words.ensures.closes none)
-
-pub returns-clause-script_refused : goal.returns-clause-script_refused
-returns-clause-script_refused g c = λ none. script_of _ _ _ _ _ _ _ _ _ (others_close _ _ _ _ _ _ _ _ _ _ c.run_words.ensures.closes none)
-
-pub returns-clause-write_fault : goal.returns-clause-write_fault
-returns-clause-write_fault g c = λ none. write_fault_of _ _ _ _ _ _ _ _ _ (others_close _ _ _ _ _ _ _ _ _ _ c.run_words.ensures.closes none)
-
-pub returns-clause-no_memory : goal.returns-clause-no_memory
-returns-clause-no_memory g c = λ none. no_memory_of _ _ _ _ _ _ _ _ _ (others_close _ _ _ _ _ _ _ _ _ _ c.run_words.ensures.closes none)
-
-pub returns-clause-no_other : goal.returns-clause-no_other
-returns-clause-no_other g c = no_other_for _ _ _ _ _ _ _ _ _ _ c.run_words.ensures.closes
-
-pub returns-clause-no_command : goal.returns-clause-no_command
-returns-clause-no_command g c = λ none. no_command_of _ _ _ _ _ _ _ _ _ (others_close _ _ _ _ _ _ _ _ _ _ c.run_words.ensures.closes none)
-
-pub returns-clause-due : goal.returns-clause-due
-returns-clause-due g c = λ none. due_of _ _ _ _ _ _ _ _ _ (others_close _ _ _ _ _ _ _ _ _ _ c.run_words.ensures.closes none)
-
-pub returns-clause-complete : goal.returns-clause-complete
-returns-clause-complete g c = λ none. complete_of _ _ _ _ _ _ _ _ _ (others_close _ _ _ _ _ _ _ _ _ _ c.run_words.ensures.closes none)
-
 pub returns-clause-files_count : goal.returns-clause-files_count
-returns-clause-files_count g c = λ none. files_count_of _ _ _ _ _ _ _ _ _ (others_close _ _ _ _ _ _ _ _ _ _ c.run_words.ensures.closes none)
+returns-clause-files_count g c =
+    files_count_of (IsAnswer (g.F.Files.told c.args.files.now) (g.F.Files.faults c.args.files.now) (g.F.Files.faults c.run_words.new.files) (command_of c.args.words.now)) (g.F.Files.faults c.args.files.now) (g.F.Files.faults c.run_words.new.files) (g.O.Sink.faults c.args.out.now) (g.O.Sink.faults c.run_words.new.out) (g.O.Sink.told c.args.out.now) (g.O.Sink.told c.run_words.new.out) c.run_words.result c.run_words.ensures.closes
 
 pub returns-clause-sink_count : goal.returns-clause-sink_count
-returns-clause-sink_count g c = λ none. sink_count_of _ _ _ _ _ _ _ _ _ (others_close _ _ _ _ _ _ _ _ _ _ c.run_words.ensures.closes none)
+returns-clause-sink_count g c =
+    sink_count_of (IsAnswer (g.F.Files.told c.args.files.now) (g.F.Files.faults c.args.files.now) (g.F.Files.faults c.run_words.new.files) (command_of c.args.words.now)) (g.F.Files.faults c.args.files.now) (g.F.Files.faults c.run_words.new.files) (g.O.Sink.faults c.args.out.now) (g.O.Sink.faults c.run_words.new.out) (g.O.Sink.told c.args.out.now) (g.O.Sink.told c.run_words.new.out) c.run_words.result c.run_words.ensures.closes
 
-pub returns-clause-trace : goal.returns-clause-trace
-returns-clause-trace g c = λ command is. trace_ends _ _ _ _ _ _ _ _ _ _ c.run_words.ensures.closes command is
+pub returns-clause-write_fault : goal.returns-clause-write_fault
+returns-clause-write_fault g c =
+    write_fault_of (IsAnswer (g.F.Files.told c.args.files.now) (g.F.Files.faults c.args.files.now) (g.F.Files.faults c.run_words.new.files) (command_of c.args.words.now)) (g.F.Files.faults c.args.files.now) (g.F.Files.faults c.run_words.new.files) (g.O.Sink.faults c.args.out.now) (g.O.Sink.faults c.run_words.new.out) (g.O.Sink.told c.args.out.now) (g.O.Sink.told c.run_words.new.out) (own (g.F.Files.told c.args.files.now) (g.F.Files.faults c.args.files.now) (g.F.Files.faults c.run_words.new.files) (command_of c.args.words.now)) c.run_words.result c.run_words.ensures.closes
+
+pub returns-clause-no_memory : goal.returns-clause-no_memory
+returns-clause-no_memory g c =
+    no_memory_of (IsAnswer (g.F.Files.told c.args.files.now) (g.F.Files.faults c.args.files.now) (g.F.Files.faults c.run_words.new.files) (command_of c.args.words.now)) (g.F.Files.faults c.args.files.now) (g.F.Files.faults c.run_words.new.files) (g.O.Sink.faults c.args.out.now) (g.O.Sink.faults c.run_words.new.out) (g.O.Sink.told c.args.out.now) (g.O.Sink.told c.run_words.new.out) (own (g.F.Files.told c.args.files.now) (g.F.Files.faults c.args.files.now) (g.F.Files.faults c.run_words.new.files) (command_of c.args.words.now)) c.run_words.result c.run_words.ensures.closes
+
+pub returns-clause-no_other : goal.returns-clause-no_other
+returns-clause-no_other g c =
+    no_other_of (IsAnswer (g.F.Files.told c.args.files.now) (g.F.Files.faults c.args.files.now) (g.F.Files.faults c.run_words.new.files) (command_of c.args.words.now)) (g.F.Files.faults c.args.files.now) (g.F.Files.faults c.run_words.new.files) (g.O.Sink.faults c.args.out.now) (g.O.Sink.faults c.run_words.new.out) (g.O.Sink.told c.args.out.now) (g.O.Sink.told c.run_words.new.out) (own (g.F.Files.told c.args.files.now) (g.F.Files.faults c.args.files.now) (g.F.Files.faults c.run_words.new.files) (command_of c.args.words.now)) c.run_words.result c.run_words.ensures.closes
+
+pub returns-clause-usage : goal.returns-clause-usage
+returns-clause-usage g c =
+    usage_of (g.F.Files.told c.args.files.now) (g.F.Files.faults c.args.files.now) (g.F.Files.faults c.run_words.new.files) (command_of c.args.words.now) (g.O.Sink.told c.args.out.now) (g.O.Sink.told c.run_words.new.out) (g.O.Sink.faults c.args.out.now) (g.O.Sink.faults c.run_words.new.out) c.run_words.result c.run_words.ensures.closes
+
+pub returns-clause-no_command : goal.returns-clause-no_command
+returns-clause-no_command g c =
+    no_command_of (g.F.Files.told c.args.files.now) (g.F.Files.faults c.args.files.now) (g.F.Files.faults c.run_words.new.files) (command_of c.args.words.now) (g.O.Sink.told c.args.out.now) (g.O.Sink.told c.run_words.new.out) (g.O.Sink.faults c.args.out.now) (g.O.Sink.faults c.run_words.new.out) c.run_words.result c.run_words.ensures.closes
+
+pub returns-clause-check : goal.returns-clause-check
+returns-clause-check g c =
+    check_ends_so (g.F.Files.told c.args.files.now) (g.F.Files.faults c.args.files.now) (g.F.Files.faults c.run_words.new.files) (command_of c.args.words.now) (g.O.Sink.told c.args.out.now) (g.O.Sink.told c.run_words.new.out) (g.O.Sink.faults c.args.out.now) (g.O.Sink.faults c.run_words.new.out) c.run_words.result c.run_words.ensures.closes
+
+pub returns-clause-pair : goal.returns-clause-pair
+returns-clause-pair g c =
+    pair_ends_so (g.F.Files.told c.args.files.now) (g.F.Files.faults c.args.files.now) (g.F.Files.faults c.run_words.new.files) (command_of c.args.words.now) (g.O.Sink.told c.args.out.now) (g.O.Sink.told c.run_words.new.out) (g.O.Sink.faults c.args.out.now) (g.O.Sink.faults c.run_words.new.out) c.run_words.result c.run_words.ensures.closes

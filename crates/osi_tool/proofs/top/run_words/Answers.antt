@@ -1,20 +1,13 @@
-use Rattle.osi_tool.proofs.TraceWords.{closes_none, closes_some, asks_none, asks_some, asked_none, asked_some}
+use Rattle.osi_tool.specs.Commands.{command_of}
+use Rattle.osi_tool.specs.TopCall.{IsAnswer}
+use Rattle.osi_tool.proofs.Endings.{closed}
+use Rattle.osi_tool.proofs.TopEnding.{asked_at_end}
 use Rattle.osi_tool.proofs.top.run_words.Goals as goal
 
-pub returns-in-None-clause-closes : goal.returns-in-None-clause-closes
-returns-in-None-clause-closes g c = closes_none _ _ _ _ _ _ _ _ _ _ c.in-None.ensures c.run_others.ensures.closes
+pub returns-clause-closes : goal.returns-clause-closes
+returns-clause-closes g c =
+    closed (IsAnswer (g.F.Files.told c.args.files.now) (g.F.Files.faults c.args.files.now) (g.F.Files.faults c.answer_words.new.files) (command_of c.args.words.now)) (g.F.Files.faults c.args.files.now) (g.F.Files.faults c.answer_words.new.files) (g.O.Sink.faults c.args.out.now) (g.O.Sink.faults c.conclude.new.out) (g.O.Sink.told c.args.out.now) (g.O.Sink.told c.conclude.new.out) c.conclude.result c.answer_words.result c.answer_words.ensures.answer c.answer_words.ensures.counts c.answer_words.ensures.err_count c.conclude.ensures.ends
 
-pub returns-in-Some-clause-closes : goal.returns-in-Some-clause-closes
-returns-in-Some-clause-closes g c = closes_some _ _ _ _ _ _ _ _ _ _ _ c.in-Some.ensures c.run_trace.ensures.closes
-
-pub returns-in-None-clause-asked : goal.returns-in-None-clause-asked
-returns-in-None-clause-asked g c = asks_none _ _ _ _ _ _ _ c.in-None.ensures c.run_others.ensures.asked
-
-pub returns-in-Some-clause-asked : goal.returns-in-Some-clause-asked
-returns-in-Some-clause-asked g c = asks_some _ _ _ _ _ _ _ _ c.in-Some.ensures c.run_trace.ensures.asked
-
-pub returns-in-None-clause-asked_for : goal.returns-in-None-clause-asked_for
-returns-in-None-clause-asked_for g c = asked_none _ _ _ _ _ c.in-None.ensures c.run_others.ensures.asked_for
-
-pub returns-in-Some-clause-asked_for : goal.returns-in-Some-clause-asked_for
-returns-in-Some-clause-asked_for g c = asked_some _ _ _ _ _ _ c.in-Some.ensures c.run_trace.ensures.asked_for
+pub returns-clause-asked_for : goal.returns-clause-asked_for
+returns-clause-asked_for g c =
+    asked_at_end (g.F.Files.asked c.args.files.now) (g.F.Files.asked c.answer_words.new.files) (g.O.Sink.faults c.args.out.now) (g.O.Sink.faults c.conclude.new.out) (g.O.Sink.told c.args.out.now) (g.O.Sink.told c.conclude.new.out) (command_of c.args.words.now) (g.F.Files.told c.args.files.now) (g.F.Files.faults c.args.files.now) (g.F.Files.faults c.answer_words.new.files) c.conclude.result c.answer_words.result c.answer_words.ensures.asked c.answer_words.ensures.asked_for c.conclude.ensures.ends

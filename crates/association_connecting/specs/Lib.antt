@@ -1,0 +1,5 @@
+pub mod Associated
+pub mod Agreed
+pub mod Joined
+pub mod Terms
+pub mod Accepted

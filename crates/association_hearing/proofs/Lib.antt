@@ -1,0 +1,4 @@
+pub mod HeadsHeard
+pub mod Invoked
+pub mod Resumed
+pub mod Taking

@@ -1,0 +1,17 @@
+//! What becomes of an APDU of remote operations that an end takes on a context: what it shows, what
+//! it opens and closes, which reject it brings (X.880 9, X.882 9); and what both takings and calls do
+//! with transfers.
+#![tactic(auto)]
+
+mod apdus;
+mod invocations;
+mod outcomes;
+mod problems;
+mod transfers;
+mod unread;
+mod values;
+
+pub use apdus::hear_apdu;
+pub use transfers::{part_in, set_resumed, suspend};
+pub use unread::hear_unread;
+pub use values::{data_on, queueing, take_value, take_values};

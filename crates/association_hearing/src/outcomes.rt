@@ -1,0 +1,92 @@
+//! Results, errors and rejects.
+
+ghost use Rattle.std.specs.Prelude.{◌≡◌, Some, true};
+ghost use Rattle.stub_tables.specs.Lookup.{error_with};
+ghost use Rattle.end_rules.specs.State.{opened_with};
+ghost use Rattle.end_rules.specs.Hearing.{carried_in, hear_result_of, hear_error_of, hear_reject, is_of_invocation};
+ghost use Rattle.rose_roles.specs.Hearing.{heard_with};
+ghost use Rattle.association_state.specs.Seen.{base_in};
+
+use crate::invocations::rejected;
+use crate::problems::{error_problem, result_problem};
+use asn1_types::Val;
+use association_state::Ground;
+use open_invocations::Invocations;
+use osi_base::{Problem, ProblemKind};
+use rose_roles::RoseTaken;
+use stub_tables::Code;
+
+/// Hears a result.
+pub(crate) fn hear_result(
+    basis: &Ground<'_>,
+    calls: &mut Invocations,
+    id: i64,
+    code: &Option<Code>,
+    value: Option<Val>,
+) -> RoseTaken
+    ensures { heard_with calls.new result ≡ hear_result_of (base_in basis.now) calls.old id
+        (opened_with true id calls.old.opens) code.now (carried_in value) }
+{
+    let Some(called) = calls.called(true, &id) else {
+        return rejected(Some(id), ProblemKind::Result, 0);
+    };
+    let problem = result_problem(basis, called.operation, code, &value);
+    calls.close_own(&id);
+    match problem {
+        Some(number) => rejected(Some(id), ProblemKind::Result, number),
+        None => RoseTaken::Result { id, value },
+    }
+}
+
+/// Hears an error.
+pub(crate) fn hear_error(
+    basis: &Ground<'_>,
+    calls: &mut Invocations,
+    id: i64,
+    code: &Code,
+    parameter: Option<Val>,
+) -> RoseTaken
+    ensures { heard_with calls.new result ≡ hear_error_of (base_in basis.now) calls.old id
+        (opened_with true id calls.old.opens) (error_with basis.now.tables.now code.now)
+        (carried_in parameter) }
+{
+    let Some(called) = calls.called(true, &id) else {
+        return rejected(Some(id), ProblemKind::Error, 0);
+    };
+    let error = basis.tables.error_with(code);
+    let problem = error_problem(basis, called.operation, error, &parameter);
+    calls.close_own(&id);
+    match (problem, error) {
+        (Some(number), _) => rejected(Some(id), ProblemKind::Error, number),
+        (None, None) => rejected(Some(id), ProblemKind::Error, 2),
+        (None, Some(error)) => RoseTaken::Error {
+            id,
+            error,
+            parameter,
+        },
+    }
+}
+
+/// Whether the problem is one of an invocation.
+fn is_of_invocation(kind: ProblemKind) -> bool
+    ensures { result ≡ is_of_invocation kind }
+{
+    match kind {
+        ProblemKind::Invoke => true,
+        ProblemKind::General | ProblemKind::Result | ProblemKind::Error => false,
+    }
+}
+
+/// Hears a reject: one of an invoke problem closes the own invocation that it names.
+pub(crate) fn hear_reject(calls: &mut Invocations, id: Option<i64>, problem: Problem) -> RoseTaken
+    ensures { heard_with calls.new result ≡ hear_reject calls.old id problem }
+{
+    let Some(named) = id else {
+        return RoseTaken::RejectTaken { id, problem };
+    };
+    if is_of_invocation(problem.kind) && calls.is_open(true, &named) {
+        calls.close_own(&named);
+        return RoseTaken::Rejected { id: named, problem };
+    }
+    RoseTaken::RejectTaken { id, problem }
+}

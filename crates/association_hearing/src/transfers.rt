@@ -1,0 +1,54 @@
+//! Parts of transfers, the set that a resumption brings back, and a transfer that is suspended
+//! (X.228 7; what is restored is this project's own rule).
+
+ghost use Rattle.std.specs.Prelude.{◌≡◌, IfOk};
+ghost use Rattle.end_rules.specs.State.{Suspended, Transfer as rule_transfer, on_transfer, resumed_set};
+ghost use Rattle.end_rules.specs.TakesData.{part_in};
+ghost use Rattle.association_words.specs.Seen.{seen_content};
+ghost use Rattle.association_state.specs.Seen.{seen};
+
+use association_sets::copy_set;
+use association_state::{Body, Pieces, Progress};
+use association_words::Content;
+use osi_base::{NoMemory, SetItem, SetList};
+use std::alloc::Global;
+
+/// The octets of a part of a transfer; none of another value.
+pub fn part_in(content: &Content) -> &[u8]
+    ensures { result.now ≡ part_in (seen_content content.now) }
+{
+    match content {
+        Content::Part(octets) => octets.as_slice(),
+        Content::Remote(_) => &[],
+        Content::Unread(_) => &[],
+        Content::Association { .. } => &[],
+        Content::Plea { .. } => &[],
+    }
+}
+
+/// The set of a resumption: that of its mark, or for 0 the held one.
+#[tactic(auto, using(crate::proofs::Resumed::resumed_at))]
+pub fn set_resumed(
+    alloc: Global,
+    pieces: &Pieces,
+    mark: u32,
+    held: &[SetItem],
+) -> Result<SetList, NoMemory>
+    ensures { IfOk result (λ set. set ≡ resumed_set mark pieces.now held.now) }
+{
+    if mark == 0 {
+        copy_set(alloc, held)
+    } else {
+        copy_set(alloc, pieces.set_of(mark))
+    }
+}
+
+/// The current transfer, if there is one, is suspended.
+pub fn suspend(body: &mut Body)
+    ensures { seen body.new ≡ on_transfer (λ (t : rule_transfer). record t { progress = Suspended })
+        (seen body.old) }
+{
+    if let Some(transfer) = &mut body.sending.current {
+        transfer.progress = Progress::Suspended;
+    }
+}

@@ -1,0 +1,66 @@
+//! Octets of the module's abstract syntax that spell no APDU.
+
+ghost use Rattle.std.specs.Prelude.{◌≡◌, IfOk, IfSome};
+ghost use Rattle.ber_spelling.specs.Octets.{AreOctets};
+ghost use Rattle.end_rules.specs.Hearing.{hear};
+ghost use Rattle.end_wire.specs.Heads.{head_at};
+ghost use Rattle.rose_roles.specs.Hearing.{heard_with};
+ghost use Rattle.association_state.specs.Seen.{base_in};
+
+use association_state::Ground;
+use open_invocations::Invocations;
+use osi_base::{NoMemory, Octets, Syntax};
+use rose_roles::{RoseTaken, refused};
+
+/// Does nothing. Its contract says that octets are numbers below 256.
+fn are_octets(octets: &[u8])
+    ensures { AreOctets octets.now }
+{
+    let _octets = octets;
+}
+
+/// Does nothing. Its contract says that octets, where there are some, are numbers below 256.
+fn hold_octets(octets: &Option<Octets>)
+    ensures { IfSome octets.now AreOctets }
+{
+    if let Some(octets) = octets {
+        are_octets(octets.as_slice());
+    }
+}
+
+/// What becomes of octets on a context in a syntax: of the head that they spell, or of octets that
+/// spell none.
+fn hear_octets(
+    basis: &Ground<'_>,
+    calls: &mut Invocations,
+    context: u32,
+    syntax: Syntax,
+    octets: &[u8],
+) -> Result<RoseTaken, NoMemory>
+    ensures { IfOk result (λ taken. heard_with calls.new taken ≡ hear (base_in basis.now) calls.old
+        context (head_at basis.now.tables.now syntax octets.now)) }
+{
+    basis.tables.is_readable();
+    are_octets(octets);
+    match basis.heads.read(basis.alloc, syntax, octets) {
+        Ok(head) => {
+            hold_octets(&head.rest);
+            calls.take(basis.tables, syntax, context, head)
+        }
+        Err(fault) => refused(fault),
+    }
+}
+
+/// What becomes of octets on a context in a syntax: what no head is read from is rejected.
+pub fn hear_unread(
+    basis: &Ground<'_>,
+    calls: &mut Invocations,
+    context: u32,
+    syntax: Syntax,
+    octets: &Octets,
+) -> Result<RoseTaken, NoMemory>
+    ensures { IfOk result (λ taken. heard_with calls.new taken ≡ hear (base_in basis.now) calls.old
+        context (head_at basis.now.tables.now syntax octets.now)) }
+{
+    hear_octets(basis, calls, context, syntax, octets.as_slice())
+}

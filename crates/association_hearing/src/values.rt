@@ -1,0 +1,186 @@
+//! Values of remote operations, one after the other.
+
+ghost use Rattle.std.specs.Prelude.{◌≡◌, IfOk, OnOk, Some};
+ghost use Rattle.end_rules.specs.Hearing.{hear, head_of, syntax_of, data_on, take_head, take_values, with_reject, on_heard};
+ghost use Rattle.end_rules.specs.Requesting.{queueing};
+ghost use Rattle.rose_roles.specs.Hearing.{heard_with};
+ghost use Rattle.association_words.specs.Seen.{seen_message, seen_value, seen_values};
+ghost use Rattle.association_state.specs.Seen.{base_in, seen};
+ghost use Rattle.association_hearing.specs.Took.{TookAs, Joined};
+
+use crate::apdus::hear_apdu;
+use crate::invocations::rejected;
+use crate::unread::hear_unread;
+use association_answers::{Taken, one_message, quiet, told};
+use association_calls::carrier_in;
+use association_ground::is_reliable;
+use association_sends::pair_copied;
+use association_state::{Body, Ground, Queued};
+use association_words::{Content, DataWord, Message, Value, Values, Word};
+use dialogue::Indication;
+use open_invocations::Invocations;
+use osi_base::{ListOf, NoMemory, Pair, Problem, ProblemKind, Syntax};
+use rose_roles::RoseTaken;
+use stub_tables::Apdu;
+
+/// The syntax of a pair, which is BER where there is none.
+fn syntax_of(pair: &Option<Pair>) -> Syntax
+    ensures { result ≡ syntax_of pair.now }
+{
+    match pair {
+        None => Syntax::Ber,
+        Some(pair) => pair.transfer,
+    }
+}
+
+/// Hears what a value says.
+fn hear_value(
+    basis: &Ground<'_>,
+    calls: &mut Invocations,
+    value: Value,
+) -> Result<RoseTaken, NoMemory>
+    ensures { IfOk result (λ taken. heard_with calls.new taken ≡ hear (base_in basis.now) calls.old
+        value.id (head_of (base_in basis.now) (seen_value value))) }
+{
+    let Value { id, pair, content } = value;
+    let syntax = syntax_of(&pair);
+    match content {
+        Content::Remote(apdu) => hear_apdu(basis, calls, id, apdu),
+        Content::Unread(octets) => hear_unread(basis, calls, id, syntax, &octets),
+        Content::Association { apdu: _, user: _ } => Ok(rejected(None, ProblemKind::General, 0)),
+        Content::Plea { priority: _ } => Ok(rejected(None, ProblemKind::General, 0)),
+        Content::Part(_) => Ok(rejected(None, ProblemKind::General, 0)),
+    }
+}
+
+/// An APDU as data on a context.
+pub fn data_on(basis: &Ground<'_>, body: &Body, id: u32, apdu: Apdu) -> Result<Message, NoMemory>
+    ensures { IfOk result (λ m. seen_message m ≡ data_on (seen body.now) id apdu) }
+{
+    let mut values: Values = ListOf::new(basis.alloc);
+    values.push(Value {
+        id,
+        pair: pair_copied(basis.alloc, body.sets.held.as_slice(), id)?,
+        content: Content::Remote(apdu),
+    })?;
+    Ok(Message::Session(Word::OfData(DataWord::Values(values))))
+}
+
+/// Puts an APDU into the queue of transfers.
+pub fn queueing(body: &mut Body, context: u32, apdu: Apdu) -> Result<(), NoMemory>
+    ensures { OnOk result (seen body.new ≡ queueing context apdu (seen body.old)) }
+{
+    body.sending.queue.push(Queued { context, apdu })?;
+    Ok(())
+}
+
+/// Sends a reject: in reliable mode it joins the queue, else it goes on the carrier of the context of
+/// what it rejects, or isn't sent.
+fn send_reject(
+    basis: &Ground<'_>,
+    body: &mut Body,
+    context: u32,
+    id: Option<i64>,
+    problem: Problem,
+) -> Result<Taken, NoMemory>
+    ensures { IfOk result (TookAs (with_reject (base_in basis.now) (seen body.old) context (Some
+        (record { id = id; problem = problem }))) (seen body.new)) }
+{
+    let apdu = Apdu::Reject { id, problem };
+    if is_reliable(basis.config.mode) {
+        queueing(body, context, apdu)?;
+        return told(basis.alloc, Indication::RejectSent { id, problem });
+    }
+    let Some(carrier) = carrier_in(basis, body, context) else {
+        return Ok(quiet(basis.alloc));
+    };
+    let mut taken = told(basis.alloc, Indication::RejectSent { id, problem })?;
+    taken.answers = one_message(basis.alloc, data_on(basis, body, carrier, apdu)?)?;
+    Ok(taken)
+}
+
+/// What the user is told, or the reject that is sent.
+fn take_heard(
+    basis: &Ground<'_>,
+    body: &mut Body,
+    context: u32,
+    taken: RoseTaken,
+) -> Result<Taken, NoMemory>
+    ensures { IfOk result (TookAs (on_heard (base_in basis.now) (seen body.old) context (heard_with
+        (seen body.old).calls taken)) (seen body.new)) }
+{
+    match taken {
+        RoseTaken::Invoked {
+            id,
+            operation,
+            linked,
+            argument,
+        } => told(
+            basis.alloc,
+            Indication::Invoked {
+                id,
+                operation,
+                linked,
+                argument,
+            },
+        ),
+        RoseTaken::Result { id, value } => told(basis.alloc, Indication::Result { id, value }),
+        RoseTaken::Error {
+            id,
+            error,
+            parameter,
+        } => told(
+            basis.alloc,
+            Indication::Error {
+                id,
+                error,
+                parameter,
+            },
+        ),
+        RoseTaken::Rejected { id, problem } => {
+            told(basis.alloc, Indication::Rejected { id, problem })
+        }
+        RoseTaken::RejectTaken { id, problem } => {
+            told(basis.alloc, Indication::RejectTaken { id, problem })
+        }
+        RoseTaken::BadReject => told(basis.alloc, Indication::BadReject),
+        RoseTaken::Reject { id, problem } => send_reject(basis, body, context, id, problem),
+    }
+}
+
+/// Takes a value of remote operations.
+pub fn take_value(basis: &Ground<'_>, body: &mut Body, value: Value) -> Result<Taken, NoMemory>
+    ensures { IfOk result (TookAs (take_head (base_in basis.now) (seen body.old) value.id (head_of
+        (base_in basis.now) (seen_value value))) (seen body.new)) }
+{
+    let context = value.id;
+    let taken = hear_value(basis, &mut body.calls, value)?;
+    take_heard(basis, body, context, taken)
+}
+
+/// Puts what a taking answers and shows behind what earlier ones did.
+fn join(all: &mut Taken, taken: Taken) -> Result<(), NoMemory>
+    ensures { OnOk result (Joined all.old taken all.new) }
+{
+    let Taken { answers, shown } = taken;
+    for message in answers.into_vec() {
+        all.answers.push(message)?;
+    }
+    for indication in shown.into_vec() {
+        all.shown.push(indication)?;
+    }
+    Ok(())
+}
+
+/// Takes values of remote operations, one after the other.
+pub fn take_values(basis: &Ground<'_>, body: &mut Body, values: Values) -> Result<Taken, NoMemory>
+    ensures { IfOk result (TookAs (take_values (base_in basis.now) (seen body.old)
+        (seen_values values)) (seen body.new)) }
+{
+    let mut all = quiet(basis.alloc);
+    for value in values.into_vec() {
+        let taken = take_value(basis, body, value)?;
+        join(&mut all, taken)?;
+    }
+    Ok(all)
+}

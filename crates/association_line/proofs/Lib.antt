@@ -1,0 +1,4 @@
+mod One
+mod Measure
+mod Answers
+mod Reactions

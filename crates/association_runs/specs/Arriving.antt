@@ -1,0 +1,43 @@
+-- What the end of a transfer brings, at each moment at which it is taken: the item that the other end started as the activity of that
+-- number, as it was encoded last (X.228 7.3; the numbers are this project's own rule).
+use Rattle.std.specs.Prelude.{◌≡◌, [], ◌∷◌, Bool, true, false, Some, Ok}
+use Rattle.osi_base.specs.declared.words.Side.{Side}
+use Rattle.end_rules.specs.Base.{Item, Whole}
+use Rattle.end_rules.specs.Messages.{Session, OfActivities, End}
+use Rattle.end_rules.specs.TakesActivities.{arrived_now}
+use Rattle.end_rules.specs.History.{Step, took}
+use Rattle.end_rules.specs.World.{World, Ends, base_at, body_at, other}
+use Rattle.agreement.specs.Sets.{Role}
+use Rattle.end_model.specs.Pairs.{Common, Two}
+use Rattle.reliable_model.specs.Goes.{Encoding, Ledger, Goes, deeds_of}
+use Rattle.reliable_model.specs.Transfers as transfers
+use Rattle.reliable_model.specs.Transfers.{ArrivesWhole, IsNewest, IsOf, item_of}
+use Rattle.association_runs.specs.Deeds.{deeds_at}
+
+pub record IsWhole (ends : Ends) (side : Side) (w : World) : Type 0 where
+  pub item : Item
+  pub arrived : arrived_now (base_at ends side) (body_at ends side w) ≡ Ok (Whole item)
+  pub encoded : IsNewest (record { activity = (body_at ends side w).receiving.last; id = item.id; pair = Some item.pair; apdu = item.apdu }) (deeds_at ends (other side) w).encoded
+  pub started : IsOf item.apdu (item_of (body_at ends side w).receiving.last (deeds_at ends (other side) w).started)
+
+-- where its number wasn't handed up before
+abbrev pub UnlessHanded : Bool → Type 0 → Type 0
+UnlessHanded true P = Unit {0}
+UnlessHanded false P = P
+
+abbrev pub ArrivesThen : Ends → Side → World → Step → Type 0
+ArrivesThen ends side w (took (Session (OfActivities (End number)))) = UnlessHanded (body_at ends side w).receiving.was_handed (IsWhole ends side w)
+ArrivesThen ends side w _ = Unit {0}
+
+abbrev pub EachArrivesWhole : Ends → World → Type 0
+EachArrivesWhole ends [] = Unit {0}
+EachArrivesWhole ends (m ∷ w) = ArrivesThen ends m.side w m.step × EachArrivesWhole ends w
+
+-- so it is of the messages
+abbrev pub TransfersAreWhole : Common → Type 0
+TransfersAreWhole common = (two : Two) (ledger : Ledger) → Goes common two ledger → (role : Role) → transfers.Ends common two role → ArrivesWhole common two ledger role
+
+abbrev pub ItemsAreKept : Common → Type 0
+ItemsAreKept common =
+    (two : Two) (ledger : Ledger) → Goes common two ledger → (role : Role) (encoding : Encoding) → IsNewest encoding (deeds_of role ledger.deeds).encoded →
+    IsOf encoding.apdu (item_of encoding.activity (deeds_of role ledger.deeds).started)

@@ -1,0 +1,55 @@
+-- Runs of two ends of direct or reliable mode: from a world, a schedule makes entries and leads to another world. What an end does
+-- is what its own rules say of its own history; of the other end it sees octets alone.
+use Rattle.std.specs.Prelude.{ℕ, List, [], ◌∷◌, length, take, Option, Some, None}
+use Rattle.osi_base.specs.declared.words.Side.{Side}
+use Rattle.osi_base.specs.declared.words.Side.TheVariants.{A, B}
+use Rattle.stub_tables.specs.declared.tables.Tables.{Tables}
+use Rattle.dialogue.specs.declared.config.Config.{Config}
+use Rattle.dialogue.specs.declared.event.Event.{Event}
+use Rattle.dialogue.specs.declared.event.Event.TheVariants as events
+use Rattle.dialogue.specs.declared.event.Entry.{Entry}
+use Rattle.dialogue.specs.declared.event.Entry.TheVariants as entries
+use Rattle.dialogue.specs.declared.indication.Indication.{Indication}
+use Rattle.end_rules.specs.Base.{base_of}
+use Rattle.end_rules.specs.Calling.{can_call}
+use Rattle.end_rules.specs.History.{Step, gave, broke}
+use Rattle.end_rules.specs.World.{World, Ends, base_at, other, history_of}
+use Rattle.association_reading.specs.Transfers.{association_spellings}
+use Rattle.association_line.specs.Line.{End, end_of}
+use Rattle.association_line.specs.Feeding.{Feeds, Makes}
+
+-- two ends with these tables and these configurations
+abbrev pub ends_of : Tables → Config → Config → Ends
+ends_of tables a b = record { a = base_of tables a (association_spellings tables); b = base_of tables b (association_spellings tables) }
+
+-- what the moments say of one end
+abbrev pub end_at : Ends → Side → World → End
+end_at ends side w = end_of (base_at ends side) (history_of side w)
+
+-- the world with these steps of one end, oldest first
+abbrev pub stepping : Side → World → List Step → World
+stepping side w [] = w
+stepping side w (x ∷ xs) = stepping side (record { side = side; step = x } ∷ w) xs
+
+-- the first octets: as many as are asked for, or all
+abbrev pub first_octets : Option ℕ → List ℕ → List ℕ
+first_octets None octets = octets
+first_octets (Some most) octets = take most octets
+
+-- From the world, these events make these entries, and lead to that world.
+pub data Runs (ends : Ends) : World → List Event → List Entry → World → Type 0 where
+  rests : {w : World} → Runs ends w [] [] w
+  -- A call is answered, its messages are sent, and then the end does what it does by itself.
+  calls : {w v : World} {more : List Event} {told : List Entry} (side : Side) (call : _) (steps : List Step)
+      → Makes (base_at ends side) (end_at ends side w) call steps
+      → Runs ends (stepping side w steps) more told v
+      → Runs ends w (events.Call side call ∷ more) (entries.Call side call (can_call (base_at ends side) (end_at ends side w).body call) ∷ told) v
+  -- The first octets that wait at one side are given out and fed to the other.
+  carries : {w v : World} {more : List Event} {told : List Entry} (side : Side) (most : Option ℕ) (steps : List Step) (shown : List Indication)
+      → Feeds (base_at ends (other side)) (end_at ends (other side) w) (first_octets most (end_at ends side w).line.waiting) steps shown
+      → Runs ends (stepping (other side) (stepping side w (gave (length (first_octets most (end_at ends side w).line.waiting)) ∷ [])) steps) more told v
+      → Runs ends w (events.Carry side most ∷ more) (entries.Carry side most (record { octets = first_octets most (end_at ends side w).line.waiting; shown = shown }) ∷ told) v
+  -- The connection breaks at both ends.
+  breaks : {w v : World} {more : List Event} {told : List Entry}
+      → Runs ends (stepping B (stepping A w (broke ∷ [])) (broke ∷ [])) more told v
+      → Runs ends w (events.Break ∷ more) (entries.Break ∷ told) v

@@ -1,0 +1,6 @@
+//! Runs of two ends of direct or reliable mode that see of each other octets alone.
+#![tactic(auto)]
+
+mod laws;
+
+pub use laws::{one_run, runs_reach_messages, runs_tell_one_outcome};

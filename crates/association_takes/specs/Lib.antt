@@ -1,0 +1,2 @@
+pub mod Pleas
+pub mod Acts

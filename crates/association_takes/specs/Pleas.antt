@@ -1,0 +1,7 @@
+-- The priority of a plea.
+use Rattle.std.specs.Prelude.{ℕ, Option, Some, None}
+use Rattle.end_rules.specs.Messages.{Content, Plea}
+
+abbrev pub plea_of : Content → Option ℕ
+plea_of (Plea priority) = Some priority
+plea_of _ = None

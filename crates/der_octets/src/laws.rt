@@ -1,0 +1,14 @@
+//! Each law is the contract of a function that does nothing.
+
+ghost use Rattle.der_octets.specs.Laws.{DerAreOctets, FittingLeavesAre};
+
+/// The DER spelling of a value, of fewer than 2^24 octets, are octets, where the strings that stand
+/// in it are, and its values of any type.
+pub fn der_are_octets()
+    ensures law { DerAreOctets }
+{}
+
+/// So they are in each value that fits a table without `Any`.
+pub fn fitting_leaves_are()
+    ensures law { FittingLeavesAre }
+{}

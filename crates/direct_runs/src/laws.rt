@@ -1,0 +1,32 @@
+//! Each law is the contract of a function that does nothing but cite others.
+
+ghost use Rattle.direct_runs.specs.Laws.{DirectRunsHaveOneHolder, DirectRunsNeverFail, DirectRunsTakeInPlace};
+ghost use Rattle.direct_runs.specs.Laws.{DirectRunsShowWhatIsTaken, DirectRunsTellAnswers, DirectRunsTellOneOutcome};
+
+use association_runs::{runs_reach_messages, runs_tell_one_outcome};
+use association_worlds::said_is_meant;
+use end_laws::{direct_ends_are_modelled, direct_turn_has_one_holder};
+use end_model::bare_pairs_are_modelled;
+use said_worlds::direct_ends_are_said;
+
+/// Every run of two ends of direct mode: at each moment each message that was taken is the one that
+/// was sent in its place of the connection; each carry shows what the messages show that are taken
+/// in it, and nothing else; no end aborts of itself; at no moment do both hold the
+/// token; each invocation gets at most one outcome, of a kind that its operation allows, and each
+/// outcome is an APDU that the other end wrote.
+pub fn direct_runs_keep_laws()
+    ensures places { DirectRunsTakeInPlace }
+    ensures shown { DirectRunsShowWhatIsTaken }
+    ensures calm { DirectRunsNeverFail }
+    ensures holder { DirectRunsHaveOneHolder }
+    ensures outcomes { DirectRunsTellOneOutcome }
+    ensures answers { DirectRunsTellAnswers }
+{
+    runs_reach_messages();
+    runs_tell_one_outcome();
+    said_is_meant();
+    direct_ends_are_modelled();
+    direct_turn_has_one_holder();
+    bare_pairs_are_modelled();
+    direct_ends_are_said();
+}

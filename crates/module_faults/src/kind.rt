@@ -1,0 +1,33 @@
+//! What may be wrong with a module that reads.
+
+/// What is wrong with a module that reads.
+#[derive(Clone, Copy, Debug, PartialEq, Eq)]
+pub enum TableKind {
+    /// A name that is used and assigned nowhere; a Name that is used as a type.
+    UnknownName,
+    /// A name that is assigned before, a part or item whose name stands before in its type, or an
+    /// item whose number does.
+    DoubleName,
+    /// A code that an earlier operation has, or an earlier error.
+    DoubleCode,
+    /// An operation or error without a code.
+    NoCode,
+    /// The first type assignment that reaches itself by names used as types.
+    Recursive,
+    /// An assignment whose row would nest more than 32 deep.
+    TooNested,
+    /// A part that its tags don't tell from an earlier one.
+    TagsNotDistinct,
+    /// A name in LINKED that isn't an operation's.
+    NotOperation,
+    /// A name in ERRORS that isn't an error's.
+    NotError,
+    /// An empty range, a SIZE that doesn't begin with 0 or passes 4,294,967,295, a type with the tag
+    /// UNIVERSAL 0, or the 257th alternative of a CHOICE.
+    BadRange,
+    /// A result with a type where RETURN RESULT is FALSE.
+    Contradiction,
+    /// A default of a type other than BOOLEAN, INTEGER and ENUMERATED, or one that doesn't fit its
+    /// type.
+    BadDefault,
+}

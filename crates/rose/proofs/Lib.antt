@@ -1,4 +1,0 @@
-pub mod Said
-pub mod Firsts
-pub mod Texts
-pub mod Coded

@@ -1,0 +1,5 @@
+pub mod Passing
+pub mod Showing
+pub mod Outcomes
+pub mod Transfers
+pub mod Laws

@@ -1,0 +1,106 @@
+-- Transfers between two ends: what each started and encoded, and what arrived at the other (X.228 7; the numbers of activities and
+-- what is kept of them are this project's own rule).
+use Rattle.std.specs.Prelude.{◌≡◌, ℕ, suc, ◌<◌, List, [], ◌∷◌, ◌++◌, length, nat_eq, Bool, true, false, if◌then◌else◌, Option, Some, None}
+use Rattle.osi_base.specs.declared.words.Side.{Side}
+use Rattle.osi_base.specs.declared.syntax.Pair.{Pair}
+use Rattle.stub_tables.specs.declared.apdu.Apdu.{Apdu}
+use Rattle.end_rules.specs.Base.{Base, Item}
+use Rattle.end_rules.specs.Messages.{Message, Session, OfActivities, Start, End, Remote, Value}
+use Rattle.end_rules.specs.State.{Body, Queued, Transfer}
+use Rattle.end_rules.specs.TakesActivities.{handed_up}
+use Rattle.end_rules.specs.History.{Step, sent, encoded, took}
+use Rattle.end_rules.specs.World.{World, Ends, base_at, body_at, is_side, other, pair_at_sending}
+
+-- ---- what an end started: the k-th in its activity k; the newest first
+
+abbrev pub first_of : List Queued → List Queued
+first_of [] = []
+first_of (item ∷ items) = item ∷ []
+
+abbrev pub started_in : Body → Step → List Queued
+started_in body (sent (Session (OfActivities (Start activity)))) = first_of body.sending.queue
+started_in body _ = []
+
+abbrev pub started : Ends → Side → World → List Queued
+started ends side [] = []
+started ends side (m ∷ w) = if is_side side m.side then started_in (body_at ends side w) m.step ++ started ends side w else started ends side w
+
+-- ---- what it encoded: in which activity, on which context, under the pair that the shared set gave the context just then; the newest first
+
+pub record Encoding : Type 0 where
+  pub activity : ℕ
+  pub id : ℕ
+  pub pair : Option Pair
+  pub apdu : Apdu
+
+abbrev pub encoding_of : ℕ → ℕ → Option Pair → Option Transfer → List Encoding
+encoding_of activity context pair None = []
+encoding_of activity context pair (Some transfer) = record { activity = activity; id = context; pair = pair; apdu = transfer.item.apdu } ∷ []
+
+abbrev pub encoded_in : Ends → World → Body → Step → List Encoding
+encoded_in ends w body (encoded context) = encoding_of body.sending.started context (pair_at_sending ends w context) body.sending.current
+encoded_in ends w body _ = []
+
+abbrev pub encodings : Ends → Side → World → List Encoding
+encodings ends side [] = []
+encodings ends side (m ∷ w) = if is_side side m.side then encoded_in ends w (body_at ends side w) m.step ++ encodings ends side w else encodings ends side w
+
+-- ---- what arrived at an end, with the number of its activity; the newest first
+
+pub record Arrival : Type 0 where
+  pub activity : ℕ
+  pub value : Value
+
+abbrev pub arrivals_of : ℕ → List Value → List Arrival
+arrivals_of activity [] = []
+arrivals_of activity (value ∷ values) = record { activity = activity; value = value } ∷ arrivals_of activity values
+
+abbrev pub arrived_in : Base → Body → Step → List Arrival
+arrived_in base body (took (Session (OfActivities (End number)))) = arrivals_of body.receiving.last (handed_up base body)
+arrived_in base body _ = []
+
+abbrev pub arrivals : Ends → Side → World → List Arrival
+arrivals ends side [] = []
+arrivals ends side (m ∷ w) = if is_side side m.side then arrived_in (base_at ends side) (body_at ends side w) m.step ++ arrivals ends side w else arrivals ends side w
+
+-- ---- whole, and at most once
+
+-- the k-th item, of a list with the newest first
+abbrev pub item_of : ℕ → List Queued → Option Queued
+item_of k [] = None
+item_of k (item ∷ items) = if nat_eq k (suc (length items)) then Some item else item_of k items
+
+abbrev pub IsOf : Apdu → Option Queued → Type 0
+IsOf apdu None = ⊥
+IsOf apdu (Some item) = item.apdu ≡ apdu
+
+abbrev pub IsNewest : Encoding → List Encoding → Type 0
+IsNewest encoding [] = ⊥
+IsNewest encoding (first ∷ rest) = first ≡ encoding
+
+-- it is the item that was started with that number, as it was encoded last, read under its pair
+pub record IsWhole (items : List Queued) (made : List Encoding) (arrival : Arrival) : Type 0 where
+  pub apdu : Apdu
+  pub is_remote : arrival.value.content ≡ Remote apdu
+  pub is_its : IsOf apdu (item_of arrival.activity items)
+  pub is_encoded : IsNewest (record { activity = arrival.activity; id = arrival.value.id; pair = arrival.value.pair; apdu = apdu }) made
+
+-- so is each as it arrives
+abbrev pub AreWhole : List Queued → List Encoding → List Arrival → Type 0
+AreWhole items made [] = Unit {0}
+AreWhole items made (arrival ∷ more) = IsWhole items made arrival × AreWhole items made more
+
+abbrev pub ArriveWhole : Ends → World → Type 0
+ArriveWhole ends [] = Unit {0}
+ArriveWhole ends (m ∷ w) =
+    AreWhole (started ends (other m.side) w) (encodings ends (other m.side) w) (arrived_in (base_at ends m.side) (body_at ends m.side w) m.step) × ArriveWhole ends w
+
+-- the numbers rise
+abbrev pub AreFalling : List Arrival → Type 0
+AreFalling [] = Unit {0}
+AreFalling (first ∷ []) = Unit {0}
+AreFalling (first ∷ second ∷ more) = (second.activity < first.activity) × AreFalling (second ∷ more)
+
+pub record OneTransfer (ends : Ends) (w : World) : Type 0 where
+  pub whole : ArriveWhole ends w
+  pub once : (side : Side) → AreFalling (arrivals ends side w)

@@ -1,0 +1,6 @@
+//! Whatever two ends of direct mode say may be written.
+#![tactic(auto)]
+
+mod laws;
+
+pub use laws::said_are_carried;

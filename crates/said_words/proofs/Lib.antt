@@ -1,0 +1,8 @@
+pub mod Lists
+pub mod Answers
+pub mod Heard
+pub mod First
+pub mod Handed
+pub mod Sharing
+pub mod Alters
+pub mod Worlds

@@ -1,9 +1,0 @@
-use Rattle.std.proofs.Common.{◌≡◌, ◌++◌, ◌+◌, drop}
-use Rattle.script_text.specs.Texts.{entries_text}
-use Rattle.script_text.proofs.transcript.put_entries.Given as goal
-
-abbrev pub invariant-loop-entry : goal.invariant-loop-entry
-invariant-loop-entry l = record {
-  counted : l.number ≡ l.entry-index;
-  going_on : l.fn.text ++ entries_text l.tables 1 l.entries ≡ l.text ++ entries_text l.tables (l.number + 1) (drop l.entry-index l.entries);
-}

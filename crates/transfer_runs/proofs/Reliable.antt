@@ -1,0 +1,102 @@
+-- The laws of runs at two ends of reliable mode.
+use Rattle.std.proofs.Common.{◌≡◌, sym, subst, List, []}
+use Rattle.dialogue.specs.declared.config.Config.{Config}
+use Rattle.dialogue.specs.declared.event.Event.{Event}
+use Rattle.dialogue.specs.declared.event.Entry.{Entry}
+use Rattle.stub_tables.specs.declared.tables.Tables.{Tables}
+use Rattle.end_rules.specs.World.{World, Ends, other}
+use Rattle.association_reading.specs.Transfers.{association_spellings}
+use Rattle.association_worlds.specs.Laws.{IsMeant, SaidIsMeant}
+use Rattle.transfer_laws.specs.Laws.{reliable_ends}
+use Rattle.transfer_laws.proofs.Premises.{ends-one_holder, ends-whole, ends-items, ends-once, ends-answers}
+use Rattle.transfer_worlds.proofs.Spoken.{all-meant}
+use Rattle.run_laws.specs.Passing.{TakenInPlace}
+use Rattle.run_laws.specs.Showing.{EachCarryShows}
+use Rattle.run_laws.specs.Laws.{AtEachMoment, NothingFails, OneHolder}
+use Rattle.association_runs.specs.Worlds.{ends_of, Runs}
+use Rattle.association_runs.specs.Sides.{ends_for}
+use Rattle.association_runs.specs.Arriving.{EachArrivesWhole}
+use Rattle.association_runs.specs.Deeds.{deeds_at}
+use Rattle.association_runs.specs.Dealings.{Own, own_at}
+use Rattle.outcome_laws.specs.Deals.{dealt_of, AreDistinct, outcomes_in}
+use Rattle.outcome_laws.specs.Outcomes.{AreAllowed, AreAnswers}
+use Rattle.agreement.specs.Laws.{AreFalling}
+use Rattle.agreement.specs.Sets.Role.{Initiator, Responder}
+use Rattle.osi_base.specs.declared.words.Side.{Side}
+use Rattle.osi_base.specs.declared.words.Side.TheVariants.{A, B}
+use Rattle.reliable_model.specs.Goes.{Deeds}
+use Rattle.association_runs.specs.Laws.{AreEvents, AreOneHolder, RunsReachMessages, RunsTakeInPlace, RunsShowWhatIsTaken, RunsNeverFail, RunsHaveOneHolder, RunsTransferWhole, RunsTellOneOutcome}
+use Rattle.transfer_runs.specs.Laws.{AreReliable, ReliableRunsTakeInPlace, ReliableRunsShowWhatIsTaken, ReliableRunsTellOneOutcome, ReliableRunsNeverFail, ReliableRunsHaveOneHolder, ReliableRunsArriveWhole, ReliableRunsArriveOnce, ReliableRunsTellAnswers}
+
+module _ (tables : Tables) (a b : Config) (d : AreReliable tables a b) where
+  same-ends : ends_for (reliable_ends tables a b) ≡ ends_of tables a b
+  same-ends = λ i. record {
+    a = record { tables = tables; config = a; initiator = sym d.sides.first i; mode = sym d.first.mode i; spellings = association_spellings tables };
+    b = record { tables = tables; config = b; initiator = sym d.sides.second i; mode = sym d.second.mode i; spellings = association_spellings tables };
+  }
+
+  -- what holds of runs of the one holds of runs of the other
+  over : (Law : Ends → World → Type 0) → ((all : List Event) (told : List Entry) (w : World) → AreEvents all → Runs (ends_for (reliable_ends tables a b)) [] all told w → Law (ends_for (reliable_ends tables a b)) w)
+      → (all : List Event) (told : List Entry) (w : World) → AreEvents all → Runs (ends_of tables a b) [] all told w → Law (ends_of tables a b) w
+  over Law h = subst (λ (e : Ends). (all : List Event) (told : List Entry) (w : World) → AreEvents all → Runs e [] all told w → Law e w) same-ends h
+
+  meant : SaidIsMeant → IsMeant (reliable_ends tables a b)
+  meant law = all-meant law tables a b d.module_ d.named d.first d.second d.said
+
+  holder : AreOneHolder (reliable_ends tables a b)
+  holder two ledger g = ends-one_holder tables a b d.module_ d.named d.first d.second two ledger g
+
+pub take-in-place : RunsTakeInPlace → SaidIsMeant → ReliableRunsTakeInPlace
+take-in-place runs law tables a b d = over tables a b d (λ ends w. AtEachMoment (TakenInPlace ends) w) (runs (reliable_ends tables a b) (meant tables a b d law))
+
+pub show-what-is-taken : RunsShowWhatIsTaken → SaidIsMeant → ReliableRunsShowWhatIsTaken
+show-what-is-taken runs law tables a b d =
+    subst (λ (e : Ends). (all : List Event) (told : List Entry) (w : World) → AreEvents all → Runs e [] all told w → EachCarryShows e told w) (same-ends tables a b d)
+    (runs (reliable_ends tables a b) (meant tables a b d law))
+
+pub tell-one : RunsTellOneOutcome → SaidIsMeant → ReliableRunsTellOneOutcome
+tell-one runs law tables a b d =
+    over tables a b d (λ ends w. (side : Side) → AreDistinct (outcomes_in (own_at ends side w).shown) × AreAllowed ends.a.tables (own_at ends side w).asked (own_at ends side w).shown) go
+  where
+    go : (all : List Event) (told : List Entry) (w : World) → AreEvents all → Runs (ends_for (reliable_ends tables a b)) [] all told w
+        → (side : Side) → AreDistinct (outcomes_in (own_at (ends_for (reliable_ends tables a b)) side w).shown) × AreAllowed tables (own_at (ends_for (reliable_ends tables a b)) side w).asked (own_at (ends_for (reliable_ends tables a b)) side w).shown
+    go all told w typed r A = let o = runs (reliable_ends tables a b) (meant tables a b d law) all told w typed r Initiator in (o.once, o.allowed)
+    go all told w typed r B = let o = runs (reliable_ends tables a b) (meant tables a b d law) all told w typed r Responder in (o.once, o.allowed)
+
+pub never-fail : RunsNeverFail → SaidIsMeant → ReliableRunsNeverFail
+never-fail runs law tables a b d = over tables a b d (λ ends w. NothingFails w) (runs (reliable_ends tables a b) (meant tables a b d law))
+
+pub have-one-holder : RunsHaveOneHolder → SaidIsMeant → ReliableRunsHaveOneHolder
+have-one-holder runs law tables a b d =
+    over tables a b d (λ ends w. AtEachMoment (OneHolder ends) w) (λ all told w typed r. runs (reliable_ends tables a b) (meant tables a b d law) all told w typed r (holder tables a b d))
+
+pub arrive-whole : RunsTransferWhole → SaidIsMeant → ReliableRunsArriveWhole
+arrive-whole runs law tables a b d =
+    over tables a b d EachArrivesWhole
+    (λ all told w typed r. runs (reliable_ends tables a b) (meant tables a b d law) all told w typed r
+    (λ two ledger g. ends-whole tables a b d.module_ d.named d.first d.second two ledger g) (λ two ledger g. ends-items tables a b d.module_ d.named d.first d.second two ledger g))
+
+pub arrive-once : RunsReachMessages → SaidIsMeant → ReliableRunsArriveOnce
+arrive-once runs law tables a b d = over tables a b d (λ ends w. (side : Side) → AreFalling (deeds_at ends side w).arrived) go
+  where
+    go : (all : List Event) (told : List Entry) (w : World) → AreEvents all → Runs (ends_for (reliable_ends tables a b)) [] all told w → (side : Side) → AreFalling (deeds_at (ends_for (reliable_ends tables a b)) side w).arrived
+    go all told w typed r A =
+        let s = runs (reliable_ends tables a b) (meant tables a b d law) all told w typed r in
+        subst (λ (x : Deeds). AreFalling x.arrived) (sym (s.deeds Initiator)) (ends-once tables a b d.module_ d.named d.first d.second s.two s.ledger s.speaks.goes Initiator)
+    go all told w typed r B =
+        let s = runs (reliable_ends tables a b) (meant tables a b d law) all told w typed r in
+        subst (λ (x : Deeds). AreFalling x.arrived) (sym (s.deeds Responder)) (ends-once tables a b d.module_ d.named d.first d.second s.two s.ledger s.speaks.goes Responder)
+
+pub tell-answers : RunsReachMessages → SaidIsMeant → ReliableRunsTellAnswers
+tell-answers runs law tables a b d = over tables a b d (λ ends w. (side : Side) → AreAnswers ends.a.tables (own_at ends (other side) w).wrote (own_at ends side w).shown) go
+  where
+    go : (all : List Event) (told : List Entry) (w : World) → AreEvents all → Runs (ends_for (reliable_ends tables a b)) [] all told w
+        → (side : Side) → AreAnswers tables (own_at (ends_for (reliable_ends tables a b)) (other side) w).wrote (own_at (ends_for (reliable_ends tables a b)) side w).shown
+    go all told w typed r A =
+        let s = runs (reliable_ends tables a b) (meant tables a b d law) all told w typed r in
+        subst (λ (o : Own). AreAnswers tables o.wrote (own_at (ends_for (reliable_ends tables a b)) A w).shown) (sym (s.dealt Responder))
+        (subst (λ (o : Own). AreAnswers tables (dealt_of Responder s.dealings).wrote o.shown) (sym (s.dealt Initiator)) (ends-answers tables a b d.module_ d.named d.first d.second s.two s.ledger s.dealings s.deals Initiator))
+    go all told w typed r B =
+        let s = runs (reliable_ends tables a b) (meant tables a b d law) all told w typed r in
+        subst (λ (o : Own). AreAnswers tables o.wrote (own_at (ends_for (reliable_ends tables a b)) B w).shown) (sym (s.dealt Initiator))
+        (subst (λ (o : Own). AreAnswers tables (dealt_of Initiator s.dealings).wrote o.shown) (sym (s.dealt Responder)) (ends-answers tables a b d.module_ d.named d.first d.second s.two s.ledger s.dealings s.deals Responder))

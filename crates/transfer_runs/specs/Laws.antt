@@ -1,0 +1,73 @@
+-- Runs of two ends of reliable mode whose lines are octets.
+use Rattle.std.specs.Prelude.{List, []}
+use Rattle.dialogue.specs.declared.config.Config.{Config}
+use Rattle.dialogue.specs.declared.event.Event.{Event}
+use Rattle.dialogue.specs.declared.event.Entry.{Entry}
+use Rattle.stub_tables.specs.declared.tables.Tables.{Tables}
+use Rattle.end_rules.specs.World.{World, Ends, other}
+use Rattle.reliable_model.specs.ReliablePairs.{IsOwnName}
+use Rattle.association_worlds.specs.Laws.{IsSaid}
+use Rattle.transfer_spelling.specs.Laws.{IsModule}
+use Rattle.transfer_laws.specs.Laws.{reliable_ends, IsReliable}
+use Rattle.run_laws.specs.Passing.{TakenInPlace}
+use Rattle.run_laws.specs.Showing.{EachCarryShows}
+use Rattle.run_laws.specs.Laws.{AtEachMoment, NothingFails, OneHolder}
+use Rattle.association_runs.specs.Worlds.{ends_of, Runs}
+use Rattle.association_runs.specs.Arriving.{EachArrivesWhole}
+use Rattle.association_runs.specs.Deeds.{deeds_at}
+use Rattle.association_runs.specs.Dealings.{own_at}
+use Rattle.association_runs.specs.Laws.{AreEvents, AreSides}
+use Rattle.outcome_laws.specs.Deals.{AreDistinct, outcomes_in}
+use Rattle.outcome_laws.specs.Outcomes.{AreAllowed, AreAnswers}
+use Rattle.agreement.specs.Laws.{AreFalling}
+use Rattle.osi_base.specs.declared.words.Side.{Side}
+
+-- An initiator and a responder of reliable mode with one module, of which what they say is presumed to be written and to mean itself.
+pub record AreReliable (tables : Tables) (a b : Config) : Type 0 where
+  pub module_ : IsModule tables
+  pub named : IsOwnName tables.name_oid
+  pub first : IsReliable a
+  pub second : IsReliable b
+  pub sides : AreSides a b
+  pub said : IsSaid (reliable_ends tables a b)
+
+abbrev pub EverInRuns : (Ends → World → Type 0) → Type 0
+EverInRuns Law =
+    (tables : Tables) (a b : Config) → AreReliable tables a b → (all : List Event) (told : List Entry) (w : World) → AreEvents all → Runs (ends_of tables a b) [] all told w → Law (ends_of tables a b) w
+
+-- each message that is taken is the one that was sent in its place, at each moment
+abbrev pub ReliableRunsTakeInPlace : Type 0
+ReliableRunsTakeInPlace = EverInRuns (λ ends w. AtEachMoment (TakenInPlace ends) w)
+
+-- each carry shows what the messages show that are taken in it
+abbrev pub ReliableRunsShowWhatIsTaken : Type 0
+ReliableRunsShowWhatIsTaken =
+    (tables : Tables) (a b : Config) → AreReliable tables a b → (all : List Event) (told : List Entry) (w : World) → AreEvents all → Runs (ends_of tables a b) [] all told w →
+    EachCarryShows (ends_of tables a b) told w
+
+-- no end aborts of itself
+abbrev pub ReliableRunsNeverFail : Type 0
+ReliableRunsNeverFail = EverInRuns (λ ends w. NothingFails w)
+
+-- what the end of a transfer brings is the item that the other end started as the activity of that number, as it was encoded last;
+-- at each moment
+abbrev pub ReliableRunsArriveWhole : Type 0
+ReliableRunsArriveWhole = EverInRuns EachArrivesWhole
+
+-- the numbers of the transfers that are handed up rise, since an end's association began
+abbrev pub ReliableRunsArriveOnce : Type 0
+ReliableRunsArriveOnce = EverInRuns (λ ends w. (side : Side) → AreFalling (deeds_at ends side w).arrived)
+
+-- since its association began an end is told at most one outcome of each invocation, each of an own one, of a kind that its operation
+-- allows
+abbrev pub ReliableRunsTellOneOutcome : Type 0
+ReliableRunsTellOneOutcome =
+    EverInRuns (λ ends w. (side : Side) → AreDistinct (outcomes_in (own_at ends side w).shown) × AreAllowed ends.a.tables (own_at ends side w).asked (own_at ends side w).shown)
+
+-- each outcome that an end is told is an APDU that the other end wrote
+abbrev pub ReliableRunsTellAnswers : Type 0
+ReliableRunsTellAnswers = EverInRuns (λ ends w. (side : Side) → AreAnswers ends.a.tables (own_at ends (other side) w).wrote (own_at ends side w).shown)
+
+-- at no moment do both ends hold the turn
+abbrev pub ReliableRunsHaveOneHolder : Type 0
+ReliableRunsHaveOneHolder = EverInRuns (λ ends w. AtEachMoment (OneHolder ends) w)

@@ -1,0 +1,29 @@
+//! Each law is the contract of a function that does nothing but cite others.
+
+ghost use Rattle.transfer_runs.specs.Laws.{ReliableRunsHaveOneHolder, ReliableRunsNeverFail, ReliableRunsTakeInPlace};
+ghost use Rattle.transfer_runs.specs.Laws.{ReliableRunsArriveOnce, ReliableRunsArriveWhole, ReliableRunsTellAnswers};
+ghost use Rattle.transfer_runs.specs.Laws.{ReliableRunsShowWhatIsTaken, ReliableRunsTellOneOutcome};
+
+use association_runs::{runs_reach_messages, runs_tell_one_outcome};
+use association_worlds::said_is_meant;
+
+/// Every run of two ends of reliable mode: at each moment each message that was taken is the one
+/// that was sent in its place of the connection; each carry shows what the messages show that are
+/// taken in it; no end aborts of itself; at no moment do both hold the turn. Each transfer that is
+/// handed up is the item that the other end started as the activity of that number, as it was
+/// encoded last, and the numbers rise. Each invocation gets at most one outcome, of a kind that its
+/// operation allows, and each outcome is an APDU that the other end wrote.
+pub fn reliable_runs_keep_laws()
+    ensures places { ReliableRunsTakeInPlace }
+    ensures shown { ReliableRunsShowWhatIsTaken }
+    ensures calm { ReliableRunsNeverFail }
+    ensures holder { ReliableRunsHaveOneHolder }
+    ensures whole { ReliableRunsArriveWhole }
+    ensures once { ReliableRunsArriveOnce }
+    ensures outcomes { ReliableRunsTellOneOutcome }
+    ensures answers { ReliableRunsTellAnswers }
+{
+    runs_reach_messages();
+    runs_tell_one_outcome();
+    said_is_meant();
+}
