@@ -1,26 +1,8 @@
 //! The program: words, files and a standard output in, a status out.
 #![tactic(auto)]
 
-mod answers;
-#[cfg(test)]
-mod check_tests;
-mod checking;
-mod commands;
-mod laws;
-mod pairs;
-mod process;
-mod reading;
-mod replaying;
-mod statuses;
-#[cfg(test)]
-mod tests;
-mod top;
-#[cfg(test)]
-mod trace_tests;
-mod tracing;
-
 use osi_base::{DiskFiles, StdSink, TcpLine};
-use process::{Arguments, run_process};
+use osi_commands::{Arguments, run_process};
 use std::alloc::Global;
 use std::env;
 use std::env::Env;

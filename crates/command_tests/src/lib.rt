@@ -1,0 +1,9 @@
+//! Tests of the commands of `osi_tool`: whole runs, from words and files to an output.
+#![tactic(auto)]
+
+#[cfg(test)]
+mod checks;
+#[cfg(test)]
+mod replays;
+#[cfg(test)]
+mod traces;

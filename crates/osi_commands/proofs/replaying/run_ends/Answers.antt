@@ -1,0 +1,9 @@
+use Rattle.std.proofs.lemmas.Result.{IfOk-weaker}
+use Rattle.osi_commands.specs.Replaying.{RanOver}
+use Rattle.osi_commands.proofs.replaying.run_ends.Goals as goal
+
+pub returns : goal.returns
+returns c =
+    IfOk-weaker c.run_world.result _ _
+    (λ transcript runs. record { a_after = c.run_world.new.a; b_after = c.run_world.new.b; runs = runs })
+    c.run_world.ensures

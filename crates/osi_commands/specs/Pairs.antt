@@ -1,0 +1,156 @@
+-- The commands `replay` and `trace`: what words and files make the program answer, and why it ends as it does.
+use Rattle.std.specs.Prelude.{ℕ, Bool, ◌≡◌, ◌≢◌, ◌⊎◌, List, Option, None, Some, Result, Ok, Err, IfSome}
+use Rattle.osi_base.specs.Outside.{IsCalm, FileMap, grown}
+use Rattle.osi_base.specs.declared.words.Status.{Status}
+use Rattle.osi_base.specs.declared.words.Status.TheVariants.{Done, Usage, ReadFault, ModuleRefused, ScriptRefused}
+use Rattle.stub_tables.specs.declared.tables.Tables.{Tables}
+use Rattle.module_reading.specs.Modules.{HasTables}
+use Rattle.script_lines.specs.declared.fault.ScriptFault.{ScriptFault}
+use Rattle.script_lines.specs.declared.fault.ScriptFault.TheVariants.{At}
+use Rattle.script_lines.specs.declared.fault.ScriptKind.{ScriptKind}
+use Rattle.schedule_text.specs.Schedules.{Said, schedule_of}
+use Rattle.trace_file.specs.declared.fault.RecordingKind.{RecordingKind}
+use Rattle.trace_file.specs.declared.fault.RecordingFault.{RecordingFault}
+use Rattle.trace_file.specs.declared.fault.RecordingFault.TheVariants as recording_faults
+use Rattle.trace_file.specs.declared.reading.Recorded.{Recorded}
+use Rattle.trace_file.specs.Reading.{recording_of}
+use Rattle.trace_vectors.specs.Trace.{TraceTextOf}
+use Rattle.osi_commands.specs.declared.answers.Answer.{Answer}
+use Rattle.osi_commands.specs.declared.commands.Work.{Work}
+use Rattle.osi_commands.specs.declared.commands.Work.TheVariants.{Replay, Trace}
+use Rattle.osi_commands.specs.declared.reading.PairRead.{PairRead}
+use Rattle.osi_commands.specs.declared.reading.PairRead.TheVariants.{Answered, Whole}
+use Rattle.osi_commands.specs.Commands.{FilePair}
+use Rattle.osi_commands.specs.Answers.{script_answer, IsUnless}
+use Rattle.osi_commands.specs.Reading.{WasRead, ReadsPair, HasModule}
+use Rattle.osi_commands.specs.Causes.{IsUnread, IsRefusedModule, HasNoTables, HasNoFault}
+use Rattle.osi_commands.specs.Replaying.{bare_alone, Replayed, ReplayedBy}
+use Rattle.osi_commands.specs.Tracing.{script_kind, TracedBy}
+
+-- ---- the whole of it
+
+-- what is answered to the octets of the second file
+abbrev pub SecondBy : Work → Tables → List ℕ → Answer → Type 0
+SecondBy (Replay brief) tables octets answer = ReplayedBy brief tables octets answer
+SecondBy Trace tables octets answer = TracedBy tables octets answer
+
+-- What a replay or a trace is answered, by the told files and their count of faults, before and after: what reading them
+-- came to, or what is answered to the second file by the module's tables.
+pub data AnswersPair (told : Option FileMap) (old new : ℕ) (pair : FilePair) : Answer → Type 0 where
+  refuses : (answer : Answer) → ReadsPair told old new pair (Answered answer) → AnswersPair told old new pair answer
+  works : (tables : Tables) (octets : List ℕ) (answer : Answer) → ReadsPair told old new pair (Whole tables octets)
+      → SecondBy pair.work tables octets answer → AnswersPair told old new pair answer
+
+-- ---- what each status says
+
+-- what was written of a schedule that was run, or of a recording
+pub record IsReplayed (brief : Bool) (tables : Tables) (octets text : List ℕ) : Type 0 where
+  pub schedule : Said
+  pub reads : schedule_of bare_alone tables octets ≡ Ok schedule
+  pub replayed : Replayed brief tables schedule text
+
+pub record IsTraced (tables : Tables) (octets text : List ℕ) : Type 0 where
+  pub recorded : List Recorded
+  pub reads : recording_of octets ≡ Ok recorded
+  pub trace : TraceTextOf tables recorded text
+
+abbrev pub IsWorked : Work → Tables → List ℕ → List ℕ → Type 0
+IsWorked (Replay brief) tables octets text = IsReplayed brief tables octets text
+IsWorked Trace tables octets text = IsTraced tables octets text
+
+-- Done: the module was read and has tables, the second file was read, and what was written is what came of its run, or what
+-- it says.
+pub record IsPairDone (told : Option FileMap) (old new : ℕ) (pair : FilePair) (before after : Option (List ℕ)) : Type 0 where
+  pub «module» : List ℕ
+  pub module_read : WasRead told old new pair.«module» (Some «module»)
+  pub tables : Tables
+  pub has : HasTables «module» tables
+  pub octets : List ℕ
+  pub second_read : WasRead told old new pair.second (Some octets)
+  pub text : List ℕ
+  pub worked : IsWorked pair.work tables octets text
+  pub written : after ≡ grown before text
+
+-- the first faulty line of a schedule, or of a recording
+pub record IsBadSchedule (tables : Tables) (octets text : List ℕ) : Type 0 where
+  pub line : ℕ
+  pub kind : ScriptKind
+  pub fault : schedule_of bare_alone tables octets ≡ Err (At line kind)
+  pub is : text ≡ (script_answer line kind).text
+
+pub record IsBadRecording (octets text : List ℕ) : Type 0 where
+  pub line : ℕ
+  pub kind : RecordingKind
+  pub fault : recording_of octets ≡ Err (recording_faults.At line kind)
+  pub is : text ≡ (script_answer line (script_kind kind)).text
+
+abbrev pub IsBadSecond : Work → Tables → List ℕ → List ℕ → Type 0
+IsBadSecond (Replay brief) tables octets text = IsBadSchedule tables octets text
+IsBadSecond Trace tables octets text = IsBadRecording octets text
+
+-- ScriptRefused: the module was read and has tables, the second file was read, and what was written tells its first faulty
+-- line.
+pub record IsPairRefused (told : Option FileMap) (old new : ℕ) (pair : FilePair) (before after : Option (List ℕ)) : Type 0 where
+  pub «module» : List ℕ
+  pub module_read : WasRead told old new pair.«module» (Some «module»)
+  pub tables : Tables
+  pub has : HasTables «module» tables
+  pub octets : List ℕ
+  pub second_read : WasRead told old new pair.second (Some octets)
+  pub text : List ℕ
+  pub bad : IsBadSecond pair.work tables octets text
+  pub written : after ≡ grown before text
+
+-- ReadFault: the module isn't read; or it was read and has tables, and the second file isn't read.
+abbrev pub IsPairUnread : Option FileMap → ℕ → ℕ → FilePair → Option (List ℕ) → Option (List ℕ) → Type 0
+IsPairUnread told old new pair before after =
+    IsUnread told old new pair.«module» before after ⊎ (HasModule told old new pair.«module» × IsUnread told old new pair.second before after)
+
+-- ---- when each status comes
+
+abbrev pub due_by_schedule : Result Said ScriptFault → Status
+due_by_schedule (Ok schedule) = Done
+due_by_schedule (Err fault) = ScriptRefused
+
+abbrev pub due_by_recording : Result (List Recorded) RecordingFault → Status
+due_by_recording (Ok recorded) = Done
+due_by_recording (Err fault) = ScriptRefused
+
+abbrev pub due_by_octets : Work → Tables → List ℕ → Status
+due_by_octets (Replay brief) tables octets = due_by_schedule (schedule_of bare_alone tables octets)
+due_by_octets Trace tables octets = due_by_recording (recording_of octets)
+
+-- the status that a second file is due by these tables
+abbrev pub due_by_second : Work → Tables → Option (List ℕ) → Status
+due_by_second work tables None = ReadFault
+due_by_second work tables (Some octets) = due_by_octets work tables octets
+
+-- a module has tables, and the status is that of the second file by them
+pub record IsBySecond (map : FileMap) (pair : FilePair) (sink_old sink_new : ℕ) (status : Status) (text : List ℕ) : Type 0 where
+  pub tables : Tables
+  pub has : HasTables text tables
+  pub by : IsUnless sink_old sink_new (due_by_second pair.work tables (map pair.second)) status
+
+-- Over a told map whose files didn't fail: a module that is missing isn't read, and one without tables is refused. One that has
+-- tables is refused, or ends as the second file is due by them; and it isn't refused where it has no fault. Any module that is
+-- there is refused, or has tables.
+pub record IsPairDue (map : FileMap) (pair : FilePair) (sink_old sink_new : ℕ) (status : Status) : Type 0 where
+  pub no_module : map pair.«module» ≡ None → IsUnless sink_old sink_new ReadFault status
+  pub no_tables : (text : List ℕ) → map pair.«module» ≡ Some text → HasNoTables text → IsUnless sink_old sink_new ModuleRefused status
+  pub by_second : (text : List ℕ) (tables : Tables) → map pair.«module» ≡ Some text → HasTables text tables
+      → IsUnless sink_old sink_new (due_by_second pair.work tables (map pair.second)) status ⊎ IsUnless sink_old sink_new ModuleRefused status
+  pub no_fault : (text : List ℕ) (tables : Tables) → map pair.«module» ≡ Some text → HasTables text tables → HasNoFault text
+      → IsUnless sink_old sink_new (due_by_second pair.work tables (map pair.second)) status
+  pub there : (text : List ℕ) → map pair.«module» ≡ Some text
+      → IsUnless sink_old sink_new ModuleRefused status ⊎ IsBySecond map pair sink_old sink_new status text
+
+-- ---- all of it
+
+-- how the top call ends with words that are a replay or a trace
+pub record PairEnds (told : Option FileMap) (old new : ℕ) (pair : FilePair) (sink_old sink_new : ℕ) (before after : Option (List ℕ)) (status : Status) : Type 0 where
+  pub done : status ≡ Done → IsPairDone told old new pair before after
+  pub read_fault : status ≡ ReadFault → IsPairUnread told old new pair before after
+  pub module_refused : status ≡ ModuleRefused → IsRefusedModule told old new pair.«module» before after
+  pub script_refused : status ≡ ScriptRefused → IsPairRefused told old new pair before after
+  pub no_usage : status ≢ Usage
+  pub due : IfSome told (λ map. IsCalm old new → IsPairDue map pair sink_old sink_new status)

@@ -1,0 +1,22 @@
+-- The program as a process: arguments in, the number of its status out.
+use Rattle.std.specs.Prelude.{ℕ, ◌≡◌, List, [], Option, map, drop, string_bytes}
+use Rattle.osi_base.specs.Outside.{FileMap}
+use Rattle.osi_base.specs.declared.words.Status.{Status}
+use Rattle.osi_commands.specs.declared.process.Arguments.{Arguments}
+use Rattle.osi_commands.specs.declared.process.Arguments.TheVariants.{Given, NotText, Unread}
+use Rattle.osi_commands.specs.Statuses.{exit_code}
+use Rattle.osi_commands.specs.Answers.{Closes}
+use Rattle.osi_commands.specs.Commands.{command_of}
+use Rattle.osi_commands.specs.TopCall.{IsAnswer}
+
+-- the words that arguments give: all but the first, which is the program's name; none where one is no text
+abbrev pub words_given : Arguments → List (List ℕ)
+words_given (Given arguments) = map (λ argument. string_bytes argument) (drop 1 arguments.items)
+words_given NotText = []
+words_given Unread = []
+
+-- The process ends with the number of the status with which the top call ends for these words.
+pub record Exits (told : Option FileMap) (old new : ℕ) (words : List (List ℕ)) (sink_old sink_new : ℕ) (before after : Option (List ℕ)) (code : ℕ) : Type 0 where
+  pub status : Status
+  pub closes : Closes (IsAnswer told old new (command_of words)) old new sink_old sink_new before after status
+  pub code_is : code ≡ exit_code status

@@ -1,0 +1,19 @@
+//! The commands of `osi_tool`: words, files and an output in, a status out.
+#![tactic(auto)]
+
+mod answers;
+mod checking;
+mod commands;
+mod laws;
+mod pairs;
+mod process;
+mod reading;
+mod replaying;
+mod statuses;
+mod top;
+mod tracing;
+
+pub use laws::one_answer;
+pub use process::{Arguments, run_process};
+pub use statuses::exit_code;
+pub use top::osi_run;
