@@ -19,3 +19,7 @@ pub mod Shown
 pub mod Arriving
 pub mod Reached
 pub mod Outcomes
+pub mod Transcribed
+pub mod Noted
+pub mod Telling
+pub mod Waiting

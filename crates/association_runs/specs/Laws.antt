@@ -126,3 +126,9 @@ RunsTellAnswers = EverInRuns (λ common w. is_reliable common.mode ≡ false →
 abbrev pub OneRun : Type 0
 OneRun =
     (ends : Ends) (w v x : World) (all : List Event) (told later : List Entry) → Runs ends w all told v → Runs ends w all later x → (told ≡ later) × (v ≡ x)
+
+-- ---- nothing whole waits
+
+-- After each event, as each beginning of a run is a run, less than a message is left of what came to an end that isn't over.
+abbrev pub RunsLeaveNothingWhole : Type 0
+RunsLeaveNothingWhole = (ends : Ends) (all : List Event) (told : List Entry) (w : World) → Runs ends [] all told w → NothingWholeWaits ends w

@@ -1,7 +1,7 @@
 //! Each law is the contract of a function that does nothing but cite others.
 
 ghost use Rattle.association_runs.specs.Laws.{OneRun, RunsHaveOneHolder, RunsNeverFail, RunsReachMessages, RunsShowWhatIsTaken, RunsTakeInPlace, RunsTransferWhole};
-ghost use Rattle.association_runs.specs.Laws.{RunsTellAnswers, RunsTellOneOutcome};
+ghost use Rattle.association_runs.specs.Laws.{RunsLeaveNothingWhole, RunsTellAnswers, RunsTellOneOutcome};
 
 use association_line::{one_call, one_feed};
 use outcome_laws::{one_outcome, outcomes_are_answers};
@@ -41,3 +41,9 @@ pub fn runs_tell_one_outcome()
     one_outcome();
     outcomes_are_answers();
 }
+
+/// After each event of a run of two ends, less than a message is left of what came to an end that
+/// isn't over: it reacted to all that came whole. This is so of every run, whatever the octets are.
+pub fn nothing_whole_waits()
+    ensures law { RunsLeaveNothingWhole }
+{}

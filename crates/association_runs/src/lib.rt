@@ -3,4 +3,4 @@
 
 mod laws;
 
-pub use laws::{one_run, runs_reach_messages, runs_tell_one_outcome};
+pub use laws::{nothing_whole_waits, one_run, runs_reach_messages, runs_tell_one_outcome};

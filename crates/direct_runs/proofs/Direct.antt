@@ -12,6 +12,15 @@ use Rattle.agreement.specs.Sets.Role.{Initiator, Responder}
 use Rattle.osi_base.specs.declared.words.Side.{Side}
 use Rattle.osi_base.specs.declared.words.Side.TheVariants.{A, B}
 use Rattle.end_model.specs.Pairs.{HasCodec}
+use Rattle.end_rules.specs.Base.{Spellings}
+use Rattle.end_wire.specs.Values.{spellings_with}
+use Rattle.end_model.specs.Acting.{ReadsBack}
+use Rattle.end_model.specs.Pairs.{base_at}
+use Rattle.end_model.specs.DirectPairs.{ProposesRightly}
+use Rattle.end_laws.specs.Codecs.{IsDirect}
+use Rattle.end_laws.proofs.Premises.{direct-back, rightly}
+use Rattle.transfer_laws.proofs.Configs.{identifiers-right}
+use Rattle.said_words.specs.Laws.{ProposesContexts}
 use Rattle.end_laws.specs.Laws.{DirectEndsTake, DirectTurnHasOneHolder}
 use Rattle.association_reading.specs.Transfers.{association_spellings}
 use Rattle.association_worlds.specs.Laws.{IsMeant, SaidIsMeant}
@@ -19,11 +28,14 @@ use Rattle.said_worlds.specs.Laws.{DirectIsSaid}
 use Rattle.direct_worlds.proofs.Spoken.{reached, all-meant}
 use Rattle.run_laws.specs.Passing.{TakenInPlace}
 use Rattle.run_laws.specs.Showing.{EachCarryShows}
-use Rattle.run_laws.specs.Laws.{AtEachMoment, NothingFails, OneHolder}
+use Rattle.run_laws.specs.Laws.{KeepsLaws, AtEachMoment, NothingFails, OneHolder}
 use Rattle.association_runs.specs.Worlds.{ends_of, Runs}
 use Rattle.association_runs.specs.Sides.{ends_for}
 use Rattle.association_runs.specs.Laws.{AreEvents, AreOneHolder, RunsTakeInPlace, RunsShowWhatIsTaken, RunsNeverFail, RunsHaveOneHolder, RunsTellOneOutcome, RunsTellAnswers}
-use Rattle.direct_runs.specs.Laws.{transfers_of, ends_meant, AreDirect, DirectRunsTakeInPlace, DirectRunsShowWhatIsTaken, DirectRunsNeverFail, DirectRunsHaveOneHolder, DirectRunsTellOneOutcome, DirectRunsTellAnswers}
+use Rattle.direct_runs.proofs.Sent.{taken-as-sent}
+use Rattle.direct_runs.proofs.Told.{tell-rightly}
+use Rattle.direct_runs.proofs.Alive.{nothing-transferred, nobody-dead}
+use Rattle.direct_runs.specs.Laws.{transfers_of, ends_meant, AreDirect, DirectRunsTakeInPlace, DirectRunsShowWhatIsTaken, DirectRunsNeverFail, DirectRunsHaveOneHolder, DirectRunsTellOneOutcome, DirectRunsTellAnswers, DirectRunsKeepLaws}
 
 module _ (tables : Tables) (a b : Config) (d : AreDirect tables a b) where
   same-ends : ends_for (ends_meant tables a b) ≡ ends_of tables a b
@@ -74,3 +86,38 @@ tell-answers runs law take codec is_said tables a b d = over tables a b d (λ en
         → (side : Side) → AreAnswers tables (own_at (ends_for (ends_meant tables a b)) (other side) w).wrote (own_at (ends_for (ends_meant tables a b)) side w).shown
     go all told w typed r A = runs (ends_meant tables a b) (meant tables a b d law take codec is_said) all told w typed r refl Initiator
     go all told w typed r B = runs (ends_meant tables a b) (meant tables a b d law take codec is_said) all told w typed r refl Responder
+
+-- ---- all of them
+
+module _ (tables : Tables) (a b : Config) (d : AreDirect tables a b) where
+  abbrev spellings : Spellings
+  spellings = spellings_with tables (transfers_of tables).octets (transfers_of tables).arrived
+
+  direct : IsDirect a
+  direct = record { mode = d.ends.of_a.mode; accepted = d.ends.of_a.accepted }
+
+  back : ReadsBack (base_at Initiator (ends_meant tables a b))
+  back = direct-back tables (transfers_of tables) a b d.ends.module_s.readable
+
+  right : ProposesRightly (ends_meant tables a b)
+  right = rightly tables (transfers_of tables) a b d.ends.module_s.readable direct
+
+  contexts : ProposesContexts (ends_meant tables a b)
+  contexts = identifiers-right a d.ends.of_a.accepted
+
+pub keep-laws : RunsShowWhatIsTaken → RunsNeverFail → RunsHaveOneHolder → SaidIsMeant → DirectEndsTake → HasCodec → DirectIsSaid → DirectTurnHasOneHolder → DirectRunsKeepLaws
+keep-laws shows calm one_holder law take codec is_said one tables a b d =
+    subst (λ (e : Ends). (all : List Event) (told : List Entry) (w : World) → AreEvents all → Runs e [] all told w → KeepsLaws tables e told w) (same-ends tables a b d) go
+  where
+    go : (all : List Event) (told : List Entry) (w : World) → AreEvents all → Runs (ends_for (ends_meant tables a b)) [] all told w → KeepsLaws tables (ends_for (ends_meant tables a b)) told w
+    go all told w typed r =
+        let m = meant tables a b d law take codec is_said in
+        record {
+          taken_as_sent = taken-as-sent codec.0 tables (spellings tables a b d) a b codec.1 (back tables a b d) (right tables a b d) (contexts tables a b d) m w all told typed r;
+          one_outcome = tell-rightly codec.0 tables (spellings tables a b d) a b codec.1 (back tables a b d) (right tables a b d) (contexts tables a b d) m w all told typed r;
+          one_transfer = nothing-transferred codec.0 tables (spellings tables a b d) a b codec.1 (back tables a b d) (right tables a b d) (contexts tables a b d) m w all told typed r;
+          nothing_fails = calm (ends_meant tables a b) m all told w typed r;
+          nobody_is_dead = nobody-dead codec.0 tables (spellings tables a b d) a b codec.1 (back tables a b d) (right tables a b d) (contexts tables a b d) m w all told typed r;
+          one_holder = one_holder (ends_meant tables a b) m all told w typed r (holder tables a b d codec one);
+          carries_show = shows (ends_meant tables a b) m all told w typed r;
+        }

@@ -1,1 +1,5 @@
 pub mod Direct
+pub mod Firm
+pub mod Sent
+pub mod Handed
+pub mod Told

@@ -11,7 +11,7 @@ use Rattle.association_reading.specs.Transfers.{transferred, arrived_at}
 use Rattle.said_worlds.specs.Laws.{AreEnds}
 use Rattle.run_laws.specs.Passing.{TakenInPlace}
 use Rattle.run_laws.specs.Showing.{EachCarryShows}
-use Rattle.run_laws.specs.Laws.{AtEachMoment, NothingFails, OneHolder}
+use Rattle.run_laws.specs.Laws.{KeepsLaws, AtEachMoment, NothingFails, OneHolder}
 use Rattle.association_runs.specs.Worlds.{ends_of, Runs}
 use Rattle.association_runs.specs.Dealings.{own_at}
 use Rattle.association_runs.specs.Laws.{AreEvents}
@@ -63,3 +63,11 @@ DirectRunsTellOneOutcome =
 -- each outcome that an end is told is an APDU that the other end wrote
 abbrev pub DirectRunsTellAnswers : Type 0
 DirectRunsTellAnswers = EverInRuns (λ ends w. (side : Side) → AreAnswers ends.a.tables (own_at ends (other side) w).wrote (own_at ends side w).shown)
+
+-- all of them: each message that is taken is the one that was sent in its place, each of its values read under the pair that the shared
+-- set gave its identifier at its sending; of the whole transcript each invocation is told once and gets at most one outcome, which its
+-- operation has and which the other end gave; nothing is transferred; no end aborts of itself, and none is dead
+abbrev pub DirectRunsKeepLaws : Type 0
+DirectRunsKeepLaws =
+    (tables : Tables) (a b : Config) → AreDirect tables a b → (all : List Event) (told : List Entry) (w : World) → AreEvents all → Runs (ends_of tables a b) [] all told w →
+    KeepsLaws tables (ends_of tables a b) told w

@@ -1,6 +1,6 @@
 //! Each law is the contract of a function that does nothing but cite others.
 
-ghost use Rattle.direct_runs.specs.Laws.{DirectRunsHaveOneHolder, DirectRunsNeverFail, DirectRunsTakeInPlace};
+ghost use Rattle.direct_runs.specs.Laws.{DirectRunsHaveOneHolder, DirectRunsKeepLaws, DirectRunsNeverFail, DirectRunsTakeInPlace};
 ghost use Rattle.direct_runs.specs.Laws.{DirectRunsShowWhatIsTaken, DirectRunsTellAnswers, DirectRunsTellOneOutcome};
 
 use association_runs::{runs_reach_messages, runs_tell_one_outcome};
@@ -10,10 +10,12 @@ use end_model::bare_pairs_are_modelled;
 use said_worlds::direct_ends_are_said;
 
 /// Every run of two ends of direct mode: at each moment each message that was taken is the one that
-/// was sent in its place of the connection; each carry shows what the messages show that are taken
-/// in it, and nothing else; no end aborts of itself; at no moment do both hold the
-/// token; each invocation gets at most one outcome, of a kind that its operation allows, and each
-/// outcome is an APDU that the other end wrote.
+/// was sent in its place of the connection, each of its values read under the pair that the shared
+/// set gave its context at the sending; each carry shows what the messages show that are taken
+/// in it, and nothing else; no end aborts of itself, and none is dead; at no moment do both hold
+/// the token. Of the whole transcript, each invocation that an end is told of was made at the other
+/// and comes once; each gets at most one outcome, which its operation has, and a result or an error
+/// is what the other end answered.
 pub fn direct_runs_keep_laws()
     ensures places { DirectRunsTakeInPlace }
     ensures shown { DirectRunsShowWhatIsTaken }
@@ -21,6 +23,7 @@ pub fn direct_runs_keep_laws()
     ensures holder { DirectRunsHaveOneHolder }
     ensures outcomes { DirectRunsTellOneOutcome }
     ensures answers { DirectRunsTellAnswers }
+    ensures all { DirectRunsKeepLaws }
 {
     runs_reach_messages();
     runs_tell_one_outcome();

@@ -12,7 +12,7 @@ use Rattle.transfer_laws.proofs.Premises.{ends-one_holder, ends-whole, ends-item
 use Rattle.transfer_worlds.proofs.Spoken.{all-meant}
 use Rattle.run_laws.specs.Passing.{TakenInPlace}
 use Rattle.run_laws.specs.Showing.{EachCarryShows}
-use Rattle.run_laws.specs.Laws.{AtEachMoment, NothingFails, OneHolder}
+use Rattle.run_laws.specs.Laws.{AtEachMoment, NothingFails, NobodyIsDead, OneHolder}
 use Rattle.association_runs.specs.Worlds.{ends_of, Runs}
 use Rattle.association_runs.specs.Sides.{ends_for}
 use Rattle.association_runs.specs.Arriving.{EachArrivesWhole}
@@ -26,7 +26,8 @@ use Rattle.osi_base.specs.declared.words.Side.{Side}
 use Rattle.osi_base.specs.declared.words.Side.TheVariants.{A, B}
 use Rattle.reliable_model.specs.Goes.{Deeds}
 use Rattle.association_runs.specs.Laws.{AreEvents, AreOneHolder, RunsReachMessages, RunsTakeInPlace, RunsShowWhatIsTaken, RunsNeverFail, RunsHaveOneHolder, RunsTransferWhole, RunsTellOneOutcome}
-use Rattle.transfer_runs.specs.Laws.{AreReliable, ReliableRunsTakeInPlace, ReliableRunsShowWhatIsTaken, ReliableRunsTellOneOutcome, ReliableRunsNeverFail, ReliableRunsHaveOneHolder, ReliableRunsArriveWhole, ReliableRunsArriveOnce, ReliableRunsTellAnswers}
+use Rattle.transfer_runs.specs.Laws.{AreReliable, ReliableRunsTakeInPlace, ReliableRunsShowWhatIsTaken, ReliableRunsTellOneOutcome, ReliableRunsNeverFail, ReliableRunsHaveOneHolder, ReliableRunsArriveWhole, ReliableRunsArriveOnce, ReliableRunsTellAnswers, ReliableRunsKeepEndsAlive}
+use Rattle.transfer_runs.proofs.Alive.{nobody-dead}
 
 module _ (tables : Tables) (a b : Config) (d : AreReliable tables a b) where
   same-ends : ends_for (reliable_ends tables a b) ≡ ends_of tables a b
@@ -65,6 +66,9 @@ tell-one runs law tables a b d =
 
 pub never-fail : RunsNeverFail → SaidIsMeant → ReliableRunsNeverFail
 never-fail runs law tables a b d = over tables a b d (λ ends w. NothingFails w) (runs (reliable_ends tables a b) (meant tables a b d law))
+
+pub keep-alive : RunsReachMessages → SaidIsMeant → ReliableRunsKeepEndsAlive
+keep-alive runs law tables a b d = over tables a b d NobodyIsDead (λ all told w typed r. nobody-dead tables a b d w (runs (reliable_ends tables a b) (meant tables a b d law) all told w typed r))
 
 pub have-one-holder : RunsHaveOneHolder → SaidIsMeant → ReliableRunsHaveOneHolder
 have-one-holder runs law tables a b d =

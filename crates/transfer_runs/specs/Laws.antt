@@ -11,7 +11,7 @@ use Rattle.transfer_spelling.specs.Laws.{IsModule}
 use Rattle.transfer_laws.specs.Laws.{reliable_ends, IsReliable}
 use Rattle.run_laws.specs.Passing.{TakenInPlace}
 use Rattle.run_laws.specs.Showing.{EachCarryShows}
-use Rattle.run_laws.specs.Laws.{AtEachMoment, NothingFails, OneHolder}
+use Rattle.run_laws.specs.Laws.{AtEachMoment, NothingFails, NobodyIsDead, OneHolder}
 use Rattle.association_runs.specs.Worlds.{ends_of, Runs}
 use Rattle.association_runs.specs.Arriving.{EachArrivesWhole}
 use Rattle.association_runs.specs.Deeds.{deeds_at}
@@ -48,6 +48,10 @@ ReliableRunsShowWhatIsTaken =
 -- no end aborts of itself
 abbrev pub ReliableRunsNeverFail : Type 0
 ReliableRunsNeverFail = EverInRuns (λ ends w. NothingFails w)
+
+-- no end is dead
+abbrev pub ReliableRunsKeepEndsAlive : Type 0
+ReliableRunsKeepEndsAlive = EverInRuns NobodyIsDead
 
 -- what the end of a transfer brings is the item that the other end started as the activity of that number, as it was encoded last;
 -- at each moment

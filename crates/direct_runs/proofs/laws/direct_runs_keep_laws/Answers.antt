@@ -1,4 +1,4 @@
-use Rattle.direct_runs.proofs.Direct.{take-in-place, show-what-is-taken, never-fail, have-one-holder, tell-one, tell-answers}
+use Rattle.direct_runs.proofs.Direct.{take-in-place, show-what-is-taken, never-fail, have-one-holder, tell-one, tell-answers, keep-laws}
 use Rattle.direct_runs.proofs.laws.direct_runs_keep_laws.Goals as goal
 
 pub returns : goal.returns
@@ -12,4 +12,7 @@ returns c =
           c.direct_turn_has_one_holder.ensures.law;
       outcomes = tell-one c.runs_tell_one_outcome.ensures.once c.said_is_meant.ensures.law c.direct_ends_are_modelled.ensures.takes c.bare_pairs_are_modelled.ensures.codec c.direct_ends_are_said.ensures.law;
       answers = tell-answers c.runs_tell_one_outcome.ensures.answers c.said_is_meant.ensures.law c.direct_ends_are_modelled.ensures.takes c.bare_pairs_are_modelled.ensures.codec c.direct_ends_are_said.ensures.law;
+      all =
+          keep-laws c.runs_reach_messages.ensures.shown c.runs_reach_messages.ensures.calm c.runs_reach_messages.ensures.holder c.said_is_meant.ensures.law c.direct_ends_are_modelled.ensures.takes
+          c.bare_pairs_are_modelled.ensures.codec c.direct_ends_are_said.ensures.law c.direct_turn_has_one_holder.ensures.law;
     }

@@ -1,4 +1,4 @@
-use Rattle.transfer_runs.proofs.Reliable.{take-in-place, show-what-is-taken, tell-one, never-fail, have-one-holder, arrive-whole, arrive-once, tell-answers}
+use Rattle.transfer_runs.proofs.Reliable.{take-in-place, show-what-is-taken, tell-one, never-fail, keep-alive, have-one-holder, arrive-whole, arrive-once, tell-answers}
 use Rattle.transfer_runs.proofs.laws.reliable_runs_keep_laws.Goals as goal
 
 pub returns : goal.returns
@@ -7,6 +7,7 @@ returns c =
       places = take-in-place c.runs_reach_messages.ensures.places c.said_is_meant.ensures.law;
       shown = show-what-is-taken c.runs_reach_messages.ensures.shown c.said_is_meant.ensures.law;
       calm = never-fail c.runs_reach_messages.ensures.calm c.said_is_meant.ensures.law;
+      alive = keep-alive c.runs_reach_messages.ensures.reached c.said_is_meant.ensures.law;
       holder = have-one-holder c.runs_reach_messages.ensures.holder c.said_is_meant.ensures.law;
       whole = arrive-whole c.runs_reach_messages.ensures.whole c.said_is_meant.ensures.law;
       once = arrive-once c.runs_reach_messages.ensures.reached c.said_is_meant.ensures.law;

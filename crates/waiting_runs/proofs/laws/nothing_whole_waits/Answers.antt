@@ -1,5 +1,0 @@
-use Rattle.waiting_runs.proofs.Waiting.{nothing-waits}
-use Rattle.waiting_runs.proofs.laws.nothing_whole_waits.Goals as goal
-
-pub returns : goal.returns
-returns c = record { law = nothing-waits }
