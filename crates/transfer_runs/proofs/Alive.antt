@@ -19,6 +19,8 @@ use Rattle.end_rules.specs.World.{World}
 use Rattle.end_config.proofs.Proposes.{proposes-rightly}
 use Rattle.agreement.specs.Sets.Role.{Initiator, Responder}
 use Rattle.end_model.specs.Seen.{Free}
+use Rattle.end_model.specs.Pairs.{Two}
+use Rattle.reliable_model.specs.Goes.{Ledger, Goes}
 use Rattle.reliable_model.specs.ReliablePairs.{IsFit}
 use Rattle.reliable_model.proofs.Words.{Side as SideOf, Stands, IsOver}
 use Rattle.reliable_model.proofs.Opening.{Way, First, Again, rests, asks, joins}
@@ -91,14 +93,20 @@ module _ (tables : Tables) (a b : Config) (d : AreReliable tables a b) where
         window = has-window b d.second.accepted;
       }
 
+  abbrev pub free : Free
+  free = (ends-modelled tables a b d.module_ d.named d.first d.second).0
+
+  pub kept : (two : Two) (ledger : Ledger) → Goes (reliable_ends tables a b) two ledger → machine.Kept free tables (reliable_ends tables a b).spellings a b two ledger
+  kept two ledger g =
+      all-kept free tables (reliable_ends tables a b).spellings a b (record { fit = fit; carries = (ends-modelled tables a b d.module_ d.named d.first d.second).1 }) two ledger g
+
   pub nobody-dead : (w : World) → ReachesMessages (reliable_ends tables a b) w → NobodyIsDead (ends_for (reliable_ends tables a b)) w
   nobody-dead w s = go
     where
       alive : (is_dead s.two.a.link.phase ≡ false) × (is_dead s.two.b.link.phase ≡ false)
       alive =
-          let f = ends-modelled tables a b d.module_ d.named d.first d.second in
-          let k = all-kept f.0 tables (reliable_ends tables a b).spellings a b (record { fit = fit; carries = f.1 }) s.two s.ledger s.speaks.goes in
-          opened-alive f.0 tables (reliable_ends tables a b).spellings a b s.two.a s.two.b s.two.to_a s.two.to_b k.opened
+          let k = kept s.two s.ledger s.speaks.goes in
+          opened-alive free tables (reliable_ends tables a b).spellings a b s.two.a s.two.b s.two.to_a s.two.to_b k.opened
 
       go : NobodyIsDead (ends_for (reliable_ends tables a b)) w
       go A = ap (λ (x : Body). is_dead x.link.phase) (s.bodies Initiator) ∙ alive.0

@@ -1,2 +1,4 @@
 pub mod Reliable
 pub mod Alive
+pub mod Early
+pub mod Whole

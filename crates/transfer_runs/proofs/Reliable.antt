@@ -8,7 +8,7 @@ use Rattle.end_rules.specs.World.{World, Ends, other}
 use Rattle.association_reading.specs.Transfers.{association_spellings}
 use Rattle.association_worlds.specs.Laws.{IsMeant, SaidIsMeant}
 use Rattle.transfer_laws.specs.Laws.{reliable_ends}
-use Rattle.transfer_laws.proofs.Premises.{ends-one_holder, ends-whole, ends-items, ends-once, ends-answers}
+use Rattle.transfer_laws.proofs.Premises.{ends-one_holder, ends-take, ends-whole, ends-items, ends-once, ends-answers}
 use Rattle.transfer_worlds.proofs.Spoken.{all-meant}
 use Rattle.run_laws.specs.Passing.{TakenInPlace}
 use Rattle.run_laws.specs.Showing.{EachCarryShows}
@@ -25,9 +25,13 @@ use Rattle.agreement.specs.Sets.Role.{Initiator, Responder}
 use Rattle.osi_base.specs.declared.words.Side.{Side}
 use Rattle.osi_base.specs.declared.words.Side.TheVariants.{A, B}
 use Rattle.reliable_model.specs.Goes.{Deeds}
-use Rattle.association_runs.specs.Laws.{AreEvents, AreOneHolder, RunsReachMessages, RunsTakeInPlace, RunsShowWhatIsTaken, RunsNeverFail, RunsHaveOneHolder, RunsTransferWhole, RunsTellOneOutcome}
-use Rattle.transfer_runs.specs.Laws.{AreReliable, ReliableRunsTakeInPlace, ReliableRunsShowWhatIsTaken, ReliableRunsTellOneOutcome, ReliableRunsNeverFail, ReliableRunsHaveOneHolder, ReliableRunsArriveWhole, ReliableRunsArriveOnce, ReliableRunsTellAnswers, ReliableRunsKeepEndsAlive}
-use Rattle.transfer_runs.proofs.Alive.{nobody-dead}
+use Rattle.run_laws.specs.Transfers.{OneTransfer}
+use Rattle.association_runs.proofs.Deeds.{AreDone}
+use Rattle.association_runs.specs.Laws.{AreEvents, AreOneHolder, ReachesMessages, RunsReachMessages, RunsTakeInPlace, RunsShowWhatIsTaken, RunsNeverFail, RunsHaveOneHolder, RunsTransferWhole, RunsTellOneOutcome}
+use Rattle.transfer_runs.specs.Laws.{AreReliable, ReliableRunsTakeInPlace, ReliableRunsShowWhatIsTaken, ReliableRunsTellOneOutcome, ReliableRunsNeverFail, ReliableRunsHaveOneHolder, ReliableRunsArriveWhole, ReliableRunsArriveOnce, ReliableRunsTellAnswers, ReliableRunsKeepEndsAlive, ReliableRunsTransferOnce}
+use Rattle.association_runs.proofs.Carried.{from-start}
+use Rattle.transfer_runs.proofs.Alive.{nobody-dead, free, kept}
+use Rattle.transfer_runs.proofs.Whole.{KeepThen, keep-keeps, transferred-once}
 
 module _ (tables : Tables) (a b : Config) (d : AreReliable tables a b) where
   same-ends : ends_for (reliable_ends tables a b) ≡ ends_of tables a b
@@ -90,6 +94,24 @@ arrive-once runs law tables a b d = over tables a b d (λ ends w. (side : Side) 
     go all told w typed r B =
         let s = runs (reliable_ends tables a b) (meant tables a b d law) all told w typed r in
         subst (λ (x : Deeds). AreFalling x.arrived) (sym (s.deeds Responder)) (ends-once tables a b d.module_ d.named d.first d.second s.two s.ledger s.speaks.goes Responder)
+
+pub transfer-once : RunsReachMessages → RunsTransferWhole → SaidIsMeant → ReliableRunsTransferOnce
+transfer-once runs arrive law tables a b d = over tables a b d OneTransfer go
+  where
+    go : (all : List Event) (told : List Entry) (w : World) → AreEvents all → Runs (ends_for (reliable_ends tables a b)) [] all told w → OneTransfer (ends_for (reliable_ends tables a b)) w
+    go all told w typed r =
+        let m = meant tables a b d law in
+        let s = runs (reliable_ends tables a b) m all told w typed r in
+        let keeps = keep-keeps (free tables a b d) tables (reliable_ends tables a b).spellings a b
+            (λ two ledger g role message left fault body aborts shown e h. ends-take tables a b d.module_ d.named d.first d.second two ledger g role message left fault body aborts shown e h) (kept tables a b d) in
+        transferred-once (ends_for (reliable_ends tables a b)) w
+        (arrive (reliable_ends tables a b) m all told w typed r (λ two ledger g. ends-whole tables a b d.module_ d.named d.first d.second two ledger g) (λ two ledger g. ends-items tables a b d.module_ d.named d.first d.second two ledger g))
+        (from-start (reliable_ends tables a b) m (λ w two ledger dealings. AreDone (reliable_ends tables a b) w two ledger dealings × KeepThen (ends_for (reliable_ends tables a b)) w) keeps w all told typed r).extra.1
+        (falling s)
+      where
+        falling : ReachesMessages (reliable_ends tables a b) w → (side : Side) → AreFalling (deeds_at (ends_for (reliable_ends tables a b)) side w).arrived
+        falling s A = subst (λ (x : Deeds). AreFalling x.arrived) (sym (s.deeds Initiator)) (ends-once tables a b d.module_ d.named d.first d.second s.two s.ledger s.speaks.goes Initiator)
+        falling s B = subst (λ (x : Deeds). AreFalling x.arrived) (sym (s.deeds Responder)) (ends-once tables a b d.module_ d.named d.first d.second s.two s.ledger s.speaks.goes Responder)
 
 pub tell-answers : RunsReachMessages → SaidIsMeant → ReliableRunsTellAnswers
 tell-answers runs law tables a b d = over tables a b d (λ ends w. (side : Side) → AreAnswers ends.a.tables (own_at ends (other side) w).wrote (own_at ends side w).shown) go

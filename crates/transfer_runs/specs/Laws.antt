@@ -11,6 +11,7 @@ use Rattle.transfer_spelling.specs.Laws.{IsModule}
 use Rattle.transfer_laws.specs.Laws.{reliable_ends, IsReliable}
 use Rattle.run_laws.specs.Passing.{TakenInPlace}
 use Rattle.run_laws.specs.Showing.{EachCarryShows}
+use Rattle.run_laws.specs.Transfers.{OneTransfer}
 use Rattle.run_laws.specs.Laws.{AtEachMoment, NothingFails, NobodyIsDead, OneHolder}
 use Rattle.association_runs.specs.Worlds.{ends_of, Runs}
 use Rattle.association_runs.specs.Arriving.{EachArrivesWhole}
@@ -57,6 +58,10 @@ ReliableRunsKeepEndsAlive = EverInRuns NobodyIsDead
 -- at each moment
 abbrev pub ReliableRunsArriveWhole : Type 0
 ReliableRunsArriveWhole = EverInRuns EachArrivesWhole
+
+-- so that each transfer of the whole run arrives whole, and at most once
+abbrev pub ReliableRunsTransferOnce : Type 0
+ReliableRunsTransferOnce = EverInRuns OneTransfer
 
 -- the numbers of the transfers that are handed up rise, since an end's association began
 abbrev pub ReliableRunsArriveOnce : Type 0
