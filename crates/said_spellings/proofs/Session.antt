@@ -50,7 +50,7 @@ length-are n = go (nat_lt n 255) refl
 coded-are : (code : ℕ) (value : List ℕ) → code < 256 → AreOctets value → AreOctets (coded code value)
 coded-are code value low h = cons-are code (written_length (length value) ++ value) low (append-are (written_length (length value)) value (length-are (length value)) h)
 
-spelled-are : (ps : List (ℕ × List ℕ)) → AreParameters ps → AreOctets (spelled ps)
+pub spelled-are : (ps : List (ℕ × List ℕ)) → AreParameters ps → AreOctets (spelled ps)
 spelled-are [] h = refl
 spelled-are (p ∷ ps) h = append-are (coded p.0 p.1) (spelled ps) (coded-are p.0 p.1 h.0.0 h.0.1) (spelled-are ps h.1)
 
