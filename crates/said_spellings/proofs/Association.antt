@@ -1,5 +1,5 @@
 -- The words that open and end an association, and the units of its connection, may be written.
-use Rattle.std.proofs.Common.{◌≡◌, refl, true, false, ◌∙◌, sym, ap, subst, arith, ℕ, suc, ◌+◌, ◌/◌, ◌%◌, ◌^◌, ◌≤◌, ◌<◌, pos, List, [], ◌∷◌, ◌++◌, length}
+use Rattle.std.proofs.Common.{◌≡◌, refl, true, false, ◌∙◌, sym, ap, subst, arith, ℕ, suc, ◌+◌, ◌/◌, ◌%◌, ◌≤◌, ◌<◌, pos, List, [], ◌∷◌, ◌++◌, length}
 use Rattle.std.specs.Prelude.{Bool, not, ◌&&◌, ◌||◌, Option, Some, None, nat_eq, nat_lt, nat_le, if◌then◌else◌}
 use Rattle.std.specs.List.{list_all, flat_map}
 use Rattle.std.proofs.lemmas.Bool.Decides.{nat_tests}
@@ -8,13 +8,10 @@ use Rattle.std.proofs.lemmas.List.{length-append}
 use Rattle.std.proofs.Math.Nat.{mod-lt}
 use Rattle.osi_base.specs.declared.acse_word.Acse.TheVariants as acse
 use Rattle.osi_base.specs.declared.acse_word.Diagnostic.TheVariants.{User}
-use Rattle.osi_base.specs.declared.bit_string.BitString as strings
 use Rattle.osi_base.specs.declared.words.Proposal.{Proposal}
 use Rattle.osi_base.specs.declared.words.AddAnswer.{AddAnswer}
 use Rattle.osi_base.specs.declared.presentation_word.Pdv.{Pdv}
 use Rattle.osi_base.specs.declared.presentation_word.PdvContent.TheVariants as forms
-use Rattle.osi_base.specs.declared.presentation_word.PresentationConnect.{PresentationConnect}
-use Rattle.osi_base.specs.declared.presentation_word.PresentationAccept.{PresentationAccept}
 use Rattle.osi_base.specs.declared.presentation_word.PresentationWord.{PresentationWord}
 use Rattle.osi_base.specs.declared.presentation_word.PresentationWord.TheVariants as ppdus
 use Rattle.osi_base.specs.declared.session_word.SessionWord.TheVariants as units
@@ -27,33 +24,30 @@ use Rattle.acse.specs.Written.{written_acse}
 use Rattle.presentation_pdus.specs.declared.place.PpduPlace.TheVariants as place
 use Rattle.presentation_pdus.specs.Rows.{ppdu_rows, connect_row}
 use Rattle.presentation_pdus.specs.Words.{value_of, written_ppdu}
-use Rattle.ppdu_laws.specs.Written.{definition_sized, answer_sized, pdv_sized, is_short, is_written_whole, IsWritable}
+use Rattle.ppdu_laws.specs.Written.{definition_sized, answer_sized, is_short}
 use Rattle.spdu_codec.specs.Written.{connect_data}
-use Rattle.tpkt.specs.Wire.{two, packet, header, parameter}
-use Rattle.tpkt.specs.Written.{selector_parameter, parameters_of, connection_fields, control_packet, HasRoom}
+use Rattle.tpkt.specs.Wire.{parameter}
+use Rattle.tpkt.specs.Written.{selector_parameter, connection_fields, control_packet}
 use Rattle.stub_tables.specs.declared.tables.Tables.{Tables}
 use Rattle.dialogue.specs.declared.config.Config.{Config}
 use Rattle.dialogue.specs.declared.config.Mode.{Mode}
-use Rattle.dialogue.specs.declared.config.Mode.TheVariants.{Direct}
 use Rattle.dialogue.specs.declared.config.ConfigRefusal.{ConfigRefusal}
 use Rattle.dialogue.specs.declared.config.ConfigRefusal.TheVariants as refusals
 use Rattle.dialogue.specs.Config as values
 use Rattle.end_config.specs.Refusing.{config_refusal, early_refusal, late_refusal, or_refusal, context_refusal, bad_context, is_too_long, has_connect}
-use Rattle.end_config.specs.Connecting.{connect_octets, connect_of, connect_of_rules}
+use Rattle.end_config.specs.Connecting.{connect_octets}
 use Rattle.end_config.proofs.Connects.{connect_is_of_rules}
 use Rattle.end_rules.specs.Base.{Base, Spellings, acse_name, is_bare}
-use Rattle.end_rules.specs.Sets.{proposed_ids}
-use Rattle.end_rules.specs.Messages.{Word, OfAssociation, AssociationWord, Connect, Accept, Refuse, Finish, Disconnect, Abort, AbortAccept, Message, Transport, Session, TransportUnit, ConnectionRequest, ConnectionConfirm, DisconnectRequest, TransportError}
-use Rattle.end_rules.specs.Writing.{acse_context, requirement_bits, proposals, session_connect, presentation_connect, connect_values, proposal_in_ber}
+use Rattle.end_rules.specs.Messages.{OfAssociation, AssociationWord, Connect, Accept, Refuse, Finish, Disconnect, Abort, AbortAccept, Message, Transport, Session, TransportUnit, ConnectionRequest, ConnectionConfirm, DisconnectRequest, TransportError}
+use Rattle.end_rules.specs.Writing.{acse_context, requirement_bits, proposals, session_connect, presentation_connect, proposal_in_ber}
 use Rattle.end_rules.specs.Policy.{opening_policy}
-use Rattle.association_wire.specs.Values.{pdvs_of}
-use Rattle.association_wire.specs.Written.{request_ends, confirm_ends, written_unit, session_units, tsdu_of}
+use Rattle.association_wire.specs.Written.{request_ends, written_unit}
 use Rattle.association_reading.specs.Laws.{IsSendable}
 use Rattle.association_worlds.specs.Ways.{IsOfTransport}
 use Rattle.agreement.specs.Sets.Role.{Initiator, Responder}
 use Rattle.end_model.specs.Pairs.{Common, base_at}
 use Rattle.end_model.specs.DirectPairs.{direct_pair, ProposesRightly}
-use Rattle.reliable_model.proofs.Fixed.{AreIdentifiers, IsIdentifier}
+use Rattle.reliable_model.proofs.Fixed.{AreIdentifiers}
 use Rattle.der_octets.specs.Laws.{AreOctets}
 use Rattle.der_octets.proofs.Octets.{append-are, cons-are, der-octets}
 use Rattle.said_words.specs.Calls.{AreNamed}

@@ -6,7 +6,7 @@ use Rattle.dialogue.specs.declared.config.Mode.{Mode}
 use Rattle.dialogue.specs.declared.config.Mode.TheVariants.{Bare, Direct, Reliable}
 use Rattle.apdu_spelling.specs.Writing.{written_apdu}
 use Rattle.end_rules.specs.Base.{Spellings}
-use Rattle.end_rules.specs.Messages.{Message, Transport, Session, Word, OfAssociation, OfData, OfMarks, OfActivities}
+use Rattle.end_rules.specs.Messages.{Transport, Session, Word, OfAssociation, OfData, OfMarks, OfActivities}
 use Rattle.end_rules.specs.Writing.{proposals}
 use Rattle.association_reading.specs.Laws.{IsSendable}
 use Rattle.agreement.specs.Sets.Role.{Initiator, Responder}
@@ -14,9 +14,8 @@ use Rattle.end_model.specs.Pairs.{base_at}
 use Rattle.end_model.specs.DirectPairs.{ProposesRightly}
 use Rattle.reliable_model.proofs.Fixed.{listed-identifiers}
 use Rattle.transfer_spelling.specs.Laws.{IsModule}
-use Rattle.association_worlds.specs.Ways.{IsCarried}
 use Rattle.said_words.specs.Laws.{ProposesContexts}
-use Rattle.said_words.specs.Words.{IsWord, IsReliableWord, IsWordIn, IsMessage}
+use Rattle.said_words.specs.Words.{IsWord, IsReliableWord, IsWordIn}
 use Rattle.said_spellings.specs.Laws.{IsEndIn, pair_in, SpellsTransfersIn, SaidAreCarried}
 use Rattle.said_spellings.proofs.Carried.{marks-sent, data-sent}
 use Rattle.said_spellings.proofs.Association.{association-sent, units-sent}

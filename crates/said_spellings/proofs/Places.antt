@@ -1,6 +1,6 @@
 -- Units of the presentation protocol as two ends say them may be written where they are carried.
-use Rattle.std.proofs.Common.{◌≡◌, refl, true, false, arith, ℕ, ◌+◌, ◌^◌, ◌≤◌, ◌<◌, List, [], ◌∷◌, length}
-use Rattle.std.specs.Prelude.{Bool, ◌&&◌, Option, Some, None, nat_lt}
+use Rattle.std.proofs.Common.{◌≡◌, refl, true, false, arith, ℕ, ◌+◌, ◌≤◌, List, [], ◌∷◌, length}
+use Rattle.std.specs.Prelude.{Bool, ◌&&◌, Option, Some, None}
 use Rattle.std.specs.List.{list_all}
 use Rattle.std.proofs.lemmas.Bool.Decides.{nat_tests}
 use Rattle.osi_base.specs.declared.words.Proposal.{Proposal}

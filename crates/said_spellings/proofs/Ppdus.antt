@@ -1,8 +1,8 @@
 -- Units of the presentation protocol as two ends say them: each fits its row, and has so many octets at most.
-use Rattle.std.proofs.Common.{◌≡◌, refl, true, false, sym, ap, subst, arith, ℕ, zero, suc, ◌+◌, ◌*◌, ◌^◌, ◌≤◌, ◌<◌, pos, List, [], ◌∷◌, ◌++◌, map, length}
-use Rattle.std.specs.Prelude.{ℤ, Bool, not, ◌&&◌, Option, Some, None, option_map, int_lt, nat_lt, nat_le, codes, slice_get, if◌then◌else◌}
+use Rattle.std.proofs.Common.{◌≡◌, refl, true, false, sym, subst, arith, ℕ, suc, ◌+◌, ◌^◌, ◌≤◌, ◌<◌, pos, List, [], ◌∷◌, ◌++◌, map, length}
+use Rattle.std.specs.Prelude.{Bool, not, ◌&&◌, Option, Some, None, option_map, int_lt, nat_le, codes}
 use Rattle.std.specs.List.{list_all, flat_map}
-use Rattle.std.proofs.lemmas.Bool.{le-leb, lt-ltb, and_parts}
+use Rattle.std.proofs.lemmas.Bool.{le-leb, lt-ltb}
 use Rattle.std.proofs.lemmas.Int.{ints}
 use Rattle.std.proofs.lemmas.List.{length-append}
 use Rattle.osi_base.specs.Syntax.{name_of}
@@ -11,23 +11,21 @@ use Rattle.osi_base.specs.declared.syntax.Syntax.TheVariants.{Ber, Der, Packed}
 use Rattle.osi_base.specs.declared.bit_string.BitString as strings
 use Rattle.osi_base.specs.declared.words.Proposal.{Proposal}
 use Rattle.osi_base.specs.declared.words.AddAnswer.{AddAnswer}
-use Rattle.osi_base.specs.declared.words.Answers.{Answers}
 use Rattle.osi_base.specs.declared.words.RestoredItem.{RestoredItem}
-use Rattle.osi_base.specs.declared.presentation_word.Pdv.{Pdv}
 use Rattle.osi_base.specs.declared.presentation_word.PdvContent.{PdvContent}
 use Rattle.osi_base.specs.declared.presentation_word.PdvContent.TheVariants as forms
 use Rattle.asn1_types.specs.declared.row.Class.TheVariants.{Universal, Application, Context}
 use Rattle.asn1_types.specs.declared.row.Tag as tags
 use Rattle.asn1_types.specs.Rows.{along}
-use Rattle.asn1_types.specs.Fits.{is_number, is_octet, object_id_fits, integer_fits, octets_fit, bits_fit, parts_fit, values_fit, fits_by, nothing_fits, fits}
+use Rattle.asn1_types.specs.Fits.{is_number, is_octet, object_id_fits, integer_fits, octets_fit, bits_fit, values_fit, fits_by, nothing_fits, fits}
 use Rattle.asn1_types.specs.Rising.{is_short}
-use Rattle.asn1_types.specs.Value.{Value, integer, octets, bits, object_id, parts, list, chosen, any, MaybeValues, no_parts, absent, present, Values, no_values, value}
+use Rattle.asn1_types.specs.Value.{Value, integer, octets, bits, object_id, parts, MaybeValues, no_parts, absent, present}
 use Rattle.asn1_types.specs.ValueView.{parts_of, values_of}
 use Rattle.asn1_types.specs.Whole.{is_whole}
-use Rattle.asn1_types.specs.Writing.{Writer, integer_octets, definite, subidentifiers, base_128, parts_contents, set_parts, values_contents, nothing_written, write_by, writes, written}
+use Rattle.asn1_types.specs.Writing.{Writer, integer_octets, definite, subidentifiers, base_128, set_parts, values_contents, nothing_written, write_by, writes, written}
 use Rattle.fixed_tables.specs.Rows.{part}
 use Rattle.presentation_pdus.specs.Rows.{ppdu_rows, connect_row, accept_row, alter_row, alter_ack_row, restart_row, data_row}
-use Rattle.presentation_pdus.specs.Items.{number_value, bits_value, list_value, some_list, definition_value, answer_value, restored_value, content_value, pdv_value}
+use Rattle.presentation_pdus.specs.Items.{number_value, bits_value, list_value, some_list, definition_value, answer_value, restored_value, pdv_value}
 use Rattle.presentation_pdus.specs.Words.{normal_mode, with_mode}
 use Rattle.said_words.specs.Calls.{IsName, AreNames, AreNamed}
 use Rattle.der_octets.specs.Laws.{AreOctets, LeavesAre, LeavesInParts, LeavesInValues}

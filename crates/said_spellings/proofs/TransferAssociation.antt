@@ -1,11 +1,9 @@
 -- The words that open, recover and end an association of reliable mode may be written.
-use Rattle.std.proofs.Common.{◌≡◌, refl, true, false, sym, ap, subst, arith, ℕ, ◌+◌, ◌^◌, ◌≤◌, ◌<◌, pos, List, [], ◌∷◌, ◌++◌, length}
-use Rattle.std.specs.Prelude.{Bool, ◌&&◌, ◌||◌, Option, Some, None, min, nat_eq, if◌then◌else◌}
+use Rattle.std.proofs.Common.{◌≡◌, refl, true, false, sym, ap, subst, arith, ℕ, ◌≤◌, pos, List, [], ◌∷◌, length}
+use Rattle.std.specs.Prelude.{Bool, ◌&&◌, ◌||◌, Some, None, min, nat_eq, if◌then◌else◌}
 use Rattle.std.specs.List.{list_all}
 use Rattle.osi_base.specs.declared.acse_word.Acse.TheVariants as acse
 use Rattle.osi_base.specs.declared.acse_word.Diagnostic.TheVariants.{User}
-use Rattle.osi_base.specs.declared.rtse_word.ConnectionData.{ConnectionData}
-use Rattle.osi_base.specs.declared.rtse_word.ConnectionData.TheVariants as data_of
 use Rattle.osi_base.specs.declared.rtse_word.Rtse.TheVariants as rtse
 use Rattle.osi_base.specs.declared.words.AddAnswer.{AddAnswer}
 use Rattle.osi_base.specs.declared.presentation_word.PdvContent.TheVariants as forms
@@ -24,7 +22,7 @@ use Rattle.dialogue.specs.declared.config.Config.{Config}
 use Rattle.dialogue.specs.declared.config.Mode.TheVariants.{Reliable}
 use Rattle.end_config.specs.Connecting.{connect_octets}
 use Rattle.end_config.proofs.Connects.{connect_is_of_rules}
-use Rattle.end_rules.specs.Base.{Base, Spellings, acse_name, rtse_name, is_bare}
+use Rattle.end_rules.specs.Base.{Spellings, acse_name, rtse_name, is_bare}
 use Rattle.end_rules.specs.Messages.{OfAssociation, AssociationWord, Connect, Accept, Refuse, Finish, Disconnect, Abort, AbortAccept}
 use Rattle.end_rules.specs.Writing.{acse_context, rtse_context, requirement_bits, proposals, session_connect, presentation_connect, connection_data, proposal_in_ber}
 use Rattle.end_rules.specs.Policy.{opening_policy}
@@ -35,7 +33,6 @@ use Rattle.end_model.specs.Pairs.{Common, base_at}
 use Rattle.end_model.specs.DirectPairs.{ProposesRightly}
 use Rattle.reliable_model.specs.ReliablePairs.{reliable_pair}
 use Rattle.reliable_model.proofs.Fixed.{AreIdentifiers}
-use Rattle.der_octets.specs.Laws.{AreOctets}
 use Rattle.der_octets.proofs.Octets.{der-octets}
 use Rattle.said_words.specs.Fields.{IsContext}
 use Rattle.said_words.specs.Words.{the_connect, the_acceptance, IsOfAssociation}

@@ -22,18 +22,17 @@ use Rattle.stub_tables.specs.declared.tables.Tables.{Tables}
 use Rattle.stub_tables.specs.declared.apdu.Apdu.{Apdu}
 use Rattle.apdu_spelling.specs.Writing.{written_apdu, IsWritable}
 use Rattle.end_rules.specs.Base.{Base, Item}
-use Rattle.end_rules.specs.Messages.{Value, Word, Plea, Part, OfData, OfMarks, OfActivities, DataWord, Values, AlterContext, AlterContextAck, MarkWord, Mark, MarkAck, Restart, RestartAck, Give, Please, GiveConfirm, GiveAck, ActivityWord, Start, Resume, End, EndAck, Interrupt, InterruptAck, Discard, DiscardAck}
+use Rattle.end_rules.specs.Messages.{Value, Plea, Part, OfData, OfMarks, OfActivities, DataWord, Values, AlterContext, AlterContextAck, MarkWord, Mark, MarkAck, Restart, RestartAck, Give, Please, GiveConfirm, GiveAck, ActivityWord, Start, Resume, End, EndAck, Interrupt, InterruptAck, Discard, DiscardAck}
 use Rattle.association_wire.specs.Values.{in_form}
 use Rattle.association_reading.specs.Laws.{IsSendable}
 use Rattle.association_reading.specs.Transfers.{transferred}
-use Rattle.reliable_model.specs.Codecs.{IsTransferable}
-use Rattle.transfer_spelling.specs.Laws.{IsModule, pdv_with}
+use Rattle.transfer_spelling.specs.Laws.{IsModule}
 use Rattle.transfer_spelling.proofs.Transfers.{values-transfers}
 use Rattle.transfer_spelling.proofs.Writable.{transferables-writable}
 use Rattle.der_octets.specs.Laws.{AreOctets}
-use Rattle.der_octets.proofs.Octets.{der-octets, cons-are}
+use Rattle.der_octets.proofs.Octets.{der-octets}
 use Rattle.said_words.specs.Fields.{IsContext}
-use Rattle.said_words.specs.Words.{transfer_value, IsPart, IsPlea, IsPartOrAlteration, IsOfTurn, IsMarkNumber, IsActivityNumber, IsOfActivity}
+use Rattle.said_words.specs.Words.{transfer_value, IsPart, IsPartOrAlteration, IsOfTurn, IsOfActivity}
 use Rattle.said_spellings.proofs.Ppdus.{IsContent}
 use Rattle.said_spellings.proofs.Session.{numeral-are, spelled-are, Sayable, alone, behind}
 use Rattle.said_spellings.proofs.Places.{InPlace, data-in}

@@ -1,6 +1,6 @@
 -- APDUs of reliable transfer, alone and as what association control carries for its user: whole values, octets, and not too many.
-use Rattle.std.proofs.Common.{◌≡◌, refl, true, false, ◌∙◌, sym, ap, subst, arith, ℕ, suc, ◌+◌, ◌^◌, ◌≤◌, ◌<◌, pos, List, [], ◌∷◌, ◌++◌, length}
-use Rattle.std.specs.Prelude.{Bool, ◌&&◌, ◌||◌, ◌==◌, Option, Some, None, codes, nat_lt, nat_le, slice_index, if◌then◌else◌}
+use Rattle.std.proofs.Common.{◌≡◌, refl, true, false, sym, subst, arith, ℕ, ◌+◌, ◌^◌, ◌≤◌, ◌<◌, pos, List, [], ◌∷◌, ◌++◌, length}
+use Rattle.std.specs.Prelude.{Bool, ◌&&◌, ◌||◌, ◌==◌, None, codes, nat_lt, nat_le, slice_index, if◌then◌else◌}
 use Rattle.std.specs.List.{list_all, flat_map}
 use Rattle.std.proofs.lemmas.Bool.{le-leb, lt-ltb}
 use Rattle.std.proofs.lemmas.List.{length-append}
@@ -17,7 +17,7 @@ use Rattle.asn1_types.specs.declared.row.Part.{Part}
 use Rattle.asn1_types.specs.declared.row.Tag as tags
 use Rattle.asn1_types.specs.Rows.{along}
 use Rattle.asn1_types.specs.Fits.{is_octet}
-use Rattle.asn1_types.specs.Value.{Value, integer, octets, object_id, parts, list, chosen, any, MaybeValues, no_parts, absent, present}
+use Rattle.asn1_types.specs.Value.{integer, object_id, list, MaybeValues, no_parts, present}
 use Rattle.asn1_types.specs.ValueView.{values_of}
 use Rattle.asn1_types.specs.Whole.{is_whole}
 use Rattle.asn1_types.specs.Whole as whole
@@ -40,7 +40,6 @@ use Rattle.rtse_apdus.proofs.RtseLaws.{writable_fits}
 use Rattle.der_octets.specs.Laws.{AreOctets, LeavesAre, LeavesInValues}
 use Rattle.der_octets.proofs.Octets.{der-octets}
 use Rattle.transfer_spelling.proofs.Lengths.{integer-length, definite-length}
-use Rattle.said_words.specs.Calls.{IsName}
 use Rattle.said_words.specs.Fields.{IsContext}
 use Rattle.said_spellings.proofs.Sizes.{name-few, set-few}
 
