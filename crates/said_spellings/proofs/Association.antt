@@ -1,5 +1,5 @@
 -- The words that open and end an association, and the units of its connection, may be written.
-use Rattle.std.proofs.Common.{◌≡◌, refl, true, false, ◌∙◌, sym, ap, subst, arith, ℕ, suc, ◌+◌, ◌/◌, ◌%◌, ◌^◌, ◌≤◌, ◌<◌, pos, List, [], ◌∷◌, ◌++◌, length}
+use Rattle.std.proofs.Common.{◌≡◌, refl, true, false, ◌∙◌, sym, ap, subst, arith, ℕ, suc, ◌+◌, ◌/◌, ◌%◌, ◌≤◌, ◌<◌, pos, List, [], ◌∷◌, ◌++◌, length}
 use Rattle.std.specs.Prelude.{Bool, not, ◌&&◌, ◌||◌, Option, Some, None, nat_eq, nat_lt, nat_le, if◌then◌else◌}
 use Rattle.std.specs.List.{list_all, flat_map}
 use Rattle.std.proofs.lemmas.Bool.Decides.{nat_tests}
@@ -8,13 +8,10 @@ use Rattle.std.proofs.lemmas.List.{length-append}
 use Rattle.std.proofs.Math.Nat.{mod-lt}
 use Rattle.osi_base.specs.declared.acse_word.Acse.TheVariants as acse
 use Rattle.osi_base.specs.declared.acse_word.Diagnostic.TheVariants.{User}
-use Rattle.osi_base.specs.declared.bit_string.BitString as strings
 use Rattle.osi_base.specs.declared.words.Proposal.{Proposal}
 use Rattle.osi_base.specs.declared.words.AddAnswer.{AddAnswer}
 use Rattle.osi_base.specs.declared.presentation_word.Pdv.{Pdv}
 use Rattle.osi_base.specs.declared.presentation_word.PdvContent.TheVariants as forms
-use Rattle.osi_base.specs.declared.presentation_word.PresentationConnect.{PresentationConnect}
-use Rattle.osi_base.specs.declared.presentation_word.PresentationAccept.{PresentationAccept}
 use Rattle.osi_base.specs.declared.presentation_word.PresentationWord.{PresentationWord}
 use Rattle.osi_base.specs.declared.presentation_word.PresentationWord.TheVariants as ppdus
 use Rattle.osi_base.specs.declared.session_word.SessionWord.TheVariants as units
@@ -27,32 +24,30 @@ use Rattle.acse.specs.Written.{written_acse}
 use Rattle.presentation_pdus.specs.declared.place.PpduPlace.TheVariants as place
 use Rattle.presentation_pdus.specs.Rows.{ppdu_rows, connect_row}
 use Rattle.presentation_pdus.specs.Words.{value_of, written_ppdu}
-use Rattle.ppdu_laws.specs.Written.{definition_sized, answer_sized, pdv_sized, is_short, is_written_whole, IsWritable}
+use Rattle.ppdu_laws.specs.Written.{definition_sized, answer_sized, is_short}
 use Rattle.spdu_codec.specs.Written.{connect_data}
-use Rattle.tpkt.specs.Wire.{two, packet, header, parameter}
-use Rattle.tpkt.specs.Written.{selector_parameter, parameters_of, connection_fields, control_packet, HasRoom}
+use Rattle.tpkt.specs.Wire.{parameter}
+use Rattle.tpkt.specs.Written.{selector_parameter, connection_fields, control_packet}
 use Rattle.stub_tables.specs.declared.tables.Tables.{Tables}
 use Rattle.dialogue.specs.declared.config.Config.{Config}
-use Rattle.dialogue.specs.declared.config.Mode.TheVariants.{Direct}
+use Rattle.dialogue.specs.declared.config.Mode.{Mode}
 use Rattle.dialogue.specs.declared.config.ConfigRefusal.{ConfigRefusal}
 use Rattle.dialogue.specs.declared.config.ConfigRefusal.TheVariants as refusals
 use Rattle.dialogue.specs.Config as values
 use Rattle.end_config.specs.Refusing.{config_refusal, early_refusal, late_refusal, or_refusal, context_refusal, bad_context, is_too_long, has_connect}
-use Rattle.end_config.specs.Connecting.{connect_octets, connect_of, connect_of_rules}
+use Rattle.end_config.specs.Connecting.{connect_octets}
 use Rattle.end_config.proofs.Connects.{connect_is_of_rules}
 use Rattle.end_rules.specs.Base.{Base, Spellings, acse_name, is_bare}
-use Rattle.end_rules.specs.Sets.{proposed_ids}
-use Rattle.end_rules.specs.Messages.{Word, OfAssociation, AssociationWord, Connect, Accept, Refuse, Finish, Disconnect, Abort, AbortAccept, Message, Transport, Session, TransportUnit, ConnectionRequest, ConnectionConfirm, DisconnectRequest, TransportError}
-use Rattle.end_rules.specs.Writing.{acse_context, requirement_bits, proposals, session_connect, presentation_connect, connect_values, proposal_in_ber}
+use Rattle.end_rules.specs.Messages.{OfAssociation, AssociationWord, Connect, Accept, Refuse, Finish, Disconnect, Abort, AbortAccept, Message, Transport, Session, TransportUnit, ConnectionRequest, ConnectionConfirm, DisconnectRequest, TransportError}
+use Rattle.end_rules.specs.Writing.{acse_context, requirement_bits, proposals, session_connect, presentation_connect, proposal_in_ber}
 use Rattle.end_rules.specs.Policy.{opening_policy}
-use Rattle.association_wire.specs.Values.{pdvs_of}
-use Rattle.association_wire.specs.Written.{request_ends, confirm_ends, written_unit, session_units, tsdu_of}
+use Rattle.association_wire.specs.Written.{request_ends, written_unit}
 use Rattle.association_reading.specs.Laws.{IsSendable}
 use Rattle.association_worlds.specs.Ways.{IsOfTransport}
 use Rattle.agreement.specs.Sets.Role.{Initiator, Responder}
 use Rattle.end_model.specs.Pairs.{Common, base_at}
 use Rattle.end_model.specs.DirectPairs.{direct_pair, ProposesRightly}
-use Rattle.reliable_model.proofs.Fixed.{AreIdentifiers, IsIdentifier}
+use Rattle.reliable_model.proofs.Fixed.{AreIdentifiers}
 use Rattle.der_octets.specs.Laws.{AreOctets}
 use Rattle.der_octets.proofs.Octets.{append-are, cons-are, der-octets}
 use Rattle.said_words.specs.Calls.{AreNamed}
@@ -65,7 +60,7 @@ use Rattle.said_spellings.proofs.Ppdus.{Named, IsContent, IsShortString, accept-
 use Rattle.said_spellings.proofs.Session.{each-octet, AreParameters, parameters-append, alone}
 use Rattle.said_spellings.proofs.Places.{InPlace, data-in, stands-in, results-whole, pdv-whole}
 use Rattle.said_spellings.proofs.Carried.{sendable}
-use Rattle.said_spellings.specs.Laws.{IsEnd}
+use Rattle.said_spellings.specs.Laws.{IsEndIn, IsEnd}
 
 le-so : (m n : ℕ) → nat_le m n ≡ true → m ≤ n
 le-so m n h = grind (arith, nat_tests)
@@ -104,8 +99,8 @@ few-contexts (Some id) count h = cc
 few-contexts None count h = not-more 62 count (no-refusal (nat_lt 62 count) refusals.TooManyContexts None h)
 
 pub record Selected (octets : List ℕ) : Type 0 where
-  low : 1 ≤ length octets
-  high : length octets ≤ 16
+  pub low : 1 ≤ length octets
+  pub high : length octets ≤ 16
 
 selected : (octets : List ℕ) → values.is_bad_selector octets ≡ false → Selected octets
 selected octets h = record { low = low (length octets) (or-left (nat_eq (length octets) 0) (nat_lt 16 (length octets)) h); high = not-more 16 (length octets) (or-right (nat_eq (length octets) 0) (nat_lt 16 (length octets)) h) }
@@ -113,30 +108,70 @@ selected octets h = record { low = low (length octets) (or-left (nat_eq (length 
     low : (n : ℕ) → nat_eq n 0 ≡ false → 1 ≤ n
     low n h = grind (arith, nat_tests)
 
-record Accepted (config : Config) : Type 0 where
-  calling : Selected config.calling
-  called : Selected config.called
-  contexts : length config.contexts ≤ 62
+pub record Accepted (config : Config) : Type 0 where
+  pub calling : Selected config.calling
+  pub called : Selected config.called
+  pub contexts : length config.contexts ≤ 62
+  pub reference : length config.reference ≤ 64
+  pub common : length config.common ≤ 13
+  pub checkpoint : config.checkpoint ≤ 255
+  pub window : config.window ≤ 255
 
-accepted : (config : Config) → config_refusal config ≡ None → Accepted config
+thirteen : (n : ℕ) → not (nat_eq n 13) ≡ false → n ≤ 13
+thirteen n h = go (nat_eq n 13) refl h
+  where
+    same : (n : ℕ) → nat_eq n 13 ≡ true → n ≤ 13
+    same n e = grind (arith, nat_tests)
+
+    go : (p : Bool) → nat_eq n 13 ≡ p → not p ≡ false → n ≤ 13
+    go true e h = same n e
+    go false e h = cc
+
+-- the rows behind one that doesn't hold
+behind-row : (p : Bool) (refusal : ConfigRefusal) (later : Option ConfigRefusal) → (if p then Some refusal else later) ≡ None → later ≡ None
+behind-row true refusal later h = cc
+behind-row false refusal later h = h
+
+pub accepted : (config : Config) → config_refusal config ≡ None → Accepted config
 accepted config h =
     let early = none-first (early_refusal config) (late_refusal config) h in
     let contexts = none-first (context_refusal (bad_context config.mode [] config.contexts) (length config.contexts)) (values.config_refusal config) early in
     let rest = none-second (context_refusal (bad_context config.mode [] config.contexts) (length config.contexts)) (values.config_refusal config) early in
     let selectors = no-refusal (values.is_bad_selector config.calling || values.is_bad_selector config.called) refusals.BadSelector _ rest in
+    let behind = behind-row (values.is_bad_selector config.calling || values.is_bad_selector config.called) refusals.BadSelector _ rest in
+    let references = no-refusal (values.is_bad_reference config.reference config.common) refusals.BadReference _ behind in
+    let last = behind-row (values.is_bad_reference config.reference config.common) refusals.BadReference _ behind in
+    let windows = no-refusal (values.is_bad_window config.checkpoint config.window) refusals.BadWindow None last in
     record {
       calling = selected config.calling (or-left (values.is_bad_selector config.calling) (values.is_bad_selector config.called) selectors);
       called = selected config.called (or-right (values.is_bad_selector config.calling) (values.is_bad_selector config.called) selectors);
       contexts = few-contexts (bad_context config.mode [] config.contexts) (length config.contexts) contexts;
+      reference =
+          not-more 64 (length config.reference)
+          (or-right (nat_eq (length config.reference) 0) (nat_lt 64 (length config.reference)) (or-left (nat_eq (length config.reference) 0 || nat_lt 64 (length config.reference)) (not (nat_eq (length config.common) 13)) references));
+      common = thirteen (length config.common) (or-right (nat_eq (length config.reference) 0 || nat_lt 64 (length config.reference)) (not (nat_eq (length config.common) 13)) references);
+      checkpoint = not-more 255 config.checkpoint (or-left (nat_lt 255 config.checkpoint) (nat_eq config.window 0) (or-left (nat_lt 255 config.checkpoint || nat_eq config.window 0) (nat_lt 255 config.window) windows));
+      window = not-more 255 config.window (or-right (nat_lt 255 config.checkpoint || nat_eq config.window 0) (nat_lt 255 config.window) windows);
     }
 
-short-connect : (config : Config) → config.initiator ≡ true → config.mode ≡ Direct → config_refusal config ≡ None → length (connect_octets config false) ≤ 10240
-short-connect config i m h =
-    let late = none-second (early_refusal config) (late_refusal config) h in
-    let there : has_connect config ≡ true = ap (λ x. x && not (is_bare config.mode)) i ∙ ap (λ x. not (is_bare x)) m in
-    let long = no-refusal (has_connect config && is_too_long config) refusals.TooLong None late in
-    let fine : is_too_long config ≡ false = sym (ap (λ x. x && is_too_long config) there) ∙ long in
-    not-more 10240 (length (connect_octets config false)) (or-left (nat_lt 10240 (length (connect_octets config false))) (nat_lt 10240 (length (connect_octets config true))) fine)
+pub short-connect : (config : Config) (recovers : Bool) → config.initiator ≡ true → is_bare config.mode ≡ false → config_refusal config ≡ None → length (connect_octets config recovers) ≤ 10240
+short-connect config recovers i m h = go recovers
+  where
+    late : late_refusal config ≡ None
+    late = none-second (early_refusal config) (late_refusal config) h
+
+    there : has_connect config ≡ true
+    there = ap (λ x. x && not (is_bare config.mode)) i ∙ ap (λ x. not x) m
+
+    long : (has_connect config && is_too_long config) ≡ false
+    long = no-refusal (has_connect config && is_too_long config) refusals.TooLong None late
+
+    fine : is_too_long config ≡ false
+    fine = sym (ap (λ x. x && is_too_long config) there) ∙ long
+
+    go : (recovers : Bool) → length (connect_octets config recovers) ≤ 10240
+    go false = not-more 10240 (length (connect_octets config false)) (or-left (nat_lt 10240 (length (connect_octets config false))) (nat_lt 10240 (length (connect_octets config true))) fine)
+    go true = not-more 10240 (length (connect_octets config true)) (or-right (nat_lt 10240 (length (connect_octets config false))) (nat_lt 10240 (length (connect_octets config true))) fine)
 
 -- ---- values of association control
 
@@ -190,7 +225,7 @@ pub asking-few : length asking ≤ 100
 unfolding written writes writing.base_128
 asking-few = le-so (length asking) 100 refl
 
-one : IsContext 1
+pub one : IsContext 1
 one = (omega arith, omega arith)
 
 abbrev pub pdv : ℕ → List ℕ → Pdv
@@ -254,21 +289,21 @@ module _ (tables : Tables) where
 pub bits-true : IsShortString (requirement_bits true)
 bits-true = (refl, omega arith, omega arith, refl)
 
-abbrev pub accept_unit : List ℕ → List AddAnswer → ℕ → PresentationWord
-accept_unit called results k =
-    ppdus.Accept (record { version = None; responding = Some called; results = results; requirements = Some (requirement_bits true); session_requirements = None; user = pdv k accepting ∷ [] })
+-- with the octets of an AARE
+abbrev pub accept_unit : List ℕ → List AddAnswer → ℕ → List ℕ → PresentationWord
+accept_unit called results k os =
+    ppdus.Accept (record { version = None; responding = Some called; results = results; requirements = Some (requirement_bits true); session_requirements = None; user = pdv k os ∷ [] })
 
-accept-in : (called : List ℕ) (results : List AddAnswer) (k : ℕ) → IsContext k → AreOctets called → length called ≤ 16 → AreResults results → length results ≤ 64 → InPlace place.Ac (accept_unit called results k) 50000
-accept-in called results k i o short r few =
-    let f = accepting-few in
-    stands-in place.Ac (accept_unit called results k) 50000 (omega arith) refl (both (list_all answer_sized results) (is_short k && true) (results-whole results r) (pdv-whole k (forms.SingleAsn1Type accepting) i))
-    (accept-stands called results (requirement_bits true) k (forms.SingleAsn1Type accepting) o short (answering results r) few bits-true i accepting-is (omega arith))
+pub accept-in : (called : List ℕ) (results : List AddAnswer) (k : ℕ) (os : List ℕ) → IsContext k → AreOctets called → length called ≤ 16 → AreResults results → length results ≤ 64 → IsContent (forms.SingleAsn1Type os) → length os ≤ 1000 → InPlace place.Ac (accept_unit called results k os) 50000
+accept-in called results k os i o short r few c size =
+    stands-in place.Ac (accept_unit called results k os) 50000 (omega arith) refl (both (list_all answer_sized results) (is_short k && true) (results-whole results r) (pdv-whole k (forms.SingleAsn1Type os) i))
+    (accept-stands called results (requirement_bits true) k (forms.SingleAsn1Type os) o short (answering results r) few bits-true i c (omega arith))
 
-each-named : (ps : List Proposal) → AreIdentifiers ps → AreNamed ps → Each Named ps
+pub each-named : (ps : List Proposal) → AreIdentifiers ps → AreNamed ps → Each Named ps
 each-named [] i n = tt
 each-named (p ∷ ps) i n = (record { id = (i.0.low, i.0.high); name = n.0; transfers = n.1 }, each-named ps i.1 n.2)
 
-identified-whole : (ps : List Proposal) → AreIdentifiers ps → list_all definition_sized ps ≡ true
+pub identified-whole : (ps : List Proposal) → AreIdentifiers ps → list_all definition_sized ps ≡ true
 identified-whole [] i = refl
 identified-whole (p ∷ ps) i = both (definition_sized p) (list_all definition_sized ps) (short p.id i.0.high) (identified-whole ps i.1)
   where
@@ -276,40 +311,41 @@ identified-whole (p ∷ ps) i = both (definition_sized p) (list_all definition_s
     short k h = grind (arith, nat_tests)
 
 -- user data of a CN in its one parameter, or in the other
-connect-data_are : (user : List ℕ) → AreOctets user → AreParameters (connect_data user)
+pub connect-data_are : (user : List ℕ) → AreOctets user → AreParameters (connect_data user)
 connect-data_are user o = go (nat_le (length user) 512)
   where
     go : (p : Bool) → AreParameters (if p then (193, user) ∷ [] else (194, user) ∷ [])
     go true = ((omega arith, o), tt)
     go false = ((omega arith, o), tt)
 
+abbrev pub AcceptSent : Tables → Message → Type 0
+AcceptSent tables (Session word) = IsSendable tables word
+AcceptSent tables (Transport unit) = Unit {0}
+
 module _ (tables : Tables) (spellings : Spellings) (a b : Config) (right : ProposesRightly (direct_pair tables spellings a b)) (ids : AreIdentifiers (proposals (base_at Initiator (direct_pair tables spellings a b)))) where
   abbrev common : Common
   common = direct_pair tables spellings a b
 
-  abbrev AcceptSent : Message → Type 0
-  AcceptSent (Session word) = IsSendable tables word
-  AcceptSent (Transport unit) = Unit {0}
-
   abbrev pub results : List AddAnswer
   results = opening_policy (base_at Responder common) (proposals (base_at Initiator common))
 
-  pub acceptance-in : IsEnd a → IsEnd b → InPlace place.Ac (accept_unit b.called results (acse_context (first_of common))) 50000
+  pub acceptance-in : IsEnd a → IsEnd b → InPlace place.Ac (accept_unit b.called results (acse_context (first_of common)) accepting) 50000
   acceptance-in ea eb =
       let ca = accepted a ea.accepted in
       let cb = accepted b eb.accepted in
       let on : IsContext (acse_context (first_of common)) = subst IsContext (sym (first-context tables spellings a b right ids)) one in
       let n = results-few (base_at Responder common) true 0 (proposals (base_at Initiator common)) in
       let c : length a.contexts ≤ 62 = ca.contexts in
-      accept-in b.called results (acse_context (first_of common)) on eb.called cb.called.high (results-so (base_at Responder common) true 0 (proposals (base_at Initiator common))) (omega arith)
+      let f = accepting-few in
+      accept-in b.called results (acse_context (first_of common)) accepting on eb.called cb.called.high (results-so (base_at Responder common) true 0 (proposals (base_at Initiator common))) (omega arith) accepting-is (omega arith)
 
-  accept-sent : IsEnd a → IsEnd b → AcceptSent (the_acceptance (base_at Initiator common) (base_at Responder common))
+  accept-sent : IsEnd a → IsEnd b → AcceptSent tables (the_acceptance (base_at Initiator common) (base_at Responder common) false)
   accept-sent ea eb =
       let k = acse_context (first_of common) in
       let p = acceptance-in ea eb in
-      let few : length (written_ppdu (accept_unit b.called results k)) ≤ 50000 = p.few in
+      let few : length (written_ppdu (accept_unit b.called results k accepting)) ≤ 50000 = p.few in
       sendable tables _
-      (alone (units.Accept (Some 0) (Some 2) (Some 1) _ (written_ppdu (accept_unit b.called results k))) refl
+      (alone (units.Accept (Some 0) (Some 2) (Some 1) _ (written_ppdu (accept_unit b.called results k accepting))) refl
       (record { fields = (omega arith, omega arith); few = omega arith; code = omega arith; parameters = ((omega arith, refl), ((omega arith, refl), ((omega arith, p.octets), tt))); information = refl; within = omega arith }))
 
   abbrev pub connect_unit : PresentationWord
@@ -320,7 +356,7 @@ module _ (tables : Tables) (spellings : Spellings) (a b : Config) (right : Propo
       let ca = accepted a ea.accepted in
       let f = asking-few in
       let same : written_ppdu connect_unit ≡ connect_octets a false = ap (λ c. written_ppdu (ppdus.Connect c)) (connect_is_of_rules (base_at Initiator common) false (sym ea.mode)) in
-      let short = short-connect a i ea.mode ea.accepted in
+      let short = short-connect a false i (ap is_bare ea.mode) ea.accepted in
       let few : length (written_ppdu connect_unit) ≤ 10240 = subst (λ os. length os ≤ 10240) (sym same) short in
       let s = connect-fitting a.calling a.called (proposal_in_ber 1 acse_name) a.contexts (requirement_bits true) 1 (forms.SingleAsn1Type asking) ea.calling ca.calling.high ea.called ca.called.high
       (each-named (proposals (base_at Initiator common)) ids (refl, (refl, tt), ea.contexts)) bits-true one asking-is (omega arith) in
@@ -330,14 +366,14 @@ module _ (tables : Tables) (spellings : Spellings) (a b : Config) (right : Propo
         few = few;
       }
 
-  connect-sent : IsEnd a → a.initiator ≡ true → IsSendable tables (OfAssociation (the_connect (base_at Initiator common)))
+  connect-sent : IsEnd a → a.initiator ≡ true → IsSendable tables (OfAssociation (the_connect (base_at Initiator common) false))
   connect-sent ea i =
       let p = connect-in ea i in
       let ca = accepted a ea.accepted in
       let few : length (written_ppdu connect_unit) ≤ 10240 = p.few in
       let m : length a.calling ≤ 16 = ca.calling.high in
       let n : length a.called ≤ 16 = ca.called.high in
-      sendable tables (OfAssociation (the_connect (base_at Initiator common)))
+      sendable tables (OfAssociation (the_connect (base_at Initiator common) false))
       (alone (units.Connect (record (session_connect (base_at Initiator common)) { user = written_ppdu connect_unit })) refl
       (record {
         fields = ((omega arith, omega arith), few);
@@ -351,8 +387,8 @@ module _ (tables : Tables) (spellings : Spellings) (a b : Config) (right : Propo
   -- ---- all of them
 
   pub association-sent : (word : AssociationWord) → IsEnd a → a.initiator ≡ true → IsEnd b → IsOfAssociation (base_at Initiator common) (base_at Responder common) word → IsSendable tables (OfAssociation word)
-  association-sent (Connect session presentation values) ea i eb h = subst (λ (w : AssociationWord). IsSendable tables (OfAssociation w)) (sym h) (connect-sent ea i)
-  association-sent (Accept session presentation values) ea i eb h = subst AcceptSent (sym h) (accept-sent ea eb)
+  association-sent (Connect session presentation values) ea i eb h = subst (λ (w : AssociationWord). IsSendable tables (OfAssociation w)) (sym h.1) (connect-sent ea i)
+  association-sent (Accept session presentation values) ea i eb h = subst (AcceptSent tables) (sym h.1) (accept-sent ea eb)
   association-sent (Refuse transport reason presentation values) ea i eb h = absurd h
   association-sent (Finish transport values) ea i eb h = subst (λ (w : AssociationWord). IsSendable tables (OfAssociation w)) (sym h) (finish-sent tables)
   association-sent (Disconnect values) ea i eb h = subst (λ (w : AssociationWord). IsSendable tables (OfAssociation w)) (sym h) (disconnect-sent tables)
@@ -396,10 +432,10 @@ request-sent calling called sa sb oa ob =
 pub confirm-sent : IsOfTransport (ConnectionConfirm 1 (Some 10))
 confirm-sent = (omega arith, omega arith, each-octet (written_unit (ConnectionConfirm 1 (Some 10))) refl)
 
-pub units-sent : (a : Config) (base : Base) (unit : TransportUnit) → base.config ≡ a → IsEnd a → IsUnit base unit → IsOfTransport unit
-units-sent a base (ConnectionRequest source size calling called) same e h =
+pub units-sent : (mode : Mode) (a : Config) (base : Base) (unit : TransportUnit) → base.config ≡ a → IsEndIn mode a → IsUnit base unit → IsOfTransport unit
+units-sent mode a base (ConnectionRequest source size calling called) same e h =
     let c = accepted a e.accepted in
     subst IsOfTransport (sym h) (subst (λ (x : Config). IsOfTransport (ConnectionRequest 1 (Some 10) x.calling x.called)) (sym same) (request-sent a.calling a.called c.calling c.called e.calling e.called))
-units-sent a base (ConnectionConfirm destination size) same e h = subst IsOfTransport (sym h) confirm-sent
-units-sent a base (DisconnectRequest destination) same e h = absurd h
-units-sent a base TransportError same e h = absurd h
+units-sent mode a base (ConnectionConfirm destination size) same e h = subst IsOfTransport (sym h) confirm-sent
+units-sent mode a base (DisconnectRequest destination) same e h = absurd h
+units-sent mode a base TransportError same e h = absurd h

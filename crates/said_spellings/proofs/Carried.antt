@@ -1,4 +1,4 @@
--- Whatever two ends of direct mode say may be written.
+-- Words of data and of marks, as two ends of direct mode say them, may be written.
 use Rattle.std.proofs.Common.{◌≡◌, refl, sym, subst, arith, ℕ, ◌+◌, ◌≤◌, List, [], ◌∷◌, length}
 use Rattle.std.specs.Prelude.{Option, Some, None}
 use Rattle.osi_base.specs.declared.words.Proposal.{Proposal}
@@ -36,7 +36,7 @@ sendable tables word w = let few : length (tsdu_of tables word) ≤ 600000 = w.f
 typed : (os : List ℕ) → AreOctets os → length os ≤ 400000 → Sayable (units.TypedData os)
 typed os o few = record { fields = tt; few = omega arith; code = omega arith; parameters = tt; information = o; within = few }
 
-plain : (os : List ℕ) → AreOctets os → length os ≤ 400000 → Sayable (units.Data os)
+pub plain : (os : List ℕ) → AreOctets os → length os ≤ 400000 → Sayable (units.Data os)
 plain os o few = record { fields = tt; few = omega arith; code = omega arith; parameters = tt; information = o; within = few }
 
 resynchronizing : (n : ℕ) (os : List ℕ) → 1 ≤ n → n ≤ 65537 → AreOctets os → length os ≤ 60000 → Sayable (units.Resynchronize n (Some os))
@@ -72,13 +72,13 @@ pleading : Sayable (units.PleaseTokens (Some 4) None)
 pleading = record { fields = tt; few = omega arith; code = omega arith; parameters = ((omega arith, refl), tt); information = refl; within = omega arith }
 
 module _ (tables : Tables) where
-  alter-sent : (add : List Proposal) (delete : List ℕ) → IsAlteration add delete → IsSendable tables (OfData (AlterContext add delete))
+  pub alter-sent : (add : List Proposal) (delete : List ℕ) → IsAlteration add delete → IsSendable tables (OfData (AlterContext add delete))
   alter-sent add delete i =
       let p = alter-in add delete i in
       let few : length (written_ppdu (ppdus.Alter add delete)) ≤ 131600 = p.few in
       sendable tables (OfData (AlterContext add delete)) (alone (units.TypedData (written_ppdu (ppdus.Alter add delete))) refl (typed (written_ppdu (ppdus.Alter add delete)) p.octets (omega arith)))
 
-  ack-sent : (answers : Answers) → AreAnswers answers → IsSendable tables (OfData (AlterContextAck answers))
+  pub ack-sent : (answers : Answers) → AreAnswers answers → IsSendable tables (OfData (AlterContextAck answers))
   ack-sent answers i =
       let p = ack-in answers i in
       let few : length (written_ppdu (ppdus.AlterAck answers)) ≤ 131600 = p.few in
@@ -108,7 +108,7 @@ module _ (tables : Tables) where
   item-in item m w i =
       let content = in_form item.pair.transfer (written_apdu tables item.pair.transfer item.apdu) in
       let few : content_length content ≤ 262144 = content-few tables m item.pair.transfer item.apdu w in
-      let p = data-in place.Dt item.id content refl i (content-is tables m item.id item.pair.transfer item.apdu i w) few in
+      let p = data-in place.Dt item.id content refl i (content-is tables m item.id item.pair.transfer item.apdu i w) (omega arith) in
       let most : length (written_ppdu (item_unit item)) ≤ 22 + content_length content = p.few in
       record { writable = p.writable; octets = p.octets; few = omega arith }
 
@@ -119,7 +119,7 @@ module _ (tables : Tables) where
       let most : length (written_ppdu (item_unit item)) ≤ 262166 = p.few in
       sendable tables (OfData (Values (value_of_item item ∷ []))) (behind (units.Data (written_ppdu (item_unit item))) refl (plain (written_ppdu (item_unit item)) p.octets (omega arith)))
 
-  mark-sent : (number : ℕ) → 1 ≤ number → number ≤ 65536 → IsSendable tables (OfMarks (Mark number))
+  pub mark-sent : (number : ℕ) → 1 ≤ number → number ≤ 65536 → IsSendable tables (OfMarks (Mark number))
   mark-sent number low high = sendable tables (OfMarks (Mark number)) (behind (units.Mark number) refl (marking number low high))
 
   -- ---- words of marks and of data

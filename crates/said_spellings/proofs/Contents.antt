@@ -1,12 +1,11 @@
 -- An APDU of the module as a value of the presentation protocol: in the basic encoding a whole value, and octets in each syntax.
-use Rattle.std.proofs.Common.{◌≡◌, refl, true, false, subst, arith, ℕ, ◌≤◌, ◌<◌, ◌^◌, List, [], ◌∷◌, ◌++◌, length}
-use Rattle.std.specs.Prelude.{ℤ, Bool, ◌&&◌, Option, Some, None, option_map, nat_le}
+use Rattle.std.proofs.Common.{◌≡◌, refl, true, arith, ℕ, ◌≤◌, ◌<◌, ◌^◌, List, length}
+use Rattle.std.specs.Prelude.{ℤ, ◌&&◌, Option, Some, None, option_map, nat_le}
 use Rattle.std.specs.List.{list_all}
 use Rattle.std.proofs.lemmas.Bool.{and_parts}
 use Rattle.osi_base.specs.declared.syntax.Syntax.{Syntax}
 use Rattle.osi_base.specs.declared.syntax.Syntax.TheVariants.{Ber, Der, Packed}
 use Rattle.osi_base.specs.declared.words.Problem.{Problem}
-use Rattle.osi_base.specs.declared.words.ProblemKind.{ProblemKind}
 use Rattle.asn1_types.specs.declared.row.TypeId.{TypeId}
 use Rattle.asn1_types.specs.declared.value.Val.{Val}
 use Rattle.asn1_types.specs.Fits.{is_octet, fits}
@@ -20,12 +19,11 @@ use Rattle.stub_tables.specs.declared.operation.Code.TheVariants.{Local, Global}
 use Rattle.stub_tables.specs.declared.operation.Use.{Use}
 use Rattle.stub_tables.specs.declared.apdu.Apdu.{Apdu}
 use Rattle.stub_tables.specs.declared.apdu.Apdu.TheVariants as apdus
-use Rattle.stub_tables.specs.declared.apdu.Returned.{Returned}
 use Rattle.stub_tables.specs.Apdus.{argument_of, result_of, parameter_of, operation_coded, error_coded}
 use Rattle.apdu_spelling.specs.Heads as heads
 use Rattle.apdu_spelling.specs.Rows.{head_rows, apdu_row}
-use Rattle.apdu_spelling.specs.Values.{code_value, any_part, returned_part, rejected_value, problem_value, reject_value, ber_value}
-use Rattle.apdu_spelling.specs.Writing.{written_apdu, written_head, written_typed, written_carried, head_of, is_typed, may_carry, IsWritable}
+use Rattle.apdu_spelling.specs.Values.{code_value, any_part, rejected_value, ber_value}
+use Rattle.apdu_spelling.specs.Writing.{written_apdu, written_typed, written_carried, head_of, is_typed, may_carry, IsWritable}
 use Rattle.der_octets.specs.Laws.{AreOctets, LeavesAre, LeavesInParts}
 use Rattle.der_octets.proofs.Octets.{der-octets}
 use Rattle.der_octets.proofs.Fitting.{fitting-leaves}

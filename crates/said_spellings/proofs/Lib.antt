@@ -5,4 +5,7 @@ pub mod Contents
 pub mod Places
 pub mod Carried
 pub mod Association
+pub mod Transfers
+pub mod TransferWords
+pub mod TransferAssociation
 pub mod Messages

@@ -1,6 +1,6 @@
 -- Units of the presentation protocol as two ends say them may be written where they are carried.
-use Rattle.std.proofs.Common.{◌≡◌, refl, true, false, arith, ℕ, ◌+◌, ◌^◌, ◌≤◌, ◌<◌, List, [], ◌∷◌, length}
-use Rattle.std.specs.Prelude.{Bool, ◌&&◌, Option, Some, None, nat_lt}
+use Rattle.std.proofs.Common.{◌≡◌, refl, true, false, arith, ℕ, ◌+◌, ◌≤◌, List, [], ◌∷◌, length}
+use Rattle.std.specs.Prelude.{Bool, ◌&&◌, Option, Some, None}
 use Rattle.std.specs.List.{list_all}
 use Rattle.std.proofs.lemmas.Bool.Decides.{nat_tests}
 use Rattle.osi_base.specs.declared.words.Proposal.{Proposal}
@@ -97,7 +97,7 @@ restart_ack-in items i few =
     stands-in place.Ra (unit.ResynchronizeAck (Some items)) 16500 (omega arith) refl (restored-whole items i) (restart-stands items (restoring items i) few)
 
 -- user data of one value
-pub data-in : (carrier : PpduPlace) (id : ℕ) (content : PdvContent) → carries carrier (unit.Data (record { transfer = None; id = id; content = content } ∷ [])) ≡ true → IsContext id → IsContent content → content_length content ≤ 262144 →
+pub data-in : (carrier : PpduPlace) (id : ℕ) (content : PdvContent) → carries carrier (unit.Data (record { transfer = None; id = id; content = content } ∷ [])) ≡ true → IsContext id → IsContent content → content_length content ≤ 300000 →
     InPlace carrier (unit.Data (record { transfer = None; id = id; content = content } ∷ [])) (22 + content_length content)
 data-in carrier id content c i is few =
     stands-in carrier (unit.Data (record { transfer = None; id = id; content = content } ∷ [])) (22 + content_length content) (omega arith) c (pdv-whole id content i) (data-stands id content i is few)

@@ -1,8 +1,8 @@
 -- Units of the presentation protocol as two ends say them: each fits its row, and has so many octets at most.
-use Rattle.std.proofs.Common.{◌≡◌, refl, true, false, sym, ap, subst, arith, ℕ, zero, suc, ◌+◌, ◌*◌, ◌^◌, ◌≤◌, ◌<◌, pos, List, [], ◌∷◌, ◌++◌, map, length}
-use Rattle.std.specs.Prelude.{ℤ, Bool, not, ◌&&◌, Option, Some, None, option_map, int_lt, nat_lt, nat_le, codes, slice_get, if◌then◌else◌}
+use Rattle.std.proofs.Common.{◌≡◌, refl, true, false, sym, subst, arith, ℕ, suc, ◌+◌, ◌^◌, ◌≤◌, ◌<◌, pos, List, [], ◌∷◌, ◌++◌, map, length}
+use Rattle.std.specs.Prelude.{Bool, not, ◌&&◌, Option, Some, None, option_map, int_lt, nat_le, codes}
 use Rattle.std.specs.List.{list_all, flat_map}
-use Rattle.std.proofs.lemmas.Bool.{le-leb, lt-ltb, and_parts}
+use Rattle.std.proofs.lemmas.Bool.{le-leb, lt-ltb}
 use Rattle.std.proofs.lemmas.Int.{ints}
 use Rattle.std.proofs.lemmas.List.{length-append}
 use Rattle.osi_base.specs.Syntax.{name_of}
@@ -11,23 +11,21 @@ use Rattle.osi_base.specs.declared.syntax.Syntax.TheVariants.{Ber, Der, Packed}
 use Rattle.osi_base.specs.declared.bit_string.BitString as strings
 use Rattle.osi_base.specs.declared.words.Proposal.{Proposal}
 use Rattle.osi_base.specs.declared.words.AddAnswer.{AddAnswer}
-use Rattle.osi_base.specs.declared.words.Answers.{Answers}
 use Rattle.osi_base.specs.declared.words.RestoredItem.{RestoredItem}
-use Rattle.osi_base.specs.declared.presentation_word.Pdv.{Pdv}
 use Rattle.osi_base.specs.declared.presentation_word.PdvContent.{PdvContent}
 use Rattle.osi_base.specs.declared.presentation_word.PdvContent.TheVariants as forms
 use Rattle.asn1_types.specs.declared.row.Class.TheVariants.{Universal, Application, Context}
 use Rattle.asn1_types.specs.declared.row.Tag as tags
 use Rattle.asn1_types.specs.Rows.{along}
-use Rattle.asn1_types.specs.Fits.{is_number, is_octet, object_id_fits, integer_fits, octets_fit, bits_fit, parts_fit, values_fit, fits_by, nothing_fits, fits}
+use Rattle.asn1_types.specs.Fits.{is_number, is_octet, object_id_fits, integer_fits, octets_fit, bits_fit, values_fit, fits_by, nothing_fits, fits}
 use Rattle.asn1_types.specs.Rising.{is_short}
-use Rattle.asn1_types.specs.Value.{Value, integer, octets, bits, object_id, parts, list, chosen, any, MaybeValues, no_parts, absent, present, Values, no_values, value}
+use Rattle.asn1_types.specs.Value.{Value, integer, octets, bits, object_id, parts, MaybeValues, no_parts, absent, present}
 use Rattle.asn1_types.specs.ValueView.{parts_of, values_of}
 use Rattle.asn1_types.specs.Whole.{is_whole}
-use Rattle.asn1_types.specs.Writing.{Writer, integer_octets, definite, subidentifiers, base_128, parts_contents, set_parts, values_contents, nothing_written, write_by, writes, written}
+use Rattle.asn1_types.specs.Writing.{Writer, integer_octets, definite, subidentifiers, base_128, set_parts, values_contents, nothing_written, write_by, writes, written}
 use Rattle.fixed_tables.specs.Rows.{part}
 use Rattle.presentation_pdus.specs.Rows.{ppdu_rows, connect_row, accept_row, alter_row, alter_ack_row, restart_row, data_row}
-use Rattle.presentation_pdus.specs.Items.{number_value, bits_value, list_value, some_list, definition_value, answer_value, restored_value, content_value, pdv_value}
+use Rattle.presentation_pdus.specs.Items.{number_value, bits_value, list_value, some_list, definition_value, answer_value, restored_value, pdv_value}
 use Rattle.presentation_pdus.specs.Words.{normal_mode, with_mode}
 use Rattle.said_words.specs.Calls.{IsName, AreNames, AreNamed}
 use Rattle.der_octets.specs.Laws.{AreOctets, LeavesAre, LeavesInParts, LeavesInValues}
@@ -420,17 +418,17 @@ content_length (forms.OctetAligned os) = length os
 content_length (forms.Arbitrary string) = 0
 
 module _ (k : ℕ) where
-  pdv-fits : (id : ℕ) (content : PdvContent) → IsContext id → IsContent content → content_length content ≤ 262144 → Fit (suc (suc (suc (suc (suc k))))) 14 (pdv_value (record { transfer = None; id = id; content = content })) ≡ true
+  pdv-fits : (id : ℕ) (content : PdvContent) → IsContext id → IsContent content → content_length content ≤ 300000 → Fit (suc (suc (suc (suc (suc k))))) 14 (pdv_value (record { transfer = None; id = id; content = content })) ≡ true
   pdv-fits id (forms.SingleAsn1Type os) i c few = both (Fit (suc (suc (suc (suc k)))) 0 (number_value id)) _ (id-fits (suc (suc (suc k))) id i) (both (is_whole os) true c.0 refl)
   pdv-fits id (forms.OctetAligned os) i c few =
       both (Fit (suc (suc (suc (suc k)))) 0 (number_value id)) _ (id-fits (suc (suc (suc k))) id i)
       (both (list_all is_octet os && nat_le (length os) 4294967295) true (both (list_all is_octet os) (nat_le (length os) 4294967295) c (le-leb (length os) 4294967295 (omega arith))) refl)
   pdv-fits id (forms.Arbitrary string) i c few = absurd c
 
-  pdv-around : (x y : List ℕ) (m : ℕ) → m ≤ 262144 → length x ≤ 7 → length y ≤ 5 + m → length (definite true (record { class = Universal; number = 16 }) (x ++ (y ++ []))) ≤ 17 + m
+  pdv-around : (x y : List ℕ) (m : ℕ) → m ≤ 300000 → length x ≤ 7 → length y ≤ 5 + m → length (definite true (record { class = Universal; number = 16 }) (x ++ (y ++ []))) ≤ 17 + m
   pdv-around x y m few a b = let c = around (record { class = Universal; number = 16 }) (x ++ (y ++ [])) (12 + m) (omega arith) (omega arith) (let d = two-parts x y 7 (5 + m) a b in omega arith) in omega arith
 
-  pdv-few : (id : ℕ) (content : PdvContent) → IsContext id → IsContent content → content_length content ≤ 262144
+  pdv-few : (id : ℕ) (content : PdvContent) → IsContext id → IsContent content → content_length content ≤ 300000
       → length (Out (suc (suc (suc (suc (suc k))))) 14 None (pdv_value (record { transfer = None; id = id; content = content }))) ≤ 17 + content_length content
   pdv-few id (forms.SingleAsn1Type os) i c few =
       let y = around (context 0) os (length os) (omega arith) (omega arith) (omega arith) in
@@ -445,11 +443,11 @@ module _ (k : ℕ) where
   pdv-any id (forms.OctetAligned os) c = (tt, (c, tt))
   pdv-any id (forms.Arbitrary string) c = absurd c
 
-  user-fits : (id : ℕ) (content : PdvContent) → IsContext id → IsContent content → content_length content ≤ 262144
+  user-fits : (id : ℕ) (content : PdvContent) → IsContext id → IsContent content → content_length content ≤ 300000
       → Fit (suc (suc (suc (suc (suc (suc (suc k))))))) data_row (list_value pdv_value (record { transfer = None; id = id; content = content } ∷ [])) ≡ true
   user-fits id content i c few = both (Fit (suc (suc (suc (suc (suc k))))) 14 (pdv_value (record { transfer = None; id = id; content = content }))) true (pdv-fits id content i c few) refl
 
-  user-few : (id : ℕ) (content : PdvContent) → IsContext id → IsContent content → content_length content ≤ 262144
+  user-few : (id : ℕ) (content : PdvContent) → IsContext id → IsContent content → content_length content ≤ 300000
       → length (Out (suc (suc (suc (suc (suc (suc (suc k))))))) data_row None (list_value pdv_value (record { transfer = None; id = id; content = content } ∷ []))) ≤ 22 + content_length content
   user-few id content i c few =
       let p : List ℕ = Out (suc (suc (suc (suc (suc k))))) 14 None (pdv_value (record { transfer = None; id = id; content = content })) in
@@ -457,7 +455,7 @@ module _ (k : ℕ) where
       let b = around (record { class = Application; number = 1 }) (p ++ []) (17 + content_length content) (omega arith) (omega arith) (one-part p (17 + content_length content) a) in
       omega arith
 
-pub data-stands : (id : ℕ) (content : PdvContent) → IsContext id → IsContent content → content_length content ≤ 262144
+pub data-stands : (id : ℕ) (content : PdvContent) → IsContext id → IsContent content → content_length content ≤ 300000
     → Stands data_row (list_value pdv_value (record { transfer = None; id = id; content = content } ∷ [])) (22 + content_length content)
 unfolding fits written writes
 data-stands id content i c few = record { fitting = user-fits 57 id content i c few; few = user-few 57 id content i c few; leaves = (pdv-any 57 id content c, tt) }
@@ -547,9 +545,9 @@ module _ (k : ℕ) (called : List ℕ) (string : strings.BitString) (id : ℕ) (
       (both (Fit J 36 (list_value definition_value (p ∷ ps))) _ (definitions-fit (suc (suc k)) (p ∷ ps) h)
       (both (bits_fit (bits_value string)) _ str.0 (both (Fit J 16 (list_value pdv_value (record { transfer = None; id = id; content = content } ∷ []))) true user-fit refl))))
 
-  -- CP with its own context and at most one more
-  connect-fields_few : (calling : List ℕ) → length calling ≤ 16 → (p : Proposal) (ps : List Proposal) → Each Defined (p ∷ ps) → length (p ∷ ps) ≤ 2
-      → length (Out (suc (suc J)) 43 None (parts (parts_of (None ∷ Some (octets calling) ∷ Some (octets called) ∷ some_list definition_value (p ∷ ps) ∷ Some (bits_value string) ∷ None ∷ Some (list_value pdv_value (record { transfer = None; id = id; content = content } ∷ [])) ∷ [])))) ≤ 4200 + content_length content
+  -- CP with three contexts at most
+  connect-fields_few : (calling : List ℕ) → length calling ≤ 16 → (p : Proposal) (ps : List Proposal) → Each Defined (p ∷ ps) → length (p ∷ ps) ≤ 3
+      → length (Out (suc (suc J)) 43 None (parts (parts_of (None ∷ Some (octets calling) ∷ Some (octets called) ∷ some_list definition_value (p ∷ ps) ∷ Some (bits_value string) ∷ None ∷ Some (list_value pdv_value (record { transfer = None; id = id; content = content } ∷ [])) ∷ [])))) ≤ 6250 + content_length content
   connect-fields_few calling cs p ps h n =
       let q : List ℕ = definite false (context 1) calling in
       let o : List ℕ = definite false (context 2) called in
@@ -557,13 +555,13 @@ module _ (k : ℕ) (called : List ℕ) (string : strings.BitString) (id : ℕ) (
       let x : length q ≤ 21 = let d = definite-length false (context 1) calling (omega arith) (omega arith) in omega arith in
       let a : length o ≤ 21 = let d = definite-length false (context 2) called (omega arith) (omega arith) in omega arith in
       let l = list-few (Out (suc (suc (suc (suc (suc k))))) 18) definition_value Defined 2048 (definition-few (suc (suc k))) (p ∷ ps) h in
-      let u = times-up 2048 (length (p ∷ ps)) 2 n in
-      let t : times 2048 2 ≡ 4096 = refl in
-      let f : length r ≤ 4101 = let d = definite-length true (context 4) (values_contents (Out (suc (suc (suc (suc (suc k))))) 18) (values_of (map definition_value (p ∷ ps)))) (omega arith) (omega arith) in omega arith in
-      let g = more-parts r (Out J 39 None (bits_value string) ++ (Out J 16 None (list_value pdv_value (record { transfer = None; id = id; content = content } ∷ [])) ++ [])) 4101 (29 + content_length content) f behind-few in
-      let b = more-parts o (r ++ (Out J 39 None (bits_value string) ++ (Out J 16 None (list_value pdv_value (record { transfer = None; id = id; content = content } ∷ [])) ++ []))) 21 (4130 + content_length content) a (omega (arith, g)) in
-      let m = more-parts q (o ++ (r ++ (Out J 39 None (bits_value string) ++ (Out J 16 None (list_value pdv_value (record { transfer = None; id = id; content = content } ∷ [])) ++ [])))) 21 (4151 + content_length content) x (omega (arith, b)) in
-      let e = around (context 2) (q ++ (o ++ (r ++ (Out J 39 None (bits_value string) ++ (Out J 16 None (list_value pdv_value (record { transfer = None; id = id; content = content } ∷ [])) ++ []))))) (4172 + content_length content) (omega arith) (omega arith) (omega (arith, m)) in
+      let u = times-up 2048 (length (p ∷ ps)) 3 n in
+      let t : times 2048 3 ≡ 6144 = refl in
+      let f : length r ≤ 6149 = let d = definite-length true (context 4) (values_contents (Out (suc (suc (suc (suc (suc k))))) 18) (values_of (map definition_value (p ∷ ps)))) (omega arith) (omega arith) in omega arith in
+      let g = more-parts r (Out J 39 None (bits_value string) ++ (Out J 16 None (list_value pdv_value (record { transfer = None; id = id; content = content } ∷ [])) ++ [])) 6149 (29 + content_length content) f behind-few in
+      let b = more-parts o (r ++ (Out J 39 None (bits_value string) ++ (Out J 16 None (list_value pdv_value (record { transfer = None; id = id; content = content } ∷ [])) ++ []))) 21 (6178 + content_length content) a (omega (arith, g)) in
+      let m = more-parts q (o ++ (r ++ (Out J 39 None (bits_value string) ++ (Out J 16 None (list_value pdv_value (record { transfer = None; id = id; content = content } ∷ [])) ++ [])))) 21 (6199 + content_length content) x (omega (arith, b)) in
+      let e = around (context 2) (q ++ (o ++ (r ++ (Out J 39 None (bits_value string) ++ (Out J 16 None (list_value pdv_value (record { transfer = None; id = id; content = content } ∷ [])) ++ []))))) (6220 + content_length content) (omega arith) (omega arith) (omega (arith, m)) in
       omega (arith, e)
 
   connect-any : (calling : List ℕ) → AreOctets calling → (p : Proposal) (ps : List Proposal) → Each Named (p ∷ ps)
@@ -608,17 +606,17 @@ connect-fitting calling called p ps string id content co cs octs short h str i c
     }
 
 pub connect-few : (calling called : List ℕ) (p : Proposal) (ps : List Proposal) (string : strings.BitString) (id : ℕ) (content : PdvContent) → length calling ≤ 16 → AreOctets called → length called ≤ 16
-    → Each Defined (p ∷ ps) → length (p ∷ ps) ≤ 2 → IsShortString string → IsContext id → IsContent content → content_length content ≤ 30000
-    → length (written ppdu_rows connect_row (with_mode (parts (parts_of (None ∷ Some (octets calling) ∷ Some (octets called) ∷ some_list definition_value (p ∷ ps) ∷ Some (bits_value string) ∷ None ∷ Some (list_value pdv_value (record { transfer = None; id = id; content = content } ∷ [])) ∷ []))))) ≤ 4300 + content_length content
+    → Each Defined (p ∷ ps) → length (p ∷ ps) ≤ 3 → IsShortString string → IsContext id → IsContent content → content_length content ≤ 30000
+    → length (written ppdu_rows connect_row (with_mode (parts (parts_of (None ∷ Some (octets calling) ∷ Some (octets called) ∷ some_list definition_value (p ∷ ps) ∷ Some (bits_value string) ∷ None ∷ Some (list_value pdv_value (record { transfer = None; id = id; content = content } ∷ [])) ∷ []))))) ≤ 6350 + content_length content
 unfolding written writes
 connect-few calling called p ps string id content cs octs short h n str i c few =
     let fields : Value = parts (parts_of (None ∷ Some (octets calling) ∷ Some (octets called) ∷ some_list definition_value (p ∷ ps) ∷ Some (bits_value string) ∷ None ∷ Some (list_value pdv_value (record { transfer = None; id = id; content = content } ∷ [])) ∷ [])) in
     let x : List ℕ = Out 63 31 None normal_mode in
     let y : List ℕ = Out 63 43 None fields in
     let a : length x ≤ 12 = mode-few 54 called string id content octs short str i c few in
-    let b : length y ≤ 4200 + content_length content = connect-fields_few 54 called string id content octs short str i c few calling cs p ps h n in
+    let b : length y ≤ 6250 + content_length content = connect-fields_few 54 called string id content octs short str i c few calling cs p ps h n in
     let m : List ℕ = set_parts (Out 63) (part (codes "mode") 31 false ∷ part (codes "fields") 43 false ∷ []) (present normal_mode (present fields no_parts)) in
     let d : length m ≤ length (x ++ (y ++ [])) = set-few (Out 63) (part (codes "mode") 31 false ∷ part (codes "fields") 43 false ∷ []) (present normal_mode (present fields no_parts)) in
-    let e = two-parts x y 12 (4200 + content_length content) a b in
-    let f = around (record { class = Universal; number = 17 }) m (4212 + content_length content) (omega arith) (omega arith) (omega (arith, d, e)) in
+    let e = two-parts x y 12 (6250 + content_length content) a b in
+    let f = around (record { class = Universal; number = 17 }) m (6262 + content_length content) (omega arith) (omega arith) (omega (arith, d, e)) in
     omega (arith, f)

@@ -1,22 +1,20 @@
 -- Units of the session that may be written: their octets, and how many.
-use Rattle.std.proofs.Common.{◌≡◌, refl, true, false, sym, ap, subst, ◌∙◌, arith, ℕ, zero, suc, ◌+◌, ◌/◌, ◌%◌, ◌≤◌, ◌<◌, List, [], ◌∷◌, ◌++◌, map, length}
-use Rattle.std.specs.Prelude.{Bool, ◌&&◌, ◌==◌, Option, Some, None, IfSome, slice_index, nat_lt, nat_le, if◌then◌else◌}
+use Rattle.std.proofs.Common.{◌≡◌, refl, true, false, arith, ℕ, zero, suc, ◌+◌, ◌/◌, ◌%◌, ◌≤◌, ◌<◌, List, [], ◌∷◌, ◌++◌, map, length}
+use Rattle.std.specs.Prelude.{Bool, None, nat_lt, if◌then◌else◌}
 use Rattle.std.specs.List.{list_all}
-use Rattle.std.specs.Option.{option_map}
 use Rattle.std.specs.Int.Digits.{digits_of, AllBelowBase}
 use Rattle.std.proofs.lemmas.Int.Digits.{all_below_base_digits_of}
 use Rattle.std.proofs.Math.Nat.{mod-lt}
 use Rattle.std.proofs.lemmas.Bool.{and_parts}
 use Rattle.std.proofs.lemmas.Bool.Decides.{nat_tests}
 use Rattle.std.proofs.lemmas.List.{length-append}
-use Rattle.osi_base.specs.declared.session_word.SessionConnect.{SessionConnect}
 use Rattle.osi_base.specs.declared.session_word.SessionWord.{SessionWord}
 use Rattle.osi_base.specs.declared.session_word.SessionWord.TheVariants as units
 use Rattle.asn1_types.specs.Fits.{is_octet}
 use Rattle.der_octets.specs.Laws.{AreOctets}
 use Rattle.der_octets.proofs.Octets.{append-are, cons-are}
 use Rattle.tpkt.specs.Stream.{IsOctets}
-use Rattle.spdu_codec.specs.Written.{written_length, coded, spelled, optional, group, octet, pair, numeral, connect_data, connection_parameters, parameters_written, code_written, information_written, unit_written, units_written, IsNumber, AreFields, Fits, stands_alone, stands_second, AreWritable, octets_in}
+use Rattle.spdu_codec.specs.Written.{written_length, coded, spelled, numeral, parameters_written, code_written, information_written, unit_written, units_written, AreFields, Fits, stands_alone, stands_second, AreWritable, octets_in}
 use Rattle.spdu_codec.proofs.SizeLaws.{word_size}
 
 -- ---- octets
@@ -50,7 +48,7 @@ length-are n = go (nat_lt n 255) refl
 coded-are : (code : ℕ) (value : List ℕ) → code < 256 → AreOctets value → AreOctets (coded code value)
 coded-are code value low h = cons-are code (written_length (length value) ++ value) low (append-are (written_length (length value)) value (length-are (length value)) h)
 
-spelled-are : (ps : List (ℕ × List ℕ)) → AreParameters ps → AreOctets (spelled ps)
+pub spelled-are : (ps : List (ℕ × List ℕ)) → AreParameters ps → AreOctets (spelled ps)
 spelled-are [] h = refl
 spelled-are (p ∷ ps) h = append-are (coded p.0 p.1) (spelled ps) (coded-are p.0 p.1 h.0.0 h.0.1) (spelled-are ps h.1)
 

@@ -1,6 +1,6 @@
 -- How long names, numbers and lists of the presentation protocol are at most.
-use Rattle.std.proofs.Common.{◌≡◌, refl, true, false, sym, ap, subst, arith, ℕ, zero, suc, ◌+◌, ◌*◌, ◌/◌, ◌%◌, ◌^◌, ◌≤◌, ◌<◌, pos, List, [], ◌∷◌, ◌++◌, map, length}
-use Rattle.std.specs.Prelude.{Bool, not, ◌&&◌, Option, Some, None, nat_eq, nat_lt, nat_le, slice_get, if◌then◌else◌}
+use Rattle.std.proofs.Common.{◌≡◌, refl, true, false, sym, subst, arith, ℕ, zero, suc, ◌+◌, ◌*◌, ◌/◌, ◌%◌, ◌^◌, ◌≤◌, ◌<◌, List, [], ◌∷◌, map, length}
+use Rattle.std.specs.Prelude.{Bool, None, nat_eq, nat_le, if◌then◌else◌}
 use Rattle.std.specs.List.{list_all, flat_map}
 use Rattle.std.proofs.lemmas.Bool.{and_parts}
 use Rattle.std.proofs.lemmas.Bool.Decides.{nat_tests}
@@ -8,11 +8,11 @@ use Rattle.std.proofs.lemmas.List.{length-append}
 use Rattle.osi_base.specs.Oid.{is_oid, starts_well}
 use Rattle.asn1_types.specs.declared.row.Part.{Part}
 use Rattle.asn1_types.specs.declared.row.Tag as tags
-use Rattle.asn1_types.specs.Fits.{has_32_bits, object_id_fits}
+use Rattle.asn1_types.specs.Fits.{has_32_bits}
 use Rattle.asn1_types.specs.Tags.{ranks, front_rank}
-use Rattle.asn1_types.specs.Value.{Value, object_id, MaybeValues, no_parts, absent, present, Values, no_values, value}
+use Rattle.asn1_types.specs.Value.{Value, MaybeValues, no_parts, absent, present}
 use Rattle.asn1_types.specs.ValueView.{values_of}
-use Rattle.asn1_types.specs.Writing.{Writer, high_digits, base_128, subidentifiers, definite, part_contents, parts_contents, of_rank, risen_parts, set_parts, values_contents}
+use Rattle.asn1_types.specs.Writing.{Writer, high_digits, base_128, subidentifiers, definite, parts_contents, of_rank, risen_parts, set_parts, values_contents}
 use Rattle.said_words.specs.Calls.{IsName}
 use Rattle.transfer_spelling.proofs.Lengths.{definite-length}
 

@@ -1,4 +1,4 @@
-//! Whatever two ends of direct mode say may be written.
+//! Whatever two ends of direct mode or of reliable mode say may be written.
 #![tactic(auto)]
 
 mod laws;

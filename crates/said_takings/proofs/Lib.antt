@@ -1,2 +1,3 @@
 pub mod Loose
 pub mod Takings
+pub mod Transfers

@@ -9,7 +9,6 @@ use Rattle.osi_base.specs.declared.words.AddAnswer.{AddAnswer}
 use Rattle.osi_base.specs.declared.words.Answers.{Answers}
 use Rattle.osi_base.specs.declared.words.Problem.{Problem}
 use Rattle.stub_tables.specs.declared.operation.Code.{Code}
-use Rattle.stub_tables.specs.declared.operation.Operation.{Operation}
 use Rattle.stub_tables.specs.declared.apdu.Apdu.{Apdu}
 use Rattle.stub_tables.specs.declared.apdu.Apdu.TheVariants as apdus
 use Rattle.stub_tables.specs.Lookup.{operation_at, operation_with, error_with}
@@ -22,7 +21,7 @@ use Rattle.end_rules.specs.Altering.{additions_refusal, deletions_refusal, or_el
 use Rattle.end_rules.specs.Sets.{Alteration, Saved, carrier, may_send, lowest_with, has_abstract, is_among, named_ids, proposed_ids, pair_of, is_fixed, put, without_context, put_accepted, pair_accepted, with_added, with_deleted, altered, below, newest}
 use Rattle.end_rules.specs.State.{Body, Calls, OpenCall, opened_with, close, is_free, is_current, is_ending}
 use Rattle.end_rules.specs.Policy.{policy, is_faulty_proposal}
-use Rattle.end_rules.specs.Hearing.{Heard, told, rejected, unless_problem, invoked, invoke_problem, opening, hear, hear_result_of, result_problem, hear_error_of, error_problem, error_told, hear_reject, is_of_invocation, head_of_apdu, value_in, carried_in, code_returned, value_returned}
+use Rattle.end_rules.specs.Hearing.{Heard, told, unless_problem, invoked, invoke_problem, hear, hear_result_of, result_problem, hear_error_of, error_problem, error_told, hear_reject, is_of_invocation, head_of_apdu, carried_in, code_returned, value_returned}
 use Rattle.agreement.specs.Sets.{IsRising}
 use Rattle.agreement.proofs.Order.{rising-put, rising-remove}
 use Rattle.end_model.specs.Seen.{pair_seen, set_seen}

@@ -3,7 +3,6 @@ use Rattle.std.proofs.Common.{◌≡◌, refl, true, false, ◌∙◌, sym, ap, 
 use Rattle.std.specs.Prelude.{ℤ, Bool, not, ◌&&◌, ◌||◌, Option, Some, None, Ok, is_some, nat_eq, nat_le, if◌then◌else◌}
 use Rattle.osi_base.specs.declared.syntax.Pair.{Pair}
 use Rattle.osi_base.specs.declared.words.SetItem.{SetItem}
-use Rattle.osi_base.specs.declared.words.Proposal.{Proposal}
 use Rattle.osi_base.specs.declared.words.Answers.{Answers}
 use Rattle.asn1_types.specs.declared.value.Val.{Val}
 use Rattle.stub_tables.specs.declared.tables.Tables.{Tables}
@@ -13,7 +12,7 @@ use Rattle.stub_tables.specs.Lookup.{operation_at, error_at}
 use Rattle.dialogue.specs.declared.config.Config.{Config}
 use Rattle.dialogue.specs.declared.config.Mode.TheVariants.{Direct}
 use Rattle.dialogue.specs.declared.config.Phase.{Phase}
-use Rattle.dialogue.specs.declared.config.Phase.TheVariants.{Idle, Opening, Up, Releasing, Over}
+use Rattle.dialogue.specs.declared.config.Phase.TheVariants.{Idle, Opening, Over}
 use Rattle.dialogue.specs.declared.call.Call.{Call}
 use Rattle.dialogue.specs.declared.call.Call.TheVariants as the_calls
 use Rattle.dialogue.specs.declared.call.CallRefusal.TheVariants as refusals
@@ -22,9 +21,9 @@ use Rattle.end_rules.specs.Base.{Base, Spellings, Fault, Item, most_marks}
 use Rattle.end_rules.specs.Sets.{Alteration, pair_of, is_fixed, below, next_number}
 use Rattle.end_rules.specs.State.{Body, Sets, Calls, OpenCall, NoAnswer, opened_with, is_up, is_carrying, is_joined, passes_over}
 use Rattle.end_rules.specs.Messages.{Message, Transport, Session, TransportUnit, ConnectionRequest, ConnectionConfirm, DisconnectRequest, TransportError, Value, Accepting}
-use Rattle.end_rules.specs.Messages.{Word, OfAssociation, OfData, OfMarks, OfActivities, AssociationWord, Connect, Accept, Refuse, Finish, Disconnect, Abort, AbortAccept, Values, AlterContext, AlterContextAck, Mark, MarkAck, Restart, RestartAck, Give, Please, GiveConfirm, GiveAck, unit_of}
+use Rattle.end_rules.specs.Messages.{Word, OfAssociation, OfData, OfMarks, OfActivities, Connect, Accept, Refuse, Finish, Disconnect, Abort, AbortAccept, Values, AlterContext, AlterContextAck, Mark, MarkAck, Restart, RestartAck, Give, Please, GiveConfirm, GiveAck, unit_of}
 use Rattle.end_rules.specs.Writing.{acse_pair, session_connect, presentation_connect, connect_values, user_abort, proposals}
-use Rattle.end_rules.specs.Hearing.{Rejecting, reject_apdu, with_reject, sent_on, hear, head_of_apdu}
+use Rattle.end_rules.specs.Hearing.{Rejecting, with_reject, sent_on, hear, head_of_apdu}
 use Rattle.end_rules.specs.Invoking.{carrier_in, is_stopped}
 use Rattle.end_rules.specs.Faults.{fault_if, or_fault, over, transport_fault, unexpected_ppdu, invalid_ppdu}
 use Rattle.end_rules.specs.Purging.{is_purged}
@@ -132,7 +131,7 @@ plain-before P shared [] h = tt
 plain-before P shared (m ∷ ms) h = (h.set, plain-before P shared ms h)
 
 -- a mark saves the shared set
-sent-has : (P : ℕ → Pair → Type 0) (side : Side) (message : Message) (shared : Shared) → (a b : Base) → IsMessage a b message → SharedHas P shared → SharedHas P (shared_sent Direct side message shared)
+sent-has : (P : ℕ → Pair → Type 0) (side : Side) (message : Message) (shared : Shared) → (a b : Base) → IsMessage (record a { mode = Direct }) b message → SharedHas P shared → SharedHas P (shared_sent Direct side message shared)
 sent-has P side (Transport unit) shared a b i h = h
 sent-has P side (Session (OfAssociation word)) shared a b i h = h
 sent-has P side (Session (OfData word)) shared a b i h = h
@@ -146,7 +145,7 @@ sent-has P side (Session (OfMarks GiveConfirm)) shared a b i h = h
 sent-has P side (Session (OfMarks GiveAck)) shared a b i h = h
 sent-has P side (Session (OfActivities word)) shared a b i h = absurd i
 
-all-sent_has : (P : ℕ → Pair → Type 0) (side : Side) (messages : List Message) (shared : Shared) → (a b : Base) → AreMessages a b messages → SharedHas P shared → SharedHas P (shared_all_sent Direct side messages shared)
+all-sent_has : (P : ℕ → Pair → Type 0) (side : Side) (messages : List Message) (shared : Shared) → (a b : Base) → AreMessages (record a { mode = Direct }) b messages → SharedHas P shared → SharedHas P (shared_all_sent Direct side messages shared)
 all-sent_has P side [] shared a b i h = h
 all-sent_has P side (message ∷ messages) shared a b i h = all-sent_has P side messages (shared_sent Direct side message shared) a b i.1 (sent-has P side message shared a b i.0 h)
 
@@ -336,7 +335,7 @@ module _ (free : Free) (tables : Tables) (spellings : Spellings) (a b : Config) 
     opened-sure later h o l sv =
         record { held = subst (IsKept first) (sym h) first-kept; own = subst (OwnSpares first) (sym o) tt; opens = l; saved = subst (MarksKept first) (sym sv) (refl, first-kept) }
 
-    connects : (role : Role) (body : Body) → (not (is_initiator role) && is_joined body.link.stage) ≡ true → WordDoes role body (OfAssociation (the_connect (base Initiator)))
+    connects : (role : Role) (body : Body) → (not (is_initiator role) && is_joined body.link.stage) ≡ true → WordDoes role body (OfAssociation (the_connect (base Initiator) false))
     connects Initiator body h = cc
     connects Responder body h =
         subst (λ r. Does (if r then refused_connect body else accepted_connect (base Responder) body (session_connect (base Initiator)) (presentation_connect (base Initiator)) (connect_values (base Initiator) false))
@@ -348,7 +347,7 @@ module _ (free : Free) (tables : Tables) (spellings : Spellings) (a b : Config) 
     AcceptDoes role body (Session (OfAssociation (Accept session presentation values))) = Firmly (after_accept (base role) body session presentation values)
     AcceptDoes role body message = Unit {0}
 
-    accepts : (role : Role) (body : Body) → is_initiator role ≡ true → OpensLoose first body.calls.opens → AcceptDoes role body (the_acceptance (base Initiator) (base Responder))
+    accepts : (role : Role) (body : Body) → is_initiator role ≡ true → OpensLoose first body.calls.opens → AcceptDoes role body (the_acceptance (base Initiator) (base Responder) false)
     accepts Initiator body h l = IsSure (opened-sure _ refl refl l refl)
     accepts Responder body h l = cc
 
@@ -356,7 +355,7 @@ module _ (free : Free) (tables : Tables) (spellings : Spellings) (a b : Config) 
     accepted-does role body session presentation values i in_place l =
         record {
           firm =
-              subst (AcceptDoes role body) (sym i)
+              subst (AcceptDoes role body) (sym i.1)
               (accepts role body (and-left (is_initiator role) (is_carrying body.link.stage) (and-left (is_initiator role && is_carrying body.link.stage) (is_opening body.link.phase) (and-left _ (has_version_two session.version) (and-left _ (has_units (needed_units Direct) (selected_with Direct session.requirements)) in_place)))) l);
           loose = tt;
         }
@@ -387,7 +386,7 @@ module _ (free : Free) (tables : Tables) (spellings : Spellings) (a b : Config) 
         subst Firmly (sym e) (IsSure (record { held = newest-kept first (below n body.saved) m; own = tt; opens = tt; saved = m }))
 
     sure-word : (role : Role) (body : Body) (word : Word) → IsWord (base Initiator) (base Responder) word → LooseIn first (Session word) → InPlace role body word → fault_above (base role) body word ≡ None → Sure body → WordDoes role body word
-    sure-word role body (OfAssociation (Connect session presentation values)) i l in_place above s = subst (λ w. WordDoes role body (OfAssociation w)) (sym i) (connects role body in_place)
+    sure-word role body (OfAssociation (Connect session presentation values)) i l in_place above s = subst (λ w. WordDoes role body (OfAssociation w)) (sym i.1) (connects role body in_place)
     sure-word role body (OfAssociation (Accept session presentation values)) i l in_place above s = accepted-does role body session presentation values i in_place s.opens
     sure-word role body (OfAssociation (Refuse transport reason presentation values)) i l in_place above s = absurd i
     sure-word role body (OfAssociation (Finish transport values)) i l in_place above s = record { firm = IsOver refl; loose = (tt, tt) }
@@ -416,7 +415,7 @@ module _ (free : Free) (tables : Tables) (spellings : Spellings) (a b : Config) 
     sure-word role body (OfActivities word) i l in_place above s = absurd i
 
     young-word : (role : Role) (body : Body) (word : Word) → IsWord (base Initiator) (base Responder) word → InPlace role body word → IsEarly word → Young body → WordDoes role body word
-    young-word role body (OfAssociation (Connect session presentation values)) i in_place e y = subst (λ w. WordDoes role body (OfAssociation w)) (sym i) (connects role body in_place)
+    young-word role body (OfAssociation (Connect session presentation values)) i in_place e y = subst (λ w. WordDoes role body (OfAssociation w)) (sym i.1) (connects role body in_place)
     young-word role body (OfAssociation (Accept session presentation values)) i in_place e y = accepted-does role body session presentation values i in_place (subst (OpensLoose first) (sym y.opens) tt)
     young-word role body (OfAssociation (Abort transport user)) i in_place e y = record { firm = IsOver refl; loose = tt }
     young-word role body word i in_place e y = absurd e
@@ -471,12 +470,12 @@ module _ (free : Free) (tables : Tables) (spellings : Spellings) (a b : Config) 
 
     -- what is answered leaves the shared set plain
     word-has : (role : Role) (body : Body) (word : Word) → IsWord (base Initiator) (base Responder) word → InPlace role body word → AnswersHave IsPlain (Session word) (answers_to_word (base role) body word)
-    word-has role body (OfAssociation (Connect session presentation values)) i in_place = subst (λ w. AnswersHave IsPlain (Session (OfAssociation w)) (answers_to_word (base role) body (OfAssociation w))) (sym i) (go role in_place)
+    word-has role body (OfAssociation (Connect session presentation values)) i in_place = subst (λ w. AnswersHave IsPlain (Session (OfAssociation w)) (answers_to_word (base role) body (OfAssociation w))) (sym i.1) (go role in_place)
       where
-        go : (r : Role) → (not (is_initiator r) && is_joined body.link.stage) ≡ true → AnswersHave IsPlain (Session (OfAssociation (the_connect (base Initiator)))) (answers_to_word (base r) body (OfAssociation (the_connect (base Initiator))))
+        go : (r : Role) → (not (is_initiator r) && is_joined body.link.stage) ≡ true → AnswersHave IsPlain (Session (OfAssociation (the_connect (base Initiator) false))) (answers_to_word (base r) body (OfAssociation (the_connect (base Initiator) false)))
         go Initiator h = cc
         go Responder h =
-            subst (λ q. AnswersHave IsPlain (Session (OfAssociation (the_connect (base Initiator)))) (if q then refusal_message (base Responder) body (session_connect (base Initiator)) (presentation_connect (base Initiator)) (connect_values (base Initiator) false) ∷ [] else acceptance_message (base Responder) (session_connect (base Initiator)) (presentation_connect (base Initiator)) (connect_values (base Initiator) false) ∷ []))
+            subst (λ q. AnswersHave IsPlain (Session (OfAssociation (the_connect (base Initiator) false))) (if q then refusal_message (base Responder) body (session_connect (base Initiator)) (presentation_connect (base Initiator)) (connect_values (base Initiator) false) ∷ [] else acceptance_message (base Responder) (session_connect (base Initiator)) (presentation_connect (base Initiator)) (connect_values (base Initiator) false) ∷ []))
             (sym (none-refused tables spellings a b body right ids)) (first-plain, tt)
     word-has role body (OfAssociation (Accept session presentation values)) i in_place = tt
     word-has role body (OfAssociation (Refuse transport reason presentation values)) i in_place = tt

@@ -1,10 +1,10 @@
--- What an end of direct mode takes stands on the contexts of its set.
-use Rattle.std.specs.Prelude.{◌≡◌, List, [], ◌∷◌, Some}
+-- What an end takes stands on the contexts of its set.
+use Rattle.std.specs.Prelude.{◌≡◌, ◌≤◌, List, [], ◌∷◌, Some}
 use Rattle.dialogue.specs.declared.config.Config.{Config}
 use Rattle.dialogue.specs.declared.indication.Indication.{Indication}
 use Rattle.stub_tables.specs.declared.tables.Tables.{Tables}
 use Rattle.end_rules.specs.Base.{Base, Spellings, Item}
-use Rattle.end_rules.specs.Messages.{Message, Word, OfAssociation, OfData, Finish, Disconnect, Values, Session}
+use Rattle.end_rules.specs.Messages.{Message, Word, OfAssociation, OfData, OfMarks, Finish, Disconnect, Values, Please, Session}
 use Rattle.end_rules.specs.Sets.{pair_of}
 use Rattle.end_rules.specs.State.{Body}
 use Rattle.end_rules.specs.Reacting.{Takes, react}
@@ -13,12 +13,13 @@ use Rattle.agreement.specs.Sets.{Role}
 use Rattle.agreement.specs.Sets.Role.{Initiator}
 use Rattle.end_model.specs.Seen.{Free}
 use Rattle.end_model.specs.Acting.{ReadsBack}
-use Rattle.end_model.specs.Pairs.{Common, Two, base_at, body_at, coming_to, WritesAll}
+use Rattle.end_model.specs.Pairs.{Two, base_at, body_at, coming_to, WritesAll}
 use Rattle.end_model.specs.DirectPairs.{direct_pair, ProposesRightly}
+use Rattle.reliable_model.specs.Codecs.{Carries}
 use Rattle.reliable_model.specs.Goes.{Ledger}
-use Rattle.reliable_model.specs.ReliablePairs.{IsOwnName}
+use Rattle.reliable_model.specs.ReliablePairs.{reliable_pair, IsFit, IsOwnName}
 use Rattle.said_words.specs.Calls.{Speaks}
-use Rattle.said_words.specs.Words.{value_of_item}
+use Rattle.said_words.specs.Words.{rtse_pair, value_of_item}
 use Rattle.said_words.specs.Laws.{ProposesContexts}
 
 -- the APDU is on a context of the module, as the set has it
@@ -41,3 +42,21 @@ DirectTakesRightly =
     (role : Role) (word : Word) (left : List Message) (body : Body) (answers : List Message) (shown : List Indication) →
     coming_to role two ≡ Session word ∷ left → react (base_at role (direct_pair tables spellings a b)) (body_at role two) (Session word) ≡ Takes body answers shown →
     IsTaken (base_at role (direct_pair tables spellings a b)) (body_at role two) word
+
+-- ---- in reliable mode association control and reliable transfer stay where they were opened
+
+abbrev pub IsTakenInTransfer : Body → Word → Type 0
+IsTakenInTransfer body (OfData (Values values)) = pair_of body.sets.held 3 ≡ Some rtse_pair
+IsTakenInTransfer body (OfMarks (Please tokens values)) = pair_of body.sets.held 3 ≡ Some rtse_pair
+IsTakenInTransfer body (OfAssociation (Finish transport values)) = pair_of body.sets.held 1 ≡ Some acse_pair
+IsTakenInTransfer body (OfAssociation (Disconnect values)) = pair_of body.sets.held 1 ≡ Some acse_pair
+IsTakenInTransfer body word = Unit {0}
+
+abbrev pub ReliableTakesRightly : Type 0
+ReliableTakesRightly =
+    (free : Free) (tables : Tables) (spellings : Spellings) (a b : Config) → Carries free (base_at Initiator (reliable_pair tables spellings a b)) →
+    IsFit (reliable_pair tables spellings a b) → 1 ≤ a.window →
+    (two : Two) (ledger : Ledger) → Speaks (reliable_pair tables spellings a b) two ledger →
+    (role : Role) (word : Word) (left : List Message) (body : Body) (answers : List Message) (shown : List Indication) →
+    coming_to role two ≡ Session word ∷ left → react (base_at role (reliable_pair tables spellings a b)) (body_at role two) (Session word) ≡ Takes body answers shown →
+    IsTakenInTransfer (body_at role two) word

@@ -1,9 +1,8 @@
--- An accepted Alter asks for no more than an end may, of contexts that it holds and of new ones.
+-- An accepted Alter asks for no more than an end may, of contexts that it holds and of new ones, in each mode.
 use Rattle.std.proofs.Common.{◌≡◌, refl, true, false, arith, ℕ, ◌+◌, ◌≤◌, List, [], ◌∷◌, ◌++◌, length}
-use Rattle.std.specs.Prelude.{ℤ, Bool, not, ◌||◌, Option, Some, None, Ok, is_some, nat_le, nat_lt, if◌then◌else◌}
+use Rattle.std.specs.Prelude.{ℤ, Bool, not, ◌||◌, Option, Some, None, Ok, is_some, nat_eq, nat_le, nat_lt, if◌then◌else◌}
 use Rattle.std.specs.List.{list_any}
 use Rattle.std.proofs.lemmas.Bool.Decides.{nat_tests}
-use Rattle.osi_base.specs.declared.words.SetItem.{SetItem}
 use Rattle.osi_base.specs.declared.words.Proposal.{Proposal}
 use Rattle.dialogue.specs.declared.config.Mode.TheVariants.{Direct}
 use Rattle.dialogue.specs.declared.call.CallRefusal.{CallRefusal}
@@ -13,11 +12,11 @@ use Rattle.end_rules.specs.Sets.{Alteration, is_among, named_ids, proposed_ids, 
 use Rattle.end_rules.specs.State.{Body, is_empty, is_free, is_current, is_ending}
 use Rattle.end_rules.specs.Altering.{used, has_double, is_no_context, has_bad_transfers, is_bad, additions_refusal, deletion_refusal, deletions_refusal, or_else, is_set_full, alteration_refusal, can_alter}
 use Rattle.end_model.specs.Rows.{at}
-use Rattle.end_model.proofs.Ladder.{passed, unrefused, not-true}
+use Rattle.end_model.proofs.Ladder.{passed, unrefused}
 use Rattle.reliable_model.proofs.Fixed.{AreIdentifiers, good-identifiers}
 use Rattle.said_words.specs.Calls.{AreNamed}
-use Rattle.said_words.specs.Fields.{AreContexts, AreFew, IsAlteration}
-use Rattle.said_words.proofs.Lists.{AreListed, AllThere, listed-pair, there-few, double-behind}
+use Rattle.said_words.specs.Fields.{IsContext, AreContexts, AreFew, IsAlteration}
+use Rattle.said_words.proofs.Lists.{AllThere, there-few, double-behind}
 
 or-left : (a b : Bool) → (a || b) ≡ false → a ≡ false
 or-left true b h = cc
@@ -60,39 +59,56 @@ all-there body [] h = tt
 all-there body (j ∷ js) h =
     (deleted-there body j (none-first (deletion_refusal body j) (deletions_refusal body js) h), all-there body js (none-second (deletion_refusal body j) (deletions_refusal body js) h))
 
-there-contexts : (js : List ℕ) (set : List SetItem) → AreListed set → AllThere js set → AreContexts js
-there-contexts [] set l h = tt
-there-contexts (j ∷ js) set l h = (listed-pair set j l h.0, there-contexts js set l h.1)
+-- what it names are identifiers of contexts
+context-so : (k : ℕ) → is_no_context k ≡ false → IsContext k
+context-so k h = (low k (or-left (nat_eq k 0) (nat_lt 32767 k) h), high k (or-right (nat_eq k 0) (nat_lt 32767 k) h))
+  where
+    low : (k : ℕ) → nat_eq k 0 ≡ false → 1 ≤ k
+    low k h = grind (arith, nat_tests)
+
+    high : (k : ℕ) → nat_lt 32767 k ≡ false → k ≤ 32767
+    high k h = grind (arith, nat_tests)
+
+all-contexts : (ks : List ℕ) → list_any is_no_context ks ≡ false → AreContexts ks
+all-contexts [] h = tt
+all-contexts (k ∷ ks) h = (context-so k (or-left (is_no_context k) (list_any is_no_context ks) h), all-contexts ks (or-right (is_no_context k) (list_any is_no_context ks) h))
+
+contexts-behind : (xs ys : List ℕ) → list_any is_no_context (xs ++ ys) ≡ false → AreContexts ys
+contexts-behind [] ys h = all-contexts ys h
+contexts-behind (x ∷ xs) ys h = contexts-behind xs ys (or-right (is_no_context x) (list_any is_no_context (xs ++ ys)) h)
 
 pub record Alterable (body : Body) (a : Alteration) : Type 0 where
   pub is : IsAlteration a.add a.delete
   pub added : AreIdentifiers a.add
   pub room : length body.sets.held + count_added body.sets.own + length a.add ≤ 64
 
-pub alterable : (base : Base) (body : Body) (a : Alteration) (answer : Option ℤ) → AreNamed a.add → AreListed body.sets.held → can_alter (at Direct base) body a ≡ Ok answer → Alterable body a
-alterable base body a answer named listed h =
-    let x = passed (not body.link.manages) refusals.NotNegotiated _ answer h in
-    let y = passed (not (is_free body.link.awaits)) refusals.Waiting _ answer x.later in
-    let u = passed (is_current is_ending body.sending.current) (refusals.Ending body.sending.started) _ answer y.later in
-    let v = passed (nat_le most_alterations (length body.sets.own)) refusals.AlterPending _ answer u.later in
-    let w = passed (is_bad a) refusals.BadProposal _ answer v.later in
-    let none = (unrefused (alteration_refusal (at Direct base) body a) (Ok None) answer w.later).holds in
+pub alterable-so : (base : Base) (body : Body) (a : Alteration) → AreNamed a.add → is_bad a ≡ false → alteration_refusal base body a ≡ None → Alterable body a
+alterable-so base body a named good none =
     let more = or_else (deletions_refusal body a.delete) (if is_set_full body a then Some refusals.SetFull else None) in
-    let behind = none-second (additions_refusal (at Direct base) body a.add) more none in
+    let behind = none-second (additions_refusal base body a.add) more none in
     let deletes = none-first (deletions_refusal body a.delete) (if is_set_full body a then Some refusals.SetFull else None) behind in
     let full = not-full (is_set_full body a) refusals.SetFull (none-second (deletions_refusal body a.delete) (if is_set_full body a then Some refusals.SetFull else None) behind) in
-    let bad = or-left (is_empty (named_ids a) || has_double (named_ids a) || list_any is_no_context (named_ids a)) (list_any has_bad_transfers a.add) w.holds in
-    let transfers = or-right (is_empty (named_ids a) || has_double (named_ids a) || list_any is_no_context (named_ids a)) (list_any has_bad_transfers a.add) w.holds in
+    let bad = or-left (is_empty (named_ids a) || has_double (named_ids a) || list_any is_no_context (named_ids a)) (list_any has_bad_transfers a.add) good in
+    let transfers = or-right (is_empty (named_ids a) || has_double (named_ids a) || list_any is_no_context (named_ids a)) (list_any has_bad_transfers a.add) good in
+    let contexts = or-right (is_empty (named_ids a) || has_double (named_ids a)) (list_any is_no_context (named_ids a)) bad in
     let double = or-right (is_empty (named_ids a)) (has_double (named_ids a)) (or-left (is_empty (named_ids a) || has_double (named_ids a)) (list_any is_no_context (named_ids a)) bad) in
-    let added = good-identifiers a w.holds in
-    let there = all-there body a.delete deletes in
+    let added = good-identifiers a good in
     let room = within (length body.sets.held + count_added body.sets.own + length a.add) full in
-    let fewer = there-few a.delete body.sets.held (double-behind (proposed_ids a.add) a.delete double) there in
+    let fewer = there-few a.delete body.sets.held (double-behind (proposed_ids a.add) a.delete double) (all-there body a.delete deletes) in
     record {
-      is = record { named = named; added = few-transfers a.add added transfers; count = omega arith; deleted = there-contexts a.delete body.sets.held listed there; deletions = omega arith };
+      is = record { named = named; added = few-transfers a.add added transfers; count = omega arith; deleted = contexts-behind (proposed_ids a.add) a.delete contexts; deletions = omega arith };
       added = added;
       room = room;
     }
   where
     within : (n : ℕ) → nat_lt most_contexts n ≡ false → n ≤ 64
     within n h = grind (arith, nat_tests)
+
+pub alterable : (base : Base) (body : Body) (a : Alteration) (answer : Option ℤ) → AreNamed a.add → can_alter (at Direct base) body a ≡ Ok answer → Alterable body a
+alterable base body a answer named h =
+    let x = passed (not body.link.manages) refusals.NotNegotiated _ answer h in
+    let y = passed (not (is_free body.link.awaits)) refusals.Waiting _ answer x.later in
+    let u = passed (is_current is_ending body.sending.current) (refusals.Ending body.sending.started) _ answer y.later in
+    let v = passed (nat_le most_alterations (length body.sets.own)) refusals.AlterPending _ answer u.later in
+    let w = passed (is_bad a) refusals.BadProposal _ answer v.later in
+    alterable-so (at Direct base) body a named w.holds (unrefused (alteration_refusal (at Direct base) body a) (Ok None) answer w.later).holds

@@ -1,7 +1,6 @@
 -- What an opening accepts: association control has the lowest identifier, so that nothing refuses, and every value of it goes there.
-use Rattle.std.proofs.Common.{◌≡◌, refl, true, false, ◌∙◌, sym, ap, subst, arith, ℕ, ◌≤◌, List, [], ◌∷◌, length}
-use Rattle.std.specs.Prelude.{Bool, not, ◌&&◌, ◌||◌, Option, Some, None, find, nat_eq, nat_lt, is_some, if◌then◌else◌}
-use Rattle.std.specs.List.{list_any}
+use Rattle.std.proofs.Common.{◌≡◌, refl, true, false, ◌∙◌, sym, ap, subst, arith, ℕ, ◌≤◌, List, [], ◌∷◌}
+use Rattle.std.specs.Prelude.{Bool, not, ◌&&◌, ◌||◌, Option, Some, None, find, nat_eq, nat_lt, if◌then◌else◌}
 use Rattle.std.proofs.lemmas.Bool.Decides.{nat_tests}
 use Rattle.osi_base.specs.declared.syntax.Pair.{Pair}
 use Rattle.osi_base.specs.declared.words.SetItem.{SetItem}
@@ -9,20 +8,18 @@ use Rattle.osi_base.specs.declared.words.Proposal.{Proposal}
 use Rattle.osi_base.specs.declared.words.AddAnswer.{AddAnswer}
 use Rattle.stub_tables.specs.declared.tables.Tables.{Tables}
 use Rattle.dialogue.specs.declared.config.Config.{Config}
-use Rattle.end_rules.specs.Base.{Base, Spellings, acse_name, ber_name}
+use Rattle.end_rules.specs.Base.{Spellings, acse_name, ber_name}
 use Rattle.end_rules.specs.Sets.{same_name, is_among, put, put_accepted, pair_accepted, with_added, proposed_ids, pair_of}
 use Rattle.end_rules.specs.State.{Body}
-use Rattle.end_rules.specs.Altering.{has_double, is_no_context}
-use Rattle.end_rules.specs.Policy.{is_association, is_taken, takes_syntax, acceptance, rejection, answer_within, answer_to_addition, counted_with, answers_to_additions, opening_policy}
+use Rattle.end_rules.specs.Altering.{has_double}
+use Rattle.end_rules.specs.Policy.{is_association, takes_syntax, acceptance, rejection, answer_within, answer_to_addition, counted_with, answers_to_additions, opening_policy}
 use Rattle.end_rules.specs.Writing.{acse_pair, acse_context, proposal_in_ber, proposals, session_connect, presentation_connect, connect_values}
 use Rattle.end_rules.specs.Connecting.{set_for, has_acse, is_refused}
-use Rattle.agreement.specs.Sets.{Role}
 use Rattle.agreement.specs.Sets.Role.{Initiator, Responder}
 use Rattle.end_model.specs.Pairs.{Common, base_at}
 use Rattle.end_model.specs.DirectPairs.{direct_pair, ProposesRightly}
-use Rattle.reliable_model.proofs.Fixed.{AreIdentifiers, IsIdentifier, listed-identifiers}
-use Rattle.said_words.specs.Laws.{ProposesContexts}
-use Rattle.said_words.proofs.Lists.{AreListed, IsHeld, added-listed, opened-few}
+use Rattle.reliable_model.proofs.Fixed.{AreIdentifiers}
+use Rattle.said_words.proofs.Lists.{IsHeld, added-listed, opened-few}
 
 or-left : (a b : Bool) → (a || b) ≡ false → a ≡ false
 or-left true b h = cc

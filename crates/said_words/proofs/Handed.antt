@@ -13,7 +13,7 @@ use Rattle.dialogue.specs.declared.config.Config.{Config}
 use Rattle.dialogue.specs.declared.config.Mode.TheVariants.{Direct}
 use Rattle.dialogue.specs.declared.call.Call.TheVariants as the_calls
 use Rattle.dialogue.specs.declared.call.CallRefusal.TheVariants as refusals
-use Rattle.end_rules.specs.Base.{Base, Spellings, Item}
+use Rattle.end_rules.specs.Base.{Base, Spellings}
 use Rattle.end_rules.specs.Sets.{pair_of}
 use Rattle.end_rules.specs.State.{Body, OpenCall, opened_with}
 use Rattle.end_rules.specs.Messages.{Message, Remote}
@@ -24,7 +24,7 @@ use Rattle.end_rules.specs.Requesting.{due_of, due_invoke, due_outcome, sent_at_
 use Rattle.agreement.specs.Sets.{Role}
 use Rattle.agreement.specs.Sets.Role.{Initiator, Responder}
 use Rattle.end_model.specs.Seen.{Free}
-use Rattle.end_model.specs.Acting.{IsSound, ReadsBack, HandsIn, apdus_of, as_list, invoked_as}
+use Rattle.end_model.specs.Acting.{IsSound, ReadsBack, HandsIn, as_list, invoked_as}
 use Rattle.end_model.specs.Opens.{IsProper}
 use Rattle.end_model.specs.Pairs.{Common, base_at, WritesAll}
 use Rattle.end_model.specs.DirectPairs.{direct_pair}

@@ -6,3 +6,6 @@ pub mod Handed
 pub mod Sharing
 pub mod Alters
 pub mod Worlds
+pub mod TransferFirst
+pub mod TransferEnds
+pub mod TransferWorlds

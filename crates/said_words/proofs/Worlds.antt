@@ -3,12 +3,8 @@ use Rattle.std.proofs.Common.{◌≡◌, refl, true, false, ◌∙◌, sym, ap, 
 use Rattle.std.specs.Prelude.{ℤ, Bool, not, ◌&&◌, ◌||◌, Option, Some, None, Ok, is_some, nat_le, nat_lt, nat_eq, if◌then◌else◌}
 use Rattle.std.proofs.lemmas.Bool.Decides.{nat_tests}
 use Rattle.osi_base.specs.declared.words.SetItem.{SetItem}
-use Rattle.osi_base.specs.declared.words.Proposal.{Proposal}
 use Rattle.osi_base.specs.declared.words.Answers.{Answers}
-use Rattle.osi_base.specs.declared.words.RestoredItem.{RestoredItem}
 use Rattle.osi_base.specs.declared.acse_word.Acse.TheVariants as acse
-use Rattle.osi_base.specs.declared.session_word.SessionConnect.{SessionConnect}
-use Rattle.osi_base.specs.declared.presentation_word.PresentationConnect.{PresentationConnect}
 use Rattle.asn1_types.specs.declared.value.Val.{Val}
 use Rattle.stub_tables.specs.declared.tables.Tables.{Tables}
 use Rattle.stub_tables.specs.declared.apdu.Apdu.{Apdu}
@@ -23,18 +19,18 @@ use Rattle.dialogue.specs.declared.call.Call.TheVariants as the_calls
 use Rattle.dialogue.specs.declared.call.CallRefusal.TheVariants as refusals
 use Rattle.dialogue.specs.declared.indication.Indication.{Indication}
 use Rattle.end_rules.specs.Base.{Base, Spellings, Fault, Item, most_marks}
-use Rattle.end_rules.specs.Sets.{Alteration, Saved, pair_of, count_added, next_number, below, newest, listed, altered}
-use Rattle.end_rules.specs.State.{Body, Link, Sets, Calls, OpenCall, NoAnswer, Carrying, Joined, opened_with, is_up, is_carrying, is_joined, is_asked, is_unused, is_empty, is_free, passes_over}
-use Rattle.end_rules.specs.Messages.{Message, Transport, Session, TransportUnit, ConnectionRequest, ConnectionConfirm, DisconnectRequest, TransportError, Value, Association, UserValues, Accepting}
-use Rattle.end_rules.specs.Messages.{Word, OfAssociation, OfData, OfMarks, OfActivities, AssociationWord, Connect, Accept, Refuse, Finish, Disconnect, Abort, AbortAccept, DataWord, Values, AlterContext, AlterContextAck, MarkWord, Mark, MarkAck, Restart, RestartAck, Give, Please, GiveConfirm, GiveAck, unit_of}
+use Rattle.end_rules.specs.Sets.{Alteration, count_added, next_number, below, newest, listed}
+use Rattle.end_rules.specs.State.{Body, Calls, OpenCall, NoAnswer, Carrying, opened_with, is_up, is_carrying, is_joined, is_asked, is_unused, is_empty, is_free, passes_over}
+use Rattle.end_rules.specs.Messages.{Message, Transport, Session, TransportUnit, ConnectionRequest, ConnectionConfirm, DisconnectRequest, TransportError, Association, UserValues}
+use Rattle.end_rules.specs.Messages.{Word, OfAssociation, OfData, OfMarks, OfActivities, Connect, Accept, Refuse, Finish, Disconnect, Abort, AbortAccept, Values, AlterContext, AlterContextAck, Mark, MarkAck, Restart, RestartAck, Give, Please, GiveConfirm, GiveAck, unit_of}
 use Rattle.end_rules.specs.Writing.{acse_pair, acse_context, session_connect, presentation_connect, connect_values, connect_message, is_recovering, user_abort, proposals}
 use Rattle.end_rules.specs.Hearing.{Rejecting, reject_apdu, with_reject, sent_on, hear, head_of_apdu}
 use Rattle.end_rules.specs.Invoking.{carrier_in}
-use Rattle.end_rules.specs.Faults.{fault_if, or_fault, over, transport_fault}
+use Rattle.end_rules.specs.Faults.{fault_if, over, transport_fault}
 use Rattle.end_rules.specs.Units.{has_marks, has_restarts, has_token, has_typed_data, has_version_two, has_units, needed_units, selected_with}
 use Rattle.end_rules.specs.Policy.{policy}
-use Rattle.end_rules.specs.Connecting.{is_refused, refused_connect, accepted_connect, refusal_message, acceptance_message, after_accept}
-use Rattle.end_rules.specs.Calling.{can_call, can_by_rows, is_phase_for, is_idle, is_dead}
+use Rattle.end_rules.specs.Connecting.{refused_connect, accepted_connect, refusal_message, acceptance_message, after_accept}
+use Rattle.end_rules.specs.Calling.{can_call, is_phase_for, is_idle}
 use Rattle.end_rules.specs.Requesting.{due_of, due_invoke, due_outcome, after_invoke, after_outcome, answering, sent_at_once, result_in, error_for}
 use Rattle.end_rules.specs.TakesTransport.{transport_unit_fault, after_transport, answers_to_transport, phase_asked, is_waiting, is_size}
 use Rattle.end_rules.specs.TakesMarks.{restored_set}
@@ -59,9 +55,8 @@ use Rattle.reliable_model.proofs.FirmSteps.{in-place}
 use Rattle.reliable_model.proofs.Phases.{only-open, only-abort, over-calls}
 use Rattle.reliable_model.proofs.Opening.{First}
 use Rattle.said_words.specs.Calls.{IsCall, AreCalls}
-use Rattle.said_words.specs.Fields.{IsAlteration, AreAnswers}
-use Rattle.said_words.specs.Words.{IsRestart, IsData, value_of_item, the_connect, the_acceptance, the_finish, the_disconnect, the_abort, IsOfAssociation, IsOfData, IsOfMarks, IsWord, IsUnit, IsMessage, AreMessages}
-use Rattle.said_words.specs.Laws.{ProposesContexts, DirectSaysWords}
+use Rattle.said_words.specs.Words.{IsRestart, value_of_item, the_connect, the_acceptance, the_disconnect, IsWord, IsUnit, IsMessage, AreMessages}
+use Rattle.said_words.specs.Laws.{DirectSaysWords}
 use Rattle.said_words.proofs.Lists.{AreListed, IsHeld, AreMarks, AreAsked, altered-listed, altered-few, policy-few, count-append, asked-append, few-identifiers, next-low, next-high, newest-held, below-marks, marks-more, listed-restored, listed-few}
 use Rattle.said_words.proofs.Answers.{answers-so}
 use Rattle.said_words.proofs.Heard.{IsRight, heard-right}
@@ -233,7 +228,7 @@ module _ (free : Free) (tables : Tables) (spellings : Spellings) (a b : Config) 
     stood-called role body (the_calls.Refuse id error parameter) answer sound i s can =
         record { rooted = outcome-rooted role body id (opened_with false id body.calls.opens) (error_for id parameter (error_at tables error)) s; said = refuse-said free tables spellings a b writes back role body id error parameter answer s.listed sound can }
     stood-called role body (the_calls.Alter add delete) answer sound i s can =
-        let x = alterable (base role) body (alteration add delete) answer i s.listed (called (base role) body (the_calls.Alter add delete) answer can).rows in
+        let x = alterable (base role) body (alteration add delete) answer i (called (base role) body (the_calls.Alter add delete) answer can).rows in
         let c = count-append body.sets.own (alteration add delete) in
         let r : length body.sets.held + count_added body.sets.own + length add ≤ 64 = x.room in
         record {
@@ -378,24 +373,24 @@ module _ (free : Free) (tables : Tables) (spellings : Spellings) (a b : Config) 
           saved = subst AreMarks (sym sv) (refl, f);
         }
 
-    connects : (role : Role) (body : Body) → (not (is_initiator role) && is_joined body.link.stage) ≡ true → WordSays role body (OfAssociation (the_connect (base Initiator)))
+    connects : (role : Role) (body : Body) → (not (is_initiator role) && is_joined body.link.stage) ≡ true → WordSays role body (OfAssociation (the_connect (base Initiator) false))
     connects Initiator body h = cc
     connects Responder body h =
         subst (λ r. Says (if r then refused_connect body else accepted_connect (base Responder) body (session_connect (base Initiator)) (presentation_connect (base Initiator)) (connect_values (base Initiator) false))
         (if r then refusal_message (base Responder) body (session_connect (base Initiator)) (presentation_connect (base Initiator)) (connect_values (base Initiator) false) ∷ [] else acceptance_message (base Responder) (session_connect (base Initiator)) (presentation_connect (base Initiator)) (connect_values (base Initiator) false) ∷ []))
         (sym (none-refused tables spellings a b body right ids))
-        (record { rooted = IsStood (opened-stood Responder _ refl refl refl refl refl refl); said = (refl, tt) })
+        (record { rooted = IsStood (opened-stood Responder _ refl refl refl refl refl refl); said = ((false, refl), tt) })
 
-    accepts : (role : Role) (body : Body) → is_initiator role ≡ true → AcceptSays role body (the_acceptance (base Initiator) (base Responder))
+    accepts : (role : Role) (body : Body) → is_initiator role ≡ true → AcceptSays role body (the_acceptance (base Initiator) (base Responder) false)
     accepts Initiator body h = IsStood (opened-stood Initiator _ refl refl refl refl refl refl)
     accepts Responder body h = cc
 
     young-word : (role : Role) (body : Body) (word : Word) → IsWord (base Initiator) (base Responder) word → InPlace role body word → Young body → WordSays role body word
-    young-word role body (OfAssociation (Connect session presentation values)) i in_place y = subst (λ w. WordSays role body (OfAssociation w)) (sym i) (connects role body in_place)
+    young-word role body (OfAssociation (Connect session presentation values)) i in_place y = subst (λ w. WordSays role body (OfAssociation w)) (sym i.1) (connects role body in_place)
     young-word role body (OfAssociation (Accept session presentation values)) i in_place y =
         record {
           rooted =
-              subst (AcceptSays role body) (sym i)
+              subst (AcceptSays role body) (sym i.1)
               (accepts role body (and-left (is_initiator role) (is_carrying body.link.stage) (and-left (is_initiator role && is_carrying body.link.stage) (is_opening body.link.phase) (and-left _ (has_version_two session.version) (and-left _ (has_units (needed_units Direct) (selected_with Direct session.requirements)) in_place)))));
           said = tt;
         }
@@ -446,7 +441,7 @@ module _ (free : Free) (tables : Tables) (spellings : Spellings) (a b : Config) 
         fresh (inr e) = ap is_recovering e
 
         confirmed : (r : Role) → transport_unit_fault (base r) body (ConnectionConfirm destination size) ≡ None → IsMessage (base Initiator) (base Responder) (connect_message (base r) (is_recovering body.link.phase))
-        confirmed Initiator f = subst (λ x. IsMessage (base Initiator) (base Responder) (connect_message (base Initiator) x)) (sym (fresh y.phase)) refl
+        confirmed Initiator f = subst (λ x. IsMessage (base Initiator) (base Responder) (connect_message (base Initiator) x)) (sym (fresh y.phase)) (false, refl)
         confirmed Responder f = cc
     young-unit role body (DisconnectRequest destination) i fine y = absurd i
     young-unit role body TransportError i fine y = absurd i

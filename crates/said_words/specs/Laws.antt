@@ -1,5 +1,5 @@
--- What is on its way between two ends of direct mode.
-use Rattle.std.specs.Prelude.{◌≡◌, false}
+-- What is on its way between two ends of direct mode, and between two ends of reliable mode.
+use Rattle.std.specs.Prelude.{◌≡◌, ◌≤◌, false}
 use Rattle.std.specs.List.{list_any}
 use Rattle.dialogue.specs.declared.config.Config.{Config}
 use Rattle.stub_tables.specs.declared.tables.Tables.{Tables}
@@ -13,7 +13,9 @@ use Rattle.end_model.specs.Seen.{Free}
 use Rattle.end_model.specs.Acting.{ReadsBack}
 use Rattle.end_model.specs.Pairs.{Common, Two, base_at, coming_to, WritesAll}
 use Rattle.end_model.specs.DirectPairs.{direct_pair, ProposesRightly}
+use Rattle.reliable_model.specs.Codecs.{Carries}
 use Rattle.reliable_model.specs.Goes.{Ledger}
+use Rattle.reliable_model.specs.ReliablePairs.{reliable_pair, IsFit}
 use Rattle.said_words.specs.Calls.{Speaks}
 use Rattle.said_words.specs.Words.{AreMessages}
 
@@ -28,3 +30,11 @@ DirectSaysWords =
     ProposesContexts (direct_pair tables spellings a b) →
     (two : Two) (ledger : Ledger) → Speaks (direct_pair tables spellings a b) two ledger → (role : Role) →
     AreMessages (base_at Initiator (direct_pair tables spellings a b)) (base_at Responder (direct_pair tables spellings a b)) (coming_to role two)
+
+-- Neither window is 0, as configurations that aren't refused have it.
+abbrev pub ReliableSaysWords : Type 0
+ReliableSaysWords =
+    (free : Free) (tables : Tables) (spellings : Spellings) (a b : Config) → Carries free (base_at Initiator (reliable_pair tables spellings a b)) →
+    IsFit (reliable_pair tables spellings a b) → 1 ≤ a.window →
+    (two : Two) (ledger : Ledger) → Speaks (reliable_pair tables spellings a b) two ledger → (role : Role) →
+    AreMessages (base_at Initiator (reliable_pair tables spellings a b)) (base_at Responder (reliable_pair tables spellings a b)) (coming_to role two)

@@ -1,6 +1,6 @@
-//! What two ends of direct mode say to each other.
+//! What two ends of direct mode, and two ends of reliable mode, say to each other.
 #![tactic(auto)]
 
 mod laws;
 
-pub use laws::direct_ends_say_words;
+pub use laws::{direct_ends_say_words, reliable_ends_say_words};

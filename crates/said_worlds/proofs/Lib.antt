@@ -1,2 +1,4 @@
+pub mod Meant
 pub mod Said
+pub mod Transfers
 pub mod Existing

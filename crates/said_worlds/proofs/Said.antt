@@ -45,9 +45,9 @@ use Rattle.said_takings.specs.Laws.{IsTaken}
 use Rattle.said_takings.proofs.Takings.{direct-takes_rightly, word-in_place}
 use Rattle.said_words.specs.Fields.{IsContext}
 use Rattle.said_spellings.proofs.Messages.{said-carried}
-use Rattle.said_spellings.proofs.Places.{alter-in, ack-in, restart-in, restart_ack-in}
 use Rattle.said_spellings.proofs.Carried.{item-in}
-use Rattle.said_spellings.proofs.Association.{release-few, released-few, aborting-few, asking-few, accepting-few, finish-in, disconnect-in, abort-in, connect-in, acceptance-in}
+use Rattle.said_spellings.proofs.Association.{connect-in, acceptance-in}
+use Rattle.said_worlds.proofs.Meant.{Readings, asking-writable, accepting-writable, alter-meant, ack-meant, restart-meant, restart_ack-meant, finish-meant, disconnect-meant, abort-meant}
 use Rattle.said_worlds.specs.Laws.{AreEnds, DirectIsSaid}
 
 or-left : (p q : Bool) → (p || q) ≡ false → p ≡ false
@@ -69,31 +69,6 @@ both false q e f = cc
 and-left : (p q : Bool) → (p && q) ≡ true → p ≡ true
 and-left true q h = refl
 and-left false q h = cc
-
--- ---- APDUs of association control as they are written
-
-release-writable : acse_written.IsWritable (acse.ReleaseRequest (pos 0))
-release-writable = let f = release-few in record { can = refl; within = omega arith }
-
-released-writable : acse_written.IsWritable (acse.ReleaseResponse (pos 0))
-released-writable = let f = released-few in record { can = refl; within = omega arith }
-
-aborting-writable : acse_written.IsWritable (acse.Abort 0 [])
-aborting-writable = let f = aborting-few in record { can = refl; within = omega arith }
-
-asking-writable : acse_written.IsWritable (acse.AssociateRequest None (2 ∷ 999 ∷ 5 ∷ 3 ∷ []) [])
-asking-writable = let f = asking-few in record { can = refl; within = omega arith }
-
-accepting-writable : acse_written.IsWritable (acse.AssociateResponse (2 ∷ 999 ∷ 5 ∷ 3 ∷ []) 0 (User (pos 0)) [])
-accepting-writable = let f = accepting-few in record { can = refl; within = omega arith }
-
--- how words are read back
-pub record Readings : Type 0 where
-  pub alterations : AlterationsAreReadBack
-  pub data_words : DataAreReadBack
-  pub remote : RemoteIsReadBack
-  pub association : AssociationIsReadBack
-  pub associations : AssociationsAreReadBack
 
 module _ (reads : Readings) (tables : Tables) (transfers : Transfers) (a b : Config) (e : AreEnds tables a b) where
   abbrev common : Common
@@ -121,7 +96,7 @@ module _ (reads : Readings) (tables : Tables) (transfers : Transfers) (a b : Con
 
   all-carried : (messages : List Message) → AreMessages (base Initiator) (base Responder) messages → AreCarried tables messages
   all-carried [] h = tt
-  all-carried (message ∷ messages) h = (said-carried tables common.spellings a b message e.module_s refl e.of_a e.initiator e.of_b right contexts h.0, all-carried messages h.1)
+  all-carried (message ∷ messages) h = (said-carried Direct tables common.spellings a b message e.module_s refl tt e.of_a e.initiator e.of_b right contexts h.0, all-carried messages h.1)
 
   -- ---- and mean themselves
 
@@ -138,32 +113,7 @@ module _ (reads : Readings) (tables : Tables) (transfers : Transfers) (a b : Con
       reads.data_words.values (base role) body start (value_of_item item) [] p.writable
       (record { pair = item.pair; has_pair = refl; in_set = there; carries = or-true (same_name item.pair.abstract_name tables.name_oid) (same_name item.pair.abstract_name acse_name) its; content = reads.remote tables item.pair item.apdu e.module_s.readable w not_acse not_rtse }, tt)
 
-  restart-meant : (role : Role) (body : Body) (number : ℕ) (list : Option (List RestoredItem)) (start : ℕ) → IsRestart number list → Meant role body (OfMarks (Restart number list)) start
-  restart-meant role body number list start i =
-      subst (λ (l : Option (List RestoredItem)). Meant role body (OfMarks (Restart number l)) start) (sym i.is_list)
-      (reads.alterations.restart number (Some i.items) (restart-in i.items i.are i.count).writable (base role) body start)
-
-  restart_ack-meant : (role : Role) (body : Body) (number : ℕ) (list : Option (List RestoredItem)) (start : ℕ) → IsRestart number list → Meant role body (OfMarks (RestartAck number list)) start
-  restart_ack-meant role body number list start i =
-      subst (λ (l : Option (List RestoredItem)). Meant role body (OfMarks (RestartAck number l)) start) (sym i.is_list)
-      (reads.alterations.restart_ack number (Some i.items) (restart_ack-in i.items i.are i.count).writable (base role) body start)
-
-  finish-meant : (role : Role) (body : Body) (start : ℕ) → pair_of body.sets.held 1 ≡ Some acse_pair → Meant role body (OfAssociation the_finish) start
-  finish-meant role body start there =
-      reads.data_words.finish (base role) body start (Some 1) _ [] finish-in.writable
-      (record { pair = acse_pair; has_pair = refl; in_set = there; carries = refl; content = reads.association tables acse_pair (acse.ReleaseRequest (pos 0)) release-writable refl }, tt)
-
-  disconnect-meant : (role : Role) (body : Body) (start : ℕ) → pair_of body.sets.held 1 ≡ Some acse_pair → Meant role body (OfAssociation the_disconnect) start
-  disconnect-meant role body start there =
-      reads.data_words.disconnect (base role) body start _ [] disconnect-in.writable
-      (record { pair = acse_pair; has_pair = refl; in_set = there; carries = refl; content = reads.association tables acse_pair (acse.ReleaseResponse (pos 0)) released-writable refl }, tt)
-
-  abort-meant : (role : Role) (body : Body) (start : ℕ) → Meant role body (OfAssociation the_abort) start
-  abort-meant role body start =
-      reads.associations.abort (base role) body start (Some 3) _
-      (record { id = 1; apdu = acse.Abort 0 []; user = []; is_one = refl; alone = refl; of_kind = refl; writable = aborting-writable; informed = tt }) abort-in.writable
-
-  connect-meant : (role : Role) (body : Body) (start : ℕ) → (not (is_initiator role) && is_joined body.link.stage) ≡ true → Meant role body (OfAssociation (the_connect (base Initiator))) start
+  connect-meant : (role : Role) (body : Body) (start : ℕ) → (not (is_initiator role) && is_joined body.link.stage) ≡ true → Meant role body (OfAssociation (the_connect (base Initiator) false)) start
   connect-meant Initiator body start h = cc
   connect-meant Responder body start h =
       reads.associations.connect (base Responder) body start (session_connect (base Initiator)) (presentation_connect (base Initiator)) (connect_values (base Initiator) false) refl refl right (first-acse tables common.spellings a b right ids)
@@ -177,7 +127,7 @@ module _ (reads : Readings) (tables : Tables) (transfers : Transfers) (a b : Con
   AcceptMeant role body start (Session word) = Meant role body word start
   AcceptMeant role body start (Transport unit) = Unit {0}
 
-  accept-meant : (role : Role) (body : Body) (start : ℕ) → is_initiator role ≡ true → AcceptMeant role body start (the_acceptance (base Initiator) (base Responder))
+  accept-meant : (role : Role) (body : Body) (start : ℕ) → is_initiator role ≡ true → AcceptMeant role body start (the_acceptance (base Initiator) (base Responder) false)
   accept-meant Responder body start h = cc
   accept-meant Initiator body start h =
       let fit : fit_proposals (proposals (base Initiator)) (opening_policy (base Responder) (proposals (base Initiator))) ≡ true = additions-answered (base Responder) true 0 (proposals (base Initiator)) in
@@ -191,14 +141,14 @@ module _ (reads : Readings) (tables : Tables) (transfers : Transfers) (a b : Con
       (acceptance-in tables common.spellings a b right ids e.of_a e.of_b).writable
 
   association-meant : (role : Role) (body : Body) (word : AssociationWord) (start : ℕ) → IsOfAssociation (base Initiator) (base Responder) word → IsTaken (base role) body (OfAssociation word) → is_in_place (base role) body (unit_of (OfAssociation word)) ≡ true → Meant role body (OfAssociation word) start
-  association-meant role body (Connect session presentation values) start i t p = subst (λ (w : AssociationWord). Meant role body (OfAssociation w) start) (sym i) (connect-meant role body start p)
+  association-meant role body (Connect session presentation values) start i t p = subst (λ (w : AssociationWord). Meant role body (OfAssociation w) start) (sym i.1) (connect-meant role body start p)
   association-meant role body (Accept session presentation values) start i t p =
-      subst (AcceptMeant role body start) (sym i)
+      subst (AcceptMeant role body start) (sym i.1)
       (accept-meant role body start (and-left (is_initiator role) (is_carrying body.link.stage) (and-left (is_initiator role && is_carrying body.link.stage) (is_opening body.link.phase) (and-left _ (has_version_two session.version) (and-left _ (has_units (needed_units Direct) (selected_with Direct session.requirements)) p)))))
   association-meant role body (Refuse transport reason presentation values) start i t p = absurd i
-  association-meant role body (Finish transport values) start i t p = subst (λ (w : AssociationWord). Meant role body (OfAssociation w) start) (sym i) (finish-meant role body start t)
-  association-meant role body (Disconnect values) start i t p = subst (λ (w : AssociationWord). Meant role body (OfAssociation w) start) (sym i) (disconnect-meant role body start t)
-  association-meant role body (Abort transport user) start i t p = subst (λ (w : AssociationWord). Meant role body (OfAssociation w) start) (sym i) (abort-meant role body start)
+  association-meant role body (Finish transport values) start i t p = subst (λ (w : AssociationWord). Meant role body (OfAssociation w) start) (sym i) (finish-meant reads (base role) body start t)
+  association-meant role body (Disconnect values) start i t p = subst (λ (w : AssociationWord). Meant role body (OfAssociation w) start) (sym i) (disconnect-meant reads (base role) body start t)
+  association-meant role body (Abort transport user) start i t p = subst (λ (w : AssociationWord). Meant role body (OfAssociation w) start) (sym i) (abort-meant reads (base role) body start)
   association-meant role body AbortAccept start i t p = absurd i
 
   word-meant : (role : Role) (body : Body) (word : Word) (start : ℕ) → (IsOfSession word → ⊥) → IsWord (base Initiator) (base Responder) word → IsTaken (base role) body word → is_in_place (base role) body (unit_of word) ≡ true → Meant role body word start
@@ -206,12 +156,12 @@ module _ (reads : Readings) (tables : Tables) (transfers : Transfers) (a b : Con
   word-meant role body (OfData (Values values)) start late i t p =
       subst (λ (vs : List Value). Meant role body (OfData (Values vs)) start) (sym i.is_one)
       (let on = t i.item i.is_one in value-meant role body i.item start i.transferable i.context on.there on.named)
-  word-meant role body (OfData (AlterContext add delete)) start late i t p = reads.alterations.alter add delete (alter-in add delete i).writable (base role) body start
-  word-meant role body (OfData (AlterContextAck answers)) start late i t p = reads.alterations.alter_ack answers (ack-in answers i).writable (base role) body start
+  word-meant role body (OfData (AlterContext add delete)) start late i t p = alter-meant reads (base role) body start add delete i
+  word-meant role body (OfData (AlterContextAck answers)) start late i t p = ack-meant reads (base role) body start answers i
   word-meant role body (OfMarks (Mark number)) start late i t p = absurd (late tt)
   word-meant role body (OfMarks (MarkAck number)) start late i t p = absurd i
-  word-meant role body (OfMarks (Restart number list)) start late i t p = restart-meant role body number list start i
-  word-meant role body (OfMarks (RestartAck number list)) start late i t p = restart_ack-meant role body number list start i
+  word-meant role body (OfMarks (Restart number list)) start late i t p = restart-meant reads (base role) body start number list i
+  word-meant role body (OfMarks (RestartAck number list)) start late i t p = restart_ack-meant reads (base role) body start number list i
   word-meant role body (OfMarks (Give tokens)) start late i t p = absurd (late tt)
   word-meant role body (OfMarks (Please tokens [])) start late i t p = absurd (late tt)
   word-meant role body (OfMarks (Please tokens (value ∷ values))) start late i t p = cc

@@ -1,6 +1,6 @@
 //! Each law is the contract of a function that does nothing but cite others.
 
-ghost use Rattle.said_worlds.specs.Laws.{DirectIsSaid, EndsAreMet};
+ghost use Rattle.said_worlds.specs.Laws.{DirectIsSaid, EndsAreMet, ReliableIsSaid};
 
 use association_reading::{
     alterations_are_read_back, associations_are_read_back, data_are_read_back,
@@ -19,7 +19,18 @@ pub fn direct_ends_are_said()
     associations_are_read_back();
 }
 
-/// There are such ends.
-pub fn direct_ends_are_met()
+/// So it does of two ends of reliable mode.
+pub fn reliable_ends_are_said()
+    ensures law { ReliableIsSaid }
+{
+    alterations_are_read_back();
+    data_are_read_back();
+    remote_is_read_back();
+    layers_are_read_back();
+    associations_are_read_back();
+}
+
+/// There are such ends, in both modes.
+pub fn ends_are_met()
     ensures law { EndsAreMet }
 {}

@@ -22,10 +22,10 @@ use Rattle.transfer_laws.proofs.Configs.{identifiers-right, has-window}
 use Rattle.transfer_laws.proofs.Spelled.{spells-so, back-so}
 
 module _ (tables : Tables) (a b : Config) (module_s : IsModule tables) (own : IsOwnName tables.name_oid) (right_a : IsReliable a) (right_b : IsReliable b) where
-  has-free : (free : Free) × Carries free (base_at Initiator (reliable_ends tables a b))
+  pub has-free : (free : Free) × Carries free (base_at Initiator (reliable_ends tables a b))
   has-free = has-codec tables a true Reliable (transferred tables) (arrived_at tables) module_s (spells-so tables a true Reliable module_s own)
 
-  fit : IsFit (reliable_ends tables a b)
+  pub fit : IsFit (reliable_ends tables a b)
   fit =
       record {
         reads = back-so tables a true Reliable module_s own;

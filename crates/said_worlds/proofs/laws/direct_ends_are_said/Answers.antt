@@ -12,5 +12,6 @@ returns c =
             remote = c.remote_is_read_back.ensures;
             association = c.layers_are_read_back.ensures.association;
             associations = c.associations_are_read_back.ensures;
+            transfers = c.layers_are_read_back.ensures.transfers;
           });
     }
