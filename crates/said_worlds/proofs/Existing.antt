@@ -1,11 +1,9 @@
 -- There are two ends of direct mode, and two of reliable mode.
-use Rattle.std.proofs.Common.{◌≡◌, refl, true, false, ap, arith, ℕ, ◌+◌, ◌≤◌, pos, List, [], ◌∷◌, length}
+use Rattle.std.proofs.Common.{◌≡◌, refl, true, false, arith, ℕ, ◌+◌, ◌≤◌, List, [], ◌∷◌, length}
 use Rattle.std.specs.Prelude.{Bool, ◌&&◌, ◌||◌, Option, Some, None, nat_lt, slice_get, if◌then◌else◌}
 use Rattle.std.proofs.lemmas.Bool.Decides.{nat_tests}
 use Rattle.osi_base.specs.declared.presentation_word.PdvContent.TheVariants as forms
-use Rattle.osi_base.specs.declared.words.Proposal.{Proposal}
 use Rattle.osi_base.specs.declared.acse_word.Acse.TheVariants as acse
-use Rattle.osi_base.specs.declared.rtse_word.Rtse.TheVariants as rtse
 use Rattle.dialogue.specs.declared.config.Config.{Config}
 use Rattle.dialogue.specs.declared.config.ConfigRefusal.TheVariants as refusals
 use Rattle.dialogue.specs.declared.config.ConfigRefusal.{ConfigRefusal}
@@ -17,12 +15,11 @@ use Rattle.end_rules.specs.Cases.{calc, config_of}
 use Rattle.end_rules.specs.Writing.{proposal_in_ber, requirement_bits}
 use Rattle.transfer_spelling.specs.Laws.{IsModule}
 use Rattle.acse.specs.Written.{written_acse}
-use Rattle.said_words.specs.Fields.{IsContext}
 use Rattle.said_spellings.specs.Laws.{IsEndIn}
 use Rattle.said_spellings.proofs.Sizes.{Each}
 use Rattle.said_spellings.proofs.Ppdus.{Defined, connect-few}
 use Rattle.said_spellings.proofs.Association.{asking, asking-is, asking-few, bits-true}
-use Rattle.said_spellings.proofs.Transfers.{IsConnection, Spelled, SpelledRtse, SpelledAcse, carrying, reliable_context, request-spelled, asking-spelled}
+use Rattle.said_spellings.proofs.Transfers.{IsConnection, Spelled, carrying, reliable_context, request-spelled, asking-spelled}
 use Rattle.said_worlds.specs.Laws.{EndsAreMet}
 
 no-row : {X : Type 0} (n : ℕ) (x : X) → slice_get {X = X} [] n ≡ Some x → ⊥

@@ -1,5 +1,5 @@
 -- How words of both modes are read back.
-use Rattle.std.proofs.Common.{◌≡◌, refl, true, sym, subst, arith, ℕ, ◌≤◌, pos, List, [], ◌∷◌, length}
+use Rattle.std.proofs.Common.{◌≡◌, refl, sym, subst, arith, ℕ, pos, List, [], ◌∷◌}
 use Rattle.std.specs.Prelude.{Option, Some, None}
 use Rattle.osi_base.specs.declared.words.Answers.{Answers}
 use Rattle.osi_base.specs.declared.words.Proposal.{Proposal}

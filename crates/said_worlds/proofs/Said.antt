@@ -1,17 +1,15 @@
 -- What two ends of direct mode say may be written, and means itself where it is taken.
-use Rattle.std.proofs.Common.{◌≡◌, refl, true, false, ◌∙◌, sym, ap, subst, arith, ℕ, ◌≤◌, pos, List, [], ◌∷◌, length}
-use Rattle.std.specs.Prelude.{Bool, not, ◌&&◌, ◌||◌, Option, Some, None, Ok}
-use Rattle.osi_base.specs.declared.words.RestoredItem.{RestoredItem}
+use Rattle.std.proofs.Common.{◌≡◌, refl, true, false, ◌∙◌, sym, ap, subst, ℕ, pos, List, [], ◌∷◌}
+use Rattle.std.specs.Prelude.{Bool, not, ◌&&◌, ◌||◌, Some, None, Ok}
 use Rattle.osi_base.specs.declared.acse_word.Acse.TheVariants as acse
 use Rattle.osi_base.specs.declared.acse_word.Diagnostic.TheVariants.{User}
 use Rattle.stub_tables.specs.declared.tables.Tables.{Tables}
 use Rattle.dialogue.specs.declared.config.Config.{Config}
-use Rattle.acse.specs.Written as acse_written
 use Rattle.end_rules.specs.Base.{Base, Item, acse_name, rtse_name}
 use Rattle.end_rules.specs.Sets.{same_name, pair_of, fit_proposals}
 use Rattle.end_rules.specs.State.{Body, is_carrying, is_joined}
 use Rattle.end_rules.specs.Messages.{Message, Transport, Session, Value, Word, OfAssociation, OfData, OfMarks, OfActivities, AssociationWord, Connect, Accept, Refuse, Finish, Disconnect, Abort, AbortAccept, Values, AlterContext, AlterContextAck, Mark, MarkAck, Restart, RestartAck, Give, Please, GiveConfirm, GiveAck, unit_of}
-use Rattle.end_rules.specs.Writing.{acse_pair, acse_context, proposals, session_connect, presentation_connect, connect_values}
+use Rattle.end_rules.specs.Writing.{acse_context, proposals, session_connect, presentation_connect, connect_values}
 use Rattle.end_rules.specs.Policy.{opening_policy}
 use Rattle.end_rules.specs.Connecting.{has_acse}
 use Rattle.end_rules.specs.InPlace.{is_in_place, is_opening}
@@ -19,8 +17,7 @@ use Rattle.end_rules.specs.Units.{has_version_two, has_units, needed_units, sele
 use Rattle.dialogue.specs.declared.config.Mode.TheVariants.{Direct}
 use Rattle.association_wire.specs.Units.{user_octets}
 use Rattle.association_wire.specs.Written.{with_user}
-use Rattle.association_reading.specs.Laws.{IsOfSession, AlterationsAreReadBack, DataAreReadBack, RemoteIsReadBack, AssociationIsReadBack}
-use Rattle.association_reading.specs.Associating.{AssociationsAreReadBack}
+use Rattle.association_reading.specs.Laws.{IsOfSession}
 use Rattle.association_reading.specs.Meaning.{meaning}
 use Rattle.agreement.specs.Sets.{Role, is_initiator}
 use Rattle.agreement.specs.Sets.Role.{Initiator, Responder}
@@ -38,7 +35,7 @@ use Rattle.transfer_laws.proofs.Configs.{identifiers-right}
 use Rattle.association_worlds.specs.Ways.{AreCarried}
 use Rattle.said_words.specs.Calls.{Speaks}
 use Rattle.said_words.specs.Laws.{ProposesContexts}
-use Rattle.said_words.specs.Words.{IsWord, AreMessages, IsOfAssociation, IsRestart, value_of_item, the_connect, the_acceptance, the_finish, the_disconnect, the_abort}
+use Rattle.said_words.specs.Words.{IsWord, AreMessages, IsOfAssociation, value_of_item, the_connect, the_acceptance}
 use Rattle.said_words.proofs.First.{first_of, first-pair, first-acse, first-context}
 use Rattle.said_words.proofs.Worlds.{direct-says}
 use Rattle.said_takings.specs.Laws.{IsTaken}

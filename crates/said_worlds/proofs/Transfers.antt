@@ -1,6 +1,6 @@
 -- What two ends of reliable mode say may be written, and means itself where it is taken.
-use Rattle.std.proofs.Common.{◌≡◌, refl, true, false, ◌∙◌, sym, ap, subst, ℕ, pos, ◌≤◌, List, [], ◌∷◌}
-use Rattle.std.specs.Prelude.{Bool, not, ◌&&◌, ◌||◌, Option, Some, None, Ok, min}
+use Rattle.std.proofs.Common.{◌≡◌, refl, true, false, ◌∙◌, sym, ap, subst, ℕ, pos, List, [], ◌∷◌}
+use Rattle.std.specs.Prelude.{Bool, not, ◌&&◌, Option, Some, None, min}
 use Rattle.osi_base.specs.declared.acse_word.Acse.TheVariants as acse
 use Rattle.osi_base.specs.declared.acse_word.Diagnostic.TheVariants.{User}
 use Rattle.osi_base.specs.declared.rtse_word.Rtse.TheVariants as rtse
@@ -12,7 +12,7 @@ use Rattle.end_rules.specs.Base.{Base, rtse_name}
 use Rattle.end_rules.specs.Sets.{has_abstract, pair_of, fit_proposals}
 use Rattle.end_rules.specs.State.{Body, is_carrying, is_joined}
 use Rattle.end_rules.specs.Messages.{Message, Transport, Session, Transferring, Plea, Part, Value, Word, OfAssociation, OfData, OfMarks, OfActivities, AssociationWord, Connect, Accept, Refuse, Finish, Disconnect, Abort, AbortAccept, Values, AlterContext, AlterContextAck, Mark, MarkAck, Restart, RestartAck, Give, Please, GiveConfirm, GiveAck, unit_of}
-use Rattle.end_rules.specs.Writing.{acse_pair, acse_context, rtse_context, proposals, session_connect, presentation_connect, connect_values, connection_data}
+use Rattle.end_rules.specs.Writing.{acse_context, rtse_context, proposals, session_connect, presentation_connect, connect_values, connection_data}
 use Rattle.end_rules.specs.Policy.{opening_policy}
 use Rattle.end_rules.specs.Connecting.{has_acse, has_rtse, is_on_rtse, agreed_checkpoint, answering_data}
 use Rattle.end_rules.specs.InPlace.{is_in_place, is_opening}
@@ -20,7 +20,6 @@ use Rattle.end_rules.specs.Reacting.{Takes, react}
 use Rattle.end_rules.specs.Units.{has_version_two, has_units, needed_units, selected_with}
 use Rattle.association_reading.specs.Laws.{IsOfSession}
 use Rattle.association_reading.specs.Associating.{IsMeantAs}
-use Rattle.association_reading.specs.Transfers.{transferred}
 use Rattle.agreement.specs.Sets.{Role, is_initiator}
 use Rattle.agreement.specs.Sets.Role.{Initiator, Responder}
 use Rattle.end_model.specs.Pairs.{Common, base_at, Two, body_at, coming_to}

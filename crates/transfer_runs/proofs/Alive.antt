@@ -36,6 +36,7 @@ use Rattle.run_laws.specs.Laws.{NobodyIsDead}
 use Rattle.association_runs.specs.Worlds.{Runs}
 use Rattle.association_runs.specs.Sides.{ends_for}
 use Rattle.association_runs.specs.Laws.{AreEvents, ReachesMessages}
+use Rattle.transfer_worlds.proofs.Spoken.{of_first, of_second}
 use Rattle.transfer_runs.specs.Laws.{AreReliable}
 
 rests-alive : (way : Way) → is_dead (rests way) ≡ false
@@ -85,20 +86,20 @@ module _ (tables : Tables) (a b : Config) (d : AreReliable tables a b) where
   fit : IsFit (reliable_ends tables a b)
   fit =
       record {
-        reads = back-so tables a true Reliable d.module_ d.named;
-        spells = spells-so tables a true Reliable d.module_ d.named;
-        name = d.named;
-        proposes = subst (λ (m : Mode). is_faulty_proposal true [] (own_proposals m ++ a.contexts) ≡ false) d.first.mode (proposes-rightly a d.first.accepted);
-        identifiers = identifiers-right a d.first.accepted;
-        window = has-window b d.second.accepted;
+        reads = back-so tables a true Reliable d.ends.module_s d.ends.name;
+        spells = spells-so tables a true Reliable d.ends.module_s d.ends.name;
+        name = d.ends.name;
+        proposes = subst (λ (m : Mode). is_faulty_proposal true [] (own_proposals m ++ a.contexts) ≡ false) (of_first tables a b d.ends).mode (proposes-rightly a (of_first tables a b d.ends).accepted);
+        identifiers = identifiers-right a (of_first tables a b d.ends).accepted;
+        window = has-window b (of_second tables a b d.ends).accepted;
       }
 
   abbrev pub free : Free
-  free = (ends-modelled tables a b d.module_ d.named d.first d.second).0
+  free = (ends-modelled tables a b d.ends.module_s d.ends.name (of_first tables a b d.ends) (of_second tables a b d.ends)).0
 
   pub kept : (two : Two) (ledger : Ledger) → Goes (reliable_ends tables a b) two ledger → machine.Kept free tables (reliable_ends tables a b).spellings a b two ledger
   kept two ledger g =
-      all-kept free tables (reliable_ends tables a b).spellings a b (record { fit = fit; carries = (ends-modelled tables a b d.module_ d.named d.first d.second).1 }) two ledger g
+      all-kept free tables (reliable_ends tables a b).spellings a b (record { fit = fit; carries = (ends-modelled tables a b d.ends.module_s d.ends.name (of_first tables a b d.ends) (of_second tables a b d.ends)).1 }) two ledger g
 
   pub nobody-dead : (w : World) → ReachesMessages (reliable_ends tables a b) w → NobodyIsDead (ends_for (reliable_ends tables a b)) w
   nobody-dead w s = go

@@ -9,7 +9,8 @@ use Rattle.association_reading.specs.Transfers.{association_spellings}
 use Rattle.association_worlds.specs.Laws.{IsMeant, SaidIsMeant}
 use Rattle.transfer_laws.specs.Laws.{reliable_ends}
 use Rattle.transfer_laws.proofs.Premises.{ends-one_holder, ends-take, ends-whole, ends-items, ends-once, ends-answers}
-use Rattle.transfer_worlds.proofs.Spoken.{all-meant}
+use Rattle.said_worlds.specs.Laws.{ReliableIsSaid}
+use Rattle.transfer_worlds.proofs.Spoken.{all-meant, of_first, of_second}
 use Rattle.run_laws.specs.Passing.{TakenInPlace}
 use Rattle.run_laws.specs.Showing.{EachCarryShows}
 use Rattle.run_laws.specs.Laws.{AtEachMoment, NothingFails, NobodyIsDead, OneHolder}
@@ -36,8 +37,8 @@ use Rattle.transfer_runs.proofs.Whole.{KeepThen, keep-keeps, transferred-once}
 module _ (tables : Tables) (a b : Config) (d : AreReliable tables a b) where
   same-ends : ends_for (reliable_ends tables a b) ≡ ends_of tables a b
   same-ends = λ i. record {
-    a = record { tables = tables; config = a; initiator = sym d.sides.first i; mode = sym d.first.mode i; spellings = association_spellings tables };
-    b = record { tables = tables; config = b; initiator = sym d.sides.second i; mode = sym d.second.mode i; spellings = association_spellings tables };
+    a = record { tables = tables; config = a; initiator = sym d.ends.initiator i; mode = sym d.ends.of_a.mode i; spellings = association_spellings tables };
+    b = record { tables = tables; config = b; initiator = sym d.responder i; mode = sym d.ends.of_b.mode i; spellings = association_spellings tables };
   }
 
   -- what holds of runs of the one holds of runs of the other
@@ -45,84 +46,85 @@ module _ (tables : Tables) (a b : Config) (d : AreReliable tables a b) where
       → (all : List Event) (told : List Entry) (w : World) → AreEvents all → Runs (ends_of tables a b) [] all told w → Law (ends_of tables a b) w
   over Law h = subst (λ (e : Ends). (all : List Event) (told : List Entry) (w : World) → AreEvents all → Runs e [] all told w → Law e w) same-ends h
 
-  meant : SaidIsMeant → IsMeant (reliable_ends tables a b)
-  meant law = all-meant law tables a b d.module_ d.named d.first d.second d.said
+  meant : SaidIsMeant → ReliableIsSaid → IsMeant (reliable_ends tables a b)
+  meant law is_said = all-meant tables a b d.ends law is_said
 
   holder : AreOneHolder (reliable_ends tables a b)
-  holder two ledger g = ends-one_holder tables a b d.module_ d.named d.first d.second two ledger g
+  holder two ledger g = ends-one_holder tables a b d.ends.module_s d.ends.name (of_first tables a b d.ends) (of_second tables a b d.ends) two ledger g
 
-pub take-in-place : RunsTakeInPlace → SaidIsMeant → ReliableRunsTakeInPlace
-take-in-place runs law tables a b d = over tables a b d (λ ends w. AtEachMoment (TakenInPlace ends) w) (runs (reliable_ends tables a b) (meant tables a b d law))
+pub take-in-place : RunsTakeInPlace → SaidIsMeant → ReliableIsSaid → ReliableRunsTakeInPlace
+take-in-place runs law is_said tables a b d = over tables a b d (λ ends w. AtEachMoment (TakenInPlace ends) w) (runs (reliable_ends tables a b) (meant tables a b d law is_said))
 
-pub show-what-is-taken : RunsShowWhatIsTaken → SaidIsMeant → ReliableRunsShowWhatIsTaken
-show-what-is-taken runs law tables a b d =
+pub show-what-is-taken : RunsShowWhatIsTaken → SaidIsMeant → ReliableIsSaid → ReliableRunsShowWhatIsTaken
+show-what-is-taken runs law is_said tables a b d =
     subst (λ (e : Ends). (all : List Event) (told : List Entry) (w : World) → AreEvents all → Runs e [] all told w → EachCarryShows e told w) (same-ends tables a b d)
-    (runs (reliable_ends tables a b) (meant tables a b d law))
+    (runs (reliable_ends tables a b) (meant tables a b d law is_said))
 
-pub tell-one : RunsTellOneOutcome → SaidIsMeant → ReliableRunsTellOneOutcome
-tell-one runs law tables a b d =
+pub tell-one : RunsTellOneOutcome → SaidIsMeant → ReliableIsSaid → ReliableRunsTellOneOutcome
+tell-one runs law is_said tables a b d =
     over tables a b d (λ ends w. (side : Side) → AreDistinct (outcomes_in (own_at ends side w).shown) × AreAllowed ends.a.tables (own_at ends side w).asked (own_at ends side w).shown) go
   where
     go : (all : List Event) (told : List Entry) (w : World) → AreEvents all → Runs (ends_for (reliable_ends tables a b)) [] all told w
         → (side : Side) → AreDistinct (outcomes_in (own_at (ends_for (reliable_ends tables a b)) side w).shown) × AreAllowed tables (own_at (ends_for (reliable_ends tables a b)) side w).asked (own_at (ends_for (reliable_ends tables a b)) side w).shown
-    go all told w typed r A = let o = runs (reliable_ends tables a b) (meant tables a b d law) all told w typed r Initiator in (o.once, o.allowed)
-    go all told w typed r B = let o = runs (reliable_ends tables a b) (meant tables a b d law) all told w typed r Responder in (o.once, o.allowed)
+    go all told w typed r A = let o = runs (reliable_ends tables a b) (meant tables a b d law is_said) all told w typed r Initiator in (o.once, o.allowed)
+    go all told w typed r B = let o = runs (reliable_ends tables a b) (meant tables a b d law is_said) all told w typed r Responder in (o.once, o.allowed)
 
-pub never-fail : RunsNeverFail → SaidIsMeant → ReliableRunsNeverFail
-never-fail runs law tables a b d = over tables a b d (λ ends w. NothingFails w) (runs (reliable_ends tables a b) (meant tables a b d law))
+pub never-fail : RunsNeverFail → SaidIsMeant → ReliableIsSaid → ReliableRunsNeverFail
+never-fail runs law is_said tables a b d = over tables a b d (λ ends w. NothingFails w) (runs (reliable_ends tables a b) (meant tables a b d law is_said))
 
-pub keep-alive : RunsReachMessages → SaidIsMeant → ReliableRunsKeepEndsAlive
-keep-alive runs law tables a b d = over tables a b d NobodyIsDead (λ all told w typed r. nobody-dead tables a b d w (runs (reliable_ends tables a b) (meant tables a b d law) all told w typed r))
+pub keep-alive : RunsReachMessages → SaidIsMeant → ReliableIsSaid → ReliableRunsKeepEndsAlive
+keep-alive runs law is_said tables a b d =
+    over tables a b d NobodyIsDead (λ all told w typed r. nobody-dead tables a b d w (runs (reliable_ends tables a b) (meant tables a b d law is_said) all told w typed r))
 
-pub have-one-holder : RunsHaveOneHolder → SaidIsMeant → ReliableRunsHaveOneHolder
-have-one-holder runs law tables a b d =
-    over tables a b d (λ ends w. AtEachMoment (OneHolder ends) w) (λ all told w typed r. runs (reliable_ends tables a b) (meant tables a b d law) all told w typed r (holder tables a b d))
+pub have-one-holder : RunsHaveOneHolder → SaidIsMeant → ReliableIsSaid → ReliableRunsHaveOneHolder
+have-one-holder runs law is_said tables a b d =
+    over tables a b d (λ ends w. AtEachMoment (OneHolder ends) w) (λ all told w typed r. runs (reliable_ends tables a b) (meant tables a b d law is_said) all told w typed r (holder tables a b d))
 
-pub arrive-whole : RunsTransferWhole → SaidIsMeant → ReliableRunsArriveWhole
-arrive-whole runs law tables a b d =
+pub arrive-whole : RunsTransferWhole → SaidIsMeant → ReliableIsSaid → ReliableRunsArriveWhole
+arrive-whole runs law is_said tables a b d =
     over tables a b d EachArrivesWhole
-    (λ all told w typed r. runs (reliable_ends tables a b) (meant tables a b d law) all told w typed r
-    (λ two ledger g. ends-whole tables a b d.module_ d.named d.first d.second two ledger g) (λ two ledger g. ends-items tables a b d.module_ d.named d.first d.second two ledger g))
+    (λ all told w typed r. runs (reliable_ends tables a b) (meant tables a b d law is_said) all told w typed r
+    (λ two ledger g. ends-whole tables a b d.ends.module_s d.ends.name (of_first tables a b d.ends) (of_second tables a b d.ends) two ledger g) (λ two ledger g. ends-items tables a b d.ends.module_s d.ends.name (of_first tables a b d.ends) (of_second tables a b d.ends) two ledger g))
 
-pub arrive-once : RunsReachMessages → SaidIsMeant → ReliableRunsArriveOnce
-arrive-once runs law tables a b d = over tables a b d (λ ends w. (side : Side) → AreFalling (deeds_at ends side w).arrived) go
+pub arrive-once : RunsReachMessages → SaidIsMeant → ReliableIsSaid → ReliableRunsArriveOnce
+arrive-once runs law is_said tables a b d = over tables a b d (λ ends w. (side : Side) → AreFalling (deeds_at ends side w).arrived) go
   where
     go : (all : List Event) (told : List Entry) (w : World) → AreEvents all → Runs (ends_for (reliable_ends tables a b)) [] all told w → (side : Side) → AreFalling (deeds_at (ends_for (reliable_ends tables a b)) side w).arrived
     go all told w typed r A =
-        let s = runs (reliable_ends tables a b) (meant tables a b d law) all told w typed r in
-        subst (λ (x : Deeds). AreFalling x.arrived) (sym (s.deeds Initiator)) (ends-once tables a b d.module_ d.named d.first d.second s.two s.ledger s.speaks.goes Initiator)
+        let s = runs (reliable_ends tables a b) (meant tables a b d law is_said) all told w typed r in
+        subst (λ (x : Deeds). AreFalling x.arrived) (sym (s.deeds Initiator)) (ends-once tables a b d.ends.module_s d.ends.name (of_first tables a b d.ends) (of_second tables a b d.ends) s.two s.ledger s.speaks.goes Initiator)
     go all told w typed r B =
-        let s = runs (reliable_ends tables a b) (meant tables a b d law) all told w typed r in
-        subst (λ (x : Deeds). AreFalling x.arrived) (sym (s.deeds Responder)) (ends-once tables a b d.module_ d.named d.first d.second s.two s.ledger s.speaks.goes Responder)
+        let s = runs (reliable_ends tables a b) (meant tables a b d law is_said) all told w typed r in
+        subst (λ (x : Deeds). AreFalling x.arrived) (sym (s.deeds Responder)) (ends-once tables a b d.ends.module_s d.ends.name (of_first tables a b d.ends) (of_second tables a b d.ends) s.two s.ledger s.speaks.goes Responder)
 
-pub transfer-once : RunsReachMessages → RunsTransferWhole → SaidIsMeant → ReliableRunsTransferOnce
-transfer-once runs arrive law tables a b d = over tables a b d OneTransfer go
+pub transfer-once : RunsReachMessages → RunsTransferWhole → SaidIsMeant → ReliableIsSaid → ReliableRunsTransferOnce
+transfer-once runs arrive law is_said tables a b d = over tables a b d OneTransfer go
   where
     go : (all : List Event) (told : List Entry) (w : World) → AreEvents all → Runs (ends_for (reliable_ends tables a b)) [] all told w → OneTransfer (ends_for (reliable_ends tables a b)) w
     go all told w typed r =
-        let m = meant tables a b d law in
+        let m = meant tables a b d law is_said in
         let s = runs (reliable_ends tables a b) m all told w typed r in
         let keeps = keep-keeps (free tables a b d) tables (reliable_ends tables a b).spellings a b
-            (λ two ledger g role message left fault body aborts shown e h. ends-take tables a b d.module_ d.named d.first d.second two ledger g role message left fault body aborts shown e h) (kept tables a b d) in
+            (λ two ledger g role message left fault body aborts shown e h. ends-take tables a b d.ends.module_s d.ends.name (of_first tables a b d.ends) (of_second tables a b d.ends) two ledger g role message left fault body aborts shown e h) (kept tables a b d) in
         transferred-once (ends_for (reliable_ends tables a b)) w
-        (arrive (reliable_ends tables a b) m all told w typed r (λ two ledger g. ends-whole tables a b d.module_ d.named d.first d.second two ledger g) (λ two ledger g. ends-items tables a b d.module_ d.named d.first d.second two ledger g))
+        (arrive (reliable_ends tables a b) m all told w typed r (λ two ledger g. ends-whole tables a b d.ends.module_s d.ends.name (of_first tables a b d.ends) (of_second tables a b d.ends) two ledger g) (λ two ledger g. ends-items tables a b d.ends.module_s d.ends.name (of_first tables a b d.ends) (of_second tables a b d.ends) two ledger g))
         (from-start (reliable_ends tables a b) m (λ w two ledger dealings. AreDone (reliable_ends tables a b) w two ledger dealings × KeepThen (ends_for (reliable_ends tables a b)) w) keeps w all told typed r).extra.1
         (falling s)
       where
         falling : ReachesMessages (reliable_ends tables a b) w → (side : Side) → AreFalling (deeds_at (ends_for (reliable_ends tables a b)) side w).arrived
-        falling s A = subst (λ (x : Deeds). AreFalling x.arrived) (sym (s.deeds Initiator)) (ends-once tables a b d.module_ d.named d.first d.second s.two s.ledger s.speaks.goes Initiator)
-        falling s B = subst (λ (x : Deeds). AreFalling x.arrived) (sym (s.deeds Responder)) (ends-once tables a b d.module_ d.named d.first d.second s.two s.ledger s.speaks.goes Responder)
+        falling s A = subst (λ (x : Deeds). AreFalling x.arrived) (sym (s.deeds Initiator)) (ends-once tables a b d.ends.module_s d.ends.name (of_first tables a b d.ends) (of_second tables a b d.ends) s.two s.ledger s.speaks.goes Initiator)
+        falling s B = subst (λ (x : Deeds). AreFalling x.arrived) (sym (s.deeds Responder)) (ends-once tables a b d.ends.module_s d.ends.name (of_first tables a b d.ends) (of_second tables a b d.ends) s.two s.ledger s.speaks.goes Responder)
 
-pub tell-answers : RunsReachMessages → SaidIsMeant → ReliableRunsTellAnswers
-tell-answers runs law tables a b d = over tables a b d (λ ends w. (side : Side) → AreAnswers ends.a.tables (own_at ends (other side) w).wrote (own_at ends side w).shown) go
+pub tell-answers : RunsReachMessages → SaidIsMeant → ReliableIsSaid → ReliableRunsTellAnswers
+tell-answers runs law is_said tables a b d = over tables a b d (λ ends w. (side : Side) → AreAnswers ends.a.tables (own_at ends (other side) w).wrote (own_at ends side w).shown) go
   where
     go : (all : List Event) (told : List Entry) (w : World) → AreEvents all → Runs (ends_for (reliable_ends tables a b)) [] all told w
         → (side : Side) → AreAnswers tables (own_at (ends_for (reliable_ends tables a b)) (other side) w).wrote (own_at (ends_for (reliable_ends tables a b)) side w).shown
     go all told w typed r A =
-        let s = runs (reliable_ends tables a b) (meant tables a b d law) all told w typed r in
+        let s = runs (reliable_ends tables a b) (meant tables a b d law is_said) all told w typed r in
         subst (λ (o : Own). AreAnswers tables o.wrote (own_at (ends_for (reliable_ends tables a b)) A w).shown) (sym (s.dealt Responder))
-        (subst (λ (o : Own). AreAnswers tables (dealt_of Responder s.dealings).wrote o.shown) (sym (s.dealt Initiator)) (ends-answers tables a b d.module_ d.named d.first d.second s.two s.ledger s.dealings s.deals Initiator))
+        (subst (λ (o : Own). AreAnswers tables (dealt_of Responder s.dealings).wrote o.shown) (sym (s.dealt Initiator)) (ends-answers tables a b d.ends.module_s d.ends.name (of_first tables a b d.ends) (of_second tables a b d.ends) s.two s.ledger s.dealings s.deals Initiator))
     go all told w typed r B =
-        let s = runs (reliable_ends tables a b) (meant tables a b d law) all told w typed r in
+        let s = runs (reliable_ends tables a b) (meant tables a b d law is_said) all told w typed r in
         subst (λ (o : Own). AreAnswers tables o.wrote (own_at (ends_for (reliable_ends tables a b)) B w).shown) (sym (s.dealt Initiator))
-        (subst (λ (o : Own). AreAnswers tables (dealt_of Initiator s.dealings).wrote o.shown) (sym (s.dealt Responder)) (ends-answers tables a b d.module_ d.named d.first d.second s.two s.ledger s.dealings s.deals Responder))
+        (subst (λ (o : Own). AreAnswers tables (dealt_of Initiator s.dealings).wrote o.shown) (sym (s.dealt Responder)) (ends-answers tables a b d.ends.module_s d.ends.name (of_first tables a b d.ends) (of_second tables a b d.ends) s.two s.ledger s.dealings s.deals Responder))

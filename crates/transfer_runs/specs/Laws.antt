@@ -1,14 +1,12 @@
 -- Runs of two ends of reliable mode whose lines are octets.
-use Rattle.std.specs.Prelude.{List, []}
+use Rattle.std.specs.Prelude.{◌≡◌, List, [], false}
 use Rattle.dialogue.specs.declared.config.Config.{Config}
+use Rattle.dialogue.specs.declared.config.Mode.TheVariants.{Reliable}
 use Rattle.dialogue.specs.declared.event.Event.{Event}
 use Rattle.dialogue.specs.declared.event.Entry.{Entry}
 use Rattle.stub_tables.specs.declared.tables.Tables.{Tables}
 use Rattle.end_rules.specs.World.{World, Ends, other}
-use Rattle.reliable_model.specs.ReliablePairs.{IsOwnName}
-use Rattle.association_worlds.specs.Laws.{IsSaid}
-use Rattle.transfer_spelling.specs.Laws.{IsModule}
-use Rattle.transfer_laws.specs.Laws.{reliable_ends, IsReliable}
+use Rattle.said_worlds.specs.Laws.{AreEndsIn}
 use Rattle.run_laws.specs.Passing.{TakenInPlace}
 use Rattle.run_laws.specs.Showing.{EachCarryShows}
 use Rattle.run_laws.specs.Transfers.{OneTransfer}
@@ -17,20 +15,17 @@ use Rattle.association_runs.specs.Worlds.{ends_of, Runs}
 use Rattle.association_runs.specs.Arriving.{EachArrivesWhole}
 use Rattle.association_runs.specs.Deeds.{deeds_at}
 use Rattle.association_runs.specs.Dealings.{own_at}
-use Rattle.association_runs.specs.Laws.{AreEvents, AreSides}
+use Rattle.association_runs.specs.Laws.{AreEvents}
 use Rattle.outcome_laws.specs.Deals.{AreDistinct, outcomes_in}
 use Rattle.outcome_laws.specs.Outcomes.{AreAllowed, AreAnswers}
 use Rattle.agreement.specs.Laws.{AreFalling}
 use Rattle.osi_base.specs.declared.words.Side.{Side}
 
--- An initiator and a responder of reliable mode with one module, of which what they say is presumed to be written and to mean itself.
+-- An initiator and a responder of reliable mode with one module, of a name of its own and without any type, and with configurations that
+-- no end refuses.
 pub record AreReliable (tables : Tables) (a b : Config) : Type 0 where
-  pub module_ : IsModule tables
-  pub named : IsOwnName tables.name_oid
-  pub first : IsReliable a
-  pub second : IsReliable b
-  pub sides : AreSides a b
-  pub said : IsSaid (reliable_ends tables a b)
+  pub ends : AreEndsIn Reliable tables a b
+  pub responder : b.initiator ≡ false
 
 abbrev pub EverInRuns : (Ends → World → Type 0) → Type 0
 EverInRuns Law =

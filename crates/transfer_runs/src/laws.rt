@@ -6,6 +6,7 @@ ghost use Rattle.transfer_runs.specs.Laws.{ReliableRunsKeepEndsAlive, ReliableRu
 
 use association_runs::{runs_reach_messages, runs_tell_one_outcome};
 use association_worlds::said_is_meant;
+use said_worlds::reliable_ends_are_said;
 
 /// Every run of two ends of reliable mode: at each moment each message that was taken is the one
 /// that was sent in its place of the connection; each carry shows what the messages show that are
@@ -29,4 +30,5 @@ pub fn reliable_runs_keep_laws()
     runs_reach_messages();
     runs_tell_one_outcome();
     said_is_meant();
+    reliable_ends_are_said();
 }

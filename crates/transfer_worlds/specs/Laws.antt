@@ -1,6 +1,7 @@
 -- Two ends of reliable mode with the codecs whose lines are octets.
 use Rattle.std.specs.Prelude.{◌≡◌, List, true, Some}
 use Rattle.dialogue.specs.declared.config.Config.{Config}
+use Rattle.dialogue.specs.declared.config.Mode.TheVariants.{Reliable}
 use Rattle.dialogue.specs.declared.indication.Indication.{Indication}
 use Rattle.stub_tables.specs.declared.tables.Tables.{Tables}
 use Rattle.end_rules.specs.Base.{Fault}
@@ -9,17 +10,17 @@ use Rattle.end_rules.specs.State.{Body, holds_turn}
 use Rattle.end_rules.specs.Reacting.{Fails}
 use Rattle.agreement.specs.Sets.{Role}
 use Rattle.end_model.specs.Pairs.{Common, base_at}
-use Rattle.reliable_model.specs.ReliablePairs.{IsOwnName}
 use Rattle.association_reading.specs.Front.{Intake, first_in}
 use Rattle.association_reading.specs.Reacting.{react_to}
 use Rattle.association_worlds.specs.Worlds.{Ends, end_at, Spoken}
-use Rattle.association_worlds.specs.Laws.{IsSaid, IsSpelled}
-use Rattle.transfer_spelling.specs.Laws.{IsModule}
-use Rattle.transfer_laws.specs.Laws.{reliable_ends, IsReliable}
+use Rattle.association_worlds.specs.Laws.{IsSpelled}
+use Rattle.transfer_laws.specs.Laws.{reliable_ends}
+use Rattle.said_worlds.specs.Laws.{AreEndsIn}
 
+-- of every module and every two configurations that may be ends of reliable mode
 abbrev pub EverInWorlds : (Common → Ends → Type 0) → Type 0
 EverInWorlds Law =
-    (tables : Tables) (a b : Config) → IsModule tables → IsOwnName tables.name_oid → IsReliable a → IsReliable b → IsSaid (reliable_ends tables a b) →
+    (tables : Tables) (a b : Config) → AreEndsIn Reliable tables a b →
     (ends : Ends) → Spoken (reliable_ends tables a b) ends → Law (reliable_ends tables a b) ends
 
 abbrev pub ReliableWorldsAreSpelled : Type 0

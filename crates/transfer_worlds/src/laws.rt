@@ -1,8 +1,9 @@
-//! Each law is the contract of a function that does nothing.
+//! Each law is the contract of a function that does nothing but cite others.
 
 ghost use Rattle.transfer_worlds.specs.Laws.{ReliableWorldsAreSpelled, ReliableWorldsHaveOneHolder, ReliableWorldsNeverFail};
 
 use association_worlds::said_is_meant;
+use said_worlds::reliable_ends_are_said;
 
 /// Two ends of reliable mode with the codecs whose lines are octets: what they reach they reach by
 /// the messages that these octets are; no end finds a fault in what comes; at no moment do both
@@ -13,4 +14,5 @@ pub fn reliable_worlds_are_spelled()
     ensures holder { ReliableWorldsHaveOneHolder }
 {
     said_is_meant();
+    reliable_ends_are_said();
 }
