@@ -105,7 +105,7 @@ transfer-once runs arrive law is_said tables a b d = over tables a b d OneTransf
         let m = meant tables a b d law is_said in
         let s = runs (reliable_ends tables a b) m all told w typed r in
         let keeps = keep-keeps (free tables a b d) tables (reliable_ends tables a b).spellings a b
-            (λ two ledger g role message left fault body aborts shown e h. ends-take tables a b d.ends.module_s d.ends.name (of_first tables a b d.ends) (of_second tables a b d.ends) two ledger g role message left fault body aborts shown e h) (kept tables a b d) in
+        (λ two ledger g role message left fault body aborts shown e h. ends-take tables a b d.ends.module_s d.ends.name (of_first tables a b d.ends) (of_second tables a b d.ends) two ledger g role message left fault body aborts shown e h) (kept tables a b d) in
         transferred-once (ends_for (reliable_ends tables a b)) w
         (arrive (reliable_ends tables a b) m all told w typed r (λ two ledger g. ends-whole tables a b d.ends.module_s d.ends.name (of_first tables a b d.ends) (of_second tables a b d.ends) two ledger g) (λ two ledger g. ends-items tables a b d.ends.module_s d.ends.name (of_first tables a b d.ends) (of_second tables a b d.ends) two ledger g))
         (from-start (reliable_ends tables a b) m (λ w two ledger dealings. AreDone (reliable_ends tables a b) w two ledger dealings × KeepThen (ends_for (reliable_ends tables a b)) w) keeps w all told typed r).extra.1

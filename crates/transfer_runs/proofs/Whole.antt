@@ -220,18 +220,20 @@ module _ (ends : Ends) where
       here true h = tt
       here false h =
           let last : ℕ = (sides.body_at ends side w).receiving.last in
-          subst (λ (r : Result Arrived Fault). AreWhole (started ends (sides.other side) w) (encodings ends (sides.other side) w) (arrivals_of (sides.body_at ends side w).receiving.last (values_arrived r))) (sym h.arrived)
-          (record {
-            apdu = h.item.apdu;
-            is_remote = refl;
-            is_its =
-                of-so h.item.apdu (item_of last (started ends (sides.other side) w))
-                (subst (transfers.IsOf h.item.apdu) (item-so last (started ends (sides.other side) w))
-                (subst (λ (l : List Queued). transfers.IsOf h.item.apdu (transfers.item_of (sides.body_at ends side w).receiving.last l)) (started-same (sides.other side) w k) h.started));
-            is_encoded =
-                newest-so (record { activity = last; id = h.item.id; pair = Some h.item.pair; apdu = h.item.apdu }) (encodings ends (sides.other side) w)
-                (subst (transfers.IsNewest (record { activity = last; id = h.item.id; pair = Some h.item.pair; apdu = h.item.apdu })) (encoded-same (sides.other side) w) h.encoded);
-          }, tt)
+          subst (λ (r : Result Arrived Fault). AreWhole (started ends (sides.other side) w) (encodings ends (sides.other side) w) (arrivals_of (sides.body_at ends side w).receiving.last (values_arrived r))) (sym h.arrived) (
+            record {
+              apdu = h.item.apdu;
+              is_remote = refl;
+              is_its =
+                  of-so h.item.apdu (item_of last (started ends (sides.other side) w))
+                  (subst (transfers.IsOf h.item.apdu) (item-so last (started ends (sides.other side) w))
+                  (subst (λ (l : List Queued). transfers.IsOf h.item.apdu (transfers.item_of (sides.body_at ends side w).receiving.last l)) (started-same (sides.other side) w k) h.started));
+              is_encoded =
+                  newest-so (record { activity = last; id = h.item.id; pair = Some h.item.pair; apdu = h.item.apdu }) (encodings ends (sides.other side) w)
+                  (subst (transfers.IsNewest (record { activity = last; id = h.item.id; pair = Some h.item.pair; apdu = h.item.apdu })) (encoded-same (sides.other side) w) h.encoded);
+            },
+            tt,
+          )
   step-whole side w _ h k = tt
 
   all-whole : (w : World) → EachArrivesWhole ends w → KeepThen ends w → ArriveWhole ends w
