@@ -11,6 +11,7 @@ use Rattle.transfer_spelling.specs.Laws.{IsModule}
 use Rattle.transfer_laws.specs.Laws.{reliable_ends, IsReliable}
 use Rattle.run_laws.specs.Passing.{TakenInPlace}
 use Rattle.run_laws.specs.Showing.{EachCarryShows}
+use Rattle.run_laws.specs.Outcomes.{outcomes, Differ}
 use Rattle.run_laws.specs.Transfers.{OneTransfer}
 use Rattle.run_laws.specs.Laws.{AtEachMoment, NothingFails, NobodyIsDead, OneHolder}
 use Rattle.association_runs.specs.Worlds.{ends_of, Runs}
@@ -72,6 +73,12 @@ ReliableRunsArriveOnce = EverInRuns (λ ends w. (side : Side) → AreFalling (de
 abbrev pub ReliableRunsTellOneOutcome : Type 0
 ReliableRunsTellOneOutcome =
     EverInRuns (λ ends w. (side : Side) → AreDistinct (outcomes_in (own_at ends side w).shown) × AreAllowed ends.a.tables (own_at ends side w).asked (own_at ends side w).shown)
+
+-- of the whole transcript too: of no invocation an end is told two outcomes
+abbrev pub ReliableRunsTellOnce : Type 0
+ReliableRunsTellOnce =
+    (tables : Tables) (a b : Config) → AreReliable tables a b → (all : List Event) (told : List Entry) (w : World) → AreEvents all → Runs (ends_of tables a b) [] all told w →
+    (side : Side) → Differ (outcomes side told)
 
 -- each outcome that an end is told is an APDU that the other end wrote
 abbrev pub ReliableRunsTellAnswers : Type 0
