@@ -316,6 +316,23 @@ carried-is : (value : Option Val) → value_in (carried_in value) ≡ value
 carried-is None = refl
 carried-is (Some value) = refl
 
+-- only the end of an activity tells of what was transferred
+abbrev pub IsNoEnd : ActivityWord → Type 0
+IsNoEnd (End number) = ⊥
+IsNoEnd word = Unit {0}
+
+pub activity-plain : (base : Base) (body : Body) (word : ActivityWord) → IsNoEnd word → ArePlain (shown_of_activity base body word)
+activity-plain base body (Start activity) n = tt
+activity-plain base body (Resume activity mark) n = (tt, tt)
+activity-plain base body (End number) n = absurd n
+activity-plain base body (EndAck number) n = (tt, tt)
+activity-plain base body (Interrupt reason) n = (tt, tt)
+activity-plain base body InterruptAck n = lost-more body (indications.Interrupted body.sending.started ∷ []) (tt, tt)
+activity-plain base body (Discard reason) n = (tt, tt)
+activity-plain base body DiscardAck n =
+    plain-append (losses body ++ shown_cut (invocation_in body.sending.current) body.calls) (indications.Discarded body.sending.started ∷ [])
+    (lost-more body (shown_cut (invocation_in body.sending.current) body.calls) (cut-plain (invocation_in body.sending.current) body.calls)) (tt, tt)
+
 -- the values that are heard when a message is taken
 abbrev pub heard_values : Base → Body → Message → List Value
 heard_values base body (Session (OfData (Values values))) = if is_reliable base.mode then [] else values
@@ -437,14 +454,5 @@ module _ (base : Base) (own made : List Invocation) (given : List Outcome) where
   message-noted asked body (Session (OfData (AlterContext add delete))) before m once h = (tt, tt)
   message-noted asked body (Session (OfData (AlterContextAck answers))) before m once h = plain-noted base.tables own made given _ (settled-plain body.sets.own answers)
   message-noted asked body (Session (OfMarks word)) before m once h = plain-noted base.tables own made given _ (marks-plain base body word)
-  message-noted asked body (Session (OfActivities (Start activity))) before m once h = tt
-  message-noted asked body (Session (OfActivities (Resume activity mark))) before m once h = (tt, tt)
   message-noted asked body (Session (OfActivities (End number))) before m once h = values-noted asked (received (λ r. record r { was_handed = true; active = false }) body) (handed_up base body) before m once h
-  message-noted asked body (Session (OfActivities (EndAck number))) before m once h = (tt, tt)
-  message-noted asked body (Session (OfActivities (Interrupt reason))) before m once h = (tt, tt)
-  message-noted asked body (Session (OfActivities InterruptAck)) before m once h = plain-noted base.tables own made given _ (lost-more body (indications.Interrupted body.sending.started ∷ []) (tt, tt))
-  message-noted asked body (Session (OfActivities (Discard reason))) before m once h = (tt, tt)
-  message-noted asked body (Session (OfActivities DiscardAck)) before m once h =
-      plain-noted base.tables own made given _
-      (plain-append (losses body ++ shown_cut (invocation_in body.sending.current) body.calls) (indications.Discarded body.sending.started ∷ [])
-      (lost-more body (shown_cut (invocation_in body.sending.current) body.calls) (cut-plain (invocation_in body.sending.current) body.calls)) (tt, tt))
+  message-noted asked body (Session (OfActivities word)) before m once h = plain-noted base.tables own made given (shown_of_activity base body word) (activity-plain base body word tt)

@@ -65,13 +65,13 @@ note-invocation : (i : Indication) → flat_map invocation_in (note_of i) ≡ in
 note-invocation (indications.Invoked id place linked argument) = refl
 note-invocation _ = refl
 
-note-outcome : (i : Indication) → flat_map outcome_in (note_of i) ≡ outcome_in i
+pub note-outcome : (i : Indication) → flat_map outcome_in (note_of i) ≡ outcome_in i
 note-outcome (indications.Result id value) = refl
 note-outcome (indications.Error id place parameter) = refl
 note-outcome (indications.Rejected id problem) = refl
 note-outcome _ = refl
 
-same-flat : {X : Type 0} (f : Indication → List X) → ((i : Indication) → flat_map f (note_of i) ≡ f i) → (seen shown : List Indication) → notes_of seen ≡ notes_of shown → flat_map f shown ≡ flat_map f seen
+pub same-flat : {X : Type 0} (f : Indication → List X) → ((i : Indication) → flat_map f (note_of i) ≡ f i) → (seen shown : List Indication) → notes_of seen ≡ notes_of shown → flat_map f shown ≡ flat_map f seen
 same-flat f h seen shown e = sym (notes-flat f h shown) ∙ ap (flat_map f) (sym e) ∙ notes-flat f h seen
 
 -- ---- identifiers of invocations
@@ -162,7 +162,7 @@ apart-told i (indications.Error id place parameter ∷ shown) h = (differs i id 
 apart-told i (indications.Rejected id problem ∷ shown) h = (differs i id (or-first (int_eq i id) (list_any (int_eq i) (outcomes_in shown)) h), apart-told i shown (or-second (int_eq i id) (list_any (int_eq i) (outcomes_in shown)) h))
 apart-told i (_ ∷ shown) h = apart-told i shown h
 
-once-told : (shown : List Indication) → AreDistinct (outcomes_in shown) → Differ (flat_map outcome_in shown)
+pub once-told : (shown : List Indication) → AreDistinct (outcomes_in shown) → Differ (flat_map outcome_in shown)
 once-told [] h = tt
 once-told (indications.Result id value ∷ shown) h = (apart-told id shown h.0, once-told shown h.1)
 once-told (indications.Error id place parameter ∷ shown) h = (apart-told id shown h.0, once-told shown h.1)

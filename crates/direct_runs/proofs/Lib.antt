@@ -3,3 +3,4 @@ pub mod Firm
 pub mod Sent
 pub mod Handed
 pub mod Told
+pub mod Alive

@@ -55,7 +55,7 @@ use Rattle.association_runs.proofs.Reactions.{taken-leaves}
 
 -- ---- before an association stands
 
-abbrev is_early : Phase → Bool
+abbrev pub is_early : Phase → Bool
 is_early phases.Idle = true
 is_early phases.Opening = true
 is_early phase = false
@@ -84,7 +84,7 @@ asked-early phases.Idle s w h = refl
 asked-early phases.Broken s w h = cc
 asked-early phase s w h = cc
 
-broken-early : (phase : Phase) → is_early (broken_phase Reliable phase) ≡ true → is_early phase ≡ true
+pub broken-early : (phase : Phase) → is_early (broken_phase Reliable phase) ≡ true → is_early phase ≡ true
 broken-early phases.Idle h = refl
 broken-early phases.Over h = cc
 broken-early phases.Dead h = cc
@@ -103,7 +103,7 @@ no-fault true fault h = refl
 no-fault false fault h = cc
 
 -- where an end is that early, it was so before
-abbrev Before : Body → Body → Type 0
+abbrev pub Before : Body → Body → Type 0
 Before body later = is_early later.link.phase ≡ true → is_early body.link.phase ≡ true
 
 sent-before : (body : Body) (m : Message) → Before body (after_sent Reliable body m)
@@ -169,7 +169,7 @@ module _ (free : Free) (tables : Tables) (spellings : Spellings) (a b : Config) 
   accepted-before body the_calls.Abort answer can h = absurd (clash false h refl)
   accepted-before body _ answer can h = h
 
-  call-before : (body : Body) (call : Call) (answer : Option ℤ) → can_call base body call ≡ Ok answer → Before body (after_called Reliable base body call answer)
+  pub call-before : (body : Body) (call : Call) (answer : Option ℤ) → can_call base body call ≡ Ok answer → Before body (after_called Reliable base body call answer)
   call-before body call answer can h = accepted-before body call answer can (sents-before (after_call base body call (Ok answer)) (due_of base body call (Ok answer)) h)
 
   -- ---- takings
@@ -223,7 +223,7 @@ module _ (free : Free) (tables : Tables) (spellings : Spellings) (a b : Config) 
   unit-before body (DisconnectRequest destination) fine h = absurd (clash false h refl)
   unit-before body TransportError fine h = h
 
-  took-before : (body : Body) (message : Message) (later : Body) (answers : List Message) (shown : List Indication) → react base body message ≡ Takes later answers shown → Before body later
+  pub took-before : (body : Body) (message : Message) (later : Body) (answers : List Message) (shown : List Indication) → react base body message ≡ Takes later answers shown → Before body later
   took-before body message later answers shown r h = go message r (ap (λ (x : Body). is_early x.link.phase) (sym (taken-leaves base body message later answers shown r)) ∙ h)
     where
       go : (message : Message) → react base body message ≡ Takes later answers shown → is_early (after_taken base body message).link.phase ≡ true → is_early body.link.phase ≡ true
@@ -231,7 +231,7 @@ module _ (free : Free) (tables : Tables) (spellings : Spellings) (a b : Config) 
       go (Session word) r h = word-before body word h
 
   -- an end that isn't up takes no end of an activity
-  no-end : (body : Body) (number : ℕ) (later : Body) (answers : List Message) (shown : List Indication) → react base body (Session (OfActivities (End number))) ≡ Takes later answers shown → is_early body.link.phase ≡ true → ⊥
+  pub no-end : (body : Body) (number : ℕ) (later : Body) (answers : List Message) (shown : List Indication) → react base body (Session (OfActivities (End number))) ≡ Takes later answers shown → is_early body.link.phase ≡ true → ⊥
   no-end body number later answers shown r h =
       let t = took-word base body (OfActivities (End number)) later answers shown r in
       let p : is_in_place base body (unit_of (OfActivities (End number))) ≡ true = in-place base body (OfActivities (End number)) t.fine in
@@ -248,7 +248,7 @@ module _ (free : Free) (tables : Tables) (spellings : Spellings) (a b : Config) 
 
   -- ---- all that is reached
 
-  abbrev Nothing : Two → Ledger → Type 0
+  abbrev pub Nothing : Two → Ledger → Type 0
   Nothing two ledger = is_early two.b.link.phase ≡ true → (ledger.deeds.b.started ≡ []) × (ledger.deeds.b.arrived ≡ [])
 
   abbrev pub NeverFails : Type 0
@@ -256,11 +256,11 @@ module _ (free : Free) (tables : Tables) (spellings : Spellings) (a b : Config) 
       (two : Two) (ledger : Ledger) → Goes common two ledger → (role : Role) (message : Message) (left : List Message) (fault : Fault) (body : Body) (aborts : List Message) (shown : List Indication) →
       coming_to role two ≡ message ∷ left → react (base_at role common) (body_at role two) message ≡ Fails fault body aborts shown → ⊥
 
-  own-before : (body : Body) (own : OwnAct) → Before body (after_step base body (step_of own))
+  pub own-before : (body : Body) (own : OwnAct) → Before body (after_step base body (step_of own))
   own-before body (SendsNow message) h = sent-before body message h
   own-before body (EncodesOn context) h = h
 
-  nothing : NeverFails → (two : Two) (ledger : Ledger) → Goes common two ledger → Nothing two ledger
+  pub nothing : NeverFails → (two : Two) (ledger : Ledger) → Goes common two ledger → Nothing two ledger
   nothing f two ledger begins = λ h. (refl, refl)
   nothing f two ledger (calls x l Initiator call answer g c) = λ h. nothing f x l g h
   nothing f two ledger (calls x l Responder call answer g c) = λ h. nothing f x l g (call-before x.b call answer c h)
@@ -278,11 +278,9 @@ module _ (free : Free) (tables : Tables) (spellings : Spellings) (a b : Config) 
 
   -- ---- an opening that is taken
 
-  -- it is refused, or recovers; or nothing was started and handed up
-  abbrev pub Keeps : Role → Two → Ledger → SessionConnect → PresentationConnect → List Value → Type 0
-  Keeps role two ledger session presentation values =
-      ((is_refused (base_at role common) (body_at role two) session presentation values || recovers_in (base_at role common) values) ≡ true) ⊎
-      (((deeds_of role ledger.deeds).started ≡ []) × ((deeds_of role ledger.deeds).arrived ≡ []))
+  -- it is refused, or recovers; or no association stood
+  abbrev pub Opens : Two → SessionConnect → PresentationConnect → List Value → Type 0
+  Opens two session presentation values = ((is_refused base two.b session presentation values || recovers_in base values) ≡ true) ⊎ (is_early two.b.link.phase ≡ true)
 
   or-true : (p q : Bool) → q ≡ true → (p || q) ≡ true
   or-true true q e = refl
@@ -294,7 +292,7 @@ module _ (free : Free) (tables : Tables) (spellings : Spellings) (a b : Config) 
   abbrev opening : SessionConnect → PresentationConnect → List Value → Message
   opening session presentation values = Session (OfAssociation (Connect session presentation values))
 
-  module _ (f : NeverFails) (two : Two) (ledger : Ledger) (g : Goes common two ledger) (session : SessionConnect) (presentation : PresentationConnect) (values : List Value) (left : List Message) (body : Body) (answers : List Message) (shown : List Indication) where
+  module _ (two : Two) (session : SessionConnect) (presentation : PresentationConnect) (values : List Value) (left : List Message) (body : Body) (answers : List Message) (shown : List Indication) where
     none : two.to_b ≡ opening session presentation values ∷ left → two.to_b ≡ [] → ⊥
     none e n = let same : [] ≡ opening session presentation values ∷ left = sym n ∙ e in cc
 
@@ -305,18 +303,18 @@ module _ (free : Free) (tables : Tables) (spellings : Spellings) (a b : Config) 
     over q r = let no_take : Passes ≡ Takes body answers shown = sym (machine.over-passes free tables spellings a b Responder two.b (opening session presentation values) q) ∙ r in cc
 
     -- the opening of this way
-    by-way : (way : Way) (more : List Message) → two.to_b ≡ opening session presentation values ∷ left → two.to_b ≡ machine.cn free tables spellings a b way ∷ more → (way ≡ First → is_early two.b.link.phase ≡ true) → Keeps Responder two ledger session presentation values
-    by-way First more e n early = inr (nothing f two ledger g (early refl))
+    by-way : (way : Way) (more : List Message) → two.to_b ≡ opening session presentation values ∷ left → two.to_b ≡ machine.cn free tables spellings a b way ∷ more → (way ≡ First → is_early two.b.link.phase ≡ true) → Opens two session presentation values
+    by-way First more e n early = inr (early refl)
     by-way Again more e n early =
         let same : machine.cn free tables spellings a b Again ∷ more ≡ opening session presentation values ∷ left = sym n ∙ e in
         let v : connect_values (base_at Initiator common) true ≡ values = cc in
         inl (or-true (is_refused base two.b session presentation values) (recovers_in base values) (ap (recovers_in base) (sym v) ∙ recovers-again))
 
-    by-side : two.to_b ≡ opening session presentation values ∷ left → react base two.b (opening session presentation values) ≡ Takes body answers shown → Side two.b two.to_b → Keeps Responder two ledger session presentation values
+    by-side : two.to_b ≡ opening session presentation values ∷ left → react base two.b (opening session presentation values) ≡ Takes body answers shown → Side two.b two.to_b → Opens two session presentation values
     by-side e r (Stands live own) = absurd (subst AreOwn e own).0
     by-side e r (IsOver q) = absurd (over q r)
 
-    by-left : two.to_b ≡ opening session presentation values ∷ left → machine.Left free tables spellings a b two.b two.to_b → Keeps Responder two ledger session presentation values
+    by-left : two.to_b ≡ opening session presentation values ∷ left → machine.Left free tables spellings a b two.b two.to_b → Opens two session presentation values
     by-left e (LeftIdle way q (inl n)) = absurd (none e n)
     by-left e (LeftIdle way q (inr n)) = absurd (a_unit _ [] e n)
     by-left e (LeftJoined way q (inl n)) = absurd (none e n)
@@ -324,7 +322,7 @@ module _ (free : Free) (tables : Tables) (spellings : Spellings) (a b : Config) 
     by-left e (LeftJoined Again q (inr n)) = by-way Again n.0 e n.1 (λ w. absurd cc)
     by-left e (LeftBroken q own) = absurd (subst OnlyAborts e own)
 
-    connecting : two.to_b ≡ opening session presentation values ∷ left → react base two.b (opening session presentation values) ≡ Takes body answers shown → machine.Opened free tables spellings a b two.a two.b two.to_a two.to_b → Keeps Responder two ledger session presentation values
+    connecting : two.to_b ≡ opening session presentation values ∷ left → react base two.b (opening session presentation values) ≡ Takes body answers shown → machine.Opened free tables spellings a b two.a two.b two.to_a two.to_b → Opens two session presentation values
     connecting e r (Resting way p q c n) = absurd (none e n)
     connecting e r (Calling way p q c n) = absurd (a_unit _ [] e n)
     connecting e r (Confirming way p q c n) = absurd (none e n)
@@ -337,9 +335,12 @@ module _ (free : Free) (tables : Tables) (spellings : Spellings) (a b : Config) 
     connecting e r (Gone p l) = by-left e l
     connecting e r (Standing s t) = by-side e r t
 
-    pub opening-keeps : machine.Kept free tables spellings a b two ledger → (role : Role) → coming_to role two ≡ opening session presentation values ∷ left → react (base_at role common) (body_at role two) (opening session presentation values) ≡ Takes body answers shown → Keeps role two ledger session presentation values
-    opening-keeps k Initiator e r =
-        let t = took-word (base_at Initiator common) two.a (OfAssociation (Connect session presentation values)) body answers shown r in
-        let p : is_in_place (base_at Initiator common) two.a (unit_of (OfAssociation (Connect session presentation values))) ≡ true = in-place (base_at Initiator common) two.a (OfAssociation (Connect session presentation values)) t.fine in
-        absurd cc
-    opening-keeps k Responder e r = connecting e r k.opened
+    pub opening-keeps : {ledger : Ledger} → machine.Kept free tables spellings a b two ledger → two.to_b ≡ opening session presentation values ∷ left → react base two.b (opening session presentation values) ≡ Takes body answers shown → Opens two session presentation values
+    opening-keeps k e r = connecting e r k.opened
+
+  -- an initiator takes none
+  pub no-opening : (two : Two) (session : SessionConnect) (presentation : PresentationConnect) (values : List Value) (body : Body) (answers : List Message) (shown : List Indication) → react (base_at Initiator common) two.a (opening session presentation values) ≡ Takes body answers shown → ⊥
+  no-opening two session presentation values body answers shown r =
+      let t = took-word (base_at Initiator common) two.a (OfAssociation (Connect session presentation values)) body answers shown r in
+      let p : is_in_place (base_at Initiator common) two.a (unit_of (OfAssociation (Connect session presentation values))) ≡ true = in-place (base_at Initiator common) two.a (OfAssociation (Connect session presentation values)) t.fine in
+      cc

@@ -2,3 +2,4 @@ pub mod Reliable
 pub mod Alive
 pub mod Early
 pub mod Whole
+pub mod Told

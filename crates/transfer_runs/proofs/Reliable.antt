@@ -29,9 +29,11 @@ use Rattle.reliable_model.specs.Goes.{Deeds}
 use Rattle.run_laws.specs.Transfers.{OneTransfer}
 use Rattle.association_runs.proofs.Deeds.{AreDone}
 use Rattle.association_runs.specs.Laws.{AreEvents, AreOneHolder, ReachesMessages, RunsReachMessages, RunsTakeInPlace, RunsShowWhatIsTaken, RunsNeverFail, RunsHaveOneHolder, RunsTransferWhole, RunsTellOneOutcome}
-use Rattle.transfer_runs.specs.Laws.{AreReliable, ReliableRunsTakeInPlace, ReliableRunsShowWhatIsTaken, ReliableRunsTellOneOutcome, ReliableRunsNeverFail, ReliableRunsHaveOneHolder, ReliableRunsArriveWhole, ReliableRunsArriveOnce, ReliableRunsTellAnswers, ReliableRunsKeepEndsAlive, ReliableRunsTransferOnce}
+use Rattle.transfer_runs.specs.Laws.{AreReliable, ReliableRunsTakeInPlace, ReliableRunsShowWhatIsTaken, ReliableRunsTellOneOutcome, ReliableRunsNeverFail, ReliableRunsHaveOneHolder, ReliableRunsArriveWhole, ReliableRunsArriveOnce, ReliableRunsTellAnswers, ReliableRunsKeepEndsAlive, ReliableRunsTransferOnce, ReliableRunsTellOnce}
 use Rattle.association_runs.proofs.Carried.{from-start}
 use Rattle.transfer_runs.proofs.Alive.{nobody-dead, free, kept}
+use Rattle.run_laws.specs.Outcomes.{outcomes, Differ}
+use Rattle.transfer_runs.proofs.Told as once
 use Rattle.transfer_runs.proofs.Whole.{KeepThen, keep-keeps, transferred-once}
 
 module _ (tables : Tables) (a b : Config) (d : AreReliable tables a b) where
@@ -114,6 +116,12 @@ transfer-once runs arrive law is_said tables a b d = over tables a b d OneTransf
         falling : ReachesMessages (reliable_ends tables a b) w → (side : Side) → AreFalling (deeds_at (ends_for (reliable_ends tables a b)) side w).arrived
         falling s A = subst (λ (x : Deeds). AreFalling x.arrived) (sym (s.deeds Initiator)) (ends-once tables a b d.ends.module_s d.ends.name (of_first tables a b d.ends) (of_second tables a b d.ends) s.two s.ledger s.speaks.goes Initiator)
         falling s B = subst (λ (x : Deeds). AreFalling x.arrived) (sym (s.deeds Responder)) (ends-once tables a b d.ends.module_s d.ends.name (of_first tables a b d.ends) (of_second tables a b d.ends) s.two s.ledger s.speaks.goes Responder)
+
+pub tell-once : SaidIsMeant → ReliableIsSaid → ReliableRunsTellOnce
+tell-once law is_said tables a b d =
+    subst (λ (e : Ends). (all : List Event) (told : List Entry) (w : World) → AreEvents all → Runs e [] all told w → (side : Side) → Differ (outcomes side told)) (same-ends tables a b d)
+    (λ all told w typed r side. once.tell-once (free tables a b d) tables (reliable_ends tables a b).spellings a b
+    (λ two ledger g role message left fault body aborts shown e h. ends-take tables a b d.ends.module_s d.ends.name (of_first tables a b d.ends) (of_second tables a b d.ends) two ledger g role message left fault body aborts shown e h) (kept tables a b d) (meant tables a b d law is_said) w all told typed r side)
 
 pub tell-answers : RunsReachMessages → SaidIsMeant → ReliableIsSaid → ReliableRunsTellAnswers
 tell-answers runs law is_said tables a b d = over tables a b d (λ ends w. (side : Side) → AreAnswers ends.a.tables (own_at ends (other side) w).wrote (own_at ends side w).shown) go

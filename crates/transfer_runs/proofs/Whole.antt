@@ -260,14 +260,15 @@ module _ (free : Free) (tables : Tables) (spellings : Spellings) (a b : Config) 
         → (message : Message) → coming_to role two ≡ message ∷ left → react (pairs.base_at role common) (pairs.body_at role two) message ≡ Takes body answers shown
         → KeepsAll (sides.base_at ends (side_of role)) (sides.body_at ends (side_of role) w) (deeds_at ends (side_of role) w) (took message)
     taken-keeps Initiator w two ledger dealings left body answers shown j d (Session (OfAssociation (Connect session presentation values))) e r =
-        let step : Step = took (Session (OfAssociation (Connect session presentation values))) in
-        subst (λ (y : Body). KeepsAll (sides.base_at ends A) y (deeds_at ends A w) (took (Session (OfAssociation (Connect session presentation values))))) (sym (body-for common Initiator w ∙ j.bodies Initiator))
-        (subst (λ (x : Deeds). KeepsAll (sides.base_at ends A) two.a x (took (Session (OfAssociation (Connect session presentation values))))) (sym (d Initiator))
-        (early.opening-keeps free tables spellings a b never two ledger j.speaks.goes session presentation values left body answers shown (kept two ledger j.speaks.goes) Initiator e r))
+        absurd (early.no-opening free tables spellings a b two session presentation values body answers shown r)
     taken-keeps Responder w two ledger dealings left body answers shown j d (Session (OfAssociation (Connect session presentation values))) e r =
         subst (λ (y : Body). KeepsAll (sides.base_at ends B) y (deeds_at ends B w) (took (Session (OfAssociation (Connect session presentation values))))) (sym (body-for common Responder w ∙ j.bodies Responder))
         (subst (λ (x : Deeds). KeepsAll (sides.base_at ends B) two.b x (took (Session (OfAssociation (Connect session presentation values))))) (sym (d Responder))
-        (early.opening-keeps free tables spellings a b never two ledger j.speaks.goes session presentation values left body answers shown (kept two ledger j.speaks.goes) Responder e r))
+        (go (early.opening-keeps free tables spellings a b two session presentation values left body answers shown (kept two ledger j.speaks.goes) e r)))
+      where
+        go : early.Opens free tables spellings a b two session presentation values → KeepsAll (sides.base_at ends B) two.b ledger.deeds.b (took (Session (OfAssociation (Connect session presentation values))))
+        go (inl k) = inl k
+        go (inr soon) = inr (early.nothing free tables spellings a b never two ledger j.speaks.goes soon)
     taken-keeps role w two ledger dealings left body answers shown j d message e r = tt
 
     pub keep-keeps : Keeps common (λ w two ledger dealings. AreDone common w two ledger dealings × KeepThen ends w)

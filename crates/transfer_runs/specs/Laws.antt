@@ -9,6 +9,7 @@ use Rattle.end_rules.specs.World.{World, Ends, other}
 use Rattle.said_worlds.specs.Laws.{AreEndsIn}
 use Rattle.run_laws.specs.Passing.{TakenInPlace}
 use Rattle.run_laws.specs.Showing.{EachCarryShows}
+use Rattle.run_laws.specs.Outcomes.{outcomes, Differ}
 use Rattle.run_laws.specs.Transfers.{OneTransfer}
 use Rattle.run_laws.specs.Laws.{AtEachMoment, NothingFails, NobodyIsDead, OneHolder}
 use Rattle.association_runs.specs.Worlds.{ends_of, Runs}
@@ -67,6 +68,12 @@ ReliableRunsArriveOnce = EverInRuns (λ ends w. (side : Side) → AreFalling (de
 abbrev pub ReliableRunsTellOneOutcome : Type 0
 ReliableRunsTellOneOutcome =
     EverInRuns (λ ends w. (side : Side) → AreDistinct (outcomes_in (own_at ends side w).shown) × AreAllowed ends.a.tables (own_at ends side w).asked (own_at ends side w).shown)
+
+-- of the whole transcript too: of no invocation an end is told two outcomes
+abbrev pub ReliableRunsTellOnce : Type 0
+ReliableRunsTellOnce =
+    (tables : Tables) (a b : Config) → AreReliable tables a b → (all : List Event) (told : List Entry) (w : World) → AreEvents all → Runs (ends_of tables a b) [] all told w →
+    (side : Side) → Differ (outcomes side told)
 
 -- each outcome that an end is told is an APDU that the other end wrote
 abbrev pub ReliableRunsTellAnswers : Type 0

@@ -2,7 +2,7 @@
 
 ghost use Rattle.transfer_runs.specs.Laws.{ReliableRunsHaveOneHolder, ReliableRunsNeverFail, ReliableRunsTakeInPlace};
 ghost use Rattle.transfer_runs.specs.Laws.{ReliableRunsArriveOnce, ReliableRunsArriveWhole, ReliableRunsTellAnswers};
-ghost use Rattle.transfer_runs.specs.Laws.{ReliableRunsKeepEndsAlive, ReliableRunsShowWhatIsTaken, ReliableRunsTellOneOutcome, ReliableRunsTransferOnce};
+ghost use Rattle.transfer_runs.specs.Laws.{ReliableRunsKeepEndsAlive, ReliableRunsShowWhatIsTaken, ReliableRunsTellOnce, ReliableRunsTellOneOutcome, ReliableRunsTransferOnce};
 
 use association_runs::{runs_reach_messages, runs_tell_one_outcome};
 use association_worlds::said_is_meant;
@@ -25,6 +25,7 @@ pub fn reliable_runs_keep_laws()
     ensures once { ReliableRunsArriveOnce }
     ensures transfers { ReliableRunsTransferOnce }
     ensures outcomes { ReliableRunsTellOneOutcome }
+    ensures told { ReliableRunsTellOnce }
     ensures answers { ReliableRunsTellAnswers }
 {
     runs_reach_messages();

@@ -1,4 +1,4 @@
-use Rattle.transfer_runs.proofs.Reliable.{take-in-place, show-what-is-taken, tell-one, never-fail, keep-alive, have-one-holder, arrive-whole, arrive-once, transfer-once, tell-answers}
+use Rattle.transfer_runs.proofs.Reliable.{take-in-place, show-what-is-taken, tell-one, never-fail, keep-alive, have-one-holder, arrive-whole, arrive-once, transfer-once, tell-once, tell-answers}
 use Rattle.transfer_runs.proofs.laws.reliable_runs_keep_laws.Goals as goal
 
 pub returns : goal.returns
@@ -13,5 +13,6 @@ returns c =
       once = arrive-once c.runs_reach_messages.ensures.reached c.said_is_meant.ensures.law c.reliable_ends_are_said.ensures.law;
       transfers = transfer-once c.runs_reach_messages.ensures.reached c.runs_reach_messages.ensures.whole c.said_is_meant.ensures.law c.reliable_ends_are_said.ensures.law;
       outcomes = tell-one c.runs_tell_one_outcome.ensures.once c.said_is_meant.ensures.law c.reliable_ends_are_said.ensures.law;
+      told = tell-once c.said_is_meant.ensures.law c.reliable_ends_are_said.ensures.law;
       answers = tell-answers c.runs_reach_messages.ensures.reached c.said_is_meant.ensures.law c.reliable_ends_are_said.ensures.law;
     }
