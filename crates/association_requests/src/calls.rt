@@ -1,6 +1,6 @@
 //! The calls of an end.
 
-ghost use Rattle.std.specs.Prelude.{◌≡◌, OnOk, option_map, map, false};
+ghost use Rattle.std.specs.Prelude.{◌≡◌, ℤ, Option, OnOk, option_map, map, false};
 ghost use Rattle.end_rules.specs.Base.{Base};
 ghost use Rattle.end_rules.specs.Calling.{is_of_bare_mode, can_by_rows};
 ghost use Rattle.end_rules.specs.Requesting.{after_accepted};

@@ -1,6 +1,6 @@
 //! What the calls but those of remote operations send, once their rows allow it.
 
-ghost use Rattle.std.specs.Prelude.{◌≡◌, Some, [], ◌∷◌, false, if◌then◌else◌};
+ghost use Rattle.std.specs.Prelude.{◌≡◌, ℤ, Option, Some, None, Ok, IfOk, [], ◌∷◌, false, if◌then◌else◌};
 ghost use Rattle.end_rules.specs.Sets.{listed as list_of_set, next_number};
 ghost use Rattle.end_rules.specs.State.{is_carrying, confirmed_of};
 ghost use Rattle.end_rules.specs.Messages.{OfData, OfMarks, OfActivities, Session, AlterContext, Mark, Restart, Interrupt, Discard, Resume};
@@ -13,7 +13,7 @@ ghost use Rattle.association_words.specs.Seen.{seen_message, seen_marks, seen_ac
 ghost use Rattle.association_state.specs.Seen.{base_in, seen};
 ghost use Rattle.association_requests.specs.Called.{IsDue};
 
-use crate::called::{Called, sends};
+use crate::called::Called;
 use association_calls::{
     can_alter, can_give, can_mark, can_please, can_release, can_restart, can_resume, can_stop,
 };
@@ -42,8 +42,7 @@ fn activities(word: ActivityWord) -> Message
 
 /// AC with additions and deletions.
 fn alter_message(basis: &Ground<'_>, add: &Proposals, delete: &Ids) -> Result<Message, NoMemory>
-    ensures { IfOk result (λ m. seen_message m ≡ Session (OfData (AlterContext add.now delete.now)))
-        }
+    ensures { IfOk result (λ m. seen_message m ≡ Session (OfData (AlterContext add.now delete.now))) }
 {
     Ok(Message::Session(Word::OfData(DataWord::AlterContext {
         add: add.copy(basis.alloc)?,
@@ -65,7 +64,11 @@ fn due_alter(
 {
     let asked = Alteration::new(add.copy(basis.alloc)?, delete.copy(basis.alloc)?);
     let answer = can_alter(basis, body, &asked)?;
-    Ok(sends(answer, alter_message(basis, add, delete)?))
+    let message = alter_message(basis, add, delete)?;
+    Ok(Called {
+        answer,
+        message: Some(message),
+    })
 }
 
 /// A mark.
@@ -75,7 +78,10 @@ fn due_mark(basis: &Ground<'_>, body: &Body) -> Result<Called, CallRefusal>
 {
     let answer = can_mark(basis, body)?;
     let number = body.saved.next_number();
-    Ok(sends(answer, marks(MarkWord::Mark { number })))
+    Ok(Called {
+        answer,
+        message: Some(marks(MarkWord::Mark { number })),
+    })
 }
 
 /// The turn is given.
@@ -84,7 +90,10 @@ fn due_give(basis: &Ground<'_>, body: &Body) -> Result<Called, CallRefusal>
         (give_message (base_in basis.now).mode ∷ []) result }
 {
     let answer = can_give(basis, body)?;
-    Ok(sends(answer, give_message(basis.config.mode)))
+    Ok(Called {
+        answer,
+        message: Some(give_message(basis.config.mode)),
+    })
 }
 
 /// The turn is asked for.
@@ -94,7 +103,10 @@ fn due_please(basis: &Ground<'_>, body: &Body, priority: u32) -> Result<Called, 
 {
     let answer = can_please(basis, body)?;
     let message = please_message(basis.alloc, body, basis.config.mode, priority)?;
-    Ok(sends(answer, message))
+    Ok(Called {
+        answer,
+        message: Some(message),
+    })
 }
 
 /// A restart, with the list of the set that it brings back.
@@ -104,13 +116,13 @@ fn due_restart(basis: &Ground<'_>, body: &Body, n: u32) -> Result<Called, CallRe
 {
     let answer = can_restart(basis, body, n)?;
     let list = listed(basis.alloc, body.saved.set_below(n))?;
-    Ok(sends(
+    Ok(Called {
         answer,
-        marks(MarkWord::Restart {
+        message: Some(marks(MarkWord::Restart {
             number: n,
             list: Some(list),
-        }),
-    ))
+        })),
+    })
 }
 
 /// The current transfer is interrupted.
@@ -119,10 +131,10 @@ fn due_interrupt(basis: &Ground<'_>, body: &Body) -> Result<Called, CallRefusal>
         (Some 0))) ∷ []) result }
 {
     let answer = can_stop(basis, body)?;
-    Ok(sends(
+    Ok(Called {
         answer,
-        activities(ActivityWord::Interrupt { reason: Some(0) }),
-    ))
+        message: Some(activities(ActivityWord::Interrupt { reason: Some(0) })),
+    })
 }
 
 /// The current transfer is discarded.
@@ -131,10 +143,10 @@ fn due_discard(basis: &Ground<'_>, body: &Body) -> Result<Called, CallRefusal>
         (Some 0))) ∷ []) result }
 {
     let answer = can_stop(basis, body)?;
-    Ok(sends(
+    Ok(Called {
         answer,
-        activities(ActivityWord::Discard { reason: Some(0) }),
-    ))
+        message: Some(activities(ActivityWord::Discard { reason: Some(0) })),
+    })
 }
 
 /// The highest confirmed mark of the current transfer.
@@ -154,13 +166,13 @@ fn due_resume(basis: &Ground<'_>, body: &Body) -> Result<Called, CallRefusal>
         result }
 {
     let answer = can_resume(basis, body)?;
-    Ok(sends(
+    Ok(Called {
         answer,
-        activities(ActivityWord::Resume {
+        message: Some(activities(ActivityWord::Resume {
             activity: body.sending.started,
             mark: confirmed_of(body),
-        }),
-    ))
+        })),
+    })
 }
 
 /// The release.
@@ -169,14 +181,20 @@ fn due_release(basis: &Ground<'_>, body: &Body) -> Result<Called, CallRefusal>
         (finish_message (seen body.now) ∷ []) result }
 {
     let answer = can_release(basis, body)?;
-    Ok(sends(answer, finish_message(basis.alloc, body)?))
+    Ok(Called {
+        answer,
+        message: Some(finish_message(basis.alloc, body)?),
+    })
 }
 
 /// A connection is asked for.
 fn due_connection(basis: &Ground<'_>) -> Result<Called, CallRefusal>
     ensures { IsDue (Ok None) (connection_request (base_in basis.now) ∷ []) result }
 {
-    Ok(sends(None, connection_request(basis)?))
+    Ok(Called {
+        answer: None,
+        message: Some(connection_request(basis)?),
+    })
 }
 
 /// An abort, which goes where CN went.
@@ -192,7 +210,10 @@ fn due_abort(basis: &Ground<'_>, body: &Body) -> Result<Called, CallRefusal>
     }
     let accepted = body.link.accepted.as_slice();
     let message = user_abort(basis.alloc, accepted, 0, ListOf::new(basis.alloc))?;
-    Ok(sends(None, message))
+    Ok(Called {
+        answer: None,
+        message: Some(message),
+    })
 }
 
 /// What a call that isn't one of remote operations answers and sends, once its rows allow it.

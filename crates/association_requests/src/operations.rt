@@ -1,11 +1,12 @@
 //! Invocations and outcomes: what is handed in goes as data at once; in reliable mode it joins the
 //! queue.
 
-ghost use Rattle.std.specs.Prelude.{◌≡◌, ◌<◌, Some, None, true, false, is_some, IfOk, IfSome, OnOk, length, option_map};
+ghost use Rattle.std.specs.Prelude.{◌≡◌, Some, None, true, false, is_some, IfOk, IfSome, OnOk, option_map};
 ghost use Rattle.dialogue.specs.declared.call.Call.TheVariants as the_calls;
 ghost use Rattle.stub_tables.specs.Lookup.{operation_at};
-ghost use Rattle.stub_tables.specs.Codes.{is_silent};
+ghost use Rattle.dialogue.specs.declared.config.Mode.TheVariants.{Direct, Bare};
 ghost use Rattle.end_rules.specs.State.{opened_with};
+ghost use Rattle.end_rules.specs.Hearing.{is_silent_at};
 ghost use Rattle.end_rules.specs.Invoking.{next_id, can_invoke, can_answer, can_refuse};
 ghost use Rattle.end_rules.specs.Requesting.{handed_in, sent_at_once, invoking, after_outcome, due_outcome};
 ghost use Rattle.association_words.specs.Seen.{seen_message};
@@ -25,6 +26,24 @@ use dialogue::{CallRefusal, Mode};
 use osi_base::NoMemory;
 use stub_tables::Apdu;
 
+/// What is sent at once of an APDU on its carrier, if it has one, out of reliable mode.
+fn at_once(
+    basis: &Ground<'_>,
+    body: &Body,
+    carrier: Option<u32>,
+    apdu: Apdu,
+) -> Result<Option<Message>, NoMemory>
+    ensures direct { IfOk result (λ m. listed (option_map seen_message m) ≡ sent_at_once Direct
+        (seen body.now) carrier apdu) }
+    ensures bare { IfOk result (λ m. listed (option_map seen_message m) ≡ sent_at_once Bare
+        (seen body.now) carrier apdu) }
+{
+    match carrier {
+        None => Ok(None),
+        Some(carrier) => Ok(Some(data_on(basis, body, carrier, apdu)?)),
+    }
+}
+
 /// Hands in an APDU for a context, and answers what is sent.
 fn hand_in(
     basis: &Ground<'_>,
@@ -33,30 +52,28 @@ fn hand_in(
     carrier: Option<u32>,
     apdu: Apdu,
 ) -> Result<Option<Message>, NoMemory>
-    ensures body { OnOk result (seen body.new ≡ handed_in (base_in basis.now).mode context apdu
+    ensures body { OnOk result (seen body.new ≡ handed_in basis.now.config.mode context apdu
         (seen body.old)) }
     ensures message { IfOk result (λ m. listed (option_map seen_message m) ≡ sent_at_once
-        (base_in basis.now).mode (seen body.old) carrier apdu) }
+        basis.now.config.mode (seen body.old) carrier apdu) }
 {
     match basis.config.mode {
         Mode::Reliable => {
             queueing(body, context, apdu)?;
             Ok(None)
         }
-        Mode::Direct | Mode::Bare => match carrier {
-            None => Ok(None),
-            Some(carrier) => Ok(Some(data_on(basis, body, carrier, apdu)?)),
-        },
+        Mode::Direct => at_once(basis, body, carrier, apdu),
+        Mode::Bare => at_once(basis, body, carrier, apdu),
     }
 }
 
 /// Whether the operation at this place is silent.
 fn is_silent_at(basis: &Ground<'_>, place: u32) -> bool
-    ensures { IfSome (operation_at basis.now.tables.now place) (λ o. result ≡ is_silent o) }
+    ensures { result ≡ is_silent_at (base_in basis.now) (Some place) }
 {
     match basis.tables.operation(place) {
+        None => false,
         Some(operation) => operation.is_silent(),
-        None => true,
     }
 }
 

@@ -76,8 +76,12 @@ fn left_of<'a>(transfer: &Transfer, encoded: &'a Encoded) -> &'a [u8]
 fn next_part(basis: &Ground<'_>, checkpoint: u32, left: &[u8]) -> Result<Octets, NoMemory>
     ensures { IfOk result (λ part. part ≡ take (part_size checkpoint (length left.now)) left.now) }
 {
-    let size = part_size(checkpoint, left.len()).min(left.len());
-    Octets::from_slice(basis.alloc, &left[..size])
+    let size = part_size(checkpoint, left.len());
+    if size < left.len() {
+        Octets::from_slice(basis.alloc, &left[..size])
+    } else {
+        Octets::from_slice(basis.alloc, left)
+    }
 }
 
 /// A mark is sent.

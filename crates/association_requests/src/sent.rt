@@ -1,7 +1,7 @@
 //! What the sending of a request changes (X.225 7, X.226 6, X.228 7).
 
-ghost use Rattle.std.specs.Prelude.{◌≡◌, ◌++◌, ℕ, IfOk, OnOk, None, [], ◌∷◌};
-ghost use Rattle.end_rules.specs.State.{Running, pieces_of, resumed_set};
+ghost use Rattle.std.specs.Prelude.{◌≡◌, ◌++◌, ℕ, suc, map, option_map, IfOk, OnOk, None, [], ◌∷◌};
+ghost use Rattle.end_rules.specs.State.{Sending as rule_sending, Running, up_to, pieces_of, resumed_set};
 ghost use Rattle.end_rules.specs.Messages.{Start, Resume};
 ghost use Rattle.end_rules.specs.TakesData.{parts_in};
 ghost use Rattle.end_rules.specs.Requesting.{begun, resumed, mark_sent, values_sent, after_sent_association, after_sent_data, after_sent_mark, after_sent_activity, after_sent_word, after_sent_transport, after_sent};
@@ -52,8 +52,10 @@ fn values_sent(basis: &Ground<'_>, body: &mut Body, values: &[Value]) -> Result<
 
 /// An own alteration was sent.
 fn alteration_sent(body: &mut Body, asked: Alteration) -> Result<(), NoMemory>
-    ensures { OnOk result (seen body.new ≡ record (seen body.old) { sets = record (seen
-        body.old).sets { own = (seen body.old).sets.own ++ asked ∷ [] } }) }
+    ensures { OnOk result (seen body.new ≡ record (seen body.old) {
+      sets = record (seen
+          body.old).sets { own = (seen body.old).sets.own ++ asked ∷ [] };
+    }) }
 {
     body.sets.own.push(asked)?;
     Ok(())
@@ -123,8 +125,13 @@ fn marks_sent(basis: &Ground<'_>, body: &mut Body, word: &MarkWord) -> Result<()
 
 /// The transfer of an item at its start.
 fn new_transfer(alloc: Global, item: Queued) -> Transfer
-    ensures { seen_transfer result ≡ record { item = seen_queued item; encoded = None; pieces = [];
-        confirmed = 0; progress = Running } }
+    ensures { seen_transfer result ≡ record {
+      item = seen_queued item;
+      encoded = None;
+      pieces = [];
+      confirmed = 0;
+      progress = Running;
+    } }
 {
     Transfer {
         item,
@@ -132,6 +139,20 @@ fn new_transfer(alloc: Global, item: Queued) -> Transfer
         pieces: Pieces::new(alloc),
         confirmed: 0,
         progress: Progress::Running,
+    }
+}
+
+/// The next item as the current transfer, if there is one.
+fn next_transfer(alloc: Global, queue: &mut Vec<Queued>) -> Option<Transfer>
+    ensures { (s : rule_sending) → s.queue ≡ map seen_queued queue.old.items → begun s ≡ record {
+      started = suc s.started;
+      current = option_map seen_transfer result;
+      queue = map seen_queued queue.new.items;
+    } }
+{
+    match take_next(queue) {
+        None => None,
+        Some(item) => Some(new_transfer(alloc, item)),
     }
 }
 
@@ -143,22 +164,44 @@ fn begin_next(alloc: Global, sending: &mut Sending) -> Result<(), NoMemory>
         return Err(NoMemory);
     };
     sending.started = started;
-    sending.current = match take_next(&mut sending.queue) {
-        None => None,
-        Some(item) => Some(new_transfer(alloc, item)),
-    };
+    sending.current = next_transfer(alloc, &mut sending.queue);
     Ok(())
 }
 
-/// Back to the confirmed mark; from nothing on the item is to be encoded anew.
+/// A transfer begins anew: its item is to be encoded again.
+fn go_to_start(transfer: &mut Transfer)
+    ensures { seen_transfer transfer.new ≡ record (seen_transfer transfer.old) {
+      encoded = None;
+      pieces = [];
+      progress = Running;
+    } }
+{
+    transfer.encoded = None;
+    transfer.pieces.clear();
+    transfer.progress = Progress::Running;
+}
+
+/// A transfer goes back to its confirmed mark.
+fn go_to_mark(transfer: &mut Transfer)
+    ensures { seen_transfer transfer.new ≡ record (seen_transfer transfer.old) {
+      pieces = up_to (seen_transfer transfer.old).confirmed (seen_transfer transfer.old).pieces;
+      progress = Running;
+    } }
+{
+    transfer.pieces.cut(transfer.confirmed);
+    transfer.progress = Progress::Running;
+}
+
+/// Back to the confirmed mark, or where nothing is confirmed to the start.
+#[tactic(auto, using(crate::proofs::Sendings::resumed_at_first, crate::proofs::Sendings::resumed_later))]
 fn go_back(transfer: &mut Transfer)
     ensures { seen_transfer transfer.new ≡ resumed (seen_transfer transfer.old) }
 {
     if transfer.confirmed == 0 {
-        transfer.encoded = None;
+        go_to_start(transfer);
+    } else {
+        go_to_mark(transfer);
     }
-    transfer.pieces.cut(transfer.confirmed);
-    transfer.progress = Progress::Running;
 }
 
 /// The set of a resumption: that of its mark, or the held one.
