@@ -94,18 +94,18 @@ module _ (base : Base) (old : Body) (context place : ℕ) (linked : Option ℤ) 
       let same : apdu ≡ invoke_apdu x own_id linked argument = cc in
       whatever_is_open base.mode opened.calls old (Some context) apdu ∙ ap (λ (a : Apdu). sent_at_once base.mode old (Some context) a) same
 
+  abbrev due_answered : Option ℤ → List Message
+  due_answered x = due_of_accepted base old the_call x
+
+  abbrev after_answered : Option ℤ → Body
+  after_answered x = after_made base old the_call x
+
   made_as : (can : Reply) (new : Body) (made : Called) → can ≡ Ok (Some own_id) → made.answer ≡ Some own_id → sent_by made ≡ due_invoke base old context own_id linked (operation_at base.tables place) argument
       → new ≡ after_it (operation_at base.tables place) → MadeAs can base old new the_call made
   made_as can new made c a d b =
-      let F : Option ℤ → Type 0 = λ (x : Option ℤ). (can ≡ Ok x) × (sent_by made ≡ due_of_answer x) × (new ≡ after_answer x) in
+      let F : Option ℤ → Type 0 = λ (x : Option ℤ). (can ≡ Ok x) × (sent_by made ≡ due_answered x) × (new ≡ after_answered x) in
       let all : F made.answer = subst F (sym a) (c, d, b) in
       record { answer = all.0; due = all.1; body = all.2 }
-    where
-      abbrev due_of_answer : Option ℤ → List Message
-      due_of_answer x = due_of_accepted base old the_call x
-
-      abbrev after_answer : Option ℤ → Body
-      after_answer x = after_made base old the_call x
 
   pub invoke_made : (can : Reply) (mid new : Body) (id : ℤ) (apdu : Apdu) (made : Called)
       → (can ≡ Ok (Some own_id)) × (option_map (λ x. invoke_apdu x own_id linked argument) (operation_at base.tables place) ≡ Some apdu)

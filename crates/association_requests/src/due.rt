@@ -51,6 +51,7 @@ fn alter_message(basis: &Ground<'_>, add: &Proposals, delete: &Ids) -> Result<Me
 }
 
 /// An alteration of the contexts.
+#[tactic(auto, using(crate::proofs::Rows::refused_by))]
 fn due_alter(
     basis: &Ground<'_>,
     body: &Body,
@@ -72,6 +73,7 @@ fn due_alter(
 }
 
 /// A mark.
+#[tactic(auto, using(crate::proofs::Rows::refused_is))]
 fn due_mark(basis: &Ground<'_>, body: &Body) -> Result<Called, CallRefusal>
     ensures { IsDue (can_mark (base_in basis.now) (seen body.now)) (Session (OfMarks (Mark
         (next_number (seen body.now).saved))) ∷ []) result }
@@ -85,6 +87,7 @@ fn due_mark(basis: &Ground<'_>, body: &Body) -> Result<Called, CallRefusal>
 }
 
 /// The turn is given.
+#[tactic(auto, using(crate::proofs::Rows::refused_is))]
 fn due_give(basis: &Ground<'_>, body: &Body) -> Result<Called, CallRefusal>
     ensures { IsDue (can_give (base_in basis.now) (seen body.now))
         (give_message (base_in basis.now).mode ∷ []) result }
@@ -97,6 +100,7 @@ fn due_give(basis: &Ground<'_>, body: &Body) -> Result<Called, CallRefusal>
 }
 
 /// The turn is asked for.
+#[tactic(auto, using(crate::proofs::Rows::refused_is))]
 fn due_please(basis: &Ground<'_>, body: &Body, priority: u32) -> Result<Called, CallRefusal>
     ensures { IsDue (can_please (base_in basis.now) (seen body.now))
         (please_message (seen body.now) (base_in basis.now).mode priority ∷ []) result }
@@ -110,6 +114,7 @@ fn due_please(basis: &Ground<'_>, body: &Body, priority: u32) -> Result<Called, 
 }
 
 /// A restart, with the list of the set that it brings back.
+#[tactic(auto, using(crate::proofs::Rows::refused_is))]
 fn due_restart(basis: &Ground<'_>, body: &Body, n: u32) -> Result<Called, CallRefusal>
     ensures { IsDue (can_restart (base_in basis.now) (seen body.now) n) (Session (OfMarks (Restart n
         (Some (list_of_set (restored_set (seen body.now) n))))) ∷ []) result }
@@ -126,6 +131,7 @@ fn due_restart(basis: &Ground<'_>, body: &Body, n: u32) -> Result<Called, CallRe
 }
 
 /// The current transfer is interrupted.
+#[tactic(auto, using(crate::proofs::Rows::refused_is))]
 fn due_interrupt(basis: &Ground<'_>, body: &Body) -> Result<Called, CallRefusal>
     ensures { IsDue (can_stop (base_in basis.now) (seen body.now)) (Session (OfActivities (Interrupt
         (Some 0))) ∷ []) result }
@@ -138,6 +144,7 @@ fn due_interrupt(basis: &Ground<'_>, body: &Body) -> Result<Called, CallRefusal>
 }
 
 /// The current transfer is discarded.
+#[tactic(auto, using(crate::proofs::Rows::refused_is))]
 fn due_discard(basis: &Ground<'_>, body: &Body) -> Result<Called, CallRefusal>
     ensures { IsDue (can_stop (base_in basis.now) (seen body.now)) (Session (OfActivities (Discard
         (Some 0))) ∷ []) result }
@@ -160,6 +167,7 @@ fn confirmed_of(body: &Body) -> u32
 }
 
 /// The suspended transfer is resumed at its highest confirmed mark.
+#[tactic(auto, using(crate::proofs::Rows::refused_is))]
 fn due_resume(basis: &Ground<'_>, body: &Body) -> Result<Called, CallRefusal>
     ensures { IsDue (can_resume (base_in basis.now) (seen body.now)) (Session (OfActivities (Resume
         (seen body.now).sending.started (confirmed_of (seen body.now).sending.current))) ∷ [])
@@ -176,6 +184,7 @@ fn due_resume(basis: &Ground<'_>, body: &Body) -> Result<Called, CallRefusal>
 }
 
 /// The release.
+#[tactic(auto, using(crate::proofs::Rows::refused_by))]
 fn due_release(basis: &Ground<'_>, body: &Body) -> Result<Called, CallRefusal>
     ensures { IsDue (can_release (base_in basis.now) (seen body.now))
         (finish_message (seen body.now) ∷ []) result }

@@ -39,6 +39,7 @@ fn leads(basis: &Ground<'_>, body: &Body) -> bool
 
 /// How many octets the next part has at most: 1,024 for each unit of the checkpoint; without
 /// checkpoints all that is left.
+#[tactic(auto, using(crate::proofs::Parts::part_size_of))]
 fn part_size(checkpoint: u32, left: usize) -> usize
     ensures { result ≡ part_size checkpoint left }
 {
@@ -59,6 +60,7 @@ fn is_window_full(transfer: &Transfer, encoded: &Encoded) -> bool
 }
 
 /// What is left of the octets.
+#[tactic(auto, using(std::proofs::lemmas::List::drop_all))]
 fn left_of<'a>(transfer: &Transfer, encoded: &'a Encoded) -> &'a [u8]
     ensures { result.now ≡ left_of (seen_transfer transfer.now) (seen_encoded
         transfer.now.item.apdu encoded.now) }
@@ -73,6 +75,7 @@ fn left_of<'a>(transfer: &Transfer, encoded: &'a Encoded) -> &'a [u8]
 }
 
 /// The octets of the next part.
+#[tactic(auto, using(std::proofs::lemmas::List::take_all))]
 fn next_part(basis: &Ground<'_>, checkpoint: u32, left: &[u8]) -> Result<Octets, NoMemory>
     ensures { IfOk result (λ part. part ≡ take (part_size checkpoint (length left.now)) left.now) }
 {

@@ -143,6 +143,7 @@ fn new_transfer(alloc: Global, item: Queued) -> Transfer
 }
 
 /// The next item as the current transfer, if there is one.
+#[tactic(auto, using(crate::proofs::Sendings::begun_none, crate::proofs::Sendings::begun_one))]
 fn next_transfer(alloc: Global, queue: &mut Vec<Queued>) -> Option<Transfer>
     ensures { (s : rule_sending) → s.queue ≡ map seen_queued queue.old.items → begun s ≡ record {
       started = suc s.started;

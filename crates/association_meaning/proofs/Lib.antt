@@ -1,0 +1,5 @@
+pub mod Meant
+pub mod Bodies
+pub mod Wrongs
+pub mod Alls
+pub mod Judged
