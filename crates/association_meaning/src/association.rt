@@ -44,7 +44,8 @@ fn is_left(definitions: &[Proposal], pdv: &Pdv) -> bool
 
 /// The first wrong value, apart from those of association control, which isn't accepted.
 fn first_wrong_unless_left(definitions: &[Proposal], set: &[SetItem], pdvs: &[Pdv]) -> Option<Wrong>
-    ensures { result ≡ steps.first_wrong 0 (steps.unless_left definitions.now (steps.under_set rules.acse_name set.now)) pdvs.now }
+    ensures { result ≡ steps.first_wrong 0 (steps.unless_left definitions.now (steps.under_set
+        rules.acse_name set.now)) pdvs.now }
 {
     for (which, pdv) in pdvs.iter().enumerate() {
         if !is_left(definitions, pdv) {
@@ -59,7 +60,8 @@ fn first_wrong_unless_left(definitions: &[Proposal], set: &[SetItem], pdvs: &[Pd
 /// What a value is of which nothing is asked: the APDU of association control that its octets spell,
 /// or its octets.
 fn left_content(basis: &Ground<'_>, octets: &[u8]) -> Result<Content, NoMemory>
-    ensures { IfOk result (λ content. seen_content content ≡ reading.left_content octets.now (acse_at octets.now)) }
+    ensures { IfOk result (λ content. seen_content content ≡ reading.left_content octets.now
+        (acse_at octets.now)) }
 {
     match basis.codecs.acse.read(basis.alloc, octets) {
         Ok(apdu) => associated(basis.alloc, apdu),
@@ -77,7 +79,8 @@ fn value_or_left(
     set: &[SetItem],
     pdv: &Pdv,
 ) -> Result<Value, Halt>
-    ensures { GivesAs seen_value result (reading.value_or_left (association_base basis.now.tables.now basis.now.config.now) definitions.now set.now pdv.now) }
+    ensures { GivesAs seen_value result (reading.value_or_left (association_base
+        basis.now.tables.now basis.now.config.now) definitions.now set.now pdv.now) }
 {
     if !is_left(definitions, pdv) {
         return value_in(basis, set, pdv);
@@ -98,7 +101,9 @@ fn left_values(
     pdvs: &[Pdv],
 ) -> Result<Values, Halt>
     requires { carrier.now.start + length carrier.now.user.now < 2 ^ 63 }
-    ensures { GivesAs seen_values result (reading.left_values (association_base basis.now.tables.now basis.now.config.now) definitions.now set.now (pdv_places carrier.now.place carrier.now.start carrier.now.user.now) pdvs.now) }
+    ensures { GivesAs seen_values result (reading.left_values (association_base basis.now.tables.now
+        basis.now.config.now) definitions.now set.now (pdv_places carrier.now.place
+        carrier.now.start carrier.now.user.now) pdvs.now) }
 {
     check(
         basis,
@@ -115,7 +120,9 @@ fn all_or_left(
     set: &[SetItem],
     pdvs: &[Pdv],
 ) -> Result<Values, Halt>
-    ensures { GivesAs seen_values result (values_read.all_values (reading.value_or_left (association_base basis.now.tables.now basis.now.config.now) definitions.now set.now) pdvs.now) }
+    ensures { GivesAs seen_values result (values_read.all_values (reading.value_or_left
+        (association_base basis.now.tables.now basis.now.config.now) definitions.now set.now)
+        pdvs.now) }
 {
     let mut values: Values = ListOf::new(basis.alloc);
     for pdv in pdvs {
@@ -132,7 +139,9 @@ fn values_for(
     carrier: &Carrier<'_>,
 ) -> Result<Values, Halt>
     requires { carrier.now.start + length carrier.now.user.now < 2 ^ 63 }
-    ensures { GivesAs seen_values result (steps.values_for (association_base basis.now.tables.now basis.now.config.now) presentation.now set.now (pdv_places carrier.now.place carrier.now.start carrier.now.user.now)) }
+    ensures { GivesAs seen_values result (steps.values_for (association_base basis.now.tables.now
+        basis.now.config.now) presentation.now set.now (pdv_places carrier.now.place
+        carrier.now.start carrier.now.user.now)) }
 {
     let pdvs = presentation.user.as_slice();
     if has_context_of(acse_name(), set) {
@@ -150,7 +159,9 @@ pub(crate) fn connect_values(
     carrier: &Carrier<'_>,
 ) -> Result<Values, Halt>
     requires { carrier.now.start + length carrier.now.user.now < 2 ^ 63 }
-    ensures { GivesAs seen_values result (reading.connect_values (association_base basis.now.tables.now basis.now.config.now) presentation.now (pdv_places carrier.now.place carrier.now.start carrier.now.user.now)) }
+    ensures { GivesAs seen_values result (reading.connect_values (association_base
+        basis.now.tables.now basis.now.config.now) presentation.now (pdv_places carrier.now.place
+        carrier.now.start carrier.now.user.now)) }
 {
     if is_faulty_proposal(true, &[], presentation.definitions.as_slice()) {
         return Ok(ListOf::new(basis.alloc));
@@ -166,8 +177,10 @@ fn stands(
     presentation: &PresentationAccept,
     accepted: &[SetItem],
 ) -> Result<bool, NoMemory>
-    requires { accepted.now ≡ connecting.set_accepted (association_base basis.now.tables.now basis.now.config.now) presentation.now }
-    ensures { IfOk result (λ b. b ≡ reading.stands (association_base basis.now.tables.now basis.now.config.now) presentation.now) }
+    requires { accepted.now ≡ connecting.set_accepted (association_base basis.now.tables.now
+        basis.now.config.now) presentation.now }
+    ensures { IfOk result (λ b. b ≡ reading.stands (association_base basis.now.tables.now
+        basis.now.config.now) presentation.now) }
 {
     let proposed = proposals(basis.alloc, basis.config)?;
     let fit = fit_proposals(proposed.as_slice(), presentation.results.as_slice());
@@ -182,7 +195,9 @@ pub(crate) fn accept_values(
     carrier: &Carrier<'_>,
 ) -> Result<Values, Halt>
     requires { carrier.now.start + length carrier.now.user.now < 2 ^ 63 }
-    ensures { GivesAs seen_values result (reading.accept_values (association_base basis.now.tables.now basis.now.config.now) presentation.now (pdv_places carrier.now.place carrier.now.start carrier.now.user.now)) }
+    ensures { GivesAs seen_values result (reading.accept_values (association_base
+        basis.now.tables.now basis.now.config.now) presentation.now (pdv_places carrier.now.place
+        carrier.now.start carrier.now.user.now)) }
 {
     let set = set_accepted(basis.alloc, basis.tables, basis.config, presentation)?;
     let accepted = set.as_slice();
@@ -224,7 +239,8 @@ fn unasked_value(basis: &Ground<'_>, pdv: &Pdv) -> Result<Value, Halt>
 /// Values of a refusal or of an abort, of which no contexts are asked.
 fn unasked_values(basis: &Ground<'_>, carrier: &Carrier<'_>, pdvs: &[Pdv]) -> Result<Values, Halt>
     requires { carrier.now.start + length carrier.now.user.now < 2 ^ 63 }
-    ensures { GivesAs seen_values result (reading.unasked_values (pdv_places carrier.now.place carrier.now.start carrier.now.user.now) pdvs.now) }
+    ensures { GivesAs seen_values result (reading.unasked_values (pdv_places carrier.now.place
+        carrier.now.start carrier.now.user.now) pdvs.now) }
 {
     check(basis, carrier, first_form_wrong(pdvs))?;
     all_unasked(basis, pdvs)
@@ -243,7 +259,8 @@ fn all_unasked(basis: &Ground<'_>, pdvs: &[Pdv]) -> Result<Values, Halt>
 
 /// The contexts that a refusal accepts.
 fn set_refused(basis: &Ground<'_>, presentation: &PresentationReject) -> Result<SetList, NoMemory>
-    ensures { IfOk result (λ set. set ≡ reading.set_refused (association_base basis.now.tables.now basis.now.config.now) presentation.now) }
+    ensures { IfOk result (λ set. set ≡ reading.set_refused (association_base basis.now.tables.now
+        basis.now.config.now) presentation.now) }
 {
     accepted_for(basis.alloc, basis.config, presentation.results.as_slice())
 }
@@ -255,7 +272,9 @@ pub(crate) fn refuse_values(
     carrier: &Carrier<'_>,
 ) -> Result<Values, Halt>
     requires { carrier.now.start + length carrier.now.user.now < 2 ^ 63 }
-    ensures { GivesAs seen_values result (reading.refuse_values (association_base basis.now.tables.now basis.now.config.now) presentation.now (pdv_places carrier.now.place carrier.now.start carrier.now.user.now)) }
+    ensures { GivesAs seen_values result (reading.refuse_values (association_base
+        basis.now.tables.now basis.now.config.now) presentation.now (pdv_places carrier.now.place
+        carrier.now.start carrier.now.user.now)) }
 {
     let set = set_refused(basis, presentation)?;
     let values = unasked_values(basis, carrier, presentation.user.as_slice())?;
@@ -270,7 +289,9 @@ pub(crate) fn abort_values(
     pdvs: &[Pdv],
 ) -> Result<Values, Halt>
     requires { carrier.now.start + length carrier.now.user.now < 2 ^ 63 }
-    ensures { GivesAs seen_values result (reading.abort_values (association_base basis.now.tables.now basis.now.config.now) accepted.now (pdv_places carrier.now.place carrier.now.start carrier.now.user.now) pdvs.now) }
+    ensures { GivesAs seen_values result (reading.abort_values (association_base
+        basis.now.tables.now basis.now.config.now) accepted.now (pdv_places carrier.now.place
+        carrier.now.start carrier.now.user.now) pdvs.now) }
 {
     let values = unasked_values(basis, carrier, pdvs)?;
     and_informed(basis, accepted, AcseKind::Abort, values)

@@ -111,7 +111,8 @@ pub(crate) fn check(
     wrong: Option<Wrong>,
 ) -> Result<(), Halt>
     requires { carrier.now.start + length carrier.now.user.now < 2 ^ 63 }
-    ensures { GivesAs (λ _. tt) result (steps.checked (steps.told_wrong (pdv_places carrier.now.place carrier.now.start carrier.now.user.now) wrong)) }
+    ensures { GivesAs (λ _. tt) result (steps.checked (steps.told_wrong (pdv_places
+        carrier.now.place carrier.now.start carrier.now.user.now) wrong)) }
 {
     let Some(wrong) = wrong else { return Ok(()) };
     let place = field_place(

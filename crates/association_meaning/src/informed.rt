@@ -150,7 +150,8 @@ fn first_informed(
 
 /// One value.
 fn one(basis: &Ground<'_>, id: u32, pair: Option<Pair>, content: Content) -> Result<Values, Halt>
-    ensures { GivesAs seen_values result (Ok (seen_value (record { id = id; pair = pair; content = content }) ∷ [])) }
+    ensures { GivesAs seen_values result (Ok (seen_value (record { id = id; pair = pair; content =
+        content }) ∷ [])) }
 {
     let mut values: Values = ListOf::new(basis.alloc);
     values.push(Value { id, pair, content })?;
@@ -164,7 +165,8 @@ fn informed_value(
     kind: AcseKind,
     value: Value,
 ) -> Result<Values, Halt>
-    ensures { GivesAs seen_values result (reading.informed_value accepted.now (kind_of kind) (seen_value value) (seen_value value).content) }
+    ensures { GivesAs seen_values result (reading.informed_value accepted.now (kind_of kind)
+        (seen_value value) (seen_value value).content) }
 {
     let Value { id, pair, content } = value;
     match content {
@@ -190,7 +192,8 @@ fn informed_values(
     kind: AcseKind,
     values: Values,
 ) -> Result<Values, Halt>
-    ensures { GivesAs seen_values result (reading.informed_values accepted.now (kind_of kind) (seen_values values)) }
+    ensures { GivesAs seen_values result (reading.informed_values accepted.now (kind_of kind)
+        (seen_values values)) }
 {
     if values.len() != 1 {
         return Ok(values);
@@ -208,7 +211,9 @@ pub(crate) fn and_informed(
     kind: AcseKind,
     values: Values,
 ) -> Result<Values, Halt>
-    ensures { GivesAs seen_values result (reading.and_informed (association_base basis.now.tables.now basis.now.config.now) accepted.now (kind_of kind) (Ok (seen_values values))) }
+    ensures { GivesAs seen_values result (reading.and_informed (association_base
+        basis.now.tables.now basis.now.config.now) accepted.now (kind_of kind) (Ok (seen_values
+        values))) }
 {
     if is_reliable(basis.config.mode) {
         informed_values(basis, accepted, kind, values)

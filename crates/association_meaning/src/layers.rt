@@ -110,7 +110,8 @@ fn rtse_content(basis: &Ground<'_>, octets: &[u8]) -> Result<Content, Halt>
 
 /// What octets are under a pair.
 pub(crate) fn content_under(basis: &Ground<'_>, pair: &Pair, octets: &[u8]) -> Result<Content, Halt>
-    ensures { GivesAs seen_content result (reading.content_under basis.now.tables.now pair.now octets.now) }
+    ensures { GivesAs seen_content result (reading.content_under basis.now.tables.now pair.now
+        octets.now) }
 {
     let name = pair.abstract_name.arcs();
     if same_name(name, acse_name()) {
@@ -134,7 +135,8 @@ pub(crate) fn content_by(
     pair: Option<&Pair>,
     octets: &[u8],
 ) -> Result<Content, Halt>
-    ensures { GivesAs seen_content result (reading.content_by basis.now.tables.now (option_copied pair.entry) octets.now) }
+    ensures { GivesAs seen_content result (reading.content_by basis.now.tables.now (option_copied
+        pair.entry) octets.now) }
 {
     match pair {
         None => Ok(Content::Unread(Octets::from_slice(basis.alloc, octets)?)),

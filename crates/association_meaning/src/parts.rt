@@ -27,7 +27,8 @@ use std::alloc::Global;
 /// The unit of the presentation that user data are. The place of a fault counts from the TSDU.
 fn unit_in(basis: &Ground<'_>, carrier: &Carrier<'_>) -> Result<PresentationWord, Halt>
     requires { carrier.now.start + length carrier.now.user.now < 2 ^ 63 }
-    ensures { GivesAs (λ unit. unit) result (steps.read_unit carrier.now.start (ppdu_at carrier.now.place carrier.now.user.now)) }
+    ensures { GivesAs (λ unit. unit) result (steps.read_unit carrier.now.start (ppdu_at
+        carrier.now.place carrier.now.user.now)) }
 {
     ppdu_fault_is_first();
     match basis
@@ -67,7 +68,8 @@ fn without_user(alloc: Global, session: &SessionConnect) -> Result<SessionConnec
 /// CP in the user data of CN.
 fn connect_in(basis: &Ground<'_>, carrier: &Carrier<'_>) -> Result<PresentationConnect, Halt>
     requires { carrier.now.start + length carrier.now.user.now < 2 ^ 63 }
-    ensures { GivesAs (λ p. p) result (words.connect_in carrier.now.start (ppdu_at carrier.now.place carrier.now.user.now)) }
+    ensures { GivesAs (λ p. p) result (words.connect_in carrier.now.start (ppdu_at carrier.now.place
+        carrier.now.user.now)) }
 {
     match unit_in(basis, carrier)? {
         PresentationWord::Connect(presentation) => Ok(presentation),
@@ -86,7 +88,8 @@ fn connect_in(basis: &Ground<'_>, carrier: &Carrier<'_>) -> Result<PresentationC
 /// CPA in the user data of AC.
 fn accept_in(basis: &Ground<'_>, carrier: &Carrier<'_>) -> Result<PresentationAccept, Halt>
     requires { carrier.now.start + length carrier.now.user.now < 2 ^ 63 }
-    ensures { GivesAs (λ p. p) result (words.accept_in carrier.now.start (ppdu_at carrier.now.place carrier.now.user.now)) }
+    ensures { GivesAs (λ p. p) result (words.accept_in carrier.now.start (ppdu_at carrier.now.place
+        carrier.now.user.now)) }
 {
     match unit_in(basis, carrier)? {
         PresentationWord::Accept(presentation) => Ok(presentation),
@@ -105,7 +108,8 @@ fn accept_in(basis: &Ground<'_>, carrier: &Carrier<'_>) -> Result<PresentationAc
 /// CPR in the user data of RF.
 fn reject_in(basis: &Ground<'_>, carrier: &Carrier<'_>) -> Result<PresentationReject, Halt>
     requires { carrier.now.start + length carrier.now.user.now < 2 ^ 63 }
-    ensures { GivesAs (λ p. p) result (words.reject_in carrier.now.start (ppdu_at carrier.now.place carrier.now.user.now)) }
+    ensures { GivesAs (λ p. p) result (words.reject_in carrier.now.start (ppdu_at carrier.now.place
+        carrier.now.user.now)) }
 {
     match unit_in(basis, carrier)? {
         PresentationWord::Reject(presentation) => Ok(presentation),
@@ -124,7 +128,8 @@ fn reject_in(basis: &Ground<'_>, carrier: &Carrier<'_>) -> Result<PresentationRe
 /// Values that stand alone in user data.
 fn data_in(basis: &Ground<'_>, carrier: &Carrier<'_>) -> Result<Pdvs, Halt>
     requires { carrier.now.start + length carrier.now.user.now < 2 ^ 63 }
-    ensures { GivesAs (λ p. p) result (words.data_in carrier.now.start (ppdu_at carrier.now.place carrier.now.user.now)) }
+    ensures { GivesAs (λ p. p) result (words.data_in carrier.now.start (ppdu_at carrier.now.place
+        carrier.now.user.now)) }
 {
     match unit_in(basis, carrier)? {
         PresentationWord::Data { user } => Ok(user),
@@ -147,7 +152,9 @@ pub(crate) fn connect_meaning(
     start: usize,
 ) -> Result<Word, Halt>
     requires { start + length session.now.user < 2 ^ 63 }
-    ensures { GivesAs seen_word result (words.connected (association_base basis.now.tables.now basis.now.config.now) session.now start (words.connect_in start (ppdu_at places.Cn session.now.user))) }
+    ensures { GivesAs seen_word result (words.connected (association_base basis.now.tables.now
+        basis.now.config.now) session.now start (words.connect_in start (ppdu_at places.Cn
+        session.now.user))) }
 {
     let carrier = Carrier {
         place: PpduPlace::Cn,
@@ -174,7 +181,9 @@ pub(crate) fn accept_meaning(
     user: &[u8],
 ) -> Result<Word, Halt>
     requires { start + length user.now < 2 ^ 63 }
-    ensures { GivesAs seen_word result (words.accepted (association_base basis.now.tables.now basis.now.config.now) (seen_accepting session) start user.now (words.accept_in start (ppdu_at places.Ac user.now))) }
+    ensures { GivesAs seen_word result (words.accepted (association_base basis.now.tables.now
+        basis.now.config.now) (seen_accepting session) start user.now (words.accept_in start
+        (ppdu_at places.Ac user.now))) }
 {
     let carrier = Carrier {
         place: PpduPlace::Ac,
@@ -202,7 +211,9 @@ fn refuse_meaning(
     user: &[u8],
 ) -> Result<Word, Halt>
     requires { start + length user.now < 2 ^ 63 }
-    ensures { GivesAs seen_word result (words.refused (association_base basis.now.tables.now basis.now.config.now) transport reason start user.now (words.reject_in start (ppdu_at places.Rf user.now))) }
+    ensures { GivesAs seen_word result (words.refused (association_base basis.now.tables.now
+        basis.now.config.now) transport reason start user.now (words.reject_in start (ppdu_at
+        places.Rf user.now))) }
 {
     let carrier = Carrier {
         place: PpduPlace::Rf,
@@ -231,7 +242,8 @@ pub(crate) fn refused_with(
     user: &Option<Octets>,
 ) -> Result<Word, Halt>
     requires { HasPlaces start user.now }
-    ensures { GivesAs seen_word result (reading.refused_with (association_base basis.now.tables.now basis.now.config.now) transport reason start user.now) }
+    ensures { GivesAs seen_word result (reading.refused_with (association_base basis.now.tables.now
+        basis.now.config.now) transport reason start user.now) }
 {
     match user {
         None => Ok(Word::OfAssociation(AssociationWord::Refuse {
@@ -251,7 +263,9 @@ fn abort_in(
     carrier: &Carrier<'_>,
 ) -> Result<AbortData, Halt>
     requires { carrier.now.start + length carrier.now.user.now < 2 ^ 63 }
-    ensures { GivesAs seen_abort result (words.abort_in (association_base basis.now.tables.now basis.now.config.now) accepted.now carrier.now.start carrier.now.user.now carrier.now.place (ppdu_at carrier.now.place carrier.now.user.now)) }
+    ensures { GivesAs seen_abort result (words.abort_in (association_base basis.now.tables.now
+        basis.now.config.now) accepted.now carrier.now.start carrier.now.user.now carrier.now.place
+        (ppdu_at carrier.now.place carrier.now.user.now)) }
 {
     match unit_in(basis, carrier)? {
         PresentationWord::UserAbort { user, .. } => Ok(AbortData::UserValues(abort_values(
@@ -281,7 +295,8 @@ pub(crate) fn aborted_with(
     user: &Option<Octets>,
 ) -> Result<Word, Halt>
     requires { HasPlaces start user.now }
-    ensures { GivesAs seen_word result (words.aborted_with (association_base basis.now.tables.now basis.now.config.now) accepted.now transport start user.now) }
+    ensures { GivesAs seen_word result (words.aborted_with (association_base basis.now.tables.now
+        basis.now.config.now) accepted.now transport start user.now) }
 {
     let Some(user) = user else {
         return Ok(Word::OfAssociation(AssociationWord::Abort {
@@ -308,7 +323,8 @@ fn values_with(
     carrier: &Carrier<'_>,
 ) -> Result<Values, Halt>
     requires { carrier.now.start + length carrier.now.user.now < 2 ^ 63 }
-    ensures { GivesAs seen_values result (words.values_with basis.now.tables.now held.now carried.now carrier.now.place carrier.now.start carrier.now.user.now) }
+    ensures { GivesAs seen_values result (words.values_with basis.now.tables.now held.now
+        carried.now carrier.now.place carrier.now.start carrier.now.user.now) }
 {
     let pdvs = data_in(basis, carrier)?;
     values_under(basis, held, carried, carrier, pdvs.as_slice())
@@ -323,7 +339,8 @@ pub(crate) fn finish_meaning(
     user: &[u8],
 ) -> Result<Word, Halt>
     requires { start + length user.now < 2 ^ 63 }
-    ensures { GivesAs seen_word result (words.finished basis.now.tables.now held.now transport start user.now) }
+    ensures { GivesAs seen_word result (words.finished basis.now.tables.now held.now transport start
+        user.now) }
 {
     let carrier = Carrier {
         place: PpduPlace::Fn,
@@ -344,7 +361,8 @@ pub(crate) fn disconnect_meaning(
     user: &[u8],
 ) -> Result<Word, Halt>
     requires { start + length user.now < 2 ^ 63 }
-    ensures { GivesAs seen_word result (words.disconnected basis.now.tables.now held.now start user.now) }
+    ensures { GivesAs seen_word result (words.disconnected basis.now.tables.now held.now start
+        user.now) }
 {
     let carrier = Carrier {
         place: PpduPlace::Dn,
@@ -358,7 +376,8 @@ pub(crate) fn disconnect_meaning(
 
 /// The abstract syntax of the values that DT carries.
 fn carried_by_data<'a>(basis: &Ground<'a>) -> &'a [u32]
-    ensures { result.now ≡ reading.carried_by_data (association_base basis.now.tables.now basis.now.config.now) }
+    ensures { result.now ≡ reading.carried_by_data (association_base basis.now.tables.now
+        basis.now.config.now) }
 {
     if is_reliable(basis.config.mode) {
         rtse_name()
@@ -375,7 +394,8 @@ pub(crate) fn data_meaning(
     user: &[u8],
 ) -> Result<Word, Halt>
     requires { start + length user.now < 2 ^ 63 }
-    ensures { GivesAs seen_word result (words.sent (association_base basis.now.tables.now basis.now.config.now) held.now start user.now) }
+    ensures { GivesAs seen_word result (words.sent (association_base basis.now.tables.now
+        basis.now.config.now) held.now start user.now) }
 {
     let carrier = Carrier {
         place: PpduPlace::Dt,
@@ -394,7 +414,8 @@ fn plea_meaning(
     user: &[u8],
 ) -> Result<Word, Halt>
     requires { start + length user.now < 2 ^ 63 }
-    ensures { GivesAs seen_word result (words.pleaded basis.now.tables.now held.now tokens start user.now) }
+    ensures { GivesAs seen_word result (words.pleaded basis.now.tables.now held.now tokens start
+        user.now) }
 {
     let carrier = Carrier {
         place: PpduPlace::Pt,
@@ -416,7 +437,8 @@ pub(crate) fn pleaded_with(
     user: &Option<Octets>,
 ) -> Result<Word, Halt>
     requires { HasPlaces start user.now }
-    ensures { GivesAs seen_word result (words.pleaded_with basis.now.tables.now held.now tokens start user.now) }
+    ensures { GivesAs seen_word result (words.pleaded_with basis.now.tables.now held.now tokens
+        start user.now) }
 {
     let Some(tokens) = tokens else {
         return Ok(Word::OfMarks(MarkWord::Please {
@@ -512,7 +534,8 @@ fn restart_ack_meaning(
     user: &[u8],
 ) -> Result<Word, Halt>
     requires { start + length user.now < 2 ^ 63 }
-    ensures { GivesAs seen_word result (words.restart_acked number start (ppdu_at places.Ra user.now)) }
+    ensures { GivesAs seen_word result (words.restart_acked number start (ppdu_at places.Ra
+        user.now)) }
 {
     let carrier = Carrier {
         place: PpduPlace::Ra,

@@ -19,7 +19,8 @@ use pdv_places::{PdvField, transfer_place};
 
 /// An invalid unit (6) at the place of a field of the value, counted in the octets of the transfer.
 fn invalid_at(basis: &Ground<'_>, octets: &[u8], field: PdvField) -> Result<Arrived, Halt>
-    ensures { GivesAs seen_arrived result (Err (invalid_at (place_in field (places_of (spot_at 0 octets.now))))) }
+    ensures { GivesAs seen_arrived result (Err (invalid_at (place_in field (places_of (spot_at 0
+        octets.now))))) }
 {
     let place = transfer_place(basis.alloc, octets, field)?;
     fault_at(basis.alloc, Layer::Presentation, place, 6)
@@ -33,7 +34,8 @@ fn arrived_as(
     pair: &Pair,
     content: Content,
 ) -> Result<Arrived, Halt>
-    ensures { GivesAs seen_arrived result (reading.arrived_as (places_of (spot_at 0 octets.now)) id pair.now (Ok (seen_content content))) }
+    ensures { GivesAs seen_arrived result (reading.arrived_as (places_of (spot_at 0 octets.now)) id
+        pair.now (Ok (seen_content content))) }
 {
     match content {
         Content::Remote(apdu) => Ok(Arrived::Whole(Item {
@@ -60,7 +62,8 @@ fn arrived_in(
     octets: &[u8],
     pdv: &Pdv,
 ) -> Result<Arrived, Halt>
-    ensures { GivesAs seen_arrived result (reading.arrived_in basis.now.tables.now set.now (places_of (spot_at 0 octets.now)) (Ok pdv.now)) }
+    ensures { GivesAs seen_arrived result (reading.arrived_in basis.now.tables.now set.now
+        (places_of (spot_at 0 octets.now)) (Ok pdv.now)) }
 {
     let pair = pair_of(set, pdv.id);
     if let Some(field) = pdv_wrong(basis.tables.name_oid.arcs(), pdv, pair) {
@@ -77,7 +80,8 @@ fn arrived_in(
 /// spell none; or the fault that ends the association, of which places count in the octets. `NoMemory`
 /// where memory runs out.
 pub fn arrived_at(basis: &Ground<'_>, set: &[SetItem], octets: &[u8]) -> Result<Arrived, Halt>
-    ensures { GivesAs seen_arrived result (reading.arrived_at basis.now.tables.now set.now octets.now) }
+    ensures { GivesAs seen_arrived result (reading.arrived_at basis.now.tables.now set.now
+        octets.now) }
 {
     match basis.codecs.transfers.read(basis.alloc, octets) {
         Ok(pdv) => arrived_in(basis, set, octets, &pdv),

@@ -39,7 +39,9 @@ fn unit_meaning(
     start: usize,
 ) -> Result<Word, Halt>
     requires { HasPlaces start (user_of unit.now) }
-    ensures { let base = association_base basis.now.tables.now basis.now.config.now in GivesAs seen_word result (reading.meaning base (body_with base accepted.now held.now) unit.now start) }
+    ensures { let base = association_base basis.now.tables.now basis.now.config.now in GivesAs
+        seen_word result (reading.meaning base (body_with base accepted.now held.now) unit.now
+        start) }
 {
     match unit {
         SessionWord::Connect(session) => connect_meaning(basis, session, start),
@@ -125,7 +127,9 @@ pub fn meaning(
     start: usize,
 ) -> Result<Word, Halt>
     requires { HasPlaces start (user_of unit.now) }
-    ensures { (body : Body) → body.link.accepted ≡ accepted.now → body.sets.held ≡ held.now → GivesAs seen_word result (reading.meaning (association_base basis.now.tables.now basis.now.config.now) body unit.now start) }
+    ensures { (body : Body) → body.link.accepted ≡ accepted.now → body.sets.held ≡ held.now →
+        GivesAs seen_word result (reading.meaning (association_base basis.now.tables.now
+        basis.now.config.now) body unit.now start) }
 {
     unit_meaning(basis, accepted, held, unit, start)
 }

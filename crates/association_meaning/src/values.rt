@@ -27,7 +27,8 @@ fn copied(alloc: Global, pair: Option<&Pair>) -> Result<Option<Pair>, NoMemory>
 
 /// A value under the pair of its context, where there is one.
 fn value_by(basis: &Ground<'_>, pair: Option<&Pair>, pdv: &Pdv) -> Result<Value, Halt>
-    ensures { GivesAs seen_value result (reading.value_by basis.now.tables.now (option_copied pair.entry) pdv.now) }
+    ensures { GivesAs seen_value result (reading.value_by basis.now.tables.now (option_copied
+        pair.entry) pdv.now) }
 {
     let content = content_by(basis, pair, pdv.content.octets().as_slice())?;
     Ok(Value {
@@ -46,7 +47,8 @@ pub(crate) fn value_in(basis: &Ground<'_>, set: &[SetItem], pdv: &Pdv) -> Result
 
 /// Values under a set, one after the other.
 fn all_in(basis: &Ground<'_>, set: &[SetItem], pdvs: &[Pdv]) -> Result<Values, Halt>
-    ensures { GivesAs seen_values result (reading.all_values (reading.value_in basis.now.tables.now set.now) pdvs.now) }
+    ensures { GivesAs seen_values result (reading.all_values (reading.value_in basis.now.tables.now
+        set.now) pdvs.now) }
 {
     let mut values: Values = ListOf::new(basis.alloc);
     for pdv in pdvs {
@@ -65,7 +67,9 @@ pub(crate) fn values_under(
     pdvs: &[Pdv],
 ) -> Result<Values, Halt>
     requires { carrier.now.start + length carrier.now.user.now < 2 ^ 63 }
-    ensures { GivesAs seen_values result (reading.values_under basis.now.tables.now set.now carried.now (pdv_places carrier.now.place carrier.now.start carrier.now.user.now) pdvs.now) }
+    ensures { GivesAs seen_values result (reading.values_under basis.now.tables.now set.now
+        carried.now (pdv_places carrier.now.place carrier.now.start carrier.now.user.now) pdvs.now)
+        }
 {
     check(basis, carrier, first_wrong(carried, set, pdvs))?;
     all_in(basis, set, pdvs)
