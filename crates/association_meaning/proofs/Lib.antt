@@ -3,3 +3,4 @@ pub mod Bodies
 pub mod Wrongs
 pub mod Alls
 pub mod Judged
+pub mod Fails

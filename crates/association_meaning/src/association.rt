@@ -114,6 +114,7 @@ fn left_values(
 }
 
 /// Each value, of which nothing is asked where it is of association control.
+#[tactic(auto, using(crate::proofs::Alls::all_fails, crate::proofs::Alls::all_done))]
 fn all_or_left(
     basis: &Ground<'_>,
     definitions: &[Proposal],
@@ -132,6 +133,7 @@ fn all_or_left(
 }
 
 /// Values of a CN whose list may stand.
+#[tactic(auto, using(crate::proofs::Fails::informed_fails))]
 fn values_for(
     basis: &Ground<'_>,
     presentation: &PresentationConnect,
@@ -189,6 +191,7 @@ fn stands(
 }
 
 /// Values of an AC. One that doesn't stand ends the association before they are looked at.
+#[tactic(auto, using(crate::proofs::Fails::informed_fails))]
 pub(crate) fn accept_values(
     basis: &Ground<'_>,
     presentation: &PresentationAccept,
@@ -222,6 +225,7 @@ fn first_form_wrong(pdvs: &[Pdv]) -> Option<Wrong>
 }
 
 /// A value of association control in BER, whatever its context.
+#[tactic(auto, using(crate::proofs::Fails::content_fails))]
 fn unasked_value(basis: &Ground<'_>, pdv: &Pdv) -> Result<Value, Halt>
     ensures { GivesAs seen_value result (reading.unasked_value pdv.now) }
 {
@@ -247,6 +251,7 @@ fn unasked_values(basis: &Ground<'_>, carrier: &Carrier<'_>, pdvs: &[Pdv]) -> Re
 }
 
 /// Each value of association control in BER, whatever its context.
+#[tactic(auto, using(crate::proofs::Alls::all_fails, crate::proofs::Alls::all_done))]
 fn all_unasked(basis: &Ground<'_>, pdvs: &[Pdv]) -> Result<Values, Halt>
     ensures { GivesAs seen_values result (values_read.all_values reading.unasked_value pdvs.now) }
 {
@@ -266,6 +271,7 @@ fn set_refused(basis: &Ground<'_>, presentation: &PresentationReject) -> Result<
 }
 
 /// Values of an RF.
+#[tactic(auto, using(crate::proofs::Fails::informed_fails))]
 pub(crate) fn refuse_values(
     basis: &Ground<'_>,
     presentation: &PresentationReject,
@@ -282,6 +288,7 @@ pub(crate) fn refuse_values(
 }
 
 /// Values of an AB.
+#[tactic(auto, using(crate::proofs::Fails::informed_fails))]
 pub(crate) fn abort_values(
     basis: &Ground<'_>,
     accepted: &[SetItem],

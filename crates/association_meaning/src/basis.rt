@@ -41,8 +41,12 @@ impl From<NoMemory> for Halt {
 
 /// A fault at this place of a layer, with this reason.
 pub(crate) fn fault_at<T>(alloc: Global, layer: Layer, place: usize, reason: u8) -> Result<T, Halt>
-    ensures { result ≡ Err (halts.Faulty (record { layer = layer; place = place; reason = reason;
-        told = [] })) }
+    ensures { result ≡ Err (halts.Faulty (record {
+      layer = layer;
+      place = place;
+      reason = reason;
+      told = [];
+    })) }
 {
     Err(Halt::Faulty(Fault {
         layer,
@@ -54,8 +58,13 @@ pub(crate) fn fault_at<T>(alloc: Global, layer: Layer, place: usize, reason: u8)
 
 /// An invalid unit of the presentation (6), with no single field at fault.
 pub(crate) fn invalid_ppdu<T>(alloc: Global) -> Result<T, Halt>
-    ensures { result ≡ Err (halts.Faulty (record { layer = Layer.Presentation; place = 0; reason =
-        6; told = [] })) }
+    ensures { result ≡ Err (halts.Faulty (record {
+      layer = Layer.Presentation;
+      place = 0;
+      reason =
+          6;
+      told = [];
+    })) }
 {
     fault_at(alloc, Layer::Presentation, 0, 6)
 }

@@ -111,6 +111,7 @@ fn transferring(basis: &Ground<'_>, id: u32, octets: &Octets) -> Result<Informat
 
 /// What stands in the place of an item, where it is read: its context is an accepted one of reliable
 /// transfer.
+#[tactic(auto, using(crate::proofs::Fails::as_read_fails))]
 fn item_read(
     basis: &Ground<'_>,
     accepted: &[SetItem],
@@ -150,8 +151,12 @@ fn first_informed(
 
 /// One value.
 fn one(basis: &Ground<'_>, id: u32, pair: Option<Pair>, content: Content) -> Result<Values, Halt>
-    ensures { GivesAs seen_values result (Ok (seen_value (record { id = id; pair = pair; content =
-        content }) ∷ [])) }
+    ensures { GivesAs seen_values result (Ok (seen_value (record {
+      id = id;
+      pair = pair;
+      content =
+          content;
+    }) ∷ [])) }
 {
     let mut values: Values = ListOf::new(basis.alloc);
     values.push(Value { id, pair, content })?;
@@ -159,6 +164,7 @@ fn one(basis: &Ground<'_>, id: u32, pair: Option<Pair>, content: Content) -> Res
 }
 
 /// A value of which the user information is read where it is an APDU of this kind.
+#[tactic(auto, using(crate::proofs::Fails::user_fails))]
 fn informed_value(
     basis: &Ground<'_>,
     accepted: &[SetItem],

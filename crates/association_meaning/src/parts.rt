@@ -66,6 +66,7 @@ fn without_user(alloc: Global, session: &SessionConnect) -> Result<SessionConnec
 }
 
 /// CP in the user data of CN.
+#[tactic(auto, using(crate::proofs::Fails::connect_fails))]
 fn connect_in(basis: &Ground<'_>, carrier: &Carrier<'_>) -> Result<PresentationConnect, Halt>
     requires { carrier.now.start + length carrier.now.user.now < 2 ^ 63 }
     ensures { GivesAs (λ p. p) result (words.connect_in carrier.now.start (ppdu_at carrier.now.place
@@ -86,6 +87,7 @@ fn connect_in(basis: &Ground<'_>, carrier: &Carrier<'_>) -> Result<PresentationC
 }
 
 /// CPA in the user data of AC.
+#[tactic(auto, using(crate::proofs::Fails::accept_fails))]
 fn accept_in(basis: &Ground<'_>, carrier: &Carrier<'_>) -> Result<PresentationAccept, Halt>
     requires { carrier.now.start + length carrier.now.user.now < 2 ^ 63 }
     ensures { GivesAs (λ p. p) result (words.accept_in carrier.now.start (ppdu_at carrier.now.place
@@ -106,6 +108,7 @@ fn accept_in(basis: &Ground<'_>, carrier: &Carrier<'_>) -> Result<PresentationAc
 }
 
 /// CPR in the user data of RF.
+#[tactic(auto, using(crate::proofs::Fails::reject_fails))]
 fn reject_in(basis: &Ground<'_>, carrier: &Carrier<'_>) -> Result<PresentationReject, Halt>
     requires { carrier.now.start + length carrier.now.user.now < 2 ^ 63 }
     ensures { GivesAs (λ p. p) result (words.reject_in carrier.now.start (ppdu_at carrier.now.place
@@ -126,6 +129,7 @@ fn reject_in(basis: &Ground<'_>, carrier: &Carrier<'_>) -> Result<PresentationRe
 }
 
 /// Values that stand alone in user data.
+#[tactic(auto, using(crate::proofs::Fails::data_fails))]
 fn data_in(basis: &Ground<'_>, carrier: &Carrier<'_>) -> Result<Pdvs, Halt>
     requires { carrier.now.start + length carrier.now.user.now < 2 ^ 63 }
     ensures { GivesAs (λ p. p) result (words.data_in carrier.now.start (ppdu_at carrier.now.place
@@ -146,6 +150,7 @@ fn data_in(basis: &Ground<'_>, carrier: &Carrier<'_>) -> Result<Pdvs, Halt>
 }
 
 /// CN with CP.
+#[tactic(auto, using(crate::proofs::Fails::connected_fails, crate::proofs::Fails::values_fail))]
 pub(crate) fn connect_meaning(
     basis: &Ground<'_>,
     session: &SessionConnect,
@@ -174,6 +179,7 @@ pub(crate) fn connect_meaning(
 }
 
 /// AC with CPA.
+#[tactic(auto, using(crate::proofs::Fails::accepted_fails, crate::proofs::Fails::values_fail))]
 pub(crate) fn accept_meaning(
     basis: &Ground<'_>,
     session: Accepting,
@@ -203,6 +209,7 @@ pub(crate) fn accept_meaning(
 }
 
 /// RF with CPR.
+#[tactic(auto, using(crate::proofs::Fails::refused_fails, crate::proofs::Fails::values_fail))]
 fn refuse_meaning(
     basis: &Ground<'_>,
     transport: Option<u8>,
@@ -234,6 +241,7 @@ fn refuse_meaning(
 }
 
 /// RF with CPR, or without user data.
+#[tactic(auto, using(crate::proofs::Meant::refused_is))]
 pub(crate) fn refused_with(
     basis: &Ground<'_>,
     transport: Option<u8>,
@@ -257,6 +265,7 @@ pub(crate) fn refused_with(
 }
 
 /// What ARU or ARP in the user data of AB says.
+#[tactic(auto, using(crate::proofs::Fails::abort_fails, crate::proofs::Fails::as_values_fail))]
 fn abort_in(
     basis: &Ground<'_>,
     accepted: &[SetItem],
@@ -287,6 +296,7 @@ fn abort_in(
 }
 
 /// AB with ARU or ARP, or without user data.
+#[tactic(auto, using(crate::proofs::Fails::with_abort_fails))]
 pub(crate) fn aborted_with(
     basis: &Ground<'_>,
     accepted: &[SetItem],
@@ -316,6 +326,7 @@ pub(crate) fn aborted_with(
 }
 
 /// Values alone in user data, of one abstract syntax, under the held set.
+#[tactic(auto, using(crate::proofs::Fails::under_fails))]
 fn values_with(
     basis: &Ground<'_>,
     held: &[SetItem],
@@ -331,6 +342,7 @@ fn values_with(
 }
 
 /// FN, with values of association control.
+#[tactic(auto, using(crate::proofs::Fails::values_fail))]
 pub(crate) fn finish_meaning(
     basis: &Ground<'_>,
     held: &[SetItem],
@@ -354,6 +366,7 @@ pub(crate) fn finish_meaning(
 }
 
 /// DN, with values of association control.
+#[tactic(auto, using(crate::proofs::Fails::values_fail))]
 pub(crate) fn disconnect_meaning(
     basis: &Ground<'_>,
     held: &[SetItem],
@@ -387,6 +400,7 @@ fn carried_by_data<'a>(basis: &Ground<'a>) -> &'a [u32]
 }
 
 /// DT, with the module's values, in reliable mode with parts of transfers.
+#[tactic(auto, using(crate::proofs::Fails::values_fail))]
 pub(crate) fn data_meaning(
     basis: &Ground<'_>,
     held: &[SetItem],
@@ -406,6 +420,7 @@ pub(crate) fn data_meaning(
 }
 
 /// PT that carries values.
+#[tactic(auto, using(crate::proofs::Fails::values_fail))]
 fn plea_meaning(
     basis: &Ground<'_>,
     held: &[SetItem],
@@ -456,6 +471,7 @@ pub(crate) fn pleaded_with(
 }
 
 /// TD with AC or ACA.
+#[tactic(auto, using(crate::proofs::Fails::meant_fails))]
 pub(crate) fn typed_meaning(basis: &Ground<'_>, start: usize, user: &[u8]) -> Result<Word, Halt>
     requires { start + length user.now < 2 ^ 63 }
     ensures { GivesAs seen_word result (words.typed start (ppdu_at places.Td user.now)) }
@@ -484,6 +500,7 @@ pub(crate) fn typed_meaning(basis: &Ground<'_>, start: usize, user: &[u8]) -> Re
 }
 
 /// RS with its list.
+#[tactic(auto, using(crate::proofs::Fails::meant_fails))]
 fn restart_meaning(basis: &Ground<'_>, number: u32, start: usize, user: &[u8]) -> Result<Word, Halt>
     requires { start + length user.now < 2 ^ 63 }
     ensures { GivesAs seen_word result (words.restarted number start (ppdu_at places.Rs user.now)) }
@@ -511,6 +528,7 @@ fn restart_meaning(basis: &Ground<'_>, number: u32, start: usize, user: &[u8]) -
 }
 
 /// RS with its list, or without user data.
+#[tactic(auto, using(crate::proofs::Meant::meant_is))]
 pub(crate) fn restarted_with(
     basis: &Ground<'_>,
     number: u32,
@@ -527,6 +545,7 @@ pub(crate) fn restarted_with(
 }
 
 /// RA with its list.
+#[tactic(auto, using(crate::proofs::Fails::meant_fails))]
 fn restart_ack_meaning(
     basis: &Ground<'_>,
     number: u32,
@@ -562,6 +581,7 @@ fn restart_ack_meaning(
 }
 
 /// RA with its list, or without user data.
+#[tactic(auto, using(crate::proofs::Meant::meant_is))]
 pub(crate) fn restart_acked_with(
     basis: &Ground<'_>,
     number: u32,

@@ -56,6 +56,7 @@ fn arrived_as(
 
 /// The value of a transfer under a set.
 
+#[tactic(auto, using(crate::proofs::Judged::wrong_arrives, crate::proofs::Judged::right_arrives))]
 fn arrived_in(
     basis: &Ground<'_>,
     set: &[SetItem],

@@ -26,6 +26,7 @@ fn copied(alloc: Global, pair: Option<&Pair>) -> Result<Option<Pair>, NoMemory>
 }
 
 /// A value under the pair of its context, where there is one.
+#[tactic(auto, using(crate::proofs::Fails::content_fails))]
 fn value_by(basis: &Ground<'_>, pair: Option<&Pair>, pdv: &Pdv) -> Result<Value, Halt>
     ensures { GivesAs seen_value result (reading.value_by basis.now.tables.now (option_copied
         pair.entry) pdv.now) }
@@ -46,6 +47,7 @@ pub(crate) fn value_in(basis: &Ground<'_>, set: &[SetItem], pdv: &Pdv) -> Result
 }
 
 /// Values under a set, one after the other.
+#[tactic(auto, using(crate::proofs::Alls::all_fails, crate::proofs::Alls::all_done))]
 fn all_in(basis: &Ground<'_>, set: &[SetItem], pdvs: &[Pdv]) -> Result<Values, Halt>
     ensures { GivesAs seen_values result (reading.all_values (reading.value_in basis.now.tables.now
         set.now) pdvs.now) }
@@ -59,6 +61,7 @@ fn all_in(basis: &Ground<'_>, set: &[SetItem], pdvs: &[Pdv]) -> Result<Values, H
 
 /// Values of a message that carries those of this abstract syntax: the contexts and forms of all,
 /// then what each is.
+#[tactic(auto, using(crate::proofs::Judged::under_right, crate::proofs::Judged::under_wrong))]
 pub(crate) fn values_under(
     basis: &Ground<'_>,
     set: &[SetItem],
@@ -68,8 +71,7 @@ pub(crate) fn values_under(
 ) -> Result<Values, Halt>
     requires { carrier.now.start + length carrier.now.user.now < 2 ^ 63 }
     ensures { GivesAs seen_values result (reading.values_under basis.now.tables.now set.now
-        carried.now (pdv_places carrier.now.place carrier.now.start carrier.now.user.now) pdvs.now)
-        }
+        carried.now (pdv_places carrier.now.place carrier.now.start carrier.now.user.now) pdvs.now) }
 {
     check(basis, carrier, first_wrong(carried, set, pdvs))?;
     all_in(basis, set, pdvs)
