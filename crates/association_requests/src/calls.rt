@@ -49,7 +49,6 @@ fn begin(body: &mut Body, call: &Call)
 }
 
 /// Makes a call that isn't one of remote operations.
-#[tactic(auto, using(crate::proofs::Rows::refused_due, crate::proofs::Rows::made_so))]
 fn request(basis: &Ground<'_>, body: &mut Body, call: &Call) -> Result<Called, CallRefusal>
     requires { is_of_bare_mode call.now ≡ false }
     ensures { Makes (can_by_rows (base_in basis.now) (seen body.old) call.now) (base_in basis.now)
@@ -91,7 +90,6 @@ fn make(basis: &Ground<'_>, body: &mut Body, call: &Call) -> Result<Called, Call
 }
 
 /// Makes a call. A refused one changes nothing, unless memory was refused.
-#[tactic(auto, using(crate::proofs::Rows::refused_first, crate::proofs::Rows::by_rows))]
 pub fn call(basis: &Ground<'_>, body: &mut Body, call: &Call) -> Result<Called, CallRefusal>
     ensures { CalledAs (base_in basis.now) (seen body.old) (seen body.new) call.now result }
 {

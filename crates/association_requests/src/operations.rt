@@ -78,7 +78,6 @@ fn is_silent_at(basis: &Ground<'_>, place: u32) -> bool
 }
 
 /// Opens the next own invocation, unless its operation is silent.
-#[tactic(auto, using(crate::proofs::Invoked::numbered, crate::proofs::Invoked::roomy, crate::proofs::Invoked::next_is, crate::proofs::Invoked::silent_invoked, crate::proofs::Invoked::open_invoked))]
 fn open(basis: &Ground<'_>, body: &mut Body, making: Making) -> Result<i64, NoMemory>
     requires room { IfSome (operation_at basis.now.tables.now making.place)
         (HasRoom (seen body.old)) }
@@ -95,7 +94,6 @@ fn open(basis: &Ground<'_>, body: &mut Body, making: Making) -> Result<i64, NoMe
 }
 
 /// Invokes an operation.
-#[tactic(auto, using(crate::proofs::Outcomes::refused_checked, crate::proofs::Invoked::there, crate::proofs::Invoked::invoke_made))]
 pub(crate) fn invoke(
     basis: &Ground<'_>,
     body: &mut Body,
@@ -116,7 +114,6 @@ pub(crate) fn invoke(
 }
 
 /// Sends the outcome of an open invocation of the peer, which it closes.
-#[tactic(auto, using(crate::proofs::Outcomes::not_open, crate::proofs::Outcomes::ended_due, crate::proofs::Outcomes::ended_body))]
 fn end_invocation(
     basis: &Ground<'_>,
     body: &mut Body,
@@ -143,7 +140,6 @@ fn end_invocation(
 }
 
 /// Answers an invocation of the peer by its result.
-#[tactic(auto, using(crate::proofs::Outcomes::refused_checked, crate::proofs::Outcomes::answered_open, crate::proofs::Outcomes::answer_made))]
 pub(crate) fn answer(
     basis: &Ground<'_>,
     body: &mut Body,
@@ -159,7 +155,6 @@ pub(crate) fn answer(
 }
 
 /// Answers an invocation of the peer by an error.
-#[tactic(auto, using(crate::proofs::Outcomes::refused_checked, crate::proofs::Outcomes::refused_open, crate::proofs::Outcomes::refuse_made))]
 pub(crate) fn refuse(
     basis: &Ground<'_>,
     body: &mut Body,

@@ -1,8 +1,7 @@
 //! What the sending of a request changes (X.225 7, X.226 6, X.228 7).
 
-ghost use Rattle.std.specs.Prelude.{◌≡◌, ◌++◌, ℕ, suc, map, option_map, IfOk, OnOk, None, [], ◌∷◌};
-ghost use Rattle.end_rules.specs.State.{Sending as rule_sending, Running, up_to, pieces_of, resumed_set};
-ghost use Rattle.end_rules.specs.Messages.{Start, Resume};
+ghost use Rattle.std.specs.Prelude.{◌≡◌, ◌++◌, suc, map, option_map, IfOk, OnOk, None, [], ◌∷◌};
+ghost use Rattle.end_rules.specs.State.{Sending as rule_sending, Running, on_transfer, up_to, pieces_of, resumed_set};
 ghost use Rattle.end_rules.specs.TakesData.{parts_in};
 ghost use Rattle.end_rules.specs.Requesting.{begun, resumed, mark_sent, values_sent, after_sent_association, after_sent_data, after_sent_mark, after_sent_activity, after_sent_word, after_sent_transport, after_sent};
 ghost use Rattle.association_words.specs.Seen.{seen_message, seen_values, seen_word, seen_association, seen_data, seen_marks, seen_activities, seen_transport};
@@ -219,8 +218,12 @@ fn resumed_set(basis: &Ground<'_>, body: &Body, mark: u32) -> Result<SetList, No
 
 /// A resumption was sent.
 fn resume_sent(basis: &Ground<'_>, body: &mut Body, mark: u32) -> Result<(), NoMemory>
-    ensures { OnOk result ((activity : ℕ) → seen body.new ≡ after_sent_activity (seen body.old)
-        (Resume activity mark)) }
+    ensures { OnOk result (seen body.new ≡ record (on_transfer resumed (seen body.old)) {
+      sets = record (seen body.old).sets {
+        inter = (seen body.old).sets.held;
+        held = resumed_set mark (pieces_of (seen body.old).sending.current) (seen body.old).sets.held;
+      };
+    }) }
 {
     let inter = copy_set(basis.alloc, body.sets.held.as_slice())?;
     let held = resumed_set(basis, body, mark)?;
@@ -234,8 +237,10 @@ fn resume_sent(basis: &Ground<'_>, body: &mut Body, mark: u32) -> Result<(), NoM
 
 /// A start was sent.
 fn start_sent(basis: &Ground<'_>, body: &mut Body) -> Result<(), NoMemory>
-    ensures { OnOk result ((activity : ℕ) → seen body.new ≡ after_sent_activity (seen body.old)
-        (Start activity)) }
+    ensures { OnOk result (seen body.new ≡ record (seen body.old) {
+      sending = begun (seen body.old).sending;
+      sets = record (seen body.old).sets { inter = (seen body.old).sets.held };
+    }) }
 {
     let inter = copy_set(basis.alloc, body.sets.held.as_slice())?;
     begin_next(basis.alloc, &mut body.sending)?;
