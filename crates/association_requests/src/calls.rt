@@ -93,8 +93,8 @@ fn make(basis: &Ground<'_>, body: &mut Body, call: &Call) -> Result<Called, Call
 pub fn call(basis: &Ground<'_>, body: &mut Body, call: &Call) -> Result<Called, CallRefusal>
     ensures { CalledAs (base_in basis.now) (seen body.old) (seen body.new) call.now result }
 {
-    if let Some(refusal) = check_phase(basis, body, call) {
-        return Err(refusal);
+    match check_phase(basis, body, call) {
+        Some(refusal) => Err(refusal),
+        None => make(basis, body, call),
     }
-    make(basis, body, call)
 }

@@ -1,7 +1,7 @@
 //! Invocations and outcomes: what is handed in goes as data at once; in reliable mode it joins the
 //! queue.
 
-ghost use Rattle.std.specs.Prelude.{◌≡◌, Some, None, true, false, is_some, IfOk, IfSome, OnOk, option_map};
+ghost use Rattle.std.specs.Prelude.{◌≡◌, ◌<◌, ◌+◌, pos, Some, None, true, false, is_some, IfOk, IfSome, OnOk, option_map};
 ghost use Rattle.dialogue.specs.declared.call.Call.TheVariants as the_calls;
 ghost use Rattle.stub_tables.specs.Lookup.{operation_at};
 ghost use Rattle.dialogue.specs.declared.config.Mode.TheVariants.{Direct, Bare};
@@ -77,6 +77,17 @@ fn is_silent_at(basis: &Ground<'_>, place: u32) -> bool
     }
 }
 
+/// Counts the next own invocation, which is never open.
+fn pass(body: &mut Body) -> Result<i64, NoMemory>
+    requires { (seen body.old).calls.made < 2147483647 }
+    ensures id { IfOk result (λ id. id ≡ pos ((seen body.old).calls.made + 1)) }
+    ensures passed { OnOk result (seen body.new ≡ record (seen body.old) {
+      calls = record (seen body.old).calls { made = (seen body.old).calls.made + 1 };
+    }) }
+{
+    Ok(body.calls.pass())
+}
+
 /// Opens the next own invocation, unless its operation is silent.
 fn open(basis: &Ground<'_>, body: &mut Body, making: Making) -> Result<i64, NoMemory>
     requires room { IfSome (operation_at basis.now.tables.now making.place)
@@ -88,7 +99,7 @@ fn open(basis: &Ground<'_>, body: &mut Body, making: Making) -> Result<i64, NoMe
         making.place (next_id (seen body.old)) making.linked (seen body.old)) }
 {
     if is_silent_at(basis, making.place) {
-        return Ok(body.calls.pass());
+        return pass(body);
     }
     body.calls.open(making.place, making.context, making.linked)
 }

@@ -16,4 +16,4 @@ returns-in_err-called c =
     let p = err_from_is_err_and c.from_residual.result c.from_residual.ensures.1 in
     rw (p.1, p.2)
     (refused_due (can_by_rows (base_in c.args.basis.now) (seen c.args.body.now) c.args.call.now) (base_in c.args.basis.now) (seen c.args.body.now) c.args.call.now
-    (due_of_accepted (base_in c.args.basis.now) (seen c.args.body.now) c.args.call.now None) c.in_err-called.field-0 (c.in_err-called.ensures None))
+    (due_of_accepted (base_in c.args.basis.now) (seen c.args.body.now) c.args.call.now None) c.in_err-called.field-0.0 (c.in_err-called.ensures None))

@@ -20,4 +20,4 @@ returns-in_err-apdu c =
     let p = err_from_is_err_and c.from_residual.result c.from_residual.ensures.1 in
     rw (p.1, p.2)
     (refused_checked (can_answer (base_in c.args.basis.now) (seen c.args.body.now) c.args.id.now c.args.value.now) (base_in c.args.basis.now) (seen c.args.body.now) (the_calls.Answer c.args.id.now c.args.value.now) None
-    (result_in (base_in c.args.basis.now) (seen c.args.body.now) c.args.id.now c.args.value.now) c.in_err-apdu.field-0 c.in_err-apdu.ensures)
+    (result_in (base_in c.args.basis.now) (seen c.args.body.now) c.args.id.now c.args.value.now) c.in_err-apdu.field-0.0 c.in_err-apdu.ensures)

@@ -14,5 +14,5 @@ returns-clause-due c =
 
 pub returns-clause-body : goal.returns-clause-body
 returns-clause-body c =
-    ended_body (base_in c.args.basis.now) (seen c.args.body.now) c.args.id.now c.args.apdu (opened_with false c.args.id.now (seen c.args.body.now).calls.opens) c.in-Some.called (seen c.hand_in-message.new.body)
+    ended_body (base_in c.args.basis.now) (seen c.args.body.now) c.args.id.now c.args.apdu (opened_with false c.args.id.now (seen c.args.body.now).calls.opens) c.in-Some.called (seen c.hand_in.new.body)
     (sym c.in-Some.ensures) (c.in_ok-message.ensures.body ∙ (λ i. handed_in (base_in c.args.basis.now).mode c.in-Some.called.context c.args.apdu (record (seen c.args.body.now) { calls = c.close.ensures i })))

@@ -15,7 +15,7 @@ open-requires-clause-there c =
 pub returns : goal.returns
 returns c =
     invoke_made (base_in c.args.basis.now) (seen c.args.body.now) c.args.making.context c.args.making.place c.args.making.linked c.args.argument.now
-    (can_invoke (base_in c.args.basis.now) (seen c.args.body.now) c.args.making.context c.args.making.place c.args.argument.now c.args.making.linked) (seen c.open-id.new.body) (seen c.hand_in-message.new.body) c.in_ok-id.id c.in_ok-apdu.apdu
+    (can_invoke (base_in c.args.basis.now) (seen c.args.body.now) c.args.making.context c.args.making.place c.args.argument.now c.args.making.linked) (seen c.open.new.body) (seen c.hand_in.new.body) c.in_ok-id.id c.in_ok-apdu.apdu
     (record { answer = Some c.in_ok-id.id; message = c.in_ok-message.message })
     c.in_ok-apdu.ensures.checked c.in_ok-id.ensures.id c.in_ok-id.ensures.opened refl c.in_ok-message.ensures.message c.in_ok-message.ensures.body
 
@@ -25,4 +25,4 @@ returns-in_err-apdu c =
     rw (p.1, p.2)
     (refused_checked (can_invoke (base_in c.args.basis.now) (seen c.args.body.now) c.args.making.context c.args.making.place c.args.argument.now c.args.making.linked) (base_in c.args.basis.now) (seen c.args.body.now)
     (the_calls.Invoke c.args.making.context c.args.making.place c.args.argument.now c.args.making.linked) (Some (next_id (seen c.args.body.now)))
-    (option_map (λ o. invoke_apdu o (next_id (seen c.args.body.now)) c.args.making.linked c.args.argument.now) (operation_at c.args.basis.now.tables.now c.args.making.place)) c.in_err-apdu.field-0 c.in_err-apdu.ensures.checked)
+    (option_map (λ o. invoke_apdu o (next_id (seen c.args.body.now)) c.args.making.linked c.args.argument.now) (operation_at c.args.basis.now.tables.now c.args.making.place)) c.in_err-apdu.field-0.0 c.in_err-apdu.ensures.checked)

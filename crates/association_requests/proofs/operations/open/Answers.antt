@@ -1,6 +1,7 @@
-use Rattle.std.proofs.Common.{sym, ◌∙◌, ap}
+use Rattle.std.proofs.Common.{◌+◌, refl, sym, ◌∙◌}
 use Rattle.std.proofs.lemmas.Result.{IfOk-weaker, on_ok_weaker}
 use Rattle.stub_tables.specs.Lookup.{operation_at}
+use Rattle.end_rules.specs.State.{Calls}
 use Rattle.association_state.specs.Seen.{base_in, seen}
 use Rattle.association_requests.proofs.Invoked.{numbered, roomy, next_is, silent_invoked, open_invoked}
 use Rattle.association_requests.proofs.operations.open.Goals as goal
@@ -17,13 +18,18 @@ open-requires-clause-room c =
 
 pub returns-then-is_silent_at-clause-id : goal.returns-then-is_silent_at-clause-id
 returns-then-is_silent_at-clause-id c =
-    c.pass.ensures.id ∙ next_is (seen c.args.body.now) (numbered (operation_at c.args.basis.now.tables.now c.args.making.place) (seen c.args.body.now) c.requires.room c.requires.there)
+    IfOk-weaker c.pass.result _ _
+    (λ id h. h ∙ next_is (seen c.args.body.now) (numbered (operation_at c.args.basis.now.tables.now c.args.making.place) (seen c.args.body.now) c.requires.room c.requires.there))
+    c.pass.ensures.id
 
 pub returns-then-is_silent_at-clause-opened : goal.returns-then-is_silent_at-clause-opened
 returns-then-is_silent_at-clause-opened c =
-    silent_invoked (base_in c.args.basis.now) (seen c.args.body.now) c.args.making.context c.args.making.place c.args.making.linked
+    let now : Calls = (seen c.args.body.now).calls in
+    on_ok_weaker c.pass.result
+    (λ h. h ∙ silent_invoked (base_in c.args.basis.now) (seen c.args.body.now) c.args.making.context c.args.making.place c.args.making.linked
     (numbered (operation_at c.args.basis.now.tables.now c.args.making.place) (seen c.args.body.now) c.requires.room c.requires.there)
-    c.pass.new.self (sym c.is_silent_at.ensures ∙ c.if-is_silent_at.true) c.pass.ensures.passed
+    (record now { made = now.made + 1 }) (sym c.is_silent_at.ensures ∙ c.if-is_silent_at.true) refl)
+    c.pass.ensures.passed
 
 pub returns-clause-id : goal.returns-clause-id
 returns-clause-id c =

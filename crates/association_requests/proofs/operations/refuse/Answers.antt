@@ -21,4 +21,4 @@ returns-in_err-apdu c =
     let p = err_from_is_err_and c.from_residual.result c.from_residual.ensures.1 in
     rw (p.1, p.2)
     (refused_checked (can_refuse (base_in c.args.basis.now) (seen c.args.body.now) c.args.id.now c.args.place c.args.parameter.now) (base_in c.args.basis.now) (seen c.args.body.now)
-    (the_calls.Refuse c.args.id.now c.args.place c.args.parameter.now) None (error_for c.args.id.now c.args.parameter.now (error_at c.args.basis.now.tables.now c.args.place)) c.in_err-apdu.field-0 c.in_err-apdu.ensures)
+    (the_calls.Refuse c.args.id.now c.args.place c.args.parameter.now) None (error_for c.args.id.now c.args.parameter.now (error_at c.args.basis.now.tables.now c.args.place)) c.in_err-apdu.field-0.0 c.in_err-apdu.ensures)
