@@ -104,16 +104,6 @@ fn open(basis: &Ground<'_>, body: &mut Body, making: Making) -> Result<i64, NoMe
     body.calls.open(making.place, making.context, making.linked)
 }
 
-/// What an invocation with this identifier answers, and sends.
-fn numbered(id: i64, message: Option<Message>) -> Called
-    ensures { result ≡ record { answer = Some id; message = message } }
-{
-    Called {
-        answer: Some(id),
-        message,
-    }
-}
-
 /// Invokes an operation.
 pub(crate) fn invoke(
     basis: &Ground<'_>,
@@ -128,7 +118,10 @@ pub(crate) fn invoke(
     let apdu = check_invoke(basis, body, making, argument)?;
     let id = open(basis, body, making)?;
     let message = hand_in(basis, body, making.context, Some(making.context), apdu)?;
-    Ok(numbered(id, message))
+    Ok(Called {
+        answer: Some(id),
+        message,
+    })
 }
 
 /// Sends the outcome of an open invocation of the peer, which it closes.

@@ -1,11 +1,12 @@
-use Rattle.std.proofs.Common.{None, Some, ap, ◌∙◌, option_map}
+use Rattle.std.proofs.Common.{◌≡◌, ℤ, None, Some, ap, option_map, rules}
+use Rattle.std.proofs.lemmas.Int.{to_z-of_z}
+use mir.Val.{SFits, of_z, to_z}
+use mir.Syntax.{w64}
 use Rattle.std.proofs.lemmas.Result.{err_from_is_err_and}
 use Rattle.dialogue.specs.declared.call.Call.TheVariants as the_calls
 use Rattle.stub_tables.specs.Lookup.{operation_at}
 use Rattle.end_rules.specs.Invoking.{can_invoke, next_id, invoke_apdu}
 use Rattle.association_state.specs.Seen.{base_in, seen}
-use Rattle.association_requests.specs.declared.called.Called.{Called}
-use Rattle.association_requests.specs.Called.{sent_by}
 use Rattle.association_requests.proofs.Outcomes.{refused_checked}
 use Rattle.association_requests.proofs.Invoked.{there, invoke_made}
 use Rattle.association_requests.proofs.operations.invoke.Goals as goal
@@ -16,10 +17,12 @@ open-requires-clause-there c =
 
 pub returns : goal.returns
 returns c =
+    let fits : SFits w64 c.in_ok-id.id = search rules in
+    let same : to_z w64 (of_z w64 c.in_ok-id.id) ≡ c.in_ok-id.id = to_z-of_z w64 c.in_ok-id.id fits in
     invoke_made (base_in c.args.basis.now) (seen c.args.body.now) c.args.making.context c.args.making.place c.args.making.linked c.args.argument.now
     (can_invoke (base_in c.args.basis.now) (seen c.args.body.now) c.args.making.context c.args.making.place c.args.argument.now c.args.making.linked) (seen c.open.new.body) (seen c.hand_in.new.body) c.in_ok-id.id c.in_ok-apdu.apdu
-    c.numbered.result
-    c.in_ok-apdu.ensures.checked c.in_ok-id.ensures.id c.in_ok-id.ensures.opened (ap (λ (made : Called). made.answer) c.numbered.ensures) (ap sent_by c.numbered.ensures ∙ c.in_ok-message.ensures.message) c.in_ok-message.ensures.body
+    (record { answer = Some (to_z w64 (of_z w64 c.in_ok-id.id)); message = c.in_ok-message.message })
+    c.in_ok-apdu.ensures.checked c.in_ok-id.ensures.id c.in_ok-id.ensures.opened (ap (λ (z : ℤ). Some z) same) c.in_ok-message.ensures.message c.in_ok-message.ensures.body
 
 pub returns-in_err-apdu : goal.returns-in_err-apdu
 returns-in_err-apdu c =
