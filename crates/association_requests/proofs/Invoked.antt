@@ -1,5 +1,5 @@
 -- An invocation that was checked has a number, room and an operation.
-use Rattle.std.proofs.Common.{◌≡◌, ℕ, ℤ, suc, ◌+◌, ◌<◌, min, pos, Bool, true, false, List, [], ◌∷◌, ◌++◌, map, length, Option, Some, None, Result, Ok, Err, refl, sym, ap, subst, ◌∙◌, arith, add-one, option_map}
+use Rattle.std.proofs.Common.{◌≡◌, ℕ, ℤ, suc, ◌+◌, ◌<◌, min, pos, Bool, true, false, List, [], ◌∷◌, ◌++◌, map, length, Option, Some, None, Ok, refl, sym, ap, subst, ◌∙◌, arith, option_map}
 use Rattle.std.specs.Prelude.{is_some, IfSome, if◌then◌else◌}
 use Rattle.asn1_types.specs.declared.value.Val.{Val}
 use Rattle.stub_tables.specs.declared.apdu.Apdu.{Apdu}
@@ -10,7 +10,7 @@ use Rattle.dialogue.specs.declared.call.Call.{Call}
 use Rattle.dialogue.specs.declared.call.Call.TheVariants as the_calls
 use Rattle.end_rules.specs.Base.{Base}
 use Rattle.end_rules.specs.Messages.{Message}
-use Rattle.end_rules.specs.State.{Body, Calls, OpenCall, opens_of}
+use Rattle.end_rules.specs.State.{Body, Calls, opens_of}
 use Rattle.end_rules.specs.Invoking.{Reply, next_id, invoke_apdu}
 use Rattle.end_rules.specs.Hearing.{is_silent_at}
 use Rattle.end_rules.specs.Requesting.{sent_at_once, handed_in, invoking, after_invoke, due_invoke, due_of_accepted}

@@ -1,5 +1,5 @@
 -- Parts of transfers, and what comes next of them.
-use Rattle.std.proofs.Common.{◌≡◌, ℕ, zero, suc, ◌*◌, ◌≤◌, Bool, List, [], ◌∷◌, ◌++◌, map, Option, Some, None, refl}
+use Rattle.std.proofs.Common.{◌≡◌, ℕ, zero, suc, ◌*◌, refl}
 use Rattle.end_rules.specs.ByItself.{part_size}
 
 pub part_size_of : (checkpoint left : ℕ) → (checkpoint ≡ 0 → ⊥) → part_size checkpoint left ≡ checkpoint * 1024

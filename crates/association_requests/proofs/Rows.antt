@@ -1,5 +1,5 @@
 -- A call does what its rows say.
-use Rattle.std.proofs.Common.{◌≡◌, ℤ, false, List, [], ◌∷◌, map, Option, Result, Ok, Err, refl, sym, ap, ◌∙◌, option_map}
+use Rattle.std.proofs.Common.{◌≡◌, ℤ, false, List, ◌∷◌, map, Option, Result, Ok, Err, refl, sym, ap, ◌∙◌}
 use Rattle.dialogue.specs.declared.call.Call.{Call}
 use Rattle.dialogue.specs.declared.call.Call.TheVariants as the_calls
 use Rattle.dialogue.specs.declared.call.CallRefusal.{CallRefusal}
@@ -13,7 +13,7 @@ use Rattle.end_rules.specs.Requesting.{due_of, after_accepted, due_of_accepted}
 use Rattle.end_rules.specs.History.{called, sent, after_steps, call_steps}
 use Rattle.association_calls.specs.Replies.{Replies}
 use Rattle.association_requests.specs.declared.called.Called.{Called}
-use Rattle.association_requests.specs.Called.{sent_by, CalledAs, after_made, MadeAs, Makes, IsDue}
+use Rattle.association_requests.specs.Called.{sent_by, CalledAs, MadeAs, Makes, IsDue}
 
 -- ---- a call whose first rows were asked
 

@@ -1,5 +1,5 @@
 -- What the sending of requests changes in transfers.
-use Rattle.std.proofs.Common.{◌≡◌, ℕ, zero, suc, List, [], ◌∷◌, Option, Some, None, refl, sym, ap, ◌∙◌}
+use Rattle.std.proofs.Common.{◌≡◌, ℕ, zero, suc, List, [], ◌∷◌, Some, None, refl, sym, ap, ◌∙◌}
 use Rattle.end_rules.specs.State.{Transfer, Queued, Sending, Running, up_to}
 use Rattle.end_rules.specs.Requesting.{begun, resumed}
 

@@ -1,4 +1,4 @@
-use Rattle.std.proofs.Common.{◌≡◌, ℤ, None, Some, ap, option_map, rules}
+use Rattle.std.proofs.Common.{◌≡◌, ℤ, Some, ap, option_map, rules}
 use Rattle.std.proofs.lemmas.Int.{to_z-of_z}
 use mir.Val.{SFits, of_z, to_z}
 use mir.Syntax.{w64}
