@@ -1,0 +1,17 @@
+//! What a call of an end of an association changes and sends, what an end of reliable mode sends by
+//! itself, and what the sending of a request and a break of the connection change.
+#![tactic(auto)]
+
+mod broken;
+mod called;
+mod calls;
+mod due;
+mod operations;
+mod own;
+mod sent;
+
+pub use broken::broke;
+pub use called::Called;
+pub use calls::call;
+pub use own::{Own, next_own};
+pub use sent::after_sent;
