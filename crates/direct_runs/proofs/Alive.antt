@@ -5,6 +5,7 @@ use Rattle.osi_base.specs.declared.words.Side.{Side}
 use Rattle.osi_base.specs.declared.words.Side.TheVariants.{A, B}
 use Rattle.stub_tables.specs.declared.tables.Tables.{Tables}
 use Rattle.dialogue.specs.declared.config.Config.{Config}
+use Rattle.dialogue.specs.declared.config.Mode.TheVariants.{Direct}
 use Rattle.dialogue.specs.declared.config.Phase.{Phase}
 use Rattle.dialogue.specs.declared.config.Phase.TheVariants.{Up, Releasing}
 use Rattle.dialogue.specs.declared.event.Event.{Event}
@@ -77,7 +78,7 @@ act-end : (own : OwnAct) → AreNoEnds (step_of own ∷ [])
 act-end (SendsNow message) = (tt, tt)
 act-end (EncodesOn context) = (tt, tt)
 
-message-end : (a b : Base) (m : Message) → IsMessage a b m → IsNoEnd (took m)
+message-end : (a b : Base) (m : Message) → IsMessage (record a { mode = Direct }) b m → IsNoEnd (took m)
 message-end a b (Session (OfActivities word)) h = absurd h
 message-end a b _ h = tt
 

@@ -362,12 +362,12 @@ module _ (tables : Tables) (spellings : Spellings) (a b : Config) where
     ends : (later : Body) → is_standing later.link.phase ≡ false → Does body later [] shared shared
     ends later down = silent later (λ h e. absurd (clash (is_standing later.link.phase) e down))
 
-    connects : (role : Role) → (not (is_initiator role) && is_joined body.link.stage) ≡ true → WordDoes role body shared (OfAssociation (the_connect (base Initiator)))
+    connects : (role : Role) → (not (is_initiator role) && is_joined body.link.stage) ≡ true → WordDoes role body shared (OfAssociation (the_connect (base Initiator) false))
     connects Initiator h = cc
     connects Responder h =
         subst (λ r. Does body (if r then refused_connect body else accepted_connect (base Responder) body (session_connect (base Initiator)) (presentation_connect (base Initiator)) (connect_values (base Initiator) false))
         (if r then refusal_message (base Responder) body (session_connect (base Initiator)) (presentation_connect (base Initiator)) (connect_values (base Initiator) false) ∷ [] else acceptance_message (base Responder) (session_connect (base Initiator)) (presentation_connect (base Initiator)) (connect_values (base Initiator) false) ∷ []) shared
-        (shared_all_answered (base Responder) (Session (OfAssociation (the_connect (base Initiator)))) (if r then refusal_message (base Responder) body (session_connect (base Initiator)) (presentation_connect (base Initiator)) (connect_values (base Initiator) false) ∷ [] else acceptance_message (base Responder) (session_connect (base Initiator)) (presentation_connect (base Initiator)) (connect_values (base Initiator) false) ∷ []) shared))
+        (shared_all_answered (base Responder) (Session (OfAssociation (the_connect (base Initiator) false))) (if r then refusal_message (base Responder) body (session_connect (base Initiator)) (presentation_connect (base Initiator)) (connect_values (base Initiator) false) ∷ [] else acceptance_message (base Responder) (session_connect (base Initiator)) (presentation_connect (base Initiator)) (connect_values (base Initiator) false) ∷ []) shared))
         (sym (none-refused tables spellings a b body right ids))
         (record {
           stands = λ h e. (record { held = first-has; own = tt; saved = (refl, first-has) }, record { set = first-has; saved = (refl, first-has) });
@@ -382,13 +382,13 @@ module _ (tables : Tables) (spellings : Spellings) (a b : Config) where
     AcceptDoes role (Session (OfAssociation (Accept session presentation values))) = IsFirm shared → Does body (after_accept (base role) body session presentation values) [] shared shared
     AcceptDoes role message = Unit {0}
 
-    accepts-so : (role : Role) → is_initiator role ≡ true → AcceptDoes role (the_acceptance (base Initiator) (base Responder))
+    accepts-so : (role : Role) → is_initiator role ≡ true → AcceptDoes role (the_acceptance (base Initiator) (base Responder) false)
     accepts-so Initiator h = λ f. silent _ (λ g e. (record { held = first-has; own = tt; saved = (refl, first-has) }, f))
     accepts-so Responder h = cc
 
     accepted-does : (role : Role) (session : Accepting) (presentation : PresentationAccept) (values : List Value) → IsWord (base Initiator) (base Responder) (OfAssociation (Accept session presentation values)) → is_in_place (base role) body (unit_of (OfAssociation (Accept session presentation values))) ≡ true → IsFirm shared → WordDoes role body shared (OfAssociation (Accept session presentation values))
     accepted-does role session presentation values i in_place f =
-        subst (AcceptDoes role) (sym i)
+        subst (AcceptDoes role) (sym i.1)
         (accepts-so role (and-left (is_initiator role) (is_carrying body.link.stage) (and-left (is_initiator role && is_carrying body.link.stage) (is_opening body.link.phase) (and-left _ (has_version_two session.version) (and-left _ (has_units (needed_units Direct) (selected_with Direct session.requirements)) in_place))))) f
 
     -- one message that is no acceptance
@@ -440,7 +440,7 @@ module _ (tables : Tables) (spellings : Spellings) (a b : Config) where
     none-second (Some fault) y h = cc
 
     pub word-does : (role : Role) (word : Word) → IsWord (base Initiator) (base Responder) word → is_in_place (base role) body (unit_of word) ≡ true → fault_above (base role) body word ≡ None → (IsAcceptance (Session word) → IsFirm shared) → WordDoes role body shared word
-    word-does role (OfAssociation (Connect session presentation values)) i in_place above f = subst (λ w. WordDoes role body shared (OfAssociation w)) (sym i) (connects role in_place)
+    word-does role (OfAssociation (Connect session presentation values)) i in_place above f = subst (λ w. WordDoes role body shared (OfAssociation w)) (sym i.1) (connects role in_place)
     word-does role (OfAssociation (Accept session presentation values)) i in_place above f = accepted-does role session presentation values i in_place (f tt)
     word-does role (OfAssociation (Refuse transport reason presentation values)) i in_place above f = absurd i
     word-does role (OfAssociation (Finish transport values)) i in_place above f =
