@@ -2,16 +2,11 @@
 //! the tables of a module, or its first fault.
 #![tactic(auto)]
 
-mod codes;
 mod compiling;
-mod facts;
 mod fault;
-mod least;
-mod local_faults;
 mod numbering;
 mod own_codes;
 mod scope;
-mod survey;
 mod tabling;
 
 pub use compiling::compile;

@@ -174,12 +174,6 @@ impl<'m> Scope<'m> {
         }
     }
 
-    /// What a name is assigned first.
-    pub fn body_of(&self, name: &Name) -> Option<&'m Body> {
-        let place = self.find(name)?;
-        Some(&self.assignments.get(place as usize)?.body)
-    }
-
     /// The type that is assigned at a place.
     pub fn type_at(&self, place: u32) -> Option<&'m TypeText>
         ensures { option_copied result ≡ type_at self.now.assignments place }

@@ -1,1 +1,8 @@
-pub mod Levels
+pub mod LeastLaws
+pub mod FoundNames
+pub mod SeenLists
+pub mod Recursing
+pub mod Settling
+pub mod OneFault
+pub mod Whole
+pub mod Steps
