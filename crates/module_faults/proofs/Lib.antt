@@ -6,3 +6,5 @@ pub mod Settling
 pub mod OneFault
 pub mod Whole
 pub mod Steps
+pub mod Loops
+pub mod PartLoops

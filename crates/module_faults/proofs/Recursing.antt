@@ -145,7 +145,8 @@ module _ (lists : List (List ℕ)) (standings : List Standing) (shown : AreShown
       let st = stands p (place_of p s e) in
       let same : st.s ≡ s = some_same st.s s (sym st.is ∙ e) in
       let P : Standing → Type 0 = λ z. z.is_recursive ≡ true → (goes_on lists standings p z && comes_from lists standings p z) ≡ true in
-      both (goes_on lists standings p s) (comes_from lists standings p s) (subst P same st.goes r)
+      let g : s.is_recursive ≡ true → (goes_on lists standings p s && comes_from lists standings p s) ≡ true = subst P same st.goes in
+      both (goes_on lists standings p s) (comes_from lists standings p s) (g r)
 
   to_root : (turns p : ℕ) (s : Standing) → slice_get standings p ≡ Some s → s.is_recursive ≡ true → s.height < turns → Reaches lists p s.root
   to_root zero p s e r lt = absurd (omega arith)
@@ -176,9 +177,9 @@ module _ (lists : List (List ℕ)) (standings : List Standing) (shown : AreShown
       used (Some q) at h =
           let f : nat_eq q p ≡ true = ap (is_place p) (sym at) ∙ h in
           subst (λ (z : ℕ). Uses lists s.before z) (eqb-true q p f) (any_at (list_at lists s.before) s.branch q at)
-      then : (a b : ℕ) → (a ≡ b) ⊎ Reaches lists b a → Uses lists a p → Reaches lists b p
-      then a b (inl same) u = subst (λ (z : ℕ). Reaches lists z p) same (at_once a p u)
-      then a b (inr way) u = ways lists b a p way (at_once a p u)
+      by_use : (a b : ℕ) → (a ≡ b) ⊎ Reaches lists b a → Uses lists a p → Reaches lists b p
+      by_use a b (inl same) u = subst (λ (z : ℕ). Reaches lists z p) same (at_once a p u)
+      by_use a b (inr way) u = ways lists b a p way (at_once a p u)
       by_before : Uses lists s.before p → (nat_eq s.before s.root || is_earlier s (slice_get standings s.before)) ≡ true
           → ((q : ℕ) (t : Standing) → slice_get standings q ≡ Some t → t.is_recursive ≡ true → t.met < turns → (q ≡ t.root) ⊎ Reaches lists t.root q) → Reaches lists s.root p
       by_before u h more =
@@ -186,7 +187,7 @@ module _ (lists : List (List ℕ)) (standings : List Standing) (shown : AreShown
             inl n ↦ subst (λ (z : ℕ). Reaches lists z p) (eqb-true s.before s.root n) (at_once s.before p u)
           | inr l ↦ let k = is_earlier_of s (slice_get standings s.before) l in
               let small : k.0.met < turns = let a : k.0.met < s.met = k.4 in omega arith in
-              then s.before s.root (subst (λ (z : ℕ). (s.before ≡ z) ⊎ Reaches lists z s.before) k.3 (more s.before k.0 k.1 k.2 small)) u ]
+              by_use s.before s.root (subst (λ (z : ℕ). (s.before ≡ z) ⊎ Reaches lists z s.before) k.3 (more s.before k.0 k.1 k.2 small)) u ]
 
   flagged : (o : Option Standing) → flag o ≡ true → (s : Standing) × (o ≡ Some s) × (s.is_recursive ≡ true)
   flagged None h = absurd cc

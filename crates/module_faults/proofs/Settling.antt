@@ -105,7 +105,7 @@ module _ (all : List Assignment) (t : ℕ → Bool) (e f : List ℕ → Facts) (
 
   -- ---- what is assigned
 
-  use_same : (use : Option UseText) → list_all t (use_uses all use) ≡ true → (use_shows e use ≡ use_shows f use) × (use_nesting e use ≡ use_nesting f use)
+  use_same : (o : Option UseText) → list_all t (use_uses all o) ≡ true → (use_shows e o ≡ use_shows f o) × (use_nesting e o ≡ use_nesting f o)
   use_same None h = (refl, refl)
   use_same (Some u) h = (shows_same 256 u.of h, ap (λ (x : Facts). x.nesting) (facts_same 256 u.of h))
 
@@ -178,13 +178,13 @@ module _ (all : List Assignment) (standings : List Standing) (known : List (Opti
 
   pub learned : (turns place : ℕ) (of : TypeTree) (f : FactsGiven) → AreKnown all standings known turns → type_at all place ≡ Some of → list_all (settles standings known) (type_uses all 256 of) ≡ true → facts_of f ≡ type_facts (known_env all standings known) 256 of
       → AreKnown all standings (slice_set known place (Some f)) (turns + 1)
-  learned turns place of f a here h e = record { so = λ q k n le. at q k n le (set_at known place (Some f) q) }
+  learned turns place of f a here h e = record { so = λ q k n le. known_q q k n le (set_at known place (Some f) q) }
     where
-      at : (q : ℕ) → is_known (slice_get (slice_set known place (Some f)) q) ≡ true → (n : ℕ) → turns + 1 ≤ n
+      known_q : (q : ℕ) → is_known (slice_get (slice_set known place (Some f)) q) ≡ true → (n : ℕ) → turns + 1 ≤ n
           → ((slice_get (slice_set known place (Some f)) q ≡ slice_get known q) ⊎ ((q ≡ place) × (slice_get (slice_set known place (Some f)) q ≡ Some (Some f))))
           → facts_by (name_facts all (says standings) n) (type_at all q) ≡ known_by (slice_get (slice_set known place (Some f)) q)
-      at q k n le (inl same) = a.so q (ap is_known (sym same) ∙ k) n (omega arith) ∙ sym (ap known_by same)
-      at q k n le (inr p) =
+      known_q q k n le (inl same) = a.so q (ap is_known (sym same) ∙ k) n (omega arith) ∙ sym (ap known_by same)
+      known_q q k n le (inr p) =
           ap (λ (z : ℕ). facts_by (name_facts all (says standings) n) (type_at all z)) p.0
           ∙ ap (facts_by (name_facts all (says standings) n)) here
           ∙ fresh turns n of f a h e le

@@ -18,6 +18,7 @@ use osi_base::NoMemory;
 use std::alloc::Global;
 
 /// A fault of this kind at a name, if there is a kind.
+#[tactic(auto, unfolding(crate::specs::Least::least_from))]
 fn kind_at(kind: Option<TableKind>, name: &Located, least: &mut Least)
     ensures { least.new.found ≡ least_from least.old.found (kind_at kind name.now) }
 {
@@ -73,6 +74,7 @@ fn linked(names: &Names<'_>, used: &[Located], least: &mut Least)
 }
 
 /// A result with a type where none is returned.
+#[tactic(auto, unfolding(crate::specs::Least::least_from))]
 fn contradiction(returns: bool, outcome: &Option<UseText>, least: &mut Least)
     ensures { least.new.found ≡ least_from least.old.found (contradiction returns outcome.now) }
 {

@@ -136,6 +136,7 @@ fn takes(base: Base<'_>, value: &DfltValue) -> bool
 }
 
 /// A default that its type doesn't take.
+#[tactic(auto, unfolding(crate::specs::Least::least_from))]
 fn default_fault(base: Base<'_>, dflt: &Option<DfltText>, least: &mut Least)
     ensures { least.new.found ≡ least_from least.old.found
         (default_faults (base_of base.entry) dflt.now) }
@@ -313,6 +314,7 @@ impl<'s, 'm> Facing<'s, 'm> {
         })
     }
 
+    #[tactic(auto, unfolding(crate::specs::Least::least_from), using(crate::proofs::LeastLaws::least_append, crate::proofs::LeastLaws::least_two))]
     #[cycle(facing)]
     fn of_plain(
         &self,

@@ -62,6 +62,7 @@ impl<'s, 'm> Facing<'s, 'm> {
     }
 
     /// The nesting of a type that is carried, and the faults that it shows.
+    #[tactic(auto, unfolding(crate::specs::Least::least_from), using(crate::proofs::LeastLaws::least_append, crate::proofs::LeastLaws::least_two))]
     fn of_use(&self, text: &'m Option<UseText>, least: &mut Least) -> Result<u32, NoMemory>
         ensures nesting { IfOk result (λ nesting. nesting ≡ use_nesting
             (env_by self.now) text.now) }

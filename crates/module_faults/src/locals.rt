@@ -21,6 +21,7 @@ use std::alloc::Global;
 pub(crate) const MOST_LEVELS: u32 = 256;
 
 /// A range whose low end is above its high end.
+#[tactic(auto, unfolding(crate::specs::Least::least_from))]
 fn range(range: &Option<RangeText>, least: &mut Least)
     ensures { least.new.found ≡ least_from least.old.found (range_faults range.now) }
 {
@@ -35,6 +36,7 @@ fn range(range: &Option<RangeText>, least: &mut Least)
 }
 
 /// A size that doesn't begin with 0, or passes 32 bits.
+#[tactic(auto, unfolding(crate::specs::Least::least_from))]
 fn size(size: &Option<RangeText>, least: &mut Least)
     ensures { least.new.found ≡ least_from least.old.found (size_faults size.now) }
 {
@@ -49,6 +51,7 @@ fn size(size: &Option<RangeText>, least: &mut Least)
 }
 
 /// The tag UNIVERSAL 0 of a type whose first token stands at this line and column.
+#[tactic(auto, unfolding(crate::specs::Least::least_from))]
 fn tag(line: u32, column: u32, tag: &Option<TagText>, least: &mut Least)
     ensures { least.new.found ≡ least_from least.old.found (tag_faults line column tag.now) }
 {
@@ -160,6 +163,7 @@ fn parts(
 }
 
 /// Faults of a type without its tag.
+#[tactic(auto, unfolding(crate::specs::Least::least_from), using(crate::proofs::LeastLaws::least_append, crate::proofs::LeastLaws::least_two))]
 #[cycle(local)]
 fn of_plain(
     alloc: Global,
@@ -193,7 +197,11 @@ fn of_plain(
             type_name(names, name, least);
             Ok(())
         }
-        _ => Ok(()),
+        PlainText::Boolean
+        | PlainText::Null
+        | PlainText::Bits
+        | PlainText::ObjectId
+        | PlainText::Text(_) => Ok(()),
     }
 }
 
@@ -218,6 +226,7 @@ pub(crate) fn of_type(
 }
 
 /// Faults of a type that is carried.
+#[tactic(auto, unfolding(crate::specs::Least::least_from), using(crate::proofs::LeastLaws::least_append, crate::proofs::LeastLaws::least_two))]
 pub(crate) fn of_use(
     alloc: Global,
     names: &Names<'_>,

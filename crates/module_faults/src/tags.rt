@@ -44,9 +44,5 @@ pub(crate) fn add_tags(before: &mut IndexSet<Tag>, tags: &[Tag]) -> Result<(), N
 pub(crate) fn listed(alloc: Global, before: &IndexSet<Tag>) -> Result<Vec<Tag>, NoMemory>
     ensures { IfOk result (λ tags. tags.items ≡ before.now.keys) }
 {
-    let mut tags = Vec::new(alloc);
-    for tag in before {
-        tags.push(*tag)?;
-    }
-    Ok(tags)
+    Ok(before.iter().copied().collect(alloc)?)
 }
