@@ -5,7 +5,12 @@ use Rattle.std.specs.List.{list_any}
 use Rattle.std.specs.Cmp.Lexicographic.{pointwise}
 use Rattle.indexmap.specs.IndexSet.{insert_key}
 use denote.Ref.{Bor}
-use Rattle.module_faults.specs.Seen.{has_list, with_list}
+use Rattle.operation_notation.specs.declared.module.CodeText.{CodeText}
+use Rattle.std.specs.Prelude.{ℤ, Option, None, Some}
+use Rattle.module_faults.specs.Seen.{has_list, with_list, Codes, has_by, has_code, with_by, with_code}
+
+abbrev pub codes_with : List ℤ → List (List ℕ) → Codes
+codes_with locals globals = record { locals = locals; globals = globals }
 
 abbrev Key : Type 0
 Key = Bor (List ℕ)
@@ -21,7 +26,7 @@ map_end : (ks : List Key) (k : Key) → map now_of (ks ++ k ∷ []) ≡ map now_
 map_end [] k = refl
 map_end (x ∷ ks) k = ap (λ (z : List (List ℕ)). x.now ∷ z) (map_end ks k)
 
-twice : (b : Bool) → not (not b) ≡ b
+pub twice : (b : Bool) → not (not b) ≡ b
 twice true = refl
 twice false = refl
 
@@ -41,3 +46,13 @@ seen_now n ks new k e h =
     ap (map now_of) h
     ∙ kept ks k (list_any (λ (y : Key). pointwise nat_eq k.now y.now) ks) (has_list (map now_of ks) k.now) (any_now k.now ks)
     ∙ ap (λ (m : List ℕ). with_list (map now_of ks) m) e
+
+-- ---- codes
+
+pub code_was : (v s : Codes) (code : CodeText) (arcs : List ℕ) (r : Bool) → v ≡ s → code.local ≡ None → code.global ≡ Some arcs → r ≡ has_list v.globals arcs → r ≡ has_code s code
+code_was v s code arcs r e l g h =
+    h ∙ ap (λ (o : Option (List ℕ)). has_by v None o) (sym g) ∙ ap (λ (o : Option ℤ). has_by v o code.global) (sym l) ∙ ap (λ (z : Codes). has_code z code) e
+
+pub code_now : (v s : Codes) (code : CodeText) (arcs : List ℕ) (new : List (List ℕ)) → v ≡ s → code.local ≡ None → code.global ≡ Some arcs → new ≡ with_list v.globals arcs → codes_with v.locals new ≡ with_code s code
+code_now v s code arcs new e l g h =
+    ap (λ (z : List (List ℕ)). codes_with v.locals z) h ∙ ap (λ (o : Option (List ℕ)). with_by v None o) (sym g) ∙ ap (λ (o : Option ℤ). with_by v o code.global) (sym l) ∙ ap (λ (z : Codes). with_code z code) e

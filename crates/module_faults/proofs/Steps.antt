@@ -73,3 +73,7 @@ pub shows_step : (env : List ℕ → Facts) (levels n : ℕ) (of : TypeTree) (li
 unfolding type_shows type_facts
 shows_step env levels n of line column tag plain s m e g p =
     p ∙ ap (λ (z : TypeTree). least_from s (type_shows env (suc n) z)) g ∙ ap (λ (k : ℕ). least_from s (type_shows env k of)) (sym e)
+
+pub always : {T E A : Type 0} (r : Result T E) → A → OnOk r A
+always (Ok x) a = a
+always (Err e) a = tt

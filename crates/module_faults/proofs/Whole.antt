@@ -1,5 +1,5 @@
 -- The least of all faults of a module.
-use Rattle.std.proofs.Common.{◌≡◌, ℕ, List, ◌++◌, Option, None, subst}
+use Rattle.std.proofs.Common.{◌≡◌, ℕ, List, ◌++◌, Option, None, subst, ap, ◌∙◌}
 use Rattle.operation_notation.specs.declared.module.Assignment.{Assignment}
 use Rattle.module_faults.specs.declared.least.Found.{Found}
 use Rattle.module_faults.specs.declared.survey.Standing.{Standing}
@@ -42,3 +42,25 @@ of_all all lists standings a b c d e f g p same shown =
       says = says_recursion all lists standings same shown;
       is = subst (λ (z : Option Found). g ≡ least_from z (names ++ (bodies ++ (operations ++ (errors ++ (recursion ++ shows)))))) p.none one;
     }
+
+-- the same, where some passes go by the names of the assignments
+pub record Mixed (all names : List Assignment) (standings : List Standing) (a b c d e f g : Option Found) : Type 0 where
+  pub none : a ≡ None
+  pub names_twice : b ≡ least_from a (double_names names 0 names)
+  pub bodies : c ≡ least_from b (bodies_faults names names)
+  pub operations : d ≡ least_from c (double_codes false no_codes all)
+  pub errors : e ≡ least_from d (double_codes true no_codes all)
+  pub recursive : f ≡ least_from e (first_recursive (says standings) 0 all)
+  pub shown : g ≡ least_from f (bodies_show (env_of names (says standings)) names)
+
+pub of_names : (all names : List Assignment) (lists : List (List ℕ)) (standings : List Standing) (a b c d e f g : Option Found) → names ≡ all → Mixed all names standings a b c d e f g → lists ≡ bodies_uses names names → AreShown lists standings → IsLeastFault all g
+of_names all names lists standings a b c d e f g same m used shown =
+    of_all all lists standings a b c d e f g (record {
+      none = m.none;
+      names = m.names_twice ∙ ap (λ (z : List Assignment). least_from a (double_names z 0 z)) same;
+      bodies = m.bodies ∙ ap (λ (z : List Assignment). least_from b (bodies_faults z z)) same;
+      operations = m.operations;
+      errors = m.errors;
+      recursive = m.recursive;
+      shown = m.shown ∙ ap (λ (z : List Assignment). least_from f (bodies_show (env_of z (says standings)) z)) same;
+    }) (used ∙ ap (λ (z : List Assignment). bodies_uses z z) same) shown
