@@ -10,7 +10,7 @@ use crate::kind::TableKind;
 use crate::least::Least;
 use crate::names::Names;
 use crate::places::{is_bad_range, is_bad_size, is_bad_tag};
-use crate::seen::SeenNames;
+use crate::seen::{SeenNames, see_number};
 use indexmap::IndexSet;
 use notation_tokens::Located;
 use operation_notation::{ItemText, PartText, PlainText, RangeText, TagText, TypeText, UseText};
@@ -86,7 +86,7 @@ fn items(alloc: Global, items: &[ItemText], least: &mut Least) -> Result<(), NoM
     let mut rest = items;
     while let [item, more @ ..] = rest {
         let is_old_name = names.see(&item.name.text)?;
-        let is_old_number = !numbers.insert(item.number)?;
+        let is_old_number = see_number(&mut numbers, item)?;
         least.note_if(
             is_old_name || is_old_number,
             item.name.line,

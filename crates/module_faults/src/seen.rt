@@ -1,10 +1,10 @@
 //! Names and codes that were seen.
 
 ghost use Rattle.std.specs.Prelude.{◌≡◌, [], IfOk, OnOk};
-ghost use Rattle.module_faults.specs.Seen.{has_list, with_list, no_codes, has_code, with_code};
+ghost use Rattle.module_faults.specs.Seen.{has_list, with_list, has_number, with_number, no_codes, has_code, with_code};
 
 use indexmap::IndexSet;
-use operation_notation::CodeText;
+use operation_notation::{CodeText, ItemText};
 use osi_base::{Name, NoMemory};
 use std::alloc::Global;
 use std::marker::Model;
@@ -39,6 +39,14 @@ impl<'m> SeenNames<'m> {
     {
         Ok(!self.names.insert(name.as_str())?)
     }
+}
+
+/// Sees the number of an item; whether it was seen before.
+pub(crate) fn see_number(numbers: &mut IndexSet<i64>, item: &ItemText) -> Result<bool, NoMemory>
+    ensures was { IfOk result (λ was. was ≡ has_number numbers.old.keys item.now.number) }
+    ensures now { OnOk result (numbers.new.keys ≡ with_number numbers.old.keys item.now.number) }
+{
+    Ok(!numbers.insert(item.number)?)
 }
 
 /// Codes that were seen.
