@@ -27,13 +27,13 @@ module _ (facts : TypeTree → Facts) (shows : TypeTree → List Found) (runs : 
       let b : List Found = if_so (clash before (facts x.of).tags) (at_name x.name kinds.TagsNotDistinct) in
       let d : List Found = default_faults (facts x.of).base x.dflt in
       let behind : after ≡ tags_behind runs x.optional x.dflt (with_tags before (facts x.of).tags) =
-          eb ∙ ap (λ (z : List Tag). tags_behind runs x.optional x.dflt z) (ea ∙ ap (λ (z : Facts). with_tags before z.tags) ef) in
+      eb ∙ ap (λ (z : List Tag). tags_behind runs x.optional x.dflt z) (ea ∙ ap (λ (z : Facts). with_tags before z.tags) ef) in
       let second : o ≡ least_from m b = eo ∙ ap (λ (z : Facts). least_from m (if_so (clash before z.tags) (at_name x.name kinds.TagsNotDistinct))) ef in
       let third : l ≡ least_from o d = el ∙ ap (λ (z : Facts). least_from o (default_faults z.base x.dflt)) ef in
       record {
         nesting = ap (λ (z : ℕ). parts_nesting facts z (trees (rest_of xs))) (en ∙ ap (λ (z : Facts). max n z.nesting) ef) ∙ ap (λ (z : List PartText). parts_nesting facts n (trees z)) (sym cons) ∙ p.nesting;
         tags = ap (λ (z : List Tag). parts_tags facts runs z (trees (rest_of xs))) behind ∙ ap (λ (z : List PartText). parts_tags facts runs before (trees z)) (sym cons) ∙ p.tags;
         shown = loop_step (λ (ps : List PartText). parts_show facts shows runs before (trees ps)) xs x (a ++ (b ++ d)) (parts_show facts shows runs after (trees (rest_of xs))) s l w lt is
-          (ap (λ (z : List Tag). (a ++ (b ++ d)) ++ parts_show facts shows runs z (trees (rest_of xs))) (sym behind))
-          (least_two s m l a (b ++ d) em (least_two m o l b d second third)) p.shown;
+            (ap (λ (z : List Tag). (a ++ (b ++ d)) ++ parts_show facts shows runs z (trees (rest_of xs))) (sym behind))
+            (least_two s m l a (b ++ d) em (least_two m o l b d second third)) p.shown;
       }

@@ -87,10 +87,11 @@ module _ (lists : List (List ℕ)) (standings : List Standing) (shown : AreShown
   fall_by from (Some t) s e f =
       subst (λ (z : Option Standing). Falls (number_by z) t.component (flag z)) (sym e)
       (elim (either (nat_lt t.component s.component) (s.is_recursive && nat_eq t.component s.component) f) as (λ z. Falls s.component t.component s.is_recursive) [
-        inl l ↦ let lt : t.component < s.component = ltb-true _ _ l in record { le = omega arith; lt = λ c. lt }
-      | inr r ↦ let k = both s.is_recursive (nat_eq t.component s.component) r in
-          let same : t.component ≡ s.component = eqb-true t.component s.component k.1 in
-          record { le = omega arith; lt = λ (c : s.is_recursive ≡ false). absurd (not_both s.is_recursive k.0 c) } ])
+        | inl l ↦ let lt : t.component < s.component = ltb-true _ _ l in record { le = omega arith; lt = λ c. lt }
+        | inr r ↦ let k = both s.is_recursive (nat_eq t.component s.component) r in
+            let same : t.component ≡ s.component = eqb-true t.component s.component k.1 in
+            record { le = omega arith; lt = λ (c : s.is_recursive ≡ false). absurd (not_both s.is_recursive k.0 c) }
+      ])
     where
       not_both : (b : Bool) → b ≡ true → b ≡ false → ⊥
       not_both true e f = cc
@@ -159,35 +160,40 @@ module _ (lists : List (List ℕ)) (standings : List Standing) (shown : AreShown
           let f : leads_to standings s (Some q) ≡ true = ap (leads_to standings s) (sym at) ∙ h in
           let u : Uses lists p q = any_at (list_at lists p) s.way q at in
           elim (either (nat_eq q s.root) (is_lower s (slice_get standings q)) f) as (λ z. Reaches lists p s.root) [
-            inl n ↦ subst (λ (z : ℕ). Reaches lists p z) (eqb-true q s.root n) (at_once p q u)
-          | inr l ↦ let k = is_lower_of s (slice_get standings q) l in
-              let small : k.0.height < turns = let a : k.0.height < s.height = k.4 in omega arith in
-              over p q s.root u (subst (λ (z : ℕ). Reaches lists q z) k.3 (more q k.0 k.1 k.2 small)) ]
+            | inl n ↦ subst (λ (z : ℕ). Reaches lists p z) (eqb-true q s.root n) (at_once p q u)
+            | inr l ↦ let k = is_lower_of s (slice_get standings q) l in
+                let small : k.0.height < turns = let a : k.0.height < s.height = k.4 in omega arith in
+                over p q s.root u (subst (λ (z : ℕ). Reaches lists q z) k.3 (more q k.0 k.1 k.2 small))
+          ]
 
   from_root : (turns p : ℕ) (s : Standing) → slice_get standings p ≡ Some s → s.is_recursive ≡ true → s.met < turns → (p ≡ s.root) ⊎ Reaches lists s.root p
   from_root zero p s e r lt = absurd (omega arith)
   from_root (suc turns) p s e r lt =
       elim (either (nat_eq p s.root) (is_place p (slice_get (list_at lists s.before) s.branch) && (nat_eq s.before s.root || is_earlier s (slice_get standings s.before))) (both_ways p s e r).1) as (λ z. (p ≡ s.root) ⊎ Reaches lists s.root p) [
-        inl n ↦ inl (eqb-true p s.root n)
-      | inr h ↦ let k = both (is_place p (slice_get (list_at lists s.before) s.branch)) (nat_eq s.before s.root || is_earlier s (slice_get standings s.before)) h in
-          inr (by_before (used (slice_get (list_at lists s.before) s.branch) refl k.0) k.1 (from_root turns)) ]
+        | inl n ↦ inl (eqb-true p s.root n)
+        | inr h ↦ let k = both (is_place p (slice_get (list_at lists s.before) s.branch)) (nat_eq s.before s.root || is_earlier s (slice_get standings s.before)) h in
+            inr (by_before (used (slice_get (list_at lists s.before) s.branch) refl k.0) k.1 (from_root turns))
+      ]
     where
       used : (o : Option ℕ) → slice_get (list_at lists s.before) s.branch ≡ o → is_place p (slice_get (list_at lists s.before) s.branch) ≡ true → Uses lists s.before p
       used None at h = let f : is_place p None ≡ true = ap (is_place p) (sym at) ∙ h in absurd cc
       used (Some q) at h =
           let f : nat_eq q p ≡ true = ap (is_place p) (sym at) ∙ h in
           subst (λ (z : ℕ). Uses lists s.before z) (eqb-true q p f) (any_at (list_at lists s.before) s.branch q at)
+
       by_use : (a b : ℕ) → (a ≡ b) ⊎ Reaches lists b a → Uses lists a p → Reaches lists b p
       by_use a b (inl same) u = subst (λ (z : ℕ). Reaches lists z p) same (at_once a p u)
       by_use a b (inr way) u = ways lists b a p way (at_once a p u)
+
       by_before : Uses lists s.before p → (nat_eq s.before s.root || is_earlier s (slice_get standings s.before)) ≡ true
           → ((q : ℕ) (t : Standing) → slice_get standings q ≡ Some t → t.is_recursive ≡ true → t.met < turns → (q ≡ t.root) ⊎ Reaches lists t.root q) → Reaches lists s.root p
       by_before u h more =
           elim (either (nat_eq s.before s.root) (is_earlier s (slice_get standings s.before)) h) as (λ z. Reaches lists s.root p) [
-            inl n ↦ subst (λ (z : ℕ). Reaches lists z p) (eqb-true s.before s.root n) (at_once s.before p u)
-          | inr l ↦ let k = is_earlier_of s (slice_get standings s.before) l in
-              let small : k.0.met < turns = let a : k.0.met < s.met = k.4 in omega arith in
-              by_use s.before s.root (subst (λ (z : ℕ). (s.before ≡ z) ⊎ Reaches lists z s.before) k.3 (more s.before k.0 k.1 k.2 small)) u ]
+            | inl n ↦ subst (λ (z : ℕ). Reaches lists z p) (eqb-true s.before s.root n) (at_once s.before p u)
+            | inr l ↦ let k = is_earlier_of s (slice_get standings s.before) l in
+                let small : k.0.met < turns = let a : k.0.met < s.met = k.4 in omega arith in
+                by_use s.before s.root (subst (λ (z : ℕ). (s.before ≡ z) ⊎ Reaches lists z s.before) k.3 (more s.before k.0 k.1 k.2 small)) u
+          ]
 
   flagged : (o : Option Standing) → flag o ≡ true → (s : Standing) × (o ≡ Some s) × (s.is_recursive ≡ true)
   flagged None h = absurd cc

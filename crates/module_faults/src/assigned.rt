@@ -138,11 +138,7 @@ fn of_body(
 }
 
 /// Faults of assignments by themselves.
-pub(crate) fn of_bodies(
-    alloc: Global,
-    names: &Names<'_>,
-    least: &mut Least,
-) -> Result<(), NoMemory>
+pub(crate) fn of_bodies(alloc: Global, names: &Names<'_>, least: &mut Least) -> Result<(), NoMemory>
     ensures { OnOk result (least.new.found ≡ least_from least.old.found
         (bodies_faults names.now names.now)) }
 {

@@ -17,7 +17,9 @@ use crate::recursion::says;
 use crate::survey::Standing;
 use crate::tags::{Tag, add_tags, clashes, listed};
 use indexmap::IndexSet;
-use operation_notation::{DfltText, DfltValue, ItemText, PartText, PlainText, RangeText, TagText, TypeText};
+use operation_notation::{
+    DfltText, DfltValue, ItemText, PartText, PlainText, RangeText, TagText, TypeText,
+};
 use osi_base::{Name, NoMemory};
 use std::alloc::Global;
 
@@ -148,12 +150,7 @@ fn default_fault(base: Base<'_>, dflt: &Option<DfltText>, least: &mut Least)
 }
 
 /// The tags that stand before the part behind one.
-fn tags_behind(
-    alloc: Global,
-    runs: bool,
-    part: &PartText,
-    before: IndexSet<Tag>,
-) -> IndexSet<Tag>
+fn tags_behind(alloc: Global, runs: bool, part: &PartText, before: IndexSet<Tag>) -> IndexSet<Tag>
     ensures { result.keys ≡ tags_behind runs part.now.optional part.now.dflt before.keys }
 {
     if runs && (!part.optional && part.dflt.is_none()) {
@@ -164,11 +161,7 @@ fn tags_behind(
 }
 
 /// A type with this tag over one.
-fn tagged<'m>(
-    alloc: Global,
-    tag: &Option<TagText>,
-    facts: Facts<'m>,
-) -> Result<Facts<'m>, NoMemory>
+fn tagged<'m>(alloc: Global, tag: &Option<TagText>, facts: Facts<'m>) -> Result<Facts<'m>, NoMemory>
     ensures { IfOk result (λ over. facts_of over ≡ tagged tag.now (facts_of facts.entry)) }
 {
     match tag {

@@ -21,10 +21,7 @@ use std::alloc::Global;
 /// # Errors
 ///
 /// Where memory is refused.
-pub fn least_fault(
-    alloc: Global,
-    assignments: &[Assignment],
-) -> Result<Option<Found>, NoMemory>
+pub fn least_fault(alloc: Global, assignments: &[Assignment]) -> Result<Option<Found>, NoMemory>
     ensures { IfOk result (λ found. IsLeastFault assignments.now found) }
 {
     let names = Names::new(alloc, assignments)?;

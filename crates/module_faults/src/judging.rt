@@ -76,12 +76,7 @@ impl<'s, 'm> Facing<'s, 'm> {
     }
 
     /// The faults that the types of what is assigned show, by what is known of those that they name.
-    fn of_body(
-        &self,
-        name: &Located,
-        body: &'m Body,
-        least: &mut Least,
-    ) -> Result<(), NoMemory>
+    fn of_body(&self, name: &Located, body: &'m Body, least: &mut Least) -> Result<(), NoMemory>
         ensures { OnOk result (least.new.found ≡ least_from least.old.found (body_shows
             (env_by self.now) name.now
             body.now)) }
@@ -106,12 +101,7 @@ impl<'s, 'm> Facing<'s, 'm> {
 
     /// The faults that the types of what is assigned show, where what is known of all that they
     /// name is settled.
-    fn judge(
-        &self,
-        name: &Located,
-        body: &'m Body,
-        least: &mut Least,
-    ) -> Result<(), NoMemory>
+    fn judge(&self, name: &Located, body: &'m Body, least: &mut Least) -> Result<(), NoMemory>
         requires { AreKnown self.now.names.now self.now.standings.now self.now.known.now
             (length self.now.names.now) }
         ensures { OnOk result (least.new.found ≡ least_from least.old.found (body_shows

@@ -51,8 +51,7 @@ fn is_lower(standing: Standing, other: Option<&Standing>) -> bool
 {
     match other {
         Some(other) => {
-            other.is_recursive
-                && (other.root == standing.root && other.height < standing.height)
+            other.is_recursive && (other.root == standing.root && other.height < standing.height)
         }
         None => false,
     }
@@ -63,9 +62,7 @@ fn goes_on(uses: &UseLists, standings: &[Standing], place: u32, standing: Standi
     ensures { result ≡ goes_on uses.now standings.now place standing }
 {
     match uses.at(place).get(standing.way as usize) {
-        Some(to) => {
-            *to == standing.root || is_lower(standing, standings.get(*to as usize))
-        }
+        Some(to) => { *to == standing.root || is_lower(standing, standings.get(*to as usize)) }
         None => false,
     }
 }
@@ -99,7 +96,10 @@ fn comes_from(uses: &UseLists, standings: &[Standing], place: u32, standing: Sta
     if place == standing.root {
         return true;
     }
-    let names_it = is_place(place, uses.at(standing.before).get(standing.branch as usize));
+    let names_it = is_place(
+        place,
+        uses.at(standing.before).get(standing.branch as usize),
+    );
     let before = standings.get(standing.before as usize);
     names_it && (standing.before == standing.root || is_earlier(standing, before))
 }

@@ -113,11 +113,7 @@ fn of_type(
     of_plain(names, levels - 1, &of.plain, used)
 }
 
-fn of_use(
-    names: &Names<'_>,
-    text: &Option<UseText>,
-    used: &mut Vec<u32>,
-) -> Result<(), NoMemory>
+fn of_use(names: &Names<'_>, text: &Option<UseText>, used: &mut Vec<u32>) -> Result<(), NoMemory>
     ensures { OnOk result (used.new.items ≡ used.old.items ++ use_uses names.now text.now) }
 {
     match text {

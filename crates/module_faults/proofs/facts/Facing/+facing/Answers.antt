@@ -23,10 +23,10 @@ of_type-returns-clause-facts t c =
 pub parts-loop-rest-preserved : goal.parts-loop-rest-preserved
 parts-loop-rest-preserved t c =
     let p = parts_step (type_facts (env_by c.args.self.now) c.args.levels) (type_shows (env_by c.args.self.now) c.args.levels) c.args.runs c.loop-rest.rest.now c.part-item.result c.loop-rest.nesting c.max-nesting.result c.loop-rest.before.keys c.add_tags.new.before.keys c.tags_behind-before.result.keys (facts_of c.in_ok-facts.facts) c.loop-rest.least.found c.of_type.new.least.found c.note_if.new.self.found c.default_fault.new.least.found _ _ _
-      c.in-len1-up.len_at_least c.part-item.is c.in_ok-facts.ensures.facts c.in_ok-facts.ensures.shows
-      (c.note_if.ensures ∙ ap (λ b. least_from c.of_type.new.least.found (if_so b (at_name c.part-item.result.name kinds.TagsNotDistinct))) (c.clashes-clash.ensures ∙ ap (clash c.loop-rest.before.keys) c.deref.ensures.value))
-      c.default_fault.ensures c.max-nesting.ensures (c.in_ok-add_tags.ensures ∙ ap (with_tags c.loop-rest.before.keys) c.deref-in-len1-up.ensures.value) c.tags_behind-before.ensures
-      (record { nesting = c.loop-rest.invariant.nesting; tags = c.loop-rest.invariant.tags; shown = c.loop-rest.invariant.shows }) in
+    c.in-len1-up.len_at_least c.part-item.is c.in_ok-facts.ensures.facts c.in_ok-facts.ensures.shows
+    (c.note_if.ensures ∙ ap (λ b. least_from c.of_type.new.least.found (if_so b (at_name c.part-item.result.name kinds.TagsNotDistinct))) (c.clashes-clash.ensures ∙ ap (clash c.loop-rest.before.keys) c.deref.ensures.value))
+    c.default_fault.ensures c.max-nesting.ensures (c.in_ok-add_tags.ensures ∙ ap (with_tags c.loop-rest.before.keys) c.deref-in-len1-up.ensures.value) c.tags_behind-before.ensures
+    (record { nesting = c.loop-rest.invariant.nesting; tags = c.loop-rest.invariant.tags; shown = c.loop-rest.invariant.shows }) in
     record { nesting = p.nesting; tags = p.tags; shows = p.shown }
 
 pub parts-returns-clause-shows : goal.parts-returns-clause-shows
