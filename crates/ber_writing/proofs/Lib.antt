@@ -1,5 +1,8 @@
 pub mod OctetLaws
 pub mod HeadLaws
+pub mod ShortForms
+pub mod Sizes
+pub mod ComparedLaws
 pub mod LessLaws
 pub mod MergeLaws
 pub mod Counts
