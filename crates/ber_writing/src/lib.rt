@@ -3,6 +3,7 @@
 #![tactic(auto)]
 
 mod compare;
+mod fields;
 mod fitting;
 mod length;
 mod octet;

@@ -1,7 +1,7 @@
 use Rattle.std.proofs.Common.{◌≡◌, ◌≤◌, ◌+◌, ◌++◌, drop, length}
 use Rattle.std.specs.List.{flat_map}
 use Rattle.asn1_types.specs.Writing.{base_128}
-use Rattle.ber_writing.proofs.write.put_each.Given as goal
+use Rattle.ber_writing.proofs.fields.put_each.Given as goal
 
 abbrev pub decreases-loop-index : goal.decreases-loop-index
 decreases-loop-index l = l.index

@@ -1,7 +1,7 @@
 use Rattle.std.proofs.Common.{arith, drop}
 use Rattle.ber_writing.proofs.Counts.{base_256_is, low_more}
 use Rattle.ber_writing.proofs.WrittenLoops.{low_begin, low_put}
-use Rattle.ber_writing.proofs.write.put_base_256.Goals as goal
+use Rattle.ber_writing.proofs.fields.put_base_256.Goals as goal
 
 pub loop-high-init : goal.loop-high-init
 loop-high-init c = record {

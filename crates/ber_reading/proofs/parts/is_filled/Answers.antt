@@ -1,7 +1,7 @@
 use Rattle.std.proofs.Common.{◌≡◌, false, true, arith, ◌<◌, length}
 use Rattle.ber_spelling.specs.Rules.{stands}
 use Rattle.ber_reading.proofs.Slots.{filled_step, filled_none}
-use Rattle.ber_reading.proofs.read.is_filled.Goals as goal
+use Rattle.ber_reading.proofs.parts.is_filled.Goals as goal
 
 pub returns-then-not-stands : goal.returns-then-not-stands
 returns-then-not-stands c =

@@ -1,7 +1,7 @@
 use Rattle.std.proofs.Common.{arith, drop}
 use Rattle.ber_writing.proofs.Counts.{nat_more}
 use Rattle.ber_writing.proofs.WrittenLoops.{nat_begin, nat_put}
-use Rattle.ber_writing.proofs.write.put_natural.Goals as goal
+use Rattle.ber_writing.proofs.fields.put_natural.Goals as goal
 
 pub loop-high-init : goal.loop-high-init
 loop-high-init c = record {

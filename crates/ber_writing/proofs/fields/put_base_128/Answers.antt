@@ -1,7 +1,7 @@
 use Rattle.std.proofs.Common.{arith, drop}
 use Rattle.ber_writing.proofs.Counts.{base_128_more, high_more}
 use Rattle.ber_writing.proofs.WrittenLoops.{high_begin, high_put}
-use Rattle.ber_writing.proofs.write.put_base_128.Goals as goal
+use Rattle.ber_writing.proofs.fields.put_base_128.Goals as goal
 
 pub put-start-requires-clause-room : goal.put-start-requires-clause-room
 put-start-requires-clause-room c = omega (arith, base_128_more c.args.number)

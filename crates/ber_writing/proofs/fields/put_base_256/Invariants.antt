@@ -1,6 +1,6 @@
 use Rattle.std.proofs.Common.{◌≡◌, ◌+◌, ◌++◌, [], drop, length}
 use Rattle.asn1_types.specs.Writing.{digits_256, base_256}
-use Rattle.ber_writing.proofs.write.put_base_256.Given as goal
+use Rattle.ber_writing.proofs.fields.put_base_256.Given as goal
 
 abbrev pub decreases-loop-high : goal.decreases-loop-high
 decreases-loop-high l = l.high

@@ -1,6 +1,6 @@
 use Rattle.std.proofs.Common.{◌≡◌, ◌+◌, ◌-◌, ◌++◌, [], drop, length, map}
 use Rattle.asn1_types.specs.Writing.{natural_octets}
-use Rattle.ber_writing.proofs.write.put_negative.Given as goal
+use Rattle.ber_writing.proofs.fields.put_negative.Given as goal
 
 abbrev pub decreases-loop-high : goal.decreases-loop-high
 decreases-loop-high l = l.high

@@ -2,7 +2,7 @@ use Rattle.std.proofs.Common.{arith, drop, []}
 use Rattle.asn1_types.specs.Writing.{natural_octets}
 use Rattle.ber_writing.proofs.Counts.{nat_more, nat_one, turned_length}
 use Rattle.ber_writing.proofs.WrittenLoops.{turned_put, turned_end}
-use Rattle.ber_writing.proofs.write.put_negative.Goals as goal
+use Rattle.ber_writing.proofs.fields.put_negative.Goals as goal
 
 pub put-start-requires-clause-room : goal.put-start-requires-clause-room
 put-start-requires-clause-room c = omega (arith, nat_more c.loop-high.high c.loop-high-test.true, turned_length (natural_octets c.args.number c.args.number []))

@@ -1,6 +1,6 @@
 use Rattle.std.proofs.Common.{◌≡◌, ◌++◌, take, drop, length}
 use Rattle.ber_spelling.specs.Rules.{settled}
-use Rattle.ber_reading.proofs.read.settle.Given as goal
+use Rattle.ber_reading.proofs.parts.settle.Given as goal
 
 abbrev pub invariant-loop-index : goal.invariant-loop-index
 invariant-loop-index l = record {
