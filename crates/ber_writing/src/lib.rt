@@ -5,9 +5,11 @@
 mod compare;
 mod fields;
 mod fitting;
+mod head;
 mod length;
 mod octet;
 mod order;
+mod pieces;
 mod size;
 mod sort;
 mod write;

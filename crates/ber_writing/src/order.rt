@@ -6,9 +6,10 @@ ghost use Rattle.asn1_types.specs.Rising.{is_less};
 ghost use Rattle.ber_writing.specs.Short.{told_less, stand_so, stand_behind, stand_rising, set_stands};
 ghost use Rattle.asn1_types.specs.Writing.{written};
 
-use crate::compare::{octets_compared, values_compared};
+use crate::compare::values_compared;
 use crate::length::ber_len;
 use crate::octet::octet_at;
+use crate::pieces::octets_compared;
 use crate::write::ber_octets;
 use asn1_types::{Node, TypeId, TypeTable, Val};
 use osi_base::NoMemory;
