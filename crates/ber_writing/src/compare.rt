@@ -116,7 +116,7 @@ fn explicit_compared(
     a: &Val,
     b: &Val,
 ) -> Option<Compared>
-    requires below { inner.0 < of.0 }
+    requires { inner.0 < of.0 }
     ensures { IfSome result (λ c. IsApart c
         (definite true tag (writes table.now inner.0 None a.now))
         (definite true tag (writes table.now inner.0 None b.now))) }
@@ -134,7 +134,7 @@ fn lists_compared(
     a: &Val,
     b: &Val,
 ) -> Option<Compared>
-    requires below { inner.0 < of.0 }
+    requires { inner.0 < of.0 }
     ensures { IfSome result (λ c. IsApart c
         (definite true tag (list_contents (writes table.now inner.0) a.now))
         (definite true tag (list_contents (writes table.now inner.0) b.now))) }
@@ -157,7 +157,7 @@ fn items_compared(
     values: &[Val],
     others: &[Val],
 ) -> Option<Compared>
-    requires below { inner.0 < of.0 }
+    requires { inner.0 < of.0 }
     ensures { IfSome result (λ c. IsCompared c
         (values_contents (writes table.now inner.0) (values_of values.now))
         (values_contents (writes table.now inner.0) (values_of others.now))) }
@@ -183,8 +183,7 @@ fn sequences_compared(
     a: &Val,
     b: &Val,
 ) -> Option<Compared>
-    requires below { AllByRecursion (λ m. m < of.0) (rows_of_parts parts.now) }
-    requires row { of.0 ≤ length table.now }
+    requires { AllByRecursion (λ m. m < of.0) (rows_of_parts parts.now) }
     ensures { IfSome result (λ c. IsApart c
         (definite true tag (sequence_contents (parts_contents (writes table.now) parts.now) a.now))
         (definite true tag (sequence_contents (parts_contents (writes table.now) parts.now)
@@ -208,8 +207,7 @@ fn parts_compared(
     values: &[Option<Val>],
     others: &[Option<Val>],
 ) -> Option<Compared>
-    requires below { AllByRecursion (λ m. m < of.0) (rows_of_parts parts.now) }
-    requires row { of.0 ≤ length table.now }
+    requires { AllByRecursion (λ m. m < of.0) (rows_of_parts parts.now) }
     ensures { IfSome result (λ c. IsCompared c
         (parts_contents (writes table.now) parts.now (parts_of values.now))
         (parts_contents (writes table.now) parts.now (parts_of others.now))) }
@@ -237,8 +235,7 @@ fn part_before(
     other: &Option<Val>,
     behind: Rest,
 ) -> Option<Rest>
-    requires below { part.now.inner.0 < of.0 }
-    requires row { of.0 ≤ length table.now }
+    requires { part.now.inner.0 < of.0 }
     ensures { (xs ys : List ℕ) → IsRest behind xs ys → IfSome result (λ rest. IsRest rest
         (part_contents (writes table.now) part.now value.now ++ xs)
         (part_contents (writes table.now) part.now other.now ++ ys)) }
@@ -416,8 +413,7 @@ fn choices_compared(
     a: &Val,
     b: &Val,
 ) -> Option<Compared>
-    requires below { AllByRecursion (λ m. m < of.0) (rows_of_parts alternatives.now) }
-    requires row { of.0 ≤ length table.now }
+    requires { AllByRecursion (λ m. m < of.0) (rows_of_parts alternatives.now) }
     ensures { IfSome result (λ c. IsApart c
         (under (choice_written (λ which. alternative_written (writes table.now)
         (slice_get alternatives.now which))) tag a.now)
@@ -439,8 +435,7 @@ fn alternatives_compared(
     a: &Val,
     b: &Val,
 ) -> Option<Compared>
-    requires below { AllByRecursion (λ m. m < of.0) (rows_of_parts alternatives.now) }
-    requires row { of.0 ≤ length table.now }
+    requires { AllByRecursion (λ m. m < of.0) (rows_of_parts alternatives.now) }
     ensures { IfSome result (λ c. IsApart c
         (choice_written (λ which. alternative_written (writes table.now)
         (slice_get alternatives.now which)) a.now)

@@ -1,6 +1,6 @@
 //! The identifiers that values are written with.
 
-ghost use Rattle.std.specs.Prelude.{◌≡◌, ◌<◌, ℕ, List, Some, None, slice_get, IfSome};
+ghost use Rattle.std.specs.Prelude.{◌≡◌, ◌<◌, ◌++◌, ℕ, Bool, List, Some, None, true, false, slice_get, IfSome};
 ghost use Rattle.std.specs.List.{AllByRecursion};
 ghost use Rattle.asn1_types.specs.Rows.{rows_of_parts};
 ghost use Rattle.asn1_types.specs.Table.{IsSound};
@@ -29,9 +29,9 @@ pub(crate) enum Lead {
     Unknown,
 }
 
-/// What a value of a row is written with at its beginning.
+/// What octets begin with of which the first are what is written of a value.
 pub(crate) fn lead_of(table: &TypeTable, of: TypeId, value: &Val) -> Lead
-    ensures { LeadsOr result (writes table.now of.0 None value.now) }
+    ensures { (behind : List ℕ) → LeadsOr result (writes table.now of.0 None value.now ++ behind) }
 {
     match head_of(table, of, None, value) {
         Some(head) => Lead::Identifier(head),
