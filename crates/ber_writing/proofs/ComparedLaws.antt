@@ -1,11 +1,11 @@
 -- How octets compare, in pieces of which neither begins the other: what is told of the first pieces that differ is told of all.
-use Rattle.std.proofs.Common.{◌≡◌, ◌≢◌, ℕ, zero, suc, ◌+◌, ◌*◌, ◌<◌, ◌≤◌, ◌^◌, Bool, true, false, cond, ◌||◌, ◌&&◌, List, [], ◌∷◌, ◌++◌, length, get_or, drop, min, refl, sym, ap, ◌∙◌, subst, arith, append_assoc, length-append, ◌⊎◌, inl, inr}
-use Rattle.std.specs.Prelude.{nat_lt, nat_eq}
+use Rattle.std.proofs.Common.{◌≡◌, ◌≢◌, ℕ, zero, suc, ◌+◌, ◌-◌, ◌*◌, ◌<◌, ◌≤◌, ◌^◌, Bool, true, false, cond, ◌||◌, ◌&&◌, List, [], ◌∷◌, ◌++◌, length, get_or, drop, min, Option, Some, None, refl, sym, ap, ◌∙◌, subst, arith, append_assoc, length-append, ◌⊎◌, inl, inr}
+use Rattle.std.specs.Prelude.{nat_lt, nat_le, nat_eq, if◌then◌else◌}
 use Rattle.std.specs.List.{flat_map}
 use Rattle.std.specs.Ordering.{ordering_then, nat_cmp, is_lt}
 use Rattle.std.specs.declared.cmp.Ordering.{Ordering}
 use Rattle.std.specs.declared.cmp.Ordering.TheVariants.{Less, Equal, Greater}
-use Rattle.std.proofs.lemmas.Bool.{lt-ltb, le-ltb, ltb-true, ltb-false, eq-eqb, ne_eqb, cases_lt}
+use Rattle.std.proofs.lemmas.Bool.{lt-ltb, le-ltb, eq-eqb, ne_eqb, cases_lt, le-leb, lt-leb}
 use Rattle.asn1_types.specs.declared.row.Class.{Class}
 use Rattle.asn1_types.specs.declared.row.Class.TheVariants.{Universal, Application, Context, Private}
 use Rattle.asn1_types.specs.declared.row.Tag as tags
@@ -17,6 +17,8 @@ use Rattle.ber_spelling.specs.Spelling.{AreDigits, IsBase128}
 use Rattle.ber_spelling.proofs.Digits.{base_128_is, base_256_number}
 use Rattle.ber_writing.specs.declared.pieces.Compared.{Compared}
 use Rattle.ber_writing.specs.Comparing.{compared, Decides, IsCompared, IsApart}
+use Rattle.ber_writing.specs.Short.{told_less}
+use Rattle.asn1_types.specs.Fits.{is_short}
 
 -- ---- numbers
 
@@ -267,6 +269,13 @@ numbers_before ns ms i k n m o up lt more e d h =
 pub apart_compared : (told : Compared) (xs ys : List ℕ) → IsApart told xs ys → IsCompared told xs ys
 apart_compared told xs ys h = record { len = h.len; other = h.other; order = λ a b. so_compared told.order xs ys (h.order a b) }
 
+-- octets of one length, and those that differ at a place
+pub same_apart : (told : Compared) (xs ys : List ℕ) → IsCompared told xs ys → length xs ≡ length ys → IsApart told xs ys
+same_apart told xs ys h e = record { len = h.len; other = h.other; order = λ p q. subst (λ (o : Ordering). Decides o xs ys) (sym (h.order p q)) (equal_lengths xs ys e) }
+
+pub other_apart : (told : Compared) (xs ys : List ℕ) (i a b : ℕ) → IsCompared told xs ys → i < length xs → i < length ys → get_or xs i 0 ≡ a → get_or ys i 0 ≡ b → a ≢ b → IsApart told xs ys
+other_apart told xs ys i a b h lt more e d ne = record { len = h.len; other = h.other; order = λ p q. subst (λ (o : Ordering). Decides o xs ys) (sym (h.order p q)) (differ xs ys i a b lt more e d ne) }
+
 -- a piece of both, and what stands behind it
 pub then_compared : (piece behind told : Compared) (xs ys zs ws : List ℕ) → told.len ≡ saturated (piece.len + behind.len) → told.other ≡ saturated (piece.other + behind.other) → told.order ≡ ordering_then piece.order behind.order
     → IsApart piece xs ys → IsCompared behind zs ws → IsCompared told (xs ++ zs) (ys ++ ws)
@@ -342,3 +351,29 @@ less_is (x ∷ xs) (y ∷ ys) =
         | inr le ↦ let same : x ≡ y = omega arith in rw (cmp_same x y same, le-ltb x y ge, eq-eqb x y same) (less_is xs ys)
       ]
     ]
+
+-- ---- what is told of short octets
+
+pub not_told : (told : Compared) (xs ys : List ℕ) → IsApart told xs ys → (4294967295 < told.len) ⊎ (4294967295 < told.other) → None ≡ told_less xs ys
+not_told told xs ys h (inl lt) = by_test (is_short (length ys)) (is_short (length xs)) (lt-leb (length xs) 4294967295 (omega (arith, h.len)))
+  where
+    by_test : (b c : Bool) → c ≡ false → None ≡ (if b && c then Some (is_less xs ys) else None)
+    by_test true c e = rw e refl
+    by_test false c e = refl
+not_told told xs ys h (inr lt) = by_test (is_short (length ys)) (is_short (length xs)) (lt-leb (length ys) 4294967295 (omega (arith, h.other)))
+  where
+    by_test : (b c : Bool) → b ≡ false → None ≡ (if b && c then Some (is_less xs ys) else None)
+    by_test b c e = rw e refl
+
+pub told_so : (told : Compared) (xs ys : List ℕ) (b : Bool) → IsApart told xs ys → told.len ≤ 4294967295 → told.other ≤ 4294967295 → b ≡ is_lt told.order → Some b ≡ told_less xs ys
+told_so told xs ys b h le more e =
+    let len : length xs ≤ 4294967295 = omega (arith, h.len) in
+    let other : length ys ≤ 4294967295 = omega (arith, h.other) in
+    let order = so_compared told.order xs ys (h.order (omega arith) (omega arith)) in
+    let same : b ≡ is_less xs ys = e ∙ ap is_lt order ∙ sym (less_is xs ys) in
+    rw (le-leb (length ys) 4294967295 other, le-leb (length xs) 4294967295 len) (ap (λ (x : Bool). Some x) same)
+
+pub less_so : (told : Compared) (xs ys : List ℕ) (b : Bool) → IsApart told xs ys → told.len < 2 ^ 64 - 1 → told.other < 2 ^ 64 - 1 → b ≡ is_lt told.order → b ≡ is_less xs ys
+less_so told xs ys b h lt more e =
+    let order = so_compared told.order xs ys (h.order (omega (arith, h.len)) (omega (arith, h.other))) in
+    e ∙ ap is_lt order ∙ sym (less_is xs ys)
