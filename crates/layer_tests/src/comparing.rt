@@ -216,9 +216,10 @@ fn pairs(alloc: Global) -> Result<Vals, NoMemory> {
     Ok(all)
 }
 
+/// Some numbers in base 128 have first octets that are greater than those of greater numbers.
 fn object_ids(alloc: Global) -> Result<Vals, NoMemory> {
     let mut all = Vec::new(alloc);
-    let arcs: [&[u32]; 8] = [
+    let arcs: [&[u32]; 12] = [
         &[0, 0],
         &[0, 1],
         &[1, 0],
@@ -227,6 +228,10 @@ fn object_ids(alloc: Global) -> Result<Vals, NoMemory> {
         &[2, 999, 3],
         &[2, 5, 127],
         &[2, 5, 128],
+        &[2, 5, 127, 128],
+        &[2, 5, 128, 127],
+        &[2, 5, 16_383, 0],
+        &[2, 5, 16_384],
     ];
     for one in arcs {
         if let Some(oid) = Oid::from_vec(one.to_vec(alloc)?) {
