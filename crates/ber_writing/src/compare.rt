@@ -14,6 +14,7 @@ ghost use Rattle.asn1_types.specs.ValueView.{parts_of, values_of};
 ghost use Rattle.asn1_types.specs.Writing.{definite, values_contents, list_contents, part_contents, parts_contents, of_rank, sequence_contents, set_parts, alternative_written, choice_written, under, write_by, writes};
 ghost use Rattle.ber_writing.specs.Comparing.{IsCompared, IsApart, IsRest};
 
+use crate::contents::{items_in, parts_in};
 use crate::head::{head_of, lead_of};
 use crate::length::{value_len, values_len};
 use crate::pieces::{
@@ -139,12 +140,8 @@ fn lists_compared(
         (definite true tag (list_contents (writes table.now inner.0) a.now))
         (definite true tag (list_contents (writes table.now inner.0) b.now))) }
 {
-    let Node::List(values) = &a.node else {
-        return None;
-    };
-    let Node::List(others) = &b.node else {
-        return None;
-    };
+    let values = items_in(a)?;
+    let others = items_in(b)?;
     let contents = items_compared(table, of, inner, values, others)?;
     Some(whole(tag, contents))
 }
@@ -189,12 +186,8 @@ fn sequences_compared(
         (definite true tag (sequence_contents (parts_contents (writes table.now) parts.now)
         b.now))) }
 {
-    let Node::Parts(values) = &a.node else {
-        return None;
-    };
-    let Node::Parts(others) = &b.node else {
-        return None;
-    };
+    let values = parts_in(a)?;
+    let others = parts_in(b)?;
     let contents = parts_compared(table, of, parts, values, others)?;
     Some(whole(tag, contents))
 }
@@ -294,12 +287,8 @@ fn sets_compared(
         (definite true tag (sequence_contents (set_parts (writes table.now) parts.now) a.now))
         (definite true tag (sequence_contents (set_parts (writes table.now) parts.now) b.now))) }
 {
-    let Node::Parts(values) = &a.node else {
-        return None;
-    };
-    let Node::Parts(others) = &b.node else {
-        return None;
-    };
+    let values = parts_in(a)?;
+    let others = parts_in(b)?;
     let contents = risen_compared(table, of, parts, values, others)?;
     Some(whole(tag, contents))
 }

@@ -3,6 +3,7 @@
 #![tactic(auto)]
 
 mod compare;
+mod contents;
 mod fields;
 mod fitting;
 mod head;

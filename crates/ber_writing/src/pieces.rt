@@ -6,12 +6,15 @@ ghost use Rattle.std.specs.List.{flat_map};
 ghost use Rattle.asn1_types.specs.Writing.{saturated, base_128, integer_octets, length_octets, identifier, definite, boolean_contents, integer_contents, octets_contents, text_contents, bits_contents, object_id_contents, any_written, under, subidentifiers};
 ghost use Rattle.ber_writing.specs.Comparing.{compared, Decides, IsCompared, IsApart, LeadsOr};
 
+use crate::contents::{
+    any_in, bits_in, boolean_in, integer_in, object_id_in, octets_in, text_in,
+};
 use crate::fields::{put_base_128, put_identifier, put_integer, put_length};
 use crate::head::{Head, Lead};
 use crate::length::{
     arcs_len, base_128_len, definite_len, identifier_len, integer_len, length_len,
 };
-use asn1_types::{Node, Val};
+use asn1_types::Val;
 use ber_spelling::Tag;
 use std::cmp::Ordering;
 
@@ -163,58 +166,36 @@ pub(crate) fn truths_compared(tag: Tag, a: &Val, b: &Val) -> Option<Compared>
     ensures { IfSome result (λ c. IsApart c (definite false tag (boolean_contents a.now))
         (definite false tag (boolean_contents b.now))) }
 {
-    let Node::Bool(truth) = &a.node else {
-        return None;
-    };
-    let Node::Bool(other) = &b.node else {
-        return None;
-    };
-    let octet = |truth: bool| if truth { 255 } else { 0 };
-    Some(whole(
-        tag,
-        strings_compared(&[octet(*truth)], &[octet(*other)]),
-    ))
+    let octet = boolean_in(a)?;
+    let other = boolean_in(b)?;
+    Some(whole(tag, strings_compared(&[octet], &[other])))
 }
 
 pub(crate) fn integers_compared(tag: Tag, a: &Val, b: &Val) -> Option<Compared>
     ensures { IfSome result (λ c. IsApart c (definite false tag (integer_contents a.now))
         (definite false tag (integer_contents b.now))) }
 {
-    let Node::Int(number) = &a.node else {
-        return None;
-    };
-    let Node::Int(other) = &b.node else {
-        return None;
-    };
-    Some(whole(tag, numbers_compared(*number, *other)))
+    let number = integer_in(a)?;
+    let other = integer_in(b)?;
+    Some(whole(tag, numbers_compared(number, other)))
 }
 
 pub(crate) fn octet_strings_compared(tag: Tag, a: &Val, b: &Val) -> Option<Compared>
     ensures { IfSome result (λ c. IsApart c (definite false tag (octets_contents a.now))
         (definite false tag (octets_contents b.now))) }
 {
-    let Node::Octets(octets) = &a.node else {
-        return None;
-    };
-    let Node::Octets(others) = &b.node else {
-        return None;
-    };
-    let contents = strings_compared(octets.as_slice(), others.as_slice());
-    Some(whole(tag, contents))
+    let octets = octets_in(a)?;
+    let others = octets_in(b)?;
+    Some(whole(tag, strings_compared(octets, others)))
 }
 
 pub(crate) fn texts_compared(tag: Tag, a: &Val, b: &Val) -> Option<Compared>
     ensures { IfSome result (λ c. IsApart c (definite false tag (text_contents a.now))
         (definite false tag (text_contents b.now))) }
 {
-    let Node::Text(octets) = &a.node else {
-        return None;
-    };
-    let Node::Text(others) = &b.node else {
-        return None;
-    };
-    let contents = strings_compared(octets.as_slice(), others.as_slice());
-    Some(whole(tag, contents))
+    let octets = text_in(a)?;
+    let others = text_in(b)?;
+    Some(whole(tag, strings_compared(octets, others)))
 }
 
 /// Of BIT STRINGs: how many bits are unused stands first (X.690 8.6.2).
@@ -222,18 +203,9 @@ pub(crate) fn bit_strings_compared(tag: Tag, a: &Val, b: &Val) -> Option<Compare
     ensures { IfSome result (λ c. IsApart c (definite false tag (bits_contents a.now))
         (definite false tag (bits_contents b.now))) }
 {
-    let Node::Bits { octets, unused } = &a.node else {
-        return None;
-    };
-    let Node::Bits {
-        octets: others,
-        unused: other,
-    } = &b.node
-    else {
-        return None;
-    };
-    let contents = segments_compared(*unused, octets.as_slice(), *other, others.as_slice());
-    Some(whole(tag, contents))
+    let (unused, octets) = bits_in(a)?;
+    let (other, others) = bits_in(b)?;
+    Some(whole(tag, segments_compared(unused, octets, other, others)))
 }
 
 fn segments_compared(unused: u8, octets: &[u8], other: u8, others: &[u8]) -> Compared
@@ -251,13 +223,8 @@ pub(crate) fn object_ids_compared(tag: Tag, a: &Val, b: &Val) -> Option<Compared
     ensures { IfSome result (λ c. IsApart c (definite false tag (object_id_contents a.now))
         (definite false tag (object_id_contents b.now))) }
 {
-    let Node::ObjectId(oid) = &a.node else {
-        return None;
-    };
-    let Node::ObjectId(other) = &b.node else {
-        return None;
-    };
-    let (arcs, others) = (oid.arcs(), other.arcs());
+    let arcs = object_id_in(a)?;
+    let others = object_id_in(b)?;
     let contents = Compared {
         len: arcs_len(arcs),
         other: arcs_len(others),
@@ -302,16 +269,11 @@ pub(crate) fn any_compared(tag: Option<Tag>, a: &Val, b: &Val) -> Option<Compare
     ensures { IfSome result (λ c. IsApart c (under any_written tag a.now)
         (under any_written tag b.now)) }
 {
-    let Node::Any(octets) = &a.node else {
-        return None;
-    };
-    let Node::Any(others) = &b.node else {
-        return None;
-    };
-    let contents = strings_compared(octets.as_slice(), others.as_slice());
+    let octets = any_in(a)?;
+    let others = any_in(b)?;
     match tag {
-        None => apart(octets.as_slice(), others.as_slice()),
-        Some(tag) => Some(whole(tag, contents)),
+        None => apart(octets, others),
+        Some(tag) => Some(whole(tag, strings_compared(octets, others))),
     }
 }
 
