@@ -14,7 +14,7 @@ ghost use Rattle.asn1_types.specs.ValueView.{parts_of, values_of};
 ghost use Rattle.asn1_types.specs.Writing.{definite, values_contents, list_contents, part_contents, parts_contents, of_rank, sequence_contents, set_parts, alternative_written, choice_written, under, write_by, writes};
 ghost use Rattle.ber_writing.specs.Comparing.{IsCompared, IsApart, IsRest};
 
-use crate::contents::{items_in, parts_in};
+use crate::contents::{chosen_in, items_in, parts_in};
 use crate::head::{head_of, lead_of};
 use crate::length::{value_len, values_len};
 use crate::pieces::{
@@ -23,7 +23,7 @@ use crate::pieces::{
     truths_compared, whole,
 };
 use crate::write::next_rank;
-use asn1_types::{Class, Node, Part, Parts, TypeId, TypeRow, TypeTable, Val, text_number};
+use asn1_types::{Class, Part, Parts, TypeId, TypeRow, TypeTable, Val, text_number};
 use ber_spelling::{RANKS, Tag, rank_of, tag_or};
 
 /// How the spellings of two values of a row compare, under another tag if one is given; `None` where
@@ -431,32 +431,18 @@ fn alternatives_compared(
         (choice_written (λ which. alternative_written (writes table.now)
         (slice_get alternatives.now which)) b.now)) }
 {
-    let Node::Chosen { which, value } = &a.node else {
-        return None;
-    };
-    let Node::Chosen {
-        which: against,
-        value: other,
-    } = &b.node
-    else {
-        return None;
-    };
-    let part = alternatives.get(*which as usize)?;
+    let (which, value) = chosen_in(a)?;
+    let (against, other) = chosen_in(b)?;
+    let part = alternatives.get(which as usize)?;
     if which == against {
         return values_compared(table, part.inner, None, value, other);
     }
-    let second = alternatives.get(*against as usize)?;
+    let second = alternatives.get(against as usize)?;
     told_by_heads(table, part.inner, value, second.inner, other)
 }
 
 /// How values of two rows compare by their identifiers; `None` where these are alike, or not known.
-fn told_by_heads(
-    table: &TypeTable,
-    of: TypeId,
-    a: &Val,
-    from: TypeId,
-    b: &Val,
-) -> Option<Compared>
+fn told_by_heads(table: &TypeTable, of: TypeId, a: &Val, from: TypeId, b: &Val) -> Option<Compared>
     ensures { IfSome result (λ c. IsApart c (writes table.now of.0 None a.now)
         (writes table.now from.0 None b.now)) }
 {

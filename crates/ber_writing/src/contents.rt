@@ -2,9 +2,9 @@
 
 ghost use Rattle.std.specs.Prelude.{◌≡◌, [], ◌∷◌, ℕ, List, IfSome};
 ghost use Rattle.std.specs.List.{flat_map};
-ghost use Rattle.asn1_types.specs.Value.{MaybeValues};
+ghost use Rattle.asn1_types.specs.Value.{Value, MaybeValues};
 ghost use Rattle.asn1_types.specs.ValueView.{parts_of, values_of};
-ghost use Rattle.asn1_types.specs.Writing.{Writer, base_128, integer_octets, subidentifiers, boolean_contents, integer_contents, octets_contents, text_contents, bits_contents, object_id_contents, any_written, values_contents, list_contents, sequence_contents};
+ghost use Rattle.asn1_types.specs.Writing.{Writer, base_128, integer_octets, subidentifiers, boolean_contents, integer_contents, octets_contents, text_contents, bits_contents, object_id_contents, any_written, values_contents, list_contents, sequence_contents, choice_written};
 
 use asn1_types::{Node, Val};
 
@@ -94,6 +94,17 @@ pub(crate) fn parts_in(value: &Val) -> Option<&[Option<Val>]>
 {
     match &value.node {
         Node::Parts(values) => Some(values),
+        _ => None,
+    }
+}
+
+/// The alternative of a CHOICE, and its value.
+pub(crate) fn chosen_in(value: &Val) -> Option<(u32, &Val)>
+    ensures { IfSome result (λ chosen. (write : ℕ → Value → List ℕ)
+        → choice_written write value.now ≡ write chosen.0 chosen.1.now) }
+{
+    match &value.node {
+        Node::Chosen { which, value } => Some((*which, value)),
         _ => None,
     }
 }

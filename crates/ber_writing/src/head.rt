@@ -9,7 +9,8 @@ ghost use Rattle.asn1_types.specs.declared.row.Class.TheVariants.{Universal};
 ghost use Rattle.asn1_types.specs.Tags.{tag_or};
 ghost use Rattle.ber_writing.specs.Comparing.{Leads, LeadsOr};
 
-use asn1_types::{Class, Node, Parts, TypeId, TypeRow, TypeTable, Val, text_number};
+use crate::contents::chosen_in;
+use asn1_types::{Class, Parts, TypeId, TypeRow, TypeTable, Val, text_number};
 use ber_spelling::{Tag, tag_or};
 
 /// The identifier that octets begin with.
@@ -42,12 +43,7 @@ pub(crate) fn lead_of(table: &TypeTable, of: TypeId, value: &Val) -> Lead
 /// The identifier that a value of a row is written with, under another tag if one is given; `None`
 /// where nothing is written of it, or the octets of any one value.
 #[cycle(heading)]
-pub(crate) fn head_of(
-    table: &TypeTable,
-    of: TypeId,
-    tag: Option<Tag>,
-    value: &Val,
-) -> Option<Head>
+pub(crate) fn head_of(table: &TypeTable, of: TypeId, tag: Option<Tag>, value: &Val) -> Option<Head>
     ensures { IfSome result (λ head. Leads head (writes table.now of.0 tag value.now)) }
 {
     if table.has(of) {
@@ -148,11 +144,7 @@ fn alternative_head(
         (choice_written (λ which. alternative_written (writes table.now)
         (slice_get alternatives.now which)) value.now)) }
 {
-    match &value.node {
-        Node::Chosen { which, value } => match alternatives.get(*which as usize) {
-            Some(part) => head_of(table, part.inner, None, value),
-            None => None,
-        },
-        _ => None,
-    }
+    let (which, value) = chosen_in(value)?;
+    let part = alternatives.get(which as usize)?;
+    head_of(table, part.inner, None, value)
 }

@@ -6,9 +6,7 @@ ghost use Rattle.std.specs.List.{flat_map};
 ghost use Rattle.asn1_types.specs.Writing.{saturated, base_128, integer_octets, length_octets, identifier, definite, boolean_contents, integer_contents, octets_contents, text_contents, bits_contents, object_id_contents, any_written, under, subidentifiers};
 ghost use Rattle.ber_writing.specs.Comparing.{compared, Decides, IsCompared, IsApart, LeadsOr};
 
-use crate::contents::{
-    any_in, bits_in, boolean_in, integer_in, object_id_in, octets_in, text_in,
-};
+use crate::contents::{any_in, bits_in, boolean_in, integer_in, object_id_in, octets_in, text_in};
 use crate::fields::{put_base_128, put_identifier, put_integer, put_length};
 use crate::head::{Head, Lead};
 use crate::length::{

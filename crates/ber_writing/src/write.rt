@@ -9,7 +9,8 @@ ghost use Rattle.asn1_types.specs.ValueView.{parts_of, values_of};
 ghost use Rattle.asn1_types.specs.Writing.{definite, values_contents, list_contents, part_contents, parts_contents, sequence_contents, alternative_written, choice_written, under, write_by, writes, written, of_rank, set_parts};
 
 use crate::fields::{
-    put_any, put_bits, put_boolean, put_head, put_integer_value, put_object_id, put_octets, put_text,
+    put_any, put_bits, put_boolean, put_head, put_integer_value, put_object_id, put_octets,
+    put_text,
 };
 use crate::length::ber_len;
 use asn1_types::{Class, Node, Part, Parts, TypeId, TypeRow, TypeTable, Val, text_number};
