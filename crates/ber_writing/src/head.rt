@@ -144,7 +144,7 @@ fn alternative_head(
         (choice_written (λ which. alternative_written (writes table.now)
         (slice_get alternatives.now which)) value.now)) }
 {
-    let (which, value) = chosen_in(value)?;
+    let (which, inside) = chosen_in(value)?;
     let part = alternatives.get(which as usize)?;
-    head_of(table, part.inner, None, value)
+    head_of(table, part.inner, None, inside)
 }
