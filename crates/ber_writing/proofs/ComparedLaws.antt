@@ -1,16 +1,17 @@
 -- How octets compare, in pieces of which neither begins the other: what is told of the first pieces that differ is told of all.
-use Rattle.std.proofs.Common.{◌≡◌, ◌≢◌, ℕ, zero, suc, ◌+◌, ◌-◌, ◌*◌, ◌<◌, ◌≤◌, ◌^◌, Bool, true, false, cond, ◌||◌, ◌&&◌, List, [], ◌∷◌, ◌++◌, length, get_or, drop, min, Option, Some, None, refl, sym, ap, ◌∙◌, subst, arith, append_assoc, length-append, ◌⊎◌, inl, inr}
+use Rattle.std.proofs.Common.{◌≡◌, ◌≢◌, ℕ, zero, suc, ◌+◌, ◌-◌, ◌*◌, ◌<◌, ◌≤◌, ◌^◌, Bool, true, false, cond, ◌||◌, ◌&&◌, List, [], ◌∷◌, ◌++◌, length, get_or, take, drop, min, Option, Some, None, refl, sym, ap, ◌∙◌, subst, arith, append_assoc, length-append, ◌⊎◌, inl, inr}
 use Rattle.std.specs.Prelude.{nat_lt, nat_le, nat_eq, if◌then◌else◌}
 use Rattle.std.specs.List.{flat_map}
-use Rattle.std.specs.Ordering.{ordering_then, nat_cmp, is_lt}
+use Rattle.std.proofs.Math.Seq.{take-append_seam}
+use Rattle.std.specs.Ordering.{ordering_then, nat_cmp, is_eq, is_lt}
 use Rattle.std.specs.declared.cmp.Ordering.{Ordering}
 use Rattle.std.specs.declared.cmp.Ordering.TheVariants.{Less, Equal, Greater}
-use Rattle.std.proofs.lemmas.Bool.{lt-ltb, le-ltb, eq-eqb, ne_eqb, cases_lt, le-leb, lt-leb}
+use Rattle.std.proofs.lemmas.Bool.{false≢true, lt-ltb, le-ltb, eq-eqb, ne_eqb, cases_lt, le-leb, lt-leb}
 use Rattle.asn1_types.specs.declared.row.Class.{Class}
 use Rattle.asn1_types.specs.declared.row.Class.TheVariants.{Universal, Application, Context, Private}
 use Rattle.asn1_types.specs.declared.row.Tag as tags
 use Rattle.asn1_types.specs.Tags.{leading}
-use Rattle.asn1_types.specs.Writing.{saturated, base_128, base_256, identifier, length_octets, definite}
+use Rattle.asn1_types.specs.Writing.{saturated, base_128, base_256, subidentifiers, identifier, length_octets, definite}
 use Rattle.asn1_types.specs.Rising.{is_less}
 use Rattle.ber_spelling.specs.Fields.{number_from}
 use Rattle.ber_spelling.specs.Spelling.{AreDigits, IsBase128}
@@ -216,7 +217,7 @@ lengths_same n m e = sym (length_read n) ∙ ap read_length e ∙ length_read m
 
 -- ---- lengths that stand still
 
-identifier_len : (class : Class) (a b : Bool) (n : ℕ) → length (identifier class a n) ≡ length (identifier class b n)
+pub identifier_len : (class : Class) (a b : Bool) (n : ℕ) → length (identifier class a n) ≡ length (identifier class b n)
 identifier_len class a b n = elim (cases_lt n 31) [ inl lt ↦ rw (lt-ltb n 31 lt) refl | inr ge ↦ rw (le-ltb n 31 ge) refl ]
 
 pub definite_len : (constructed : Bool) (tag : tags.Tag) (xs : List ℕ) (count : ℕ) → count ≡ saturated (length xs) → saturated (length (identifier tag.class false tag.number) + (length (length_octets count) + count)) ≡ saturated (length (definite constructed tag xs))
@@ -264,7 +265,41 @@ numbers_before ns ms i k n m o up lt more e d h =
     pieces (compared (base_128 n) (base_128 m)) o (base_128 n) (base_128 m) (flat_map base_128 (drop k ns)) (flat_map base_128 (drop k ms)) (base_128_apart n m) h
     ∙ rw up (λ j. compared (sym (each_before ns i n lt e) j) (sym (each_before ms i m more d) j))
 
+-- the first two arcs are one number
+pub arcs_told : (a b : List ℕ) (o p q : Ordering) → 2 ≤ length a → 2 ≤ length b → o ≡ compared (base_128 (40 * get_or a 0 0 + get_or a 1 0)) (base_128 (40 * get_or b 0 0 + get_or b 1 0)) → p ≡ compared (flat_map base_128 (drop 2 a)) (flat_map base_128 (drop 2 b))
+    → q ≡ ordering_then o p → q ≡ compared (flat_map base_128 (subidentifiers a)) (flat_map base_128 (subidentifiers b))
+arcs_told [] b o p q l m e f g = absurd (omega arith)
+arcs_told (r ∷ []) b o p q l m e f g = absurd (omega arith)
+arcs_told (r ∷ s ∷ as) [] o p q l m e f g = absurd (omega arith)
+arcs_told (r ∷ s ∷ as) (t ∷ []) o p q l m e f g = absurd (omega arith)
+arcs_told (r ∷ s ∷ as) (t ∷ u ∷ bs) o p q l m e f g =
+    g ∙ (λ i. ordering_then (e i) (f i))
+    ∙ pieces (compared (base_128 (40 * r + s)) (base_128 (40 * t + u))) (compared (flat_map base_128 as) (flat_map base_128 bs)) (base_128 (40 * r + s)) (base_128 (40 * t + u)) (flat_map base_128 as) (flat_map base_128 bs) (base_128_apart (40 * r + s) (40 * t + u)) refl
+
 -- ---- as the code has it
+
+-- what was put at the front of a room
+pub room_front : (text new rest : List ℕ) (start len : ℕ) → start + length text ≡ len → len ≡ length text → drop start new ≡ text ++ rest → take len new ≡ text
+room_front text new rest start len e f g =
+    let none : start ≡ 0 = omega arith in
+    let whole : new ≡ text ++ rest = subst (λ (n : ℕ). drop n new ≡ text ++ rest) none g in
+    (λ i. take (f i) (whole i)) ∙ take-append_seam text rest
+
+pub not_equal : (o : Ordering) (r : Bool) → r ≡ is_eq o → r ≡ false → o ≢ Equal
+not_equal o r e f g = false≢true (sym f ∙ e ∙ ap is_eq g)
+
+then_equal : (o : Ordering) → ordering_then o Equal ≡ o
+then_equal Less = refl
+then_equal Equal = refl
+then_equal Greater = refl
+
+-- one octet
+pub octet_apart : (told : Compared) (x y : ℕ) → told.len ≡ 1 → told.other ≡ 1 → told.order ≡ nat_cmp x y → IsApart told (x ∷ []) (y ∷ [])
+octet_apart told x y l o e = record {
+  len = l;
+  other = o;
+  order = λ p q. subst (λ (k : Ordering). Decides k (x ∷ []) (y ∷ [])) (then_equal (nat_cmp x y) ∙ sym e) (by_first x y [] [] (λ same. refl));
+}
 
 pub apart_compared : (told : Compared) (xs ys : List ℕ) → IsApart told xs ys → IsCompared told xs ys
 apart_compared told xs ys h = record { len = h.len; other = h.other; order = λ a b. so_compared told.order xs ys (h.order a b) }
