@@ -270,11 +270,11 @@ pub arcs_told : (a b : List ℕ) (o p q : Ordering) → 2 ≤ length a → 2 ≤
     → q ≡ ordering_then o p → q ≡ compared (flat_map base_128 (subidentifiers a)) (flat_map base_128 (subidentifiers b))
 arcs_told [] b o p q l m e f g = absurd (omega arith)
 arcs_told (r ∷ []) b o p q l m e f g = absurd (omega arith)
-arcs_told (r ∷ s ∷ as) [] o p q l m e f g = absurd (omega arith)
-arcs_told (r ∷ s ∷ as) (t ∷ []) o p q l m e f g = absurd (omega arith)
-arcs_told (r ∷ s ∷ as) (t ∷ u ∷ bs) o p q l m e f g =
+arcs_told (r ∷ s ∷ ns) [] o p q l m e f g = absurd (omega arith)
+arcs_told (r ∷ s ∷ ns) (t ∷ []) o p q l m e f g = absurd (omega arith)
+arcs_told (r ∷ s ∷ ns) (t ∷ u ∷ ms) o p q l m e f g =
     g ∙ (λ i. ordering_then (e i) (f i))
-    ∙ pieces (compared (base_128 (40 * r + s)) (base_128 (40 * t + u))) (compared (flat_map base_128 as) (flat_map base_128 bs)) (base_128 (40 * r + s)) (base_128 (40 * t + u)) (flat_map base_128 as) (flat_map base_128 bs) (base_128_apart (40 * r + s) (40 * t + u)) refl
+    ∙ pieces (compared (base_128 (40 * r + s)) (base_128 (40 * t + u))) (compared (flat_map base_128 ns) (flat_map base_128 ms)) (base_128 (40 * r + s)) (base_128 (40 * t + u)) (flat_map base_128 ns) (flat_map base_128 ms) (base_128_apart (40 * r + s) (40 * t + u)) refl
 
 -- ---- as the code has it
 

@@ -1,5 +1,6 @@
 -- What stands behind a place in the contents of two values, told from the last piece to the first.
-use Rattle.std.proofs.Common.{◌≡◌, ◌≢◌, ℕ, zero, suc, ◌+◌, ◌-◌, ◌<◌, ◌≤◌, ◌^◌, List, [], ◌++◌, length, get_or, drop, Option, Some, None, refl, sym, ap, ◌∙◌, subst, arith, append_assoc, length-append, ◌⊎◌, inl, inr}
+use Rattle.std.proofs.Common.{◌≡◌, ◌≢◌, ℕ, zero, suc, ◌+◌, ◌-◌, ◌<◌, ◌≤◌, ◌^◌, List, [], ◌++◌, length, get_or, drop, min, Option, Some, None, refl, sym, ap, ◌∙◌, subst, arith, append_assoc, length-append, ◌⊎◌, inl, inr}
+use Rattle.std.proofs.lemmas.Bool.{cases_lt}
 use Rattle.std.specs.declared.cmp.Ordering.{Ordering}
 use Rattle.std.specs.declared.cmp.Ordering.TheVariants.{Less, Equal, Greater}
 use Rattle.asn1_types.specs.declared.row.Part.{Part}
@@ -9,6 +10,7 @@ use Rattle.asn1_types.specs.Writing.{Writer, saturated, identifier, part_content
 use Rattle.ber_spelling.proofs.WriteLaws.{parts_before, values_before, risen_next}
 use Rattle.ber_writing.specs.declared.pieces.Compared.{Compared}
 use Rattle.ber_writing.specs.declared.pieces.Rest.{Rest}
+use Rattle.ber_writing.specs.declared.TheConstants.{END}
 use Rattle.ber_writing.specs.declared.head.Head.{Head}
 use Rattle.ber_writing.specs.declared.head.Lead.{Lead}
 use Rattle.ber_writing.specs.Comparing.{compared, Decides, IsCompared, IsApart, Leads, LeadsOr, IsRest}
@@ -88,3 +90,37 @@ risen_step f ps vs ws total bound r behind rest lt le none others step h =
     subst (λ (l : List ℕ). IsRest rest l (risen_parts f (total - r) r ps ws)) (sym a)
     (subst (λ (l : List ℕ). IsRest rest (parts_contents (of_rank r f) ps vs ++ risen_parts f (total - bound) bound ps vs) l) (sym b)
     (step (risen_parts f (total - bound) bound ps vs) (risen_parts f (total - bound) bound ps ws) h))
+
+-- ---- items, from the last to the first
+
+values_none : (f : Writer) (vs : List Value) (i : ℕ) → length vs ≤ i → values_contents f (values_of (drop i vs)) ≡ []
+values_none f [] zero le = refl
+values_none f [] (suc i) le = refl
+values_none f (v ∷ vs) zero le = absurd (omega arith)
+values_none f (v ∷ vs) (suc i) le = values_none f vs i (omega arith)
+
+pub values_end : (f : Writer) (vs ws : List Value) (i : ℕ) → i ≡ min (length vs) (length ws) → (values_contents f (values_of (drop i vs)) ≡ []) ⊎ (values_contents f (values_of (drop i ws)) ≡ [])
+values_end f vs ws i e = elim (cases_lt (length vs) (length ws)) [
+  | inl lt ↦ inl (values_none f vs i (omega arith))
+  | inr ge ↦ inr (values_none f ws i (omega arith))
+]
+
+pub values_step : (f : Writer) (vs ws : List Value) (i k : ℕ) (v w : Value) (behind told : Compared) → k ≡ suc i → i < length vs → i < length ws → v ≡ get_or vs i v → w ≡ get_or ws i w
+    → ((xs ys : List ℕ) → IsCompared behind xs ys → IsCompared told (f None v ++ xs) (f None w ++ ys))
+    → IsCompared behind (values_contents f (values_of (drop k vs))) (values_contents f (values_of (drop k ws))) → IsCompared told (values_contents f (values_of (drop i vs))) (values_contents f (values_of (drop i ws)))
+values_step f vs ws i k v w behind told up lt more e d step h =
+    let a = values_before f vs i v lt e in
+    let b = values_before f ws i w more d in
+    subst (λ (l : List ℕ). IsCompared told l (values_contents f (values_of (drop i ws)))) (sym a)
+    (subst (λ (l : List ℕ). IsCompared told (f None v ++ values_contents f (values_of (drop (suc i) vs))) l) (sym b)
+    (step (values_contents f (values_of (drop (suc i) vs))) (values_contents f (values_of (drop (suc i) ws)))
+    (subst (λ (n : ℕ). IsCompared behind (values_contents f (values_of (drop n vs))) (values_contents f (values_of (drop n ws)))) up h)))
+
+-- ---- behind the last
+
+pub end_compared : IsCompared END.told [] []
+end_compared = record { len = refl; other = refl; order = λ a b. refl }
+
+pub end_is : (xs ys : List ℕ) → xs ≡ [] → ys ≡ [] → IsRest END xs ys
+end_is xs ys e d =
+    subst (λ (l : List ℕ). IsRest END l ys) (sym e) (subst (λ (l : List ℕ). IsRest END [] l) (sym d) (record { told = end_compared; lead = refl; other = refl }))

@@ -314,8 +314,9 @@ fn risen_compared(
     let mut rest = END;
     let mut bound = RANKS;
     while bound > 0 {
-        let next = next_rank(table, of, parts, values, bound);
-        let next = next.max(next_rank(table, of, parts, others, bound));
+        let first = next_rank(table, of, parts, values, bound);
+        let second = next_rank(table, of, parts, others, bound);
+        let next = first.max(second);
         if next == 0 {
             break;
         }
@@ -373,9 +374,15 @@ fn ranked_before(
 {
     let here = has_rank(table, of, part, value, rank);
     let there = has_rank(table, of, part, other, rank);
-    let value = if here { value } else { &None };
-    let other = if there { other } else { &None };
-    part_before(table, of, part, value, other, behind)
+    if here && there {
+        part_before(table, of, part, value, other, behind)
+    } else if here {
+        part_before(table, of, part, value, &None, behind)
+    } else if there {
+        part_before(table, of, part, &None, other, behind)
+    } else {
+        Some(behind)
+    }
 }
 
 /// Whether a part stands whose tag has this rank.

@@ -1,14 +1,18 @@
-use Rattle.std.proofs.Common.{◌≡◌, ◌<◌, ◌≤◌, ◌-◌, length, drop, sym, ap, ◌∙◌, arith, Some}
+use Rattle.std.proofs.Common.{◌≡◌, ◌<◌, ◌≤◌, ◌-◌, ◌++◌, ℕ, List, [], true, false, length, drop, get_or, refl, sym, ap, ◌∙◌, subst, arith, Some, None, inl, inr}
 use Rattle.std.specs.Prelude.{slice_get}
 use Rattle.std.specs.Option.{option_copied}
 use Rattle.std.proofs.lemmas.Option.{slice_get_within}
 use Rattle.asn1_types.specs.declared.row.TypeRow.TheVariants.{Sequence, SequenceOf, SetOf, Set, Choice, Tagged}
-use Rattle.asn1_types.specs.ValueView.{parts_of}
-use Rattle.asn1_types.specs.Writing.{writes}
+use Rattle.asn1_types.specs.Value.{Value, MaybeValues}
+use Rattle.asn1_types.specs.ValueView.{parts_of, values_of}
+use Rattle.asn1_types.specs.Writing.{Writer, part_contents, parts_contents, values_contents, set_parts, of_rank, risen_parts, alternative_written, writes}
 use Rattle.asn1_types.specs.Tags.{ranks}
 use Rattle.asn1_types.proofs.Sound.{each_part, down_as}
 use Rattle.asn1_types.proofs.FitLaws.{each_slot}
-use Rattle.ber_spelling.proofs.WriteLaws.{writes_at}
+use Rattle.ber_spelling.proofs.WriteLaws.{parts_none, risen_begin, risen_end, writes_at}
+use Rattle.ber_writing.specs.Comparing.{IsCompared, IsRest}
+use Rattle.ber_writing.proofs.ComparedLaws.{apart_compared, not_equal}
+use Rattle.ber_writing.proofs.RestLaws.{leads_more, leads_decide, told_here, told_there, parts_step, parts_step_behind, risen_step, values_end, values_step, end_compared, end_is}
 use Rattle.ber_writing.proofs.compare.+comparing.Goals as goal
 
 pub values_compared-returns-then-has : goal.values_compared-returns-then-has
@@ -54,3 +58,138 @@ row_compared-values_compared-requires t c =
     let down = down_as c.args.table.now c.args.of.0 c.args.row.now (Tagged c.in-Tagged.class c.in-Tagged.number c.in-Tagged.explicit c.in-Tagged.inner) c.requires.sound c.requires.row c.in-Tagged.is in
     let below : c.in-Tagged.inner.0 < c.args.of.0 = down.0 in
     (omega arith, tt)
+
+pub explicit_compared-returns : goal.explicit_compared-returns
+explicit_compared-returns t c =
+    let f : Writer = writes c.args.table.now c.args.inner.0 in
+    c.whole.ensures true (f None c.args.a.now) (f None c.args.b.now) (apart_compared c.in_ok-contents.contents (f None c.args.a.now) (f None c.args.b.now) c.in_ok-contents.ensures)
+
+pub lists_compared-returns : goal.lists_compared-returns
+lists_compared-returns t c =
+    let f : Writer = writes c.args.table.now c.args.inner.0 in
+    rw (c.in_ok-values.ensures f, c.in_ok-others.ensures f) (c.whole.ensures true (values_contents f (values_of c.in_ok-values.values.now)) (values_contents f (values_of c.in_ok-others.others.now)) c.in_ok-contents.ensures)
+
+pub sequences_compared-returns : goal.sequences_compared-returns
+sequences_compared-returns t c =
+    let f : MaybeValues → List ℕ = parts_contents (writes c.args.table.now) c.args.parts.now in
+    rw (c.in_ok-values.ensures f, c.in_ok-others.ensures f) (c.whole.ensures true (f (parts_of c.in_ok-values.values.now)) (f (parts_of c.in_ok-others.others.now)) c.in_ok-contents.ensures)
+
+pub sets_compared-returns : goal.sets_compared-returns
+sets_compared-returns t c =
+    let f : MaybeValues → List ℕ = set_parts (writes c.args.table.now) c.args.parts.now in
+    rw (c.in_ok-values.ensures f, c.in_ok-others.ensures f) (c.whole.ensures true (f (parts_of c.in_ok-values.values.now)) (f (parts_of c.in_ok-others.others.now)) c.in_ok-contents.ensures)
+
+pub items_compared-loop-index-init : goal.items_compared-loop-index-init
+items_compared-loop-index-init t c =
+    let f : Writer = writes c.args.table.now c.args.inner.0 in
+    let i : ℕ = c.min-index.result in
+    record {
+      values = omega (arith, c.min-index.ensures);
+      others = omega (arith, c.min-index.ensures);
+      so_far = c.one_alone-told.ensures (values_contents f (values_of (drop i c.args.values.now))) (values_contents f (values_of (drop i c.args.others.now))) c.values_len.ensures c.values_len-2.ensures
+          (values_end f c.args.values.now c.args.others.now i c.min-index.ensures);
+    }
+
+pub items_compared-loop-index-preserved : goal.items_compared-loop-index-preserved
+items_compared-loop-index-preserved t c =
+    let f : Writer = writes c.args.table.now c.args.inner.0 in
+    let i : ℕ = c.loop-index.index - 1 in
+    record {
+      values = omega (arith, c.loop-index.invariant.values);
+      others = omega (arith, c.loop-index.invariant.others);
+      so_far = values_step f c.args.values.now c.args.others.now i c.loop-index.index c.index-values-index.result c.index-others-index.result c.loop-index.told c.then-told.result
+          (omega (arith, c.loop-index-test.true)) (omega (arith, c.loop-index-test.true, c.loop-index.invariant.values)) (omega (arith, c.loop-index-test.true, c.loop-index.invariant.others))
+          c.index-values-index.is c.index-others-index.is
+          (λ xs ys h. c.then-told.ensures (f None c.index-values-index.result) (f None c.index-others-index.result) xs ys c.in_ok-values_compared.ensures h) c.loop-index.invariant.so_far;
+    }
+
+pub parts_compared-loop-index-init : goal.parts_compared-loop-index-init
+parts_compared-loop-index-init t c =
+    let f = writes c.args.table.now in
+    record {
+      parts = omega arith;
+      values = omega arith;
+      others = omega arith;
+      so_far = end_is (parts_contents f (drop (length c.args.parts.now) c.args.parts.now) (parts_of (drop (length c.args.parts.now) c.args.values.now))) (parts_contents f (drop (length c.args.parts.now) c.args.parts.now) (parts_of (drop (length c.args.parts.now) c.args.others.now)))
+          (parts_none f c.args.parts.now c.args.values.now (length c.args.parts.now) (inl (omega arith))) (parts_none f c.args.parts.now c.args.others.now (length c.args.parts.now) (inl (omega arith)));
+    }
+
+pub parts_compared-part_before-rest-requires : goal.parts_compared-part_before-rest-requires
+parts_compared-part_before-rest-requires t c =
+    let within : c.loop-index.index - 1 < length c.args.parts.now = omega (arith, c.loop-index.invariant.parts, c.loop-index-test.true) in
+    let lt : c.index-parts-index.result.inner.0 < c.args.of.0 = each_part (λ m. m < c.args.of.0) c.args.parts.now (c.loop-index.index - 1) c.index-parts-index.result c.requires within c.index-parts-index.is in
+    (omega arith, lt)
+
+pub parts_compared-loop-index-preserved : goal.parts_compared-loop-index-preserved
+parts_compared-loop-index-preserved t c =
+    let f = writes c.args.table.now in
+    let i : ℕ = c.loop-index.index - 1 in
+    record {
+      parts = omega (arith, c.loop-index.invariant.parts);
+      values = c.loop-index.invariant.values;
+      others = c.loop-index.invariant.others;
+      so_far = parts_step f c.args.parts.now c.args.values.now c.args.others.now i c.loop-index.index c.index-parts-index.result c.index-values-index.result c.index-others-index.result c.loop-index.rest c.in_ok-rest.rest
+          (omega (arith, c.loop-index-test.true)) (omega (arith, c.loop-index-test.true, c.loop-index.invariant.parts)) (omega (arith, c.loop-index-test.true, c.loop-index.invariant.parts, c.loop-index.invariant.values)) (omega (arith, c.loop-index-test.true, c.loop-index.invariant.parts, c.loop-index.invariant.others))
+          c.index-parts-index.is c.index-values-index.is c.index-others-index.is c.in_ok-rest.ensures c.loop-index.invariant.so_far;
+    }
+
+pub rank_before-loop-index-init : goal.rank_before-loop-index-init
+rank_before-loop-index-init t c =
+    let f = of_rank c.args.rank (writes c.args.table.now) in
+    let n : ℕ = length c.args.parts.now in
+    record {
+      parts = omega arith;
+      so_far = λ xs ys h.
+          rw (parts_none f c.args.parts.now c.args.values.now n (inl (omega arith)), parts_none f c.args.parts.now c.args.others.now n (inl (omega arith))) h;
+    }
+
+pub rank_before-ranked_before-rest-requires : goal.rank_before-ranked_before-rest-requires
+rank_before-ranked_before-rest-requires t c =
+    let within : c.loop-index.index - 1 < length c.args.parts.now = omega (arith, c.loop-index.invariant.parts, c.loop-index-test.true) in
+    let lt : c.index-parts-index.result.inner.0 < c.args.of.0 = each_part (λ m. m < c.args.of.0) c.args.parts.now (c.loop-index.index - 1) c.index-parts-index.result c.requires.below within c.index-parts-index.is in
+    (omega arith, (lt, c.requires.row))
+
+pub rank_before-loop-index-preserved : goal.rank_before-loop-index-preserved
+rank_before-loop-index-preserved t c =
+    let f = of_rank c.args.rank (writes c.args.table.now) in
+    let i : ℕ = c.loop-index.index - 1 in
+    record {
+      parts = omega (arith, c.loop-index.invariant.parts);
+      so_far = λ xs ys h.
+          parts_step_behind f c.args.parts.now c.args.values.now c.args.others.now i c.loop-index.index c.index-parts-index.result c.index-values-index.result c.index-others-index.result c.loop-index.rest c.in_ok-rest.rest xs ys
+          (omega (arith, c.loop-index-test.true)) (omega (arith, c.loop-index-test.true, c.loop-index.invariant.parts)) (omega (arith, c.loop-index-test.true, c.loop-index.invariant.parts, c.requires.values)) (omega (arith, c.loop-index-test.true, c.loop-index.invariant.parts, c.requires.others))
+          c.index-parts-index.is c.index-values-index.is c.index-others-index.is c.in_ok-rest.ensures (c.loop-index.invariant.so_far xs ys h);
+    }
+
+pub risen_compared-loop-bound-init : goal.risen_compared-loop-bound-init
+risen_compared-loop-bound-init t c = record {
+  within = omega arith;
+  values = omega arith;
+  others = omega arith;
+  so_far = end_is (risen_parts (writes c.args.table.now) (ranks - ranks) ranks c.args.parts.now (parts_of c.args.values.now)) (risen_parts (writes c.args.table.now) (ranks - ranks) ranks c.args.parts.now (parts_of c.args.others.now))
+      (risen_begin (writes c.args.table.now) c.args.parts.now (parts_of c.args.values.now) ranks) (risen_begin (writes c.args.table.now) c.args.parts.now (parts_of c.args.others.now) ranks);
+}
+
+pub risen_compared-loop-bound-preserved : goal.risen_compared-loop-bound-preserved
+risen_compared-loop-bound-preserved t c =
+    let low : c.max-next.result - 1 < c.loop-bound.bound = omega (arith, c.max-next.ensures, c.next_rank-first.ensures.within, c.next_rank-second.ensures.within) in
+    record {
+      within = omega (arith, c.loop-bound.invariant.within);
+      values = c.loop-bound.invariant.values;
+      others = c.loop-bound.invariant.others;
+      so_far = risen_step (writes c.args.table.now) c.args.parts.now (parts_of c.args.values.now) (parts_of c.args.others.now) ranks c.loop-bound.bound (c.max-next.result - 1) c.loop-bound.rest c.in_ok-rest.rest low c.loop-bound.invariant.within
+          (λ k ge lt. c.next_rank-first.ensures.none k (omega (arith, c.max-next.ensures)) lt) (λ k ge lt. c.next_rank-second.ensures.none k (omega (arith, c.max-next.ensures)) lt)
+          c.in_ok-rest.ensures c.loop-bound.invariant.so_far;
+    }
+
+pub risen_compared-returns-after-loop-bound : goal.risen_compared-returns-after-loop-bound
+risen_compared-returns-after-loop-bound t c =
+    let a = risen_end (writes c.args.table.now) c.args.parts.now (parts_of c.args.values.now) c.loop-bound.bound c.loop-bound.invariant.within (λ k lt. absurd (omega (arith, c.loop-bound-test.false))) in
+    let b = risen_end (writes c.args.table.now) c.args.parts.now (parts_of c.args.others.now) c.loop-bound.bound c.loop-bound.invariant.within (λ k lt. absurd (omega (arith, c.loop-bound-test.false))) in
+    rw (← a, ← b) c.loop-bound.invariant.so_far.told
+
+pub risen_compared-returns-then-next-eq0 : goal.risen_compared-returns-then-next-eq0
+risen_compared-returns-then-next-eq0 t c =
+    let a = risen_end (writes c.args.table.now) c.args.parts.now (parts_of c.args.values.now) c.loop-bound.bound c.loop-bound.invariant.within (λ k lt. c.next_rank-first.ensures.none k (omega (arith, c.max-next.ensures)) lt) in
+    let b = risen_end (writes c.args.table.now) c.args.parts.now (parts_of c.args.others.now) c.loop-bound.bound c.loop-bound.invariant.within (λ k lt. c.next_rank-second.ensures.none k (omega (arith, c.max-next.ensures)) lt) in
+    rw (← a, ← b) c.loop-bound.invariant.so_far.told

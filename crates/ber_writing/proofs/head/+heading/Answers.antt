@@ -1,4 +1,4 @@
-use Rattle.std.proofs.Common.{◌≡◌, ◌<◌, sym, ap, ◌∙◌, arith, Some}
+use Rattle.std.proofs.Common.{◌≡◌, ◌<◌, [], sym, ap, ◌∙◌, arith, Some}
 use Rattle.std.specs.Prelude.{slice_get}
 use Rattle.std.specs.Option.{option_copied}
 use Rattle.asn1_types.specs.declared.row.TypeRow.TheVariants.{Choice, Tagged}
@@ -24,6 +24,9 @@ row_head-head_of-requires t c =
 
 pub alternative_head-head_of-requires : goal.alternative_head-head_of-requires
 alternative_head-head_of-requires t c =
-    let slot : slice_get c.args.alternatives.now c.in-Chosen.which ≡ Some c.in-Some.part.now = sym c.get.ensures ∙ ap option_copied c.in-Some.is in
-    let lt : c.in-Some.part.now.inner.0 < c.args.of.0 = each_slot (λ m. m < c.args.of.0) c.args.alternatives.now c.in-Chosen.which c.in-Some.part.now c.requires slot in
+    let slot : slice_get c.args.alternatives.now c.in_ok-which.which ≡ Some c.in_ok-part.part.now = sym c.get.ensures ∙ ap option_copied c.in_ok-part.was in
+    let lt : c.in_ok-part.part.now.inner.0 < c.args.of.0 = each_slot (λ m. m < c.args.of.0) c.args.alternatives.now c.in_ok-which.which c.in_ok-part.part.now c.requires slot in
     (omega arith, tt)
+
+pub row_head-returns-in-Null : goal.row_head-returns-in-Null
+row_head-returns-in-Null t c = rw c.in-Null.is (c.universal_head-in-Null.ensures [])
