@@ -10,7 +10,7 @@ use Rattle.asn1_types.specs.Writing.{Writer, saturated, identifier, part_content
 use Rattle.ber_spelling.proofs.WriteLaws.{parts_before, values_before, risen_next}
 use Rattle.ber_writing.specs.declared.pieces.Compared.{Compared}
 use Rattle.ber_writing.specs.declared.pieces.Rest.{Rest}
-use Rattle.ber_writing.specs.declared.TheConstants.{END}
+use Rattle.ber_writing.specs.declared.pieces.TheConstants.{END}
 use Rattle.ber_writing.specs.declared.head.Head.{Head}
 use Rattle.ber_writing.specs.declared.head.Lead.{Lead}
 use Rattle.ber_writing.specs.Comparing.{compared, Decides, IsCompared, IsApart, Leads, LeadsOr, IsRest}

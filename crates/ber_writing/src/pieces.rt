@@ -236,17 +236,14 @@ fn arcs_compared(a: &[u32], b: &[u32]) -> Option<Ordering>
     ensures { IfSome result (λ order. order ≡ compared (flat_map base_128 (subidentifiers a.now))
         (flat_map base_128 (subidentifiers b.now))) }
 {
-    let [root, second, arcs @ ..] = a else {
+    if a.len() < 2 || b.len() < 2 {
         return None;
-    };
-    let [other_root, other_second, others @ ..] = b else {
-        return None;
-    };
+    }
     let first = digits_compared(
-        40 * *root as u64 + *second as u64,
-        40 * *other_root as u64 + *other_second as u64,
+        40 * a[0] as u64 + a[1] as u64,
+        40 * b[0] as u64 + b[1] as u64,
     );
-    Some(first.then(each_compared(arcs, others)))
+    Some(first.then(each_compared(&a[2..], &b[2..])))
 }
 
 /// How numbers in base 128, one behind the other, compare.
