@@ -2,7 +2,8 @@
 use Rattle.std.proofs.Common.{◌≡◌, ◌≢◌, ℕ, zero, suc, ◌+◌, ◌-◌, ◌*◌, ◌<◌, ◌≤◌, ◌^◌, Bool, true, false, cond, ◌||◌, ◌&&◌, List, [], ◌∷◌, ◌++◌, length, get_or, take, drop, min, Option, Some, None, refl, sym, ap, ◌∙◌, subst, arith, append_assoc, length-append, ◌⊎◌, inl, inr}
 use Rattle.std.specs.Prelude.{nat_lt, nat_le, nat_eq, if◌then◌else◌}
 use Rattle.std.specs.List.{flat_map}
-use Rattle.std.proofs.Math.Seq.{take-append_seam}
+use Rattle.std.proofs.Math.Seq.{take-append_seam, take-length}
+use Rattle.std.proofs.lemmas.List.{length-drop}
 use Rattle.std.specs.Ordering.{ordering_then, nat_cmp, is_eq, is_lt}
 use Rattle.std.specs.declared.cmp.Ordering.{Ordering}
 use Rattle.std.specs.declared.cmp.Ordering.TheVariants.{Less, Equal, Greater}
@@ -265,15 +266,19 @@ numbers_before ns ms i k n m o up lt more e d h =
     pieces (compared (base_128 n) (base_128 m)) o (base_128 n) (base_128 m) (flat_map base_128 (drop k ns)) (flat_map base_128 (drop k ms)) (base_128_apart n m) h
     ∙ rw up (λ j. compared (sym (each_before ns i n lt e) j) (sym (each_before ms i m more d) j))
 
+-- all behind a place
+pub tail_is : {A : Type 0} (xs : List A) (i : ℕ) → take (length xs - i) (drop i xs) ≡ drop i xs
+tail_is xs i = rw (← length-drop i xs) (take-length (drop i xs))
+
 -- the first two arcs are one number
-pub arcs_told : (a b : List ℕ) (o p q : Ordering) → 2 ≤ length a → 2 ≤ length b → o ≡ compared (base_128 (40 * get_or a 0 0 + get_or a 1 0)) (base_128 (40 * get_or b 0 0 + get_or b 1 0)) → p ≡ compared (flat_map base_128 (drop 2 a)) (flat_map base_128 (drop 2 b))
+pub arcs_told : (a b : List ℕ) (o p q : Ordering) → 2 ≤ length a → 2 ≤ length b → o ≡ compared (base_128 (40 * get_or a 0 0 + get_or a 1 0)) (base_128 (40 * get_or b 0 0 + get_or b 1 0)) → p ≡ compared (flat_map base_128 (take (length a - 2) (drop 2 a))) (flat_map base_128 (take (length b - 2) (drop 2 b)))
     → q ≡ ordering_then o p → q ≡ compared (flat_map base_128 (subidentifiers a)) (flat_map base_128 (subidentifiers b))
 arcs_told [] b o p q l m e f g = absurd (omega arith)
 arcs_told (r ∷ []) b o p q l m e f g = absurd (omega arith)
 arcs_told (r ∷ s ∷ ns) [] o p q l m e f g = absurd (omega arith)
 arcs_told (r ∷ s ∷ ns) (t ∷ []) o p q l m e f g = absurd (omega arith)
 arcs_told (r ∷ s ∷ ns) (t ∷ u ∷ ms) o p q l m e f g =
-    g ∙ (λ i. ordering_then (e i) (f i))
+    g ∙ (λ i. ordering_then (e i) ((f ∙ (λ j. compared (flat_map base_128 (tail_is (r ∷ s ∷ ns) 2 j)) (flat_map base_128 (tail_is (t ∷ u ∷ ms) 2 j)))) i))
     ∙ pieces (compared (base_128 (40 * r + s)) (base_128 (40 * t + u))) (compared (flat_map base_128 ns) (flat_map base_128 ms)) (base_128 (40 * r + s)) (base_128 (40 * t + u)) (flat_map base_128 ns) (flat_map base_128 ms) (base_128_apart (40 * r + s) (40 * t + u)) refl
 
 -- ---- as the code has it

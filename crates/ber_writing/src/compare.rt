@@ -318,7 +318,7 @@ fn risen_compared(
         let second = next_rank(table, of, parts, others, bound);
         let next = first.max(second);
         if next == 0 {
-            break;
+            return Some(rest.told);
         }
         bound = next - 1;
         rest = rank_before(table, of, parts, values, others, bound, rest)?;

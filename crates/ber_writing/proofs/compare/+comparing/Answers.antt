@@ -5,14 +5,14 @@ use Rattle.std.proofs.lemmas.Option.{slice_get_within}
 use Rattle.asn1_types.specs.declared.row.TypeRow.TheVariants.{Sequence, SequenceOf, SetOf, Set, Choice, Tagged}
 use Rattle.asn1_types.specs.Value.{Value, MaybeValues}
 use Rattle.asn1_types.specs.ValueView.{parts_of, values_of}
-use Rattle.asn1_types.specs.Writing.{Writer, part_contents, parts_contents, values_contents, set_parts, of_rank, risen_parts, alternative_written, writes}
+use Rattle.asn1_types.specs.Writing.{Writer, saturated, parts_contents, values_contents, set_parts, of_rank, risen_parts, alternative_written, choice_written, writes}
 use Rattle.asn1_types.specs.Tags.{ranks}
 use Rattle.asn1_types.proofs.Sound.{each_part, down_as}
 use Rattle.asn1_types.proofs.FitLaws.{each_slot}
 use Rattle.ber_spelling.proofs.WriteLaws.{parts_none, risen_begin, risen_end, writes_at}
 use Rattle.ber_writing.specs.Comparing.{IsCompared, IsRest}
-use Rattle.ber_writing.proofs.ComparedLaws.{apart_compared, not_equal}
-use Rattle.ber_writing.proofs.RestLaws.{leads_more, leads_decide, told_here, told_there, parts_step, parts_step_behind, risen_step, values_end, values_step, end_compared, end_is}
+use Rattle.ber_writing.proofs.ComparedLaws.{tail_is, apart_compared}
+use Rattle.ber_writing.proofs.RestLaws.{parts_step, parts_step_behind, risen_step, values_end, values_step, end_compared, end_is}
 use Rattle.ber_writing.proofs.compare.+comparing.Goals as goal
 
 pub values_compared-returns-then-has : goal.values_compared-returns-then-has
@@ -86,7 +86,9 @@ items_compared-loop-index-init t c =
     record {
       values = omega (arith, c.min-index.ensures);
       others = omega (arith, c.min-index.ensures);
-      so_far = c.one_alone-told.ensures (values_contents f (values_of (drop i c.args.values.now))) (values_contents f (values_of (drop i c.args.others.now))) c.values_len.ensures c.values_len-2.ensures
+      so_far = c.one_alone-told.ensures (values_contents f (values_of (drop i c.args.values.now))) (values_contents f (values_of (drop i c.args.others.now)))
+          (c.values_len.ensures ∙ ap (λ (vs : List Value). saturated (length (values_contents f (values_of vs)))) (tail_is c.args.values.now i))
+          (c.values_len-2.ensures ∙ ap (λ (vs : List Value). saturated (length (values_contents f (values_of vs)))) (tail_is c.args.others.now i))
           (values_end f c.args.values.now c.args.others.now i c.min-index.ensures);
     }
 
@@ -114,8 +116,8 @@ parts_compared-loop-index-init t c =
           (parts_none f c.args.parts.now c.args.values.now (length c.args.parts.now) (inl (omega arith))) (parts_none f c.args.parts.now c.args.others.now (length c.args.parts.now) (inl (omega arith)));
     }
 
-pub parts_compared-part_before-rest-requires : goal.parts_compared-part_before-rest-requires
-parts_compared-part_before-rest-requires t c =
+pub parts_compared-part_before-requires : goal.parts_compared-part_before-requires
+parts_compared-part_before-requires t c =
     let within : c.loop-index.index - 1 < length c.args.parts.now = omega (arith, c.loop-index.invariant.parts, c.loop-index-test.true) in
     let lt : c.index-parts-index.result.inner.0 < c.args.of.0 = each_part (λ m. m < c.args.of.0) c.args.parts.now (c.loop-index.index - 1) c.index-parts-index.result c.requires within c.index-parts-index.is in
     (omega arith, lt)
@@ -143,8 +145,8 @@ rank_before-loop-index-init t c =
           rw (parts_none f c.args.parts.now c.args.values.now n (inl (omega arith)), parts_none f c.args.parts.now c.args.others.now n (inl (omega arith))) h;
     }
 
-pub rank_before-ranked_before-rest-requires : goal.rank_before-ranked_before-rest-requires
-rank_before-ranked_before-rest-requires t c =
+pub rank_before-ranked_before-requires : goal.rank_before-ranked_before-requires
+rank_before-ranked_before-requires t c =
     let within : c.loop-index.index - 1 < length c.args.parts.now = omega (arith, c.loop-index.invariant.parts, c.loop-index-test.true) in
     let lt : c.index-parts-index.result.inner.0 < c.args.of.0 = each_part (λ m. m < c.args.of.0) c.args.parts.now (c.loop-index.index - 1) c.index-parts-index.result c.requires.below within c.index-parts-index.is in
     (omega arith, (lt, c.requires.row))
@@ -182,8 +184,8 @@ risen_compared-loop-bound-preserved t c =
           c.in_ok-rest.ensures c.loop-bound.invariant.so_far;
     }
 
-pub risen_compared-returns-after-loop-bound : goal.risen_compared-returns-after-loop-bound
-risen_compared-returns-after-loop-bound t c =
+pub risen_compared-returns : goal.risen_compared-returns
+risen_compared-returns t c =
     let a = risen_end (writes c.args.table.now) c.args.parts.now (parts_of c.args.values.now) c.loop-bound.bound c.loop-bound.invariant.within (λ k lt. absurd (omega (arith, c.loop-bound-test.false))) in
     let b = risen_end (writes c.args.table.now) c.args.parts.now (parts_of c.args.others.now) c.loop-bound.bound c.loop-bound.invariant.within (λ k lt. absurd (omega (arith, c.loop-bound-test.false))) in
     rw (← a, ← b) c.loop-bound.invariant.so_far.told
@@ -193,3 +195,32 @@ risen_compared-returns-then-next-eq0 t c =
     let a = risen_end (writes c.args.table.now) c.args.parts.now (parts_of c.args.values.now) c.loop-bound.bound c.loop-bound.invariant.within (λ k lt. c.next_rank-first.ensures.none k (omega (arith, c.max-next.ensures)) lt) in
     let b = risen_end (writes c.args.table.now) c.args.parts.now (parts_of c.args.others.now) c.loop-bound.bound c.loop-bound.invariant.within (λ k lt. c.next_rank-second.ensures.none k (omega (arith, c.max-next.ensures)) lt) in
     rw (← a, ← b) c.loop-bound.invariant.so_far.told
+
+pub rank_before-returns : goal.rank_before-returns
+rank_before-returns t c = λ xs ys h.
+    let f = of_rank c.args.rank (writes c.args.table.now) in
+    let none : c.loop-index.index ≡ 0 = omega (arith, c.loop-index-test.false) in
+    subst (λ (n : ℕ). IsRest c.loop-index.rest (parts_contents f (drop n c.args.parts.now) (parts_of (drop n c.args.values.now)) ++ xs) (parts_contents f (drop n c.args.parts.now) (parts_of (drop n c.args.others.now)) ++ ys)) none
+    (c.loop-index.invariant.so_far xs ys h)
+
+pub choices_compared-returns-in-Some : goal.choices_compared-returns-in-Some
+choices_compared-returns-in-Some t c =
+    let f : Value → List ℕ = choice_written (λ which. alternative_written (writes c.args.table.now) (slice_get c.args.alternatives.now which)) in
+    rw c.in-Some.is (c.whole.ensures true (f c.args.a.now) (f c.args.b.now) (apart_compared c.in_ok-inside.inside (f c.args.a.now) (f c.args.b.now) c.in_ok-inside.ensures))
+
+pub part_before-returns-in_ok-piece-in-Some-Some : goal.part_before-returns-in_ok-piece-in-Some-Some
+part_before-returns-in_ok-piece-in-Some-Some t c = λ xs ys h.
+    rw (c.in-Some-Some.is-0, c.in-Some-Some.is-1) (record {
+      told = c.then.ensures _ _ xs ys c.in_ok-piece.ensures h.told;
+      lead = c.lead_of.ensures xs;
+      other = c.lead_of-2.ensures ys;
+    })
+
+pub alternatives_compared-values_compared-requires : goal.alternatives_compared-values_compared-requires
+alternatives_compared-values_compared-requires t c =
+    let slot : slice_get c.args.alternatives.now c.in_ok-which.which ≡ Some c.in_ok-part.part.now = sym c.get.ensures ∙ ap option_copied c.in_ok-part.was in
+    let lt : c.in_ok-part.part.now.inner.0 < c.args.of.0 = each_slot (λ m. m < c.args.of.0) c.args.alternatives.now c.in_ok-which.which c.in_ok-part.part.now c.requires slot in
+    (omega arith, tt)
+
+pub row_compared-returns-in-Null : goal.row_compared-returns-in-Null
+row_compared-returns-in-Null t c = rw c.in-Null.is (rw c.tag_or-in-Null.ensures at (c.whole.ensures false [] [] end_compared))
