@@ -211,9 +211,9 @@ choices_compared-returns-in-Some t c =
 pub part_before-returns-in_ok-piece-in-Some-Some : goal.part_before-returns-in_ok-piece-in-Some-Some
 part_before-returns-in_ok-piece-in-Some-Some t c = λ xs ys h.
     rw (c.in-Some-Some.is-0, c.in-Some-Some.is-1) (record {
-      told = c.then.ensures _ _ xs ys c.in_ok-piece.ensures h.told;
+      told = c.then.ensures _ _ xs ys c.in_ok-piece-in-Some-Some.ensures h.told;
       lead = c.lead_of.ensures xs;
-      other = c.lead_of-2.ensures ys;
+      other = c.lead_of-in-Some-Some.ensures ys;
     })
 
 pub alternatives_compared-values_compared-requires : goal.alternatives_compared-values_compared-requires
