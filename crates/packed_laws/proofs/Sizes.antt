@@ -130,7 +130,7 @@ module _ (f : ℕ → Value → Bool) (w : ℕ → Writer) (s : ℕ → Value �
   part-sized : (p : Part) (v : Option Value) → part_fits f p v ≡ true → length (part_written w p v) ≡ sizes.part_size s p v
   part-sized p None h = go (may_be_absent p)
     where
-      go : (b : Bool) → length (if b then 0 ∷ [] else []) ≡ (if b then 1 else 0)
+      go : (b : Bool) → length {A = ℕ} (if b then 0 ∷ [] else []) ≡ (if b then 1 else 0)
       go true = refl
       go false = refl
   part-sized p (Some v) h = go (may_be_absent p)
