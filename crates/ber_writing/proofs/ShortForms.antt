@@ -258,3 +258,11 @@ fits_told rows sound n v true b e f =
     let le : length (writes rows n None v) ≤ 4294967295 = leb-true (length (writes rows n None v)) 4294967295 (sym e) in
     let same : has_short_form rows n v ≡ has_form rows n v = agree rows sound (suc n) n (omega arith) None v (omega arith) in
     ap (λ (x : Bool). b && x) same ∙ and_turns b (has_form rows n v) ∙ (λ i. has_form rows n v && (e i && f i))
+
+-- as the code has it: short spellings and short forms
+pub fits_so : (rows : List TypeRow) → IsSound rows → (n : ℕ) (v : Value) (s : Bool) → s ≡ (is_short (length (written rows n v)) && is_short (packed_size rows n v)) → (s && has_short_form rows n v) ≡ fits rows n v
+fits_so rows sound n v s e = ap (λ (x : Bool). x && has_short_form rows n v) e ∙ fits_told rows sound n v (is_short (length (written rows n v))) (is_short (packed_size rows n v)) refl refl
+
+pub fits_past : (rows : List TypeRow) (n : ℕ) (v : Value) → length rows ≤ n → false ≡ fits rows n v
+unfolding fits
+fits_past rows n v le = ap (λ (x : Bool). x && (is_short (length (written rows n v)) && is_short (packed_size rows n v))) (form_past rows n v le)

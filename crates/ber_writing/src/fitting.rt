@@ -7,7 +7,8 @@ ghost use Rattle.asn1_types.specs.Rows.{rows_of_parts};
 ghost use Rattle.asn1_types.specs.Table.{IsSound};
 ghost use Rattle.asn1_types.specs.ValueView.{parts_of, values_of};
 ghost use Rattle.asn1_types.specs.Writing.{written};
-ghost use Rattle.asn1_types.specs.Fits.{has_32_bits, boolean_fits, integer_fits, enumerated_fits, null_fits, object_id_fits, octets_fit, bits_fit, text_fits, part_fits, parts_fit, sequence_fits, values_fit, list_fits, alternative_fits, choice_fits, any_fits, fits};
+ghost use Rattle.asn1_types.specs.Fits.{has_32_bits, boolean_fits, integer_fits, enumerated_fits, null_fits, object_id_fits, octets_fit, bits_fit, text_fits, part_fits, parts_fit, sequence_fits, values_fit, list_fits, alternative_fits, choice_fits, any_fits, is_short, fits};
+ghost use Rattle.asn1_types.specs.PackedSize.{packed_size};
 ghost use Rattle.ber_writing.specs.Short.{short_by, has_short_form};
 
 use crate::length::ber_len;
@@ -120,8 +121,18 @@ fn any_fits(value: &Val) -> bool
 pub fn fits(table: &TypeTable, of: TypeId, value: &Val) -> bool
     ensures { result ≡ fits table.now of.0 value.now }
 {
-    let is_short = ber_len(table, of, value) <= MOST && packed_size(table, of, value) <= MOST;
-    is_short && has_form(table, of, value)
+    if table.len() <= of.0 as usize {
+        return false;
+    }
+    are_short(table, of, value) && has_form(table, of, value)
+}
+
+/// Whether the DER spelling of a value and its packed one have at most 4,294,967,295 octets each.
+fn are_short(table: &TypeTable, of: TypeId, value: &Val) -> bool
+    ensures { result ≡ (is_short (length (written table.now of.0 value.now))
+        && is_short (packed_size table.now of.0 value.now)) }
+{
+    ber_len(table, of, value) <= MOST && packed_size(table, of, value) <= MOST
 }
 
 /// Whether a value has the form of a row, and items of a SET OF have short spellings.
