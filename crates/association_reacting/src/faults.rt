@@ -38,7 +38,6 @@ pub fn fails_on_accepted(
 }
 
 /// What is wrong above the session, of any unit but the end of an activity.
-#[tactic(auto, using(crate::proofs::Reactions::no_fault))]
 fn fault_above(basis: &Ground<'_>, body: &Body, word: &Word) -> Result<Option<Fault>, NoMemory>
     requires { is_end_word (seen_word word.now) ≡ false }
     ensures { IfOk result (λ fault. option_map seen_fault fault ≡ fault_above (base_in basis.now)

@@ -8,6 +8,6 @@ mod faults;
 mod reacting;
 mod taking;
 
-pub use faults::{fails_on_accepted, has_connection};
 pub use ending::react_to_end;
+pub use faults::{fails_on_accepted, has_connection};
 pub use reacting::react;

@@ -18,7 +18,6 @@ use association_words::{Fault, Word};
 use osi_base::{NoMemory, SetList};
 
 /// Takes a unit in which nothing is faulty.
-#[tactic(auto, using(crate::proofs::Reactions::nothing_later))]
 fn take_word(basis: &Ground<'_>, body: &mut Body, word: Word) -> Result<Taken, NoMemory>
     requires right { word_fault (base_in basis.now) (seen body.old) (seen_word word) ≡ None }
     requires other { is_end_word (seen_word word) ≡ false }

@@ -1,11 +1,28 @@
-use Rattle.std.proofs.Common.{sym, subst, ◌≡◌}
+use Rattle.std.proofs.Common.{None, false, not, sym, subst, ◌≡◌}
 use Rattle.std.specs.Prelude.{IfOk, OnOk}
-use Rattle.end_rules.specs.Reacting.{after_word, answers_to_word, shown_of_word}
+use Rattle.end_rules.specs.Messages.{unit_of, OfAssociation}
+use Rattle.end_rules.specs.InPlace.{is_in_place}
+use Rattle.end_rules.specs.Faults.{session_fault}
+use Rattle.end_rules.specs.TakesAssociation.{association_fault}
+use Rattle.end_rules.specs.Reacting.{word_fault, after_word, answers_to_word, shown_of_word}
 use Rattle.association_words.specs.declared.words.Word.{Word}
-use Rattle.association_words.specs.Seen.{seen_word}
+use Rattle.association_words.specs.Seen.{seen_association, seen_word}
 use Rattle.association_state.specs.Seen.{base_in, seen}
 use Rattle.association_answers.specs.Reacted.{TakenAs}
+use Rattle.association_reacting.specs.Ends.{is_end_word}
+use Rattle.association_reacting.proofs.Reactions.{nothing_later}
 use Rattle.association_reacting.proofs.taking.take_word.Goals as goal
+
+pub take_association-requires : goal.take_association-requires
+take_association-requires c =
+    let b = base_in c.args.basis.now in
+    let old = seen c.args.body.now in
+    let word = seen_association c.in-OfAssociation.word in
+    nothing_later (not (is_in_place b old (unit_of (OfAssociation word)))) session_fault (association_fault b old word)
+    (subst (λ (w : Word). word_fault b old (seen_word w) ≡ None) c.in-OfAssociation.is c.requires.right)
+
+pub take_activity-requires : goal.take_activity-requires
+take_activity-requires c = subst (λ (w : Word). is_end_word (seen_word w) ≡ false) c.in-OfActivities.is c.requires.other
 
 pub returns-in-OfAssociation-clause-body : goal.returns-in-OfAssociation-clause-body
 returns-in-OfAssociation-clause-body c =
