@@ -10,12 +10,11 @@ use Rattle.osi_base.specs.declared.acse_word.Diagnostic.TheVariants as diagnosti
 use Rattle.osi_base.specs.declared.acse_word.Acse as apdus
 use Rattle.osi_base.specs.declared.acse_word.Acse.TheVariants as apdu
 use Rattle.asn1_types.specs.Rows.{along}
-use Rattle.asn1_types.specs.Fits.{fits, fits_by, nothing_fits, values_fit, is_number, integer_fits, bits_fit, object_id_fits}
+use Rattle.asn1_types.specs.Fits.{has_form, form_by, nothing_fits, values_fit, is_number, integer_fits, bits_fit, object_id_fits}
 use Rattle.asn1_types.specs.Value.{Value, integer, bits, object_id}
 use Rattle.asn1_types.specs.ValueView.{values_of}
 use Rattle.asn1_types.specs.Whole.{is_whole}
 use Rattle.asn1_types.specs.Writing.{written}
-use Rattle.asn1_types.specs.Rising.{is_short}
 use Rattle.ber_spelling.specs.Octets.{AreOctets}
 use Rattle.ber_spelling.proofs.Wholes.{whole_is}
 use Rattle.ber_spelling.proofs.Written.{written_spelled}
@@ -71,15 +70,15 @@ below_fits : (high n : ℕ) → high < 256 → nat_lt n (high + 1) ≡ true → 
 below_fits high n small h = let lt = ltb-true n (high + 1) h in natural_fits high n (omega arith) (omega arith)
 
 -- items of user information, as far down the table as they stand in an APDU
-users_fit : (es : List externals.External) → list_all can_carry es ≡ true → values_fit (along nothing_fits (fits_by is_short (written acse_rows)) acse_rows 26 9) (values_of (map external_value es)) ≡ true
+users_fit : (es : List externals.External) → list_all can_carry es ≡ true → values_fit (along nothing_fits (form_by (written acse_rows)) acse_rows 26 9) (values_of (map external_value es)) ≡ true
 users_fit [] h = refl
 users_fit (e ∷ es) h =
     let p = and_parts (can_carry e) (list_all can_carry es) h in
     let q = and_parts (is_id e.id) (is_whole e.value) p.0 in
     rw (id_fits e.id q.0, q.1, users_fit es p.1) refl
 
-pub writable_fits : (a : apdus.Acse) → can_write a ≡ true → fits acse_rows acse_row (value_of a) ≡ true
-unfolding fits
+pub writable_fits : (a : apdus.Acse) → can_write a ≡ true → has_form acse_rows acse_row (value_of a) ≡ true
+unfolding has_form
 writable_fits (apdu.AssociateRequest None context []) h =
     let p = and_parts (true && object_id_fits (object_id context)) (list_all can_carry []) h in
     let q = and_parts true (object_id_fits (object_id context)) p.0 in

@@ -7,7 +7,7 @@ use Rattle.osi_base.specs.declared.words.ProblemKind.{ProblemKind}
 use Rattle.osi_base.specs.declared.words.ProblemKind.TheVariants as kinds
 use Rattle.asn1_types.specs.Value.{integer, object_id}
 use Rattle.asn1_types.specs.Whole.{is_whole}
-use Rattle.asn1_types.specs.Fits.{is_number, integer_fits, object_id_fits, fits}
+use Rattle.asn1_types.specs.Fits.{is_number, integer_fits, object_id_fits, has_form}
 use Rattle.packed_codec.specs.Writing.{items}
 use Rattle.packed_codec.specs.Laws.{packs}
 use Rattle.stub_tables.specs.declared.operation.Code.{Code}
@@ -77,8 +77,8 @@ three a b c e f g = both a (b && c) e (both b c f g)
 four : (a b c d : Bool) → a ≡ true → b ≡ true → c ≡ true → d ≡ true → (a && (b && (c && d))) ≡ true
 four a b c d e f g h = both a (b && (c && d)) e (three b c d f g h)
 
-invoke_fits : (id : ℤ) (l : Option ℤ) (c : Code) (os : Option (List ℕ)) → id_test id ≡ true → is_identifier_or_none l ≡ true → code_test c ≡ true → AreWhole os → fits head_rows apdu_row (ber_value (invoke id l c os)) ≡ true
-unfolding fits
+invoke_fits : (id : ℤ) (l : Option ℤ) (c : Code) (os : Option (List ℕ)) → id_test id ≡ true → is_identifier_or_none l ≡ true → code_test c ≡ true → AreWhole os → has_form head_rows apdu_row (ber_value (invoke id l c os)) ≡ true
+unfolding has_form
 invoke_fits id None (Local n) None i l c w = three (id_test id) (code_test (Local n)) true i c refl
 invoke_fits id None (Global arcs) None i l c w = three (id_test id) (code_test (Global arcs)) true i c refl
 invoke_fits id None (Local n) (Some os) i l c w = three (id_test id) (code_test (Local n)) (any_test (Some os)) i c (any_passes os w)
@@ -88,26 +88,26 @@ invoke_fits id (Some k) (Global arcs) None i l c w = four (id_test id) (id_test 
 invoke_fits id (Some k) (Local n) (Some os) i l c w = four (id_test id) (id_test k) (code_test (Local n)) (any_test (Some os)) i (identifier_fits k l) c (any_passes os w)
 invoke_fits id (Some k) (Global arcs) (Some os) i l c w = four (id_test id) (id_test k) (code_test (Global arcs)) (any_test (Some os)) i (identifier_fits k l) c (any_passes os w)
 
-error_fits : (id : ℤ) (c : Code) (os : Option (List ℕ)) → id_test id ≡ true → code_test c ≡ true → AreWhole os → fits head_rows apdu_row (ber_value (error id c os)) ≡ true
-unfolding fits
+error_fits : (id : ℤ) (c : Code) (os : Option (List ℕ)) → id_test id ≡ true → code_test c ≡ true → AreWhole os → has_form head_rows apdu_row (ber_value (error id c os)) ≡ true
+unfolding has_form
 error_fits id (Local n) None i c w = three (id_test id) (code_test (Local n)) true i c refl
 error_fits id (Global arcs) None i c w = three (id_test id) (code_test (Global arcs)) true i c refl
 error_fits id (Local n) (Some os) i c w = three (id_test id) (code_test (Local n)) (any_test (Some os)) i c (any_passes os w)
 error_fits id (Global arcs) (Some os) i c w = three (id_test id) (code_test (Global arcs)) (any_test (Some os)) i c (any_passes os w)
 
-none_fits : (id : ℤ) → id_test id ≡ true → fits head_rows apdu_row (ber_value (result id None)) ≡ true
-unfolding fits
+none_fits : (id : ℤ) → id_test id ≡ true → has_form head_rows apdu_row (ber_value (result id None)) ≡ true
+unfolding has_form
 none_fits id i = both (id_test id) true i refl
 
-result_fits : (id : ℤ) (c : Code) (os : List ℕ) → id_test id ≡ true → code_test c ≡ true → is_whole os ≡ true → fits head_rows apdu_row (ber_value (result id (Some (record { code = c; octets = os })))) ≡ true
-unfolding fits
+result_fits : (id : ℤ) (c : Code) (os : List ℕ) → id_test id ≡ true → code_test c ≡ true → is_whole os ≡ true → has_form head_rows apdu_row (ber_value (result id (Some (record { code = c; octets = os })))) ≡ true
+unfolding has_form
 result_fits id (Local n) os i c w = three (id_test id) (code_test (Local n) && any_test (Some os)) true i (both (code_test (Local n)) (any_test (Some os)) c (any_passes os w)) refl
 result_fits id (Global arcs) os i c w = three (id_test id) (code_test (Global arcs) && any_test (Some os)) true i (both (code_test (Global arcs)) (any_test (Some os)) c (any_passes os w)) refl
 
 -- of a reject, in both
 module _ (number : ℤ) (n : number_test number ≡ true) where
-  reject_fits : (id : Option ℤ) (k : ProblemKind) → is_identifier_or_none id ≡ true → fits head_rows apdu_row (ber_value (reject id (record { kind = k; number = number }))) ≡ true
-  unfolding fits
+  reject_fits : (id : Option ℤ) (k : ProblemKind) → is_identifier_or_none id ≡ true → has_form head_rows apdu_row (ber_value (reject id (record { kind = k; number = number }))) ≡ true
+  unfolding has_form
   reject_fits None kinds.General i = both (number_test number) true n refl
   reject_fits None kinds.Invoke i = both (number_test number) true n refl
   reject_fits None kinds.Result i = both (number_test number) true n refl
@@ -170,7 +170,7 @@ HoldsWhole (result id (Some o)) = is_whole o.octets ≡ true
 HoldsWhole (error id c os) = AreWhole os
 HoldsWhole (reject id p) = Unit {0}
 
-pub head_fits : (h : Head) → HasNumbers h → HoldsWhole h → fits head_rows apdu_row (ber_value h) ≡ true
+pub head_fits : (h : Head) → HasNumbers h → HoldsWhole h → has_form head_rows apdu_row (ber_value h) ≡ true
 head_fits (invoke id l c os) r w = invoke_fits id l c os (identifier_fits id r.0) r.1 (code_passes c r.2) w
 head_fits (result id None) r w = none_fits id (identifier_fits id r)
 head_fits (result id (Some o)) r w = result_fits id o.code o.octets (identifier_fits id r.0) (code_passes o.code r.1) w

@@ -4,7 +4,7 @@ use Rattle.std.specs.Prelude.{slice_get, nat_lt}
 use Rattle.std.specs.List.{AllByRecursion, list_all}
 use Rattle.std.specs.Str.{IsUtf8, is_utf8}
 use Rattle.std.proofs.lemmas.Str.{IsUtf8-from_is_utf8}
-use Rattle.std.proofs.lemmas.Bool.{lt-ltb, ltb-true, ltb-false}
+use Rattle.std.proofs.lemmas.Bool.{lt-ltb, ltb-true, ltb-false, and_parts}
 use Rattle.asn1_types.specs.declared.row.Part.{Part}
 use Rattle.asn1_types.specs.declared.row.TypeRow.{TypeRow}
 use Rattle.asn1_types.specs.declared.row.TypeRow.TheVariants.{Boolean, Integer, Enumerated, Null, OctetString, BitString, ObjectId, Text, Sequence, Set, SequenceOf, SetOf, Choice, Tagged, Any}
@@ -13,9 +13,10 @@ use Rattle.asn1_types.specs.Defaults.{may_be_absent, is_default}
 use Rattle.asn1_types.specs.Table.{IsSound}
 use Rattle.asn1_types.specs.Value.{Value, MaybeValues, no_parts, absent, present}
 use Rattle.asn1_types.specs.ValueView.{parts_of}
-use Rattle.asn1_types.specs.Fits.{has_32_bits, is_octet, part_fits, parts_fit, sequence_fits, list_fits, alternative_fits, choice_fits, fits_by, nothing_fits, fits}
+use Rattle.asn1_types.specs.Fits.{has_32_bits, is_octet, part_fits, parts_fit, sequence_fits, list_fits, alternative_fits, choice_fits, form_by, nothing_fits, has_form, is_short, fits}
 use Rattle.asn1_types.specs.Writing.{written}
-use Rattle.asn1_types.specs.Rising.{is_short, set_rises}
+use Rattle.asn1_types.specs.Rising.{set_rises}
+use Rattle.asn1_types.specs.PackedSize.{packed_size}
 use Rattle.asn1_types.proofs.Along.{settled}
 use Rattle.asn1_types.proofs.Sound.{is_down}
 
@@ -33,40 +34,45 @@ module _ (f g : ℕ → Value → Bool) where
   alternative_same (p ∷ ps) h zero = h.0
   alternative_same (p ∷ ps) h (suc which) = alternative_same ps h.1 which
 
-pub fits_cong : (short : ℕ → Bool) (spell : ℕ → Value → List ℕ) (row : TypeRow) (f g : ℕ → Value → Bool) → AllByRecursion (λ m. f m ≡ g m) (names_of row) → fits_by short spell f row ≡ fits_by short spell g row
-fits_cong short spell Boolean f g h = refl
-fits_cong short spell (Integer low high) f g h = refl
-fits_cong short spell (Enumerated items) f g h = refl
-fits_cong short spell Null f g h = refl
-fits_cong short spell (OctetString most) f g h = refl
-fits_cong short spell BitString f g h = refl
-fits_cong short spell ObjectId f g h = refl
-fits_cong short spell (Text kind) f g h = refl
-fits_cong short spell (Sequence ps) f g h = ap sequence_fits (λ i vs. parts_same f g ps h vs i)
-fits_cong short spell (Set ps) f g h = ap sequence_fits (λ i vs. parts_same f g ps h vs i)
-fits_cong short spell (SequenceOf inner) f g h = ap list_fits h.0
-fits_cong short spell (SetOf inner) f g h = λ i v. list_fits (h.0 i) v && set_rises short (spell inner.0) v
-fits_cong short spell (Choice ps) f g h = ap choice_fits (λ i which. alternative_same f g ps h which i)
-fits_cong short spell (Tagged class number explicit inner) f g h = h.0
-fits_cong short spell Any f g h = refl
+pub form_cong : (spell : ℕ → Value → List ℕ) (row : TypeRow) (f g : ℕ → Value → Bool) → AllByRecursion (λ m. f m ≡ g m) (names_of row) → form_by spell f row ≡ form_by spell g row
+form_cong spell Boolean f g h = refl
+form_cong spell (Integer low high) f g h = refl
+form_cong spell (Enumerated items) f g h = refl
+form_cong spell Null f g h = refl
+form_cong spell (OctetString most) f g h = refl
+form_cong spell BitString f g h = refl
+form_cong spell ObjectId f g h = refl
+form_cong spell (Text kind) f g h = refl
+form_cong spell (Sequence ps) f g h = ap sequence_fits (λ i vs. parts_same f g ps h vs i)
+form_cong spell (Set ps) f g h = ap sequence_fits (λ i vs. parts_same f g ps h vs i)
+form_cong spell (SequenceOf inner) f g h = ap list_fits h.0
+form_cong spell (SetOf inner) f g h = λ i v. list_fits (h.0 i) v && set_rises (spell inner.0) v
+form_cong spell (Choice ps) f g h = ap choice_fits (λ i which. alternative_same f g ps h which i)
+form_cong spell (Tagged class number explicit inner) f g h = h.0
+form_cong spell Any f g h = refl
 
--- which values fit a row, by the row
-pub fits_at : (rows : List TypeRow) → IsSound rows → (n : ℕ) (row : TypeRow) → slice_get rows n ≡ Some row → fits rows n ≡ fits_by is_short (written rows) (fits rows) row
-unfolding fits
-fits_at rows sound n row e = settled nothing_fits (fits_by is_short (written rows)) (fits_cong is_short (written rows)) rows (is_down rows sound) n row e
+-- which values have the form of a row, by the row
+pub form_at : (rows : List TypeRow) → IsSound rows → (n : ℕ) (row : TypeRow) → slice_get rows n ≡ Some row → has_form rows n ≡ form_by (written rows) (has_form rows) row
+unfolding has_form
+form_at rows sound n row e = settled nothing_fits (form_by (written rows)) (form_cong (written rows)) rows (is_down rows sound) n row e
 
 no_row : (rows : List TypeRow) (n : ℕ) → length rows ≤ n → slice_get rows n ≡ None
 no_row [] n le = refl
 no_row (row ∷ rows) zero le = absurd (omega arith)
 no_row (row ∷ rows) (suc n) le = no_row rows n (omega arith)
 
-along_past : (short : ℕ → Bool) (spell : ℕ → Value → List ℕ) (rows : List TypeRow) (turns n : ℕ) (v : Value) → length rows ≤ n → along nothing_fits (fits_by short spell) rows turns n v ≡ false
-along_past short spell rows zero n v le = refl
-along_past short spell rows (suc turns) n v le = rw (no_row rows n le) refl
+along_past : (spell : ℕ → Value → List ℕ) (rows : List TypeRow) (turns n : ℕ) (v : Value) → length rows ≤ n → along nothing_fits (form_by spell) rows turns n v ≡ false
+along_past spell rows zero n v le = refl
+along_past spell rows (suc turns) n v le = rw (no_row rows n le) refl
 
-pub fits_past : (rows : List TypeRow) (n : ℕ) (v : Value) → length rows ≤ n → false ≡ fits rows n v
+pub form_past : (rows : List TypeRow) (n : ℕ) (v : Value) → length rows ≤ n → false ≡ has_form rows n v
+unfolding has_form
+form_past rows n v le = sym (along_past (written rows) rows (length rows) n v le)
+
+-- what fits has the form of its row
+pub fits_has_form : (rows : List TypeRow) (n : ℕ) (v : Value) → fits rows n v ≡ true → has_form rows n v ≡ true
 unfolding fits
-fits_past rows n v le = sym (along_past is_short (written rows) rows (length rows) n v le)
+fits_has_form rows n v e = (and_parts (has_form rows n v) (is_short (length (written rows n v)) && is_short (packed_size rows n v)) e).0
 
 pub parts_short : (f : ℕ → Value → Bool) (ps : List Part) (vs : List (Option Value)) → length ps ≢ length vs → false ≡ parts_fit f ps (parts_of vs)
 parts_short f [] [] ne = absurd (ne refl)

@@ -1,6 +1,6 @@
 -- Which values fit which rows of a table.
 use Rattle.std.specs.Prelude.{ℕ, ◌-◌, ◌%◌, ◌^◌, ℤ, pos, negsuc, Bool, true, false, not, ◌&&◌, ◌||◌, List, [], ◌∷◌, length, Option, Some, None, slice_get, slice_index, nat_lt, nat_le, nat_eq, int_lt, if◌then◌else◌}
-use Rattle.std.specs.List.{list_all, list_any}
+use Rattle.std.specs.List.{list_all}
 use Rattle.std.specs.Str.{is_utf8}
 use Rattle.osi_base.specs.Oid.{is_oid}
 use Rattle.asn1_types.specs.declared.row.Item.{Item}
@@ -10,12 +10,13 @@ use Rattle.asn1_types.specs.declared.row.TextKind.TheVariants.{Utf8, Ia5, Visibl
 use Rattle.asn1_types.specs.declared.row.TypeRow.{TypeRow}
 use Rattle.asn1_types.specs.declared.row.TypeRow.TheVariants as row
 use Rattle.asn1_types.specs.Value.{Value, boolean, integer, null, octets, bits, object_id, text, parts, list, chosen, any, MaybeValues, no_parts, absent, present, Values, no_values, value}
-use Rattle.asn1_types.specs.Limits.{number_bits}
+use Rattle.asn1_types.specs.Limits.{number_bits, most_spelled}
 use Rattle.asn1_types.specs.Rows.{along}
 use Rattle.asn1_types.specs.Defaults.{is_item, may_be_absent, is_default}
 use Rattle.asn1_types.specs.Whole.{is_whole}
 use Rattle.asn1_types.specs.Writing.{written}
-use Rattle.asn1_types.specs.Rising.{is_short, any_length, set_rises}
+use Rattle.asn1_types.specs.Rising.{set_rises}
+use Rattle.asn1_types.specs.PackedSize.{packed_size}
 
 -- numbers have 64 bits, one of them the sign's
 abbrev pub is_number : ℤ → Bool
@@ -130,31 +131,35 @@ abbrev pub any_fits : Value → Bool
 any_fits (any os) = is_whole os
 any_fits v = false
 
--- from how values of the rows are spelled in DER, of which lengths they may be in a SET OF, and which fit them
-abbrev pub fits_by : (ℕ → Bool) → (ℕ → Value → List ℕ) → (ℕ → Value → Bool) → TypeRow → Value → Bool
-fits_by short spell inner row.Boolean v = boolean_fits v
-fits_by short spell inner (row.Integer low high) v = integer_fits low high v
-fits_by short spell inner (row.Enumerated items) v = enumerated_fits items v
-fits_by short spell inner row.Null v = null_fits v
-fits_by short spell inner (row.OctetString most) v = octets_fit most v
-fits_by short spell inner row.BitString v = bits_fit v
-fits_by short spell inner row.ObjectId v = object_id_fits v
-fits_by short spell inner (row.Text kind) v = text_fits kind v
-fits_by short spell inner (row.Sequence ps) v = sequence_fits (parts_fit inner ps) v
-fits_by short spell inner (row.Set ps) v = sequence_fits (parts_fit inner ps) v
-fits_by short spell inner (row.SequenceOf of) v = list_fits (inner of.0) v
-fits_by short spell inner (row.SetOf of) v = list_fits (inner of.0) v && set_rises short (spell of.0) v
-fits_by short spell inner (row.Choice ps) v = choice_fits (λ which. alternative_fits inner (slice_get ps which)) v
-fits_by short spell inner (row.Tagged class number explicit of) v = inner of.0 v
-fits_by short spell inner row.Any v = any_fits v
+-- from how values of the rows are spelled in DER, and which have their form
+abbrev pub form_by : (ℕ → Value → List ℕ) → (ℕ → Value → Bool) → TypeRow → Value → Bool
+form_by spell inner row.Boolean v = boolean_fits v
+form_by spell inner (row.Integer low high) v = integer_fits low high v
+form_by spell inner (row.Enumerated items) v = enumerated_fits items v
+form_by spell inner row.Null v = null_fits v
+form_by spell inner (row.OctetString most) v = octets_fit most v
+form_by spell inner row.BitString v = bits_fit v
+form_by spell inner row.ObjectId v = object_id_fits v
+form_by spell inner (row.Text kind) v = text_fits kind v
+form_by spell inner (row.Sequence ps) v = sequence_fits (parts_fit inner ps) v
+form_by spell inner (row.Set ps) v = sequence_fits (parts_fit inner ps) v
+form_by spell inner (row.SequenceOf of) v = list_fits (inner of.0) v
+form_by spell inner (row.SetOf of) v = list_fits (inner of.0) v && set_rises (spell of.0) v
+form_by spell inner (row.Choice ps) v = choice_fits (λ which. alternative_fits inner (slice_get ps which)) v
+form_by spell inner (row.Tagged class number explicit of) v = inner of.0 v
+form_by spell inner row.Any v = any_fits v
 
 abbrev pub nothing_fits : Value → Bool
 nothing_fits v = false
 
--- a value fits row n of a table
-unfoldable pub fits : List TypeRow → ℕ → Value → Bool
-fits rows n = along nothing_fits (fits_by is_short (written rows)) rows (length rows) n
-
--- as values fit, but that items of a SET OF may be of any length
+-- a value has the form of row n of a table
 unfoldable pub has_form : List TypeRow → ℕ → Value → Bool
-has_form rows n v = along nothing_fits (fits_by any_length (written rows)) rows (length rows) n v
+has_form rows n = along nothing_fits (form_by (written rows)) rows (length rows) n
+
+-- so many octets may a spelling have of a value that fits
+abbrev pub is_short : ℕ → Bool
+is_short n = nat_le n most_spelled
+
+-- A value fits if it has the form of its row and neither its DER spelling nor its packed one is too long.
+unfoldable pub fits : List TypeRow → ℕ → Value → Bool
+fits rows n v = has_form rows n v && (is_short (length (written rows n v)) && is_short (packed_size rows n v))

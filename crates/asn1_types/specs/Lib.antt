@@ -11,4 +11,5 @@ pub mod Whole
 pub mod Tags
 pub mod Writing
 pub mod Rising
+pub mod PackedSize
 pub mod Fits

@@ -1,7 +1,6 @@
 -- The order of the items of a SET OF: by their DER spellings, octet by octet (X.690 11.6).
-use Rattle.std.specs.Prelude.{ℕ, Bool, true, false, not, Option, Some, None, ◌&&◌, ◌||◌, List, [], ◌∷◌, length, nat_lt, nat_le, nat_eq, if◌then◌else◌}
-use Rattle.asn1_types.specs.Limits.{most_spelled}
-use Rattle.asn1_types.specs.Value.{Value, boolean, integer, null, octets, bits, object_id, text, parts, list, chosen, any, Values, no_values, value}
+use Rattle.std.specs.Prelude.{ℕ, Bool, true, false, not, ◌&&◌, ◌||◌, List, [], ◌∷◌, nat_lt, nat_eq, if◌then◌else◌}
+use Rattle.asn1_types.specs.Value.{Value, list, Values, no_values, value}
 
 -- the first octet that differs is less, or the others begin with these
 abbrev pub is_less : List ℕ → List ℕ → Bool
@@ -14,32 +13,18 @@ is_less (x ∷ xs) (y ∷ ys) = nat_lt x y || (nat_eq x y && is_less xs ys)
 abbrev pub follows : (Value → List ℕ) → Value → Value → Bool
 follows spell v w = not (is_less (spell w) (spell v))
 
--- no item has more octets than a value may have that fits
-abbrev pub is_short : ℕ → Bool
-is_short n = nat_le n most_spelled
-
--- less, told of octets no longer than that
-abbrev pub told_less : List ℕ → List ℕ → Option Bool
-told_less xs ys = if is_short (length ys) && is_short (length xs) then Some (is_less xs ys) else None
-
-abbrev pub any_length : ℕ → Bool
-any_length n = true
-
-abbrev pub stand_so : (ℕ → Bool) → (Value → List ℕ) → Value → Value → Bool
-stand_so short spell v w = short (length (spell v)) && short (length (spell w)) && follows spell v w
-
 -- each item stands behind the one before
-abbrev pub rise_behind : (ℕ → Bool) → (Value → List ℕ) → Value → Values → Bool
-rise_behind short spell v no_values = true
-rise_behind short spell v (value w ws) = stand_so short spell v w && rise_behind short spell w ws
+abbrev pub rise_behind : (Value → List ℕ) → Value → Values → Bool
+rise_behind spell v no_values = true
+rise_behind spell v (value w ws) = follows spell v w && rise_behind spell w ws
 
-abbrev pub rise : (ℕ → Bool) → (Value → List ℕ) → Values → Bool
-rise short spell no_values = true
-rise short spell (value v vs) = rise_behind short spell v vs
+abbrev pub rise : (Value → List ℕ) → Values → Bool
+rise spell no_values = true
+rise spell (value v vs) = rise_behind spell v vs
 
-abbrev pub set_rises : (ℕ → Bool) → (Value → List ℕ) → Value → Bool
-set_rises short spell (list vs) = rise short spell vs
-set_rises short spell v = false
+abbrev pub set_rises : (Value → List ℕ) → Value → Bool
+set_rises spell (list vs) = rise spell vs
+set_rises spell v = false
 
 -- the last item may stand before this value
 abbrev pub behind_last : (Value → List ℕ) → List Value → Value → Bool

@@ -2,6 +2,8 @@
 #![tactic(auto)]
 
 mod at_once;
+mod contents;
+mod parts;
 mod public;
 mod read;
 

@@ -2,8 +2,8 @@
 
 ghost use Rattle.std.specs.Prelude.{◌≡◌, false, true, ◌++◌, ◌∷◌, ◌+◌, ◌≤◌, ◌<◌, ◌^◌, [], length, Some, None, slice_get, slice_set, IfOk, List};
 ghost use Rattle.std.specs.List.{AllByRecursion};
-ghost use Rattle.asn1_types.specs.Rows.{begins, rows_of_parts, names_of};
-ghost use Rattle.asn1_types.specs.Defaults.{may_be_absent, kept};
+ghost use Rattle.asn1_types.specs.Rows.{begins, rows_of_parts};
+ghost use Rattle.asn1_types.specs.Defaults.{kept};
 ghost use Rattle.asn1_types.specs.Table.{IsSound};
 ghost use Rattle.asn1_types.specs.Value as tree;
 ghost use Rattle.asn1_types.specs.Writing.{written};
@@ -11,99 +11,22 @@ ghost use Rattle.asn1_types.specs.Rising.{sorted};
 ghost use Rattle.asn1_types.specs.ValueView.{values_of, parts_of};
 ghost use Rattle.asn1_types.specs.Tags.{rank};
 ghost use Rattle.ber_spelling.specs.Reading.{begun, Opens, Gives, Fails, spot_of, opened_of, GoesOn};
-ghost use Rattle.ber_spelling.specs.Rules.{open_at, close_at, all_items_at, list_item_at, list_done, list_at, set_item_at, set_of_done, set_of_at, sequence_at, choice_at, any_at, explicit_at, or_explicit, tagged_at, read_by, reads, no_parts_of, nothing_filled, is_free, stands, is_filled, kept_of, settled, set_done, bare, under, late_kind, late_at, ordered_at, fill_at, slot_at, set_at};
-ghost use Rattle.ber_reading.specs.Parts.{absent_at, found_at, part_from, parts_from};
+ghost use Rattle.ber_spelling.specs.Rules.{all_items_at, list_item_at, list_done, list_at, set_item_at, set_of_done, set_of_at, sequence_at, choice_at, explicit_at, read_by, reads, no_parts_of, nothing_filled, is_free, is_filled, set_done, bare, under, late_at, ordered_at, slot_at, set_at};
+ghost use Rattle.ber_reading.specs.Parts.{found_at, part_from, parts_from};
 
 use crate::at_once::{integer_ahead, parts_at_once, reach};
+use crate::contents::{any, close, open, tagged_any};
+use crate::parts::{absent, is_filled, is_free, kept, none_of, settle};
 use asn1_types::{
-    Class, MaybeVals, Node, Part, Parts, TypeId, TypeRow, TypeTable, Val, Vals, begins,
-    has_default_value, may_be_absent, text_number,
+    Class, MaybeVals, Node, Part, Parts, TypeId, TypeRow, TypeTable, Val, Vals, begins, text_number,
 };
 use ber_spelling::{
     Ahead, Opened, ReadFault, Scope, Spot, Tag, bit_string, boolean, enumerated, expect, extent,
-    integer, look, null, object_id, octet_string, rank, refusal, tag_or, text, whole_value,
+    integer, look, null, object_id, octet_string, rank, refusal, tag_or, text,
 };
 use ber_writing::{follows_last, in_order};
-use osi_base::{Kind, NoMemory, Octets};
+use osi_base::Kind;
 use std::alloc::Global;
-
-/// Opens a constructed value that holds one value.
-#[tactic(auto, unfolding(ber_spelling::specs::Rules::open_at))]
-fn open<'a>(
-    tag: Tag,
-    scope: &Scope,
-    opened: &Opened<'a>,
-    spot: Spot<'a>,
-) -> Result<(Scope, Opened<'a>, Spot<'a>), ReadFault>
-    requires { spot.place + length spot.rest.now < 2 ^ 63 }
-    ensures gives { Gives (λ x. (x.0, opened_of x.1, spot_of x.2)) result
-        (open_at tag scope.now (opened_of opened.now) (spot_of spot.entry)) }
-    ensures stops { IfOk result (λ x. GoesOn x.1.start.place (length x.1.start.rest.now) x.2) }
-    ensures onward { IfOk result (λ x. GoesOn spot.entry.place (length spot.entry.rest.now) x.2) }
-{
-    expect(tag, true, opened)?;
-    let (inside, spot) = extent(scope, spot)?;
-    match look(&inside, spot)? {
-        Ahead::Ended { place, .. } => Err(refusal(place, Kind::Missing)),
-        Ahead::Begun(first, after) => Ok((inside, first, after)),
-    }
-}
-
-/// Closes contents of which nothing more is to come.
-#[tactic(auto, unfolding(ber_spelling::specs::Rules::close_at, ber_spelling::specs::Fields::look_at))]
-#[inline(always)]
-fn close<'a>(scope: &Scope, spot: Spot<'a>) -> Result<Spot<'a>, ReadFault>
-    requires { spot.place + length spot.rest.now < 2 ^ 63 }
-    ensures gives { Gives (λ x. spot_of x) result (close_at scope.now (spot_of spot.entry)) }
-    ensures stops { IfOk result (λ x. GoesOn spot.entry.place (length spot.entry.rest.now) x) }
-{
-    if let Some(end) = scope.end {
-        if end <= spot.place && !scope.marked {
-            return Ok(spot);
-        }
-    }
-    close_behind(scope, spot)
-}
-
-/// As `close`, wherever the contents end.
-#[tactic(auto, unfolding(ber_spelling::specs::Rules::close_at))]
-#[inline(never)]
-fn close_behind<'a>(scope: &Scope, spot: Spot<'a>) -> Result<Spot<'a>, ReadFault>
-    requires { spot.place + length spot.rest.now < 2 ^ 63 }
-    ensures gives { Gives (λ x. spot_of x) result (close_at scope.now (spot_of spot.entry)) }
-    ensures stops { IfOk result (λ x. GoesOn spot.entry.place (length spot.entry.rest.now) x) }
-{
-    match look(scope, spot)? {
-        Ahead::Ended { after, .. } => Ok(after),
-        Ahead::Begun(opened, _) => Err(refusal(opened.start.place, Kind::Extra)),
-    }
-}
-
-/// Any one value, as octets.
-#[tactic(auto, unfolding(ber_spelling::specs::Rules::any_at))]
-#[inline(never)]
-fn any<'a>(
-    alloc: Global,
-    scope: &Scope,
-    opened: &Opened<'a>,
-    spot: Spot<'a>,
-) -> Result<(Val, Spot<'a>), ReadFault>
-    requires whole { spot.place + length spot.rest.now < 2 ^ 63 }
-    requires start { GoesOn opened.now.start.place (length opened.now.start.rest.now) spot }
-    ensures gives { Gives (λ x. (x.0, spot_of x.1)) result
-        (any_at scope.now (opened_of opened.now) (spot_of spot.entry)) }
-    ensures stops { IfOk result (λ x. GoesOn spot.entry.place (length spot.entry.rest.now) x.1) }
-{
-    let after = whole_value(32, scope, opened, spot)?;
-    let whole = opened.start.rest;
-    let octets = Octets::from_slice(alloc, &whole[..whole.len() - after.rest.len()])?;
-    Ok((
-        Val {
-            node: Node::Any(octets),
-        },
-        after,
-    ))
-}
 
 /// What stands behind an identifier, as a value of this row, under another tag if one is given.
 #[cycle(reading)]
@@ -419,25 +342,6 @@ fn set_item<'a>(
     Ok((value, after))
 }
 
-#[tactic(auto, unfolding(ber_spelling::specs::Rules::explicit_at))]
-#[inline(never)]
-fn tagged_any<'a>(
-    alloc: Global,
-    tag: Tag,
-    scope: &Scope,
-    opened: &Opened<'a>,
-    spot: Spot<'a>,
-) -> Result<(Val, Spot<'a>), ReadFault>
-    requires { spot.place + length spot.rest.now < 2 ^ 63 }
-    ensures gives { Gives (λ x. (x.0, spot_of x.1)) result
-        (explicit_at any_at tag scope.now (opened_of opened.now) (spot_of spot.entry)) }
-    ensures stops { IfOk result (λ x. GoesOn spot.entry.place (length spot.entry.rest.now) x.1) }
-{
-    let (inside, first, spot) = open(tag, scope, opened, spot)?;
-    let (value, spot) = any(alloc, &inside, &first, spot)?;
-    Ok((value, close(&inside, spot)?))
-}
-
 #[cycle(reading)]
 #[tactic(auto, unfolding(ber_spelling::specs::Rules::explicit_at))]
 #[inline(never)]
@@ -627,36 +531,6 @@ fn part_of<'a>(
     }
 }
 
-/// The value of a part, unless it is the default's, for which the absent part stands.
-#[inline(always)]
-fn kept(part: &Part, value: Val) -> Option<Val>
-    ensures { result ≡ kept part.now value }
-{
-    if has_default_value(part, &value) {
-        None
-    } else {
-        Some(value)
-    }
-}
-
-/// A part that is not there, which leaves the spot as it is.
-#[inline(always)]
-fn absent<'a>(
-    part: &Part,
-    place: usize,
-    spot: Spot<'a>,
-) -> Result<(Option<Val>, Spot<'a>), ReadFault>
-    ensures gives { Gives (λ x. (x.0, spot_of x.1)) result
-        (absent_at (may_be_absent part.now) place (spot_of spot.entry)) }
-    ensures stops { IfOk result (λ x. GoesOn spot.entry.place (length spot.entry.rest.now) x.1) }
-{
-    if may_be_absent(part) {
-        Ok((None, spot))
-    } else {
-        Err(refusal(place, Kind::Missing))
-    }
-}
-
 /// The part that begins with this identifier, if one does; else the spot is left as it is.
 #[cycle(reading)]
 #[inline(always)]
@@ -723,17 +597,6 @@ fn set<'a>(
     ))
 }
 
-/// No part yet.
-fn none_of(alloc: Global, parts: &[Part]) -> Result<MaybeVals, NoMemory>
-    ensures { IfOk result (λ found. found.items ≡ no_parts_of parts.now) }
-{
-    let mut found = Vec::new(alloc);
-    for _part in parts {
-        found.push(None)?;
-    }
-    Ok(found)
-}
-
 /// The parts of a SET, up to the end of its contents.
 #[cycle(reading)]
 fn slots<'a>(
@@ -778,60 +641,6 @@ fn slots<'a>(
         }
     }
     Err(ReadFault::Short)
-}
-
-fn is_free(slot: &Option<Val>) -> bool
-    ensures { result ≡ is_free (Some slot.now) }
-{
-    match slot {
-        Some(_) => false,
-        None => true,
-    }
-}
-
-fn stands(part: &Part, slot: &Option<Val>) -> bool
-    ensures { result ≡ stands part.now slot.now }
-{
-    match slot {
-        Some(_) => true,
-        None => may_be_absent(part),
-    }
-}
-
-/// Whether each part stands that may not be absent.
-fn is_filled(parts: &[Part], found: &[Option<Val>]) -> bool
-    requires { length found.now ≡ length parts.now }
-    ensures { result ≡ is_filled parts.now found.now }
-{
-    for (index, part) in parts.iter().enumerate() {
-        if !stands(part, &found[index]) {
-            return false;
-        }
-    }
-    true
-}
-
-/// Whether a part of a SET stands with its default's value.
-fn has_default(part: &Part, slot: &Option<Val>) -> bool
-    ensures no { result ≡ false → kept_of part.now slot.now ≡ slot.now }
-    ensures yes { result ≡ true → kept_of part.now slot.now ≡ None }
-{
-    match slot {
-        Some(value) => has_default_value(part, value),
-        None => false,
-    }
-}
-
-/// Makes each part absent that has its default's value.
-fn settle(parts: &[Part], found: &mut MaybeVals)
-    requires { length found.old.items ≡ length parts.now }
-    ensures { found.new.items ≡ settled parts.now found.old.items }
-{
-    for (index, part) in parts.iter().enumerate() {
-        if has_default(part, &found[index]) {
-            found[index] = None;
-        }
-    }
 }
 
 /// The part of a SET that begins with this identifier, and its slot, which must be free.

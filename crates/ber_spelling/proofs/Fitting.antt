@@ -13,7 +13,7 @@ use Rattle.asn1_types.specs.Defaults.{has_default, may_be_absent, is_default, ke
 use Rattle.asn1_types.specs.Rows.{of_row, along, text_number}
 use Rattle.asn1_types.specs.Value.{Value, boolean, integer, null, octets, bits, object_id, text, parts, list, chosen, any, MaybeValues, no_parts, absent, present}
 use Rattle.asn1_types.specs.ValueView.{parts_of, values_of}
-use Rattle.asn1_types.specs.Fits.{any_fits, part_fits, parts_fit, sequence_fits, values_fit, list_fits, alternative_fits, choice_fits, fits_by, nothing_fits, fits, has_form}
+use Rattle.asn1_types.specs.Fits.{any_fits, part_fits, parts_fit, sequence_fits, values_fit, list_fits, alternative_fits, choice_fits, form_by, nothing_fits, has_form}
 use Rattle.ber_spelling.specs.Octets.{AreOctets}
 use Rattle.ber_spelling.specs.Order.{Filled}
 use Rattle.asn1_types.specs.declared.row.Tag as tags
@@ -25,7 +25,7 @@ use Rattle.ber_spelling.proofs.Steady.{octets_left, octets_right}
 use Rattle.ber_spelling.proofs.Around.{in_primitive, in_constructed}
 use Rattle.ber_spelling.proofs.FittingContents.{boolean_fitting, null_fitting, integer_fitting, enumerated_fitting, object_id_fitting, any_fitting, octets_fitting, text_fitting, bits_fitting}
 use Rattle.ber_spelling.proofs.Lax.{der_is_ber}
-use Rattle.asn1_types.specs.Rising.{any_length, set_rises, sorted}
+use Rattle.asn1_types.specs.Rising.{set_rises, sorted}
 use Rattle.asn1_types.specs.Writing.{written}
 use Rattle.ber_spelling.proofs.RisingLaws.{sorted_all, sorted_rises}
 
@@ -166,11 +166,11 @@ module _ (spell : ℕ → Value → List ℕ) (rel : ℕ → Spelled) (fit : ℕ
       let next : list_all (fit of) s.1 ≡ true = ap (list_all (fit of)) q.1 ∙ list_all-append (fit of) a (q.0 ∷ []) ∙ rw (all, e) refl in
       set_items_fitting spelling of levels more s.1 b p.0 (octets_right s.0 p.0 both) next p.3
 
-  set_of_fitting : (spelling : Value → List ℕ) (of levels : ℕ) (v : Value) (c : List ℕ) → AreOctets c → SetOfIs spelling (rel of) false v levels c → (list_fits (fit of) v && set_rises any_length spelling v) ≡ true
+  set_of_fitting : (spelling : Value → List ℕ) (of levels : ℕ) (v : Value) (c : List ℕ) → AreOctets c → SetOfIs spelling (rel of) false v levels c → (list_fits (fit of) v && set_rises spelling v) ≡ true
   set_of_fitting spelling of levels v c are p =
       let same : list (values_of (sorted spelling p.0)) ≡ v = let x = p.1 in cc in
       let all : list_all (fit of) (sorted spelling p.0) ≡ true = sorted_all spelling (fit of) p.0 (set_items_fitting spelling of levels p.2 [] p.0 c are refl p.3) in
-      subst (λ (x : Value). (list_fits (fit of) x && set_rises any_length spelling x) ≡ true) same (rw (values_all (fit of) (sorted spelling p.0), all) (sorted_rises spelling p.0))
+      subst (λ (x : Value). (list_fits (fit of) x && set_rises spelling x) ≡ true) same (rw (values_all (fit of) (sorted spelling p.0), all) (sorted_rises spelling p.0))
 
   choice_fitting : (ps : List Part) (levels : ℕ) (v : Value) (s : List ℕ) → AreOctets s → ChoiceIs rel ps false levels v s → choice_fits (λ which. alternative_fits fit (slice_get ps which)) v ≡ true
   choice_fitting ps levels (chosen which v) s are p = rw p.1 ((h p.0.inner.0).is plain levels v s are p.2)
@@ -193,7 +193,7 @@ module _ (spell : ℕ → Value → List ℕ) (rel : ℕ → Spelled) (fit : ℕ
   explicit_fitting P v good each (Some t) levels s are p = in_constructed t false levels (λ l c. P false l v c) s are p each
 
   row_fitting : (r : TypeRow) (t : Guise) (levels : ℕ) (v : Value) (s : List ℕ)
-      → AreOctets s → RowIs spell rel r t false levels v s → fits_by any_length spell fit r v ≡ true
+      → AreOctets s → RowIs spell rel r t false levels v s → form_by spell fit r v ≡ true
   row_fitting row.Boolean t levels v s are p = in_primitive (tag_or t.tag Universal 1) false levels (λ c. BooleanIs false v c × IsOther t.default false v) s are p (λ c of q. boolean_fitting false v c q.0)
   row_fitting (row.Integer low high) t levels v s are p = in_primitive (tag_or t.tag Universal 2) false levels (λ c. IntegerIs low high v c × IsOther t.default false v) s are p (λ c of q. integer_fitting low high v c of q.0)
   row_fitting (row.Enumerated items) t levels v s are p = in_primitive (tag_or t.tag Universal 10) false levels (λ c. EnumeratedIs items v c × IsOther t.default false v) s are p (λ c of q. enumerated_fitting items v c of q.0)
@@ -214,15 +214,15 @@ module _ (spell : ℕ → Value → List ℕ) (rel : ℕ → Spelled) (fit : ℕ
   row_fitting row.Any t levels v s are p = explicit_fitting (λ strict. AnyIs) v (any_fits v) (λ l c of q. any_fitting l v c q) t.tag levels s are p
 
 module _ (rows : List TypeRow) where
-  along_fitting : (turns n : ℕ) → Fitting (SpelledBy rows turns n) (along nothing_fits (fits_by any_length (written rows)) rows turns n)
+  along_fitting : (turns n : ℕ) → Fitting (SpelledBy rows turns n) (along nothing_fits (form_by (written rows)) rows turns n)
   along_fitting zero n = record { is = λ t levels v s are p. absurd p }
   along_fitting (suc turns) n = record { is = by (slice_get rows n) (λ m. along_fitting turns m) }
     where
-      by : (o : Option TypeRow) → ((m : ℕ) → Fitting (SpelledBy rows turns m) (along nothing_fits (fits_by any_length (written rows)) rows turns m)) → (t : Guise) (levels : ℕ) (v : Value) (s : List ℕ) → AreOctets s
-          → RowOr (RowIs (written rows) (SpelledBy rows turns)) o t false levels v s → of_row nothing_fits (fits_by any_length (written rows) (along nothing_fits (fits_by any_length (written rows)) rows turns)) o v ≡ true
+      by : (o : Option TypeRow) → ((m : ℕ) → Fitting (SpelledBy rows turns m) (along nothing_fits (form_by (written rows)) rows turns m)) → (t : Guise) (levels : ℕ) (v : Value) (s : List ℕ) → AreOctets s
+          → RowOr (RowIs (written rows) (SpelledBy rows turns)) o t false levels v s → of_row nothing_fits (form_by (written rows) (along nothing_fits (form_by (written rows)) rows turns)) o v ≡ true
       by None h t levels v s are p = absurd p
       by (Some r) h t levels v s are p =
-          row_fitting (written rows) (SpelledBy rows turns) (along nothing_fits (fits_by any_length (written rows)) rows turns) h r t levels v s are p
+          row_fitting (written rows) (SpelledBy rows turns) (along nothing_fits (form_by (written rows)) rows turns) h r t levels v s are p
 
 lax : (rows : List TypeRow) (n : ℕ) (strict : Bool) (limit : ℕ) (v : Value) (s : List ℕ) → Spells rows n strict limit v s → Spells rows n false limit v s
 lax rows n true limit v s p = der_is_ber rows n limit v s p

@@ -7,7 +7,7 @@ use Rattle.osi_base.specs.declared.words.Kind.TheVariants.{Length, Form}
 use Rattle.ber_spelling.specs.declared.fault.ReadFault.TheVariants as faults
 use Rattle.ber_spelling.specs.declared.spot.Scope.{Scope}
 use Rattle.ber_spelling.specs.Reading.{Spot, Reading, refuse, within, ◌>>=◌}
-use Rattle.ber_spelling.specs.Fields.{number_from, announced_at, long_at, is_end, sure_reach, definite_at, inside, inside_until, extent_at, contents_at}
+use Rattle.ber_spelling.specs.Fields.{number_from, announced_at, long_at, sure_reach, definite_at, inside, inside_until, extent_at, contents_at}
 use Rattle.ber_spelling.specs.Spelling.{IsLong, IsLength}
 use Rattle.ber_spelling.proofs.Growing.{short_not_ok, lacking_not_ok}
 use Rattle.ber_spelling.proofs.Identifiers.{IsIn, in_before, is_in, in_is, Taken, bind_ok, chosen_ok, unless_ok, ok_is}

@@ -1,12 +1,12 @@
 -- The order of the items of a SET OF.
-use Rattle.std.proofs.Common.{◌≡◌, ℕ, ◌<◌, ◌≤◌, Bool, true, false, not, ◌&&◌, ◌||◌, cond, List, [], ◌∷◌, ◌++◌, length, refl, sym, ap, ◌∙◌, ◌⊎◌, inl, inr, arith}
+use Rattle.std.proofs.Common.{◌≡◌, ℕ, ◌<◌, ◌≤◌, Bool, true, false, not, ◌&&◌, ◌||◌, cond, List, [], ◌∷◌, ◌++◌, refl, sym, ap, ◌∙◌, inl, inr, arith}
 use Rattle.std.specs.Prelude.{nat_lt, nat_eq}
 use Rattle.std.specs.List.{list_all}
 use Rattle.std.proofs.lemmas.Bool.{ltb-true, eqb-true, and_parts, or_cases, le-ltb}
 use Rattle.std.proofs.lemmas.Bool.Decides.{nat_tests}
 use Rattle.asn1_types.specs.Value.{Value, Values, no_values, value}
 use Rattle.asn1_types.specs.ValueView.{values_of}
-use Rattle.asn1_types.specs.Rising.{is_less, follows, any_length, stand_so, rise_behind, rise, placed, sorted, behind_last}
+use Rattle.asn1_types.specs.Rising.{is_less, follows, rise_behind, rise, placed, sorted, behind_last}
 
 not_less : (x y : ℕ) → x ≤ y → nat_lt y x ≡ false
 not_less x y le = le-ltb y x le
@@ -62,24 +62,21 @@ module _ (spell : Value → List ℕ) where
   up_after before v no_values h = tt
   up_after before v (value w ws) h = (sym (last_is before v w) ∙ h.0, h.1)
 
-  up_rises_from : (v : Value) (vs : Values) → UpFrom v vs → rise_behind any_length spell v vs ≡ true
+  up_rises_from : (v : Value) (vs : Values) → UpFrom v vs → rise_behind spell v vs ≡ true
   up_rises_from v no_values h = refl
   up_rises_from v (value w ws) h = rw h.0 (up_rises_from w ws h.1)
 
-  pub goes_rise : (vs : Values) → GoOn [] vs → rise any_length spell vs ≡ true
+  pub goes_rise : (vs : Values) → GoOn [] vs → rise spell vs ≡ true
   goes_rise no_values h = refl
   goes_rise (value v vs) h = up_rises_from v vs h.1
 
-  up_from : (short : ℕ → Bool) (v : Value) (vs : Values) → rise_behind short spell v vs ≡ true → UpFrom v vs
-  up_from short v no_values e = tt
-  up_from short v (value w ws) e =
-      let a = and_parts (stand_so short spell v w) (rise_behind short spell w ws) e in
-      let b = and_parts (short (length (spell v)) && short (length (spell w))) (follows spell v w) a.0 in
-      (b.1, up_from short w ws a.1)
+  up_from : (v : Value) (vs : Values) → rise_behind spell v vs ≡ true → UpFrom v vs
+  up_from v no_values e = tt
+  up_from v (value w ws) e = let a = and_parts (follows spell v w) (rise_behind spell w ws) e in (a.0, up_from w ws a.1)
 
-  pub rising_goes : (short : ℕ → Bool) (vs : Values) → rise short spell vs ≡ true → GoOn [] vs
-  rising_goes short no_values e = tt
-  rising_goes short (value v vs) e = (refl, up_from short v vs e)
+  pub rising_goes : (vs : Values) → rise spell vs ≡ true → GoOn [] vs
+  rising_goes no_values e = tt
+  rising_goes (value v vs) e = (refl, up_from v vs e)
 
   not_true : (b : Bool) → not b ≡ true → b ≡ false
   not_true true e = absurd cc
@@ -90,9 +87,9 @@ module _ (spell : Value → List ℕ) where
   sorted_so v (value w ws) h = ap (placed spell v) (sorted_so w ws h.1) ∙ rw (not_true (is_less (spell w) (spell v)) h.0) refl
 
   -- items that rise are sorted
-  pub rising_sorted : (short : ℕ → Bool) (vs : Values) → rise short spell vs ≡ true → values_of (sorted spell (items_in vs)) ≡ vs
-  rising_sorted short no_values e = refl
-  rising_sorted short (value v vs) e = ap values_of (sorted_so v vs (up_from short v vs e)) ∙ items_same (value v vs)
+  pub rising_sorted : (vs : Values) → rise spell vs ≡ true → values_of (sorted spell (items_in vs)) ≡ vs
+  rising_sorted no_values e = refl
+  rising_sorted (value v vs) e = ap values_of (sorted_so v vs (up_from v vs e)) ∙ items_same (value v vs)
 
   -- ---- sorted items
 
@@ -141,13 +138,13 @@ module _ (spell : Value → List ℕ) where
   sorted_up [] = tt
   sorted_up (v ∷ vs) = placed_up v (sorted spell vs) (sorted_up vs)
 
-  behind_rises : (v : Value) (vs : List Value) → Behind v vs → rise_behind any_length spell v (values_of vs) ≡ true
+  behind_rises : (v : Value) (vs : List Value) → Behind v vs → rise_behind spell v (values_of vs) ≡ true
   behind_rises v [] h = refl
   behind_rises v (w ∷ ws) h = rw h.0 (behind_rises w ws h.1)
 
-  up_rises : (vs : List Value) → Up vs → rise any_length spell (values_of vs) ≡ true
+  up_rises : (vs : List Value) → Up vs → rise spell (values_of vs) ≡ true
   up_rises [] h = refl
   up_rises (v ∷ vs) h = behind_rises v vs h
 
-  pub sorted_rises : (vs : List Value) → rise any_length spell (values_of (sorted spell vs)) ≡ true
+  pub sorted_rises : (vs : List Value) → rise spell (values_of (sorted spell vs)) ≡ true
   sorted_rises vs = up_rises (sorted spell vs) (sorted_up vs)

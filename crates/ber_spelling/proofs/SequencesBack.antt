@@ -5,7 +5,7 @@ use Rattle.std.specs.Prelude.{slice_get}
 use Rattle.std.specs.List.{list_any}
 use Rattle.asn1_types.specs.declared.row.Class.{Class}
 use Rattle.asn1_types.specs.declared.row.Part.{Part}
-use Rattle.asn1_types.specs.Defaults.{may_be_absent, kept}
+use Rattle.asn1_types.specs.Defaults.{may_be_absent}
 use Rattle.asn1_types.specs.Rows.{Opening}
 use Rattle.asn1_types.specs.Table.{clash, clashes_in_sequence, agrees_later}
 use Rattle.asn1_types.specs.Value.{Value, boolean, integer, null, octets, bits, object_id, text, parts, list, chosen, any, MaybeValues, no_parts, absent, present}

@@ -14,7 +14,7 @@ use Rattle.ber_spelling.specs.declared.spot.Scope.{Scope}
 use Rattle.ber_spelling.specs.Reading.{Spot, Opened}
 use Rattle.ber_spelling.specs.Fields.{identifier_at}
 use Rattle.ber_spelling.specs.Order.{Filled}
-use Rattle.ber_spelling.specs.Rules.{Reader, all_items_at, alone, cut_behind, late_kind, ordered_at, is_free, filled_by, fill_at, slot_at, set_done, nothing_filled, Guise, bare, plain}
+use Rattle.ber_spelling.specs.Rules.{Reader, all_items_at, alone, cut_behind, late_kind, ordered_at, is_free, filled_by, fill_at, slot_at, set_done, nothing_filled, Guise, bare}
 use Rattle.ber_spelling.specs.Spelling.{Spelled, SetStep, ItemsAre}
 use Rattle.ber_spelling.proofs.Identifiers.{bind_ok, chosen_ok, unless_ok, ok_is, done}
 use Rattle.ber_spelling.proofs.Steady.{Run, ReadAs, Found, Only}

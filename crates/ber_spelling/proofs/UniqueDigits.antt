@@ -1,16 +1,15 @@
 -- A number has one spelling in digits: the one that is written.
-use Rattle.std.proofs.Common.{◌≡◌, ◌≢◌, ℕ, zero, suc, ◌+◌, ◌-◌, ◌*◌, ◌/◌, ◌%◌, ◌^◌, ◌<◌, ◌≤◌, ◌⊎◌, ℤ, pos, negsuc, Bool, true, false, ◌&&◌, ◌||◌, cond, List, [], ◌∷◌, ◌++◌, length, map, refl, sym, ap, ◌∙◌, subst, arith, append_assoc, append-nil, inl, inr}
-use Rattle.std.specs.Prelude.{slice_index, nat_lt, nat_eq}
+use Rattle.std.proofs.Common.{◌≡◌, ◌≢◌, ℕ, zero, suc, ◌+◌, ◌-◌, ◌*◌, ◌/◌, ◌%◌, ◌^◌, ◌<◌, ◌≤◌, ◌⊎◌, ℤ, pos, negsuc, Bool, true, false, ◌||◌, cond, List, [], ◌∷◌, ◌++◌, length, refl, sym, ap, ◌∙◌, arith, append_assoc, append-nil, inl, inr}
+use Rattle.std.specs.Prelude.{slice_index, nat_lt}
 use Rattle.std.specs.List.{AllByRecursion, flat_map}
-use Rattle.std.proofs.lemmas.Bool.{lt-ltb, le-ltb, ltb-true, ltb-false, cases_lt}
+use Rattle.std.proofs.lemmas.Bool.{lt-ltb, le-ltb, ltb-false, cases_lt}
 use Rattle.std.proofs.lemmas.Bool.Decides.{nat_tests}
 use Rattle.asn1_types.specs.declared.row.Class.{Class}
-use Rattle.asn1_types.specs.Tags.{leading}
 use Rattle.asn1_types.specs.Writing.{high_digits, base_128, digits_256, base_256, natural_octets, integer_octets, identifier, length_octets}
 use Rattle.ber_spelling.specs.Octets.{AreOctets}
 use Rattle.ber_spelling.specs.Fields.{number_from}
-use Rattle.ber_spelling.specs.Primitives.{is_padded, signed_of}
-use Rattle.ber_spelling.specs.Spelling.{AreDigits, low_bits, number_128, IsBase128, IsIdentifier, IsLong, IsLength, IsInteger, AreSubidentifiers}
+use Rattle.ber_spelling.specs.Primitives.{is_padded}
+use Rattle.ber_spelling.specs.Spelling.{AreDigits, low_bits, number_128, IsBase128, IsIdentifier, IsLength, IsInteger, AreSubidentifiers}
 use Rattle.ber_spelling.proofs.Digits.{high_step, high_append, low_step, low_append, nat_step, nat_append, nat_last}
 use Rattle.ber_spelling.proofs.Numbers.{octets_tail}
 use Rattle.ber_spelling.proofs.WrittenFields.{turned, turned_number, turned_length}

@@ -1,8 +1,7 @@
 -- A value has one spelling in DER: what is spelled is what is written.
-use Rattle.std.proofs.Common.{◌≡◌, ℕ, zero, suc, ◌+◌, ◌-◌, ◌%◌, ◌^◌, ◌<◌, ◌≤◌, ◌⊎◌, ℤ, Bool, true, false, not, ◌&&◌, ◌||◌, cond, List, [], ◌∷◌, ◌++◌, length, Option, Some, None, refl, sym, ap, ◌∙◌, subst, arith, append_assoc, append-nil, inl, inr}
-use Rattle.std.specs.Prelude.{slice_get, slice_set, slice_index, nat_lt, nat_le, nat_eq}
+use Rattle.std.proofs.Common.{◌≡◌, ℕ, zero, suc, ◌+◌, ◌<◌, ◌≤◌, ◌⊎◌, ℤ, Bool, true, false, not, cond, List, [], ◌∷◌, ◌++◌, length, Option, Some, None, refl, sym, ap, ◌∙◌, subst, arith, append_assoc, append-nil, inl, inr}
+use Rattle.std.specs.Prelude.{slice_get, slice_set, nat_le, nat_eq}
 use Rattle.std.proofs.lemmas.Bool.{and_parts}
-use Rattle.asn1_types.specs.declared.row.Class.{Class}
 use Rattle.asn1_types.specs.declared.row.Class.TheVariants.{Universal}
 use Rattle.asn1_types.specs.declared.row.Part.{Part}
 use Rattle.asn1_types.specs.declared.row.Item.{Item}
@@ -12,12 +11,12 @@ use Rattle.asn1_types.specs.declared.row.TypeRow.TheVariants as row
 use Rattle.asn1_types.specs.declared.row.Tag as tags
 use Rattle.asn1_types.specs.Rows.{along, of_row, text_number}
 use Rattle.asn1_types.specs.Tags.{tag_or, ranks, front_rank}
-use Rattle.asn1_types.specs.Defaults.{is_default, kept}
+use Rattle.asn1_types.specs.Defaults.{is_default}
 use Rattle.asn1_types.specs.Fits.{is_text}
 use Rattle.asn1_types.specs.Value.{Value, boolean, integer, null, octets, bits, object_id, text, parts, list, chosen, any, MaybeValues, no_parts, absent, present}
 use Rattle.asn1_types.specs.ValueView.{values_of, parts_of}
-use Rattle.asn1_types.specs.Rising.{behind_last, sorted, any_length, stand_so, rise_behind, rise}
-use Rattle.asn1_types.specs.Writing.{Writer, base_128, subidentifiers, definite, boolean_octet, boolean_contents, integer_contents, octets_contents, text_contents, bits_contents, object_id_contents, part_contents, parts_contents, sequence_contents, risen_parts, set_parts, values_contents, list_contents, alternative_written, choice_written, any_written, under, tagged_written, write_by, nothing_written, writes, written}
+use Rattle.asn1_types.specs.Rising.{behind_last, sorted, follows, rise_behind, rise}
+use Rattle.asn1_types.specs.Writing.{Writer, subidentifiers, definite, boolean_octet, boolean_contents, integer_contents, octets_contents, text_contents, bits_contents, object_id_contents, part_contents, parts_contents, sequence_contents, risen_parts, set_parts, values_contents, list_contents, alternative_written, choice_written, any_written, under, write_by, nothing_written, writes, written}
 use Rattle.ber_spelling.specs.declared.spot.StringKind.TheVariants.{OfOctets, OfBits}
 use Rattle.ber_spelling.specs.Octets.{AreOctets}
 use Rattle.asn1_types.specs.Limits.{most_levels}
@@ -278,26 +277,26 @@ module _ (rel : ℕ → Spelled) (write : ℕ → Writer) (each : (m : ℕ) → 
         set_of_steps n levels more s.1 last p.0 (octets_right s.0 p.0 all) p.3
         ∙ value_one n levels first s.1 p.2.0 s.0 p.0 c (octets_left s.0 p.0 all) p.1 p.2.1 p.2.2
 
-    rise_more : (a : List Value) (v : Value) → rise any_length spell (values_of a) ≡ true → behind_last spell a v ≡ true → rise any_length spell (values_of (a ++ v ∷ [])) ≡ true
+    rise_more : (a : List Value) (v : Value) → rise spell (values_of a) ≡ true → behind_last spell a v ≡ true → rise spell (values_of (a ++ v ∷ [])) ≡ true
     rise_more [] v h b = refl
     rise_more (w ∷ []) v h b = rw b refl
     rise_more (w ∷ x ∷ a) v h b =
-        let q = and_parts (stand_so any_length spell w x) (rise_behind any_length spell x (values_of a)) h in
+        let q = and_parts (follows spell w x) (rise_behind spell x (values_of a)) h in
         rw q.0 (rise_more (x ∷ a) v q.1 b)
 
-    set_of_rises : (n levels : ℕ) (steps : List (List ℕ × List Value)) (first last : List Value) (c : List ℕ) → rise any_length spell (values_of first) ≡ true → Steps (λ a b s. SetItemStep spell (rel n) a true levels b s) steps first last c
-        → rise any_length spell (values_of last) ≡ true
-    set_of_rises n levels [] first last c h p = subst (λ (l : List Value). rise any_length spell (values_of l) ≡ true) p.0 h
+    set_of_rises : (n levels : ℕ) (steps : List (List ℕ × List Value)) (first last : List Value) (c : List ℕ) → rise spell (values_of first) ≡ true → Steps (λ a b s. SetItemStep spell (rel n) a true levels b s) steps first last c
+        → rise spell (values_of last) ≡ true
+    set_of_rises n levels [] first last c h p = subst (λ (l : List Value). rise spell (values_of l) ≡ true) p.0 h
     set_of_rises n levels (s ∷ more) first last c h p =
         let next = rise_more first p.2.0 h (p.2.3 refl) in
-        set_of_rises n levels more s.1 last p.0 (subst (λ (l : List Value). rise any_length spell (values_of l) ≡ true) (sym p.2.1) next) p.3
+        set_of_rises n levels more s.1 last p.0 (subst (λ (l : List Value). rise spell (values_of l) ≡ true) (sym p.2.1) next) p.3
 
     in_items : (l : List Value) → items_in (values_of l) ≡ l
     in_items [] = refl
     in_items (v ∷ l) = ap (λ (m : List Value). v ∷ m) (in_items l)
 
-    sorted_same : (l : List Value) → rise any_length spell (values_of l) ≡ true → values_of (sorted spell l) ≡ values_of l
-    sorted_same l h = ap (λ (m : List Value). values_of (sorted spell m)) (sym (in_items l)) ∙ rising_sorted spell any_length (values_of l) h
+    sorted_same : (l : List Value) → rise spell (values_of l) ≡ true → values_of (sorted spell l) ≡ values_of l
+    sorted_same l h = ap (λ (m : List Value). values_of (sorted spell m)) (sym (in_items l)) ∙ rising_sorted spell (values_of l) h
 
     set_of_one : (n : ℕ) (v : Value) (levels : ℕ) (c : List ℕ) → AreOctets c → SetOfIs spell (rel n) true v levels c → (c ≡ list_contents (write n) v) × (is_other_kind v ≡ true)
     set_of_one n v levels c are p =

@@ -12,7 +12,7 @@ use Rattle.asn1_types.specs.Rows.{is_no_tag, text_number}
 use Rattle.asn1_types.specs.Table.{IsSound, is_bad_range}
 use Rattle.asn1_types.specs.Value.{Value, boolean, integer, null, octets, bits, object_id, text, parts, list, chosen, any}
 use Rattle.asn1_types.specs.Whole.{number_256, behind_digits, behind_high, behind_identifier, behind_octets, behind_counted, behind_sized, is_constructed as is_formed, is_ended, behind_values, behind_whole, is_nothing, is_whole}
-use Rattle.asn1_types.specs.Fits.{fits}
+use Rattle.asn1_types.specs.Fits.{has_form}
 use Rattle.asn1_types.proofs.Sound.{sound_row}
 use Rattle.asn1_types.specs.declared.row.Tag as tags
 use Rattle.ber_spelling.specs.Fields.{is_constructed, number_from}
@@ -280,7 +280,7 @@ module _ (rows : List TypeRow) (sound : IsSound rows) where
   der_is_whole n limit v s p = is_whole_of s (der_whole n limit v s p)
 
   -- and so is what is written of a value that fits
-  pub written_whole : (n : ℕ) (v : Value) → fits rows n v ≡ true → length (written rows n v) < 2 ^ 64 → is_whole (written rows n v) ≡ true
+  pub written_whole : (n : ℕ) (v : Value) → has_form rows n v ≡ true → length (written rows n v) < 2 ^ 64 → is_whole (written rows n v) ≡ true
   written_whole n v e lt =
       let size : ℕ = length (written rows n v) in
       der_is_whole n size v (written rows n v) (written_spelled whole_is rows sound n v e true size lt (omega arith))

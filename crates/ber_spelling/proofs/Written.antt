@@ -18,16 +18,15 @@ use Rattle.asn1_types.specs.declared.row.TypeRow.TheVariants as row
 use Rattle.asn1_types.specs.Rows.{of_row, along, names_of, rows_of_parts, greatest, nesting, nesting_by, text_number, Opening, openings}
 use Rattle.asn1_types.specs.Table.{HasShortTag, IsSound, clash, agrees_later, has_clash}
 use Rattle.asn1_types.specs.Value.{Value, boolean, integer, null, octets, bits, object_id, text, parts, list, chosen, any, MaybeValues, no_parts, absent, present, Values, no_values, value}
-use Rattle.asn1_types.specs.ValueView.{values_of}
 use Rattle.asn1_types.specs.Whole.{is_whole}
-use Rattle.asn1_types.specs.Defaults.{is_item, may_be_absent, is_default, kept}
-use Rattle.asn1_types.specs.Fits.{is_number, has_32_bits, is_octet, are_bits, is_text, boolean_fits, integer_fits, enumerated_fits, null_fits, octets_fit, bits_fit, text_fits, object_id_fits, values_fit, list_fits, parts_fit, sequence_fits, alternative_fits, choice_fits, any_fits, fits_by, nothing_fits, fits}
+use Rattle.asn1_types.specs.Defaults.{is_item, may_be_absent, is_default}
+use Rattle.asn1_types.specs.Fits.{is_number, has_32_bits, is_octet, are_bits, is_text, boolean_fits, integer_fits, enumerated_fits, null_fits, octets_fit, bits_fit, text_fits, object_id_fits, values_fit, list_fits, parts_fit, sequence_fits, alternative_fits, choice_fits, any_fits, form_by, nothing_fits, has_form}
 use Rattle.asn1_types.proofs.Along.{settled}
 use Rattle.asn1_types.proofs.Sound.{is_down, taken, nesting_cong, nesting_before, sound_row}
 use Rattle.asn1_types.specs.declared.row.Tag as tags
 use Rattle.ber_spelling.specs.declared.spot.StringKind.TheVariants.{OfOctets, OfBits}
 use Rattle.ber_spelling.specs.Rules.{always, string_rule, whole_octets, whole_text, cleared, whole_bits, has_zero_bits, bare, plain}
-use Rattle.ber_spelling.specs.Spelling.{Spelled, IsPrimitive, IsConstructed, IsWhole, PartsAre, SequenceIs, SetIs, ChoiceIs, Steps, ListStep, ListIs, BooleanIs, EnumeratedIs, IntegerIs, NullIs, ObjectIdIs, AnyIs, RowIs, RowOr, SpelledBy, Spells, OrExplicit, IsOther, PartIs, SetItemStep, SetOfIs}
+use Rattle.ber_spelling.specs.Spelling.{Spelled, IsPrimitive, IsConstructed, IsWhole, PartsAre, SequenceIs, SetIs, ChoiceIs, Steps, ListStep, ListIs, BooleanIs, EnumeratedIs, IntegerIs, NullIs, ObjectIdIs, AnyIs, RowIs, RowOr, SpelledBy, Spells, OrExplicit, IsOther, SetItemStep, SetOfIs}
 use Rattle.asn1_types.specs.Writing.{Writer, definite, boolean_contents, integer_contents, octets_contents, text_contents, bits_contents, object_id_contents, values_contents, list_contents, parts_contents, sequence_contents, set_parts, alternative_written, choice_written, any_written, under, write_by, nothing_written, writes, written, subidentifiers}
 use Rattle.asn1_types.specs.Tags.{tag_or, front_rank}
 use Rattle.ber_spelling.specs.declared.spot.Scope.{Scope}
@@ -37,7 +36,7 @@ use Rattle.ber_spelling.proofs.WrittenSets.{Told, AllSpelled, AllShort, first_sh
 use Rattle.ber_spelling.proofs.WrittenFields.{definite_is, contents_short, Has64, integer_is, subidentifiers_are}
 use Rattle.ber_spelling.proofs.Oids.{arcs_small}
 use Rattle.ber_spelling.proofs.RisingLaws.{items_in, items_same, GoOn, go_on, rising_goes, rising_sorted}
-use Rattle.asn1_types.specs.Rising.{is_short, set_rises}
+use Rattle.asn1_types.specs.Rising.{set_rises}
 
 abbrev Most : ℕ
 Most = 2 ^ 64
@@ -312,10 +311,10 @@ module _ (fit : ℕ → Value → Bool) (write : ℕ → Writer) (rel : ℕ → 
         ),
       )
 
-  set_of_written : (spell : Value → List ℕ) (of levels : ℕ) (v : Value) → nest of ≤ levels → list_fits (fit of) v ≡ true → set_rises is_short spell v ≡ true → length (list_contents (write of) v) < Most → SetOfIs spell (rel of) strict v levels (list_contents (write of) v)
+  set_of_written : (spell : Value → List ℕ) (of levels : ℕ) (v : Value) → nest of ≤ levels → list_fits (fit of) v ≡ true → set_rises spell v ≡ true → length (list_contents (write of) v) < Most → SetOfIs spell (rel of) strict v levels (list_contents (write of) v)
   set_of_written spell of levels (list vs) le e up short =
-      let w = set_values_written spell of levels [] vs le e (rising_goes spell is_short vs up) short in
-      (items_in vs, ap (λ (x : Values). Some (list x)) (rising_sorted spell is_short vs up), w.0, w.1)
+      let w = set_values_written spell of levels [] vs le e (rising_goes spell vs up) short in
+      (items_in vs, ap (λ (x : Values). Some (list x)) (rising_sorted spell vs up), w.0, w.1)
   set_of_written spell of levels null le e up short = absurd cc
   set_of_written spell of levels (integer z) le e up short = absurd cc
   set_of_written spell of levels (boolean b) le e up short = absurd cc
@@ -435,7 +434,7 @@ module _ (whole : (os : List ℕ) → is_whole os ≡ true → IsWhole 32 os) wh
   module _ (spell : ℕ → Value → List ℕ) (openings : ℕ → List Opening) (fit : ℕ → Value → Bool) (write : ℕ → Writer) (rel : ℕ → Spelled) (nest : ℕ → ℕ) (each : (m : ℕ) → RowWritten (fit m) (write m) (rel m) (nest m))
       (told : (m : ℕ) (d : Option ℤ) (strict : Bool) (levels : ℕ) (v : Value) (s : List ℕ) → rel m (bare d) strict levels v s → Told openings m s)
     where
-      choice_is : (ps : List Part) (t : Option tags.Tag) (strict : Bool) (levels : ℕ) (v : Value) → OkTag t → need t (1 + greatest nest (rows_of_parts ps)) ≤ levels → fits_by is_short spell fit (row.Choice ps) v ≡ true → length (write_by write (row.Choice ps) t v) < Most → OrExplicit (ChoiceIs rel ps) t strict levels v (write_by write (row.Choice ps) t v)
+      choice_is : (ps : List Part) (t : Option tags.Tag) (strict : Bool) (levels : ℕ) (v : Value) → OkTag t → need t (1 + greatest nest (rows_of_parts ps)) ≤ levels → form_by spell fit (row.Choice ps) v ≡ true → length (write_by write (row.Choice ps) t v) < Most → OrExplicit (ChoiceIs rel ps) t strict levels v (write_by write (row.Choice ps) t v)
       choice_is ps None strict levels v ok le e short = chosen_written fit write rel nest each strict levels ps v (omega arith) e short
       choice_is ps (Some t) strict levels v ok le e short =
           let l = lower (greatest nest (rows_of_parts ps)) levels (omega arith) in
@@ -452,7 +451,7 @@ module _ (whole : (os : List ℕ) → is_whole os ≡ true → IsWhole 32 os) wh
       some_level None k levels le = le
       some_level (Some t) k levels le = omega arith
 
-      row_is : (r : TypeRow) → has_clash openings r ≡ false → HasShortTag r → (t : Option tags.Tag) (d : Option ℤ) (strict : Bool) (levels : ℕ) (v : Value) → OkTag t → need t (nesting_by nest r) ≤ levels → fits_by is_short spell fit r v ≡ true → IsOther d strict v → length (write_by write r t v) < Most → RowIs spell rel r (Rattle.ber_spelling.specs.Rules.under t d) strict levels v (write_by write r t v)
+      row_is : (r : TypeRow) → has_clash openings r ≡ false → HasShortTag r → (t : Option tags.Tag) (d : Option ℤ) (strict : Bool) (levels : ℕ) (v : Value) → OkTag t → need t (nesting_by nest r) ≤ levels → form_by spell fit r v ≡ true → IsOther d strict v → length (write_by write r t v) < Most → RowIs spell rel r (Rattle.ber_spelling.specs.Rules.under t d) strict levels v (write_by write r t v)
       row_is row.Boolean apart small t d strict levels v ok le e other short =
           primitive_is strict (tag_or t Universal 1) levels (λ c. BooleanIs strict v c × IsOther d strict v) (boolean_contents v) (tag_ok t Universal 1 ok (omega arith)) (omega (arith, some_level t 0 levels le)) short (boolean_written strict v e, other)
       row_is (row.Integer low high) apart small t d strict levels v ok le e other short =
@@ -491,7 +490,7 @@ module _ (whole : (os : List ℕ) → is_whole os ≡ true → IsWhole 32 os) wh
       row_is (row.SetOf of) apart small t d strict levels v ok le e other short =
           let l = lower (nest of.0) levels (omega (arith, some_level t (greatest nest (of.0 ∷ [])) levels le)) in
           let c : List ℕ = list_contents (write of.0) v in
-          let both = and_parts (list_fits (fit of.0) v) (set_rises is_short (spell of.0) v) e in
+          let both = and_parts (list_fits (fit of.0) v) (set_rises (spell of.0) v) e in
           constructed_is strict (tag_or t Universal 17) levels l.0 (SetOfIs (spell of.0) (rel of.0) strict v) c l.1 (tag_ok t Universal 17 ok (omega arith)) short
           (set_of_written fit write rel nest each strict (spell of.0) of.0 l.0 v l.2 both.0 both.1 (contents_short true (tag_or t Universal 17) c Most short))
       row_is (row.Choice ps) apart small t d strict levels v ok le e other short = choice_is ps t strict levels v ok le e short
@@ -505,28 +504,28 @@ module _ (whole : (os : List ℕ) → is_whole os ≡ true → IsWhole 32 os) wh
       row_is row.Any apart small t d strict levels v ok le e other short = any_is t strict levels v ok le e short
 
   module _ (rows : List TypeRow) (sound : IsSound rows) where
-    of_written : (turns n : ℕ) → ((m : ℕ) → RowWritten (along nothing_fits (fits_by is_short (written rows)) rows turns m) (along nothing_written write_by rows turns m) (SpelledBy rows turns m) (nesting rows m)) → (o : Option TypeRow) → slice_get rows n ≡ o
+    of_written : (turns n : ℕ) → ((m : ℕ) → RowWritten (along nothing_fits (form_by (written rows)) rows turns m) (along nothing_written write_by rows turns m) (SpelledBy rows turns m) (nesting rows m)) → (o : Option TypeRow) → slice_get rows n ≡ o
         → (t : Option tags.Tag) (d : Option ℤ) (strict : Bool) (levels : ℕ) (v : Value) → OkTag t → need t (nesting rows n) ≤ levels
-        → of_row nothing_fits (fits_by is_short (written rows) (along nothing_fits (fits_by is_short (written rows)) rows turns)) o v ≡ true → IsOther d strict v → length (of_row nothing_written (write_by (along nothing_written write_by rows turns)) o t v) < Most
+        → of_row nothing_fits (form_by (written rows) (along nothing_fits (form_by (written rows)) rows turns)) o v ≡ true → IsOther d strict v → length (of_row nothing_written (write_by (along nothing_written write_by rows turns)) o t v) < Most
         → RowOr (RowIs (written rows) (SpelledBy rows turns)) o (Rattle.ber_spelling.specs.Rules.under t d) strict levels v (of_row nothing_written (write_by (along nothing_written write_by rows turns)) o t v)
     of_written turns n h None g t d strict levels v ok le e other short = absurd cc
     of_written turns n h (Some r) g t d strict levels v ok le e other short =
-        row_is (written rows) (openings rows) (along nothing_fits (fits_by is_short (written rows)) rows turns) (along nothing_written write_by rows turns) (SpelledBy rows turns) (nesting rows) h (λ m k. told_of rows sound turns m k) r (sound_row rows sound n r g).apart (sound.short n r g) t d strict levels v ok (subst (λ (k : ℕ). need t k ≤ levels) (nesting_at rows sound n r g) le) e other short
+        row_is (written rows) (openings rows) (along nothing_fits (form_by (written rows)) rows turns) (along nothing_written write_by rows turns) (SpelledBy rows turns) (nesting rows) h (λ m k. told_of rows sound turns m k) r (sound_row rows sound n r g).apart (sound.short n r g) t d strict levels v ok (subst (λ (k : ℕ). need t k ≤ levels) (nesting_at rows sound n r g) le) e other short
 
-    all_written : (turns n : ℕ) → RowWritten (along nothing_fits (fits_by is_short (written rows)) rows turns n) (along nothing_written write_by rows turns n) (SpelledBy rows turns n) (nesting rows n)
+    all_written : (turns n : ℕ) → RowWritten (along nothing_fits (form_by (written rows)) rows turns n) (along nothing_written write_by rows turns n) (SpelledBy rows turns n) (nesting rows n)
     all_written zero n = record { is = λ t d strict levels v ok le e other short. absurd cc }
     all_written (suc turns) n = record { is = of_written turns n (λ m. all_written turns m) (slice_get rows n) refl }
 
-    no_fit : (turns n : ℕ) (v : Value) → along nothing_fits (fits_by is_short (written rows)) rows turns n v ≡ true → (r : TypeRow) × (slice_get rows n ≡ Some r)
+    no_fit : (turns n : ℕ) (v : Value) → along nothing_fits (form_by (written rows)) rows turns n v ≡ true → (r : TypeRow) × (slice_get rows n ≡ Some r)
     no_fit zero n v e = absurd cc
     no_fit (suc turns) n v e = by_row (slice_get rows n) refl e
       where
-        by_row : (o : Option TypeRow) → slice_get rows n ≡ o → of_row nothing_fits (fits_by is_short (written rows) (along nothing_fits (fits_by is_short (written rows)) rows turns)) o v ≡ true → (r : TypeRow) × (slice_get rows n ≡ Some r)
+        by_row : (o : Option TypeRow) → slice_get rows n ≡ o → of_row nothing_fits (form_by (written rows) (along nothing_fits (form_by (written rows)) rows turns)) o v ≡ true → (r : TypeRow) × (slice_get rows n ≡ Some r)
         by_row None g e = absurd cc
         by_row (Some r) g e = (r, g)
 
-    pub written_spelled : (n : ℕ) (v : Value) → fits rows n v ≡ true → (strict : Bool) (limit : ℕ) → limit < Most → length (written rows n v) ≤ limit → Spells rows n strict limit v (written rows n v)
-    unfolding fits written writes
+    pub written_spelled : (n : ℕ) (v : Value) → has_form rows n v ≡ true → (strict : Bool) (limit : ℕ) → limit < Most → length (written rows n v) ≤ limit → Spells rows n strict limit v (written rows n v)
+    unfolding has_form written writes
     written_spelled n v e strict limit most le =
         let r = no_fit (length rows) n v e in
         record { by = (all_written (length rows) n).is None None strict 32 v tt (nests rows sound n r.0 r.1) e (no_default strict v) (omega arith); within = le }

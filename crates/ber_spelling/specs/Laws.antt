@@ -5,7 +5,7 @@ use Rattle.asn1_types.specs.declared.row.TypeRow.{TypeRow}
 use Rattle.asn1_types.specs.declared.row.TypeRow.TheVariants.{BitString}
 use Rattle.asn1_types.specs.Table.{IsSound}
 use Rattle.asn1_types.specs.Value.{Value, bits}
-use Rattle.asn1_types.specs.Fits.{are_bits, fits, has_form}
+use Rattle.asn1_types.specs.Fits.{are_bits, has_form}
 use Rattle.asn1_types.specs.Whole.{is_whole}
 use Rattle.ber_spelling.specs.declared.fault.ReadFault.{ReadFault}
 use Rattle.ber_spelling.specs.declared.fault.ReadFault.TheVariants.{NotSpelled, Short, TooDeep, TooLong, NoMemory}
@@ -74,14 +74,14 @@ abbrev pub BeginningIsShort : Type 0
 BeginningIsShort = (rows : List TypeRow) (n : ℕ) (strict : Bool) (limit : ℕ) (v : Value) (front back : List ℕ) → IsSound rows → AreOctets (front ++ back)
     → Spells rows n strict limit v (front ++ back) → 0 < length back → read_at rows n strict limit front ≡ Err Short
 
--- What is written of a value that fits is spelled so, as far as lengths have 8 octets.
+-- What is written of a value that has its form is spelled so, as far as lengths have 8 octets.
 abbrev pub WrittenIsSpelled : Type 0
-WrittenIsSpelled = (rows : List TypeRow) (n : ℕ) (v : Value) → IsSound rows → fits rows n v ≡ true
+WrittenIsSpelled = (rows : List TypeRow) (n : ℕ) (v : Value) → IsSound rows → has_form rows n v ≡ true
     → (strict : Bool) (limit : ℕ) → limit < 2 ^ 64 → length (written rows n v) ≤ limit → Spells rows n strict limit v (written rows n v)
 
--- what is written of a value that fits is read back, whatever follows
+-- what is written of a value that has its form is read back, whatever follows
 abbrev pub WrittenIsRead : Type 0
-WrittenIsRead = (rows : List TypeRow) (n : ℕ) (v : Value) → IsSound rows → fits rows n v ≡ true
+WrittenIsRead = (rows : List TypeRow) (n : ℕ) (v : Value) → IsSound rows → has_form rows n v ≡ true
     → (strict : Bool) (limit : ℕ) (rest : List ℕ) → limit < 2 ^ 64 → length (written rows n v) ≤ limit → read_at rows n strict limit (written rows n v ++ rest) ≡ Ok (v, length (written rows n v))
 
 -- what is spelled in DER is spelled so in BER
@@ -93,8 +93,8 @@ abbrev pub DerIsBerInForm : Type 0
 DerIsBerInForm = (rows : List TypeRow) (n limit : ℕ) (bytes : List ℕ)
     → (read_at rows n true limit bytes ≡ read_at rows n false limit bytes) ⊎ ((place : ℕ) × (read_at rows n true limit bytes ≡ Err (NotSpelled place Form)))
 
--- What octets spell fits the row, with it each part of it and each unused bit; but the items of a SET OF may be longer
--- than those of a value that fits.
+-- What octets spell has the form of the row, with it each part of it and each unused bit; it fits unless its DER spelling or its
+-- packed one is too long.
 abbrev pub SpelledFits : Type 0
 SpelledFits = (rows : List TypeRow) (n : ℕ) (strict : Bool) (limit : ℕ) (v : Value) (spelled : List ℕ) → AreOctets spelled → Spells rows n strict limit v spelled → has_form rows n v ≡ true
 

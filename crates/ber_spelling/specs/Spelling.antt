@@ -9,7 +9,7 @@ use Rattle.asn1_types.specs.declared.row.Part.{Part}
 use Rattle.asn1_types.specs.declared.row.TypeRow.{TypeRow}
 use Rattle.asn1_types.specs.declared.row.TypeRow.TheVariants as row
 use Rattle.asn1_types.specs.declared.row.Item.{Item}
-use Rattle.asn1_types.specs.Rows.{class_number, is_no_tag, text_number}
+use Rattle.asn1_types.specs.Rows.{is_no_tag, text_number}
 use Rattle.asn1_types.specs.Limits.{most_levels, most_octets}
 use Rattle.asn1_types.specs.Defaults.{is_item, may_be_absent, is_default, kept}
 use Rattle.asn1_types.specs.Value.{Value, boolean, integer, null, object_id, parts, chosen, any, MaybeValues, no_parts, absent, present}

@@ -52,12 +52,13 @@ pub fn beginning_is_short()
     ensures { BeginningIsShort }
 {}
 
-/// What is written of a value that fits is spelled so, in DER too.
+/// What is written of a value that has the form of its row, as one that fits has, is spelled so, in
+/// DER too.
 pub fn written_is_spelled()
     ensures { WrittenIsSpelled }
 {}
 
-/// What is written of a value that fits is read back as the value, whatever follows.
+/// What is written of such a value is read back as the value, whatever follows.
 pub fn written_is_read()
     ensures { WrittenIsRead }
 {}
@@ -73,7 +74,8 @@ pub fn der_is_ber_in_form()
     ensures { DerIsBerInForm }
 {}
 
-/// What is spelled fits its type. So, with `read_is_spelled`, does what is read.
+/// What is spelled has the form of its row. So, with `read_is_spelled`, has what is read. It fits
+/// unless its DER spelling or its packed one has more than 4,294,967,295 octets.
 pub fn spelled_fits()
     ensures { SpelledFits }
 {}

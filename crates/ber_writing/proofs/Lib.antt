@@ -1,5 +1,9 @@
 pub mod OctetLaws
 pub mod HeadLaws
+pub mod ShortForms
+pub mod Sizes
+pub mod ComparedLaws
+pub mod RestLaws
 pub mod LessLaws
 pub mod MergeLaws
 pub mod Counts

@@ -7,10 +7,13 @@ ghost use Rattle.asn1_types.specs.Rows.{rows_of_parts};
 ghost use Rattle.asn1_types.specs.Table.{IsSound};
 ghost use Rattle.asn1_types.specs.ValueView.{parts_of, values_of};
 ghost use Rattle.asn1_types.specs.Writing.{written};
-ghost use Rattle.asn1_types.specs.Rising.{is_short};
-ghost use Rattle.asn1_types.specs.Fits.{has_32_bits, boolean_fits, integer_fits, enumerated_fits, null_fits, object_id_fits, octets_fit, bits_fit, text_fits, part_fits, parts_fit, sequence_fits, values_fit, list_fits, alternative_fits, choice_fits, any_fits, fits_by, fits};
+ghost use Rattle.asn1_types.specs.Fits.{has_32_bits, boolean_fits, integer_fits, enumerated_fits, null_fits, object_id_fits, octets_fit, bits_fit, text_fits, part_fits, parts_fit, sequence_fits, values_fit, list_fits, alternative_fits, choice_fits, any_fits, is_short, fits};
+ghost use Rattle.asn1_types.specs.PackedSize.{packed_size};
+ghost use Rattle.ber_writing.specs.Short.{short_by, has_short_form};
 
-use crate::order::set_rises;
+use crate::length::ber_len;
+use crate::order::{MOST, set_stands};
+use crate::size::packed_size;
 use asn1_types::{
     Item, Node, Part, Parts, TextKind, TypeId, TypeRow, TypeTable, Val, are_bits, are_octets,
     has_default_value, is_item, is_text, is_whole, may_be_absent,
@@ -111,13 +114,31 @@ fn any_fits(value: &Val) -> bool
 /// an OCTET STRING of at most `most` octets, a BIT STRING whose 0 to 7 unused bits are zero, a text
 /// of characters of its kind, of a SEQUENCE or SET as many parts as the row has in the order of the
 /// notation, each there unless it may be absent and none with its default's value, of a SET OF items
-/// in rising order of their DER spellings (X.690 11.6), each of at most 4,294,967,295 octets, of a
-/// CHOICE an alternative that is there, and in an `Any` one whole value (X.690 8.1). Nothing fits a
-/// row that is not there. No memory is taken; items of a SET OF with more than 256 octets are
-/// compared octet by octet, each octet found from the item's front.
-#[cycle(fitting)]
+/// in rising order of their DER spellings (X.690 11.6), of a CHOICE an alternative that is there, and
+/// in an `Any` one whole value (X.690 8.1). Its DER spelling and its packed one have at most
+/// 4,294,967,295 octets each. Nothing fits a row that is not there. It takes time linear in the value,
+/// and no memory.
 pub fn fits(table: &TypeTable, of: TypeId, value: &Val) -> bool
     ensures { result ≡ fits table.now of.0 value.now }
+{
+    if table.len() <= of.0 as usize {
+        return false;
+    }
+    are_short(table, of, value) && has_form(table, of, value)
+}
+
+/// Whether the DER spelling of a value and its packed one have at most 4,294,967,295 octets each.
+fn are_short(table: &TypeTable, of: TypeId, value: &Val) -> bool
+    ensures { result ≡ (is_short (length (written table.now of.0 value.now))
+        && is_short (packed_size table.now of.0 value.now)) }
+{
+    ber_len(table, of, value) <= MOST && packed_size(table, of, value) <= MOST
+}
+
+/// Whether a value has the form of a row, and items of a SET OF have short spellings.
+#[cycle(fitting)]
+fn has_form(table: &TypeTable, of: TypeId, value: &Val) -> bool
+    ensures { result ≡ has_short_form table.now of.0 value.now }
 {
     table.has(of) && fits_row(table, of, table.row(of), value)
 }
@@ -126,7 +147,7 @@ pub fn fits(table: &TypeTable, of: TypeId, value: &Val) -> bool
 fn fits_row(table: &TypeTable, of: TypeId, row: &TypeRow, value: &Val) -> bool
     requires row { slice_get table.now of.0 ≡ Some row.now }
     requires sound { IsSound table.now }
-    ensures { result ≡ fits_by is_short (written table.now) (fits table.now) row.now value.now }
+    ensures { result ≡ short_by (written table.now) (has_short_form table.now) row.now value.now }
 {
     match row {
         TypeRow::Boolean => boolean_fits(value),
@@ -141,10 +162,10 @@ fn fits_row(table: &TypeTable, of: TypeId, row: &TypeRow, value: &Val) -> bool
         TypeRow::Set(parts) => sequence_fits(table, of, parts.as_slice(), value),
         TypeRow::SequenceOf(inner) => list_fits(table, of, *inner, value),
         TypeRow::SetOf(inner) => {
-            list_fits(table, of, *inner, value) && set_rises(table, *inner, value)
+            list_fits(table, of, *inner, value) && set_stands(table, *inner, value)
         }
         TypeRow::Choice(alternatives) => choice_fits(table, of, alternatives, value),
-        TypeRow::Tagged { inner, .. } => fits(table, *inner, value),
+        TypeRow::Tagged { inner, .. } => has_form(table, *inner, value),
         TypeRow::Any => any_fits(value),
     }
 }
@@ -153,7 +174,7 @@ fn fits_row(table: &TypeTable, of: TypeId, row: &TypeRow, value: &Val) -> bool
 fn list_fits(table: &TypeTable, of: TypeId, inner: TypeId, value: &Val) -> bool
     requires below { inner.0 < of.0 }
     requires within { of.0 ≤ length table.now }
-    ensures { result ≡ list_fits (fits table.now inner.0) value.now }
+    ensures { result ≡ list_fits (has_short_form table.now inner.0) value.now }
 {
     match &value.node {
         Node::List(values) => values_fit(table, of, inner, values),
@@ -165,10 +186,10 @@ fn list_fits(table: &TypeTable, of: TypeId, inner: TypeId, value: &Val) -> bool
 fn values_fit(table: &TypeTable, of: TypeId, inner: TypeId, values: &[Val]) -> bool
     requires below { inner.0 < of.0 }
     requires within { of.0 ≤ length table.now }
-    ensures { result ≡ values_fit (fits table.now inner.0) (values_of values.now) }
+    ensures { result ≡ values_fit (has_short_form table.now inner.0) (values_of values.now) }
 {
     for value in values {
-        if !fits(table, inner, value) {
+        if !has_form(table, inner, value) {
             return false;
         }
     }
@@ -179,7 +200,7 @@ fn values_fit(table: &TypeTable, of: TypeId, inner: TypeId, values: &[Val]) -> b
 fn sequence_fits(table: &TypeTable, of: TypeId, parts: &[Part], value: &Val) -> bool
     requires below { AllByRecursion (λ m. m < of.0) (rows_of_parts parts.now) }
     requires within { of.0 ≤ length table.now }
-    ensures { result ≡ sequence_fits (parts_fit (fits table.now) parts.now) value.now }
+    ensures { result ≡ sequence_fits (parts_fit (has_short_form table.now) parts.now) value.now }
 {
     match &value.node {
         Node::Parts(values) => parts_fit(table, of, parts, values),
@@ -191,7 +212,7 @@ fn sequence_fits(table: &TypeTable, of: TypeId, parts: &[Part], value: &Val) -> 
 fn parts_fit(table: &TypeTable, of: TypeId, parts: &[Part], values: &[Option<Val>]) -> bool
     requires below { AllByRecursion (λ m. m < of.0) (rows_of_parts parts.now) }
     requires within { of.0 ≤ length table.now }
-    ensures { result ≡ parts_fit (fits table.now) parts.now (parts_of values.now) }
+    ensures { result ≡ parts_fit (has_short_form table.now) parts.now (parts_of values.now) }
 {
     if parts.len() != values.len() {
         return false;
@@ -208,10 +229,10 @@ fn parts_fit(table: &TypeTable, of: TypeId, parts: &[Part], values: &[Option<Val
 fn part_fits(table: &TypeTable, of: TypeId, part: &Part, value: &Option<Val>) -> bool
     requires below { part.now.inner.0 < of.0 }
     requires within { of.0 ≤ length table.now }
-    ensures { result ≡ part_fits (fits table.now) part.now value.now }
+    ensures { result ≡ part_fits (has_short_form table.now) part.now value.now }
 {
     match value {
-        Some(value) => !has_default_value(part, value) && fits(table, part.inner, value),
+        Some(value) => !has_default_value(part, value) && has_form(table, part.inner, value),
         None => may_be_absent(part),
     }
 }
@@ -220,12 +241,12 @@ fn part_fits(table: &TypeTable, of: TypeId, part: &Part, value: &Option<Val>) ->
 fn choice_fits(table: &TypeTable, of: TypeId, alternatives: &Parts, value: &Val) -> bool
     requires below { AllByRecursion (λ m. m < of.0) (rows_of_parts alternatives.now) }
     requires within { of.0 ≤ length table.now }
-    ensures { result ≡ choice_fits (λ which. alternative_fits (fits table.now)
+    ensures { result ≡ choice_fits (λ which. alternative_fits (has_short_form table.now)
         (slice_get alternatives.now which)) value.now }
 {
     match &value.node {
         Node::Chosen { which, value } => match alternatives.get(*which as usize) {
-            Some(part) => fits(table, part.inner, value),
+            Some(part) => has_form(table, part.inner, value),
             None => false,
         },
         _ => false,

@@ -84,7 +84,7 @@ pub(crate) fn length_len(count: u64) -> u64
 }
 
 /// The length of a spelling that has contents of this length.
-fn definite_len(tag: Tag, count: u64) -> u64
+pub(crate) fn definite_len(tag: Tag, count: u64) -> u64
     ensures { result ≡ saturated (length (identifier tag.class false tag.number)
         + (length (length_octets count) + count)) }
 {

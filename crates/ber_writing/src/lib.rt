@@ -2,15 +2,22 @@
 //! and writing them.
 #![tactic(auto)]
 
+mod compare;
+mod contents;
+mod fields;
 mod fitting;
+mod head;
 mod length;
 mod octet;
 mod order;
+mod pieces;
+mod size;
 mod sort;
 mod write;
 
 pub use fitting::fits;
 pub use length::ber_len;
 pub use order::is_less;
+pub use size::packed_size;
 pub use sort::{follows_last, in_order};
 pub use write::{ber_octets, ber_write};

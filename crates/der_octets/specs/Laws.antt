@@ -3,7 +3,7 @@ use Rattle.std.specs.Prelude.{◌≡◌, ◌≢◌, ◌<◌, ◌^◌, ℕ, true,
 use Rattle.std.specs.List.{list_all}
 use Rattle.asn1_types.specs.declared.row.TypeRow.{TypeRow}
 use Rattle.asn1_types.specs.declared.row.TypeRow.TheVariants as row
-use Rattle.asn1_types.specs.Fits.{fits, is_octet}
+use Rattle.asn1_types.specs.Fits.{has_form, is_octet}
 use Rattle.asn1_types.specs.Value.{Value, boolean, integer, null, octets, bits, object_id, text, parts, list, chosen, any, MaybeValues, no_parts, absent, present, Values, no_values, value}
 use Rattle.asn1_types.specs.Writing.{written}
 
@@ -38,6 +38,6 @@ abbrev mutual
 abbrev pub DerAreOctets : Type 0
 DerAreOctets = (rows : List TypeRow) (n : ℕ) (v : Value) → LeavesAre v → length (written rows n v) < 2 ^ 24 → AreOctets (written rows n v)
 
--- so it is of each value that fits a table without `Any`
+-- so it is of each value that has the form of a row of a table without `Any`
 abbrev pub FittingLeavesAre : Type 0
-FittingLeavesAre = (rows : List TypeRow) (n : ℕ) (v : Value) → ((k : ℕ) → slice_get rows k ≢ Some row.Any) → fits rows n v ≡ true → LeavesAre v
+FittingLeavesAre = (rows : List TypeRow) (n : ℕ) (v : Value) → ((k : ℕ) → slice_get rows k ≢ Some row.Any) → has_form rows n v ≡ true → LeavesAre v

@@ -8,7 +8,7 @@ pub fn der_are_octets()
     ensures law { DerAreOctets }
 {}
 
-/// So they are in each value that fits a table without `Any`.
+/// So they are in each value that has the form of a row of a table without `Any`.
 pub fn fitting_leaves_are()
     ensures law { FittingLeavesAre }
 {}

@@ -5,7 +5,7 @@ use Rattle.osi_base.specs.declared.syntax.Syntax.TheVariants.{Ber, Der}
 use Rattle.osi_base.specs.declared.words.SetItem.{SetItem}
 use Rattle.asn1_types.specs.Value.{Value, any}
 use Rattle.asn1_types.specs.Whole.{is_whole}
-use Rattle.asn1_types.specs.Fits.{fits}
+use Rattle.asn1_types.specs.Fits.{has_form}
 use Rattle.ber_spelling.specs.Octets.{AreOctets}
 use Rattle.ber_spelling.specs.Spelling as spelling
 use Rattle.asn1_types.specs.Writing.{written as written_value}
@@ -43,7 +43,7 @@ use Rattle.end_wire.proofs.FirstLaws.{whole_first, beginning_short}
 use Rattle.end_wire.proofs.ContentLaws.{one_content}
 
 any_is : (text : List ℕ) → is_whole text ≡ true → length text ≤ 262144 → IsWhole text
-unfolding IsWhole written_value writes fits
+unfolding IsWhole written_value writes has_form
 any_is text e le = value_spelled whole_is values.head_rows values_sound.heads_sound values.any_row (any text) e false 262144 (omega arith) le
 
 -- ---- what is written in BER is what is written in DER

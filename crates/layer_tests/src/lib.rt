@@ -8,6 +8,8 @@ mod ber;
 #[cfg(test)]
 mod ber_written;
 #[cfg(test)]
+mod comparing;
+#[cfg(test)]
 mod packed;
 #[cfg(test)]
 mod packets;

@@ -91,7 +91,8 @@ impl<'t> Cursor<'t> {
     #[tactic(auto, using(crate::proofs::Loops::counted_goes, crate::proofs::Loops::with_front_nothing))]
     /// The arcs behind the second, of which there are 30 at most.
     fn more_arcs(&mut self, alloc: Global) -> Result<ListOf<u32>, Refusal>
-        ensures gives { Gives result self.new (many_at (goes_on (codes "}")) (arc_at most_32) 30 self.old) }
+        ensures gives { Gives result self.new
+            (many_at (goes_on (codes "}")) (arc_at most_32) 30 self.old) }
         ensures keeps { length self.new ≤ length self.old }
         ensures few { IfOk result (λ arcs. length arcs ≤ 30) }
     {

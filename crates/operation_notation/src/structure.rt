@@ -89,7 +89,8 @@ impl<'t> Cursor<'t> {
     /// A part behind a comma.
     #[cycle(types)]
     fn next_part(&mut self, alloc: Global, levels: u32, may: bool) -> Result<PartText, Refusal>
-        ensures gives { Gives result self.new (behind (codes ",") (part_at may (type_at narrow levels)) self.old) }
+        ensures gives { Gives result self.new
+            (behind (codes ",") (part_at may (type_at narrow levels)) self.old) }
         ensures takes { OnOk result (length self.new < length self.old) }
         ensures keeps { length self.new ≤ length self.old }
     {
@@ -106,7 +107,8 @@ impl<'t> Cursor<'t> {
         levels: u32,
         may: bool,
     ) -> Result<ListOf<PartText>, Refusal>
-        ensures gives { Gives result self.new (listed_at (codes ",") (part_at may (type_at narrow levels)) self.old) }
+        ensures gives { Gives result self.new
+            (listed_at (codes ",") (part_at may (type_at narrow levels)) self.old) }
         ensures takes { OnOk result (length self.new < length self.old) }
         ensures keeps { length self.new ≤ length self.old }
     {

@@ -92,5 +92,6 @@ pub trait Files {
 
         // An allocation was refused
         ensures no_memory { IsErrOf result FileFault.NoMemory → faults self.new ≡ faults self.old }
-        ensures no_memory_asked { IsErrOf result FileFault.NoMemory → asked self.new ≡ asked self.old };
+        ensures no_memory_asked { IsErrOf result FileFault.NoMemory →
+            asked self.new ≡ asked self.old };
 }

@@ -102,7 +102,8 @@ pub trait Line {
         // An allocation was refused
         ensures no_memory { IsErrOf result LineFault.NoMemory → faults self.new ≡ faults self.old }
         ensures no_memory_log { IsErrOf result LineFault.NoMemory → told self.new ≡ told self.old }
-        ensures no_memory_read { IsErrOf result LineFault.NoMemory → octets_read self.new ≡ octets_read self.old };
+        ensures no_memory_read { IsErrOf result LineFault.NoMemory →
+            octets_read self.new ≡ octets_read self.old };
 
     /// Waits for a connection from a peer at this port.
     fn accept(&mut self, alloc: Global, port: u16) -> Result<(), LineFault>
@@ -122,7 +123,8 @@ pub trait Line {
         // An allocation was refused
         ensures no_memory { IsErrOf result LineFault.NoMemory → faults self.new ≡ faults self.old }
         ensures no_memory_log { IsErrOf result LineFault.NoMemory → told self.new ≡ told self.old }
-        ensures no_memory_read { IsErrOf result LineFault.NoMemory → octets_read self.new ≡ octets_read self.old };
+        ensures no_memory_read { IsErrOf result LineFault.NoMemory →
+            octets_read self.new ≡ octets_read self.old };
 
     /// Reads octets into the front of this room, and answers how many. None are the peer's end.
     fn read(&mut self, room: &mut [u8]) -> Result<usize, LineFault>
@@ -175,5 +177,6 @@ pub trait Line {
         ensures ok_count { OnOk result (faults self.new ≡ faults self.old) }
         ensures read { octets_read self.new ≡ octets_read self.old }
         ensures failed { OnErr result (Rose (faults self.old) (faults self.new)) }
-        ensures failed_log { OnErr result (IfSome (told self.new) (λ log. Some log ≡ logged (LineCall.Shut Outcome.Failed) (told self.old))) };
+        ensures failed_log { OnErr result (IfSome (told self.new)
+            (λ log. Some log ≡ logged (LineCall.Shut Outcome.Failed) (told self.old))) };
 }

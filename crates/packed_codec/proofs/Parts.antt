@@ -16,7 +16,7 @@ use Rattle.packed_codec.specs.Rules.{Reader, last_size, present_at, marked_at, p
 use Rattle.packed_codec.specs.Writing.{Writer, part_written, parts_written, sequence_written, how_many, values_written, list_written, alternative_written, choice_written, items, items_of_parts, items_of_values}
 use Rattle.packed_codec.proofs.Taking.{bind_ok, unless_ok, if_ok, chosen_ok, ok_is, octets_right, Took, took_octets, octet_found, count_found}
 use Rattle.packed_codec.proofs.Spelled.{ReadAs, Found}
-use Rattle.asn1_types.specs.Rising.{behind_last, any_length, set_rises}
+use Rattle.asn1_types.specs.Rising.{behind_last, set_rises}
 use Rattle.ber_spelling.proofs.RisingLaws.{GoOn, up_after, goes_rise}
 
 -- what was read at a spot: octets, a fitting value, and how many items its lists have
@@ -225,7 +225,7 @@ module _ (test : ℕ → Value → Bool) (write : ℕ → Writer) (inner : ℕ �
         (stands, up_after spell before b.0.0 (values_of c.0.0) g.2),
       )
 
-  pub set_of_found : (spell : Value → List ℕ) (n : ℕ) → Found (λ v. list_fits (test n) v && set_rises any_length spell v) (list_written (write n)) (set_of_at spell (inner n))
+  pub set_of_found : (spell : Value → List ℕ) (n : ℕ) → Found (λ v. list_fits (test n) v && set_rises spell v) (list_written (write n)) (set_of_at spell (inner n))
   unfolding set_of_at
   set_of_found spell n = record {
     found = λ limit s v to are here e.
@@ -240,7 +240,7 @@ module _ (test : ℕ → Value → Bool) (write : ℕ → Writer) (inner : ℕ �
         let g = set_items_found spell n [] k limit (spent k mid) c.0.0 c.0.1 (took_octets limit s mid (big_bytes 4 k) t are) t.inside c.1 in
         let many : how_many (values_of c.0.0) ≡ k = g.1 in
         let texts : List ℕ = values_written (write n) (values_of c.0.0) in
-        subst (λ (y : Value × Spot). ReadAs (λ v. list_fits (test n) v && set_rises any_length spell v) (list_written (write n)) limit s y.0 y.1) same
+        subst (λ (y : Value × Spot). ReadAs (λ v. list_fits (test n) v && set_rises spell v) (list_written (write n)) limit s y.0 y.1) same
         (record {
           parts = t.parts ∙ ap (λ (x : List ℕ). big_bytes 4 k ++ x) g.0.parts ∙ ap (λ (j : ℕ). (big_bytes 4 j ++ texts) ++ c.0.1.rest) (sym many);
           onward = omega (arith, t.onward, g.0.onward);

@@ -14,7 +14,7 @@ use Rattle.packed_codec.specs.Writing.{Writer, part_written, parts_written, sequ
 use Rattle.packed_codec.proofs.Taking.{octet_again, count_again}
 use Rattle.packed_codec.proofs.Spelled.{at_spot, Only}
 use Rattle.packed_codec.proofs.Parts.{items_of_part, list_of, parts_list, items_list, values_list}
-use Rattle.asn1_types.specs.Rising.{any_length, rise, set_rises}
+use Rattle.asn1_types.specs.Rising.{rise, set_rises}
 use Rattle.ber_spelling.proofs.RisingLaws.{GoOn, go_on, rising_goes}
 
 -- a text with what follows it, cut in two
@@ -170,17 +170,17 @@ module _ (test : ℕ → Value → Bool) (write : ℕ → Writer) (inner : ℕ �
       let others = set_items_back spell n (before ++ v ∷ []) (place + length a) (left - items v) vs rest t.1 (go_on spell before v vs up.1) (omega arith) (omega arith) (omega arith) in
       step_back (set_item_at spell (inner n) before limit) (λ x. set_items_at (set_item_at spell (inner n)) (before ++ x.0 ∷ []) (how_many vs) limit x.1 >>= λ more. Ok (x.0 ∷ more.0, more.1)) place left (items v) (items_of_values vs) a b rest v (items_list vs) few step (rw others refl)
 
-  pub set_of_back : (spell : Value → List ℕ) (n place left : ℕ) (v : Value) (rest : List ℕ) → (list_fits (test n) v && set_rises any_length spell v) ≡ true → place + length (list_written (write n) v) ≤ limit → items v ≤ left → left ≤ most_items
+  pub set_of_back : (spell : Value → List ℕ) (n place left : ℕ) (v : Value) (rest : List ℕ) → (list_fits (test n) v && set_rises spell v) ≡ true → place + length (list_written (write n) v) ≤ limit → items v ≤ left → left ≤ most_items
       → set_of_at spell (inner n) limit (at_spot place (list_written (write n) v ++ rest) left) ≡ Ok (v, at_spot (place + length (list_written (write n) v)) rest (left - items v))
   unfolding set_of_at
   set_of_back spell n place left (list vs) rest f le few most =
-      let t = and_parts (values_fit (test n) vs) (rise any_length spell vs) f in
+      let t = and_parts (values_fit (test n) vs) (rise spell vs) f in
       let k : ℕ = how_many vs in
       let b : List ℕ = values_written (write n) vs in
       let small : k < 2 ^ 32 = omega arith in
       let enough : k ≤ left = omega arith in
       let len = length-append (big_bytes 4 k) b in
-      let others = set_items_back spell n [] (place + 4) (left - k) vs rest t.0 (rising_goes spell any_length vs t.1) (omega arith) (omega arith) (omega arith) in
+      let others = set_items_back spell n [] (place + 4) (left - k) vs rest t.0 (rising_goes spell vs t.1) (omega arith) (omega arith) (omega arith) in
       let to : place + 4 + length b ≡ place + length (big_bytes 4 k ++ b) = omega arith in
       let kept : left - k - items_of_values vs ≡ left - (k + items_of_values vs) = omega arith in
       rw (count_again limit place left k (b ++ rest) small (omega arith), le-ltb left k enough, others)

@@ -4,7 +4,7 @@ use Rattle.std.specs.Prelude.{slice_get}
 use Rattle.asn1_types.specs.declared.row.TypeRow.{TypeRow}
 use Rattle.asn1_types.specs.declared.row.TypeRow.TheVariants as row
 use Rattle.asn1_types.specs.Rows.{of_row, along}
-use Rattle.asn1_types.specs.Fits.{integer_fits, enumerated_fits, octets_fit, text_fits, object_id_fits, fits_by, nothing_fits, has_form}
+use Rattle.asn1_types.specs.Fits.{integer_fits, enumerated_fits, octets_fit, text_fits, object_id_fits, form_by, nothing_fits, has_form}
 use Rattle.asn1_types.specs.Value.{Value}
 use Rattle.packed_codec.specs.Rules.{Reader, dead, read_by}
 use Rattle.packed_codec.specs.Writing.{Writer, number_written, octets_written, text_written, object_id_written, nothing_written, write_by}
@@ -14,7 +14,6 @@ use Rattle.packed_codec.proofs.Contents.{integer_sized, enumerated_sized, octets
 use Rattle.packed_codec.proofs.Parts.{sequence_found, list_found, set_of_found, choice_found}
 use Rattle.packed_codec.proofs.PartsBack.{sequence_back, list_back, set_of_back, choice_back}
 use Rattle.asn1_types.specs.Writing.{written}
-use Rattle.asn1_types.specs.Rising.{any_length}
 
 dead_found : (test : Value → Bool) (write : Writer) → Found test write dead
 dead_found test write = record { found = λ limit s v to are here e. absurd cc }
@@ -77,7 +76,7 @@ module _ (rows : List TypeRow) where
 
 -- ---- tables without `Any`
 
-packs_is : (spell : ℕ → Value → List ℕ) (f : ℕ → Value → Bool) (r : TypeRow) → r ≢ row.Any → packs_by spell f r ≡ fits_by any_length spell f r
+packs_is : (spell : ℕ → Value → List ℕ) (f : ℕ → Value → Bool) (r : TypeRow) → r ≢ row.Any → packs_by spell f r ≡ form_by spell f r
 packs_is spell f row.Boolean ne = refl
 packs_is spell f (row.Integer low high) ne = refl
 packs_is spell f (row.Enumerated named) ne = refl
@@ -95,13 +94,13 @@ packs_is spell f (row.Tagged class number explicit of) ne = refl
 packs_is spell f row.Any ne = absurd (ne refl)
 
 module _ (rows : List TypeRow) (none : HasNoAny rows) where
-  row_packs : (turns n : ℕ) → along nothing_fits (packs_by (written rows)) rows turns ≡ along nothing_fits (fits_by any_length (written rows)) rows turns → (o : Option TypeRow) → slice_get rows n ≡ o
-      → of_row nothing_fits (packs_by (written rows) (along nothing_fits (packs_by (written rows)) rows turns)) o ≡ of_row nothing_fits (fits_by any_length (written rows) (along nothing_fits (fits_by any_length (written rows)) rows turns)) o
+  row_packs : (turns n : ℕ) → along nothing_fits (packs_by (written rows)) rows turns ≡ along nothing_fits (form_by (written rows)) rows turns → (o : Option TypeRow) → slice_get rows n ≡ o
+      → of_row nothing_fits (packs_by (written rows) (along nothing_fits (packs_by (written rows)) rows turns)) o ≡ of_row nothing_fits (form_by (written rows) (along nothing_fits (form_by (written rows)) rows turns)) o
   row_packs turns n h None g = refl
   row_packs turns n h (Some r) g =
-      packs_is (written rows) (along nothing_fits (packs_by (written rows)) rows turns) r (λ e. none.each n (g ∙ ap (λ (x : TypeRow). Some x) e)) ∙ ap (λ (f : ℕ → Value → Bool). fits_by any_length (written rows) f r) h
+      packs_is (written rows) (along nothing_fits (packs_by (written rows)) rows turns) r (λ e. none.each n (g ∙ ap (λ (x : TypeRow). Some x) e)) ∙ ap (λ (f : ℕ → Value → Bool). form_by (written rows) f r) h
 
-  along_packs : (turns n : ℕ) → along nothing_fits (packs_by (written rows)) rows turns n ≡ along nothing_fits (fits_by any_length (written rows)) rows turns n
+  along_packs : (turns n : ℕ) → along nothing_fits (packs_by (written rows)) rows turns n ≡ along nothing_fits (form_by (written rows)) rows turns n
   along_packs zero n = refl
   along_packs (suc turns) n = row_packs turns n (λ i m. along_packs turns m i) (slice_get rows n) refl
 

@@ -3,7 +3,7 @@ use Rattle.std.specs.Prelude.{◌≡◌, ◌≢◌, ℕ, ◌<◌, ◌≤◌, ◌
 use Rattle.asn1_types.specs.declared.row.TypeRow.{TypeRow}
 use Rattle.asn1_types.specs.declared.row.TypeRow.TheVariants as row
 use Rattle.asn1_types.specs.Rows.{along}
-use Rattle.asn1_types.specs.Fits.{fits_by, nothing_fits, has_form}
+use Rattle.asn1_types.specs.Fits.{form_by, nothing_fits, has_form}
 use Rattle.asn1_types.specs.Value.{Value}
 use Rattle.packed_codec.specs.declared.fault.PackedFault.{PackedFault}
 use Rattle.packed_codec.specs.declared.fault.PackedFault.TheVariants.{NotSpelled, Short, TooLong, NoMemory}
@@ -13,14 +13,13 @@ use Rattle.asn1_types.specs.Limits.{most_items}
 use Rattle.packed_codec.specs.Rules.{read_at}
 use Rattle.packed_codec.specs.Writing.{packed, items}
 use Rattle.asn1_types.specs.Writing.{written}
-use Rattle.asn1_types.specs.Rising.{any_length}
 
 -- ---- spellings
 
 -- as values have the form of their rows, but for an `Any`, which has no packed spelling
 abbrev pub packs_by : (ℕ → Value → List ℕ) → (ℕ → Value → Bool) → TypeRow → Value → Bool
 packs_by spell inner row.Any v = false
-packs_by spell inner r v = fits_by any_length spell inner r v
+packs_by spell inner r v = form_by spell inner r v
 
 -- a value has the form of row n of a table, and no `Any` stands in it
 unfoldable pub packs : List TypeRow → ℕ → Value → Bool

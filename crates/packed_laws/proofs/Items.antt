@@ -12,12 +12,13 @@ use Rattle.asn1_types.specs.declared.row.TypeRow.{TypeRow}
 use Rattle.asn1_types.specs.declared.row.TypeRow.TheVariants as row
 use Rattle.asn1_types.specs.Rows.{of_row, along, class_number}
 use Rattle.asn1_types.specs.Defaults.{is_default}
-use Rattle.asn1_types.specs.Fits.{part_fits, parts_fit, sequence_fits, values_fit, list_fits, alternative_fits, choice_fits, fits_by, nothing_fits, fits}
-use Rattle.asn1_types.specs.Rising.{is_short, set_rises}
+use Rattle.asn1_types.specs.Fits.{part_fits, parts_fit, sequence_fits, values_fit, list_fits, alternative_fits, choice_fits, form_by, nothing_fits, has_form}
+use Rattle.asn1_types.specs.Rising.{set_rises}
 use Rattle.asn1_types.specs.Tags.{tag_or, class_of, capped, rank, ranks, front_number, front_rank}
 use Rattle.asn1_types.specs.Value.{Value, boolean, integer, null, octets, bits, object_id, text, parts, list, chosen, MaybeValues, no_parts, absent, present, Values, no_values, value}
 use Rattle.asn1_types.specs.Writing.{Writer, identifier, length_octets, definite, base_128, base_256, boolean_octet, parts_contents, sequence_contents, of_rank, risen_parts, set_parts}
 use Rattle.asn1_types.specs.Writing.{values_contents, list_contents, alternative_written, choice_written, under, tagged_written, nothing_written, write_by, writes, written}
+use Rattle.asn1_types.proofs.FitLaws.{fits_has_form}
 use Rattle.packed_codec.specs.Writing.{how_many, items, items_of_parts, items_of_values}
 use Rattle.packed_codec.specs.Laws.{HasNoAny}
 use Rattle.packed_laws.specs.Laws.{ItemsTakeOctets}
@@ -210,7 +211,7 @@ module _ (f : ℕ → Value → Bool) (w : ℕ → Writer) (takes : Takes f w) w
   tagged-takes true class number n tag v h = let t = two-more true (tag_or tag class number) (w n None v) in let i = takes n None v h in omega arith
   tagged-takes false class number n tag v h = takes n (Some (tag_or tag class number)) v h
 
-  row-takes : (spell : ℕ → Value → List ℕ) (r : TypeRow) → (r ≡ row.Any → ⊥) → (tag : Option tags.Tag) (v : Value) → fits_by is_short spell f r v ≡ true → 2 + 2 * items v ≤ length (write_by w r tag v)
+  row-takes : (spell : ℕ → Value → List ℕ) (r : TypeRow) → (r ≡ row.Any → ⊥) → (tag : Option tags.Tag) (v : Value) → form_by spell f r v ≡ true → 2 + 2 * items v ≤ length (write_by w r tag v)
   row-takes spell row.Boolean n tag (boolean x) h = none-takes false (tag_or tag Universal 1) (boolean_octet x ∷ []) (boolean x) refl
   row-takes spell row.Boolean n tag v h = absurd cc
   row-takes spell (row.Integer low high) n tag (integer z) h = none-takes false _ _ (integer z) refl
@@ -230,23 +231,26 @@ module _ (f : ℕ → Value → Bool) (w : ℕ → Writer) (takes : Takes f w) w
   row-takes spell (row.Sequence ps) n tag v h = contents-take true _ _ (items v) (sequence-takes ps v h)
   row-takes spell (row.Set ps) n tag v h = contents-take true _ _ (items v) (set-takes ps v h)
   row-takes spell (row.SequenceOf of) n tag v h = contents-take true _ _ (items v) (list-takes of.0 v h)
-  row-takes spell (row.SetOf of) n tag v h = contents-take true _ _ (items v) (list-takes of.0 v (and_parts (list_fits (f of.0) v) (set_rises is_short (spell of.0) v) h).0)
+  row-takes spell (row.SetOf of) n tag v h = contents-take true _ _ (items v) (list-takes of.0 v (and_parts (list_fits (f of.0) v) (set_rises (spell of.0) v) h).0)
   row-takes spell (row.Choice ps) n tag v h = under-takes (choice_written (λ which. alternative_written w (slice_get ps which))) tag v (choice-takes ps v h)
   row-takes spell (row.Tagged class number explicit of) n tag v h = tagged-takes explicit class number of.0 tag v h
   row-takes spell row.Any n tag v h = absurd (n refl)
 
 module _ (rows : List TypeRow) (none : HasNoAny rows) where
-  of_row-takes : (f : ℕ → Value → Bool) (w : ℕ → Writer) → Takes f w → (n : ℕ) (o : Option TypeRow) → slice_get rows n ≡ o → (tag : Option tags.Tag) (v : Value) → of_row nothing_fits (fits_by is_short (written rows) f) o v ≡ true → 2 + 2 * items v ≤ length (of_row nothing_written (write_by w) o tag v)
+  of_row-takes : (f : ℕ → Value → Bool) (w : ℕ → Writer) → Takes f w → (n : ℕ) (o : Option TypeRow) → slice_get rows n ≡ o → (tag : Option tags.Tag) (v : Value) → of_row nothing_fits (form_by (written rows) f) o v ≡ true → 2 + 2 * items v ≤ length (of_row nothing_written (write_by w) o tag v)
   of_row-takes f w takes n None e tag v h = absurd cc
   of_row-takes f w takes n (Some r) e tag v h = row-takes f w takes (written rows) r (λ a. none.each n (e ∙ ap (λ (x : TypeRow). Some x) a)) tag v h
 
-  along-takes : (turns : ℕ) → Takes (along nothing_fits (fits_by is_short (written rows)) rows turns) (along nothing_written write_by rows turns)
+  along-takes : (turns : ℕ) → Takes (along nothing_fits (form_by (written rows)) rows turns) (along nothing_written write_by rows turns)
   along-takes zero n tag v h = absurd cc
   along-takes (suc turns) n tag v h =
-      of_row-takes (along nothing_fits (fits_by is_short (written rows)) rows turns) (along nothing_written write_by rows turns) (along-takes turns) n (slice_get rows n) refl tag v h
+      of_row-takes (along nothing_fits (form_by (written rows)) rows turns) (along nothing_written write_by rows turns) (along-takes turns) n (slice_get rows n) refl tag v h
 
-pub items-take : ItemsTakeOctets
-unfolding fits written writes
-items-take rows n v none h =
+formed-take : (rows : List TypeRow) (n : ℕ) (v : Value) → HasNoAny rows → has_form rows n v ≡ true → 2 * items v ≤ length (written rows n v)
+unfolding has_form written writes
+formed-take rows n v none h =
     let t : 2 + 2 * items v ≤ length (along nothing_written write_by rows (length rows) n None v) = along-takes rows none (length rows) n None v h in
     omega arith
+
+pub items-take : ItemsTakeOctets
+items-take rows n v none h = formed-take rows n v none (fits_has_form rows n v h)

@@ -12,7 +12,7 @@ use Rattle.asn1_types.specs.declared.row.TypeRow.TheVariants as row
 use Rattle.asn1_types.specs.Rows.{of_row, along}
 use Rattle.asn1_types.specs.Defaults.{may_be_absent, is_default}
 use Rattle.asn1_types.specs.Fits.{is_octet, are_bits, part_fits, parts_fit, sequence_fits, values_fit, list_fits, alternative_fits, choice_fits, nothing_fits}
-use Rattle.asn1_types.specs.Rising.{any_length, set_rises}
+use Rattle.asn1_types.specs.Rising.{set_rises}
 use Rattle.asn1_types.specs.Table.{is_bad_range, IsSound}
 use Rattle.asn1_types.specs.Value.{Value, boolean, integer, octets, bits, object_id, text, parts, list, chosen, MaybeValues, no_parts, absent, present, Values, no_values, value}
 use Rattle.asn1_types.specs.Writing as der
@@ -23,7 +23,7 @@ use Rattle.packed_codec.specs.Writing.{Writer, counted, how_many, part_written, 
 use Rattle.packed_codec.specs.Laws.{packs_by, packs}
 use Rattle.packed_laws.specs.Laws.{PackedAreOctets}
 
-abbrev Are : List ℕ → Type 0
+abbrev pub Are : List ℕ → Type 0
 Are xs = list_all is_octet xs ≡ true
 
 pub append-are : (xs ys : List ℕ) → Are xs → Are ys → Are (xs ++ ys)
@@ -63,7 +63,7 @@ unpadded-short (x ∷ xs) = go (unpadded-short xs) (is_padded (x ∷ xs))
     go later true = omega arith
     go later false = omega arith
 
-number-are : (z : ℤ) → Are (length (integer_octets z) ∷ integer_octets z)
+pub number-are : (z : ℤ) → Are (length (integer_octets z) ∷ integer_octets z)
 unfolding integer_octets
 number-are z =
     let xs = bytes_high_first 8 (cast_unsigned w64 z) in
@@ -195,7 +195,7 @@ module _ (f : ℕ → Value → Bool) (w : ℕ → Writer) (writes : Writes f w)
   row-are spell (row.Sequence ps) s v h = sequence-are ps v h
   row-are spell (row.Set ps) s v h = sequence-are ps v h
   row-are spell (row.SequenceOf of) s v h = list-are of.0 v h
-  row-are spell (row.SetOf of) s v h = list-are of.0 v (and_parts (list_fits (f of.0) v) (set_rises any_length (spell of.0) v) h).0
+  row-are spell (row.SetOf of) s v h = list-are of.0 v (and_parts (list_fits (f of.0) v) (set_rises (spell of.0) v) h).0
   row-are spell (row.Choice ps) s v h = choice-are ps v (few (nat_eq (length ps) 0) s) h
     where
       few : (b : Bool) → (b || nat_lt 256 (length ps)) ≡ false → length ps ≤ 256

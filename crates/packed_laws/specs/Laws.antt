@@ -6,6 +6,7 @@ use Rattle.asn1_types.specs.Fits.{fits, is_octet}
 use Rattle.asn1_types.specs.Table.{IsSound}
 use Rattle.asn1_types.specs.Value.{Value}
 use Rattle.asn1_types.specs.Writing.{written}
+use Rattle.asn1_types.specs.PackedSize.{packed_size}
 use Rattle.packed_codec.specs.Writing.{packed, items}
 use Rattle.packed_codec.specs.Laws.{packs, HasNoAny}
 
@@ -21,3 +22,7 @@ ItemsTakeOctets = (rows : List TypeRow) (n : ℕ) (v : Value) → HasNoAny rows 
 -- what is written are octets
 abbrev pub PackedAreOctets : Type 0
 PackedAreOctets = (rows : List TypeRow) (n : ℕ) (v : Value) → IsSound rows → packs rows n v ≡ true → list_all is_octet (packed rows n v) ≡ true
+
+-- what is written has as many octets as are told
+abbrev pub PackedHasSize : Type 0
+PackedHasSize = (rows : List TypeRow) (n : ℕ) (v : Value) → packs rows n v ≡ true → length (packed rows n v) ≡ packed_size rows n v

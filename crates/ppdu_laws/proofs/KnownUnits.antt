@@ -7,7 +7,7 @@ use Rattle.asn1_types.specs.declared.row.Class.TheVariants.{Context}
 use Rattle.asn1_types.specs.declared.row.Tag as tags
 use Rattle.asn1_types.specs.Value.{Value, parts, absent, present}
 use Rattle.asn1_types.specs.ValueView.{parts_of}
-use Rattle.ber_spelling.specs.Spelling.{IsConstructed, Steps}
+use Rattle.ber_spelling.specs.Spelling.{Steps}
 use Rattle.passed_fields.specs.declared.field.Field as known
 use Rattle.passed_fields.specs.declared.field.Passed as over
 use Rattle.passed_fields.specs.Known.{of_row}
@@ -18,12 +18,12 @@ use Rattle.passed_fields.proofs.FieldParts.{fields_stand}
 use Rattle.presentation_pdus.specs.declared.place.PpduPlace.{PpduPlace}
 use Rattle.presentation_pdus.specs.declared.place.PpduPlace.TheVariants as place
 use Rattle.presentation_pdus.specs.Rows.{ppdu_rows}
-use Rattle.presentation_pdus.specs.Fields.{context_tag, sequence_tag, set_tag, user_field, unread_user_field, default_field, connect_fields, connect_passed, accept_fields, accept_passed, alter_fields, alter_ack_fields, restart_fields}
+use Rattle.presentation_pdus.specs.Fields.{context_tag, sequence_tag, set_tag, user_field, unread_user_field, default_field, connect_fields, connect_passed, accept_fields, accept_passed}
 use Rattle.presentation_pdus.specs.Selected.{Relation, Halves, HalfStep, HalvesAre, SelectedIs, halves_done, no_half}
 use Rattle.presentation_pdus.specs.Units.{ModeIs, Fielded, PpduIs}
 use Rattle.presentation_pdus.proofs.Added.{ppdu_sound}
 use Rattle.ppdu_laws.specs.Written.{carries}
-use Rattle.ppdu_laws.specs.Known.{known_connect_fields, known_alter_fields, known_alter_ack_fields, known_restart_fields, KnownIs, none_at, lacking, in_fields, read_as}
+use Rattle.ppdu_laws.specs.Known.{known_connect_fields, KnownIs, none_at, lacking, in_fields, read_as}
 use Rattle.ppdu_laws.specs.Laws.{KnownPpduIsSpelled}
 
 -- ---- a field more, which lacks

@@ -1,16 +1,15 @@
 -- What is spelled in known fields alone is a value of the table's row.
-use Rattle.std.proofs.Common.{◌≡◌, ℕ, zero, suc, ◌+◌, ◌<◌, Bool, true, false, List, [], ◌∷◌, length, Option, Some, None, inl, inr, refl, sym, ap, ◌∙◌, subst, arith}
-use Rattle.std.specs.Prelude.{codes, slice_get, slice_set}
+use Rattle.std.proofs.Common.{◌≡◌, ℕ, ◌+◌, ◌<◌, Bool, true, false, List, [], ◌∷◌, Option, Some, None, inl, inr, refl, sym, ap, subst, arith}
+use Rattle.std.specs.Prelude.{codes}
 use Rattle.osi_base.specs.declared.presentation_word.PresentationWord as units
 use Rattle.osi_base.specs.declared.presentation_word.PresentationWord.TheVariants as unit
 use Rattle.asn1_types.specs.declared.row.Class.{Class}
 use Rattle.asn1_types.specs.declared.row.Class.TheVariants.{Context}
 use Rattle.asn1_types.specs.declared.row.Part.{Part}
 use Rattle.asn1_types.specs.Tags.{front_rank}
-use Rattle.asn1_types.specs.Value.{Value, parts, list}
-use Rattle.asn1_types.specs.ValueView.{parts_of, values_of}
+use Rattle.asn1_types.specs.Value.{Value}
 use Rattle.ber_spelling.specs.Order.{Filled}
-use Rattle.ber_spelling.specs.Rules.{plain, list_done, set_done, nothing_filled}
+use Rattle.ber_spelling.specs.Rules.{plain, list_done, set_done}
 use Rattle.ber_spelling.specs.Spelling.{IsConstructed, SequenceIs, Steps, ListStep, ListIs, SetStep, SetIs, SpelledBy}
 use Rattle.fixed_tables.specs.Rows.{part}
 use Rattle.passed_fields.specs.declared.field.Field as known
@@ -22,7 +21,7 @@ use Rattle.passed_fields.proofs.FieldParts.{IsHeld, AreHeld, row_held, fields_se
 use Rattle.presentation_pdus.specs.Rows.{ppdu_rows}
 use Rattle.presentation_pdus.specs.Fields.{context_tag, sequence_tag, set_tag, user_tag, user_field, accept_fields, reject_fields, user_abort_fields, provider_abort_fields}
 use Rattle.presentation_pdus.specs.Selected.{Relation, Halves, HalfStep, HalvesAre, SelectedIs, halves_done, no_half}
-use Rattle.presentation_pdus.specs.Units.{ModeIs, Fielded, DataIs}
+use Rattle.presentation_pdus.specs.Units.{ModeIs, Fielded}
 use Rattle.presentation_pdus.specs.Words.{row_of}
 use Rattle.presentation_pdus.proofs.Added.{ppdu_sound}
 use Rattle.ppdu_laws.specs.Known.{known_connect_fields, known_alter_fields, known_alter_ack_fields, known_restart_fields, KnownIs}

@@ -7,7 +7,7 @@ use Rattle.osi_base.specs.declared.words.RestoredItem as restored
 use Rattle.osi_base.specs.declared.presentation_word.Pdv as pdvs
 use Rattle.osi_base.specs.declared.presentation_word.PresentationWord as units
 use Rattle.osi_base.specs.declared.presentation_word.PresentationWord.TheVariants as unit
-use Rattle.asn1_types.specs.Fits.{fits}
+use Rattle.asn1_types.specs.Fits.{has_form}
 use Rattle.presentation_pdus.specs.declared.place.PpduPlace.{PpduPlace}
 use Rattle.presentation_pdus.specs.declared.place.PpduPlace.TheVariants as place
 use Rattle.presentation_pdus.specs.Rows.{ppdu_rows}
@@ -67,9 +67,9 @@ is_written_whole (unit.ProviderAbort reason event) = true
 is_written_whole (unit.Data []) = false
 is_written_whole (unit.Data (p ∷ user)) = list_all pdv_sized (p ∷ user)
 
--- a unit that may be written: its value fits its row
+-- a unit that may be written: its value has the form of its row
 pub record IsWritable (carrier : PpduPlace) (word : units.PresentationWord) : Type 0 where
   pub carried : carries carrier word ≡ true
   pub whole : is_written_whole word ≡ true
-  pub fitting : fits ppdu_rows (row_of word) (value_of word) ≡ true
+  pub fitting : has_form ppdu_rows (row_of word) (value_of word) ≡ true
   pub within : length (written_ppdu word) ≤ 4294967295

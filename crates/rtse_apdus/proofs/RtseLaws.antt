@@ -5,7 +5,7 @@ use Rattle.std.proofs.lemmas.Bool.{and_parts, ltb-true, lt-ltb}
 use Rattle.osi_base.specs.declared.rtse_word.ConnectionData.TheVariants as connection
 use Rattle.osi_base.specs.declared.rtse_word.Rtse as apdus
 use Rattle.osi_base.specs.declared.rtse_word.Rtse.TheVariants as apdu
-use Rattle.asn1_types.specs.Fits.{fits, is_number}
+use Rattle.asn1_types.specs.Fits.{has_form, is_number}
 use Rattle.asn1_types.specs.Value.{Value}
 use Rattle.asn1_types.specs.Whole.{is_whole}
 use Rattle.ber_spelling.specs.Octets.{AreOctets}
@@ -43,8 +43,8 @@ spelled_rtse_is_read apdu octets p =
 small_fits : (n : ℕ) → nat_lt n 256 ≡ true → n ≤ 255
 small_fits n h = let lt = ltb-true n 256 h in omega arith
 
-pub writable_fits : (a : apdus.Rtse) → can_write a ≡ true → fits rtse_rows rtse_row (value_of a) ≡ true
-unfolding fits
+pub writable_fits : (a : apdus.Rtse) → can_write a ≡ true → has_form rtse_rows rtse_row (value_of a) ≡ true
+unfolding has_form
 writable_fits (apdu.OpenRequest checkpoint window mode (connection.Open value)) h =
     let p = and_parts (nat_lt checkpoint 256 && nat_lt window 256 && is_number mode) (is_whole value) h in
     let q = and_parts (nat_lt checkpoint 256 && nat_lt window 256) (is_number mode) p.0 in

@@ -4,7 +4,7 @@ use Rattle.osi_base.specs.declared.bit_string.BitString as strings
 use Rattle.osi_base.specs.declared.presentation_word.Pdv as pdvs
 use Rattle.osi_base.specs.declared.presentation_word.PdvContent as contents
 use Rattle.osi_base.specs.declared.presentation_word.PdvContent.TheVariants as content
-use Rattle.asn1_types.specs.Fits.{fits}
+use Rattle.asn1_types.specs.Fits.{has_form}
 use Rattle.asn1_types.specs.Value.{Value, integer, octets, bits, object_id, parts, chosen, any}
 use Rattle.asn1_types.specs.ValueView.{parts_of}
 use Rattle.ber_spelling.specs.Octets.{AreOctets}
@@ -61,10 +61,10 @@ transfer_at text = of_pdv (whole_at transfer_rows transfer_row transfer_most tex
 abbrev pub written_transfer : pdvs.Pdv → List ℕ
 written_transfer pdv = written transfer_rows transfer_row (pdv_value pdv)
 
--- the identifier is one of a context, the value fits, and its octets are few enough
+-- the identifier is one of a context, the value has its form, and its octets are few enough
 pub record IsTransfer (pdv : pdvs.Pdv) : Type 0 where
   pub identifier : pdv.id ≤ 32767
-  pub fitting : fits transfer_rows transfer_row (pdv_value pdv) ≡ true
+  pub fitting : has_form transfer_rows transfer_row (pdv_value pdv) ≡ true
   pub within : length (written_transfer pdv) ≤ transfer_most
 
 -- ---- laws

@@ -15,7 +15,7 @@ use Rattle.osi_base.specs.declared.presentation_word.PdvContent.TheVariants as f
 use Rattle.osi_base.specs.declared.presentation_word.PresentationWord.{PresentationWord}
 use Rattle.osi_base.specs.declared.presentation_word.PresentationWord.TheVariants as ppdus
 use Rattle.osi_base.specs.declared.session_word.SessionWord.TheVariants as units
-use Rattle.asn1_types.specs.Fits.{fits}
+use Rattle.asn1_types.specs.Fits.{has_form}
 use Rattle.asn1_types.specs.Whole.{is_whole}
 use Rattle.asn1_types.specs.Whole as whole
 use Rattle.asn1_types.specs.Writing.{written, writes}
@@ -271,7 +271,7 @@ module _ (tables : Tables) where
       (alone (units.Disconnect (written_ppdu unit)) refl (record { fields = tt; few = omega arith; code = omega arith; parameters = ((omega arith, p.octets), tt); information = refl; within = omega arith }))
 
 pub abort-in : InPlace place.Ab (ppdus.UserAbort None (pdv 1 (written_acse (acse.Abort 0 [])) ∷ [])) 200
-unfolding fits written writes is_whole whole.behind_whole writing.integer_octets
+unfolding has_form written writes is_whole whole.behind_whole writing.integer_octets
 abort-in =
     let few = le-so (length (written_ppdu (ppdus.UserAbort None (pdv 1 aborting ∷ [])))) 200 refl in
     record { writable = record { carried = refl; whole = refl; fitting = refl; within = omega arith }; octets = refl; few = few }

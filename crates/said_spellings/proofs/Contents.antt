@@ -8,7 +8,8 @@ use Rattle.osi_base.specs.declared.syntax.Syntax.TheVariants.{Ber, Der, Packed}
 use Rattle.osi_base.specs.declared.words.Problem.{Problem}
 use Rattle.asn1_types.specs.declared.row.TypeId.{TypeId}
 use Rattle.asn1_types.specs.declared.value.Val.{Val}
-use Rattle.asn1_types.specs.Fits.{is_octet, fits}
+use Rattle.asn1_types.specs.Fits.{is_octet, has_form}
+use Rattle.asn1_types.proofs.FitLaws.{fits_has_form}
 use Rattle.asn1_types.specs.Whole.{is_whole}
 use Rattle.asn1_types.specs.Writing.{written}
 use Rattle.rtse_apdus.specs.Transfer.{pdv_value}
@@ -60,11 +61,11 @@ module _ (tables : Tables) (m : IsModule tables) where
   -- what is carried is written in DER
   ber-typed : (of : Option TypeId) (v : Val) → is_typed Ber tables.types of v ≡ true → LeavesInParts (any_part (written_typed Ber tables.types of v))
   ber-typed None v h = absurd cc
-  ber-typed (Some of) v h = (der-octets tables.types of.0 v (fitting-leaves tables.types of.0 v m.typed.each h), tt)
+  ber-typed (Some of) v h = (der-octets tables.types of.0 v (fitting-leaves tables.types of.0 v m.typed.each (fits_has_form tables.types of.0 v h)), tt)
 
   der-typed : (of : Option TypeId) (v : Val) → is_typed Der tables.types of v ≡ true → LeavesInParts (any_part (written_typed Der tables.types of v))
   der-typed None v h = absurd cc
-  der-typed (Some of) v h = (der-octets tables.types of.0 v (fitting-leaves tables.types of.0 v m.typed.each h), tt)
+  der-typed (Some of) v h = (der-octets tables.types of.0 v (fitting-leaves tables.types of.0 v m.typed.each (fits_has_form tables.types of.0 v h)), tt)
 
   ber-carried : (u : Option Use) (v : Option Val) → may_carry Ber tables.types u v ≡ true → LeavesInParts (any_part (written_carried Ber tables.types u v))
   ber-carried None v h = absurd cc
@@ -108,12 +109,12 @@ module _ (tables : Tables) (m : IsModule tables) where
 
   -- ---- as what is transferred
 
-  whole-so : (id : ℕ) (os : List ℕ) → fits transfer_rows transfer_row (pdv_value (pdv_with id Ber os)) ≡ true → is_whole os ≡ true
-  unfolding fits
+  whole-so : (id : ℕ) (os : List ℕ) → has_form transfer_rows transfer_row (pdv_value (pdv_with id Ber os)) ≡ true → is_whole os ≡ true
+  unfolding has_form
   whole-so id os h = (and_parts (is_whole os) true (and_parts _ (is_whole os && true) h).1).0
 
-  packed-so : (id : ℕ) (os : List ℕ) → fits transfer_rows transfer_row (pdv_value (pdv_with id Packed os)) ≡ true → AreOctets os
-  unfolding fits
+  packed-so : (id : ℕ) (os : List ℕ) → has_form transfer_rows transfer_row (pdv_value (pdv_with id Packed os)) ≡ true → AreOctets os
+  unfolding has_form
   packed-so id os h =
       (and_parts (list_all is_octet os) (nat_le (length os) 4294967295) (and_parts (list_all is_octet os && nat_le (length os) 4294967295) true (and_parts _ ((list_all is_octet os && nat_le (length os) 4294967295) && true) h).1).0).0
 

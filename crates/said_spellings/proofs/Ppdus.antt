@@ -1,4 +1,4 @@
--- Units of the presentation protocol as two ends say them: each fits its row, and has so many octets at most.
+-- Units of the presentation protocol as two ends say them: each has the form of its row, and has so many octets at most.
 use Rattle.std.proofs.Common.{◌≡◌, refl, true, false, sym, subst, arith, ℕ, suc, ◌+◌, ◌^◌, ◌≤◌, ◌<◌, pos, List, [], ◌∷◌, ◌++◌, map, length}
 use Rattle.std.specs.Prelude.{Bool, not, ◌&&◌, Option, Some, None, option_map, int_lt, nat_le, codes}
 use Rattle.std.specs.List.{list_all, flat_map}
@@ -17,8 +17,7 @@ use Rattle.osi_base.specs.declared.presentation_word.PdvContent.TheVariants as f
 use Rattle.asn1_types.specs.declared.row.Class.TheVariants.{Universal, Application, Context}
 use Rattle.asn1_types.specs.declared.row.Tag as tags
 use Rattle.asn1_types.specs.Rows.{along}
-use Rattle.asn1_types.specs.Fits.{is_number, is_octet, object_id_fits, integer_fits, octets_fit, bits_fit, values_fit, fits_by, nothing_fits, fits}
-use Rattle.asn1_types.specs.Rising.{is_short}
+use Rattle.asn1_types.specs.Fits.{is_number, is_octet, object_id_fits, integer_fits, octets_fit, bits_fit, values_fit, form_by, nothing_fits, has_form}
 use Rattle.asn1_types.specs.Value.{Value, integer, octets, bits, object_id, parts, MaybeValues, no_parts, absent, present}
 use Rattle.asn1_types.specs.ValueView.{parts_of, values_of}
 use Rattle.asn1_types.specs.Whole.{is_whole}
@@ -33,9 +32,9 @@ use Rattle.transfer_spelling.proofs.Lengths.{integer-length, definite-length}
 use Rattle.said_words.specs.Fields.{IsContext, AreContexts, AreFew, IsSyntaxName, IsSyntaxOrNone, IsReason, AreResults, AreVerdicts, AreRestored, IsResult}
 use Rattle.said_spellings.proofs.Sizes.{times, times-up, Each, list-few, name-few, set-few}
 
--- what fits a row, and what is written of it, so many rows down the table
+-- what has the form of a row, and what is written of it, so many rows down the table
 abbrev Fit : ℕ → ℕ → Value → Bool
-Fit k = along nothing_fits (fits_by is_short (written ppdu_rows)) ppdu_rows k
+Fit k = along nothing_fits (form_by (written ppdu_rows)) ppdu_rows k
 
 abbrev Out : ℕ → ℕ → Writer
 Out k = along nothing_written write_by ppdu_rows k
@@ -152,7 +151,7 @@ definitions-any ps h = any-all definition_value Named definition-any ps h
 -- ---- what is known of a unit
 
 pub record Stands (row : ℕ) (v : Value) (most : ℕ) : Type 0 where
-  pub fitting : fits ppdu_rows row v ≡ true
+  pub fitting : has_form ppdu_rows row v ≡ true
   pub few : length (written ppdu_rows row v) ≤ most
   pub leaves : LeavesAre v
 
@@ -224,7 +223,7 @@ alter-any (p ∷ ps) (j ∷ js) a = (definitions-any (p ∷ ps) a, (any-numbers 
 
 pub alter-stands : (add : List Proposal) (delete : List ℕ) → Each Defined add → AreContexts delete → length add ≤ 64 → length delete ≤ 64
     → Stands alter_row (parts (parts_of (some_list definition_value add ∷ some_list number_value delete ∷ []))) 131600
-unfolding fits written writes
+unfolding has_form written writes
 alter-stands add delete a d m n = record { fitting = alter-fits 57 add delete (each-named add a) d; few = alter-few 57 add delete a d m n; leaves = alter-any add delete (each-named add a) }
 
 -- ---- ACA
@@ -363,7 +362,7 @@ ack-any (p ∷ ps) (j ∷ js) a = (results-any (p ∷ ps) a, (any-numbers (j ∷
 
 pub ack-stands : (added : List AddAnswer) (deleted : List ℕ) → Each IsResult added → AreVerdicts deleted → length added ≤ 64 → length deleted ≤ 64
     → Stands alter_ack_row (parts (parts_of (some_list answer_value added ∷ some_list number_value deleted ∷ []))) 131600
-unfolding fits written writes
+unfolding has_form written writes
 ack-stands added deleted a d m n = record { fitting = ack-fits 57 added deleted a d; few = ack-few 57 added deleted a d m n; leaves = ack-any added deleted a }
 
 -- ---- RS and RSA
@@ -390,7 +389,7 @@ restored-few k r h =
     omega arith
 
 pub restart-stands : (items : List RestoredItem) → Each Restoring items → length items ≤ 64 → Stands restart_row (parts (parts_of (Some (list_value restored_value items) ∷ []))) 16500
-unfolding fits written writes
+unfolding has_form written writes
 restart-stands items h few =
     record {
       fitting = both (Fit 62 26 (list_value restored_value items)) true (fit-all (Fit 61 25) restored_value Restoring (restored-fits 59) items h) refl;
@@ -457,7 +456,7 @@ module _ (k : ℕ) where
 
 pub data-stands : (id : ℕ) (content : PdvContent) → IsContext id → IsContent content → content_length content ≤ 300000
     → Stands data_row (list_value pdv_value (record { transfer = None; id = id; content = content } ∷ [])) (22 + content_length content)
-unfolding fits written writes
+unfolding has_form written writes
 data-stands id content i c few = record { fitting = user-fits 57 id content i c few; few = user-few 57 id content i c few; leaves = (pdv-any 57 id content c, tt) }
 
 -- ---- CPA and CP, each with one value
@@ -571,7 +570,7 @@ module _ (k : ℕ) (called : List ℕ) (string : strings.BitString) (id : ℕ) (
 pub accept-stands : (called : List ℕ) (results : List AddAnswer) (string : strings.BitString) (id : ℕ) (content : PdvContent) → AreOctets called → length called ≤ 16 → Each IsResult results → length results ≤ 64
     → IsShortString string → IsContext id → IsContent content → content_length content ≤ 30000
     → Stands accept_row (with_mode (parts (parts_of (None ∷ Some (octets called) ∷ some_list answer_value results ∷ Some (bits_value string) ∷ None ∷ Some (list_value pdv_value (record { transfer = None; id = id; content = content } ∷ [])) ∷ [])))) 50000
-unfolding fits written writes
+unfolding has_form written writes
 accept-stands called results string id content octs short h n str i c few =
     let fields : Value = parts (parts_of (None ∷ Some (octets called) ∷ some_list answer_value results ∷ Some (bits_value string) ∷ None ∷ Some (list_value pdv_value (record { transfer = None; id = id; content = content } ∷ [])) ∷ [])) in
     record {
@@ -591,13 +590,13 @@ accept-stands called results string id content octs short h n str i c few =
 
 -- of CP the length is that of a configuration
 pub record Fitting (row : ℕ) (v : Value) : Type 0 where
-  pub fitting : fits ppdu_rows row v ≡ true
+  pub fitting : has_form ppdu_rows row v ≡ true
   pub leaves : LeavesAre v
 
 pub connect-fitting : (calling called : List ℕ) (p : Proposal) (ps : List Proposal) (string : strings.BitString) (id : ℕ) (content : PdvContent) → AreOctets calling → length calling ≤ 16 → AreOctets called → length called ≤ 16
     → Each Named (p ∷ ps) → IsShortString string → IsContext id → IsContent content → content_length content ≤ 30000
     → Fitting connect_row (with_mode (parts (parts_of (None ∷ Some (octets calling) ∷ Some (octets called) ∷ some_list definition_value (p ∷ ps) ∷ Some (bits_value string) ∷ None ∷ Some (list_value pdv_value (record { transfer = None; id = id; content = content } ∷ [])) ∷ []))))
-unfolding fits
+unfolding has_form
 connect-fitting calling called p ps string id content co cs octs short h str i c few =
     let fields : Value = parts (parts_of (None ∷ Some (octets calling) ∷ Some (octets called) ∷ some_list definition_value (p ∷ ps) ∷ Some (bits_value string) ∷ None ∷ Some (list_value pdv_value (record { transfer = None; id = id; content = content } ∷ [])) ∷ [])) in
     record {

@@ -14,7 +14,7 @@ use Rattle.asn1_types.specs.declared.row.TypeId.{TypeId}
 use Rattle.asn1_types.specs.Rows.{along}
 use Rattle.asn1_types.specs.Value.{Value, integer, object_id, parts, any, MaybeValues, no_parts, absent, present}
 use Rattle.asn1_types.specs.Whole.{is_whole}
-use Rattle.asn1_types.specs.Fits.{is_number, integer_fits, object_id_fits, fits}
+use Rattle.asn1_types.specs.Fits.{is_number, integer_fits, object_id_fits, has_form}
 use Rattle.asn1_types.specs.declared.row.Tag as tags
 use Rattle.ber_spelling.specs.Spelling.{Ber}
 use Rattle.asn1_types.specs.Writing.{Writer, parts_contents, write_by, nothing_written, writes, written, definite}
@@ -33,6 +33,7 @@ use Rattle.stub_tables.specs.declared.apdu.Apdu.TheVariants as apdus
 use Rattle.stub_tables.specs.declared.apdu.Returned.{Returned}
 use Rattle.stub_tables.specs.Codes.{same_code, place_with}
 use Rattle.stub_tables.specs.Lookup.{operation_at, error_at, operation_with, error_with}
+use Rattle.asn1_types.proofs.FitLaws.{fits_has_form}
 use Rattle.stub_tables.specs.Uses.{fits_type}
 use Rattle.stub_tables.specs.Readable.{code_fits, IsReadable}
 use Rattle.stub_tables.specs.Heads.{part, optional_part, head_rows, any_row, apdu_row, code_value, invoke_value, result_value, error_value}
@@ -95,8 +96,8 @@ module _ {X : Type 0} (code_of : X → Code) where
   placed_fits xs code at use_of types value None all e c = absurd cc
   placed_fits xs code at use_of types value (Some place) all e c = found_fits xs 0 code place all e
 
-code_row_fits : (c : Code) → code_fits c ≡ true → fits head_rows 3 (code_value c) ≡ true
-unfolding fits
+code_row_fits : (c : Code) → code_fits c ≡ true → has_form head_rows 3 (code_value c) ≡ true
+unfolding has_form
 code_row_fits (Local n) e = number_fits n e
 code_row_fits (Global arcs) e = e
 
@@ -205,39 +206,39 @@ any_passes (Some os) h = both (is_whole os) true h refl
 three : (a b c : Bool) → a ≡ true → b ≡ true → c ≡ true → (a && (b && c)) ≡ true
 three a b c e f g = both a (b && c) e (both b c f g)
 
-invoke_fits : (id : ℤ) (c : Code) (os : Option (List ℕ)) → id_test id ≡ true → code_test c ≡ true → AreWhole os → fits head_rows apdu_row (invoke_value id None c os) ≡ true
-unfolding fits
+invoke_fits : (id : ℤ) (c : Code) (os : Option (List ℕ)) → id_test id ≡ true → code_test c ≡ true → AreWhole os → has_form head_rows apdu_row (invoke_value id None c os) ≡ true
+unfolding has_form
 invoke_fits id (Local n) None i c w = three (id_test id) (code_test (Local n)) true i c refl
 invoke_fits id (Global arcs) None i c w = three (id_test id) (code_test (Global arcs)) true i c refl
 invoke_fits id (Local n) (Some os) i c w = three (id_test id) (code_test (Local n)) (any_test (Some os)) i c (any_passes (Some os) w)
 invoke_fits id (Global arcs) (Some os) i c w = three (id_test id) (code_test (Global arcs)) (any_test (Some os)) i c (any_passes (Some os) w)
 
-error_fits : (id : ℤ) (c : Code) (os : Option (List ℕ)) → id_test id ≡ true → code_test c ≡ true → AreWhole os → fits head_rows apdu_row (error_value id c os) ≡ true
-unfolding fits
+error_fits : (id : ℤ) (c : Code) (os : Option (List ℕ)) → id_test id ≡ true → code_test c ≡ true → AreWhole os → has_form head_rows apdu_row (error_value id c os) ≡ true
+unfolding has_form
 error_fits id (Local n) None i c w = three (id_test id) (code_test (Local n)) true i c refl
 error_fits id (Global arcs) None i c w = three (id_test id) (code_test (Global arcs)) true i c refl
 error_fits id (Local n) (Some os) i c w = three (id_test id) (code_test (Local n)) (any_test (Some os)) i c (any_passes (Some os) w)
 error_fits id (Global arcs) (Some os) i c w = three (id_test id) (code_test (Global arcs)) (any_test (Some os)) i c (any_passes (Some os) w)
 
-result_none_fits : (id : ℤ) (os : List ℕ) → id_test id ≡ true → fits head_rows apdu_row (result_value id None os) ≡ true
-unfolding fits
+result_none_fits : (id : ℤ) (os : List ℕ) → id_test id ≡ true → has_form head_rows apdu_row (result_value id None os) ≡ true
+unfolding has_form
 result_none_fits id os i = both (id_test id) true i refl
 
-returned_fits : (id : ℤ) (c : Code) (v : Val) (os : List ℕ) → id_test id ≡ true → code_test c ≡ true → is_whole os ≡ true → fits head_rows apdu_row (result_value id (Some (record { code = c; value = v })) os) ≡ true
-unfolding fits
+returned_fits : (id : ℤ) (c : Code) (v : Val) (os : List ℕ) → id_test id ≡ true → code_test c ≡ true → is_whole os ≡ true → has_form head_rows apdu_row (result_value id (Some (record { code = c; value = v })) os) ≡ true
+unfolding has_form
 returned_fits id (Local n) v os i c w = three (id_test id) (code_test (Local n) && any_test (Some os)) true i (both (code_test (Local n)) (any_test (Some os)) c (any_passes (Some os) w)) refl
 returned_fits id (Global arcs) v os i c w = three (id_test id) (code_test (Global arcs) && any_test (Some os)) true i (both (code_test (Global arcs)) (any_test (Some os)) c (any_passes (Some os) w)) refl
 
 -- ---- APDUs
 
 any_is : (text : List ℕ) → is_whole text ≡ true → length text ≤ 262144 → IsWhole text
-unfolding IsWhole written writes fits
+unfolding IsWhole written writes has_form
 any_is text e le = value_spelled whole_is head_rows heads_sound any_row (any text) e false 262144 (omega arith) le
 
-head_whole : (head : Value) → fits head_rows apdu_row head ≡ true → length (written head_rows apdu_row head) ≤ 262144 → IsWhole (written head_rows apdu_row head)
+head_whole : (head : Value) → has_form head_rows apdu_row head ≡ true → length (written head_rows apdu_row head) ≤ 262144 → IsWhole (written head_rows apdu_row head)
 head_whole head f le = any_is (written head_rows apdu_row head) (value_whole head_rows heads_sound apdu_row head f (omega arith)) le
 
-head_spelled : (head : Value) → fits head_rows apdu_row head ≡ true → length (written head_rows apdu_row head) ≤ 262144 → Ber head_rows apdu_row head (written head_rows apdu_row head)
+head_spelled : (head : Value) → has_form head_rows apdu_row head ≡ true → length (written head_rows apdu_row head) ≤ 262144 → Ber head_rows apdu_row head (written head_rows apdu_row head)
 head_spelled head f le = value_spelled whole_is head_rows heads_sound apdu_row head f false 262144 (omega arith) le
 
 some_is : {X : Type 0} (a b : X) → Some a ≡ Some b → a ≡ b
@@ -249,8 +250,8 @@ module _ (t : Tables) (r : IsReadable t) where
   typed_is (Some of) v os e w le =
       let same : written t.types of.0 v ≡ os = some_is (written t.types of.0 v) os w in
       let short : length (written t.types of.0 v) ≤ 262144 = subst (λ (x : List ℕ). length x ≤ 262144) (sym same) le in (
-        subst (λ (x : List ℕ). Ber t.types of.0 v x) same (value_spelled whole_is t.types r.types of.0 v e false 262144 (omega arith) short),
-        subst (λ (x : List ℕ). is_whole x ≡ true) same (value_whole t.types r.types of.0 v e (omega arith)),
+        subst (λ (x : List ℕ). Ber t.types of.0 v x) same (value_spelled whole_is t.types r.types of.0 v (fits_has_form t.types of.0 v e) false 262144 (omega arith) short),
+        subst (λ (x : List ℕ). is_whole x ≡ true) same (value_whole t.types r.types of.0 v (fits_has_form t.types of.0 v e) (omega arith)),
       )
 
   not_untyped : (of : Option TypeId) (v : Val) → fits_type t.types of v ≡ true → written_typed t.types of v ≡ None → ⊥

@@ -2,7 +2,7 @@
 use Rattle.std.proofs.Common.{◌≡◌, ◌==◌, ℕ, zero, suc, ◌+◌, ◌<◌, ◌≤◌, Bool, true, false, not, List, [], ◌∷◌, ◌++◌, length, Option, None, Some, refl, ap, sym, ◌∙◌, arith, if◌then◌else◌, append_assoc, length-append, codes}
 use Rattle.std.specs.Prelude.{◌&&◌, ◌||◌, option_map}
 use Rattle.asn1_types.specs.Fits.{values_fit}
-use Rattle.asn1_types.specs.Rising.{is_less, follows, stand_so, rise_behind, rise, placed, sorted}
+use Rattle.asn1_types.specs.Rising.{is_less, follows, rise_behind, rise, placed, sorted}
 use Rattle.asn1_types.specs.Value.{Value, list, Values, no_values, value}
 use Rattle.asn1_types.specs.ValueView.{values_of}
 use Rattle.value_text.specs.Printed.{comma, items_text, list_text}
@@ -76,14 +76,13 @@ module _ (fit : Value → Bool) (text : Value → List ℕ) (read : Reader) (inn
 placed_first : (spell : Value → List ℕ) (v w : Value) (ws : List Value) → is_less (spell w) (spell v) ≡ false → placed spell v (w ∷ ws) ≡ v ∷ w ∷ ws
 placed_first spell v w ws h = rw h refl
 
-behind_sorted : (short : ℕ → Bool) (spell : Value → List ℕ) (v : Value) (vs : Values) → rise_behind short spell v vs ≡ true → sorted spell (v ∷ list_of vs) ≡ v ∷ list_of vs
-behind_sorted short spell v no_values h = refl
-behind_sorted short spell v (value w ws) h =
-    let p = both_true (stand_so short spell v w) (rise_behind short spell w ws) h in
-    let q = both_true (short (length (spell v)) && short (length (spell w))) (follows spell v w) p.0 in
-    let less : is_less (spell w) (spell v) ≡ false = not_true (is_less (spell w) (spell v)) q.1 in
-    ap (placed spell v) (behind_sorted short spell w ws p.1) ∙ placed_first spell v w (list_of ws) less
+behind_sorted : (spell : Value → List ℕ) (v : Value) (vs : Values) → rise_behind spell v vs ≡ true → sorted spell (v ∷ list_of vs) ≡ v ∷ list_of vs
+behind_sorted spell v no_values h = refl
+behind_sorted spell v (value w ws) h =
+    let p = both_true (follows spell v w) (rise_behind spell w ws) h in
+    let less : is_less (spell w) (spell v) ≡ false = not_true (is_less (spell w) (spell v)) p.0 in
+    ap (placed spell v) (behind_sorted spell w ws p.1) ∙ placed_first spell v w (list_of ws) less
 
-pub stays_sorted : (short : ℕ → Bool) (spell : Value → List ℕ) (vs : Values) → rise short spell vs ≡ true → sorted spell (list_of vs) ≡ list_of vs
-stays_sorted short spell no_values h = refl
-stays_sorted short spell (value v vs) h = behind_sorted short spell v vs h
+pub stays_sorted : (spell : Value → List ℕ) (vs : Values) → rise spell vs ≡ true → sorted spell (list_of vs) ≡ list_of vs
+stays_sorted spell no_values h = refl
+stays_sorted spell (value v vs) h = behind_sorted spell v vs h

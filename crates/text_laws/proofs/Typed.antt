@@ -11,14 +11,15 @@ use Rattle.asn1_types.specs.declared.row.TypeRow.{TypeRow}
 use Rattle.asn1_types.specs.declared.row.TypeRow.TheVariants as row
 use Rattle.asn1_types.specs.declared.row.TextKind.{TextKind}
 use Rattle.asn1_types.specs.Defaults.{is_item}
-use Rattle.asn1_types.specs.Fits.{is_number, is_octet, boolean_fits, integer_fits, enumerated_fits, null_fits, octets_fit, bits_fit, object_id_fits, text_fits, parts_fit, sequence_fits, values_fit, list_fits, alternative_fits, choice_fits, fits_by, fits}
-use Rattle.asn1_types.specs.Rising.{is_short, rise, set_rises, sorted}
+use Rattle.asn1_types.specs.Fits.{is_number, is_octet, boolean_fits, integer_fits, enumerated_fits, null_fits, octets_fit, bits_fit, object_id_fits, text_fits, parts_fit, sequence_fits, values_fit, list_fits, alternative_fits, choice_fits, form_by, has_form, fits}
+use Rattle.asn1_types.specs.Rising.{rise, set_rises, sorted}
 use Rattle.asn1_types.specs.Rows.{names_of, rows_of_parts}
 use Rattle.asn1_types.specs.Table.{IsSound, is_double_name}
 use Rattle.asn1_types.specs.Value as tree
 use Rattle.asn1_types.specs.Value.{Value}
 use Rattle.asn1_types.specs.Writing.{written}
-use Rattle.asn1_types.proofs.FitLaws.{fits_at, fits_past}
+use Rattle.asn1_types.proofs.FitLaws as fit_laws
+use Rattle.asn1_types.proofs.FitLaws.{form_past, fits_has_form}
 use Rattle.asn1_types.proofs.Sound.{taken, is_down}
 use Rattle.value_text.specs.Numbers.{is_digit}
 use Rattle.value_text.specs.Printed.{item_name, item_text, sequence_text, list_text, choice_text, text_by, printed}
@@ -98,9 +99,9 @@ text_own kind v h = absurd (let no : ⊥ = cc in no)
 
 -- ---- a row, from the rows that it names
 
-module _ (short : ℕ → Bool) (spell : ℕ → Value → List ℕ) (fit : ℕ → Value → Bool) (text : ℕ → Value → List ℕ) (read : ℕ → Reader) where
+module _ (spell : ℕ → Value → List ℕ) (fit : ℕ → Value → Bool) (text : ℕ → Value → List ℕ) (read : ℕ → Reader) where
   abbrev pub RowInner : TypeRow → Type 0
-  RowInner r = Inner (fits_by short spell fit r) (text_by text r) (read_by spell read r)
+  RowInner r = Inner (form_by spell fit r) (text_by text r) (read_by spell read r)
 
   enumerated_back : (items : List Item) (v : Value) (rest : List ℕ) → enumerated_fits items v ≡ true → may_follow rest ≡ true → is_double_name (row.Enumerated items) ≡ false
       → has_notation (row.Enumerated items) ≡ true → read_by spell read (row.Enumerated items) (item_text items v ++ rest) ≡ Some (record { value = v; rest = rest })
@@ -135,9 +136,9 @@ module _ (short : ℕ → Bool) (spell : ℕ → Value → List ℕ) (fit : ℕ 
   list_row of (tree.list vs) rest f inner = list_back (fit of) (text of) (read of) inner as_read vs rest f refl
   list_row of v rest f inner = absurd (let no : ⊥ = cc in no)
 
-  set_row : (of : ℕ) (v : Value) (rest : List ℕ) → list_fits (fit of) v ≡ true → set_rises short (spell of) v ≡ true → Inner (fit of) (text of) (read of)
+  set_row : (of : ℕ) (v : Value) (rest : List ℕ) → list_fits (fit of) v ≡ true → set_rises (spell of) v ≡ true → Inner (fit of) (text of) (read of)
       → list_at (read of) (sorted (spell of)) (list_text (text of) v ++ rest) ≡ Some (record { value = v; rest = rest })
-  set_row of (tree.list vs) rest f r inner = list_back (fit of) (text of) (read of) inner (sorted (spell of)) vs rest f (stays_sorted short (spell of) vs r)
+  set_row of (tree.list vs) rest f r inner = list_back (fit of) (text of) (read of) inner (sorted (spell of)) vs rest f (stays_sorted (spell of) vs r)
   set_row of v rest f r inner = absurd (let no : ⊥ = cc in no)
 
   list_starts : (of : ℕ) (v : Value) → list_fits (fit of) v ≡ true → starts (list_text (text of) v) ≡ true
@@ -153,7 +154,7 @@ module _ (short : ℕ → Bool) (spell : ℕ → Value → List ℕ) (fit : ℕ 
   choice_row_starts ps (tree.chosen which v) f n = choice_starts fit text read ps which v f n
   choice_row_starts ps v f n = absurd (let no : ⊥ = cc in no)
 
-  own : (r : TypeRow) → ((v : Value) → fits_by short spell fit r v ≡ true → has_own_form v ≡ true) → text_by text r ≡ value_text → read_by spell read r ≡ form_at → RowInner r
+  own : (r : TypeRow) → ((v : Value) → form_by spell fit r v ≡ true → has_own_form v ≡ true) → text_by text r ≡ value_text → read_by spell read r ≡ form_at → RowInner r
   own r form t f = record {
     back = λ v rest fits m. ap (λ (g : Reader). g (text_by text r v ++ rest)) f ∙ ap (λ (g : Value → List ℕ). form_at (g v ++ rest)) t ∙ form_back v rest (form v fits) m;
     start = λ v fits. ap (λ (g : Value → List ℕ). starts (g v)) t ∙ own_starts v (form v fits);
@@ -172,8 +173,8 @@ module _ (short : ℕ → Bool) (spell : ℕ → Value → List ℕ) (fit : ℕ 
   row_inner (row.Set ps) apart n inner = record { back = λ v rest f m. sequence_row false ps v rest f apart n inner; start = sequence_starts ps }
   row_inner (row.SequenceOf of) apart n inner = record { back = λ v rest f m. list_row of.0 v rest f inner.0; start = list_starts of.0 }
   row_inner (row.SetOf of) apart n inner = record {
-    back = λ v rest f m. let p = both_true (list_fits (fit of.0) v) (set_rises short (spell of.0) v) f in set_row of.0 v rest p.0 p.1 inner.0;
-    start = λ v f. list_starts of.0 v (both_true (list_fits (fit of.0) v) (set_rises short (spell of.0) v) f).0;
+    back = λ v rest f m. let p = both_true (list_fits (fit of.0) v) (set_rises (spell of.0) v) f in set_row of.0 v rest p.0 p.1 inner.0;
+    start = λ v f. list_starts of.0 v (both_true (list_fits (fit of.0) v) (set_rises (spell of.0) v) f).0;
   }
   row_inner (row.Choice ps) apart n inner = record { back = λ v rest f m. choice_row ps v rest f m apart n inner; start = λ v f. choice_row_starts ps v f n }
   row_inner (row.Tagged class number explicit of) apart n inner = record { back = inner.0.back; start = inner.0.start }
@@ -193,14 +194,14 @@ past_all (x ∷ xs) (suc n) e = let less = past_all xs n e in omega arith
 
 module _ (rows : List TypeRow) (sound : IsSound rows) (noted : list_all has_notation rows ≡ true) where
   abbrev pub At : ℕ → Type 0
-  At n = Inner (fits rows n) (printed rows n) (read_as rows n)
+  At n = Inner (has_form rows n) (printed rows n) (read_as rows n)
 
   each_below : (n : ℕ) (ns : List ℕ) → AllByRecursion (λ m. m < n) ns → ((m : ℕ) → m < n → At m) → AllByRecursion (λ m. At m) ns
   each_below n [] h more = tt
   each_below n (m ∷ ns) h more = (more m h.0, each_below n ns h.1 more)
 
-  no_value : (n : ℕ) (v : Value) → slice_get rows n ≡ None → fits rows n v ≡ true → ⊥
-  no_value n v e f = let past = fits_past rows n v (past_all rows n e) in let no : ⊥ = cc in no
+  no_value : (n : ℕ) (v : Value) → slice_get rows n ≡ None → has_form rows n v ≡ true → ⊥
+  no_value n v e f = let past = form_past rows n v (past_all rows n e) in let no : ⊥ = cc in no
 
   by_row : (n : ℕ) (o : Option TypeRow) → slice_get rows n ≡ o → ((m : ℕ) → m < n → At m) → At n
   by_row n None e more = record {
@@ -211,8 +212,8 @@ module _ (rows : List TypeRow) (sound : IsSound rows) (noted : list_all has_nota
       let t = taken (take n rows) r (sound.each n r e) in
       let down = is_down rows sound in
       let inner = each_below n (names_of r) (down.lower n r e) more in
-      let row = row_inner is_short (written rows) (fits rows) (printed rows) (read_as rows) r t.double (row_at rows n r noted e) inner in
-      let fe = fits_at rows sound n r e in
+      let row = row_inner (written rows) (has_form rows) (printed rows) (read_as rows) r t.double (row_at rows n r noted e) inner in
+      let fe = fit_laws.form_at rows sound n r e in
       let pe = printed_at rows sound n r e in
       let re = read_at rows sound n r e in
       record {
@@ -229,6 +230,6 @@ module _ (rows : List TypeRow) (sound : IsSound rows) (noted : list_all has_nota
   typed_back n v rest f m =
       let less : n < suc n = omega arith in
       let at = down_to (suc n) n less in
-      let read = at.back v rest f m in
+      let read = at.back v rest (fits_has_form rows n v f) m in
       let kept : if_fits (fits rows n) (Some (record { value = v; rest = rest })) ≡ Some (record { value = v; rest = rest }) = rw f refl in
       ap (if_fits (fits rows n)) read ∙ kept

@@ -9,7 +9,7 @@ use Rattle.osi_base.specs.declared.syntax.Syntax.TheVariants.{Ber, Der, Packed}
 use Rattle.asn1_types.specs.declared.row.Class.TheVariants.{Universal, Context}
 use Rattle.asn1_types.specs.declared.row.TypeId.{TypeId}
 use Rattle.asn1_types.specs.declared.value.Val.{Val}
-use Rattle.asn1_types.specs.Fits.{fits, is_number, is_octet}
+use Rattle.asn1_types.specs.Fits.{has_form, is_number, is_octet}
 use Rattle.asn1_types.specs.Whole.{is_whole}
 use Rattle.asn1_types.specs.Writing.{written, writes, integer_octets, definite}
 use Rattle.ber_spelling.proofs.WholeSpelled.{der_is_whole}
@@ -82,7 +82,7 @@ ber-whole tables apdu readable w =
     let v : IsWritable tables Der apdu = record { numbers = w.numbers; values = sym (values-same tables apdu) ∙ w.values; short = subst (λ (x : List ℕ). length x ≤ 262144) (texts-same tables apdu) w.short } in
     subst (λ (x : List ℕ). is_whole x ≡ true) (sym (texts-same tables apdu)) (der-whole tables apdu readable v)
 
--- ---- the value of a transfer fits
+-- ---- the value of a transfer has the form of its row
 
 both : (a b : Bool) → a ≡ true → b ≡ true → (a && b) ≡ true
 both true b e f = f
@@ -99,12 +99,12 @@ id-fits id low high =
     below : (id : ℕ) → id ≤ 32767 → not (int_lt (pos 32767) (pos id)) ≡ true
     below id h = grind (arith, ints)
 
-whole-fits : (id : ℕ) (os : List ℕ) → 1 ≤ id → id ≤ 32767 → is_whole os ≡ true → fits transfer_rows transfer_row (pdv_value (pdv_with id Ber os)) ≡ true
-unfolding fits
+whole-fits : (id : ℕ) (os : List ℕ) → 1 ≤ id → id ≤ 32767 → is_whole os ≡ true → has_form transfer_rows transfer_row (pdv_value (pdv_with id Ber os)) ≡ true
+unfolding has_form
 whole-fits id os low high h = both _ (is_whole os && true) (id-fits id low high) (both (is_whole os) true h refl)
 
-octets-fit_so : (id : ℕ) (os : List ℕ) → 1 ≤ id → id ≤ 32767 → list_all is_octet os ≡ true → length os ≤ 4294967295 → fits transfer_rows transfer_row (pdv_value (pdv_with id Packed os)) ≡ true
-unfolding fits
+octets-fit_so : (id : ℕ) (os : List ℕ) → 1 ≤ id → id ≤ 32767 → list_all is_octet os ≡ true → length os ≤ 4294967295 → has_form transfer_rows transfer_row (pdv_value (pdv_with id Packed os)) ≡ true
+unfolding has_form
 octets-fit_so id os low high h few = both _ (list_all is_octet os && nat_le (length os) 4294967295 && true) (id-fits id low high) (both (list_all is_octet os && nat_le (length os) 4294967295) true (both (list_all is_octet os) (nat_le (length os) 4294967295) h (le-leb (length os) 4294967295 few)) refl)
 
 -- ---- its octets

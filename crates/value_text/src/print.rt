@@ -188,7 +188,8 @@ fn put_part(
     value: &Val,
 ) -> Result<(), NoMemory>
     requires below { part.now.inner.0 < of.0 }
-    ensures { OnOk result (text.new ≡ text.old ++ (part.now.name ++ (codes " " ++ printed table.now part.now.inner.0 value.now))) }
+    ensures { OnOk result (text.new ≡ text.old ++ (part.now.name
+        ++ (codes " " ++ printed table.now part.now.inner.0 value.now))) }
 {
     text.put(part.name.as_str())?;
     text.put(" ")?;

@@ -5,14 +5,16 @@ use Rattle.asn1_types.specs.Value.{chosen}
 use Rattle.asn1_types.specs.ValueView.{value_of}
 use Rattle.std.proofs.lemmas.Option.{slice_get_within}
 use Rattle.asn1_types.specs.declared.row.TypeRow.TheVariants.{Sequence, Set, SequenceOf, SetOf, Choice, Tagged}
-use Rattle.asn1_types.specs.Fits.{alternative_fits, choice_fits, fits}
+use Rattle.asn1_types.specs.Fits.{alternative_fits, choice_fits}
+use Rattle.ber_writing.specs.Short.{has_short_form}
 use Rattle.asn1_types.proofs.Sound.{each_part, down_as}
-use Rattle.asn1_types.proofs.FitLaws.{not_within, false_not, fits_at, fits_past, parts_short, each_slot}
+use Rattle.asn1_types.proofs.FitLaws.{not_within, false_not, parts_short, each_slot}
+use Rattle.ber_writing.proofs.ShortForms.{short_at, short_past}
 use Rattle.ber_writing.proofs.fitting.+fitting.Goals as goal
 
-pub fits-returns-then-has : goal.fits-returns-then-has
-fits-returns-then-has t c =
-    c.fits_row.ensures ∙ ap (λ f. f c.args.value.now) (sym (fits_at c.args.table.now c.row.ensures.sound c.args.of.0 c.row.result.now c.row.ensures.value))
+pub has_form-returns-then-has : goal.has_form-returns-then-has
+has_form-returns-then-has t c =
+    c.fits_row.ensures ∙ ap (λ f. f c.args.value.now) (sym (short_at c.args.table.now c.row.ensures.sound c.args.of.0 c.row.result.now c.row.ensures.value))
 
 pub fits_row-sequence_fits-requires : goal.fits_row-sequence_fits-requires
 fits_row-sequence_fits-requires t c =
@@ -46,17 +48,17 @@ fits_row-choice_fits-requires t c =
     let down = down_as c.args.table.now c.args.of.0 c.args.row.now (Choice c.in-Choice.alternatives) c.requires.sound c.requires.row c.in-Choice.is in
     (omega arith, (down, omega arith))
 
-pub fits_row-fits-requires : goal.fits_row-fits-requires
-fits_row-fits-requires t c =
+pub fits_row-has_form-requires : goal.fits_row-has_form-requires
+fits_row-has_form-requires t c =
     let down = down_as c.args.table.now c.args.of.0 c.args.row.now (Tagged c.in-Tagged.class c.in-Tagged.number c.in-Tagged.explicit c.in-Tagged.inner) c.requires.sound c.requires.row c.in-Tagged.is in
     let below : c.in-Tagged.inner.0 < c.args.of.0 = down.0 in
     (omega arith, tt)
 
-pub fits-returns-else-has : goal.fits-returns-else-has
-fits-returns-else-has t c = c.if-has.false ∙ fits_past c.args.table.now c.args.of.0 c.args.value.now (not_within (length c.args.table.now) c.args.of.0 (λ lt. false_not (sym c.if-has.false ∙ c.has.ensures.1 lt)))
+pub has_form-returns-else-has : goal.has_form-returns-else-has
+has_form-returns-else-has t c = c.if-has.false ∙ short_past c.args.table.now c.args.of.0 c.args.value.now (not_within (length c.args.table.now) c.args.of.0 (λ lt. false_not (sym c.if-has.false ∙ c.has.ensures.1 lt)))
 
-pub choice_fits-fits-requires : goal.choice_fits-fits-requires
-choice_fits-fits-requires t c =
+pub choice_fits-has_form-requires : goal.choice_fits-has_form-requires
+choice_fits-has_form-requires t c =
     let slot : slice_get c.args.alternatives.now c.in-Chosen.which ≡ Some c.in-Some.part.now = sym c.get.ensures ∙ ap option_copied c.in-Some.is in
     let lt : c.in-Some.part.now.inner.0 < c.args.of.0 = each_slot (λ m. m < c.args.of.0) c.args.alternatives.now c.in-Chosen.which c.in-Some.part.now c.requires.below slot in
     (omega arith, tt)
@@ -65,16 +67,16 @@ pub choice_fits-returns-in-Some : goal.choice_fits-returns-in-Some
 choice_fits-returns-in-Some t c =
     let slot : slice_get c.args.alternatives.now c.in-Chosen.which ≡ Some c.in-Some.part.now = sym c.get.ensures ∙ ap option_copied c.in-Some.is in
     let same : chosen c.in-Chosen.which c.in-Chosen.value.value ≡ c.args.value.now = ap value_of (sym c.in-Chosen.is) ∙ c.value.view_is in
-    c.fits.ensures ∙ ap (λ v. fits c.args.table.now c.in-Some.part.now.inner.0 v) c.deref.ensures
-    ∙ ap (λ o. alternative_fits (fits c.args.table.now) o c.in-Chosen.value.value) (sym slot)
-    ∙ ap (choice_fits (λ which. alternative_fits (fits c.args.table.now) (slice_get c.args.alternatives.now which))) same
+    c.has_form.ensures ∙ ap (λ v. has_short_form c.args.table.now c.in-Some.part.now.inner.0 v) c.deref.ensures
+    ∙ ap (λ o. alternative_fits (has_short_form c.args.table.now) o c.in-Chosen.value.value) (sym slot)
+    ∙ ap (choice_fits (λ which. alternative_fits (has_short_form c.args.table.now) (slice_get c.args.alternatives.now which))) same
 
 pub choice_fits-returns-in-None : goal.choice_fits-returns-in-None
 choice_fits-returns-in-None t c =
     let slot : slice_get c.args.alternatives.now c.in-Chosen.which ≡ None = sym c.get.ensures ∙ ap option_copied c.in-None.is in
     let same : chosen c.in-Chosen.which c.in-Chosen.value.value ≡ c.args.value.now = ap value_of (sym c.in-Chosen.is) ∙ c.value.view_is in
-    ap (λ o. alternative_fits (fits c.args.table.now) o c.in-Chosen.value.value) (sym slot)
-    ∙ ap (choice_fits (λ which. alternative_fits (fits c.args.table.now) (slice_get c.args.alternatives.now which))) same
+    ap (λ o. alternative_fits (has_short_form c.args.table.now) o c.in-Chosen.value.value) (sym slot)
+    ∙ ap (choice_fits (λ which. alternative_fits (has_short_form c.args.table.now) (slice_get c.args.alternatives.now which))) same
 
 pub parts_fit-part_fits-requires : goal.parts_fit-part_fits-requires
 parts_fit-part_fits-requires t c =
@@ -82,4 +84,4 @@ parts_fit-part_fits-requires t c =
     (omega arith, (lt, c.requires.within))
 
 pub parts_fit-returns-then-parts-values : goal.parts_fit-returns-then-parts-values
-parts_fit-returns-then-parts-values t c = parts_short (fits c.args.table.now) c.args.parts.now c.args.values.now c.if-parts-values.true
+parts_fit-returns-then-parts-values t c = parts_short (has_short_form c.args.table.now) c.args.parts.now c.args.values.now c.if-parts-values.true

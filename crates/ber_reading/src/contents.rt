@@ -1,0 +1,109 @@
+//! Contents of constructed values: where they begin and end, and any one value in them.
+
+ghost use Rattle.std.specs.Prelude.{◌≡◌, ◌+◌, ◌<◌, ◌^◌, length, IfOk};
+ghost use Rattle.ber_spelling.specs.Reading.{Gives, spot_of, opened_of, GoesOn};
+ghost use Rattle.ber_spelling.specs.Rules.{open_at, close_at, any_at, explicit_at};
+
+use asn1_types::{Node, Val};
+use ber_spelling::{
+    Ahead, Opened, ReadFault, Scope, Spot, Tag, expect, extent, look, refusal, whole_value,
+};
+use osi_base::{Kind, Octets};
+use std::alloc::Global;
+
+/// Opens a constructed value that holds one value.
+#[tactic(auto, unfolding(ber_spelling::specs::Rules::open_at))]
+pub(crate) fn open<'a>(
+    tag: Tag,
+    scope: &Scope,
+    opened: &Opened<'a>,
+    spot: Spot<'a>,
+) -> Result<(Scope, Opened<'a>, Spot<'a>), ReadFault>
+    requires { spot.place + length spot.rest.now < 2 ^ 63 }
+    ensures gives { Gives (λ x. (x.0, opened_of x.1, spot_of x.2)) result
+        (open_at tag scope.now (opened_of opened.now) (spot_of spot.entry)) }
+    ensures stops { IfOk result (λ x. GoesOn x.1.start.place (length x.1.start.rest.now) x.2) }
+    ensures onward { IfOk result (λ x. GoesOn spot.entry.place (length spot.entry.rest.now) x.2) }
+{
+    expect(tag, true, opened)?;
+    let (inside, spot) = extent(scope, spot)?;
+    match look(&inside, spot)? {
+        Ahead::Ended { place, .. } => Err(refusal(place, Kind::Missing)),
+        Ahead::Begun(first, after) => Ok((inside, first, after)),
+    }
+}
+
+/// Closes contents of which nothing more is to come.
+#[tactic(auto, unfolding(ber_spelling::specs::Rules::close_at, ber_spelling::specs::Fields::look_at))]
+#[inline(always)]
+pub(crate) fn close<'a>(scope: &Scope, spot: Spot<'a>) -> Result<Spot<'a>, ReadFault>
+    requires { spot.place + length spot.rest.now < 2 ^ 63 }
+    ensures gives { Gives (λ x. spot_of x) result (close_at scope.now (spot_of spot.entry)) }
+    ensures stops { IfOk result (λ x. GoesOn spot.entry.place (length spot.entry.rest.now) x) }
+{
+    if let Some(end) = scope.end {
+        if end <= spot.place && !scope.marked {
+            return Ok(spot);
+        }
+    }
+    close_behind(scope, spot)
+}
+
+/// As `close`, wherever the contents end.
+#[tactic(auto, unfolding(ber_spelling::specs::Rules::close_at))]
+#[inline(never)]
+pub(crate) fn close_behind<'a>(scope: &Scope, spot: Spot<'a>) -> Result<Spot<'a>, ReadFault>
+    requires { spot.place + length spot.rest.now < 2 ^ 63 }
+    ensures gives { Gives (λ x. spot_of x) result (close_at scope.now (spot_of spot.entry)) }
+    ensures stops { IfOk result (λ x. GoesOn spot.entry.place (length spot.entry.rest.now) x) }
+{
+    match look(scope, spot)? {
+        Ahead::Ended { after, .. } => Ok(after),
+        Ahead::Begun(opened, _) => Err(refusal(opened.start.place, Kind::Extra)),
+    }
+}
+
+/// Any one value, as octets.
+#[tactic(auto, unfolding(ber_spelling::specs::Rules::any_at))]
+#[inline(never)]
+pub(crate) fn any<'a>(
+    alloc: Global,
+    scope: &Scope,
+    opened: &Opened<'a>,
+    spot: Spot<'a>,
+) -> Result<(Val, Spot<'a>), ReadFault>
+    requires whole { spot.place + length spot.rest.now < 2 ^ 63 }
+    requires start { GoesOn opened.now.start.place (length opened.now.start.rest.now) spot }
+    ensures gives { Gives (λ x. (x.0, spot_of x.1)) result
+        (any_at scope.now (opened_of opened.now) (spot_of spot.entry)) }
+    ensures stops { IfOk result (λ x. GoesOn spot.entry.place (length spot.entry.rest.now) x.1) }
+{
+    let after = whole_value(32, scope, opened, spot)?;
+    let whole = opened.start.rest;
+    let octets = Octets::from_slice(alloc, &whole[..whole.len() - after.rest.len()])?;
+    Ok((
+        Val {
+            node: Node::Any(octets),
+        },
+        after,
+    ))
+}
+
+#[tactic(auto, unfolding(ber_spelling::specs::Rules::explicit_at))]
+#[inline(never)]
+pub(crate) fn tagged_any<'a>(
+    alloc: Global,
+    tag: Tag,
+    scope: &Scope,
+    opened: &Opened<'a>,
+    spot: Spot<'a>,
+) -> Result<(Val, Spot<'a>), ReadFault>
+    requires { spot.place + length spot.rest.now < 2 ^ 63 }
+    ensures gives { Gives (λ x. (x.0, spot_of x.1)) result
+        (explicit_at any_at tag scope.now (opened_of opened.now) (spot_of spot.entry)) }
+    ensures stops { IfOk result (λ x. GoesOn spot.entry.place (length spot.entry.rest.now) x.1) }
+{
+    let (inside, first, spot) = open(tag, scope, opened, spot)?;
+    let (value, spot) = any(alloc, &inside, &first, spot)?;
+    Ok((value, close(&inside, spot)?))
+}

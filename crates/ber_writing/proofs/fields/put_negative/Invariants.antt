@@ -1,0 +1,12 @@
+use Rattle.std.proofs.Common.{◌≡◌, ◌+◌, ◌-◌, ◌++◌, [], drop, length, map}
+use Rattle.asn1_types.specs.Writing.{natural_octets}
+use Rattle.ber_writing.proofs.fields.put_negative.Given as goal
+
+abbrev pub decreases-loop-high : goal.decreases-loop-high
+decreases-loop-high l = l.high
+
+abbrev pub invariant-loop-high : goal.invariant-loop-high
+invariant-loop-high l = record {
+  place : l.start + length (natural_octets l.number l.number []) ≡ l.end + length (natural_octets l.high l.high []);
+  put : map (λ octet. 255 - octet) (natural_octets l.high l.high []) ++ drop l.start l.room ≡ map (λ octet. 255 - octet) (natural_octets l.number l.number []) ++ drop l.end l.fn.room;
+}
