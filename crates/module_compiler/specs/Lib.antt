@@ -5,3 +5,5 @@ pub mod Tabling
 pub mod Seen
 pub mod Tables
 pub mod Refusals
+pub mod Laws
+pub mod Examples

@@ -1,23 +1,32 @@
--- Why a module is refused.
-use Rattle.std.specs.Prelude.{◌≡◌, ℕ, List, true, Option, Some, None}
-use Rattle.operation_notation.specs.declared.module.Assignment.{Assignment}
+-- The faults of a module, and why one is refused.
+use Rattle.std.specs.Prelude.{◌≡◌, ℕ, Bool, [], Some}
+use Rattle.std.specs.List.{Contains}
 use Rattle.operation_notation.specs.declared.module.ModuleText.{ModuleText}
 use Rattle.module_faults.specs.declared.kind.TableKind.{TableKind}
-use Rattle.module_faults.specs.Faults.{may_be_fault}
+use Rattle.module_faults.specs.declared.least.Found.{Found}
+use Rattle.module_faults.specs.Least.{fault}
+use Rattle.module_faults.specs.Recursion.{SaysRecursion}
+use Rattle.module_faults.specs.Faults.{faults_by, IsLeastFault}
 use Rattle.module_compiler.specs.declared.fault.TableFault.{TableFault}
 use Rattle.module_compiler.specs.declared.fault.TableFault.TheVariants as faults
-use Rattle.module_compiler.specs.declared.least.Found.{Found}
 
--- a fault of its kind may stand at its place, if one was found
-abbrev pub MayBeFound : List Assignment → Option Found → Type 0
-MayBeFound assignments None = Unit {0}
-MayBeFound assignments (Some found) = may_be_fault found.kind found.place assignments ≡ true
+-- A module has a fault: it is one of those that its assignments show, where it is told which types reach themselves.
+pub record IsFault (m : ModuleText) (found : Found) : Type 0 where
+  pub recursive : ℕ → Bool
+  pub says : SaysRecursion m.assignments recursive
+  pub among : Contains (faults_by m.assignments recursive) found
 
--- a fault of this kind may stand at this line and column of a module
-abbrev pub MayStand : ModuleText → ℕ → ℕ → TableKind → Type 0
-MayStand m line column kind = may_be_fault kind (record { line = line; column = column }) m.assignments ≡ true
+-- It has no fault of any kind.
+pub record HasNoFault (m : ModuleText) : Type 0 where
+  pub recursive : ℕ → Bool
+  pub says : SaysRecursion m.assignments recursive
+  pub none : faults_by m.assignments recursive ≡ []
 
--- A module is refused at a token at which a fault of that kind may stand; or memory was refused.
-abbrev pub MayBeRefused : ModuleText → TableFault → Type 0
-MayBeRefused m (faults.At line column kind) = MayStand m line column kind
-MayBeRefused m faults.NoMemory = Unit {0}
+-- the least fault of a module is of this kind, and at this line and column
+abbrev pub HasFault : ModuleText → ℕ → ℕ → TableKind → Type 0
+HasFault m line column kind = IsLeastFault m.assignments (Some (fault line column kind))
+
+-- A module is refused with its least fault; or memory was refused.
+abbrev pub IsRefusedBy : ModuleText → TableFault → Type 0
+IsRefusedBy m (faults.At line column kind) = HasFault m line column kind
+IsRefusedBy m faults.NoMemory = Unit {0}

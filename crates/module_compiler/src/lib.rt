@@ -2,18 +2,15 @@
 //! the tables of a module, or its first fault.
 #![tactic(auto)]
 
-mod codes;
 mod compiling;
-mod facts;
 mod fault;
-mod least;
-mod local_faults;
+mod laws;
 mod numbering;
 mod own_codes;
 mod scope;
-mod survey;
 mod tabling;
 
 pub use compiling::compile;
 pub use fault::TableFault;
+pub use laws::{fault_or_none, faultless_have_tables, one_is_faultless, refused_are_least};
 pub use module_faults::TableKind;

@@ -4,8 +4,9 @@ ghost use Rattle.std.specs.Prelude.{◌≡◌, ◌<◌, ◌≤◌, ◌^◌, ℕ,
 ghost use Rattle.std.specs.Option.{option_copied};
 ghost use Rattle.std.specs.Str.{bytes_eq};
 ghost use Rattle.indexmap.specs.IndexMap.{get_by};
-ghost use Rattle.module_compiler.specs.Scope.{find, behind, behind_by, alias, type_at, or_none, is_plain};
-ghost use Rattle.module_compiler.specs.Kept.{AreFound, AreFollowed, AreBehind, IsFollowed, IsBehind, IsAdded, IsOneMore, Leads, From};
+ghost use Rattle.module_faults.specs.Names.{find, type_at, or_none, AreFound, IsAdded};
+ghost use Rattle.module_compiler.specs.Scope.{behind, behind_by, alias, is_plain};
+ghost use Rattle.module_compiler.specs.Kept.{AreFollowed, AreBehind, IsFollowed, IsBehind, IsOneMore, Leads, From};
 
 use indexmap::IndexMap;
 use operation_notation::{Assignment, Body, ModuleText, PlainText, TypeText};
@@ -39,7 +40,8 @@ pub(crate) struct Scope<'m> {
 
 impl<'m> Model for Scope<'m> {
     ghost use Rattle.module_compiler.specs.Scope.{Ground};
-    ghost use Rattle.module_compiler.specs.Kept.{AreFound, AreBehind};
+    ghost use Rattle.module_faults.specs.Names.{AreFound};
+    ghost use Rattle.module_compiler.specs.Kept.{AreBehind};
 
     ghost Value = { Ground };
 
@@ -172,12 +174,6 @@ impl<'m> Scope<'m> {
             Some(found) if (found.aliases as usize) < self.assignments.len() => Some(found.place),
             _ => None,
         }
-    }
-
-    /// What a name is assigned first.
-    pub fn body_of(&self, name: &Name) -> Option<&'m Body> {
-        let place = self.find(name)?;
-        Some(&self.assignments.get(place as usize)?.body)
     }
 
     /// The type that is assigned at a place.

@@ -1,93 +1,63 @@
--- At which tokens of a module a fault of a kind may stand.
-use Rattle.std.specs.Prelude.{ℕ, Bool, true, false, not, ◌&&◌, ◌||◌, List, [], ◌∷◌, Option, None, Some}
+-- The faults of a module that reads, and the least of them.
+use Rattle.std.specs.Prelude.{◌≡◌, ℕ, ◌+◌, Bool, true, false, max, List, [], ◌∷◌, ◌++◌, Option, None, Some, if◌then◌else◌}
 use Rattle.notation_tokens.specs.declared.token.Located.{Located}
-use Rattle.notation_tokens.specs.declared.token.Place.{Place}
+use Rattle.operation_notation.specs.Tree.{TypeTree}
 use Rattle.operation_notation.specs.declared.module.Assignment.{Assignment}
 use Rattle.operation_notation.specs.declared.module.Body.{Body}
 use Rattle.operation_notation.specs.declared.module.Body.TheVariants as bodies
-use Rattle.operation_notation.specs.declared.module.CodeText.{CodeText}
-use Rattle.operation_notation.specs.declared.module.OpText.{OpText}
 use Rattle.operation_notation.specs.declared.module.UseText.{UseText}
-use Rattle.module_faults.specs.declared.kind.TableKind.{TableKind}
 use Rattle.module_faults.specs.declared.kind.TableKind.TheVariants as kinds
-use Rattle.module_faults.specs.Places.{is_at, is_named_at}
-use Rattle.module_faults.specs.Names.{assignment_before, assigned, is_double_code}
-use Rattle.module_faults.specs.Types.{type_has}
+use Rattle.module_faults.specs.declared.least.Found.{Found}
+use Rattle.module_faults.specs.Least.{fault, at_name, if_so, least}
+use Rattle.module_faults.specs.Seen.{no_codes}
+use Rattle.module_faults.specs.Locals.{bodies_faults, double_names, double_codes}
+use Rattle.module_faults.specs.Recursion.{SaysRecursion}
+use Rattle.module_faults.specs.Facts.{Facts, is_too_deep, type_facts, type_shows, env_of}
 
--- ---- names in ERRORS and LINKED
+-- ---- types as a whole
 
--- what is wrong with a name in ERRORS that is assigned so
-abbrev pub is_no_error : TableKind → Option Body → Bool
-is_no_error kinds.UnknownName None = true
-is_no_error kinds.NotError (Some (bodies.Typed of)) = true
-is_no_error kinds.NotError (Some (bodies.Operation operation)) = true
-is_no_error kind body = false
+abbrev pub use_shows : (List ℕ → Facts) → Option UseText → List Found
+use_shows env None = []
+use_shows env (Some u) = type_shows env 256 u.of
 
--- what is wrong with a name in LINKED
-abbrev pub is_no_operation : TableKind → Option Body → Bool
-is_no_operation kinds.UnknownName None = true
-is_no_operation kinds.NotOperation (Some (bodies.Typed of)) = true
-is_no_operation kinds.NotOperation (Some (bodies.Error error)) = true
-is_no_operation kind body = false
+abbrev pub use_nesting : (List ℕ → Facts) → Option UseText → ℕ
+use_nesting env None = 0
+use_nesting env (Some u) = (type_facts env 256 u.of).nesting
 
-abbrev pub names_have : (Option Body → Bool) → Place → List Assignment → List Located → Bool
-names_have is_wrong place all [] = false
-names_have is_wrong place all (name ∷ more) = (is_named_at place name && is_wrong (assigned all name.text)) || names_have is_wrong place all more
+abbrev pub too_deep : Located → ℕ → List Found
+too_deep name nesting = if_so (is_too_deep nesting) (at_name name kinds.TooNested)
 
--- ---- what is assigned
+abbrev pub body_shows : (List ℕ → Facts) → Located → Body → List Found
+body_shows env name (bodies.Typed of) = type_shows env 256 of ++ too_deep name (type_facts env 256 of).nesting
+body_shows env name (bodies.Operation operation) =
+    (use_shows env operation.argument ++ use_shows env operation.result)
+    ++ too_deep name (max (use_nesting env operation.argument) (use_nesting env operation.result))
+body_shows env name (bodies.Error error) = use_shows env error.parameter ++ too_deep name (use_nesting env error.parameter)
 
-abbrev pub use_has : TableKind → Place → List Assignment → Option UseText → Bool
-use_has kind place all None = false
-use_has kind place all (Some u) = type_has kind place all 256 u.of
+abbrev pub bodies_show : (List ℕ → Facts) → List Assignment → List Found
+bodies_show env [] = []
+bodies_show env (a ∷ more) = body_shows env a.name a.body ++ bodies_show env more
 
-abbrev pub use_at : Place → Option UseText → Bool
-use_at place None = false
-use_at place (Some u) = is_at place u.line u.column
+-- ---- recursion
 
--- a result with a type where none is returned
-abbrev pub contradicts : TableKind → Place → OpText → Bool
-contradicts kinds.Contradiction place operation = use_at place operation.result && not operation.returns
-contradicts kind place operation = false
-
-abbrev pub operation_has : TableKind → Place → List Assignment → OpText → Bool
-operation_has kind place all operation =
-    use_has kind place all operation.argument
-    || (use_has kind place all operation.result
-    || (contradicts kind place operation
-    || (names_have (is_no_error kind) place all operation.errors || names_have (is_no_operation kind) place all operation.linked)))
-
-abbrev pub body_has : TableKind → Place → List Assignment → Body → Bool
-body_has kind place all (bodies.Typed of) = type_has kind place all 256 of
-body_has kind place all (bodies.Operation operation) = operation_has kind place all operation
-body_has kind place all (bodies.Error error) = use_has kind place all error.parameter
-
-abbrev pub lacks : Option CodeText → Bool
-lacks None = true
-lacks (Some code) = false
-
--- an operation or error without a code
-abbrev pub lacks_code : Body → Bool
-lacks_code (bodies.Typed of) = false
-lacks_code (bodies.Operation operation) = lacks operation.code
-lacks_code (bodies.Error error) = lacks error.code
+-- the first assignment, from a place on, of those that are said to reach themselves
+abbrev pub first_recursive : (ℕ → Bool) → ℕ → List Assignment → List Found
+first_recursive recursive place [] = []
+first_recursive recursive place (a ∷ more) = if recursive place then at_name a.name kinds.Recursive ∷ [] else first_recursive recursive (place + 1) more
 
 -- ---- the whole of it
 
--- An assignment has it: the kinds whose token is the assigned name are asked of that name.
-abbrev pub assignment_has : TableKind → Place → List Assignment → Assignment → Bool
-assignment_has kinds.DoubleName place all a = (is_named_at place a.name && assignment_before place a.name.text all) || body_has kinds.DoubleName place all a.body
-assignment_has kinds.NoCode place all a = is_named_at place a.name && lacks_code a.body
-assignment_has kinds.Recursive place all a = is_named_at place a.name && body_has kinds.Recursive place all a.body
-assignment_has kinds.TooNested place all a = is_named_at place a.name && body_has kinds.TooNested place all a.body
-assignment_has kind place all a = body_has kind place all a.body
+-- the faults of a module's assignments, of which this test says which reach themselves
+abbrev pub faults_by : List Assignment → (ℕ → Bool) → List Found
+faults_by all recursive =
+    double_names all 0 all
+    ++ (bodies_faults all all
+    ++ (double_codes false no_codes all
+    ++ (double_codes true no_codes all
+    ++ (first_recursive recursive 0 all ++ bodies_show (env_of all recursive) all))))
 
-abbrev pub some_has : TableKind → Place → List Assignment → List Assignment → Bool
-some_has kind place all [] = false
-some_has kind place all (a ∷ more) = assignment_has kind place all a || some_has kind place all more
-
--- A fault of this kind may stand at this place: exactly where one does, but for four kinds, of which less is asked. Where
--- TagsNotDistinct may stand there is a part behind another; where BadDefault may, a default; where Recursive may, the name of
--- an assignment whose type names a type; where TooNested may, that of an assignment whose types have a tag, a name, or types in them.
-abbrev pub may_be_fault : TableKind → Place → List Assignment → Bool
-may_be_fault kinds.DoubleCode place all = is_double_code false place all || is_double_code true place all
-may_be_fault kind place all = some_has kind place all all
+-- The least fault of a module with these assignments, by line, column and the order of kinds; or none, if it has no fault.
+pub record IsLeastFault (all : List Assignment) (found : Option Found) : Type 0 where
+  pub recursive : ℕ → Bool
+  pub says : SaysRecursion all recursive
+  pub is : found ≡ least (faults_by all recursive)

@@ -1,4 +1,11 @@
 pub mod Places
+pub mod Least
 pub mod Names
-pub mod Types
+pub mod Seen
+pub mod Locals
+pub mod Recursion
+pub mod Standings
+pub mod Facts
+pub mod Known
 pub mod Faults
+pub mod Laws

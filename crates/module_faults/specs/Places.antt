@@ -1,21 +1,8 @@
--- Where tokens stand, and the tests of single tokens.
-use Rattle.std.specs.Prelude.{ℕ, ◌==◌, Bool, not, ◌&&◌, ◌||◌, List, pos, int_lt}
+-- The tests of single tokens.
+use Rattle.std.specs.Prelude.{◌==◌, Bool, not, ◌&&◌, ◌||◌, pos, int_lt}
 use Rattle.std.specs.Ordering.{int_eq}
-use Rattle.std.specs.Str.{bytes_eq}
-use Rattle.notation_tokens.specs.declared.token.Located.{Located}
-use Rattle.notation_tokens.specs.declared.token.Place.{Place}
 use Rattle.operation_notation.specs.declared.module.RangeText.{RangeText}
 use Rattle.operation_notation.specs.declared.module.TagText.{TagText}
-
--- the token at this line and column is the one that is asked for
-abbrev pub is_at : Place → ℕ → ℕ → Bool
-is_at place line column = (place.line == line) && (place.column == column)
-
-abbrev pub is_named_at : Place → Located → Bool
-is_named_at place name = is_at place name.line name.column
-
-abbrev pub is_same_name : List ℕ → List ℕ → Bool
-is_same_name a b = bytes_eq a b
 
 -- a range whose high end is below its low end (X.680 51.4)
 abbrev pub is_bad_range : RangeText → Bool

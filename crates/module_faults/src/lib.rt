@@ -1,12 +1,23 @@
-//! What is wrong with a module that reads: whether a fault of a kind may stand at a token of it.
+//! What is wrong with a module that reads: the least of its faults.
 #![tactic(auto)]
 
+mod assigned;
+mod facts;
 mod faults;
+mod judging;
 mod kind;
+mod laws;
+mod least;
+mod locals;
 mod names;
 mod places;
-mod types;
+mod recursion;
+mod seen;
+mod survey;
+mod tags;
+mod uses;
 
-pub use faults::may_be_fault;
+pub use faults::least_fault;
 pub use kind::TableKind;
-pub use places::{is_bad_range, is_bad_size, is_bad_tag};
+pub use laws::one_least_fault;
+pub use least::Found;

@@ -1,49 +1,35 @@
-//! Where tokens stand, and the tests of single tokens.
+//! The tests of single tokens.
 
 ghost use Rattle.std.specs.Prelude.{◌≡◌};
-ghost use Rattle.module_faults.specs.Places.{is_at, is_named_at, is_same_name, is_bad_range, is_bad_size, is_bad_tag};
+ghost use Rattle.std.specs.Str.{bytes_eq};
+ghost use Rattle.module_faults.specs.Places.{is_bad_range, is_bad_size, is_bad_tag};
 
-use notation_tokens::{Located, Place};
 use operation_notation::{RangeText, TagText};
 use osi_base::Name;
 
-/// Whether a token at this line and column is the one that is asked for.
-pub(crate) fn is_at(place: Place, line: u32, column: u32) -> bool
-    ensures { result ≡ is_at place line column }
-{
-    place.line == line && place.column == column
-}
-
-/// Whether a name is the token that is asked for.
-pub(crate) fn is_named_at(place: Place, name: &Located) -> bool
-    ensures { result ≡ is_named_at place name.now }
-{
-    is_at(place, name.line, name.column)
-}
-
 /// Whether two names have the same octets.
 pub(crate) fn is_same_name(a: &Name, b: &Name) -> bool
-    ensures { result ≡ is_same_name a.now b.now }
+    ensures { result ≡ bytes_eq a.now b.now }
 {
     a.as_bytes() == b.as_bytes()
 }
 
 /// Whether a range is empty: its high end is below its low end.
-pub fn is_bad_range(range: &RangeText) -> bool
+pub(crate) fn is_bad_range(range: &RangeText) -> bool
     ensures { result ≡ is_bad_range range.now }
 {
     range.high < range.low
 }
 
 /// Whether a SIZE doesn't begin with 0, or passes 4,294,967,295.
-pub fn is_bad_size(size: &RangeText) -> bool
+pub(crate) fn is_bad_size(size: &RangeText) -> bool
     ensures { result ≡ is_bad_size size.now }
 {
     size.low != 0 || (size.high < 0 || size.high > 4_294_967_295)
 }
 
 /// Whether a tag is UNIVERSAL 0.
-pub fn is_bad_tag(tag: &TagText) -> bool
+pub(crate) fn is_bad_tag(tag: &TagText) -> bool
     ensures { result ≡ is_bad_tag tag.now }
 {
     tag.class == 0 && tag.number == 0

@@ -1,2 +1,5 @@
 pub mod Cases
 pub mod OneTables
+pub mod TablesOrFault
+pub mod Faultless
+pub mod Few

@@ -2,7 +2,8 @@
 
 ghost use Rattle.std.specs.Prelude.{◌≡◌, true, false, IfOk, IfErr};
 ghost use Rattle.module_compiler.specs.Tables.{AreTablesOf};
-ghost use Rattle.module_reading.specs.Modules.{is_table_file, HasTables, IsTableRefusal, IsRefused};
+ghost use Rattle.module_reading.specs.declared.fault.ModuleFault.TheVariants.{NoMemory as no_room};
+ghost use Rattle.module_reading.specs.Modules.{is_table_file, HasTables, IsTableRefusal, IsRefused, IsFaultless};
 
 use crate::fault::{ModuleFault, ModuleKind};
 use module_compiler::{TableFault, compile};
@@ -81,11 +82,13 @@ fn file_tables(alloc: Global, bytes: &[u8]) -> Result<Tables, ModuleFault>
 /// # Errors
 ///
 /// `At`: of a text the first fault as `parse_module` tells it, or where it reads as a module the
-/// fault of that module that `compile` tells; of a table file the first fault as `load` tells it.
+/// least fault of that module as `compile` tells it; of a table file the first fault as `load` tells it.
 /// `NoMemory` where an allocation is refused.
 pub fn read_module(alloc: Global, bytes: &[u8]) -> Result<Tables, ModuleFault>
     ensures found { IfOk result (HasTables bytes.now) }
     ensures refused { IfErr result (IsRefused bytes.now) }
+    // A module without a fault is refused for want of memory alone.
+    ensures complete { IsFaultless bytes.now → IfErr result (λ fault. fault ≡ no_room) }
 {
     if is_table_file(bytes) {
         file_tables(alloc, bytes)

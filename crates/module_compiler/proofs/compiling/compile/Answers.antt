@@ -1,10 +1,12 @@
-use Rattle.std.proofs.Common.{◌≡◌, true, subst}
-use Rattle.module_faults.specs.Faults.{may_be_fault}
-use Rattle.module_compiler.specs.Scope.{Ground}
+use Rattle.std.proofs.Common.{rules}
+use Rattle.module_compiler.specs.Refusals.{HasFault}
+use Rattle.module_compiler.proofs.Least.{fault_or_none, complete_of}
 use Rattle.module_compiler.proofs.compiling.compile.Goals as goal
 
-pub returns-in-Ok-Some-clause-refused : goal.returns-in-Ok-Some-clause-refused
-returns-in-Ok-Some-clause-refused c =
-    let h = rw c.in-Ok-Some.field-0-is at c.in-Ok-Some.ensures in
-    let P : Ground → Type 0 = λ g. may_be_fault c.in-Ok-Some.found.kind c.in-Ok-Some.found.place g.assignments ≡ true in
-    subst P c.in_ok-scope.ensures h
+pub returns-in-Some-clause-complete : goal.returns-in-Some-clause-complete
+returns-in-Some-clause-complete c none =
+    let has : HasFault c.args.text.now c.in-Some.found.place.line c.in-Some.found.place.column c.in-Some.found.kind = search rules in
+    absurd (fault_or_none c.args.text.now c.in-Some.found.place.line c.in-Some.found.place.column c.in-Some.found.kind none has)
+
+pub returns-in-None-clause-complete : goal.returns-in-None-clause-complete
+returns-in-None-clause-complete c = complete_of c.args.text.now c.tabled_module.result c.tabled_module.ensures.no_memory

@@ -1,0 +1,35 @@
+-- The laws of modules that read.
+use Rattle.std.specs.Prelude.{◌≡◌, ◌⊎◌, ℕ, ◌<◌, ◌^◌, false, length}
+use Rattle.operation_notation.specs.WellFormed.{IsWellFormed}
+use Rattle.operation_notation.specs.declared.module.ModuleText.{ModuleText}
+use Rattle.module_faults.specs.declared.kind.TableKind.{TableKind}
+use Rattle.module_faults.specs.declared.least.Found.{Found}
+use Rattle.module_faults.specs.Least.{fault, is_before}
+use Rattle.stub_tables.specs.declared.tables.Tables.{Tables}
+use Rattle.module_compiler.specs.Tables.{AreTablesOf}
+use Rattle.module_compiler.specs.Refusals.{IsFault, HasNoFault, HasFault}
+
+-- A well-formed module without a fault has tables.
+abbrev pub FaultlessHaveTables : Type 0
+FaultlessHaveTables = (m : ModuleText) → IsWellFormed m → length m.assignments < 2 ^ 32 → HasNoFault m → (tables : Tables) × AreTablesOf m tables
+
+-- The least fault of a module is one of its faults, and none of them comes before it.
+pub record IsLeast (m : ModuleText) (found : Found) : Type 0 where
+  pub is : IsFault m found
+  pub first : (other : Found) → IsFault m other → is_before other found ≡ false
+
+abbrev pub RefusedAreLeast : Type 0
+RefusedAreLeast = (m : ModuleText) (line column : ℕ) (kind : TableKind) → HasFault m line column kind → IsLeast m (fault line column kind)
+
+-- A module has a least fault or none: one of the two always, and never both.
+pub record HasLeastFault (m : ModuleText) : Type 0 where
+  pub line : ℕ
+  pub column : ℕ
+  pub kind : TableKind
+  pub is : HasFault m line column kind
+
+abbrev pub FaultOrNone : Type 0
+FaultOrNone = (m : ModuleText) → HasNoFault m ⊎ HasLeastFault m
+
+abbrev pub NeverBoth : Type 0
+NeverBoth = (m : ModuleText) (found : Found) → HasNoFault m → IsFault m found → ⊥

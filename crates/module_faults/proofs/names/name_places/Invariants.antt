@@ -1,0 +1,6 @@
+use Rattle.std.proofs.Common.{take}
+use Rattle.module_faults.specs.Names.{AreFound}
+use Rattle.module_faults.proofs.names.name_places.Given as goal
+
+abbrev pub invariant-loop-place : goal.invariant-loop-place
+invariant-loop-place l = AreFound (take l.place l.assignments) l.places
