@@ -1,4 +1,5 @@
 pub mod Added
+pub mod Joined
 pub mod Shapes
 pub mod SelectedLaws
 pub mod UnitLaws

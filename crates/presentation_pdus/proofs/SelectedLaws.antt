@@ -1,24 +1,18 @@
 -- A SET of two values: what is read is spelled so, what is spelled so is read, and it stays so, inside the octets.
-use Rattle.std.proofs.Common.{◌≡◌, ℕ, ◌+◌, Bool, true, false, ◌&&◌, cond, List, [], ◌∷◌, ◌++◌, length, Option, Some, None, Ok, Err, refl, sym, ap, ◌∙◌, subst, arith, inl, inr}
-use Rattle.std.specs.Prelude.{nat_eq}
-use Rattle.std.proofs.lemmas.Bool.{and_parts, eqb-true}
+use Rattle.std.proofs.Common.{◌≡◌, ℕ, ◌+◌, Bool, true, false, List, length, Option, Some, None, Ok, Err, refl, sym, ap, ◌∙◌, subst, inl, inr}
 use Rattle.osi_base.specs.declared.words.Kind.TheVariants.{Extra}
 use Rattle.asn1_types.specs.declared.row.Class.{Class}
 use Rattle.asn1_types.specs.declared.row.Class.TheVariants.{Context}
-use Rattle.asn1_types.specs.Rows.{same_class}
 use Rattle.asn1_types.specs.Value.{Value}
 use Rattle.ber_spelling.specs.declared.fault.ReadFault.TheVariants as faults
 use Rattle.ber_spelling.specs.declared.spot.Scope.{Scope}
-use Rattle.asn1_types.specs.declared.row.Tag as tags
-use Rattle.ber_spelling.specs.Octets.{AreOctets}
-use Rattle.ber_spelling.specs.Fields.{identifier_at}
-use Rattle.ber_spelling.specs.Reading.{Spot, Opened, Reading}
+use Rattle.ber_spelling.specs.Reading.{Spot, Opened}
 use Rattle.ber_spelling.proofs.Identifiers.{IsIn, bind_ok, chosen_ok, ok_is, done}
 use Rattle.ber_spelling.proofs.Steady.{ReadAs, Found, ReadBack, Only, OfTag}
-use Rattle.ber_spelling.proofs.Growing.{grown, grown_opened, Grows, Grows-bind, Grows-cond, with_spot}
+use Rattle.ber_spelling.proofs.Growing.{grown, grown_opened, Grows-bind, Grows-cond, with_spot}
 use Rattle.ber_spelling.proofs.Constructed.{constructed_found, constructed_only}
 use Rattle.ber_spelling.proofs.Items.{GrowsRun, constructed_grows, all_found, all_only, all_grow}
-use Rattle.ber_spelling.proofs.Inside.{Ends, Inside, Inside-bind, Inside-cond, second}
+use Rattle.ber_spelling.proofs.Inside.{Inside-bind, Inside-cond, second}
 use Rattle.ber_spelling.proofs.InsideRules.{InsideRun, all_inside}
 use Rattle.passed_fields.proofs.FieldsInside.{constructed_inside}
 use Rattle.presentation_pdus.specs.Fields.{context_tag, set_tag}

@@ -1,24 +1,22 @@
 -- Units of the presentation protocol: what is read is spelled so, what is spelled so is read, and a fault is the first.
-use Rattle.std.proofs.Common.{◌≡◌, ℕ, ◌+◌, ◌<◌, ◌≤◌, Bool, true, false, not, ◌&&◌, ◌||◌, List, [], ◌∷◌, length, take, Result, Ok, Err, None, ◌⊎◌, refl, sym, ap, ◌∙◌, subst, arith, inl, inr}
+use Rattle.std.proofs.Common.{◌≡◌, ℕ, ◌+◌, Bool, true, false, not, ◌&&◌, ◌||◌, List, [], ◌∷◌, length, Result, Ok, Err, None, ◌⊎◌, refl, sym, ap, ◌∙◌, subst, inl, inr}
 use Rattle.std.specs.Prelude.{nat_eq, if◌then◌else◌}
 use Rattle.std.specs.List.{list_any}
-use Rattle.std.proofs.lemmas.Bool.{and_parts, or_parts, eqb-true}
+use Rattle.std.proofs.lemmas.Bool.{and_parts, eqb-true}
 use Rattle.osi_base.specs.declared.words.Kind.{Kind}
 use Rattle.osi_base.specs.declared.words.Kind.TheVariants as why
 use Rattle.osi_base.specs.declared.presentation_word.PresentationWord as units
 use Rattle.asn1_types.specs.declared.row.Class.{Class}
-use Rattle.asn1_types.specs.declared.row.Class.TheVariants.{Universal, Application, Context}
-use Rattle.asn1_types.specs.Rows.{same_class, is_no_tag, openings, allows, begins, tag}
+use Rattle.asn1_types.specs.declared.row.Class.TheVariants.{Context}
+use Rattle.asn1_types.specs.Rows.{same_class, is_no_tag, openings, allows, tag}
 use Rattle.asn1_types.specs.Value.{Value, chosen}
 use Rattle.ber_spelling.specs.declared.spot.Scope.{Scope}
 use Rattle.asn1_types.specs.declared.row.Tag as tags
-use Rattle.ber_spelling.specs.Octets.{AreOctets}
-use Rattle.ber_spelling.specs.Fields.{identifier_at}
-use Rattle.ber_spelling.specs.Reading.{Spot, Opened, Reading}
+use Rattle.ber_spelling.specs.Reading.{Spot, Opened}
 use Rattle.ber_spelling.specs.Rules.{plain, reads}
-use Rattle.ber_spelling.proofs.Identifiers.{IsIn, bind_ok, chosen_ok, ok_is, done}
+use Rattle.ber_spelling.proofs.Identifiers.{IsIn, bind_ok, chosen_ok, ok_is}
 use Rattle.ber_spelling.proofs.Steady.{ReadAs, Found, ReadBack, Only, only_wider, OfTag, same_classes}
-use Rattle.ber_spelling.proofs.Growing.{grown, grown_opened, Grows, Grows-bind, Grows-cond, with_spot}
+use Rattle.ber_spelling.proofs.Growing.{grown, grown_opened, Grows-bind, Grows-cond, with_spot}
 use Rattle.ber_spelling.proofs.GrowingRules.{along_grows}
 use Rattle.ber_spelling.proofs.Items.{GrowsRun}
 use Rattle.ber_spelling.proofs.Inside.{Inside-bind, Inside-cond, second}
@@ -44,7 +42,7 @@ use Rattle.presentation_pdus.specs.Rows.{ppdu_rows}
 use Rattle.presentation_pdus.specs.Fields.{context_tag, sequence_tag, set_tag, user_tag, pdv_row, mode_row, connect_fields, connect_passed, accept_fields, accept_passed, reject_fields, alter_fields, alter_ack_fields, restart_fields, user_abort_fields, provider_abort_fields}
 use Rattle.presentation_pdus.specs.Selected.{Run, Relation, selected_at, SelectedIs}
 use Rattle.presentation_pdus.specs.Said.{said}
-use Rattle.presentation_pdus.specs.Units.{unit_at, connect_at, accept_at, alteration_at, abort_at, data_at, ppdu_run, reason_of, of_fault, of_value, ppdu_at, UnitIs, ModeIs, Fielded, DataIs, PpduIs, SpellsPpdu}
+use Rattle.presentation_pdus.specs.Units.{unit_at, data_at, ppdu_run, reason_of, of_value, UnitIs, ModeIs, Fielded, DataIs, PpduIs}
 use Rattle.presentation_pdus.specs.Laws.{PpduIsSpelled, SpelledPpduIsRead, PpduFaultIsFirst}
 use Rattle.presentation_pdus.proofs.Added.{ppdu_sound}
 use Rattle.presentation_pdus.proofs.SelectedLaws.{selected_found, selected_only, selected_grows, selected_inside}

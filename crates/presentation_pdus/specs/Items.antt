@@ -9,7 +9,7 @@ use Rattle.osi_base.specs.declared.presentation_word.PdvContent as contents
 use Rattle.osi_base.specs.declared.presentation_word.PdvContent.TheVariants as content
 use Rattle.asn1_types.specs.Value.{Value, integer, octets, bits, object_id, parts, list, chosen, any}
 use Rattle.asn1_types.specs.ValueView.{parts_of, values_of}
-use Rattle.fixed_tables.specs.Values.{part_in, number_or, small_or, octet_or, octets_in, arcs_in, maybe_arcs, maybe_bits, items_in, alternative, inside}
+use Rattle.fixed_tables.specs.Values.{part_in, small_or, octet_or, octets_in, arcs_in, maybe_arcs, maybe_bits, items_in, alternative, inside}
 
 abbrev pub number_value : ℕ → Value
 number_value n = integer (pos n)

@@ -1,5 +1,5 @@
 -- The units that values stand for (X.226 8.2 to 8.4). A list that lacks has no items, but in a restart or an abort.
-use Rattle.std.specs.Prelude.{◌==◌, ℕ, ℤ, pos, List, map, Option, Some, None, option_map, if◌then◌else◌}
+use Rattle.std.specs.Prelude.{◌==◌, ℕ, ℤ, pos, List, map, Option, Some, option_map, if◌then◌else◌}
 use Rattle.osi_base.specs.declared.words.Proposal as proposals
 use Rattle.osi_base.specs.declared.words.AddAnswer as answers
 use Rattle.osi_base.specs.declared.words.RestoredItem as restored

@@ -8,9 +8,8 @@ use Rattle.asn1_types.specs.declared.row.TypeRow.{TypeRow}
 use Rattle.asn1_types.specs.Rows.{same_class}
 use Rattle.asn1_types.specs.Limits.{most_levels}
 use Rattle.asn1_types.specs.Value.{Value, chosen}
-use Rattle.ber_spelling.specs.declared.spot.Scope.{Scope}
 use Rattle.asn1_types.specs.declared.row.Tag as tags
-use Rattle.ber_spelling.specs.Reading.{Spot, Opened, Reading, ◌>>=◌}
+use Rattle.ber_spelling.specs.Reading.{◌>>=◌}
 use Rattle.ber_spelling.specs.Rules.{plain, reads}
 use Rattle.ber_spelling.specs.Spelling.{SpelledBy, IsConstructed}
 use Rattle.fixed_tables.specs.declared.pdu.PduFault as plain_faults

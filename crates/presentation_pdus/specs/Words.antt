@@ -1,5 +1,5 @@
 -- The values that units of the presentation protocol stand for (X.226 8.2, 8.3): a list of no items isn't written.
-use Rattle.std.specs.Prelude.{ℕ, ℤ, pos, List, [], ◌∷◌, Option, Some, None, option_map}
+use Rattle.std.specs.Prelude.{ℕ, pos, List, [], ◌∷◌, Some, option_map}
 use Rattle.osi_base.specs.declared.presentation_word.PresentationConnect as connects
 use Rattle.osi_base.specs.declared.presentation_word.PresentationAccept as accepts
 use Rattle.osi_base.specs.declared.presentation_word.PresentationReject as rejects

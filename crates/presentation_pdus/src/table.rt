@@ -1,9 +1,8 @@
 //! The fixed table of the units of the presentation protocol.
 
-ghost use Rattle.std.specs.Prelude.{◌≡◌, Some, IfOk, slice_get, true, false};
-ghost use Rattle.asn1_types.specs.declared.row.Class.TheVariants.{Context as context};
-ghost use Rattle.asn1_types.specs.declared.row.TypeRow.TheVariants as row;
-ghost use Rattle.presentation_pdus.specs.Rows.{ppdu_rows};
+ghost use Rattle.std.specs.Prelude.{◌≡◌, ◌++◌, [], map, IfOk};
+ghost use Rattle.fixed_tables.specs.Rows.{part, implicit};
+ghost use Rattle.presentation_pdus.specs.Rows.{content_parts, pdv_parts, definition_parts, answer_parts, restored_parts, mode_parts, connect_fields_parts, connect_parts, accept_fields_parts, accept_parts, reject_parts, alter_parts, alter_ack_parts, restart_parts, user_abort_parts, provider_abort_parts, rows_of_values, rows_of_definitions, rows_of_fields, rows_of_connections, rows_of_alterations, rows_of_restarts, ppdu_rows};
 
 use asn1_types::{Class, Parts, TypeId, TypeRow, TypeTable};
 use fixed_tables::{part, parts_of, table_of, tagged};
@@ -30,170 +29,183 @@ impl Model for PpduTable {
 
 /// A context tag in the place of a row's own.
 fn implicit(number: u32, inner: u32) -> TypeRow
-    ensures { result ≡ row.Tagged context number false (record { 0 = inner }) }
+    ensures { result ≡ implicit number inner }
 {
     tagged(Class::Context, number, false, inner)
 }
 
-fn content_parts(alloc: Global) -> Result<Parts, NoMemory>
-    ensures { IfOk result (λ parts. slice_get ppdu_rows 13 ≡ Some (row.Choice parts)) }
+/// The parts that are told, each by its name, the row of its type, and whether it may lack.
+fn parts(alloc: Global, told: &[(&str, u32, bool)]) -> Result<Parts, NoMemory>
+    ensures { IfOk result (λ parts. parts ≡ map (λ t. part t.0.now t.1 t.2) told.now) }
 {
-    Ok(parts_of(vec![in alloc;
-        part(alloc, "single", 10, false)?,
-        part(alloc, "aligned", 11, false)?,
-        part(alloc, "arbitrary", 12, false)?,
-    ]?))
+    let mut parts = Vec::new(alloc);
+    for (name, row, optional) in told {
+        parts.push(part(alloc, name, *row, *optional)?)?;
+    }
+    Ok(parts_of(parts))
+}
+
+fn content_parts(alloc: Global) -> Result<Parts, NoMemory>
+    ensures { IfOk result (λ parts. parts ≡ content_parts) }
+{
+    parts(
+        alloc,
+        &[
+            ("single", 10, false),
+            ("aligned", 11, false),
+            ("arbitrary", 12, false),
+        ],
+    )
 }
 
 fn pdv_parts(alloc: Global) -> Result<Parts, NoMemory>
-    ensures { IfOk result (λ parts. slice_get ppdu_rows 14 ≡ Some (row.Sequence parts)) }
+    ensures { IfOk result (λ parts. parts ≡ pdv_parts) }
 {
-    Ok(parts_of(vec![in alloc;
-        part(alloc, "transfer", 1, true)?,
-        part(alloc, "identifier", 0, false)?,
-        part(alloc, "values", 13, false)?,
-    ]?))
+    parts(
+        alloc,
+        &[
+            ("transfer", 1, true),
+            ("identifier", 0, false),
+            ("values", 13, false),
+        ],
+    )
 }
 
 fn definition_parts(alloc: Global) -> Result<Parts, NoMemory>
-    ensures { IfOk result (λ parts. slice_get ppdu_rows 18 ≡ Some (row.Sequence parts)) }
+    ensures { IfOk result (λ parts. parts ≡ definition_parts) }
 {
-    Ok(parts_of(vec![in alloc;
-        part(alloc, "identifier", 0, false)?,
-        part(alloc, "abstract", 1, false)?,
-        part(alloc, "transfers", 17, false)?,
-    ]?))
+    parts(
+        alloc,
+        &[
+            ("identifier", 0, false),
+            ("abstract", 1, false),
+            ("transfers", 17, false),
+        ],
+    )
 }
 
 fn answer_parts(alloc: Global) -> Result<Parts, NoMemory>
-    ensures { IfOk result (λ parts. slice_get ppdu_rows 23 ≡ Some (row.Sequence parts)) }
+    ensures { IfOk result (λ parts. parts ≡ answer_parts) }
 {
-    Ok(parts_of(vec![in alloc;
-        part(alloc, "result", 20, false)?,
-        part(alloc, "transfer", 21, true)?,
-        part(alloc, "reason", 22, true)?,
-    ]?))
+    parts(
+        alloc,
+        &[
+            ("result", 20, false),
+            ("transfer", 21, true),
+            ("reason", 22, true),
+        ],
+    )
 }
 
 fn restored_parts(alloc: Global) -> Result<Parts, NoMemory>
-    ensures { IfOk result (λ parts. slice_get ppdu_rows 25 ≡ Some (row.Sequence parts)) }
+    ensures { IfOk result (λ parts. parts ≡ restored_parts) }
 {
-    Ok(parts_of(vec![in alloc;
-        part(alloc, "identifier", 0, false)?,
-        part(alloc, "transfer", 1, false)?,
-    ]?))
+    parts(alloc, &[("identifier", 0, false), ("transfer", 1, false)])
 }
 
 fn mode_parts(alloc: Global) -> Result<Parts, NoMemory>
-    ensures { IfOk result (λ parts. slice_get ppdu_rows 30 ≡ Some (row.Set parts)) }
+    ensures { IfOk result (λ parts. parts ≡ mode_parts) }
 {
-    Ok(parts_of(vec![in alloc; part(alloc, "mode", 29, false)?]?))
+    parts(alloc, &[("mode", 29, false)])
 }
 
 fn connect_fields_parts(alloc: Global) -> Result<Parts, NoMemory>
-    ensures { IfOk result (λ parts. slice_get ppdu_rows 42 ≡ Some (row.Sequence parts)) }
+    ensures { IfOk result (λ parts. parts ≡ connect_fields_parts) }
 {
-    Ok(parts_of(vec![in alloc;
-        part(alloc, "version", 32, true)?,
-        part(alloc, "calling", 33, true)?,
-        part(alloc, "called", 34, true)?,
-        part(alloc, "definitions", 36, true)?,
-        part(alloc, "requirements", 39, true)?,
-        part(alloc, "session", 40, true)?,
-        part(alloc, "user", 16, true)?,
-    ]?))
+    parts(
+        alloc,
+        &[
+            ("version", 32, true),
+            ("calling", 33, true),
+            ("called", 34, true),
+            ("definitions", 36, true),
+            ("requirements", 39, true),
+            ("session", 40, true),
+            ("user", 16, true),
+        ],
+    )
 }
 
 fn connect_parts(alloc: Global) -> Result<Parts, NoMemory>
-    ensures { IfOk result (λ parts. slice_get ppdu_rows 44 ≡ Some (row.Set parts)) }
+    ensures { IfOk result (λ parts. parts ≡ connect_parts) }
 {
-    Ok(parts_of(vec![in alloc;
-        part(alloc, "mode", 31, false)?,
-        part(alloc, "fields", 43, false)?,
-    ]?))
+    parts(alloc, &[("mode", 31, false), ("fields", 43, false)])
 }
 
 fn accept_fields_parts(alloc: Global) -> Result<Parts, NoMemory>
-    ensures { IfOk result (λ parts. slice_get ppdu_rows 45 ≡ Some (row.Sequence parts)) }
+    ensures { IfOk result (λ parts. parts ≡ accept_fields_parts) }
 {
-    Ok(parts_of(vec![in alloc;
-        part(alloc, "version", 32, true)?,
-        part(alloc, "responding", 35, true)?,
-        part(alloc, "results", 37, true)?,
-        part(alloc, "requirements", 39, true)?,
-        part(alloc, "session", 40, true)?,
-        part(alloc, "user", 16, true)?,
-    ]?))
+    parts(
+        alloc,
+        &[
+            ("version", 32, true),
+            ("responding", 35, true),
+            ("results", 37, true),
+            ("requirements", 39, true),
+            ("session", 40, true),
+            ("user", 16, true),
+        ],
+    )
 }
 
 fn accept_parts(alloc: Global) -> Result<Parts, NoMemory>
-    ensures { IfOk result (λ parts. slice_get ppdu_rows 47 ≡ Some (row.Set parts)) }
+    ensures { IfOk result (λ parts. parts ≡ accept_parts) }
 {
-    Ok(parts_of(vec![in alloc;
-        part(alloc, "mode", 31, false)?,
-        part(alloc, "fields", 46, false)?,
-    ]?))
+    parts(alloc, &[("mode", 31, false), ("fields", 46, false)])
 }
 
 fn reject_parts(alloc: Global) -> Result<Parts, NoMemory>
-    ensures { IfOk result (λ parts. slice_get ppdu_rows 48 ≡ Some (row.Sequence parts)) }
+    ensures { IfOk result (λ parts. parts ≡ reject_parts) }
 {
-    Ok(parts_of(vec![in alloc;
-        part(alloc, "version", 32, true)?,
-        part(alloc, "responding", 35, true)?,
-        part(alloc, "results", 37, true)?,
-        part(alloc, "default", 38, true)?,
-        part(alloc, "reason", 41, true)?,
-        part(alloc, "user", 16, true)?,
-    ]?))
+    parts(
+        alloc,
+        &[
+            ("version", 32, true),
+            ("responding", 35, true),
+            ("results", 37, true),
+            ("default", 38, true),
+            ("reason", 41, true),
+            ("user", 16, true),
+        ],
+    )
 }
 
 fn alter_parts(alloc: Global) -> Result<Parts, NoMemory>
-    ensures { IfOk result (λ parts. slice_get ppdu_rows 51 ≡ Some (row.Sequence parts)) }
+    ensures { IfOk result (λ parts. parts ≡ alter_parts) }
 {
-    Ok(parts_of(vec![in alloc;
-        part(alloc, "additions", 49, true)?,
-        part(alloc, "deletions", 50, true)?,
-    ]?))
+    parts(alloc, &[("additions", 49, true), ("deletions", 50, true)])
 }
 
 fn alter_ack_parts(alloc: Global) -> Result<Parts, NoMemory>
-    ensures { IfOk result (λ parts. slice_get ppdu_rows 55 ≡ Some (row.Sequence parts)) }
+    ensures { IfOk result (λ parts. parts ≡ alter_ack_parts) }
 {
-    Ok(parts_of(vec![in alloc;
-        part(alloc, "additions", 53, true)?,
-        part(alloc, "deletions", 54, true)?,
-    ]?))
+    parts(alloc, &[("additions", 53, true), ("deletions", 54, true)])
 }
 
 fn restart_parts(alloc: Global) -> Result<Parts, NoMemory>
-    ensures { IfOk result (λ parts. slice_get ppdu_rows 58 ≡ Some (row.Sequence parts)) }
+    ensures { IfOk result (λ parts. parts ≡ restart_parts) }
 {
-    Ok(parts_of(vec![in alloc; part(alloc, "contexts", 57, true)?]?))
+    parts(alloc, &[("contexts", 57, true)])
 }
 
 fn user_abort_parts(alloc: Global) -> Result<Parts, NoMemory>
-    ensures { IfOk result (λ parts. slice_get ppdu_rows 59 ≡ Some (row.Sequence parts)) }
+    ensures { IfOk result (λ parts. parts ≡ user_abort_parts) }
 {
-    Ok(parts_of(vec![in alloc;
-        part(alloc, "contexts", 57, true)?,
-        part(alloc, "user", 16, true)?,
-    ]?))
+    parts(alloc, &[("contexts", 57, true), ("user", 16, true)])
 }
 
 fn provider_abort_parts(alloc: Global) -> Result<Parts, NoMemory>
-    ensures { IfOk result (λ parts. slice_get ppdu_rows 63 ≡ Some (row.Sequence parts)) }
+    ensures { IfOk result (λ parts. parts ≡ provider_abort_parts) }
 {
-    Ok(parts_of(vec![in alloc;
-        part(alloc, "reason", 61, false)?,
-        part(alloc, "event", 62, true)?,
-    ]?))
+    parts(alloc, &[("reason", 61, false), ("event", 62, true)])
 }
 
-/// All rows.
-fn rows(alloc: Global) -> Result<Vec<TypeRow>, NoMemory>
-    ensures { IfOk result (λ rows. rows.items ≡ ppdu_rows) }
+/// Rows 0 to 16: values and user data.
+fn rows_of_values(alloc: Global) -> Result<Vec<TypeRow>, NoMemory>
+    ensures { IfOk result (λ rows. rows.items ≡ rows_of_values []) }
 {
+    let content = content_parts(alloc)?;
+    let pdv = pdv_parts(alloc)?;
     Ok(vec![in alloc;
         TypeRow::Integer {
             low: 1,
@@ -214,25 +226,45 @@ fn rows(alloc: Global) -> Result<Vec<TypeRow>, NoMemory>
         tagged(Class::Context, 0, true, 4),
         implicit(1, 2),
         implicit(2, 3),
-        TypeRow::Choice(content_parts(alloc)?),
-        TypeRow::Sequence(pdv_parts(alloc)?),
+        TypeRow::Choice(content),
+        TypeRow::Sequence(pdv),
         TypeRow::SequenceOf(TypeId(14)),
         tagged(Class::Application, 1, false, 15),
+    ]?)
+}
+
+/// Rows 17 to 31: lists of contexts, and the mode.
+fn rows_of_definitions(alloc: Global) -> Result<Vec<TypeRow>, NoMemory>
+    ensures { IfOk result (λ rows. rows.items ≡ rows_of_definitions []) }
+{
+    let definition = definition_parts(alloc)?;
+    let answer = answer_parts(alloc)?;
+    let restored = restored_parts(alloc)?;
+    let mode = mode_parts(alloc)?;
+    Ok(vec![in alloc;
         TypeRow::SequenceOf(TypeId(1)),
-        TypeRow::Sequence(definition_parts(alloc)?),
+        TypeRow::Sequence(definition),
         TypeRow::SequenceOf(TypeId(18)),
         implicit(0, 6),
         implicit(1, 1),
         implicit(2, 7),
-        TypeRow::Sequence(answer_parts(alloc)?),
+        TypeRow::Sequence(answer),
         TypeRow::SequenceOf(TypeId(23)),
-        TypeRow::Sequence(restored_parts(alloc)?),
+        TypeRow::Sequence(restored),
         TypeRow::SequenceOf(TypeId(25)),
         TypeRow::SequenceOf(TypeId(0)),
         TypeRow::SequenceOf(TypeId(8)),
         implicit(0, 9),
-        TypeRow::Set(mode_parts(alloc)?),
+        TypeRow::Set(mode),
         implicit(0, 30),
+    ]?)
+}
+
+/// Rows 32 to 41: fields of CP, CPA and CPR.
+fn rows_of_fields(alloc: Global) -> Result<Vec<TypeRow>, NoMemory>
+    ensures { IfOk result (λ rows. rows.items ≡ rows_of_fields []) }
+{
+    Ok(vec![in alloc;
         implicit(0, 3),
         implicit(1, 2),
         implicit(2, 2),
@@ -243,37 +275,98 @@ fn rows(alloc: Global) -> Result<Vec<TypeRow>, NoMemory>
         implicit(8, 3),
         implicit(9, 3),
         implicit(10, 5),
-        TypeRow::Sequence(connect_fields_parts(alloc)?),
+    ]?)
+}
+
+/// Rows 42 to 48: CP, CPA and CPR.
+fn rows_of_connections(alloc: Global) -> Result<Vec<TypeRow>, NoMemory>
+    ensures { IfOk result (λ rows. rows.items ≡ rows_of_connections []) }
+{
+    let connect_fields = connect_fields_parts(alloc)?;
+    let connect = connect_parts(alloc)?;
+    let accept_fields = accept_fields_parts(alloc)?;
+    let accept = accept_parts(alloc)?;
+    let reject = reject_parts(alloc)?;
+    Ok(vec![in alloc;
+        TypeRow::Sequence(connect_fields),
         implicit(2, 42),
-        TypeRow::Set(connect_parts(alloc)?),
-        TypeRow::Sequence(accept_fields_parts(alloc)?),
+        TypeRow::Set(connect),
+        TypeRow::Sequence(accept_fields),
         implicit(2, 45),
-        TypeRow::Set(accept_parts(alloc)?),
-        TypeRow::Sequence(reject_parts(alloc)?),
+        TypeRow::Set(accept),
+        TypeRow::Sequence(reject),
+    ]?)
+}
+
+/// Rows 49 to 56: AC and ACA.
+fn rows_of_alterations(alloc: Global) -> Result<Vec<TypeRow>, NoMemory>
+    ensures { IfOk result (λ rows. rows.items ≡ rows_of_alterations []) }
+{
+    let alter = alter_parts(alloc)?;
+    let alter_ack = alter_ack_parts(alloc)?;
+    Ok(vec![in alloc;
         implicit(0, 19),
         implicit(1, 27),
-        TypeRow::Sequence(alter_parts(alloc)?),
+        TypeRow::Sequence(alter),
         implicit(0, 51),
         implicit(0, 24),
         implicit(1, 28),
-        TypeRow::Sequence(alter_ack_parts(alloc)?),
+        TypeRow::Sequence(alter_ack),
         implicit(1, 55),
+    ]?)
+}
+
+/// Rows 57 to 63: RS, RSA, ARU and ARP.
+fn rows_of_restarts(alloc: Global) -> Result<Vec<TypeRow>, NoMemory>
+    ensures { IfOk result (λ rows. rows.items ≡ rows_of_restarts []) }
+{
+    let restart = restart_parts(alloc)?;
+    let user_abort = user_abort_parts(alloc)?;
+    let provider_abort = provider_abort_parts(alloc)?;
+    Ok(vec![in alloc;
         implicit(0, 26),
-        TypeRow::Sequence(restart_parts(alloc)?),
-        TypeRow::Sequence(user_abort_parts(alloc)?),
+        TypeRow::Sequence(restart),
+        TypeRow::Sequence(user_abort),
         implicit(0, 59),
         implicit(0, 5),
         implicit(1, 5),
-        TypeRow::Sequence(provider_abort_parts(alloc)?),
+        TypeRow::Sequence(provider_abort),
     ]?)
+}
+
+/// These rows and those behind them.
+fn behind(rows: Vec<TypeRow>, more: Vec<TypeRow>) -> Result<Vec<TypeRow>, NoMemory>
+    ensures { IfOk result (λ all. all.items ≡ rows.items ++ more.items) }
+{
+    let mut all = rows;
+    let mut more = more;
+    all.append(&mut more)?;
+    Ok(all)
+}
+
+/// All rows.
+fn rows(alloc: Global) -> Result<Vec<TypeRow>, NoMemory>
+    ensures { IfOk result (λ rows. rows.items ≡ ppdu_rows) }
+{
+    let values = rows_of_values(alloc)?;
+    let definitions = rows_of_definitions(alloc)?;
+    let until_mode = behind(values, definitions)?;
+    let fields = rows_of_fields(alloc)?;
+    let until_fields = behind(until_mode, fields)?;
+    let connections = rows_of_connections(alloc)?;
+    let until_connections = behind(until_fields, connections)?;
+    let alterations = rows_of_alterations(alloc)?;
+    let until_alterations = behind(until_connections, alterations)?;
+    let restarts = rows_of_restarts(alloc)?;
+    let all = behind(until_alterations, restarts)?;
+    Ok(all)
 }
 
 impl PpduTable {
     /// The fixed table, which only want of memory can refuse.
-    #[tactic(auto, using(crate::proofs::Added::ppdu_rows_added))]
     pub fn new(alloc: Global) -> Result<PpduTable, NoMemory> {
-        Ok(PpduTable {
-            types: table_of(alloc, rows(alloc)?)?,
-        })
+        let rows = rows(alloc)?;
+        let types = table_of(alloc, rows)?;
+        Ok(PpduTable { types })
     }
 }

@@ -55,43 +55,40 @@ fn with_mode(alloc: Global, fields: Val) -> Result<Val, NoMemory>
 fn connect_value(alloc: Global, unit: &PresentationConnect) -> Result<Val, NoMemory>
     ensures { IfOk result (λ v. v ≡ connect_value unit.now) }
 {
-    let parts = vec![in alloc;
-        bits_part(alloc, &unit.version)?,
-        octets_part(alloc, &unit.calling)?,
-        octets_part(alloc, &unit.called)?,
-        some_list::<Definitions>(alloc, unit.definitions.as_slice())?,
-        bits_part(alloc, &unit.requirements)?,
-        bits_part(alloc, &unit.session_requirements)?,
-        some_list::<DataValues>(alloc, unit.user.as_slice())?,
-    ]?;
+    let mut parts = Vec::new(alloc);
+    parts.push(bits_part(alloc, &unit.version)?)?;
+    parts.push(octets_part(alloc, &unit.calling)?)?;
+    parts.push(octets_part(alloc, &unit.called)?)?;
+    parts.push(some_list::<Definitions>(alloc, unit.definitions.as_slice())?)?;
+    parts.push(bits_part(alloc, &unit.requirements)?)?;
+    parts.push(bits_part(alloc, &unit.session_requirements)?)?;
+    parts.push(some_list::<DataValues>(alloc, unit.user.as_slice())?)?;
     with_mode(alloc, sequence(parts))
 }
 
 fn accept_value(alloc: Global, unit: &PresentationAccept) -> Result<Val, NoMemory>
     ensures { IfOk result (λ v. v ≡ accept_value unit.now) }
 {
-    let parts = vec![in alloc;
-        bits_part(alloc, &unit.version)?,
-        octets_part(alloc, &unit.responding)?,
-        some_list::<Results>(alloc, unit.results.as_slice())?,
-        bits_part(alloc, &unit.requirements)?,
-        bits_part(alloc, &unit.session_requirements)?,
-        some_list::<DataValues>(alloc, unit.user.as_slice())?,
-    ]?;
+    let mut parts = Vec::new(alloc);
+    parts.push(bits_part(alloc, &unit.version)?)?;
+    parts.push(octets_part(alloc, &unit.responding)?)?;
+    parts.push(some_list::<Results>(alloc, unit.results.as_slice())?)?;
+    parts.push(bits_part(alloc, &unit.requirements)?)?;
+    parts.push(bits_part(alloc, &unit.session_requirements)?)?;
+    parts.push(some_list::<DataValues>(alloc, unit.user.as_slice())?)?;
     with_mode(alloc, sequence(parts))
 }
 
 fn reject_value(alloc: Global, unit: &PresentationReject) -> Result<Val, NoMemory>
     ensures { IfOk result (λ v. v ≡ reject_value unit.now) }
 {
-    let parts = vec![in alloc;
-        bits_part(alloc, &unit.version)?,
-        octets_part(alloc, &unit.responding)?,
-        some_list::<Results>(alloc, unit.results.as_slice())?,
-        octet_part(unit.default_result),
-        number_part(unit.reason),
-        some_list::<DataValues>(alloc, unit.user.as_slice())?,
-    ]?;
+    let mut parts = Vec::new(alloc);
+    parts.push(bits_part(alloc, &unit.version)?)?;
+    parts.push(octets_part(alloc, &unit.responding)?)?;
+    parts.push(some_list::<Results>(alloc, unit.results.as_slice())?)?;
+    parts.push(octet_part(unit.default_result))?;
+    parts.push(number_part(unit.reason))?;
+    parts.push(some_list::<DataValues>(alloc, unit.user.as_slice())?)?;
     Ok(sequence(parts))
 }
 

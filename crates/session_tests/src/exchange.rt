@@ -83,14 +83,38 @@ pub fn sent(rt: &impl Abort, from: &mut Session, word: SessionWord) -> Vec<Sessi
     from.request(word).expect(rt, "the word is sent").into_vec()
 }
 
+/// What becomes of a unit that comes.
+#[derive(Clone, Copy)]
+enum Fate {
+    Taken,
+    Passed,
+    OutOfPlace,
+    NoMemory,
+}
+
+fn fate_of(to: &mut Session, unit: SessionWord) -> Fate {
+    match to.take(unit) {
+        Ok(Taken::Word(_)) => Fate::Taken,
+        Ok(Taken::Passed) => Fate::Passed,
+        Err(SessionFault::OutOfPlace) => Fate::OutOfPlace,
+        Err(SessionFault::NoMemory) => Fate::NoMemory,
+    }
+}
+
+/// Whether a unit is taken, and not passed over; it is in place.
+fn takes(rt: &impl Abort, to: &mut Session, unit: SessionWord) -> bool {
+    match fate_of(to, unit) {
+        Fate::Taken => true,
+        Fate::Passed => false,
+        _ => panic!(rt; "the unit is in place"),
+    }
+}
+
 /// Whether the units are taken, and not all passed over; none is out of place.
 pub fn is_taken(rt: &impl Abort, to: &mut Session, units: Vec<SessionWord>) -> bool {
     let mut taken = false;
     for unit in units {
-        match to.take(unit).expect(rt, "the unit is in place") {
-            Taken::Word(_) => taken = true,
-            Taken::Passed => {}
-        }
+        taken = takes(rt, to, unit) || taken;
     }
     taken
 }
@@ -103,16 +127,16 @@ pub fn pass(rt: &impl Abort, from: &mut Session, to: &mut Session, word: Session
 
 /// Whether a unit that comes is out of place.
 pub fn is_out_of_place(to: &mut Session, word: SessionWord) -> bool {
-    match to.take(word) {
-        Err(SessionFault::OutOfPlace) => true,
+    match fate_of(to, word) {
+        Fate::OutOfPlace => true,
         _ => false,
     }
 }
 
 /// Whether a unit that comes is passed over.
 pub fn is_passed(to: &mut Session, word: SessionWord) -> bool {
-    match to.take(word) {
-        Ok(Taken::Passed) => true,
+    match fate_of(to, word) {
+        Fate::Passed => true,
         _ => false,
     }
 }
@@ -121,9 +145,9 @@ pub fn is_passed(to: &mut Session, word: SessionWord) -> bool {
 pub fn refused(rt: &impl Abort, from: &mut Session, word: SessionWord, why: SessionRefusal) {
     let before = from.state();
     assert!(rt; from.may_request(&word), "the conditions of {word:?} hold");
-    assert_eq!(rt; from.refusal(&word), Some(why));
-    assert_eq!(rt; from.request(word).err(), Some(why));
-    assert_eq!(rt; from.state(), before);
+    assert!(rt; from.refusal(&word) == Some(why));
+    assert!(rt; from.request(word).err() == Some(why));
+    assert!(rt; from.state() == before);
 }
 
 /// Opens the association of two machines of which neither has sent anything on this connection.
