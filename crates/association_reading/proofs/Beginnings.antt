@@ -18,12 +18,12 @@ use Rattle.association_reading.specs.Front.{Short, first_in, with_octets, nothin
 use Rattle.association_reading.specs.Laws.{BeginningsOf, BeginningsAreShort}
 
 -- one list in two ways
-record Cut (a b c d : List ℕ) : Type 0 where
-  more : List ℕ
-  front : a ≡ c ++ more
-  back : d ≡ more ++ b
+pub record Cut (a b c d : List ℕ) : Type 0 where
+  pub more : List ℕ
+  pub front : a ≡ c ++ more
+  pub back : d ≡ more ++ b
 
-cut : (a b c d : List ℕ) → a ++ b ≡ c ++ d → length c ≤ length a → Cut a b c d
+pub cut : (a b c d : List ℕ) → a ++ b ≡ c ++ d → length c ≤ length a → Cut a b c d
 cut a b [] d e l = record { more = a; front = refl; back = sym e }
 cut [] b (y ∷ c) d e l = absurd (omega arith)
 cut (x ∷ a) b (y ∷ c) d e l =
@@ -33,11 +33,11 @@ cut (x ∷ a) b (y ∷ c) d e l =
     record { more = k.more; front = (λ i. head i ∷ k.front i); back = k.back }
 
 -- octets behind others are octets
-octets-behind : (xs ys : List ℕ) → IsOctets (xs ++ ys) → IsOctets ys
+pub octets-behind : (xs ys : List ℕ) → IsOctets (xs ++ ys) → IsOctets ys
 octets-behind [] ys h = h
 octets-behind (x ∷ xs) ys h = octets-behind xs ys (λ i. h (suc i))
 
-octets-front : (xs ys : List ℕ) → IsOctets (xs ++ ys) → IsOctets xs
+pub octets-front : (xs ys : List ℕ) → IsOctets (xs ++ ys) → IsOctets xs
 octets-front [] ys h i = omega arith
 octets-front (x ∷ xs) ys h zero = h 0
 octets-front (x ∷ xs) ys h (suc i) = octets-front xs ys (λ j. h (suc j)) i
@@ -56,7 +56,7 @@ pub record Begun (begun front : List ℕ) : Type 0 where
   pub some : 0 < length left
   pub are : IsOctets rest
 
-one_part : (begun xs : List ℕ) (last : Bool) → length xs ≤ 65528 → length begun + length xs ≤ tsdu_limit → IsUnit begun (Part last xs) (header (240 ∷ mark last ∷ []) ++ xs)
+pub one_part : (begun xs : List ℕ) (last : Bool) → length xs ≤ 65528 → length begun + length xs ≤ tsdu_limit → IsUnit begun (Part last xs) (header (240 ∷ mark last ∷ []) ++ xs)
 one_part begun xs last few within = record { spells = refl; at_least = omega arith; at_most = omega arith; within = within }
 
 first_begins : (begun front left : List ℕ) (next : Tpdu) (unit : List ℕ) → IsUnit begun next unit → packet unit ≡ front ++ left → 0 < length left → IsOctets front → Begun begun front

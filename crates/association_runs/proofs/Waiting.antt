@@ -49,8 +49,9 @@ and-second false b h = cc
 
 -- ---- what one end keeps
 
-abbrev IsShort : Option Intake → Type 0
-IsShort None = Unit {0}
+-- it looks at what comes, and less than a message is left of it
+abbrev pub IsShort : Option Intake → Type 0
+IsShort None = ⊥
 IsShort (Some intake) = first_in intake ≡ Short
 
 abbrev IsCalm : End → Type 0
@@ -237,5 +238,9 @@ module _ (ends : Ends) where
   at-first A = λ p. refl
   at-first B = λ p. refl
 
+-- of an end that isn't over
+pub ends-wait : (ends : Ends) (all : List Event) (told : List Entry) (w : World) → Runs ends [] all told w → (side : Side) → passes_over (end_at ends side w).body.link.phase ≡ false → IsShort (end_at ends side w).line.came
+ends-wait ends all told w r = all-calm ends [] w all told r (at-first ends)
+
 pub nothing-waits : (ends : Ends) (all : List Event) (told : List Entry) (w : World) → Runs ends [] all told w → NothingWholeWaits ends w
-nothing-waits ends all told w r side intake p c = subst IsShort c (all-calm ends [] w all told r (at-first ends) side p)
+nothing-waits ends all told w r side intake p c = subst IsShort c (ends-wait ends all told w r side p)

@@ -37,11 +37,11 @@ use Rattle.association_worlds.proofs.Streams.{reads-all}
 
 -- ---- lists
 
-fronts-append : (ps qs : List Packet) → all_fronts (ps ++ qs) ≡ all_fronts ps ++ all_fronts qs
+pub fronts-append : (ps qs : List Packet) → all_fronts (ps ++ qs) ≡ all_fronts ps ++ all_fronts qs
 fronts-append [] qs = refl
 fronts-append (p ∷ ps) qs = ap (λ (fs : List Front). fronts_of p ++ fs) (fronts-append ps qs) ∙ sym (append_assoc (fronts_of p) (all_fronts ps) (all_fronts qs))
 
-map-append : {X Y : Type 0} (f : X → Y) (xs ys : List X) → map f (xs ++ ys) ≡ map f xs ++ map f ys
+pub map-append : {X Y : Type 0} (f : X → Y) (xs ys : List X) → map f (xs ++ ys) ≡ map f xs ++ map f ys
 map-append f [] ys = refl
 map-append f (x ∷ xs) ys = ap (λ (zs : List _). f x ∷ zs) (map-append f xs ys)
 
@@ -49,15 +49,15 @@ cancel : {X : Type 0} (xs ys zs : List X) → xs ++ ys ≡ xs ++ zs → ys ≡ z
 cancel [] ys zs e = e
 cancel (x ∷ xs) ys zs e = let tails : xs ++ ys ≡ xs ++ zs = cc in cancel xs ys zs tails
 
-texts-append : (tables : Tables) (xs ys : List Sent) → texts tables (xs ++ ys) ≡ texts tables xs ++ texts tables ys
+pub texts-append : (tables : Tables) (xs ys : List Sent) → texts tables (xs ++ ys) ≡ texts tables xs ++ texts tables ys
 texts-append tables [] ys = refl
 texts-append tables (x ∷ xs) ys = ap (λ (os : List ℕ). text_of tables x ++ os) (texts-append tables xs ys) ∙ sym (append_assoc (text_of tables x) (texts tables xs) (texts tables ys))
 
-written-append : (tables : Tables) (xs ys : List Sent) → AreWritten tables xs → AreWritten tables ys → AreWritten tables (xs ++ ys)
+pub written-append : (tables : Tables) (xs ys : List Sent) → AreWritten tables xs → AreWritten tables ys → AreWritten tables (xs ++ ys)
 written-append tables [] ys h k = k
 written-append tables (x ∷ xs) ys h k = (h.0, h.1, written-append tables xs ys h.2 k)
 
-carried-behind : (tables : Tables) (xs ys : List Message) → AreCarried tables (xs ++ ys) → AreCarried tables ys
+pub carried-behind : (tables : Tables) (xs ys : List Message) → AreCarried tables (xs ++ ys) → AreCarried tables ys
 carried-behind tables [] ys h = h
 carried-behind tables (x ∷ xs) ys h = carried-behind tables xs ys h.1
 
@@ -397,7 +397,7 @@ behind (x ∷ a) b (y ∷ c) d e l =
     let k = behind a b c d tail (omega arith) in
     record { more = k.more; front = (λ i. head i ∷ k.front i) }
 
-stands : (tables : Tables) (m : Message) → front_of tables m ≡ Short → ⊥
+pub stands : (tables : Tables) (m : Message) → front_of tables m ≡ Short → ⊥
 stands tables (Transport unit) e = cc
 stands tables (Session word) e = cc
 

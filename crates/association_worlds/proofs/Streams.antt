@@ -39,7 +39,7 @@ one-front at unit = by (stands_alone unit)
     by true = refl
     by false = refl
 
-word-front : (tables : Tables) (word : Word) → IsSendable tables word → fronts_of (Tsdu (tsdu_of tables word)) ≡ front_of tables (Session word) ∷ []
+pub word-front : (tables : Tables) (word : Word) → IsSendable tables word → fronts_of (Tsdu (tsdu_of tables word)) ≡ front_of tables (Session word) ∷ []
 word-front tables word h =
     ap (fronts_of_units (user_places (tsdu_of tables word))) (all_again (tsdu_of tables word) (session_units tables word) (written_are (session_units tables word) h.units))
     ∙ one-front (user_places (tsdu_of tables word)) (with_user (user_octets tables word) (unit_of word))
@@ -79,7 +79,7 @@ o : (x : ℕ) (xs : List ℕ) → x < 256 → IsOctets xs → IsOctets (x ∷ xs
 o x xs p q zero = p
 o x xs p q (suc i) = q i
 
-small-octets : (tables : Tables) (s : Sent) → IsCarried tables s.message → IsSize s.size → IsOctets (text_of tables s)
+pub small-octets : (tables : Tables) (s : Sent) → IsCarried tables s.message → IsSize s.size → IsOctets (text_of tables s)
 small-octets tables s h z = by s.message h
   where
     dr : (destination : ℕ) → destination ≡ 1 → IsOctets (written_unit (DisconnectRequest destination))
@@ -98,7 +98,7 @@ small-octets tables s h z = by s.message h
     by (Transport unit) h = of-unit unit h
     by (Session word) h = written_octets s.size (tsdu_of tables word) z.least z.most h.octets
 
-texts-octets : (tables : Tables) (sents : List Sent) → AreWritten tables sents → IsOctets (texts tables sents)
+pub texts-octets : (tables : Tables) (sents : List Sent) → AreWritten tables sents → IsOctets (texts tables sents)
 texts-octets tables [] h = none
 texts-octets tables (s ∷ sents) h = octets_join (text_of tables s) (texts tables sents) (small-octets tables s h.0 h.1) (texts-octets tables sents h.2)
 

@@ -1,0 +1,5 @@
+pub mod Counts
+pub mod Sents
+pub mod Flows
+pub mod Events
+pub mod Whole
