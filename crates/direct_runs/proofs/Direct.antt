@@ -28,10 +28,11 @@ use Rattle.said_worlds.specs.Laws.{DirectIsSaid}
 use Rattle.direct_worlds.proofs.Spoken.{reached, all-meant}
 use Rattle.run_laws.specs.Passing.{TakenInPlace}
 use Rattle.run_laws.specs.Showing.{EachCarryShows}
-use Rattle.run_laws.specs.Laws.{KeepsLaws, AtEachMoment, NothingFails, OneHolder}
+use Rattle.run_laws.specs.Laws.{AtEachMoment, NothingFails, OneHolder}
 use Rattle.association_runs.specs.Worlds.{ends_of, Runs}
 use Rattle.association_runs.specs.Sides.{ends_for}
-use Rattle.association_runs.specs.Laws.{AreEvents, AreOneHolder, RunsTakeInPlace, RunsShowWhatIsTaken, RunsNeverFail, RunsHaveOneHolder, RunsTellOneOutcome, RunsTellAnswers}
+use Rattle.association_runs.specs.Laws.{AreEvents, AreOneHolder, RunsTakeInPlace, RunsShowWhatIsTaken, RunsNeverFail, RunsHaveOneHolder, RunsTellOneOutcome, RunsTellAnswers, RunsLeaveNothingWhole, RunKeepsLaws}
+use Rattle.counted_runs.specs.Laws.{RunsTakeWhatIsWhole}
 use Rattle.direct_runs.proofs.Sent.{taken-as-sent}
 use Rattle.direct_runs.proofs.Told.{tell-rightly}
 use Rattle.direct_runs.proofs.Alive.{nothing-transferred, nobody-dead}
@@ -105,19 +106,24 @@ module _ (tables : Tables) (a b : Config) (d : AreDirect tables a b) where
   contexts : ProposesContexts (ends_meant tables a b)
   contexts = identifiers-right a d.ends.of_a.accepted
 
-pub keep-laws : RunsShowWhatIsTaken → RunsNeverFail → RunsHaveOneHolder → SaidIsMeant → DirectEndsTake → HasCodec → DirectIsSaid → DirectTurnHasOneHolder → DirectRunsKeepLaws
-keep-laws shows calm one_holder law take codec is_said one tables a b d =
-    subst (λ (e : Ends). (all : List Event) (told : List Entry) (w : World) → AreEvents all → Runs e [] all told w → KeepsLaws tables e told w) (same-ends tables a b d) go
+pub keep-laws : RunsShowWhatIsTaken → RunsNeverFail → RunsHaveOneHolder → RunsTakeWhatIsWhole → RunsLeaveNothingWhole → SaidIsMeant → DirectEndsTake → HasCodec → DirectIsSaid → DirectTurnHasOneHolder → DirectRunsKeepLaws
+keep-laws shows calm one_holder whole waits law take codec is_said one tables a b d =
+    subst (λ (e : Ends). (all : List Event) (told : List Entry) (w : World) → AreEvents all → Runs e [] all told w → RunKeepsLaws tables e told w) (same-ends tables a b d) go
   where
-    go : (all : List Event) (told : List Entry) (w : World) → AreEvents all → Runs (ends_for (ends_meant tables a b)) [] all told w → KeepsLaws tables (ends_for (ends_meant tables a b)) told w
+    go : (all : List Event) (told : List Entry) (w : World) → AreEvents all → Runs (ends_for (ends_meant tables a b)) [] all told w → RunKeepsLaws tables (ends_for (ends_meant tables a b)) told w
     go all told w typed r =
         let m = meant tables a b d law take codec is_said in
         record {
-          taken_as_sent = taken-as-sent codec.0 tables (spellings tables a b d) a b codec.1 (back tables a b d) (right tables a b d) (contexts tables a b d) m w all told typed r;
-          one_outcome = tell-rightly codec.0 tables (spellings tables a b d) a b codec.1 (back tables a b d) (right tables a b d) (contexts tables a b d) m w all told typed r;
-          one_transfer = nothing-transferred codec.0 tables (spellings tables a b d) a b codec.1 (back tables a b d) (right tables a b d) (contexts tables a b d) m w all told typed r;
-          nothing_fails = calm (ends_meant tables a b) m all told w typed r;
-          nobody_is_dead = nobody-dead codec.0 tables (spellings tables a b d) a b codec.1 (back tables a b d) (right tables a b d) (contexts tables a b d) m w all told typed r;
-          one_holder = one_holder (ends_meant tables a b) m all told w typed r (holder tables a b d codec one);
-          carries_show = shows (ends_meant tables a b) m all told w typed r;
+          laws =
+              record {
+                taken_as_sent = taken-as-sent codec.0 tables (spellings tables a b d) a b codec.1 (back tables a b d) (right tables a b d) (contexts tables a b d) m w all told typed r;
+                one_outcome = tell-rightly codec.0 tables (spellings tables a b d) a b codec.1 (back tables a b d) (right tables a b d) (contexts tables a b d) m w all told typed r;
+                one_transfer = nothing-transferred codec.0 tables (spellings tables a b d) a b codec.1 (back tables a b d) (right tables a b d) (contexts tables a b d) m w all told typed r;
+                nothing_fails = calm (ends_meant tables a b) m all told w typed r;
+                nobody_is_dead = nobody-dead codec.0 tables (spellings tables a b d) a b codec.1 (back tables a b d) (right tables a b d) (contexts tables a b d) m w all told typed r;
+                one_holder = one_holder (ends_meant tables a b) m all told w typed r (holder tables a b d codec one);
+                carries_show = shows (ends_meant tables a b) m all told w typed r;
+              };
+          taken_when_whole = whole (ends_meant tables a b) m all told w typed r;
+          nothing_whole_waits = waits (ends_for (ends_meant tables a b)) all told w r;
         }

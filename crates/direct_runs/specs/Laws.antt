@@ -11,10 +11,10 @@ use Rattle.association_reading.specs.Transfers.{transferred, arrived_at}
 use Rattle.said_worlds.specs.Laws.{AreEnds}
 use Rattle.run_laws.specs.Passing.{TakenInPlace}
 use Rattle.run_laws.specs.Showing.{EachCarryShows}
-use Rattle.run_laws.specs.Laws.{KeepsLaws, AtEachMoment, NothingFails, OneHolder}
+use Rattle.run_laws.specs.Laws.{AtEachMoment, NothingFails, OneHolder}
 use Rattle.association_runs.specs.Worlds.{ends_of, Runs}
 use Rattle.association_runs.specs.Dealings.{own_at}
-use Rattle.association_runs.specs.Laws.{AreEvents}
+use Rattle.association_runs.specs.Laws.{AreEvents, RunKeepsLaws}
 use Rattle.outcome_laws.specs.Deals.{AreDistinct, outcomes_in}
 use Rattle.outcome_laws.specs.Outcomes.{AreAllowed, AreAnswers}
 use Rattle.osi_base.specs.declared.words.Side.{Side}
@@ -66,8 +66,9 @@ DirectRunsTellAnswers = EverInRuns (λ ends w. (side : Side) → AreAnswers ends
 
 -- all of them: each message that is taken is the one that was sent in its place, each of its values read under the pair that the shared
 -- set gave its identifier at its sending; of the whole transcript each invocation is told once and gets at most one outcome, which its
--- operation has and which the other end gave; nothing is transferred; no end aborts of itself, and none is dead
+-- operation has and which the other end gave; nothing is transferred; no end aborts of itself, and none is dead; an end that isn't over
+-- took each message whose last octet was given to it and no other, and less than a message is left of what came to it
 abbrev pub DirectRunsKeepLaws : Type 0
 DirectRunsKeepLaws =
     (tables : Tables) (a b : Config) → AreDirect tables a b → (all : List Event) (told : List Entry) (w : World) → AreEvents all → Runs (ends_of tables a b) [] all told w →
-    KeepsLaws tables (ends_of tables a b) told w
+    RunKeepsLaws tables (ends_of tables a b) told w

@@ -3,8 +3,9 @@
 ghost use Rattle.direct_runs.specs.Laws.{DirectRunsHaveOneHolder, DirectRunsKeepLaws, DirectRunsNeverFail, DirectRunsTakeInPlace};
 ghost use Rattle.direct_runs.specs.Laws.{DirectRunsShowWhatIsTaken, DirectRunsTellAnswers, DirectRunsTellOneOutcome};
 
-use association_runs::{runs_reach_messages, runs_tell_one_outcome};
+use association_runs::{nothing_whole_waits, runs_reach_messages, runs_tell_one_outcome};
 use association_worlds::said_is_meant;
+use counted_runs::messages_are_taken_when_whole;
 use end_laws::{direct_ends_are_modelled, direct_turn_has_one_holder};
 use end_model::bare_pairs_are_modelled;
 use said_worlds::direct_ends_are_said;
@@ -15,7 +16,8 @@ use said_worlds::direct_ends_are_said;
 /// in it, and nothing else; no end aborts of itself, and none is dead; at no moment do both hold
 /// the token. Of the whole transcript, each invocation that an end is told of was made at the other
 /// and comes once; each gets at most one outcome, which its operation has, and a result or an error
-/// is what the other end answered.
+/// is what the other end answered. An end that isn't over took each message whose last octet was
+/// given to it, and no other, and less than a message is left of what came to it.
 pub fn direct_runs_keep_laws()
     ensures places { DirectRunsTakeInPlace }
     ensures shown { DirectRunsShowWhatIsTaken }
@@ -27,6 +29,8 @@ pub fn direct_runs_keep_laws()
 {
     runs_reach_messages();
     runs_tell_one_outcome();
+    messages_are_taken_when_whole();
+    nothing_whole_waits();
     said_is_meant();
     direct_ends_are_modelled();
     direct_turn_has_one_holder();

@@ -13,6 +13,7 @@ returns c =
       outcomes = tell-one c.runs_tell_one_outcome.ensures.once c.said_is_meant.ensures.law c.direct_ends_are_modelled.ensures.takes c.bare_pairs_are_modelled.ensures.codec c.direct_ends_are_said.ensures.law;
       answers = tell-answers c.runs_tell_one_outcome.ensures.answers c.said_is_meant.ensures.law c.direct_ends_are_modelled.ensures.takes c.bare_pairs_are_modelled.ensures.codec c.direct_ends_are_said.ensures.law;
       all =
-          keep-laws c.runs_reach_messages.ensures.shown c.runs_reach_messages.ensures.calm c.runs_reach_messages.ensures.holder c.said_is_meant.ensures.law c.direct_ends_are_modelled.ensures.takes
+          keep-laws c.runs_reach_messages.ensures.shown c.runs_reach_messages.ensures.calm c.runs_reach_messages.ensures.holder c.messages_are_taken_when_whole.ensures.law
+          c.nothing_whole_waits.ensures.law c.said_is_meant.ensures.law c.direct_ends_are_modelled.ensures.takes
           c.bare_pairs_are_modelled.ensures.codec c.direct_ends_are_said.ensures.law c.direct_turn_has_one_holder.ensures.law;
     }
