@@ -1,0 +1,191 @@
+-- Runs that go on, and what each event does to two ends.
+use Rattle.std.proofs.Common.{◌≡◌, ℕ, zero, suc, ◌+◌, ◌<◌, ◌≤◌, get_or, arith, List, [], ◌∷◌, ◌++◌, length, take, Option, refl, sym, ap, subst, ◌∙◌}
+use Rattle.std.proofs.Math.Seq.{take-suc}
+use Rattle.osi_base.specs.declared.words.Side.{Side}
+use Rattle.osi_base.specs.declared.words.Side.TheVariants.{A, B}
+use Rattle.dialogue.specs.declared.call.Call.{Call}
+use Rattle.dialogue.specs.declared.config.Mode.{Mode}
+use Rattle.dialogue.specs.declared.event.Event.{Event}
+use Rattle.dialogue.specs.declared.event.Event.TheVariants as events
+use Rattle.dialogue.specs.declared.event.Entry.{Entry}
+use Rattle.dialogue.specs.declared.event.Entry.TheVariants as entries
+use Rattle.dialogue.specs.declared.event.Carried.{Carried}
+use Rattle.dialogue.specs.declared.event.Transcript.{Transcript}
+use Rattle.end_rules.specs.Base.{Base}
+use Rattle.end_rules.specs.Invoking.{Reply}
+use Rattle.end_rules.specs.Calling.{can_call}
+use Rattle.end_rules.specs.History.{Step, History, gave, broke}
+use Rattle.end_rules.specs.World.{World, Ends, base_at, other, history_of}
+use Rattle.association_line.specs.Line.{End, end_of, going_on}
+use Rattle.association_line.specs.Feeding.{Feeds, Makes}
+use Rattle.association_runs.specs.Worlds.{end_at, stepping, first_octets, Runs, rests, calls, carries, breaks}
+use Rattle.association_end.specs.View.{EndView, base, Stepped, StandsFor}
+use Rattle.association_end.proofs.Histories.{same_base, stands_on}
+use Rattle.association_duo.specs.Ran.{StandsAt, Stand, Ran, Told}
+use Rattle.association_duo.specs.Steps.{RunsOn, AnsweredOne, AnsweredAt, CarriedOver, CarriedFrom}
+
+-- ---- one run after another
+
+runs-append : (e : Ends) (u v w : World) (all more : List Event) (told later : List Entry) → Runs e u all told v → Runs e v more later w → Runs e u (all ++ more) (told ++ later) w
+runs-append e u v w all more told later rests r = r
+runs-append e u v w all more told later (calls {more = rest} {told = shown} side call steps makes next) r =
+    calls side call steps makes (runs-append e (stepping side u steps) v w rest more shown later next r)
+runs-append e u v w all more told later (carries {more = rest} {told = shown} side most steps indications fd next) r =
+    carries side most steps indications fd
+    (runs-append e (stepping (other side) (stepping side u (gave (length (first_octets most (end_at e side u).line.waiting)) ∷ [])) steps) v w rest more shown later next r)
+runs-append e u v w all more told later (breaks {more = rest} {told = shown} next) r =
+    breaks (runs-append e (stepping B (stepping A u (broke ∷ [])) (broke ∷ [])) v w rest more shown later next r)
+
+pub runs_none : (a b : EndView) → RunsOn [] [] a b a b
+runs_none a b ends w s = record { world = w; runs = rests; stand = s }
+
+pub runs_more : (all more : List Event) (told later : List Entry) (a b a1 b1 a2 b2 : EndView) → RunsOn all told a b a1 b1 → RunsOn more later a1 b1 a2 b2 → RunsOn (all ++ more) (told ++ later) a b a2 b2
+runs_more all more told later a b a1 b1 a2 b2 f g ends w s =
+    let one = f ends w s in
+    let two = g ends one.world one.stand in
+    record { world = two.world; runs = runs-append ends w one.world two.world all more told later one.runs two.runs; stand = two.stand }
+
+-- ---- one end's steps
+
+stepped_history : (side : Side) (w : World) (steps : List Step) → history_of side (stepping side w steps) ≡ going_on (history_of side w) steps
+stepped_history A w [] = refl
+stepped_history A w (x ∷ xs) = stepped_history A (record { side = A; step = x } ∷ w) xs
+stepped_history B w [] = refl
+stepped_history B w (x ∷ xs) = stepped_history B (record { side = B; step = x } ∷ w) xs
+
+left_alone : (side : Side) (w : World) (steps : List Step) → history_of side (stepping (other side) w steps) ≡ history_of side w
+left_alone A w [] = refl
+left_alone A w (x ∷ xs) = left_alone A (record { side = B; step = x } ∷ w) xs
+left_alone B w [] = refl
+left_alone B w (x ∷ xs) = left_alone B (record { side = A; step = x } ∷ w) xs
+
+other_alone : (side : Side) (w : World) (steps : List Step) → history_of (other side) (stepping side w steps) ≡ history_of (other side) w
+other_alone A w steps = left_alone B w steps
+other_alone B w steps = left_alone A w steps
+
+module _ (ends : Ends) where
+  -- an end that made steps stands for its history with them
+  made_steps : (side : Side) (w : World) (e f : EndView) (steps : List Step) → StandsAt ends side w e → Stepped e f steps → StandsAt ends side (stepping side w steps) f
+  made_steps side w e f steps s m = record {
+    base_is = same_base e f steps m ∙ s.base_is;
+    stands = subst (λ (h : History). StandsFor f h) (sym (stepped_history side w steps)) (stands_on e f steps m (history_of side w) s.stands);
+  }
+
+  -- one that made none stands for the same
+  kept_still : (side : Side) (w v : World) (e f : EndView) → history_of side v ≡ history_of side w → f ≡ e → StandsAt ends side w e → StandsAt ends side v f
+  kept_still side w v e f h is s =
+      let same : StandsAt ends side w f = subst (λ (x : EndView). StandsAt ends side w x) (sym is) s in
+      record { base_is = same.base_is; stands = subst (λ (x : History). StandsFor f x) (sym h) same.stands }
+
+  -- what such an end is
+  its_end : (side : Side) (w : World) (e : EndView) → StandsAt ends side w e → e.end ≡ end_at ends side w
+  its_end side w e s = s.stands ∙ ap (λ (b : Base). end_of b (history_of side w)) s.base_is
+
+  -- ---- a call
+
+  pub record CallRan (side : Side) (w : World) (call : Call) (answer : Reply) (end rest : EndView) : Type 0 where
+    pub world : World
+    pub runs : Runs ends w (events.Call side call ∷ []) (entries.Call side call answer ∷ []) world
+    pub end_stands : StandsAt ends side world end
+    pub rest_stands : StandsAt ends (other side) world rest
+
+  call_ran : (side : Side) (w : World) (call : Call) (answer : Reply) (e rest e1 rest1 : EndView) → StandsAt ends side w e → StandsAt ends (other side) w rest
+      → AnsweredOne call answer e rest e1 rest1 → CallRan side w call answer e1 rest1
+  call_ran side w call answer e rest e1 rest1 s r h =
+      let steps : List Step = h.answered.steps in
+      let v : World = stepping side w steps in
+      let makes : Makes (base_at ends side) (end_at ends side w) call steps
+      = subst (λ (b : Base). Makes b (end_at ends side w) call steps) s.base_is (subst (λ (x : End). Makes (base e) x call steps) (its_end side w e s) h.answered.makes) in
+      let answer_is : answer ≡ can_call (base_at ends side) (end_at ends side w).body call
+      = h.answered.reply_is ∙ ap (λ (b : Base). can_call b e.end.body call) s.base_is ∙ ap (λ (x : End). can_call (base_at ends side) x.body call) (its_end side w e s) in
+      record {
+        world = v;
+        runs = subst (λ (reply : Reply). Runs ends w (events.Call side call ∷ []) (entries.Call side call reply ∷ []) v) (sym answer_is) (calls side call steps makes rests);
+        end_stands = made_steps side w e e1 steps s h.answered.made;
+        rest_stands = kept_still (other side) w v rest rest1 (other_alone side w steps) h.kept r;
+      }
+
+  -- ---- a carry
+
+  pub record CarryRan (side : Side) (w : World) (most : Option ℕ) (carried : Carried) (from to : EndView) : Type 0 where
+    pub world : World
+    pub runs : Runs ends w (events.Carry side most ∷ []) (entries.Carry side most carried ∷ []) world
+    pub from_stands : StandsAt ends side world from
+    pub to_stands : StandsAt ends (other side) world to
+
+  carry_ran : (side : Side) (w : World) (most : Option ℕ) (carried : Carried) (from to from1 to1 : EndView) → StandsAt ends side w from → StandsAt ends (other side) w to
+      → CarriedOver most carried from to from1 to1 → CarryRan side w most carried from1 to1
+  carry_ran side w most carried from to from1 to1 s r h =
+      let octets : List ℕ = first_octets most (end_at ends side w).line.waiting in
+      let moved : carried.octets ≡ octets = h.octets_are ∙ ap (λ (x : End). first_octets most x.line.waiting) (its_end side w from s) in
+      let give : List Step = gave (length octets) ∷ [] in
+      let u : World = stepping side w give in
+      let v : World = stepping (other side) u h.feeds.steps in
+      let gives : Stepped from from1 give = subst (λ (bytes : List ℕ). Stepped from from1 (gave (length bytes) ∷ [])) moved h.gives in
+      let fd : Feeds (base_at ends (other side)) (end_at ends (other side) w) octets h.feeds.steps carried.shown
+      = subst (λ (b : Base). Feeds b (end_at ends (other side) w) octets h.feeds.steps carried.shown) r.base_is
+      (subst (λ (x : End). Feeds (base to) x octets h.feeds.steps carried.shown) (its_end (other side) w to r)
+      (subst (λ (bytes : List ℕ). Feeds (base to) to.end bytes h.feeds.steps carried.shown) moved h.feeds.feeds)) in
+      let plain : Runs ends w (events.Carry side most ∷ []) (entries.Carry side most (record { octets = octets; shown = carried.shown }) ∷ []) v
+      = carries side most h.feeds.steps carried.shown fd rests in
+      record {
+        world = v;
+        runs = subst (λ (bytes : List ℕ). Runs ends w (events.Carry side most ∷ []) (entries.Carry side most (record { octets = bytes; shown = carried.shown }) ∷ []) v) (sym moved) plain;
+        from_stands = kept_still side u v from1 from1 (left_alone side u h.feeds.steps) refl (made_steps side w from from1 give s gives);
+        to_stands = made_steps (other side) u to to1 h.feeds.steps (kept_still (other side) w u to to (other_alone side w give) refl r) h.feeds.made;
+      }
+
+-- ---- the events
+
+pub runs_call : (side : Side) (call : Call) (answer : Reply) (a b a1 b1 : EndView) → AnsweredAt side call answer a b a1 b1 → RunsOn (events.Call side call ∷ []) (entries.Call side call answer ∷ []) a b a1 b1
+runs_call A call answer a b a1 b1 h ends w s =
+    let r = call_ran ends A w call answer a b a1 b1 s.a_stands s.b_stands h in
+    record { world = r.world; runs = r.runs; stand = record { a_stands = r.end_stands; b_stands = r.rest_stands } }
+runs_call B call answer a b a1 b1 h ends w s =
+    let r = call_ran ends B w call answer b a b1 a1 s.b_stands s.a_stands h in
+    record { world = r.world; runs = r.runs; stand = record { a_stands = r.rest_stands; b_stands = r.end_stands } }
+
+pub runs_carry : (side : Side) (most : Option ℕ) (carried : Carried) (a b a1 b1 : EndView) → CarriedFrom side most carried a b a1 b1 → RunsOn (events.Carry side most ∷ []) (entries.Carry side most carried ∷ []) a b a1 b1
+runs_carry A most carried a b a1 b1 h ends w s =
+    let r = carry_ran ends A w most carried a b a1 b1 s.a_stands s.b_stands h in
+    record { world = r.world; runs = r.runs; stand = record { a_stands = r.from_stands; b_stands = r.to_stands } }
+runs_carry B most carried a b a1 b1 h ends w s =
+    let r = carry_ran ends B w most carried b a b1 a1 s.b_stands s.a_stands h in
+    record { world = r.world; runs = r.runs; stand = record { a_stands = r.to_stands; b_stands = r.from_stands } }
+
+pub runs_break : (a b a1 b1 : EndView) → Stepped a a1 (broke ∷ []) → Stepped b b1 (broke ∷ []) → RunsOn (events.Break ∷ []) (entries.Break ∷ []) a b a1 b1
+runs_break a b a1 b1 e f ends w s =
+    let u : World = stepping A w (broke ∷ []) in
+    let v : World = stepping B u (broke ∷ []) in
+    record {
+      world = v;
+      runs = breaks rests;
+      stand = record {
+        a_stands = kept_still ends A u v a1 a1 (left_alone A u (broke ∷ [])) refl (made_steps ends A w a a1 (broke ∷ []) s.a_stands e);
+        b_stands = made_steps ends B u b b1 (broke ∷ []) (kept_still ends B w u b b (left_alone B w (broke ∷ [])) refl s.b_stands) f;
+      };
+    }
+
+-- ---- the whole run, told
+
+pub run_told : (all : List Event) (transcript : Transcript) (a b a1 b1 : EndView) → RunsOn all transcript.entries a b a1 b1 → transcript.mode ≡ a.config.mode → transcript.a ≡ a1.end.body.link.phase → transcript.b ≡ b1.end.body.link.phase
+    → (ends : Ends) (w : World) → Stand ends w a b → Told ends w all transcript a1 b1
+run_told all transcript a b a1 b1 runs m p q ends w s =
+    let r = runs ends w s in
+    record {
+      ran = r;
+      mode = m ∙ ap (λ (x : Base). x.mode) s.a_stands.base_is;
+      a_phase = p ∙ ap (λ (x : End). x.body.link.phase) (its_end ends A r.world a1 r.stand.a_stands);
+      b_phase = q ∙ ap (λ (x : End). x.body.link.phase) (its_end ends B r.world b1 r.stand.b_stands);
+    }
+
+-- ---- event after event
+
+pub take_one_more : (l : List Event) (i : ℕ) (e : Event) → i < length l → e ≡ get_or l i e → take (i + 1) l ≡ take i l ++ e ∷ []
+take_one_more l i e lt is = ap (λ (n : ℕ). take n l) (let one : i + 1 ≡ suc i = omega arith in one) ∙ take-suc l i e lt ∙ ap (λ (x : Event). take i l ++ x ∷ []) (sym is)
+
+pub take_whole : (l : List Event) (n : ℕ) → length l ≤ n → take n l ≡ l
+take_whole [] zero le = refl
+take_whole [] (suc n) le = refl
+take_whole (x ∷ l) zero le = absurd (omega (arith, le))
+take_whole (x ∷ l) (suc n) le = ap (λ (k : List Event). x ∷ k) (take_whole l n (omega (arith, le)))

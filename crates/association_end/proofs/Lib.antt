@@ -1,0 +1,12 @@
+pub mod Inside
+pub mod Histories
+pub mod Sounds
+pub mod Sent
+pub mod Dealt
+pub mod Dealing
+pub mod Feeds
+pub mod Own
+pub mod Calls
+pub mod Units
+pub mod Broken
+pub mod Arriving

@@ -1,0 +1,30 @@
+use Rattle.std.proofs.Common.{[], ◌∷◌, Some, sym, subst, ◌≡◌}
+use Rattle.std.specs.Prelude.{OnOk}
+use Rattle.end_rules.specs.ByItself.{SendsNow, next_own}
+use Rattle.end_rules.specs.History.{step_of}
+use Rattle.association_words.specs.Seen.{seen_message}
+use Rattle.association_requests.specs.declared.own.Own.{Own}
+use Rattle.association_requests.specs.Acts.{seen_act}
+use Rattle.association_end.specs.View.{base, Stepped}
+use Rattle.association_end.proofs.Own.{own_up, sends_stand}
+use Rattle.association_end.proofs.end.End.perform.Goals as goal
+
+pub returns-in-Encodes-clause-ok : goal.returns-in-Encodes-clause-ok
+returns-in-Encodes-clause-ok c =
+    subst (λ (a : Own). OnOk c.encode.result (Stepped c.args.self.now c.encode.new.self (step_of (seen_act a) ∷ []))) (sym c.in-Encodes.is) c.encode.ensures.ok
+
+pub send-requires-clause-up : goal.send-requires-clause-up
+send-requires-clause-up c =
+    let next : Some (SendsNow (seen_message c.in-Sends.message)) ≡ next_own (base c.args.self.now) c.args.self.now.end.body
+    = subst (λ (a : Own). Some (seen_act a) ≡ next_own (base c.args.self.now) c.args.self.now.end.body) c.in-Sends.is c.requires in
+    own_up (base c.args.self.now) c.args.self.now.end.body (SendsNow (seen_message c.in-Sends.message)) (sym next)
+
+pub send-requires-clause-room : goal.send-requires-clause-room
+send-requires-clause-room c =
+    let next : Some (SendsNow (seen_message c.in-Sends.message)) ≡ next_own (base c.args.self.now) c.args.self.now.end.body
+    = subst (λ (a : Own). Some (seen_act a) ≡ next_own (base c.args.self.now) c.args.self.now.end.body) c.in-Sends.is c.requires in
+    sends_stand (base c.args.self.now) c.args.self.now.end.body (seen_message c.in-Sends.message) next
+
+pub returns-in-Sends-clause-ok : goal.returns-in-Sends-clause-ok
+returns-in-Sends-clause-ok c =
+    subst (λ (a : Own). OnOk c.send.result (Stepped c.args.self.now c.send.new.self (step_of (seen_act a) ∷ []))) (sym c.in-Sends.is) c.send.ensures.ok

@@ -1,0 +1,19 @@
+use Rattle.std.proofs.Common.{List, ℕ, Some, ap}
+use Rattle.association_pieces.specs.Sending.{seen_transfer}
+use Rattle.association_state.specs.Seen.{seen}
+use Rattle.association_end.proofs.pumping.encoded_under.Goals as goal
+
+pub returns : goal.returns
+returns c =
+    let body = seen c.args.body.now in
+    ap
+    (λ (octets : List ℕ).
+    record (seen_transfer c.args.transfer) {
+      encoded = Some (record {
+        item = record { id = c.args.id; pair = c.args.pair; apdu = c.args.transfer.item.apdu };
+        octets = octets;
+        checkpoint = body.link.checkpoint;
+        window = body.link.window;
+      });
+    })
+    c.in_ok-octets.ensures

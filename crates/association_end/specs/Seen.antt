@@ -1,0 +1,23 @@
+-- What a contract sees of the parts of an end. No public clause cites this module.
+use Rattle.std.specs.Prelude.{ℕ, List, Option, Some, None}
+use Rattle.association_reading.specs.Front.{Intake}
+use Rattle.association_state.specs.declared.basis.Ground.{Ground}
+use Rattle.association_state.specs.declared.body.Body.{Body}
+use Rattle.association_state.specs.Seen.{seen}
+use Rattle.association_end.specs.View.{EndView}
+
+-- what came, where it is looked at
+abbrev pub came_in : Option (Option Intake) → Option Intake
+came_in None = None
+came_in (Some intake) = intake
+
+abbrev pub view_of : Ground → Body → List ℕ → Option (Option Intake) → ℕ → EndView
+view_of basis body waiting intake size =
+    record {
+      tables = basis.tables.now;
+      config = basis.config;
+      end = record {
+        body = seen body;
+        line = record { waiting = waiting; came = came_in intake; size = size };
+      };
+    }

@@ -1,0 +1,16 @@
+//! One end of an association in direct or reliable mode: its calls, and the octets that it takes and
+//! gives out.
+#![tactic(auto)]
+
+mod calling;
+mod end;
+mod feeding;
+mod pumping;
+mod queue;
+mod reacting;
+mod reading;
+mod sending;
+mod settling;
+mod sizes;
+
+pub use end::End;

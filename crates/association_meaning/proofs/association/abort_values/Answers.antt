@@ -1,0 +1,10 @@
+use Rattle.association_reading.specs.Places.{pdv_places}
+use Rattle.association_reading.specs.Association.{is_abort, unasked_values, abort_values}
+use Rattle.association_words.specs.Seen.{seen_values}
+use Rattle.association_meaning.specs.Grounds.{association_base}
+use Rattle.association_meaning.proofs.Fails.{halts, informed_fails}
+use Rattle.association_meaning.proofs.association.abort_values.Goals as goal
+
+pub returns-in_err-values : goal.returns-in_err-values
+returns-in_err-values c =
+    halts seen_values c.from_residual.result (abort_values (association_base c.args.basis.now.tables.now c.args.basis.now.config.now) c.args.accepted.now (pdv_places c.args.carrier.now.place c.args.carrier.now.start c.args.carrier.now.user.now) c.args.pdvs.now) c.in_err-values.field-0.0 c.from_residual.ensures.1 (informed_fails c.in_err-values.field-0.0 (association_base c.args.basis.now.tables.now c.args.basis.now.config.now) c.args.accepted.now is_abort (unasked_values (pdv_places c.args.carrier.now.place c.args.carrier.now.start c.args.carrier.now.user.now) c.args.pdvs.now) c.in_err-values.ensures)

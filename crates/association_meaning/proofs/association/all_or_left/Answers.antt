@@ -1,0 +1,22 @@
+use Rattle.std.proofs.Common.{sym, ap, ◌∙◌, arith}
+use Rattle.association_reading.specs.Association.{value_or_left}
+use Rattle.association_meaning.specs.Grounds.{association_base}
+use Rattle.association_words.specs.Seen.{seen_values}
+use Rattle.association_reading.specs.Values.{all_values}
+use Rattle.association_meaning.proofs.Alls.{all_step, fails_at, all_done}
+use Rattle.association_meaning.proofs.Fails.{halts}
+use Rattle.association_meaning.proofs.association.all_or_left.Goals as goal
+
+pub loop-pdv-preserved : goal.loop-pdv-preserved
+loop-pdv-preserved c =
+    all_step (value_or_left (association_base c.args.basis.now.tables.now c.args.basis.now.config.now) c.args.definitions.now c.args.set.now) c.args.pdvs.now c.loop-pdv.pdv-index c.pdv-item.result (omega arith) c.loop-pdv.values c.loop-pdv.invariant c.in_ok-value.value c.push.new.self
+    (ap (value_or_left (association_base c.args.basis.now.tables.now c.args.basis.now.config.now) c.args.definitions.now c.args.set.now) (sym c.pdv-item.is) ∙ c.in_ok-value.ensures) c.in_ok-push.ensures.ok
+
+pub returns-in_err-value : goal.returns-in_err-value
+returns-in_err-value c =
+    halts seen_values c.from_residual.result (all_values (value_or_left (association_base c.args.basis.now.tables.now c.args.basis.now.config.now) c.args.definitions.now c.args.set.now) c.args.pdvs.now) c.in_err-value.field-0.0 c.from_residual.ensures.1
+    (fails_at (value_or_left (association_base c.args.basis.now.tables.now c.args.basis.now.config.now) c.args.definitions.now c.args.set.now) c.args.pdvs.now c.loop-pdv.pdv-index c.pdv-item.result (omega arith) c.loop-pdv.values c.loop-pdv.invariant c.in_err-value.field-0.0 ((value_or_left (association_base c.args.basis.now.tables.now c.args.basis.now.config.now) c.args.definitions.now c.args.set.now) c.pdv-item.result) (ap (value_or_left (association_base c.args.basis.now.tables.now c.args.basis.now.config.now) c.args.definitions.now c.args.set.now) (sym c.pdv-item.is)) c.in_err-value.ensures)
+
+pub returns : goal.returns
+returns c =
+    all_done (value_or_left (association_base c.args.basis.now.tables.now c.args.basis.now.config.now) c.args.definitions.now c.args.set.now) c.args.pdvs.now c.loop-pdv.pdv-index c.loop-pdv.values (omega arith) c.loop-pdv.invariant

@@ -1,0 +1,4 @@
+pub mod Grounds
+pub mod Steps
+pub mod Informing
+pub mod Words

@@ -1,0 +1,69 @@
+//! What reading stands on, and why it stops.
+
+ghost use Rattle.std.specs.Prelude.{◌≡◌, ℕ, []};
+ghost use Rattle.association_meaning.specs.declared.basis.Halt.TheVariants as halts;
+
+use association_codecs::Codecs;
+use association_words::Fault;
+use dialogue::Config;
+use osi_base::{Layer, ListOf, NoMemory};
+use std::alloc::Global;
+use stub_tables::Tables;
+
+/// What reading stands on: the fixed tables, the module's tables and the configuration of an end.
+#[derive(Clone, Copy)]
+pub struct Ground<'a> {
+    pub alloc: Global,
+    pub codecs: &'a Codecs,
+    pub tables: &'a Tables,
+    pub config: &'a Config,
+}
+
+/// Why a unit has no meaning.
+#[derive(Debug, Drop)]
+pub enum Halt {
+    /// It ends the association.
+    Faulty(Fault),
+    /// Memory was refused.
+    NoMemory,
+}
+
+impl From<NoMemory> for Halt {
+    ghost use Rattle.std.specs.Prelude.{◌≡◌};
+    ghost use Rattle.association_meaning.specs.declared.basis.Halt.TheVariants.{NoMemory as no_room};
+
+    ghost from_gives = { λ _ e. e ≡ no_room };
+
+    fn from(_error: NoMemory) -> Halt {
+        Halt::NoMemory
+    }
+}
+
+/// A fault at this place of a layer, with this reason.
+pub(crate) fn fault_at<T>(alloc: Global, layer: Layer, place: usize, reason: u8) -> Result<T, Halt>
+    ensures { result ≡ Err (halts.Faulty (record {
+      layer = layer;
+      place = place;
+      reason = reason;
+      told = [];
+    })) }
+{
+    Err(Halt::Faulty(Fault {
+        layer,
+        place: place as u64,
+        reason,
+        told: ListOf::new(alloc),
+    }))
+}
+
+/// An invalid unit of the presentation (6), with no single field at fault.
+pub(crate) fn invalid_ppdu<T>(alloc: Global) -> Result<T, Halt>
+    ensures { result ≡ Err (halts.Faulty (record {
+      layer = Layer.Presentation;
+      place = 0;
+      reason = 6;
+      told = [];
+    })) }
+{
+    fault_at(alloc, Layer::Presentation, 0, 6)
+}

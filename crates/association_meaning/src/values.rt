@@ -1,0 +1,78 @@
+//! What presentation data values mean, each under the pair of its context.
+
+ghost use Rattle.std.specs.Prelude.{◌≡◌, ◌+◌, ◌<◌, ◌^◌, length, IfOk};
+ghost use Rattle.std.specs.Option.{option_copied};
+ghost use Rattle.association_reading.specs.Places.{pdv_places};
+ghost use Rattle.association_reading.specs.Values as reading;
+ghost use Rattle.association_words.specs.Seen.{seen_value, seen_values};
+ghost use Rattle.association_meaning.specs.Grounds.{GivesAs};
+
+use crate::basis::{Ground, Halt};
+use crate::contexts::{Carrier, check, first_wrong};
+use crate::layers::content_by;
+use association_sets::pair_of;
+use association_words::{Value, Values};
+use osi_base::{Copied, ListOf, NoMemory, Pair, Pdv, SetItem};
+use std::alloc::Global;
+
+/// A pair, where there is one.
+fn copied(alloc: Global, pair: Option<&Pair>) -> Result<Option<Pair>, NoMemory>
+    ensures { IfOk result (λ copy. copy ≡ option_copied pair.entry) }
+{
+    match pair {
+        None => Ok(None),
+        Some(pair) => Ok(Some(pair.copy(alloc)?)),
+    }
+}
+
+/// A value under the pair of its context, where there is one.
+fn value_by(basis: &Ground<'_>, pair: Option<&Pair>, pdv: &Pdv) -> Result<Value, Halt>
+    ensures { GivesAs seen_value result (reading.value_by basis.now.tables.now (option_copied
+        pair.entry) pdv.now) }
+{
+    let content = content_by(basis, pair, pdv.content.octets().as_slice())?;
+    let pair = copied(basis.alloc, pair)?;
+    Ok(Value {
+        id: pdv.id,
+        pair,
+        content,
+    })
+}
+
+/// A value under a set.
+pub(crate) fn value_in(basis: &Ground<'_>, set: &[SetItem], pdv: &Pdv) -> Result<Value, Halt>
+    ensures { GivesAs seen_value result (reading.value_in basis.now.tables.now set.now pdv.now) }
+{
+    value_by(basis, pair_of(set, pdv.id), pdv)
+}
+
+/// Values under a set, one after the other.
+fn all_in(basis: &Ground<'_>, set: &[SetItem], pdvs: &[Pdv]) -> Result<Values, Halt>
+    ensures { GivesAs seen_values result (reading.all_values (reading.value_in basis.now.tables.now
+        set.now) pdvs.now) }
+{
+    let mut values: Values = ListOf::new(basis.alloc);
+    for pdv in pdvs {
+        let value = value_in(basis, set, pdv)?;
+        values.push(value)?;
+    }
+    Ok(values)
+}
+
+/// Values of a message that carries those of this abstract syntax: the contexts and forms of all,
+/// then what each is.
+pub(crate) fn values_under(
+    basis: &Ground<'_>,
+    set: &[SetItem],
+    carried: &[u32],
+    carrier: &Carrier<'_>,
+    pdvs: &[Pdv],
+) -> Result<Values, Halt>
+    requires { carrier.now.start + length carrier.now.user.now < 2 ^ 63 }
+    ensures { GivesAs seen_values result (reading.values_under basis.now.tables.now set.now
+        carried.now (pdv_places carrier.now.place carrier.now.start carrier.now.user.now)
+        pdvs.now) }
+{
+    check(basis, carrier, first_wrong(carried, set, pdvs))?;
+    all_in(basis, set, pdvs)
+}
