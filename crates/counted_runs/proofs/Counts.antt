@@ -1,17 +1,17 @@
 -- Of octets that came of messages, as many fronts are made as messages have their last octet among them.
-use Rattle.std.proofs.Common.{◌≡◌, refl, sym, ap, subst, ◌∙◌, ℕ, suc, ◌+◌, ◌-◌, true, false, List, [], ◌∷◌, ◌++◌, map, length, arith, inl, inr, append_assoc, length-append}
+use Rattle.std.proofs.Common.{◌≡◌, refl, sym, ap, subst, ◌∙◌, ℕ, suc, ◌+◌, ◌-◌, ◌<◌, ◌≤◌, true, false, List, [], ◌∷◌, ◌++◌, map, length, arith, inl, inr, append_assoc, length-append}
 use Rattle.std.specs.Prelude.{nat_le}
 use Rattle.std.proofs.lemmas.Bool.{cases_lt, lt-leb, le-leb}
 use Rattle.std.proofs.lemmas.List.{append-nil}
 use Rattle.stub_tables.specs.declared.tables.Tables.{Tables}
 use Rattle.tpkt.specs.Reader.{reading, nothing}
 use Rattle.association_reading.specs.Front.{Front, all_fronts}
-use Rattle.association_worlds.specs.Ways.{Sent, front_of, text_of, texts, AreWritten}
+use Rattle.association_reading.proofs.Beginnings.{cut}
+use Rattle.association_worlds.specs.Ways.{Sent, front_of, text_of, texts, fronts_of_sent, AreWritten}
 use Rattle.association_worlds.proofs.Streams.{reads-all}
 use Rattle.association_worlds.proofs.Kept.{texts-append}
 use Rattle.association_runs.specs.Octets.{whole_within}
 use Rattle.prefix_laws.specs.Laws.{BeginningsBringNothing}
-use Rattle.prefix_laws.proofs.Lists.{cut}
 
 abbrev pub texts_of : Tables → List Sent → List (List ℕ)
 texts_of tables sents = map (text_of tables) sents

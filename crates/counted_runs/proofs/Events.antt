@@ -1,9 +1,10 @@
 -- Whole runs: what goes between two ends is counted after each event.
-use Rattle.std.proofs.Common.{◌≡◌, refl, sym, ap, subst, ◌∙◌, ℕ, List, [], ◌∷◌, ◌++◌, ◌+◌, map, length, take, drop, false, None, Ok, Err}
+use Rattle.std.proofs.Common.{◌≡◌, refl, sym, ap, subst, ◌∙◌, ℕ, List, [], ◌∷◌, ◌++◌, ◌+◌, map, length, take, drop, true, false, None, Ok, Err}
 use Rattle.std.specs.Prelude.{Option, Some, option_map, if◌then◌else◌}
 use Rattle.std.proofs.lemmas.List.{append-nil}
 use Rattle.osi_base.specs.declared.words.Layer.TheVariants as layers
 use Rattle.osi_base.specs.declared.words.Side.TheVariants.{A, B}
+use Rattle.stub_tables.specs.declared.tables.Tables.{Tables}
 use Rattle.dialogue.specs.declared.call.Call.{Call}
 use Rattle.dialogue.specs.declared.event.Event.{Event}
 use Rattle.dialogue.specs.declared.event.Entry.{Entry}
@@ -15,9 +16,9 @@ use Rattle.end_rules.specs.State.{Body, passes_over}
 use Rattle.end_rules.specs.Invoking.{Reply}
 use Rattle.end_rules.specs.Calling.{can_call}
 use Rattle.end_rules.specs.Requesting.{due_of}
-use Rattle.end_rules.specs.ByItself.{SendsNow, EncodesOn}
+use Rattle.end_rules.specs.ByItself.{OwnAct, SendsNow, EncodesOn}
 use Rattle.end_rules.specs.Reacting.{Reaction, Passes, Takes, Fails, fails}
-use Rattle.end_rules.specs.History.{Step, sent, fed, took, answered, passed, aborted, feed_end, gave, broke, call_steps, ByItself, rests, goes}
+use Rattle.end_rules.specs.History.{Step, called, sent, fed, took, answered, passed, fault, aborted, feed_end, gave, broke, step_of, call_steps, ByItself, rests, goes}
 use Rattle.end_rules.specs.World.{World}
 use Rattle.agreement.specs.Sets.{Role, other}
 use Rattle.agreement.specs.Sets.Role.{Initiator, Responder}
@@ -41,7 +42,7 @@ use Rattle.association_runs.specs.Laws.{AreEvents}
 use Rattle.association_runs.specs.Octets.{given}
 use Rattle.association_runs.specs.Sides.{ends_for}
 use Rattle.association_runs.proofs.Histories.{end_for, own-end, other-other, stepping-append}
-use Rattle.association_runs.proofs.Moments.{AreOn, IsOn, all_sent_in, messages_in, on-append, answers-on, own-sendings, peer-sendings, peer-readings, Follows, follows-sent}
+use Rattle.association_runs.proofs.Moments.{AreOn, IsOn, all_sent_in, messages_in, on-append, sents-on, answers-on, own-sendings, peer-sendings, peer-readings, Follows, follows-sent}
 use Rattle.association_runs.proofs.Joint.{both, Joint}
 use Rattle.association_runs.proofs.Joined.{Joined, begun, front-is, all-called}
 use Rattle.association_runs.proofs.Carried.{carried-a, carried-b, broken, fed-so}

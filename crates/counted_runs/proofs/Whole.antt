@@ -1,13 +1,17 @@
 -- An end that isn't over took each message whose last octet was given to it, and no other.
-use Rattle.std.proofs.Common.{◌≡◌, refl, sym, ap, subst, ◌∙◌, ℕ, List, [], ◌∷◌, ◌++◌, length, append_assoc, None}
+use Rattle.std.proofs.Common.{◌≡◌, refl, sym, ap, subst, ◌∙◌, ℕ, false, List, [], ◌∷◌, ◌++◌, length, append_assoc, None}
 use Rattle.std.specs.Prelude.{Option, Some}
 use Rattle.std.proofs.lemmas.List.{append-nil}
+use Rattle.osi_base.specs.declared.words.Side.{Side}
 use Rattle.osi_base.specs.declared.words.Side.TheVariants.{A, B}
 use Rattle.stub_tables.specs.declared.tables.Tables.{Tables}
 use Rattle.tpkt.specs.Reader.{Fed, reading, nothing}
 use Rattle.tpkt.proofs.StreamLaws.{any_cut}
+use Rattle.end_rules.specs.State.{passes_over}
+use Rattle.end_rules.specs.World.{World, other}
 use Rattle.agreement.specs.Sets.Role.{Initiator, Responder}
-use Rattle.association_reading.specs.Front.{Front, Short, Intake, first_front, all_fronts}
+use Rattle.end_model.specs.Pairs.{Common}
+use Rattle.association_reading.specs.Front.{Front, Short, Intake, first_front, first_in, all_fronts}
 use Rattle.association_worlds.specs.Ways.{AreCarried, front_of, Sent, fronts_of_sent, AreWritten}
 use Rattle.association_worlds.proofs.Streams.{reads-all}
 use Rattle.association_worlds.proofs.Kept.{fronts-append, stands}

@@ -1,6 +1,6 @@
 -- In direct mode no end is dead, and nothing is transferred.
-use Rattle.std.proofs.Common.{◌≡◌, refl, true, false, ◌∙◌, sym, ap, subst, List, [], ◌∷◌, ◌++◌, map, inl, inr, ◌⊎◌, Ok}
-use Rattle.std.specs.Prelude.{Bool, if◌then◌else◌}
+use Rattle.std.proofs.Common.{◌≡◌, refl, true, false, ◌∙◌, sym, ap, subst, List, [], ◌∷◌, ◌++◌, map, inl, inr, ◌⊎◌, None, Ok, Err}
+use Rattle.std.specs.Prelude.{Bool, Some, if◌then◌else◌}
 use Rattle.osi_base.specs.declared.words.Side.{Side}
 use Rattle.osi_base.specs.declared.words.Side.TheVariants.{A, B}
 use Rattle.stub_tables.specs.declared.tables.Tables.{Tables}
@@ -16,30 +16,34 @@ use Rattle.end_rules.specs.State.{Body, Stage}
 use Rattle.end_rules.specs.Calling.{is_dead}
 use Rattle.end_rules.specs.Requesting.{due_of}
 use Rattle.end_rules.specs.ByItself.{OwnAct, SendsNow, EncodesOn}
-use Rattle.end_rules.specs.History.{Step, called, sent, took, answered, step_of}
+use Rattle.end_rules.specs.History.{Step, called, sent, fed, took, answered, passed, feed_end, gave, broke, step_of}
 use Rattle.end_rules.specs.World as sides
 use Rattle.end_rules.specs.World.{World, Ends, is_side}
+use Rattle.agreement.specs.Sets.{Role}
 use Rattle.agreement.specs.Sets.Role.{Initiator, Responder}
 use Rattle.end_model.specs.Seen.{Free}
 use Rattle.end_model.specs.Acting.{ReadsBack}
-use Rattle.end_model.specs.Pairs.{Common, base_at, WritesAll}
+use Rattle.end_model.specs.Pairs.{Common, base_at, Two, body_at, WritesAll}
 use Rattle.end_model.specs.DirectPairs.{direct_pair, ProposesRightly}
 use Rattle.end_model.specs.Sharing.{side_of}
 use Rattle.end_model.proofs.DirectOpening.{At}
 use Rattle.end_model.proofs.DirectWords.{Stands, IsOver}
 use Rattle.end_model.proofs.DirectMachine as machine
 use Rattle.end_model.proofs.DirectMachine.{Fresh, Calling, Confirming, Connecting, Accepting, Refusing, Deaf, Gone, Standing}
+use Rattle.reliable_model.specs.Goes.{Ledger}
+use Rattle.outcome_laws.specs.Deals.{Dealings}
 use Rattle.said_words.specs.Words.{IsMessage}
 use Rattle.said_words.specs.Laws.{ProposesContexts}
 use Rattle.said_words.proofs.Sharing.{kept-in}
 use Rattle.association_worlds.specs.Laws.{IsMeant}
-use Rattle.run_laws.specs.Transfers.{arrived_in, arrivals, AreWhole, ArriveWhole, AreFalling, OneTransfer, started, encodings}
+use Rattle.run_laws.specs.Transfers.{Arrival, arrived_in, arrivals, AreWhole, ArriveWhole, AreFalling, OneTransfer, started, encodings}
 use Rattle.run_laws.specs.Laws.{NobodyIsDead}
 use Rattle.association_runs.specs.Worlds.{stepping, Runs}
 use Rattle.association_runs.specs.Laws.{AreEvents}
 use Rattle.association_runs.specs.Sides.{ends_for}
 use Rattle.association_runs.proofs.Histories.{end_for, body-for}
 use Rattle.association_runs.proofs.Keeps.{IsQuiet, Keeps}
+use Rattle.association_runs.proofs.Joint.{Joint}
 use Rattle.association_runs.proofs.Joined.{Joined}
 use Rattle.association_runs.proofs.Carried.{from-start}
 use Rattle.direct_runs.proofs.Sent.{first-said}

@@ -1,11 +1,12 @@
 -- What an end of direct mode and the shared set keep of association control while the association stands; and what the messages are
 -- that are sent meanwhile.
-use Rattle.std.proofs.Common.{◌≡◌, refl, true, false, ◌∙◌, sym, ap, subst, arith, ℕ, ◌≤◌, List, [], ◌∷◌, ◌++◌, inl, inr}
+use Rattle.std.proofs.Common.{◌≡◌, refl, true, false, ◌∙◌, sym, ap, subst, arith, ℕ, ◌≤◌, List, [], ◌∷◌, ◌++◌, ◌⊎◌, inl, inr}
 use Rattle.std.specs.Prelude.{ℤ, Bool, not, ◌&&◌, ◌||◌, Option, Some, None, Ok, is_some, nat_eq, nat_lt, if◌then◌else◌}
 use Rattle.std.proofs.lemmas.Bool.Decides.{nat_tests}
 use Rattle.osi_base.specs.declared.words.Side.{Side}
 use Rattle.osi_base.specs.declared.words.SetItem.{SetItem}
 use Rattle.osi_base.specs.declared.presentation_word.PresentationAccept.{PresentationAccept}
+use Rattle.osi_base.specs.declared.words.Proposal.{Proposal}
 use Rattle.osi_base.specs.declared.words.Answers.{Answers}
 use Rattle.asn1_types.specs.declared.value.Val.{Val}
 use Rattle.stub_tables.specs.declared.tables.Tables.{Tables}
@@ -18,42 +19,40 @@ use Rattle.dialogue.specs.declared.config.Phase.{Phase}
 use Rattle.dialogue.specs.declared.config.Phase.TheVariants as phases
 use Rattle.dialogue.specs.declared.call.Call.{Call}
 use Rattle.dialogue.specs.declared.call.Call.TheVariants as the_calls
-use Rattle.end_rules.specs.Base.{Base, Spellings, Item}
+use Rattle.end_rules.specs.Base.{Base, Spellings, Fault, Item}
 use Rattle.end_rules.specs.Sets.{Alteration, Saved, is_among, named_ids, proposed_ids, pair_of, is_fixed, altered, listed, below, newest, next_number}
 use Rattle.end_rules.specs.Policy.{policy, is_faulty_proposal}
 use Rattle.end_rules.specs.Messages.{Message, Transport, Session, TransportUnit, ConnectionRequest, ConnectionConfirm, DisconnectRequest, TransportError, Value, Accepting}
-use Rattle.end_rules.specs.Messages.{Word, OfAssociation, OfData, OfMarks, OfActivities, Connect, Accept, Refuse, Finish, Disconnect, Abort, AbortAccept, Values, AlterContext, AlterContextAck, Mark, MarkAck, Restart, RestartAck, Give, Please, GiveConfirm, GiveAck, unit_of}
-use Rattle.end_rules.specs.State.{Body, Sets, OpenCall, opened_with, is_up, is_carrying, is_joined}
+use Rattle.end_rules.specs.Messages.{Word, OfAssociation, OfData, OfMarks, OfActivities, AssociationWord, Connect, Accept, Refuse, Finish, Disconnect, Abort, AbortAccept, Values, AlterContext, AlterContextAck, Mark, MarkAck, Restart, RestartAck, Give, Please, GiveConfirm, GiveAck, unit_of}
+use Rattle.end_rules.specs.State.{Body, Sets, Calls, OpenCall, opened_with, is_up, is_carrying, is_joined}
 use Rattle.end_rules.specs.Writing.{acse_pair, session_connect, presentation_connect, connect_values, user_abort, disconnect_message, proposals}
 use Rattle.end_rules.specs.Hearing.{Rejecting, Heard, with_reject, sent_on, hear, head_of_apdu}
 use Rattle.end_rules.specs.Invoking.{carrier_in}
-use Rattle.end_rules.specs.Faults.{fault_if, over, unexpected_ppdu, invalid_ppdu}
+use Rattle.end_rules.specs.Faults.{fault_if, or_fault, over, unexpected_ppdu, invalid_ppdu}
 use Rattle.end_rules.specs.Units.{has_typed_data, has_version_two, has_units, needed_units, selected_with}
 use Rattle.end_rules.specs.Connecting.{refused_connect, accepted_connect, refusal_message, acceptance_message, after_accept}
 use Rattle.end_rules.specs.Calling.{can_call}
 use Rattle.end_rules.specs.Requesting.{due_of, due_invoke, due_outcome, after_invoke, after_outcome, answering, sent_at_once, result_in, error_for}
-use Rattle.end_rules.specs.TakesTransport.{after_transport, answers_to_transport, phase_asked}
+use Rattle.end_rules.specs.TakesTransport.{after_transport, answers_to_transport, phase_asked, is_size, answer_to_request}
 use Rattle.end_rules.specs.TakesData.{alteration, settled}
 use Rattle.end_rules.specs.TakesMarks.{restored_set}
 use Rattle.end_rules.specs.InPlace.{is_in_place, is_opening}
 use Rattle.end_rules.specs.Reacting.{fault_above, after_word, answers_to_word}
 use Rattle.end_rules.specs.History.{after_broke, broken_phase}
-use Rattle.end_rules.specs.World.{Shared}
+use Rattle.end_rules.specs.World.{Shared, shared_sent}
 use Rattle.agreement.specs.Sets.{Role, is_initiator}
 use Rattle.agreement.specs.Sets.Role.{Initiator, Responder}
 use Rattle.end_model.specs.Rows.{at}
 use Rattle.end_model.specs.Requests.{sent_all, after_called}
 use Rattle.end_model.specs.Pairs.{Common, base_at}
 use Rattle.end_model.specs.DirectPairs.{direct_pair, ProposesRightly}
-use Rattle.end_model.specs.Sharing.{shared_all_sent, shared_all_answered}
+use Rattle.end_model.specs.Sharing.{side_of, shared_all_sent, shared_all_answered, before}
 use Rattle.end_model.proofs.Ladder.{called}
 use Rattle.reliable_model.proofs.Fixed.{AreIdentifiers, others-altered, unnamed-unharmed, fixed-unharmed, unproposed, among-first, among-second}
 use Rattle.reliable_model.proofs.Firm.{Keeps}
 use Rattle.said_words.specs.Words.{value_of_item, the_connect, the_acceptance, IsWord, IsUnit}
 use Rattle.said_words.proofs.First.{first_of, first-pair, none-refused}
 use Rattle.said_takings.proofs.Loose.{spared}
-use Rattle.run_lemmas.proofs.Tests.{clash, and-left, and-right, no-fault, none-second}
-use Rattle.run_lemmas.proofs.Openings.{IsAcceptance, HasAcceptance, none-one, Few, nobody, one}
 
 -- ---- association control has its pair, and so in all that marks saved, the oldest of them under number 0
 
@@ -168,7 +167,36 @@ broken-falls phases.Releasing = refl
 broken-falls phases.Broken = refl
 broken-falls phases.Recovering = refl
 
+clash : (x : Bool) → x ≡ true → x ≡ false → ⊥
+clash x h i = cc
+
+and-left : (a b : Bool) → (a && b) ≡ true → a ≡ true
+and-left true b h = refl
+and-left false b h = cc
+
+and-right : (a b : Bool) → (a && b) ≡ true → b ≡ true
+and-right true b h = h
+and-right false b h = cc
+
 -- ---- messages
+
+-- acceptances
+abbrev pub IsAcceptance : Message → Type 0
+IsAcceptance (Session (OfAssociation (Accept session presentation values))) = Unit {0}
+IsAcceptance message = ⊥
+
+abbrev pub HasAcceptance : List Message → Type 0
+HasAcceptance [] = ⊥
+HasAcceptance (m ∷ ms) = IsAcceptance m ⊎ HasAcceptance ms
+
+pub acceptance-in : (xs ys : List Message) → HasAcceptance (xs ++ ys) → HasAcceptance xs ⊎ HasAcceptance ys
+acceptance-in [] ys h = inr h
+acceptance-in (x ∷ xs) ys (inl h) = inl (inl h)
+acceptance-in (x ∷ xs) ys (inr h) = go (acceptance-in xs ys h)
+  where
+    go : HasAcceptance xs ⊎ HasAcceptance ys → HasAcceptance (x ∷ xs) ⊎ HasAcceptance ys
+    go (inl k) = inl (inr k)
+    go (inr k) = inr k
 
 -- releases and their answers, whose values go on association control
 abbrev pub OnRelease : Message → Type 0 → Type 0
@@ -179,6 +207,11 @@ OnRelease message P = Unit {0}
 abbrev pub AllReleased : Type 0 → List Message → Type 0
 AllReleased P [] = Unit {0}
 AllReleased P (m ∷ ms) = OnRelease m P × AllReleased P ms
+
+-- one at most
+pub data Few : List Message → Type 0 where
+  nobody : Few []
+  one : (m : Message) → Few (m ∷ [])
 
 -- ---- what stands
 
@@ -221,6 +254,10 @@ module _ (base : Base) (side : Side) (body : Body) (shared : Shared) where
         released = λ h. released;
         few = few;
       }
+
+  none-one : (m : Message) → (IsAcceptance m → ⊥) → HasAcceptance (m ∷ []) → ⊥
+  none-one m f (inl h) = f h
+  none-one m f (inr h) = h
 
   still-one : (later : Body) (m : Message) → is_standing body.link.phase ≡ true → later.sets ≡ body.sets → later.saved ≡ body.saved → (IsAcceptance m → ⊥) → (HasAcse shared.set → OnRelease m (HasAcse shared.set)) → Does body later (m ∷ []) shared shared
   still-one later m up s k none released = still later (m ∷ []) up s k (none-one m none) (λ h. (released h, tt)) (one m)
@@ -393,6 +430,14 @@ module _ (tables : Tables) (spellings : Spellings) (a b : Config) where
     settled-does [] answers e = stays body refl refl refl
     settled-does (x ∷ own) answers e =
         silent _ (λ h up. let f = (h up).0 in let o : Spares (x ∷ own) = subst Spares e f.own in (record { held = settled-has x own answers body.sets.held o f.held; own = o.1; saved = f.saved }, (h up).1))
+
+    no-fault : (x : Bool) (fault : Fault) → fault_if x fault ≡ None → x ≡ false
+    no-fault true fault h = cc
+    no-fault false fault h = refl
+
+    none-second : (x y : Option Fault) → or_fault x y ≡ None → y ≡ None
+    none-second None y h = h
+    none-second (Some fault) y h = cc
 
     pub word-does : (role : Role) (word : Word) → IsWord (base Initiator) (base Responder) word → is_in_place (base role) body (unit_of word) ≡ true → fault_above (base role) body word ≡ None → (IsAcceptance (Session word) → IsFirm shared) → WordDoes role body shared word
     word-does role (OfAssociation (Connect session presentation values)) i in_place above f = subst (λ w. WordDoes role body shared (OfAssociation w)) (sym i.1) (connects role in_place)

@@ -1,42 +1,51 @@
 -- What an end of direct mode sends are invocations and outcomes that it handed in, and rejects; the numbers of its invocations; and what
 -- it does before its association stands.
-use Rattle.std.proofs.Common.{◌≡◌, refl, true, false, ◌∙◌, sym, ap, subst, ℕ, suc, List, [], ◌∷◌, ◌++◌, inl}
-use Rattle.std.specs.Prelude.{ℤ, pos, Bool, not, ◌&&◌, ◌||◌, Option, Some, None, Ok, is_some, if◌then◌else◌}
+use Rattle.std.proofs.Common.{◌≡◌, refl, true, false, ◌∙◌, sym, ap, subst, ℕ, suc, List, [], ◌∷◌, ◌++◌, arith, inl, inr, ◌⊎◌}
+use Rattle.std.specs.Prelude.{ℤ, pos, negsuc, Bool, not, ◌&&◌, ◌||◌, Option, Some, None, Ok, is_some, nat_le, if◌then◌else◌}
+use Rattle.std.proofs.lemmas.Bool.Decides.{nat_tests}
 use Rattle.std.proofs.lemmas.List.{append-nil, append_assoc}
 use Rattle.asn1_types.specs.declared.value.Val.{Val}
 use Rattle.osi_base.specs.declared.words.Answers.{Answers}
+use Rattle.osi_base.specs.declared.words.Problem.{Problem}
 use Rattle.osi_base.specs.declared.session_word.SessionConnect.{SessionConnect}
 use Rattle.osi_base.specs.declared.presentation_word.PresentationConnect.{PresentationConnect}
 use Rattle.stub_tables.specs.declared.tables.Tables.{Tables}
+use Rattle.stub_tables.specs.declared.operation.Code.{Code}
 use Rattle.stub_tables.specs.declared.operation.Operation.{Operation}
+use Rattle.stub_tables.specs.declared.operation.ErrorRow.{ErrorRow}
 use Rattle.stub_tables.specs.declared.apdu.Apdu.{Apdu}
 use Rattle.stub_tables.specs.declared.apdu.Apdu.TheVariants as apdus
-use Rattle.stub_tables.specs.Lookup.{operation_at, error_at}
+use Rattle.stub_tables.specs.declared.apdu.Returned.{Returned}
+use Rattle.stub_tables.specs.Lookup.{operation_at, error_at, operation_with, error_with}
 use Rattle.stub_tables.proofs.OwnCodes.{own_codes}
 use Rattle.dialogue.specs.declared.config.Config.{Config}
 use Rattle.dialogue.specs.declared.config.Mode.TheVariants.{Direct}
+use Rattle.dialogue.specs.declared.config.Phase.{Phase}
+use Rattle.dialogue.specs.declared.config.Phase.TheVariants as phases
 use Rattle.dialogue.specs.declared.call.Call.{Call}
 use Rattle.dialogue.specs.declared.call.Call.TheVariants as the_calls
 use Rattle.dialogue.specs.declared.call.CallRefusal.TheVariants as refusals
 use Rattle.dialogue.specs.declared.indication.Indication.{Indication}
-use Rattle.end_rules.specs.Base.{Base, Spellings, Item}
+use Rattle.dialogue.specs.declared.indication.Indication.TheVariants as indications
+use Rattle.end_rules.specs.Base.{Base, Spellings, Fault, Head, General, BadReject, InvokeHead, ResultHead, ErrorHead, RejectHead, Carried, Item}
 use Rattle.end_rules.specs.Sets.{Alteration}
 use Rattle.end_rules.specs.Messages.{Content, Remote, Value, Message, Transport, Session, Word, OfAssociation, OfData, OfMarks, OfActivities, TransportUnit, ConnectionRequest, ConnectionConfirm, DisconnectRequest, TransportError, unit_of}
-use Rattle.end_rules.specs.Messages.{Connect, Accept, Refuse, Finish, Disconnect, Abort, AbortAccept, Values, AlterContext, AlterContextAck, Mark, MarkAck, Restart, RestartAck, Give, Please, GiveConfirm, GiveAck}
-use Rattle.end_rules.specs.State.{Body, OpenCall, is_up, is_unused, is_broken, is_carrying, opened_with}
+use Rattle.end_rules.specs.Messages.{AssociationWord, Connect, Accept, Refuse, Finish, Disconnect, Abort, AbortAccept, Values, AlterContext, AlterContextAck, Mark, MarkAck, Restart, RestartAck, Give, Please, GiveConfirm, GiveAck}
+use Rattle.end_rules.specs.State.{Body, OpenCall, Calls, is_up, is_unused, is_broken, is_carrying, opened_with, close}
 use Rattle.end_rules.specs.Writing.{provider_refusal, refuse_message, user_abort}
-use Rattle.end_rules.specs.Faults.{transport_fault, over}
+use Rattle.end_rules.specs.Faults.{transport_fault, fault_if, over}
 use Rattle.end_rules.specs.Connecting.{is_refused, refusal_message, acceptance_message, has_acse, set_for, results_for, context_named, the_one, lacks_request, rejecting_information, transfer_rejection, refused_connect, accepted_connect}
-use Rattle.end_rules.specs.Invoking.{carrier_in, invoke_apdu, is_stopped, can_invoke_operation, next_id}
-use Rattle.end_rules.specs.Hearing.{Rejecting, Heard, hear, head_of_apdu, sent_on, with_reject}
-use Rattle.end_rules.specs.Calling.{can_call}
-use Rattle.end_rules.specs.Requesting.{due_of, due_invoke, due_outcome, after_invoke, after_outcome, answering, sent_at_once, result_in, error_for, operation_opened}
-use Rattle.end_rules.specs.TakesTransport.{after_transport, answers_to_transport, transport_unit_fault, may_request, is_waiting, shown_of_transport}
+use Rattle.end_rules.specs.Invoking.{Reply, carrier_in, invoke_apdu, result_apdu, error_apdu, returned_with, is_stopped, can_invoke_operation, next_id}
+use Rattle.end_rules.specs.Hearing.{Rejecting, Heard, rejected, told, unless_problem, invoke_problem, invoked, opening, is_silent_at, result_problem, hear_result_of, error_problem, error_told, hear_error_of, is_of_invocation, hear_reject, hear, head_of_apdu, carried_in, code_returned, value_returned, sent_on, with_reject}
+use Rattle.end_rules.specs.Calling.{can_call, is_idle}
+use Rattle.end_rules.specs.Requesting.{due_of, due_invoke, due_outcome, after_invoke, after_outcome, answering, sent_at_once, result_in, result_for, error_for, operation_opened}
+use Rattle.end_rules.specs.TakesTransport.{after_transport, answers_to_transport, transport_unit_fault, may_request, is_waiting, phase_asked, is_size, answer_to_request, shown_of_transport}
 use Rattle.end_rules.specs.TakesAssociation.{shown_of_association}
 use Rattle.end_rules.specs.TakesData.{settled, shown_settled}
 use Rattle.end_rules.specs.InPlace.{is_in_place}
+use Rattle.end_rules.specs.Units.{has_typed_data}
 use Rattle.end_rules.specs.Reacting.{after_word, answers_to_word, shown_of_word}
-use Rattle.end_rules.specs.History.{after_broke}
+use Rattle.end_rules.specs.History.{after_broke, broken_phase}
 use Rattle.agreement.specs.Sets.{Role, is_initiator}
 use Rattle.agreement.specs.Sets.Role.{Initiator, Responder}
 use Rattle.end_model.specs.Rows.{at}
@@ -47,17 +56,13 @@ use Rattle.end_model.proofs.Ladder.{called, passed}
 use Rattle.end_model.proofs.InvokeRungs.{invokable}
 use Rattle.end_model.proofs.HandingRows.{next-is}
 use Rattle.outcome_laws.specs.Deals.{Asked, asked_by}
+use Rattle.outcome_laws.specs.Outcomes.{value_of}
+use Rattle.outcome_laws.proofs.Open.{is_made}
+use Rattle.outcome_laws.proofs.Transferred.{shown_of}
 use Rattle.said_words.specs.Words.{value_of_item, IsWord, IsUnit}
-use Rattle.said_words.proofs.TransferEnds.{is_early}
-use Rattle.run_laws.specs.Outcomes.{Invocation, Outcome, returned, failed, invoked_by, answered_by}
-use Rattle.association_runs.proofs.Telling.{invoked_ids, ids-append, plain-ids}
-use Rattle.run_lemmas.proofs.Numbers.{apdu_invokes, IsGood, good-next, good-none}
-use Rattle.run_lemmas.proofs.Handing.{result-kind, result-ours, error-kind, error-ours, opened-made, hear-made, IsOneOf, hear-ids}
-use Rattle.association_runs.proofs.Noted.{in-behind, IsOurs, HoldsOurs, HoldOurs, hold-on, AreMade, made-on, ArePlain, association-plain, marks-plain, reject-plain}
-use Rattle.run_lemmas.proofs.Tests.{clash, and-left, and-right, no-fault-so}
-use Rattle.run_lemmas.proofs.Phases.{up-late, idle-early, refused-late, was-early, broken-early}
-use Rattle.run_lemmas.proofs.Openings.{IsConnect}
-use Rattle.run_lemmas.proofs.Calling.{asks-none}
+use Rattle.run_laws.specs.Outcomes.{Invocation, Outcome, returned, failed, invoked_by, answered_by, IsIn}
+use Rattle.association_runs.proofs.Telling.{invoked_ids, ids-append, plain-ids, IsFresh, AreFresh}
+use Rattle.association_runs.proofs.Noted.{in-behind, IsOurs, HoldsOurs, HoldOurs, hold-on, AreMade, made-on, IsPlain, ArePlain, association-plain, marks-plain, reject-plain}
 
 -- ---- messages whose values the end handed in
 
@@ -107,6 +112,10 @@ AllRejects [] = Unit {0}
 AllRejects (m ∷ ms) = Rejects m × AllRejects ms
 
 -- ---- numbers of invocations
+
+abbrev apdu_invokes : Apdu → List ℤ
+apdu_invokes (apdus.Invoke id linked code argument) = id ∷ []
+apdu_invokes apdu = []
 
 abbrev content_invokes : Content → List ℤ
 content_invokes (Remote apdu) = apdu_invokes apdu
@@ -170,7 +179,123 @@ pub all-rejects_hold : (tables : Tables) (made : List Invocation) (given : List 
 all-rejects_hold tables made given [] h = tt
 all-rejects_hold tables made given (m ∷ ms) h = (reject-holds tables made given m h.0, all-rejects_hold tables made given ms h.1)
 
+-- ---- numbers that are all different, and were given
+
+abbrev pub AllGiven : ℕ → List ℤ → Type 0
+AllGiven made [] = Unit {0}
+AllGiven made (i ∷ is) = (is_made made i ≡ true) × AllGiven made is
+
+pub record IsGood (made : ℕ) (is : List ℤ) : Type 0 where
+  pub fresh : AreFresh is
+  pub given : AllGiven made is
+
+fresh-append : (i : ℤ) (xs ys : List ℤ) → IsFresh i xs → IsFresh i ys → IsFresh i (xs ++ ys)
+fresh-append i [] ys h k = k
+fresh-append i (x ∷ xs) ys h k = (h.0, fresh-append i xs ys h.1 k)
+
+fresh-front-one : (i : ℤ) (xs ys : List ℤ) → IsFresh i (xs ++ ys) → IsFresh i xs
+fresh-front-one i [] ys h = tt
+fresh-front-one i (x ∷ xs) ys h = (h.0, fresh-front-one i xs ys h.1)
+
+fresh-back : (i : ℤ) (xs ys : List ℤ) → IsFresh i (xs ++ ys) → IsFresh i ys
+fresh-back i [] ys h = h
+fresh-back i (x ∷ xs) ys h = fresh-back i xs ys h.1
+
+given-append : (made : ℕ) (xs ys : List ℤ) → AllGiven made xs → AllGiven made ys → AllGiven made (xs ++ ys)
+given-append made [] ys h k = k
+given-append made (x ∷ xs) ys h k = (h.0, given-append made xs ys h.1 k)
+
+given-front : (made : ℕ) (xs ys : List ℤ) → AllGiven made (xs ++ ys) → AllGiven made xs
+given-front made [] ys h = tt
+given-front made (x ∷ xs) ys h = (h.0, given-front made xs ys h.1)
+
+given-back : (made : ℕ) (xs ys : List ℤ) → AllGiven made (xs ++ ys) → AllGiven made ys
+given-back made [] ys h = h
+given-back made (x ∷ xs) ys h = given-back made xs ys h.1
+
+-- without those in the middle
+fresh-skip : (xs ys zs : List ℤ) → AreFresh (xs ++ (ys ++ zs)) → AreFresh (xs ++ zs)
+fresh-skip [] [] zs h = h
+fresh-skip [] (y ∷ ys) zs h = fresh-skip [] ys zs h.1
+fresh-skip (x ∷ xs) ys zs h = (fresh-append x xs zs (fresh-front-one x xs (ys ++ zs) h.0) (fresh-back x ys zs (fresh-back x xs (ys ++ zs) h.0)), fresh-skip xs ys zs h.1)
+
+pub fresh-front : (xs ys : List ℤ) → AreFresh (xs ++ ys) → AreFresh xs
+fresh-front [] ys h = tt
+fresh-front (x ∷ xs) ys h = (fresh-front-one x xs ys h.0, fresh-front xs ys h.1)
+
+pub good-skip : (made : ℕ) (xs ys zs : List ℤ) → IsGood made (xs ++ (ys ++ zs)) → IsGood made (xs ++ zs)
+good-skip made xs ys zs h =
+    record { fresh = fresh-skip xs ys zs h.fresh; given = given-append made xs zs (given-front made xs (ys ++ zs) h.given) (given-back made ys zs (given-back made xs (ys ++ zs) h.given)) }
+
+-- it is none of these
+abbrev IsOther : ℤ → List ℤ → Type 0
+IsOther i [] = Unit {0}
+IsOther i (x ∷ xs) = (i ≡ x → ⊥) × IsOther i xs
+
+fresh-snoc : (xs : List ℤ) (i : ℤ) → AreFresh xs → IsOther i xs → AreFresh (xs ++ i ∷ [])
+fresh-snoc [] i h n = (tt, tt)
+fresh-snoc (x ∷ xs) i h n = (fresh-append x xs (i ∷ []) h.0 (n.0, tt), fresh-snoc xs i h.1 n.1)
+
+not-next : (made : ℕ) (i : ℤ) → is_made made i ≡ true → pos (suc made) ≡ i → ⊥
+not-next made (pos n) h e = let same : suc made ≡ n = cc in clash made n h same
+  where
+    clash : (made n : ℕ) → nat_le n made ≡ true → suc made ≡ n → ⊥
+    clash made n h e = grind (arith, nat_tests)
+not-next made (negsuc n) h e = cc
+
+next-other : (made : ℕ) (xs : List ℤ) → AllGiven made xs → IsOther (pos (suc made)) xs
+next-other made [] h = tt
+next-other made (x ∷ xs) h = (not-next made x h.0, next-other made xs h.1)
+
+more-made : (made : ℕ) (i : ℤ) → is_made made i ≡ true → is_made (suc made) i ≡ true
+more-made made (pos n) h = grind (arith, nat_tests, h)
+more-made made (negsuc n) h = cc
+
+is-next : (made : ℕ) → is_made (suc made) (pos (suc made)) ≡ true
+is-next made = grind (arith, nat_tests)
+
+given-more : (made : ℕ) (xs : List ℤ) → AllGiven made xs → AllGiven (suc made) xs
+given-more made [] h = tt
+given-more made (x ∷ xs) h = (more-made made x h.0, given-more made xs h.1)
+
+good-next : (made : ℕ) (xs : List ℤ) → IsGood made xs → IsGood (suc made) (xs ++ pos (suc made) ∷ [])
+good-next made xs h =
+    record { fresh = fresh-snoc xs (pos (suc made)) h.fresh (next-other made xs h.given); given = given-append (suc made) xs (pos (suc made) ∷ []) (given-more made xs h.given) (is-next made, tt) }
+
+good-none : (made : ℕ) (xs : List ℤ) → IsGood made xs → IsGood made (xs ++ [])
+good-none made xs h = subst (IsGood made) (sym (append-nil xs)) h
+
+-- ---- phases before an association
+
+abbrev pub is_early : Phase → Bool
+is_early phases.Idle = true
+is_early phases.Opening = true
+is_early phase = false
+
+up-late : (phase : Phase) → is_up phase ≡ true → is_early phase ≡ false
+up-late phases.Up h = refl
+up-late phase h = cc
+
+idle-early : (phase : Phase) → is_idle phase ≡ true → is_early phase ≡ true
+idle-early phases.Idle h = refl
+idle-early phase h = cc
+
+clash : (x : Bool) → x ≡ true → x ≡ false → ⊥
+clash x h i = cc
+
+and-left : (a b : Bool) → (a && b) ≡ true → a ≡ true
+and-left true b h = refl
+and-left false b h = cc
+
+and-right : (a b : Bool) → (a && b) ≡ true → b ≡ true
+and-right true b h = h
+and-right false b h = cc
+
 -- ---- calls
+
+returned-is : (code : Code) (value : Option Val) → value_of (returned_with code value) ≡ value
+returned-is code None = refl
+returned-is code (Some v) = refl
 
 -- what a call hands in, which numbers it gives, and where it leads
 pub record CallHands (base : Base) (body : Body) (call : Call) (answer : Option ℤ) : Type 0 where
@@ -180,6 +305,9 @@ pub record CallHands (base : Base) (body : Body) (call : Call) (answer : Option 
   pub asks : (made : List Invocation) (asked : List Asked) → AreMade base.tables made asked → AreMade base.tables (made ++ invoked_by call (Ok answer)) (asked_by call answer ++ asked)
 
 module _ (base : Base) (body : Body) where
+  asks-none : (call : Call) (answer : Option ℤ) → asked_by call answer ≡ [] → (made : List Invocation) (asked : List Asked) → AreMade base.tables made asked → AreMade base.tables (made ++ invoked_by call (Ok answer)) (asked_by call answer ++ asked)
+  asks-none call answer e made asked x = subst (λ (l : List Asked). AreMade base.tables (made ++ invoked_by call (Ok answer)) (l ++ asked)) (sym e) (made-on base.tables made (invoked_by call (Ok answer)) asked x)
+
   -- one that hands nothing in
   hands-none : (call : Call) (answer : Option ℤ) → ((made : List Invocation) (given : List Outcome) → AllHold base.tables made given (due_of (at Direct base) body call (Ok answer))) → asked_by call answer ≡ [] → all_invokes (due_of (at Direct base) body call (Ok answer)) ≡ [] →
       (after_called Direct base body call answer).calls.made ≡ body.calls.made → (is_early (after_called Direct base body call answer).link.phase ≡ true → is_early body.link.phase ≡ true) → CallHands base body call answer
@@ -187,7 +315,7 @@ module _ (base : Base) (body : Body) where
     holds = λ made given. holds (made ++ invoked_by call (Ok answer)) (given ++ answered_by call (Ok answer));
     numbers = λ xs g. subst (λ (l : List ℤ). IsGood (after_called Direct base body call answer).calls.made (xs ++ l)) (sym n) (subst (λ (k : ℕ). IsGood k (xs ++ [])) (sym m) (good-none body.calls.made xs g));
     early = λ h. (early h, m);
-    asks = λ made asked x. asks-none base.tables call answer e made asked x;
+    asks = λ made asked x. asks-none call answer e made asked x;
   }
 
   late : (call : Call) (answer : Option ℤ) → is_up body.link.phase ≡ true → is_early body.link.phase ≡ true → is_early body.link.phase ≡ true
@@ -204,8 +332,15 @@ module _ (base : Base) (body : Body) where
       IsGood (sent_all Direct (after_invoke (at Direct base) body context place id linked o argument) (due_invoke (at Direct base) body context id linked o argument)).calls.made (xs ++ all_invokes (due_invoke (at Direct base) body context id linked o argument))
   invoke-numbers context place id linked None argument row e n xs g = absurd cc
   invoke-numbers context place id linked (Some op) argument row e n xs g =
-      subst (λ (k : ℕ). IsGood k (xs ++ id ∷ [])) (sym (opened-made (at Direct base) (record { own = true; id = id; operation = place; context = context; parent = linked }) (record body.calls { made = suc body.calls.made })))
+      subst (λ (k : ℕ). IsGood k (xs ++ id ∷ [])) (sym (opened-made (record { own = true; id = id; operation = place; context = context; parent = linked })))
       (subst (λ (i : ℤ). IsGood (suc body.calls.made) (xs ++ i ∷ [])) (sym n) (good-next body.calls.made xs g))
+    where
+      opened-made : (o : OpenCall) → (opening (at Direct base) o (record body.calls { made = suc body.calls.made })).made ≡ suc body.calls.made
+      opened-made o = go (is_silent_at (at Direct base) (Some o.operation))
+        where
+          go : (b : Bool) → (if b then record body.calls { made = suc body.calls.made } else record { opens = body.calls.opens ++ o ∷ []; made = suc body.calls.made }).made ≡ suc body.calls.made
+          go true = refl
+          go false = refl
 
   invoke-phase : (context place : ℕ) (id : ℤ) (linked : Option ℤ) (o : Option Operation) (argument : Option Val) → (sent_all Direct (after_invoke (at Direct base) body context place id linked o argument) (due_invoke (at Direct base) body context id linked o argument)).link.phase ≡ body.link.phase
   invoke-phase context place id linked None argument = refl
@@ -251,6 +386,28 @@ module _ (base : Base) (body : Body) where
       go None = refl
       go (Some k) = refl
 
+  result-kind : (id : ℤ) (value : Option Val) (p : Option Operation) (apdu : Apdu) → result_for id value p ≡ Some apdu → apdu_invokes apdu ≡ []
+  result-kind id value None apdu e = cc
+  result-kind id value (Some row) apdu e = let same : result_apdu row id value ≡ apdu = cc in subst (λ (x : Apdu). apdu_invokes x ≡ []) same refl
+
+  result-ours : (id : ℤ) (value : Option Val) (p : Option Operation) (made : List Invocation) (given : List Outcome) (apdu : Apdu) → result_for id value p ≡ Some apdu → IsOurs base.tables made (given ++ returned id value ∷ []) apdu
+  result-ours id value None made given apdu e = absurd cc
+  result-ours id value (Some row) made given apdu e =
+      let same : result_apdu row id value ≡ apdu = cc in
+      subst (IsOurs base.tables made (given ++ returned id value ∷ [])) same
+      (subst (λ (v : Option Val). IsIn (returned id v) (given ++ returned id value ∷ [])) (sym (returned-is row.code value)) (in-behind given (returned id value ∷ []) (returned id value) (inl refl)))
+
+  error-kind : (id : ℤ) (parameter : Option Val) (r : Option ErrorRow) (apdu : Apdu) → error_for id parameter r ≡ Some apdu → apdu_invokes apdu ≡ []
+  error-kind id parameter None apdu e = cc
+  error-kind id parameter (Some error) apdu e = let same : error_apdu error id parameter ≡ apdu = cc in subst (λ (x : Apdu). apdu_invokes x ≡ []) same refl
+
+  error-ours : (id : ℤ) (place : ℕ) (parameter : Option Val) (r : Option ErrorRow) (made : List Invocation) (given : List Outcome) (apdu : Apdu) → error_at base.tables place ≡ r → error_for id parameter r ≡ Some apdu → IsOurs base.tables made (given ++ failed id place parameter ∷ []) apdu
+  error-ours id place parameter None made given apdu f e = absurd cc
+  error-ours id place parameter (Some error) made given apdu f e =
+      let same : error_apdu error id parameter ≡ apdu = cc in
+      subst (IsOurs base.tables made (given ++ failed id place parameter ∷ [])) same
+      (record { place = place; is_its = (own_codes base.tables).errors place error f; is_given = in-behind given (failed id place parameter ∷ []) (failed id place parameter) (inl refl) })
+
   abort-none : (c : Bool) → ((made : List Invocation) (given : List Outcome) → AllHold base.tables made given (if c then user_abort body.link.accepted 0 [] ∷ [] else [])) × (all_invokes (if c then user_abort body.link.accepted 0 [] ∷ [] else []) ≡ []) × ((sent_all Direct (over body) (if c then user_abort body.link.accepted 0 [] ∷ [] else [])).calls.made ≡ body.calls.made) × (is_early (sent_all Direct (over body) (if c then user_abort body.link.accepted 0 [] ∷ [] else [])).link.phase ≡ false)
   abort-none true = (λ made given. (tt, tt), refl, refl, refl)
   abort-none false = (λ made given. tt, refl, refl, refl)
@@ -277,7 +434,7 @@ module _ (base : Base) (body : Body) where
       let x = result_in (at Direct base) body id result in
       let up = up-late body.link.phase (called (at Direct base) body (the_calls.Answer id result) answer can).in_phase in
       record {
-        holds = λ made given. outcome-holds (made ++ []) (given ++ returned id result ∷ []) o x (λ apdu e. result-ours base.tables id result (operation_opened (at Direct base) o) (made ++ []) given apdu e);
+        holds = λ made given. outcome-holds (made ++ []) (given ++ returned id result ∷ []) o x (λ apdu e. result-ours id result (operation_opened (at Direct base) o) (made ++ []) given apdu e);
         numbers = λ xs g.
             subst (λ (l : List ℤ). IsGood (after_called Direct base body (the_calls.Answer id result) answer).calls.made (xs ++ l)) (sym (outcome-numbers o x (λ apdu e. result-kind id result (operation_opened (at Direct base) o) apdu e)))
             (subst (λ (k : ℕ). IsGood k (xs ++ [])) (sym (outcome-made id o x)) (good-none body.calls.made xs g));
@@ -289,7 +446,7 @@ module _ (base : Base) (body : Body) where
       let x = error_for id parameter (error_at base.tables error) in
       let up = up-late body.link.phase (called (at Direct base) body (the_calls.Refuse id error parameter) answer can).in_phase in
       record {
-        holds = λ made given. outcome-holds (made ++ []) (given ++ failed id error parameter ∷ []) o x (λ apdu e. error-ours base.tables id error parameter (error_at base.tables error) (made ++ []) given apdu refl e);
+        holds = λ made given. outcome-holds (made ++ []) (given ++ failed id error parameter ∷ []) o x (λ apdu e. error-ours id error parameter (error_at base.tables error) (made ++ []) given apdu refl e);
         numbers = λ xs g.
             subst (λ (l : List ℤ). IsGood (after_called Direct base body (the_calls.Refuse id error parameter) answer).calls.made (xs ++ l)) (sym (outcome-numbers o x (λ apdu e. error-kind id parameter (error_at base.tables error) apdu e)))
             (subst (λ (k : ℕ). IsGood k (xs ++ [])) (sym (outcome-made id o x)) (good-none body.calls.made xs g));
@@ -310,7 +467,92 @@ module _ (base : Base) (body : Body) where
       let n = abort-none (is_carrying body.link.stage) in
       hands-none the_calls.Abort answer n.0 refl n.1 n.2 (λ h. absurd (clash (is_early (sent_all Direct (over body) (if is_carrying body.link.stage then user_abort body.link.accepted 0 [] ∷ [] else [])).link.phase) h n.3))
 
+-- ---- what is heard keeps the count of own invocations, and tells of an invocation that comes
+
+unless-made : (calls : Calls) (p : Option ℕ) (refused : ℕ → Heard) (heard : Heard) → ((n : ℕ) → (refused n).calls.made ≡ calls.made) → heard.calls.made ≡ calls.made → (unless_problem p refused heard).calls.made ≡ calls.made
+unless-made calls None refused heard f h = h
+unless-made calls (Some n) refused heard f h = f n
+
+opening-made : (base : Base) (o : OpenCall) (calls : Calls) → (opening base o calls).made ≡ calls.made
+opening-made base o calls = go (is_silent_at base (Some o.operation))
+  where
+    go : (b : Bool) → (if b then calls else record calls { opens = calls.opens ++ o ∷ [] }).made ≡ calls.made
+    go true = refl
+    go false = refl
+
+invoked-made : (base : Base) (calls : Calls) (context : ℕ) (id : ℤ) (linked : Option ℤ) (place : Option ℕ) (argument : Carried) → (invoked base calls context id linked place argument).calls.made ≡ calls.made
+invoked-made base calls context id linked None argument = refl
+invoked-made base calls context id linked (Some place) argument = opening-made base (record { own = false; id = id; operation = place; context = context; parent = linked }) calls
+
+result-made : (base : Base) (calls : Calls) (id : ℤ) (o : Option OpenCall) (code : Option Code) (value : Carried) → (hear_result_of base calls id o code value).calls.made ≡ calls.made
+result-made base calls id None code value = refl
+result-made base calls id (Some o) code value = unless-made calls (result_problem base o.operation (operation_at base.tables o.operation) code value) _ _ (λ n. refl) refl
+
+told-made : (calls : Calls) (id : ℤ) (place : Option ℕ) (parameter : Carried) → (error_told calls id place parameter).calls.made ≡ calls.made
+told-made calls id None parameter = refl
+told-made calls id (Some place) parameter = refl
+
+error-made : (base : Base) (calls : Calls) (id : ℤ) (o : Option OpenCall) (place : Option ℕ) (parameter : Carried) → (hear_error_of base calls id o place parameter).calls.made ≡ calls.made
+error-made base calls id None place parameter = refl
+error-made base calls id (Some o) place parameter = unless-made calls (error_problem base (operation_at base.tables o.operation) place parameter) _ _ (λ n. refl) (told-made (close true id calls) id place parameter)
+
+reject-made : (calls : Calls) (id : Option ℤ) (problem : Problem) → (hear_reject calls id problem).calls.made ≡ calls.made
+reject-made calls None problem = refl
+reject-made calls (Some id) problem = go (is_of_invocation problem.kind && is_some (opened_with true id calls.opens))
+  where
+    go : (b : Bool) → (if b then told (close true id calls) (indications.Rejected id problem) else told calls (indications.RejectTaken (Some id) problem)).calls.made ≡ calls.made
+    go true = refl
+    go false = refl
+
+hear-made : (base : Base) (calls : Calls) (context : ℕ) (head : Head) → (hear base calls context head).calls.made ≡ calls.made
+hear-made base calls context (General number) = refl
+hear-made base calls context BadReject = refl
+hear-made base calls context (InvokeHead id linked code argument) =
+    unless-made calls (invoke_problem base calls id linked (operation_with base.tables code) argument) _ _ (λ n. refl) (invoked-made base calls context id linked (operation_with base.tables code) argument)
+hear-made base calls context (ResultHead id code value) = result-made base calls id (opened_with true id calls.opens) code value
+hear-made base calls context (ErrorHead id code parameter) = error-made base calls id (opened_with true id calls.opens) (error_with base.tables code) parameter
+hear-made base calls context (RejectHead id problem) = reject-made calls id problem
+
+abbrev IsOneOf : List ℤ → List ℤ → Type 0
+IsOneOf xs ys = (xs ≡ []) ⊎ (xs ≡ ys)
+
+unless-ids : (ys : List ℤ) (p : Option ℕ) (refused : ℕ → Heard) (heard : Heard) → ((n : ℕ) → invoked_ids (refused n).shown ≡ []) → IsOneOf (invoked_ids heard.shown) ys → IsOneOf (invoked_ids (unless_problem p refused heard).shown) ys
+unless-ids ys None refused heard f h = h
+unless-ids ys (Some n) refused heard f h = inl (f n)
+
+hear-ids : (base : Base) (calls : Calls) (context : ℕ) (apdu : Apdu) → IsOneOf (invoked_ids (hear base calls context (head_of_apdu apdu)).shown) (apdu_invokes apdu)
+hear-ids base calls context (apdus.Invoke id linked code argument) =
+    unless-ids (id ∷ []) (invoke_problem base calls id linked (operation_with base.tables code) (carried_in argument)) _ _ (λ n. refl) (go (operation_with base.tables code))
+  where
+    go : (place : Option ℕ) → IsOneOf (invoked_ids (invoked base calls context id linked place (carried_in argument)).shown) (id ∷ [])
+    go None = inl refl
+    go (Some place) = inr refl
+hear-ids base calls context (apdus.Result id value) = go (opened_with true id calls.opens)
+  where
+    go : (o : Option OpenCall) → IsOneOf (invoked_ids (hear_result_of base calls id o (code_returned value) (value_returned value)).shown) []
+    go None = inl refl
+    go (Some o) = unless-ids [] (result_problem base o.operation (operation_at base.tables o.operation) (code_returned value) (value_returned value)) _ _ (λ n. refl) (inl refl)
+hear-ids base calls context (apdus.Error id code parameter) = go (opened_with true id calls.opens)
+  where
+    by-place : (place : Option ℕ) → IsOneOf (invoked_ids (error_told (close true id calls) id place (carried_in parameter)).shown) []
+    by-place None = inl refl
+    by-place (Some place) = inl refl
+
+    go : (o : Option OpenCall) → IsOneOf (invoked_ids (hear_error_of base calls id o (error_with base.tables code) (carried_in parameter)).shown) []
+    go None = inl refl
+    go (Some o) = unless-ids [] (error_problem base (operation_at base.tables o.operation) (error_with base.tables code) (carried_in parameter)) _ _ (λ n. refl) (by-place (error_with base.tables code))
+hear-ids base calls context (apdus.Reject None problem) = inl refl
+hear-ids base calls context (apdus.Reject (Some id) problem) = go (is_of_invocation problem.kind && is_some (opened_with true id calls.opens))
+  where
+    go : (b : Bool) → IsOneOf (invoked_ids (if b then told (close true id calls) (indications.Rejected id problem) else told calls (indications.RejectTaken (Some id) problem)).shown) []
+    go true = inl refl
+    go false = inl refl
+
 -- ---- takings
+
+abbrev pub IsConnect : Message → Type 0
+IsConnect (Session (OfAssociation (Connect session presentation values))) = Unit {0}
+IsConnect message = ⊥
 
 -- what a taking answers and shows, the count of own invocations, and where it leads
 pub record TakeHands (body later : Body) (message : Message) (answers : List Message) (shown : List Indication) : Type 0 where
@@ -321,6 +563,29 @@ pub record TakeHands (body later : Body) (message : Message) (answers : List Mes
 
 quiet : (body later : Body) (message : Message) (answers : List Message) (shown : List Indication) → AllRejects answers → ArePlain shown → later.calls.made ≡ body.calls.made → (is_early later.link.phase ≡ true → is_early body.link.phase ≡ true) → TakeHands body later message answers shown
 quiet body later message answers shown r p m e = record { rejects = r; ids = inl (plain-ids shown p); counted = λ f. m; early = λ h. (e h, p) }
+
+asked-early : (phase : Phase) → is_waiting phase ≡ true → is_early (phase_asked phase true) ≡ true → is_early phase ≡ true
+asked-early phases.Idle w h = refl
+asked-early phases.Broken w h = cc
+asked-early phase w h = cc
+
+broken-early : (phase : Phase) → is_early (broken_phase Direct phase) ≡ true → is_early phase ≡ true
+broken-early phases.Idle h = refl
+broken-early phases.Over h = cc
+broken-early phases.Dead h = cc
+broken-early phases.Opening h = refl
+broken-early phases.Up h = cc
+broken-early phases.Releasing h = cc
+broken-early phases.Broken h = cc
+broken-early phases.Recovering h = cc
+
+refused-late : (b : Bool) → is_early (if b then phases.Broken else phases.Over) ≡ false
+refused-late true = refl
+refused-late false = refl
+
+no-fault : (b : Bool) (fault : Fault) → fault_if (not b) fault ≡ None → b ≡ true
+no-fault true fault h = refl
+no-fault false fault h = cc
 
 module _ (tables : Tables) (spellings : Spellings) (a b : Config) where
   abbrev common : Common
@@ -408,14 +673,14 @@ module _ (tables : Tables) (spellings : Spellings) (a b : Config) where
 
     pub unit-hands : (unit : TransportUnit) → IsUnit (base Initiator) unit → transport_unit_fault (base role) body unit ≡ None → TakeHands body (after_transport (base role) body unit) (Transport unit) (answers_to_transport (base role) body unit) (shown_of_transport unit)
     unit-hands (ConnectionRequest source size calling other_) i fine =
-        let may : may_request (base role) body ≡ true = no-fault-so (may_request (base role) body) transport_fault fine in
+        let may : may_request (base role) body ≡ true = no-fault (may_request (base role) body) transport_fault fine in
         let waits : is_waiting body.link.phase ≡ true = and-right (not (is_initiator role) && is_unused body.link.stage) (is_waiting body.link.phase) may in
         subst (λ u. TakeHands body (after_transport (base role) body u) (Transport u) (answers_to_transport (base role) body u) (shown_of_transport u)) (sym i)
-        (quiet body _ _ _ _ (tt, tt) tt refl (was-early body.link.phase true waits))
+        (quiet body _ _ _ _ (tt, tt) tt refl (asked-early body.link.phase waits))
     unit-hands (ConnectionConfirm destination size) i fine = quiet body _ _ _ _ (tt, tt) tt refl (λ h. h)
     unit-hands (DisconnectRequest destination) i fine = absurd i
     unit-hands TransportError i fine = absurd i
 
   -- a break keeps the count
   pub broke-early : (role : Role) (body : Body) → is_early (after_broke (base role) body).link.phase ≡ true → (is_early body.link.phase ≡ true) × ((after_broke (base role) body).calls.made ≡ body.calls.made)
-  broke-early role body h = (broken-early Direct body.link.phase h, refl)
+  broke-early role body h = (broken-early body.link.phase h, refl)

@@ -1,9 +1,10 @@
 -- In direct mode each message that an end took is the one that was sent in its place, each of its values read under the pair that the
 -- shared set gave its context at the sending.
-use Rattle.std.proofs.Common.{◌≡◌, refl, true, false, ◌∙◌, sym, ap, subst, List, [], ◌∷◌, ◌++◌, map, append_assoc, ◌⊎◌, inl, inr, None, Ok, Err}
+use Rattle.std.proofs.Common.{◌≡◌, refl, true, false, ◌∙◌, sym, ap, subst, ℕ, List, [], ◌∷◌, ◌++◌, map, append_assoc, ◌⊎◌, inl, inr, None, Ok, Err}
 use Rattle.std.specs.Prelude.{Bool, not, ◌||◌, Option, Some, ℤ, if◌then◌else◌}
 use Rattle.std.proofs.lemmas.List.{append-nil}
 use Rattle.osi_base.specs.declared.syntax.Pair.{Pair}
+use Rattle.osi_base.specs.declared.words.Side.{Side}
 use Rattle.osi_base.specs.declared.words.Side.TheVariants.{A, B}
 use Rattle.osi_base.specs.declared.words.SetItem.{SetItem}
 use Rattle.stub_tables.specs.declared.tables.Tables.{Tables}
@@ -20,11 +21,13 @@ use Rattle.end_rules.specs.State.{Body, is_carrying, is_joined, passes_over}
 use Rattle.end_rules.specs.Writing.{proposals}
 use Rattle.end_rules.specs.Calling.{can_call}
 use Rattle.end_rules.specs.Requesting.{due_of}
+use Rattle.end_rules.specs.ByItself.{OwnAct}
 use Rattle.end_rules.specs.Faults.{transport_fault}
 use Rattle.end_rules.specs.Purging.{is_purged}
 use Rattle.end_rules.specs.TakesTransport.{after_transport}
+use Rattle.end_rules.specs.InPlace.{is_in_place}
 use Rattle.end_rules.specs.Reacting.{Passes, Takes, react, fails as failing, on_word, word_fault, after_word, answers_to_word}
-use Rattle.end_rules.specs.History.{Step, called, sent, fed, took, answered, passed, feed_end, gave, broke}
+use Rattle.end_rules.specs.History.{Step, called, sent, fed, took, answered, passed, feed_end, gave, broke, step_of}
 use Rattle.end_rules.specs.World.{World, Ends, Shared, shared_first, shared_at}
 use Rattle.agreement.specs.Sets.{Role, other, is_initiator}
 use Rattle.agreement.specs.Sets.Role.{Initiator, Responder}
@@ -40,6 +43,7 @@ use Rattle.reliable_model.specs.Goes.{Ledger}
 use Rattle.reliable_model.proofs.FirmSteps.{in-place, nothing-above}
 use Rattle.reliable_model.proofs.OnWay.{took-unit}
 use Rattle.reliable_model.proofs.Fixed.{AreIdentifiers, listed-identifiers}
+use Rattle.outcome_laws.specs.Deals.{Dealings}
 use Rattle.said_words.specs.Calls.{Speaks}
 use Rattle.said_words.specs.Words.{value_of_item, the_finish, the_disconnect, IsMessage, AreMessages}
 use Rattle.said_words.specs.Laws.{ProposesContexts}
@@ -52,13 +56,13 @@ use Rattle.association_runs.specs.Worlds.{stepping, Runs}
 use Rattle.association_runs.specs.Laws.{AreEvents}
 use Rattle.association_runs.specs.Sides.{ends_for}
 use Rattle.association_runs.proofs.Histories.{end_for, other-other}
+use Rattle.association_runs.proofs.Reactions.{taken-leaves}
 use Rattle.association_runs.proofs.Moments.{IsOn, AreOn, sents-on, answers-on, all_read, own-readings, peer-readings, sents-read, answers-read}
 use Rattle.association_runs.proofs.InPlace.{IsNoReading}
 use Rattle.association_runs.proofs.Keeps.{IsQuiet, Keeps}
-use Rattle.association_runs.proofs.Joint.{both, own-body, peer-body, own-coming, peer-coming}
+use Rattle.association_runs.proofs.Joint.{both, Joint, own-body, peer-body, own-coming, peer-coming}
 use Rattle.association_runs.proofs.Carried.{from-start}
-use Rattle.run_lemmas.proofs.Openings.{IsAcceptance, HasAcceptance, acceptance-in, acceptance-first, acceptance-later, Few, nobody, one}
-use Rattle.direct_runs.proofs.Firm.{HasAcse, IsFirm, OnRelease, AllReleased, Stands, Does, call-does, word-does, unit-does, broke-falls}
+use Rattle.direct_runs.proofs.Firm.{HasAcse, IsFirm, IsAcceptance, HasAcceptance, acceptance-in, OnRelease, AllReleased, Few, nobody, one, Stands, Does, call-does, word-does, unit-does, broke-falls}
 
 -- ---- messages on their way, each with the shared set just before its sending
 
@@ -186,6 +190,12 @@ own-sets Responder left more sets = refl
 peer-sets : (role : Role) (left more : List (List SetItem)) (sets : SetsSent) → sets_to (other role) (sets_stepped role left more sets) ≡ sets_to (other role) sets ++ more
 peer-sets Initiator left more sets = refl
 peer-sets Responder left more sets = refl
+
+acceptance-later : (m : Message) (ms left : List Message) → ms ≡ m ∷ left → HasAcceptance left → HasAcceptance ms
+acceptance-later m ms left e h = subst HasAcceptance (sym e) (inr h)
+
+acceptance-first : (m : Message) (ms left : List Message) → ms ≡ m ∷ left → IsAcceptance m → HasAcceptance ms
+acceptance-first m ms left e h = subst HasAcceptance (sym e) (inl h)
 
 module _ (free : Free) (tables : Tables) (spellings : Spellings) (a b : Config) where
   abbrev common : Common

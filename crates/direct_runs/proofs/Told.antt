@@ -1,6 +1,6 @@
 -- In direct mode what an end is told of invocations and outcomes is what the other end handed in, and once at most.
 use Rattle.std.proofs.Common.{◌≡◌, refl, true, false, ◌∙◌, sym, ap, subst, ℕ, List, [], ◌∷◌, ◌++◌, map, append_assoc, ◌⊎◌, inl, inr, None, Ok, Err}
-use Rattle.std.specs.Prelude.{Bool, Option, Some, ℤ, if◌then◌else◌, flat_map}
+use Rattle.std.specs.Prelude.{Bool, not, ◌||◌, Option, Some, ℤ, if◌then◌else◌, flat_map}
 use Rattle.std.proofs.lemmas.List.{append-nil}
 use Rattle.osi_base.specs.declared.words.Side.{Side}
 use Rattle.osi_base.specs.declared.words.Side.TheVariants.{A, B}
@@ -8,18 +8,22 @@ use Rattle.stub_tables.specs.declared.tables.Tables.{Tables}
 use Rattle.dialogue.specs.declared.config.Config.{Config}
 use Rattle.dialogue.specs.declared.config.Mode.TheVariants.{Direct}
 use Rattle.dialogue.specs.declared.call.Call.{Call}
+use Rattle.dialogue.specs.declared.call.Call.TheVariants as the_calls
 use Rattle.dialogue.specs.declared.event.Event.{Event}
 use Rattle.dialogue.specs.declared.event.Entry.{Entry}
 use Rattle.dialogue.specs.declared.indication.Indication.{Indication}
+use Rattle.dialogue.specs.declared.indication.Indication.TheVariants as indications
 use Rattle.end_rules.specs.Base.{Base, Spellings, Fault}
-use Rattle.end_rules.specs.Messages.{Message, Transport, Session, TransportUnit, OfAssociation, OfData, OfMarks, OfActivities, Connect, Accept, Refuse, Finish, Disconnect, Abort, AbortAccept, Values, AlterContext, AlterContextAck}
+use Rattle.end_rules.specs.Messages.{Message, Transport, Session, TransportUnit, Word, OfAssociation, OfData, OfMarks, OfActivities, AssociationWord, Connect, Accept, Refuse, Finish, Disconnect, Abort, AbortAccept, Values, AlterContext, AlterContextAck, unit_of}
 use Rattle.end_rules.specs.State.{Body, passes_over}
 use Rattle.end_rules.specs.Calling.{can_call}
 use Rattle.end_rules.specs.Requesting.{due_of}
+use Rattle.end_rules.specs.ByItself.{OwnAct}
 use Rattle.end_rules.specs.Purging.{is_transport_purged}
 use Rattle.end_rules.specs.TakesTransport.{transport_unit_fault, after_transport, answers_to_transport}
-use Rattle.end_rules.specs.Reacting.{Passes, Takes, react, on_transport, after_word}
-use Rattle.end_rules.specs.History.{Step, called, sent, fed, took, answered, passed, feed_end, gave, broke, after_broke}
+use Rattle.end_rules.specs.InPlace.{is_in_place}
+use Rattle.end_rules.specs.Reacting.{Reaction, Passes, Takes, react, on_transport, after_word}
+use Rattle.end_rules.specs.History.{Step, called, sent, fed, took, answered, passed, feed_end, gave, broke, step_of, after_broke}
 use Rattle.end_rules.specs.World as sides
 use Rattle.end_rules.specs.World.{World, Ends}
 use Rattle.agreement.specs.Sets.{Role, other}
@@ -34,18 +38,18 @@ use Rattle.end_model.specs.Sharing.{side_of}
 use Rattle.end_model.proofs.DirectMachine as machine
 use Rattle.end_model.proofs.DirectMachine.{Fresh, Calling, Confirming, Connecting, Accepting, Refusing, Deaf, Gone, Standing}
 use Rattle.end_model.proofs.DirectWords.{AreOwn, Stands, IsOver}
-use Rattle.dialogue.specs.declared.config.Phase.TheVariants.{Over}
+use Rattle.dialogue.specs.declared.config.Phase.TheVariants.{Idle, Opening, Over}
 use Rattle.reliable_model.specs.Goes.{Ledger}
 use Rattle.reliable_model.proofs.FirmSteps.{in-place}
-use Rattle.outcome_laws.specs.Deals.{Asked, asked_by, Dealings, Deals, dealt_of, on_dealt, calls_so, gets, stays, takes_so, meets, loses, nothing_dealt, still_after}
+use Rattle.outcome_laws.specs.Deals.{Asked, asked_by, Dealings, Dealt, Deals, dealt_of, on_dealt, calls_so, gets, stays, takes_so, meets, loses, nothing_dealt, still_after}
+use Rattle.outcome_laws.proofs.Open.{Once}
 use Rattle.outcome_laws.proofs.Once.{keeps, still-keeps, once}
 use Rattle.outcome_laws.proofs.Links.{links-are-allowed}
 use Rattle.outcome_laws.proofs.Transferred.{shown_of, shows-so}
 use Rattle.said_words.specs.Calls.{Speaks}
-use Rattle.said_words.specs.Words.{IsMessage}
+use Rattle.said_words.specs.Words.{IsMessage, AreMessages}
 use Rattle.said_words.specs.Laws.{ProposesContexts}
 use Rattle.said_words.proofs.Sharing.{no-own, kept-in}
-use Rattle.said_words.proofs.TransferEnds.{is_early}
 use Rattle.run_laws.specs.Showing.{shown_in}
 use Rattle.run_laws.specs.Outcomes.{Invocation, Outcome, invoked_by, answered_by, invocation_in, outcome_in, OneOutcome}
 use Rattle.association_worlds.specs.Laws.{IsMeant}
@@ -58,14 +62,10 @@ use Rattle.association_runs.proofs.Joint.{Joint}
 use Rattle.association_runs.proofs.Joined.{Joined}
 use Rattle.association_runs.proofs.Carried.{from-start}
 use Rattle.association_runs.proofs.Shown.{each-carry-shows}
-use Rattle.association_runs.proofs.Transcribed.{calls_at, all_calls, peer-calls, answers-call, seen_at, TakesNone, TakeNone, sents-none, answers-none, own-same, peer-same}
-use Rattle.association_runs.proofs.Noted.{AreMade, AreNoted, noted-append, heard_values, message-noted, HoldOurs}
+use Rattle.association_runs.proofs.Transcribed.{calls_in, calls_at, all_calls, own-calls, peer-calls, sents-call, answers-call, seen_at, TakesNone, TakeNone, sents-none, answers-none, own-same, peer-same}
+use Rattle.association_runs.proofs.Noted.{AreMade, AreNoted, all-noted_on, noted-append, heard_values, message-noted, HoldOurs}
 use Rattle.association_runs.proofs.Telling.{notes_of, notes-append, plain-notes, invoked_ids, ids-append, TellsRightly, ToldRightly, tells-rightly, one-outcome}
-use Rattle.run_lemmas.proofs.Numbers.{IsGood, good-skip, fresh-front}
-use Rattle.run_lemmas.proofs.Handing.{noted-own, noted-peer}
-use Rattle.run_lemmas.proofs.Openings.{IsConnect}
-use Rattle.run_lemmas.proofs.Calling.{calls-more, calls-same, quiet-invokes, quiet-answers}
-use Rattle.direct_runs.proofs.Handed.{AllHold, all-on, hold-append, Holds, AllRejects, all-rejects_none, all-rejects_hold, message_invokes, all_invokes, invokes-append, CallHands, call-hands, TakeHands, word-hands, unit-hands, broke-early}
+use Rattle.direct_runs.proofs.Handed.{AllHold, all-on, hold-append, Holds, AllRejects, all-rejects_none, all-rejects_hold, message_invokes, all_invokes, invokes-append, IsGood, good-skip, fresh-front, is_early, CallHands, call-hands, IsConnect, TakeHands, word-hands, unit-hands, broke-early}
 use Rattle.direct_runs.proofs.Sent.{took-word, first-said}
 
 -- ---- what is kept of one end: what it made itself, what the other made and gave, all that it was shown, its body, how many invocations
@@ -79,143 +79,153 @@ pub record Facts (tables : Tables) (own made : List Invocation) (given : List Ou
   pub young : is_early body.link.phase ≡ true → (notes_of seen ≡ []) × (body.calls.made ≡ 0)
   pub good : IsGood count (invoked_ids shown ++ all_invokes coming)
 
-module _ (tables : Tables) (own made : List Invocation) (given : List Outcome) (seen : List Indication) (body : Body) (count : ℕ) (coming : List Message) (asked : List Asked) (shown : List Indication) (x : Facts tables own made given seen body count coming asked shown) where
-  -- more comes
-  more-comes : (later : ℕ) (more : List Message) → IsGood later ((invoked_ids shown ++ all_invokes coming) ++ all_invokes more) → IsGood later (invoked_ids shown ++ all_invokes (coming ++ more))
-  more-comes later more g =
-      subst (IsGood later) (append_assoc (invoked_ids shown) (all_invokes coming) (all_invokes more) ∙ ap (λ (l : List ℤ). invoked_ids shown ++ l) (sym (invokes-append coming more))) g
+module _ (tables : Tables) where
+  noted-own : (own more made : List Invocation) (given : List Outcome) (shown : List Indication) → AreNoted tables own made given shown → AreNoted tables (own ++ more) made given shown
+  noted-own own more made given shown h =
+      subst (λ (l : List Invocation). AreNoted tables (own ++ more) l given shown) (append-nil made)
+      (subst (λ (l : List Outcome). AreNoted tables (own ++ more) (made ++ []) l shown) (append-nil given) (all-noted_on tables own more made [] given [] shown h))
 
-  own-called : (base : Base) (call : Call) (answer : Option ℤ) → base.tables ≡ tables → CallHands base body call answer → Facts tables (own ++ invoked_by call (Ok answer)) made given seen (after_called Direct base body call answer) count coming (asked_by call answer ++ asked) shown
-  own-called base call answer t h = record {
-    coming_so = x.coming_so;
-    noted = noted-own tables own (invoked_by call (Ok answer)) made given shown x.noted;
-    asked_so = subst (λ (t : Tables). AreMade t (own ++ invoked_by call (Ok answer)) (asked_by call answer ++ asked)) t (h.asks own asked (subst (λ (t : Tables). AreMade t own asked) (sym t) x.asked_so));
-    same = x.same;
-    young = λ e. let y = h.early e in let z = x.young y.0 in (z.0, y.1 ∙ z.1);
-    good = x.good;
-  }
+  noted-peer : (own made more : List Invocation) (given later : List Outcome) (shown : List Indication) → AreNoted tables own made given shown → AreNoted tables own (made ++ more) (given ++ later) shown
+  noted-peer own made more given later shown h =
+      subst (λ (l : List Invocation). AreNoted tables l (made ++ more) (given ++ later) shown) (append-nil own) (all-noted_on tables own [] made more given later shown h)
 
-  -- the other end, of this body, calls
-  peer-called : (base : Base) (theirs : Body) (call : Call) (answer : Option ℤ) → base.tables ≡ tables → theirs.calls.made ≡ count → CallHands base theirs call answer
-      → Facts tables own (made ++ invoked_by call (Ok answer)) (given ++ answered_by call (Ok answer)) seen body (after_called Direct base theirs call answer).calls.made (coming ++ due_of (record base { mode = Direct }) theirs call (Ok answer)) asked shown
-  peer-called base theirs call answer t c h = record {
-    coming_so =
-        hold-append tables (made ++ invoked_by call (Ok answer)) (given ++ answered_by call (Ok answer)) coming (due_of (record base { mode = Direct }) theirs call (Ok answer))
-        (all-on tables made (invoked_by call (Ok answer)) given (answered_by call (Ok answer)) coming x.coming_so)
-        (subst (λ (t : Tables). AllHold t (made ++ invoked_by call (Ok answer)) (given ++ answered_by call (Ok answer)) (due_of (record base { mode = Direct }) theirs call (Ok answer))) t (h.holds made given));
-    noted = noted-peer tables own made (invoked_by call (Ok answer)) given (answered_by call (Ok answer)) shown x.noted;
-    asked_so = x.asked_so;
-    same = x.same;
-    young = x.young;
-    good = more-comes _ (due_of (record base { mode = Direct }) theirs call (Ok answer)) (h.numbers (invoked_ids shown ++ all_invokes coming) (subst (λ (k : ℕ). IsGood k (invoked_ids shown ++ all_invokes coming)) (sym c) x.good));
-  }
+  module _ (own made : List Invocation) (given : List Outcome) (seen : List Indication) (body : Body) (count : ℕ) (coming : List Message) (asked : List Asked) (shown : List Indication) (x : Facts tables own made given seen body count coming asked shown) where
+    -- more comes
+    more-comes : (later : ℕ) (more : List Message) → IsGood later ((invoked_ids shown ++ all_invokes coming) ++ all_invokes more) → IsGood later (invoked_ids shown ++ all_invokes (coming ++ more))
+    more-comes later more g =
+        subst (IsGood later) (append_assoc (invoked_ids shown) (all_invokes coming) (all_invokes more) ∙ ap (λ (l : List ℤ). invoked_ids shown ++ l) (sym (invokes-append coming more))) g
 
-  first-holds : (message : Message) (left : List Message) → coming ≡ message ∷ left → AllHold tables made given (message ∷ left)
-  first-holds message left e = subst (AllHold tables made given) e x.coming_so
+    own-called : (base : Base) (call : Call) (answer : Option ℤ) → base.tables ≡ tables → CallHands base body call answer → Facts tables (own ++ invoked_by call (Ok answer)) made given seen (after_called Direct base body call answer) count coming (asked_by call answer ++ asked) shown
+    own-called base call answer t h = record {
+      coming_so = x.coming_so;
+      noted = noted-own own (invoked_by call (Ok answer)) made given shown x.noted;
+      asked_so = subst (λ (t : Tables). AreMade t (own ++ invoked_by call (Ok answer)) (asked_by call answer ++ asked)) t (h.asks own asked (subst (λ (t : Tables). AreMade t own asked) (sym t) x.asked_so));
+      same = x.same;
+      young = λ e. let y = h.early e in let z = x.young y.0 in (z.0, y.1 ∙ z.1);
+      good = x.good;
+    }
 
-  first-good : (message : Message) (left : List Message) → coming ≡ message ∷ left → IsGood count (invoked_ids shown ++ (message_invokes message ++ all_invokes left))
-  first-good message left e = subst (λ (c : List Message). IsGood count (invoked_ids shown ++ all_invokes c)) e x.good
+    -- the other end, of this body, calls
+    peer-called : (base : Base) (theirs : Body) (call : Call) (answer : Option ℤ) → base.tables ≡ tables → theirs.calls.made ≡ count → CallHands base theirs call answer
+        → Facts tables own (made ++ invoked_by call (Ok answer)) (given ++ answered_by call (Ok answer)) seen body (after_called Direct base theirs call answer).calls.made (coming ++ due_of (record base { mode = Direct }) theirs call (Ok answer)) asked shown
+    peer-called base theirs call answer t c h = record {
+      coming_so =
+          hold-append tables (made ++ invoked_by call (Ok answer)) (given ++ answered_by call (Ok answer)) coming (due_of (record base { mode = Direct }) theirs call (Ok answer))
+          (all-on tables made (invoked_by call (Ok answer)) given (answered_by call (Ok answer)) coming x.coming_so)
+          (subst (λ (t : Tables). AllHold t (made ++ invoked_by call (Ok answer)) (given ++ answered_by call (Ok answer)) (due_of (record base { mode = Direct }) theirs call (Ok answer))) t (h.holds made given));
+      noted = noted-peer own made (invoked_by call (Ok answer)) given (answered_by call (Ok answer)) shown x.noted;
+      asked_so = x.asked_so;
+      same = x.same;
+      young = x.young;
+      good = more-comes _ (due_of (record base { mode = Direct }) theirs call (Ok answer)) (h.numbers (invoked_ids shown ++ all_invokes coming) (subst (λ (k : ℕ). IsGood k (invoked_ids shown ++ all_invokes coming)) (sym c) x.good));
+    }
 
-  own-passed : (message : Message) (left : List Message) → coming ≡ message ∷ left → Facts tables own made given seen body count left asked shown
-  own-passed message left e = record {
-    coming_so = (first-holds message left e).1;
-    noted = x.noted;
-    asked_so = x.asked_so;
-    same = x.same;
-    young = x.young;
-    good = good-skip count (invoked_ids shown) (message_invokes message) (all_invokes left) (first-good message left e);
-  }
+    first-holds : (message : Message) (left : List Message) → coming ≡ message ∷ left → AllHold tables made given (message ∷ left)
+    first-holds message left e = subst (AllHold tables made given) e x.coming_so
 
-  -- the other end took something
-  peer-took : (later : ℕ) (more : List Message) → later ≡ count → AllRejects more → Facts tables own made given seen body later (coming ++ more) asked shown
-  peer-took later more c r = record {
-    coming_so = hold-append tables made given coming more x.coming_so (all-rejects_hold tables made given more r);
-    noted = x.noted;
-    asked_so = x.asked_so;
-    same = x.same;
-    young = x.young;
-    good =
-        more-comes later more
-        (subst (λ (l : List ℤ). IsGood later ((invoked_ids shown ++ all_invokes coming) ++ l)) (sym (all-rejects_none more r))
-        (subst (IsGood later) (sym (append-nil (invoked_ids shown ++ all_invokes coming))) (subst (λ (k : ℕ). IsGood k (invoked_ids shown ++ all_invokes coming)) (sym c) x.good)));
-  }
+    first-good : (message : Message) (left : List Message) → coming ≡ message ∷ left → IsGood count (invoked_ids shown ++ (message_invokes message ++ all_invokes left))
+    first-good message left e = subst (λ (c : List Message). IsGood count (invoked_ids shown ++ all_invokes c)) e x.good
 
-  -- it took a message, and was shown this
-  not-kept : (base : Base) (message : Message) → keeps base body message ≡ false → IsConnect message
-  not-kept base (Transport unit) e = absurd cc
-  not-kept base (Session (OfData word)) e = absurd cc
-  not-kept base (Session (OfMarks word)) e = absurd cc
-  not-kept base (Session (OfActivities word)) e = absurd cc
-  not-kept base (Session (OfAssociation (Accept session presentation values))) e = absurd cc
-  not-kept base (Session (OfAssociation (Refuse transport reason presentation values))) e = absurd cc
-  not-kept base (Session (OfAssociation (Finish transport values))) e = absurd cc
-  not-kept base (Session (OfAssociation (Disconnect values))) e = absurd cc
-  not-kept base (Session (OfAssociation (Abort transport user))) e = absurd cc
-  not-kept base (Session (OfAssociation AbortAccept)) e = absurd cc
-  not-kept base (Session (OfAssociation (Connect session presentation values))) e = tt
+    own-passed : (message : Message) (left : List Message) → coming ≡ message ∷ left → Facts tables own made given seen body count left asked shown
+    own-passed message left e = record {
+      coming_so = (first-holds message left e).1;
+      noted = x.noted;
+      asked_so = x.asked_so;
+      same = x.same;
+      young = x.young;
+      good = good-skip count (invoked_ids shown) (message_invokes message) (all_invokes left) (first-good message left e);
+    }
 
-  own-took : (base : Base) (message : Message) (left : List Message) (later : Body) (answers : List Message) (now : List Indication) → coming ≡ message ∷ left → (IsConnect message → is_early body.link.phase ≡ true) → AreNoted tables own made given now → TakeHands body later message answers now
-      → Facts tables own made given (seen ++ now) later count left (still_after base body message asked) (still_after base body message shown ++ now)
-  own-took base message left later answers now e opens noted_now h = record {
-    coming_so = (first-holds message left e).1;
-    noted = noted-append tables own made given (still_after base body message shown) now still-noted noted_now;
-    asked_so = still-asked;
-    same = notes-append seen now ∙ ap (λ (l : List Indication). l ++ notes_of now) still-same ∙ sym (notes-append (still_after base body message shown) now);
-    young = λ y. let early = h.early y in let z = x.young early.0 in (notes-append seen now ∙ (λ i. z.0 i ++ plain-notes now early.1 i), h.counted (λ c. (x.young (opens c)).1) ∙ z.1);
-    good = still-good;
-  }
-    where
-      still-noted : AreNoted tables own made given (still_after base body message shown)
-      still-noted = subst (AreNoted tables own made given) (sym (still-keeps base body message shown)) (go (keeps base body message))
-        where
-          go : (k : Bool) → AreNoted tables own made given (if k then shown else [])
-          go true = x.noted
-          go false = tt
+    -- the other end took something
+    peer-took : (later : ℕ) (more : List Message) → later ≡ count → AllRejects more → Facts tables own made given seen body later (coming ++ more) asked shown
+    peer-took later more c r = record {
+      coming_so = hold-append tables made given coming more x.coming_so (all-rejects_hold tables made given more r);
+      noted = x.noted;
+      asked_so = x.asked_so;
+      same = x.same;
+      young = x.young;
+      good =
+          more-comes later more
+          (subst (λ (l : List ℤ). IsGood later ((invoked_ids shown ++ all_invokes coming) ++ l)) (sym (all-rejects_none more r))
+          (subst (IsGood later) (sym (append-nil (invoked_ids shown ++ all_invokes coming))) (subst (λ (k : ℕ). IsGood k (invoked_ids shown ++ all_invokes coming)) (sym c) x.good)));
+    }
 
-      still-asked : AreMade tables own (still_after base body message asked)
-      still-asked = subst (AreMade tables own) (sym (still-keeps base body message asked)) (go (keeps base body message))
-        where
-          go : (k : Bool) → AreMade tables own (if k then asked else [])
-          go true = x.asked_so
-          go false = tt
+    -- it took a message, and was shown this
+    not-kept : (base : Base) (message : Message) → keeps base body message ≡ false → IsConnect message
+    not-kept base (Transport unit) e = absurd cc
+    not-kept base (Session (OfData word)) e = absurd cc
+    not-kept base (Session (OfMarks word)) e = absurd cc
+    not-kept base (Session (OfActivities word)) e = absurd cc
+    not-kept base (Session (OfAssociation (Accept session presentation values))) e = absurd cc
+    not-kept base (Session (OfAssociation (Refuse transport reason presentation values))) e = absurd cc
+    not-kept base (Session (OfAssociation (Finish transport values))) e = absurd cc
+    not-kept base (Session (OfAssociation (Disconnect values))) e = absurd cc
+    not-kept base (Session (OfAssociation (Abort transport user))) e = absurd cc
+    not-kept base (Session (OfAssociation AbortAccept)) e = absurd cc
+    not-kept base (Session (OfAssociation (Connect session presentation values))) e = tt
 
-      still-same : notes_of seen ≡ notes_of (still_after base body message shown)
-      still-same = go (keeps base body message) refl ∙ ap notes_of (sym (still-keeps base body message shown))
-        where
-          go : (k : Bool) → keeps base body message ≡ k → notes_of seen ≡ notes_of (if k then shown else [])
-          go true f = x.same
-          go false f = (x.young (opens (not-kept base message f))).0
+    own-took : (base : Base) (message : Message) (left : List Message) (later : Body) (answers : List Message) (now : List Indication) → coming ≡ message ∷ left → (IsConnect message → is_early body.link.phase ≡ true) → AreNoted tables own made given now → TakeHands body later message answers now
+        → Facts tables own made given (seen ++ now) later count left (still_after base body message asked) (still_after base body message shown ++ now)
+    own-took base message left later answers now e opens noted_now h = record {
+      coming_so = (first-holds message left e).1;
+      noted = noted-append tables own made given (still_after base body message shown) now still-noted noted_now;
+      asked_so = still-asked;
+      same = notes-append seen now ∙ ap (λ (l : List Indication). l ++ notes_of now) still-same ∙ sym (notes-append (still_after base body message shown) now);
+      young = λ y. let early = h.early y in let z = x.young early.0 in (notes-append seen now ∙ (λ i. z.0 i ++ plain-notes now early.1 i), h.counted (λ c. (x.young (opens c)).1) ∙ z.1);
+      good = still-good;
+    }
+      where
+        still-noted : AreNoted tables own made given (still_after base body message shown)
+        still-noted = subst (AreNoted tables own made given) (sym (still-keeps base body message shown)) (go (keeps base body message))
+          where
+            go : (k : Bool) → AreNoted tables own made given (if k then shown else [])
+            go true = x.noted
+            go false = tt
 
-      with-still : IsGood count (invoked_ids (still_after base body message shown) ++ (message_invokes message ++ all_invokes left))
-      with-still = subst (λ (l : List Indication). IsGood count (invoked_ids l ++ (message_invokes message ++ all_invokes left))) (sym (still-keeps base body message shown)) (go (keeps base body message))
-        where
-          go : (k : Bool) → IsGood count (invoked_ids (if k then shown else []) ++ (message_invokes message ++ all_invokes left))
-          go true = first-good message left e
-          go false = good-skip count [] (invoked_ids shown) (message_invokes message ++ all_invokes left) (first-good message left e)
+        still-asked : AreMade tables own (still_after base body message asked)
+        still-asked = subst (AreMade tables own) (sym (still-keeps base body message asked)) (go (keeps base body message))
+          where
+            go : (k : Bool) → AreMade tables own (if k then asked else [])
+            go true = x.asked_so
+            go false = tt
 
-      still-good : IsGood count (invoked_ids (still_after base body message shown ++ now) ++ all_invokes left)
-      still-good =
-          subst (λ (l : List ℤ). IsGood count (l ++ all_invokes left)) (sym (ids-append (still_after base body message shown) now))
-          (subst (IsGood count) (sym (append_assoc (invoked_ids (still_after base body message shown)) (invoked_ids now) (all_invokes left))) (go h.ids))
-        where
-          go : (invoked_ids now ≡ []) ⊎ (invoked_ids now ≡ message_invokes message) → IsGood count (invoked_ids (still_after base body message shown) ++ (invoked_ids now ++ all_invokes left))
-          go (inl f) =
-              subst (λ (l : List ℤ). IsGood count (invoked_ids (still_after base body message shown) ++ (l ++ all_invokes left))) (sym f)
-              (good-skip count (invoked_ids (still_after base body message shown)) (message_invokes message) (all_invokes left) with-still)
-          go (inr f) = subst (λ (l : List ℤ). IsGood count (invoked_ids (still_after base body message shown) ++ (l ++ all_invokes left))) (sym f) with-still
+        still-same : notes_of seen ≡ notes_of (still_after base body message shown)
+        still-same = go (keeps base body message) refl ∙ ap notes_of (sym (still-keeps base body message shown))
+          where
+            go : (k : Bool) → keeps base body message ≡ k → notes_of seen ≡ notes_of (if k then shown else [])
+            go true f = x.same
+            go false f = (x.young (opens (not-kept base message f))).0
 
-  -- a break loses what comes
-  own-broke : (later : Body) (k : ℕ) → k ≡ count → (is_early later.link.phase ≡ true → (is_early body.link.phase ≡ true) × (later.calls.made ≡ body.calls.made)) → Facts tables own made given seen later k [] asked shown
-  own-broke later k c f = record {
-    coming_so = tt;
-    noted = x.noted;
-    asked_so = x.asked_so;
-    same = x.same;
-    young = λ e. let y = f e in let z = x.young y.0 in (z.0, y.1 ∙ z.1);
-    good =
-        subst (λ (n : ℕ). IsGood n (invoked_ids shown ++ [])) (sym c)
-        (good-skip count (invoked_ids shown) (all_invokes coming) [] (subst (λ (l : List ℤ). IsGood count (invoked_ids shown ++ l)) (sym (append-nil (all_invokes coming))) x.good));
-  }
+        with-still : IsGood count (invoked_ids (still_after base body message shown) ++ (message_invokes message ++ all_invokes left))
+        with-still = subst (λ (l : List Indication). IsGood count (invoked_ids l ++ (message_invokes message ++ all_invokes left))) (sym (still-keeps base body message shown)) (go (keeps base body message))
+          where
+            go : (k : Bool) → IsGood count (invoked_ids (if k then shown else []) ++ (message_invokes message ++ all_invokes left))
+            go true = first-good message left e
+            go false = good-skip count [] (invoked_ids shown) (message_invokes message ++ all_invokes left) (first-good message left e)
+
+        still-good : IsGood count (invoked_ids (still_after base body message shown ++ now) ++ all_invokes left)
+        still-good =
+            subst (λ (l : List ℤ). IsGood count (l ++ all_invokes left)) (sym (ids-append (still_after base body message shown) now))
+            (subst (IsGood count) (sym (append_assoc (invoked_ids (still_after base body message shown)) (invoked_ids now) (all_invokes left))) (go h.ids))
+          where
+            go : (invoked_ids now ≡ []) ⊎ (invoked_ids now ≡ message_invokes message) → IsGood count (invoked_ids (still_after base body message shown) ++ (invoked_ids now ++ all_invokes left))
+            go (inl f) =
+                subst (λ (l : List ℤ). IsGood count (invoked_ids (still_after base body message shown) ++ (l ++ all_invokes left))) (sym f)
+                (good-skip count (invoked_ids (still_after base body message shown)) (message_invokes message) (all_invokes left) with-still)
+            go (inr f) = subst (λ (l : List ℤ). IsGood count (invoked_ids (still_after base body message shown) ++ (l ++ all_invokes left))) (sym f) with-still
+
+    -- a break loses what comes
+    own-broke : (later : Body) (k : ℕ) → k ≡ count → (is_early later.link.phase ≡ true → (is_early body.link.phase ≡ true) × (later.calls.made ≡ body.calls.made)) → Facts tables own made given seen later k [] asked shown
+    own-broke later k c f = record {
+      coming_so = tt;
+      noted = x.noted;
+      asked_so = x.asked_so;
+      same = x.same;
+      young = λ e. let y = f e in let z = x.young y.0 in (z.0, y.1 ∙ z.1);
+      good =
+          subst (λ (n : ℕ). IsGood n (invoked_ids shown ++ [])) (sym c)
+          (good-skip count (invoked_ids shown) (all_invokes coming) [] (subst (λ (l : List ℤ). IsGood count (invoked_ids shown ++ l)) (sym (append-nil (all_invokes coming))) x.good));
+    }
 
 -- what is made, given and seen is this
 changed : (tables : Tables) (own own_now made made_now : List Invocation) (given given_now : List Outcome) (seen seen_now : List Indication) (body : Body) (count : ℕ) (coming : List Message) (asked : List Asked) (shown : List Indication) → own_now ≡ own → made_now ≡ made → given_now ≡ given → seen_now ≡ seen → Facts tables own made given seen body count coming asked shown → Facts tables own_now made_now given_now seen_now body count coming asked shown
@@ -246,6 +256,15 @@ module _ (free : Free) (tables : Tables) (spellings : Spellings) (a b : Config) 
       Facts tables (made role w) (made (other role) w) (given (other role) w) (seen_at ends (side_of role) w) (pairs.body_at role two) (pairs.body_at (other role) two).calls.made (coming_to role two) (dealt_of role dealings).asked (dealt_of role dealings).shown
 
   -- ---- what steps add to what was made and given
+
+  calls-more : {X : Type 0} (tells : _ → _ → List X) (role : Role) (w : World) (call : Call) (answer : Option ℤ) (due : List Message) → calls_at tells (side_of role) (stepping (side_of role) w (called call (Ok answer) ∷ map sent due)) ≡ calls_at tells (side_of role) w ++ tells call (Ok answer)
+  calls-more tells role w call answer due =
+      own-calls tells (side_of role) w (called call (Ok answer) ∷ map sent due)
+      ∙ ap (λ (l : List _). calls_at tells (side_of role) w ++ l) (ap (λ (l : List _). tells call (Ok answer) ++ l) (sents-call tells due) ∙ append-nil (tells call (Ok answer)))
+
+  -- steps in which nothing is called
+  calls-same : {X : Type 0} (tells : _ → _ → List X) (role : Role) (w : World) (xs : List Step) → all_calls tells xs ≡ [] → calls_at tells (side_of role) (stepping (side_of role) w xs) ≡ calls_at tells (side_of role) w
+  calls-same tells role w xs e = own-calls tells (side_of role) w xs ∙ ap (λ (l : List _). calls_at tells (side_of role) w ++ l) e ∙ append-nil (calls_at tells (side_of role) w)
 
   call-none : (call : Call) (answer : Option ℤ) (due : List Message) → TakeNone (called call (Ok answer) ∷ map sent due)
   call-none call answer due = (tt, sents-none due)
@@ -441,6 +460,29 @@ module _ (free : Free) (tables : Tables) (spellings : Spellings) (a b : Config) 
     quiet-takes feed_end q = tt
     quiet-takes (gave n) q = tt
     quiet-takes _ q = absurd q
+
+    quiet-invokes : (x : Step) → IsQuiet x → all_calls invoked_by (x ∷ []) ≡ []
+    quiet-invokes (called call (Err refusal)) q = ap (λ (l : List Invocation). l ++ []) (refused-none call refusal)
+      where
+        refused-none : (call : Call) (refusal : _) → invoked_by call (Err refusal) ≡ []
+        refused-none (the_calls.Invoke context operation argument linked) refusal = refl
+        refused-none _ refusal = refl
+    quiet-invokes (fed octets) q = refl
+    quiet-invokes feed_end q = refl
+    quiet-invokes (gave n) q = refl
+    quiet-invokes _ q = absurd q
+
+    quiet-answers : (x : Step) → IsQuiet x → all_calls answered_by (x ∷ []) ≡ []
+    quiet-answers (called call (Err refusal)) q = ap (λ (l : List Outcome). l ++ []) (refused-none call refusal)
+      where
+        refused-none : (call : Call) (refusal : _) → answered_by call (Err refusal) ≡ []
+        refused-none (the_calls.Answer id value) refusal = refl
+        refused-none (the_calls.Refuse id place parameter) refusal = refl
+        refused-none _ refusal = refl
+    quiet-answers (fed octets) q = refl
+    quiet-answers feed_end q = refl
+    quiet-answers (gave n) q = refl
+    quiet-answers _ q = absurd q
 
     broke-told : (w : World) (two : Two) (ledger : Ledger) (dealings : Dealings) → BothTold w two ledger dealings → (r : Role) → Told r (record { side = B; step = broke } ∷ record { side = A; step = broke } ∷ w) (both_broke common two) (on_dealt Initiator loses loses dealings)
     broke-told w two ledger dealings x r =

@@ -121,15 +121,15 @@ fn any_order_is_read_and_rising_order_written(rt: HostRuntime) -> Result<(), Fai
     for (of, octets, form, written) in ROWS {
         assert!(rt; (of as usize) < table.len());
         let read = ber_read(alloc, &table, TypeId(of), octets)?;
-        assert_eq!(rt; read.used, octets.len());
+        assert!(rt; read.used == octets.len());
         assert!(rt; fits(&table, TypeId(of), &read.value));
         let back = ber_octets(alloc, &table, TypeId(of), &read.value)?;
-        assert_eq!(rt; back.as_slice(), written);
+        assert!(rt; back.as_slice() == written);
         match der_read(alloc, &table, TypeId(of), octets) {
             Ok(_) => assert!(rt; form.is_none()),
             Err(ReadFault::NotSpelled { place, kind }) => {
-                assert_eq!(rt; Some(place), form);
-                assert_eq!(rt; kind, Kind::Form);
+                assert!(rt; Some(place) == form);
+                assert!(rt; kind == Kind::Form);
             }
             Err(_) => assert!(rt; false),
         }
@@ -165,20 +165,20 @@ fn the_packed_syntax_has_them_rising(rt: HostRuntime) -> Result<(), Fail> {
     let alloc = rt.alloc();
     let table = table(alloc)?;
     let value = numbers(alloc, &[1, 3])?;
-    assert_eq!(rt; table.len(), 7);
+    assert!(rt; table.len() == 7);
     let mut room = [0xAA; 9];
-    assert_eq!(rt; packed_len(&table, TypeId(NUMBERS), &value), 8);
-    assert_eq!(rt; packed_write(&table, TypeId(NUMBERS), &value, &mut room), 8);
-    assert_eq!(rt; room, [0, 0, 0, 2, 1, 1, 1, 3, 0xAA]);
+    assert!(rt; packed_len(&table, TypeId(NUMBERS), &value) == 8);
+    assert!(rt; packed_write(&table, TypeId(NUMBERS), &value, &mut room) == 8);
+    assert!(rt; room == [0, 0, 0, 2, 1, 1, 1, 3, 0xAA]);
     let read = packed_read(alloc, &table, TypeId(NUMBERS), &room)?;
-    assert_eq!(rt; read.used, 8);
+    assert!(rt; read.used == 8);
     let falling = packed_read(alloc, &table, TypeId(NUMBERS), &[0, 0, 0, 2, 1, 3, 1, 1]);
-    assert_eq!(rt;
-        falling.err(),
-        Some(PackedFault::NotSpelled {
-            place: 6,
-            kind: Kind::Content
-        })
+    assert!(rt;
+        falling.err()
+            == Some(PackedFault::NotSpelled {
+                place: 6,
+                kind: Kind::Content
+            })
     );
     Ok(())
 }
@@ -188,7 +188,7 @@ fn the_packed_syntax_has_them_rising(rt: HostRuntime) -> Result<(), Fail> {
 fn long_items_are_compared_to_their_ends(rt: HostRuntime) -> Result<(), Fail> {
     let alloc = rt.alloc();
     let table = table(alloc)?;
-    assert_eq!(rt; table.len(), 7);
+    assert!(rt; table.len() == 7);
     let mut items = Vec::new(alloc);
     for last in [7, 9] {
         let mut octets = vec![in alloc; 5; 300]?;
@@ -204,11 +204,11 @@ fn long_items_are_compared_to_their_ends(rt: HostRuntime) -> Result<(), Fail> {
     let mut written = ber_octets(alloc, &table, TypeId(TEXTS), &value)?.into_vec();
     let end = written.len();
     assert!(rt; end > 0);
-    assert_eq!(rt; written[end - 1], 9);
+    assert!(rt; written[end - 1] == 9);
     written[end - 1] = 6;
     let read = ber_read(alloc, &table, TypeId(TEXTS), &written)?;
     let back = ber_octets(alloc, &table, TypeId(TEXTS), &read.value)?;
-    assert_eq!(rt; back.as_slice().get(end - 1).copied(), Some(7));
+    assert!(rt; back.as_slice().get(end - 1).copied() == Some(7));
     assert!(rt; fits(&table, TypeId(TEXTS), &read.value));
     Ok(())
 }

@@ -1,10 +1,9 @@
 -- What stands behind aliases: over more turns the same.
-use Rattle.std.proofs.Common.{◌≡◌, ℕ, zero, suc, ◌+◌, ◌≤◌, true, List, [], ◌∷◌, ◌++◌, length, Option, Some, None, refl, sym, ap, subst, ◌∙◌, arith, inl, inr}
+use Rattle.std.proofs.Common.{◌≡◌, ℕ, zero, suc, ◌+◌, ◌<◌, ◌≤◌, Bool, true, false, List, [], ◌∷◌, ◌++◌, length, Option, Some, None, refl, sym, ap, subst, ◌∙◌, arith, inl, inr}
 use Rattle.std.specs.Prelude.{replicate, slice_get, slice_set, ◌⊎◌}
 use Rattle.operation_notation.specs.Tree.{TypeTree}
 use Rattle.operation_notation.specs.declared.module.Assignment.{Assignment}
-use Rattle.module_faults.specs.Names.{or_none, find, type_at}
-use Rattle.module_compiler.specs.Scope.{alias, beyond, is_none, is_plain, behind_by, behind}
+use Rattle.module_compiler.specs.Scope.{or_none, find, type_at, alias, beyond, is_none, is_plain, behind_by, behind}
 use Rattle.module_compiler.specs.Kept.{IsBehind, AreBehind, IsOneMore, IsFollowed, AreFollowed, step, Leads, From}
 use Rattle.module_compiler.specs.declared.scope.Behind.{Behind}
 use Rattle.module_compiler.specs.declared.scope.Followed.{Followed}

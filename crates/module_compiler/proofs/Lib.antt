@@ -1,13 +1,5 @@
+pub mod Names
 pub mod Aliases
 pub mod OwnCodes
 pub mod Walks
 pub mod Slots
-pub mod Trails
-pub mod Faultless
-pub mod Rows
-pub mod Walked
-pub mod Tabled
-pub mod Least
-pub mod Examples
-pub mod Codes
-pub mod Deciding

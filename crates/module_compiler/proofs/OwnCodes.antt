@@ -5,7 +5,7 @@ use Rattle.std.specs.Prelude.{◌||◌, ◌&&◌, not, nat_eq, cond}
 use Rattle.std.specs.Ordering.{int_eq}
 use Rattle.std.specs.List.{list_any}
 use Rattle.std.specs.Cmp.Lexicographic.{pointwise}
-use Rattle.std.specs.HashSet.{contains_by, Updates}
+use Rattle.std.specs.HashSet.{HashSet, contains, contains_by, Updates}
 use denote.Ref.{Bor}
 use Rattle.stub_tables.specs.declared.operation.Code.{Code}
 use Rattle.stub_tables.specs.declared.operation.Code.TheVariants.{Local, Global}
@@ -34,7 +34,7 @@ any_more : {X : Type 0} (p : X → Bool) (xs : List X) (x : X) → list_any p xs
 any_more p [] x h e = rw e refl
 any_more p (z ∷ zs) x h e = any_step p zs x (p z) (λ k. any_more p zs x k e) h
 
-pub either_false : (a b : Bool) → (a || b) ≡ false → (a ≡ false) × (b ≡ false)
+either_false : (a b : Bool) → (a || b) ≡ false → (a ≡ false) × (b ≡ false)
 either_false true b e = absurd cc
 either_false false b e = (refl, e)
 
@@ -50,7 +50,7 @@ own_more code_of (z ∷ zs) x h e =
     let none : list_any (λ y. same_code (code_of z) (code_of y)) (zs ++ x ∷ []) ≡ false = any_more (λ y. same_code (code_of z) (code_of y)) zs x k.0 m.0 in
     ap (λ (b : Bool). not b && have_own_codes code_of (zs ++ x ∷ [])) none ∙ own_more code_of zs x k.1 m.1
 
-pub any_end : {X : Type 0} (p : X → Bool) (xs : List X) (x : X) → list_any p (xs ++ x ∷ []) ≡ (p x || list_any p xs)
+any_end : {X : Type 0} (p : X → Bool) (xs : List X) (x : X) → list_any p (xs ++ x ∷ []) ≡ (p x || list_any p xs)
 any_end p [] x = refl
 any_end p (z ∷ zs) x = ap (λ (b : Bool). p z || b) (any_end p zs x) ∙ or_swap (p z) (p x) (list_any p zs)
   where

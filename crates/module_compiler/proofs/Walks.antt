@@ -1,5 +1,5 @@
 -- Walking a type: its row without the tag, and then the tag over it.
-use Rattle.std.proofs.Common.{◌≡◌, ℕ, suc, Option, Some, Result, sym, ap, subst}
+use Rattle.std.proofs.Common.{◌≡◌, ℕ, suc, Option, Some, Result, refl, sym, ap, subst, ◌∙◌}
 use Rattle.operation_notation.specs.Tree.{TypeTree, type_tree, PlainTree}
 use Rattle.operation_notation.specs.declared.module.TagText.{TagText}
 use Rattle.asn1_types.specs.declared.row.TypeId.{TypeId}

@@ -1,11 +1,23 @@
--- What is kept of the names of a module: what stands behind aliases.
-use Rattle.std.specs.Prelude.{◌≡◌, ℕ, ◌+◌, List, [], ◌∷◌, Option, Some, None, slice_get}
+-- What is kept of the names of a module: where they are assigned, and what stands behind aliases.
+use Rattle.std.specs.Prelude.{◌≡◌, ℕ, ◌+◌, List, [], ◌∷◌, Option, Some, None, cond, slice_get}
+use Rattle.std.specs.Option.{option_or}
+use Rattle.std.specs.Str.{bytes_eq}
+use Rattle.std.specs.HashMap.{HashMap}
+use Rattle.indexmap.specs.IndexMap.{get_by}
+use denote.Ref.{Bor}
 use Rattle.operation_notation.specs.declared.module.Assignment.{Assignment}
 use Rattle.module_compiler.specs.declared.scope.Behind.{Behind}
 use Rattle.module_compiler.specs.declared.scope.Followed.{Followed}
 use Rattle.module_compiler.specs.declared.scope.Followed.TheVariants.{NotYet, Open, Known}
-use Rattle.module_faults.specs.Names.{or_none, find, type_at}
-use Rattle.module_compiler.specs.Scope.{alias, behind_by}
+use Rattle.module_compiler.specs.Scope.{or_none, find, type_at, alias, behind_by}
+
+-- each name is found where it is assigned first
+abbrev pub AreFound : {S : Type 0} → List Assignment → HashMap (Bor (List ℕ)) ℕ S → Type 0
+AreFound assignments places = (name : List ℕ) → get_by (λ (k : Bor (List ℕ)). bytes_eq name k.now) places ≡ find assignments name
+
+-- a name has this place now, unless it had one, and other names have what they had
+abbrev pub IsAdded : {S : Type 0} → HashMap (Bor (List ℕ)) ℕ S → HashMap (Bor (List ℕ)) ℕ S → List ℕ → ℕ → Type 0
+IsAdded old new name place = (other : List ℕ) → get_by (λ (k : Bor (List ℕ)). bytes_eq other k.now) new ≡ option_or (get_by (λ (k : Bor (List ℕ)). bytes_eq other k.now) old) (cond (bytes_eq other name) (Some place) None)
 
 -- this stands behind so many aliases from a place on; or nothing is known
 abbrev pub IsBehind : List Assignment → ℕ → Option Behind → Type 0

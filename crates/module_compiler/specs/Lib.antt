@@ -5,5 +5,3 @@ pub mod Tabling
 pub mod Seen
 pub mod Tables
 pub mod Refusals
-pub mod Laws
-pub mod Examples

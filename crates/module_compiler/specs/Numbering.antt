@@ -1,7 +1,7 @@
 -- The rows of a module's types (X.680; the order of numbering is this project's): assignments are walked in the order of the text, and a
 -- row is made when its type was walked whole, so inner types come first. A Name has the row of the type that stands behind it, which is
 -- walked when it is first met.
-use Rattle.std.specs.Prelude.{◌≡◌, Result, Ok, Err, ℕ, zero, suc, ℤ, pos, negsuc, Bool, true, false, not, ◌||◌, nat_lt, List, [], ◌∷◌, ◌++◌, map, length, Option, Some, None, option_map, slice_get, slice_set, if◌then◌else◌}
+use Rattle.std.specs.Prelude.{◌≡◌, Result, Ok, Err, ℕ, zero, suc, ◌<◌, ℤ, pos, negsuc, Bool, true, false, not, ◌||◌, nat_lt, List, [], ◌∷◌, ◌++◌, map, length, Option, Some, None, option_map, slice_get, slice_set, if◌then◌else◌}
 use Rattle.std.specs.Str.{bytes_eq}
 use Rattle.notation_tokens.specs.declared.token.Located.{Located}
 use Rattle.asn1_types.specs.declared.row.Item.{Item}
@@ -23,8 +23,7 @@ use Rattle.operation_notation.specs.declared.module.DfltValue.TheVariants as val
 use Rattle.operation_notation.specs.declared.module.UseText.{UseText}
 use Rattle.stub_tables.specs.declared.operation.Use.{Use}
 use Rattle.module_compiler.specs.declared.fault.Halt.{Halt}
-use Rattle.module_faults.specs.Names.{or_none, find, type_at}
-use Rattle.module_compiler.specs.Scope.{Ground, behind}
+use Rattle.module_compiler.specs.Scope.{Ground, or_none, find, type_at, behind}
 
 -- the rows so far, and for each assignment the row of its type, once it has one
 pub record Numbered : Type 0 where

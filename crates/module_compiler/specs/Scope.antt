@@ -1,15 +1,33 @@
 -- What the names of a module stand for.
-use Rattle.std.specs.Prelude.{ℕ, zero, suc, ◌+◌, Bool, true, false, List, [], ◌∷◌, length, Option, Some, None}
+use Rattle.std.specs.Prelude.{ℕ, zero, suc, ◌+◌, Bool, true, false, List, [], ◌∷◌, length, take, Option, Some, None, slice_get, if◌then◌else◌}
+use Rattle.std.specs.List.{position_from}
+use Rattle.std.specs.Str.{bytes_eq}
 use Rattle.operation_notation.specs.Tree.{TypeTree, type_tree, named}
 use Rattle.operation_notation.specs.declared.module.Assignment.{Assignment}
 use Rattle.operation_notation.specs.declared.module.Body.{Body}
 use Rattle.operation_notation.specs.declared.module.Body.TheVariants as bodies
-use Rattle.module_faults.specs.Names.{or_none, find, type_at}
 
 -- what a module's types are read by: its assignments, and whether a tag is implicit unless it says otherwise
 pub record Ground : Type 0 where
   pub assignments : List Assignment
   pub implicit : Bool
+
+abbrev pub or_none : {A B : Type 0} → Option A → (A → Option B) → Option B
+or_none None f = None
+or_none (Some a) f = f a
+
+-- the place of the first assignment of a name
+unfoldable pub find : List Assignment → List ℕ → Option ℕ
+find assignments name = position_from (λ (a : Assignment). bytes_eq name a.name.text) 0 assignments
+
+abbrev pub typed : Body → Option TypeTree
+typed (bodies.Typed of) = Some of
+typed (bodies.Operation operation) = None
+typed (bodies.Error error) = None
+
+-- the type that is assigned at a place
+abbrev pub type_at : List Assignment → ℕ → Option TypeTree
+type_at assignments place = or_none (slice_get assignments place) (λ a. typed a.body)
 
 -- A type that is a Name without a tag is an alias: it stands for the type that is named (X.680 16.1).
 abbrev pub alias : TypeTree → Option (List ℕ)

@@ -1,5 +1,7 @@
 -- The tables of a module (X.880 8): its types, and its operations and errors in the order of the text.
-use Rattle.std.specs.Prelude.{◌≡◌, ℕ, ◌+◌, ℤ, Bool, true, false, slice_get, Result, Ok, Err, List, [], ◌∷◌, ◌++◌, length, Option, Some, None, replicate}
+use Rattle.std.specs.Prelude.{◌≡◌, ℕ, ◌+◌, ℤ, Bool, true, false, slice_get, Result, Ok, Err, List, [], ◌∷◌, ◌++◌, map, length, Option, Some, None, replicate}
+use Rattle.asn1_types.specs.declared.row.TypeId.{TypeId}
+use Rattle.asn1_types.specs.declared.row.TypeRow.{TypeRow}
 use Rattle.notation_tokens.specs.declared.token.Located.{Located}
 use Rattle.operation_notation.specs.declared.module.Assignment.{Assignment}
 use Rattle.operation_notation.specs.declared.module.Body.{Body}
@@ -8,6 +10,7 @@ use Rattle.operation_notation.specs.declared.module.CodeText.{CodeText}
 use Rattle.operation_notation.specs.declared.module.OpText.{OpText}
 use Rattle.operation_notation.specs.declared.module.ErrText.{ErrText}
 use Rattle.operation_notation.specs.declared.module.ModuleText.{ModuleText}
+use Rattle.stub_tables.specs.declared.operation.Use.{Use}
 use Rattle.stub_tables.specs.declared.operation.Code.{Code}
 use Rattle.stub_tables.specs.declared.operation.Code.TheVariants as codes
 use Rattle.stub_tables.specs.declared.operation.Operation.{Operation}
@@ -17,8 +20,7 @@ use Rattle.module_compiler.specs.declared.tabling.Made.{Made}
 use Rattle.module_compiler.specs.declared.tabling.Whole.{Whole}
 use Rattle.module_compiler.specs.declared.tabling.Sort.{Sort}
 use Rattle.module_compiler.specs.declared.tabling.Sort.TheVariants as sorts
-use Rattle.module_faults.specs.Names.{or_none, find}
-use Rattle.module_compiler.specs.Scope.{Ground, behind, own_numbers}
+use Rattle.module_compiler.specs.Scope.{Ground, or_none, find, behind, own_numbers}
 use Rattle.module_compiler.specs.Numbering.{Numbered, Walk, ◌>>=◌, give, none, row_behind, type_row, use_of}
 
 -- whether a body is an operation's, or an error's

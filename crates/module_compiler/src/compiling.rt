@@ -1,9 +1,9 @@
 //! Compiling a module.
 
-ghost use Rattle.std.specs.Prelude.{◌≡◌, IfOk, IfErr};
-ghost use Rattle.module_compiler.specs.declared.fault.TableFault.TheVariants.{NoMemory as no_room};
+ghost use Rattle.std.specs.Prelude.{◌≡◌, None, IfOk, IfErr};
+ghost use Rattle.module_faults.specs.Faults.{IsLeastFault};
 ghost use Rattle.module_compiler.specs.Tables.{AreTablesOf};
-ghost use Rattle.module_compiler.specs.Refusals.{HasNoFault, IsRefusedBy};
+ghost use Rattle.module_compiler.specs.Refusals.{IsRefusedBy};
 
 use crate::fault::TableFault;
 use crate::own_codes::{errors_have_own_codes, operations_have_own_codes};
@@ -43,7 +43,7 @@ fn tables(alloc: Global, text: &ModuleText, whole: Whole) -> Result<Tables, Tabl
 
 /// The tables of a module without a fault.
 fn tabled_module(alloc: Global, text: &ModuleText) -> Result<Tables, TableFault>
-    requires { HasNoFault text.now }
+    requires { IsLeastFault text.now.assignments None }
     ensures found { IfOk result (λ tables. AreTablesOf text.now tables) }
     ensures no_memory { IfErr result (IsRefusedBy text.now) }
 {
@@ -60,12 +60,9 @@ fn tabled_module(alloc: Global, text: &ModuleText) -> Result<Tables, TableFault>
 ///
 /// `At` where the module has a fault: the least one by line, column and the order of kinds.
 /// `NoMemory` where an allocation is refused.
-#[tactic(auto, using(crate::proofs::Least::no_fault_of))]
 pub fn compile(alloc: Global, text: &ModuleText) -> Result<Tables, TableFault>
     ensures found { IfOk result (λ tables. AreTablesOf text.now tables) }
     ensures refused { IfErr result (IsRefusedBy text.now) }
-    // A module without a fault is refused for want of memory alone.
-    ensures complete { HasNoFault text.now → IfErr result (λ fault. fault ≡ no_room) }
 {
     match least_fault(alloc, text.assignments.as_slice())? {
         Some(found) => Err(TableFault::At {

@@ -4,7 +4,6 @@
 
 mod compiling;
 mod fault;
-mod laws;
 mod numbering;
 mod own_codes;
 mod scope;
@@ -12,5 +11,4 @@ mod tabling;
 
 pub use compiling::compile;
 pub use fault::TableFault;
-pub use laws::{fault_or_none, faultless_have_tables, one_is_faultless, refused_are_least};
 pub use module_faults::TableKind;

@@ -3,8 +3,7 @@
 ghost use Rattle.std.specs.Prelude.{◌≡◌, ◌+◌, ℕ, List, Option, Some, None, length, map, replicate, slice_get, slice_set, IfOk, IfSome, OnErr, []};
 ghost use Rattle.std.specs.Option.{option_copied};
 ghost use Rattle.std.specs.Str.{bytes_eq};
-ghost use Rattle.module_faults.specs.Names.{find, type_at, or_none};
-ghost use Rattle.module_compiler.specs.Scope.{behind};
+ghost use Rattle.module_compiler.specs.Scope.{find, behind, type_at, or_none};
 ghost use Rattle.operation_notation.specs.TreeView.{plain_of, parts_of as trees};
 ghost use Rattle.module_compiler.specs.Numbering.{Numbered, Gives, add, note, known, is_choice, base, base_in, range_row, size_of, kind_of, class_of, item_of, item_number, number_in, default_number, part_of, tagged, parts_of, row_of, row_behind, named_row, plain_row, walk, type_row, use_of};
 

@@ -4,9 +4,8 @@ ghost use Rattle.std.specs.Prelude.{◌≡◌, ◌<◌, ◌≤◌, ◌^◌, ℕ,
 ghost use Rattle.std.specs.Option.{option_copied};
 ghost use Rattle.std.specs.Str.{bytes_eq};
 ghost use Rattle.indexmap.specs.IndexMap.{get_by};
-ghost use Rattle.module_faults.specs.Names.{find, type_at, or_none, AreFound, IsAdded};
-ghost use Rattle.module_compiler.specs.Scope.{behind, behind_by, alias, is_plain};
-ghost use Rattle.module_compiler.specs.Kept.{AreFollowed, AreBehind, IsFollowed, IsBehind, IsOneMore, Leads, From};
+ghost use Rattle.module_compiler.specs.Scope.{find, behind, behind_by, alias, type_at, or_none, is_plain};
+ghost use Rattle.module_compiler.specs.Kept.{AreFound, AreFollowed, AreBehind, IsFollowed, IsBehind, IsAdded, IsOneMore, Leads, From};
 
 use indexmap::IndexMap;
 use operation_notation::{Assignment, Body, ModuleText, PlainText, TypeText};
@@ -40,8 +39,7 @@ pub(crate) struct Scope<'m> {
 
 impl<'m> Model for Scope<'m> {
     ghost use Rattle.module_compiler.specs.Scope.{Ground};
-    ghost use Rattle.module_faults.specs.Names.{AreFound};
-    ghost use Rattle.module_compiler.specs.Kept.{AreBehind};
+    ghost use Rattle.module_compiler.specs.Kept.{AreFound, AreBehind};
 
     ghost Value = { Ground };
 

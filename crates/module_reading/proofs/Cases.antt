@@ -10,7 +10,7 @@ use Rattle.module_compiler.specs.Tables.{AreTablesOf}
 use Rattle.module_reading.specs.declared.fault.ModuleKind.TheVariants as kinds
 use Rattle.module_reading.specs.declared.fault.ModuleFault.{ModuleFault}
 use Rattle.module_reading.specs.declared.fault.ModuleFault.TheVariants as faults
-use Rattle.module_reading.specs.Modules.{is_table_file, HasTables, IsTableRefusal, IsRefused}
+use Rattle.module_reading.specs.Modules.{is_table_file, TextHasTables, HasTables, IsTableRefusal, IsRefused}
 
 pub file_found : (bytes : List ℕ) (tables : Tables) → is_table_file bytes ≡ true → load_of bytes ≡ Ok (contents_of tables) → HasTables bytes tables
 file_found bytes tables is e = inl (is, e)

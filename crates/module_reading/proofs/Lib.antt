@@ -1,5 +1,3 @@
 pub mod Cases
 pub mod OneTables
 pub mod TablesOrFault
-pub mod Faultless
-pub mod Few

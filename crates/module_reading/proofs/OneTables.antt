@@ -10,8 +10,9 @@ use Rattle.stub_tables.specs.Codes.{have_own_codes}
 use Rattle.operation_notation.specs.declared.module.ModuleText.{ModuleText}
 use Rattle.operation_notation.specs.Modules.{module_of}
 use Rattle.table_file.specs.Contents.{Contents, contents_of}
+use Rattle.table_file.specs.Loading.{load_of}
 use Rattle.module_compiler.specs.Tables.{AreTablesOf}
-use Rattle.module_reading.specs.Modules.{TextHasTables, HasTables}
+use Rattle.module_reading.specs.Modules.{is_table_file, TextHasTables, HasTables}
 
 abbrev Few : {X : Type 0} → List X → Type 0
 Few xs = length xs < 2 ^ 32

@@ -1,9 +1,13 @@
 -- Octets that have tables have no fault.
-use Rattle.std.proofs.Common.{◌≡◌, ℕ, List, Ok, true, false, sym, subst, ◌∙◌, inl, inr}
+use Rattle.std.proofs.Common.{◌≡◌, ℕ, List, Option, None, Some, Ok, Err, true, false, sym, ap, subst, ◌∙◌, inl, inr}
 use Rattle.operation_notation.specs.declared.module.ModuleText.{ModuleText}
+use Rattle.operation_notation.specs.Modules.{module_of}
 use Rattle.stub_tables.specs.declared.tables.Tables.{Tables}
+use Rattle.table_file.specs.Loading.{load_of}
 use Rattle.module_faults.specs.declared.kind.TableKind.{TableKind}
-use Rattle.module_compiler.proofs.Least.{fault_or_none}
+use Rattle.module_faults.specs.declared.least.Found.{Found}
+use Rattle.module_faults.specs.Least.{fault}
+use Rattle.module_faults.proofs.OneFault.{one_least}
 use Rattle.module_compiler.specs.Tables.{AreTablesOf}
 use Rattle.module_compiler.specs.Refusals.{HasFault}
 use Rattle.module_reading.specs.declared.fault.ModuleKind.{ModuleKind}
@@ -14,7 +18,8 @@ use Rattle.module_reading.specs.Modules.{is_table_file, TextHasTables, HasTables
 -- a module isn't both with and without a fault
 of_module : (m : ModuleText) (tables : Tables) (line column : ℕ) (kind : TableKind) → AreTablesOf m tables → HasFault m line column kind → ⊥
 of_module m tables line column kind has refused =
-    fault_or_none m line column kind has.no_fault refused
+    let same : None ≡ Some (fault line column kind) = one_least m.assignments None (Some (fault line column kind)) has.no_fault refused in
+    cc
 
 of_text : (octets : List ℕ) (tables : Tables) (line column : ℕ) (kind : ModuleKind) → TextHasTables octets tables → is_table_file octets ≡ false → IsRefused octets (faults.At line column kind) → ⊥
 of_text octets tables line column (kinds.Notation kind) has is refused =

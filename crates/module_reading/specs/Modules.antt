@@ -1,14 +1,14 @@
 -- What octets are as a module: a text of the notation, or a table file.
-use Rattle.std.specs.Prelude.{◌≡◌, ◌⊎◌, ℕ, ◌==◌, Bool, true, false, ◌&&◌, List, ◌∷◌, Ok, Err}
+use Rattle.std.specs.Prelude.{◌≡◌, ◌⊎◌, ℕ, ◌==◌, Bool, true, false, ◌&&◌, List, [], ◌∷◌, Ok, Err}
 use Rattle.notation_tokens.specs.declared.faults.NotationFault.TheVariants as notation
 use Rattle.operation_notation.specs.declared.module.ModuleText.{ModuleText}
 use Rattle.operation_notation.specs.Modules.{module_of}
 use Rattle.stub_tables.specs.declared.tables.Tables.{Tables}
 use Rattle.table_file.specs.declared.fault.LoadFault.TheVariants as file
-use Rattle.table_file.specs.Contents.{Contents, contents_of}
+use Rattle.table_file.specs.Contents.{contents_of}
 use Rattle.table_file.specs.Loading.{load_of}
 use Rattle.module_compiler.specs.Tables.{AreTablesOf}
-use Rattle.module_compiler.specs.Refusals.{HasFault, HasNoFault}
+use Rattle.module_compiler.specs.Refusals.{HasFault}
 use Rattle.module_reading.specs.declared.fault.ModuleKind.TheVariants as kinds
 use Rattle.module_reading.specs.declared.fault.ModuleFault.{ModuleFault}
 use Rattle.module_reading.specs.declared.fault.ModuleFault.TheVariants as faults
@@ -46,7 +46,3 @@ IsRefused bytes (faults.At line column (kinds.Notation kind)) = (is_table_file b
 IsRefused bytes (faults.At line column (kinds.Table kind)) = (is_table_file bytes ≡ false) × (read : ModuleText) × (module_of bytes ≡ Ok read) × HasFault read line column kind
 IsRefused bytes (faults.At line column (kinds.File kind)) = (is_table_file bytes ≡ true) × (line ≡ 0) × (load_of bytes ≡ Err (file.At column kind))
 IsRefused bytes faults.NoMemory = Unit {0}
-
--- Octets without a fault: a table file that loads, or a text that reads as a module without a fault.
-abbrev pub IsFaultless : List ℕ → Type 0
-IsFaultless bytes = ((is_table_file bytes ≡ true) × ((contents : Contents) × (load_of bytes ≡ Ok contents))) ⊎ ((is_table_file bytes ≡ false) × ((read : ModuleText) × (module_of bytes ≡ Ok read) × HasNoFault read))

@@ -2,8 +2,7 @@
 
 ghost use Rattle.std.specs.Prelude.{◌≡◌, true, false, IfOk, IfErr};
 ghost use Rattle.module_compiler.specs.Tables.{AreTablesOf};
-ghost use Rattle.module_reading.specs.declared.fault.ModuleFault.TheVariants.{NoMemory as no_room};
-ghost use Rattle.module_reading.specs.Modules.{is_table_file, HasTables, IsTableRefusal, IsRefused, IsFaultless};
+ghost use Rattle.module_reading.specs.Modules.{is_table_file, HasTables, IsTableRefusal, IsRefused};
 
 use crate::fault::{ModuleFault, ModuleKind};
 use module_compiler::{TableFault, compile};
@@ -87,8 +86,6 @@ fn file_tables(alloc: Global, bytes: &[u8]) -> Result<Tables, ModuleFault>
 pub fn read_module(alloc: Global, bytes: &[u8]) -> Result<Tables, ModuleFault>
     ensures found { IfOk result (HasTables bytes.now) }
     ensures refused { IfErr result (IsRefused bytes.now) }
-    // A module without a fault is refused for want of memory alone.
-    ensures complete { IsFaultless bytes.now → IfErr result (λ fault. fault ≡ no_room) }
 {
     if is_table_file(bytes) {
         file_tables(alloc, bytes)

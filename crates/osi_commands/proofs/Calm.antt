@@ -1,5 +1,5 @@
 -- Over a told map whose files didn't fail: what was read is what the map has.
-use Rattle.std.proofs.Common.{ℕ, ◌≡◌, List, None, Some, sym, inl, inr, arith, ◌∙◌}
+use Rattle.std.proofs.Common.{ℕ, ◌≡◌, List, Option, None, Some, sym, inl, inr, arith, ◌∙◌}
 use Rattle.osi_base.specs.Outside.{IsCalm, FileMap}
 use Rattle.osi_commands.specs.Reading.{WasRead}
 

@@ -4,7 +4,6 @@ use Rattle.osi_base.specs.Outside.{IsCalm, FileMap, grown}
 use Rattle.osi_base.specs.declared.words.Status.{Status}
 use Rattle.osi_base.specs.declared.words.Status.TheVariants.{Done, Usage, ReadFault, ModuleRefused, ScriptRefused}
 use Rattle.stub_tables.specs.declared.tables.Tables.{Tables}
-use Rattle.module_reading.specs.declared.fault.ModuleKind.{ModuleKind}
 use Rattle.module_reading.specs.declared.fault.ModuleFault.TheVariants as faults
 use Rattle.module_reading.specs.Modules.{HasTables, IsRefused}
 use Rattle.module_check.specs.Command.{Check}
@@ -15,9 +14,8 @@ use Rattle.osi_commands.specs.declared.answers.Answer.{Answer}
 use Rattle.osi_commands.specs.Answers.{Closes}
 use Rattle.osi_commands.specs.Reading.{WasRead}
 use Rattle.osi_commands.specs.Causes.{IsUnread, IsRefusedModule, HasNoTables, HasNoFault}
-use Rattle.osi_commands.specs.Checking.{checked_answer, Checks, unread, read, IsShownDone, IsCheckDue, CheckEnds}
+use Rattle.osi_commands.specs.Checking.{checked_answer, ChecksOctets, Checks, unread, read, IsShownDone, IsCheckDue, CheckEnds}
 use Rattle.osi_commands.proofs.Endings.{is_answers, whole_of, unless_of, unless_one_of}
-use Rattle.module_reading.proofs.TablesOrFault.{tables_or_fault}
 use Rattle.osi_commands.proofs.Calm.{same_read, never_lacks, never_read}
 
 -- ---- the statuses of answers
@@ -104,16 +102,6 @@ module _ (map : FileMap) (old new : ℕ) (check : Check) (calm : IsCalm old new)
       let P : List ℕ → Type 0 = λ o. HasNoTables o in
       status_as answer is.written is.answer_is ∙ refused_if_none octets (subst P (sym (same_read map old new check.«module» octets given w h)) none) is.written is.is
 
-  refused_if_faulty : (octets : List ℕ) (line column : ℕ) (kind : ModuleKind) → IsRefused octets (faults.At line column kind) → (written : Checked) → IsChecked check.table octets written → (checked_answer written).status ≡ ModuleRefused
-  refused_if_faulty octets line column kind faulty (Shown text) is = absurd (tables_or_fault octets is.tables line column kind is.has faulty)
-  refused_if_faulty octets line column kind faulty (Refused text) is = refl
-
-  fault_due : (given : List ℕ) (line column : ℕ) (kind : ModuleKind) → map check.«module» ≡ Some given → IsRefused given (faults.At line column kind) → (answer : Answer) → Checks (Some map) old new check answer → answer.status ≡ ModuleRefused
-  fault_due given line column kind h faulty _ (unread w) = never_lacks map old new check.«module» given calm w h
-  fault_due given line column kind h faulty answer (read octets _ w is) =
-      let R : List ℕ → Type 0 = λ o. IsRefused o (faults.At line column kind) in
-      status_as answer is.written is.answer_is ∙ refused_if_faulty octets line column kind (subst R (sym (same_read map old new check.«module» octets given w h)) faulty) is.written is.is
-
   shown_if_none : (octets : List ℕ) → HasNoFault octets → (written : Checked) → IsChecked check.table octets written → (checked_answer written).status ≡ Done
   shown_if_none octets none (Shown text) is = refl
   shown_if_none octets none (Refused text) is = absurd (none is.line is.column is.kind is.refused)
@@ -123,9 +111,6 @@ module _ (map : FileMap) (old new : ℕ) (check : Check) (calm : IsCalm old new)
   no_fault_due given h none answer (read octets _ w is) =
       let P : List ℕ → Type 0 = λ o. HasNoFault o in
       status_as answer is.written is.answer_is ∙ shown_if_none octets (subst P (sym (same_read map old new check.«module» octets given w h)) none) is.written is.is
-
-  tables_due : (given : List ℕ) (tables : Tables) → map check.«module» ≡ Some given → HasTables given tables → (answer : Answer) → Checks (Some map) old new check answer → answer.status ≡ Done
-  tables_due given tables h has = no_fault_due given h (λ line column kind faulty. tables_or_fault given tables line column kind has faulty)
 
   one_written : (written : Checked) → ((checked_answer written).status ≡ Done) ⊎ ((checked_answer written).status ≡ ModuleRefused)
   one_written (Shown text) = inl refl
@@ -144,8 +129,6 @@ module _ (map : FileMap) (old new : ℕ) (check : Check) (calm : IsCalm old new)
       → IsCheckDue map check sink_old sink_new status
   map_due before after sink_old sink_new status closes = record {
     no_module = λ h. unless_of (Checks (Some map) old new check) old new sink_old sink_new before after status ReadFault closes (no_module_due h);
-    tables = λ given tables h has. unless_of (Checks (Some map) old new check) old new sink_old sink_new before after status Done closes (tables_due given tables h has);
-    fault = λ given line column kind h faulty. unless_of (Checks (Some map) old new check) old new sink_old sink_new before after status ModuleRefused closes (fault_due given line column kind h faulty);
     no_tables = λ given h none. unless_of (Checks (Some map) old new check) old new sink_old sink_new before after status ModuleRefused closes (no_tables_due given h none);
     no_fault = λ given h none. unless_of (Checks (Some map) old new check) old new sink_old sink_new before after status Done closes (no_fault_due given h none);
     there = λ given h. unless_one_of (Checks (Some map) old new check) old new sink_old sink_new before after status Done ModuleRefused closes (there_due given h);

@@ -4,7 +4,7 @@ use Rattle.osi_base.specs.Outside.{Rose, grown, GrewPart}
 use Rattle.osi_base.specs.declared.words.Status.{Status}
 use Rattle.osi_base.specs.declared.words.Status.TheVariants.{Done, Usage, ReadFault, WriteFault, LineFault, ModuleRefused, ScriptRefused, Ended, Spent, NoMemory}
 use Rattle.osi_commands.specs.declared.answers.Answer.{Answer}
-use Rattle.osi_commands.specs.Answers.{is_read_fault, KeepsCount, Ends, whole, failed, no_memory, Closes, answered, no_room, IsBegun, CountsFiles, CountsWrites, IsUnless}
+use Rattle.osi_commands.specs.Answers.{is_read_fault, KeepsCount, Ends, whole, failed, no_memory, Closes, answered, no_room, IsBegun, IsUnreadBegun, CountsFiles, CountsWrites, IsUnless}
 
 -- the statuses of a write that isn't whole
 abbrev pub is_writes : Status → Bool

@@ -1,7 +1,9 @@
--- Words have one answer over told files that don't fail.
+-- Words have one answer over told files that don't fail, but for the answer that the module is refused.
 use Rattle.std.proofs.Common.{ℕ, ◌≡◌, Bool, List, [], Option, None, Some, Result, Ok, Err, refl, sym, ap, subst, ◌∙◌}
 use Rattle.osi_base.specs.Outside.{IsCalm, FileMap}
 use Rattle.osi_base.specs.declared.words.Side.TheVariants.{A, B}
+use Rattle.osi_base.specs.declared.words.Status.{Status}
+use Rattle.osi_base.specs.declared.words.Status.TheVariants.{ModuleRefused}
 use Rattle.stub_tables.specs.declared.tables.Tables.{Tables}
 use Rattle.dialogue.specs.declared.config.Config.{Config}
 use Rattle.dialogue.specs.declared.setup.Setup.{Setup}
@@ -13,12 +15,9 @@ use Rattle.end_rules.specs.World.{Ends}
 use Rattle.end_wire.specs.Bare.{bare_base}
 use Rattle.bare_duo.specs.Worlds.{ends_of, end_at, Runs}
 use Rattle.bare_duo.specs.Laws.{OneRun}
-use Rattle.module_reading.specs.declared.fault.ModuleKind.{ModuleKind}
-use Rattle.module_reading.specs.declared.fault.ModuleFault.{ModuleFault}
-use Rattle.module_reading.specs.declared.fault.ModuleFault.TheVariants as faults
-use Rattle.module_reading.specs.Modules.{HasTables, IsRefused}
+use Rattle.module_reading.specs.Modules.{HasTables}
 use Rattle.module_check.specs.Command.{Check}
-use Rattle.module_check.specs.Checking.{shown, refused_text, IsChecked}
+use Rattle.module_check.specs.Checking.{shown, IsChecked}
 use Rattle.module_check.specs.declared.checking.Checked.{Checked}
 use Rattle.module_check.specs.declared.checking.Checked.TheVariants.{Shown, Refused}
 use Rattle.script_lines.specs.declared.fault.ScriptFault.{ScriptFault}
@@ -33,19 +32,17 @@ use Rattle.osi_commands.specs.declared.answers.Answer.{Answer}
 use Rattle.osi_commands.specs.declared.commands.Work.{Work}
 use Rattle.osi_commands.specs.declared.commands.Work.TheVariants.{Replay, Trace}
 use Rattle.osi_commands.specs.Commands.{FilePair, Command, checks, pairs}
-use Rattle.osi_commands.specs.Answers.{usage_answer, module_answer, done_answer}
+use Rattle.osi_commands.specs.Answers.{usage_answer, done_answer}
 use Rattle.osi_commands.specs.Reading.{WasRead}
 use Rattle.osi_commands.specs.Replaying.{bare_alone, RanSchedule, written_of, Replayed, RepliedBy}
 use Rattle.osi_commands.specs.Tracing.{ToldBy}
 use Rattle.osi_commands.specs.Checking.{checked_answer, ChecksOctets, Checks, unread, read}
 use Rattle.osi_commands.specs.Pairs.{SecondBy}
 use Rattle.osi_commands.specs.TopCall.{IsAnswer}
-use Rattle.osi_commands.specs.Laws.{OneAnswer}
-use Rattle.osi_commands.proofs.Calm.{has_read, same_read, never_lacks}
+use Rattle.osi_commands.specs.Laws.{OneAnswer, OneAnswerWithoutFault}
+use Rattle.osi_commands.proofs.Calm.{has_read, lacks_it, same_read, never_lacks}
 use Rattle.module_reading.proofs.OneTables.{one_tables}
-use Rattle.module_reading.proofs.TablesOrFault.{tables_or_fault}
-use Rattle.module_reading.proofs.Faultless.{one_fault}
-use Rattle.osi_commands.proofs.PairCases.{PairCase, module_unread, module_faulty, second_unread, second_read, pair_case}
+use Rattle.osi_commands.proofs.PairCases.{PairCase, module_unread, module_faulty, second_unread, second_read, pair_case, never_refused}
 
 -- ---- what is replayed
 
@@ -79,19 +76,6 @@ one_text one brief tables schedule x y p q =
     (r.b_phase ∙ ap (λ w. (end_at (ends_of r.setup tables) B w).body.link.phase) runs.1 ∙ ap (λ (e : Ends). (end_at e B s.world).body.link.phase) (sym ends) ∙ sym s.b_phase) in
     p.text_is ∙ ap (written_of brief tables) (modes ∙ entries ∙ firsts ∙ seconds) ∙ sym q.text_is
 
--- ---- faults
-
-abbrev answer_to : ModuleFault → Answer
-answer_to (faults.At line column kind) = module_answer line column kind
-answer_to faults.NoMemory = usage_answer
-
-abbrev text_to : ModuleFault → List ℕ
-text_to (faults.At line column kind) = refused_text line column kind
-text_to faults.NoMemory = []
-
-abbrev refused_answer : List ℕ → Answer
-refused_answer text = checked_answer (Refused text)
-
 -- ---- the second file
 
 one_reply : OneRun → (brief : Bool) (tables : Tables) (r : Result Said ScriptFault) (first other : Answer) → RepliedBy brief tables r first → RepliedBy brief tables r other → first ≡ other
@@ -117,37 +101,26 @@ module _ (runs : OneRun) (traces : OneTrace) where
     tables_twice : (text again : List ℕ) (t u : Tables) → again ≡ text → HasTables text t → HasTables again u → u ≡ t
     tables_twice text again t u e h k = let H : List ℕ → Type 0 = λ o. HasTables o u in one_tables text u t (subst H e k) h
 
-    -- a module is refused for one fault
-    faults_twice : (text again : List ℕ) (line column l c : ℕ) (kind k : ModuleKind) → again ≡ text → IsRefused text (faults.At line column kind) → IsRefused again (faults.At l c k) → module_answer line column kind ≡ module_answer l c k
-    faults_twice text again line column l c kind k e r s =
-        let R : List ℕ → Type 0 = λ o. IsRefused o (faults.At l c k) in ap answer_to (one_fault text line column l c kind k r (subst R e s))
-
-    never_both : {P : Type 0} (text again : List ℕ) (tables : Tables) (line column : ℕ) (kind : ModuleKind) → again ≡ text → HasTables text tables → IsRefused again (faults.At line column kind) → P
-    never_both text again tables line column kind e h r =
-        let R : List ℕ → Type 0 = λ o. IsRefused o (faults.At line column kind) in absurd (tables_or_fault text tables line column kind h (subst R e r))
-
     module _ (pair : FilePair) where
-      one_pair : (first other : Answer) → PairCase (Some map) old new pair first → PairCase (Some map) old new pair other → first ≡ other
-      one_pair _ _ (module_unread w) (module_unread v) = refl
-      one_pair _ _ (module_unread w) (module_faulty text line column kind v r) = never_lacks map old new pair.«module» text calm w (has_read map old new pair.«module» text v)
-      one_pair _ _ (module_unread w) (second_unread text tables v h s) = never_lacks map old new pair.«module» text calm w (has_read map old new pair.«module» text v)
-      one_pair _ other (module_unread w) (second_read text tables octets _ v h s by) =
+      one_pair : (first other : Answer) → PairCase (Some map) old new pair first → PairCase (Some map) old new pair other
+          → (first.status ≡ ModuleRefused → ⊥) → (other.status ≡ ModuleRefused → ⊥) → first ≡ other
+      one_pair _ _ (module_unread w) (module_unread v) p q = refl
+      one_pair _ _ (module_unread w) (module_faulty text line column kind v r) p q = absurd (q refl)
+      one_pair _ _ (module_unread w) (second_unread text tables v h s) p q = never_lacks map old new pair.«module» text calm w (has_read map old new pair.«module» text v)
+      one_pair _ other (module_unread w) (second_read text tables octets _ v h s by) p q =
           never_lacks map old new pair.«module» text calm w (has_read map old new pair.«module» text v)
-      one_pair _ _ (module_faulty text line column kind w r) (module_unread v) = never_lacks map old new pair.«module» text calm v (has_read map old new pair.«module» text w)
-      one_pair _ _ (module_faulty text line column kind w r) (module_faulty again l d k v s) = faults_twice text again line column l d kind k (same_twice pair.«module» text again w v) r s
-      one_pair _ _ (module_faulty text line column kind w r) (second_unread again tables v h s) = never_both again text tables line column kind (same_twice pair.«module» again text v w) h r
-      one_pair _ other (module_faulty text line column kind w r) (second_read again tables octets _ v h s by) = never_both again text tables line column kind (same_twice pair.«module» again text v w) h r
-      one_pair _ _ (second_unread text tables w h s) (module_unread v) = never_lacks map old new pair.«module» text calm v (has_read map old new pair.«module» text w)
-      one_pair _ _ (second_unread text tables w h s) (module_faulty again line column kind v r) = never_both text again tables line column kind (same_twice pair.«module» text again w v) h r
-      one_pair _ _ (second_unread text tables w h s) (second_unread again found v k t) = refl
-      one_pair _ other (second_unread text tables w h s) (second_read again found octets _ v k t by) =
+      one_pair _ _ (module_faulty text line column kind w r) c p q = absurd (p refl)
+      one_pair _ _ (second_unread text tables w h s) (module_unread v) p q = never_lacks map old new pair.«module» text calm v (has_read map old new pair.«module» text w)
+      one_pair _ _ (second_unread text tables w h s) (module_faulty again line column kind v r) p q = absurd (q refl)
+      one_pair _ _ (second_unread text tables w h s) (second_unread again found v k t) p q = refl
+      one_pair _ other (second_unread text tables w h s) (second_read again found octets _ v k t by) p q =
           never_lacks map old new pair.second octets calm s (has_read map old new pair.second octets t)
-      one_pair first _ (second_read text tables octets _ w h s by) (module_unread v) =
+      one_pair first _ (second_read text tables octets _ w h s by) (module_unread v) p q =
           never_lacks map old new pair.«module» text calm v (has_read map old new pair.«module» text w)
-      one_pair first _ (second_read text tables octets _ w h s by) (module_faulty again line column kind v r) = never_both text again tables line column kind (same_twice pair.«module» text again w v) h r
-      one_pair first _ (second_read text tables octets _ w h s by) (second_unread again found v k t) =
+      one_pair first _ (second_read text tables octets _ w h s by) (module_faulty again line column kind v r) p q = absurd (q refl)
+      one_pair first _ (second_read text tables octets _ w h s by) (second_unread again found v k t) p q =
           never_lacks map old new pair.second octets calm t (has_read map old new pair.second octets s)
-      one_pair first other (second_read text tables octets _ w h s by) (second_read again found given _ v k t bye) =
+      one_pair first other (second_read text tables octets _ w h s by) (second_read again found given _ v k t bye) p q =
           let T : found ≡ tables = tables_twice text again tables found (same_twice pair.«module» text again w v) h k in
           let O : given ≡ octets = same_twice pair.second octets given s t in
           let P : Tables → Type 0 = λ x. SecondBy pair.work x given other in
@@ -155,30 +128,40 @@ module _ (runs : OneRun) (traces : OneTrace) where
           one_second pair.work tables octets first other by (subst Q O (subst P T bye))
 
     module _ (check : Check) where
-      one_written : (octets : List ℕ) (x y : Checked) → IsChecked check.table octets x → IsChecked check.table octets y → checked_answer x ≡ checked_answer y
-      one_written octets (Shown x) (Shown y) h k =
+      one_written : (octets : List ℕ) (x y : Checked) → IsChecked check.table octets x → IsChecked check.table octets y → ((checked_answer x).status ≡ ModuleRefused → ⊥)
+          → ((checked_answer y).status ≡ ModuleRefused → ⊥) → checked_answer x ≡ checked_answer y
+      one_written octets (Shown x) (Shown y) h k p q =
           ap done_answer (h.is ∙ ap (λ (t : Tables). shown check.table t) (one_tables octets h.tables k.tables h.has k.has) ∙ sym k.is)
-      one_written octets (Shown x) (Refused y) h k = absurd (tables_or_fault octets h.tables k.line k.column k.kind h.has k.refused)
-      one_written octets (Refused x) (Shown y) h k = absurd (tables_or_fault octets k.tables h.line h.column h.kind k.has h.refused)
-      one_written octets (Refused x) (Refused y) h k =
-          let texts : refused_text h.line h.column h.kind ≡ refused_text k.line k.column k.kind = ap text_to (one_fault octets h.line h.column k.line k.column h.kind k.kind h.refused k.refused) in
-          ap refused_answer (h.is ∙ texts ∙ sym k.is)
+      one_written octets (Shown x) (Refused y) h k p q = absurd (q refl)
+      one_written octets (Refused x) y h k p q = absurd (p refl)
 
-      one_read : (octets again : List ℕ) (first other : Answer) → again ≡ octets → ChecksOctets check.table octets first → ChecksOctets check.table again other → first ≡ other
-      one_read octets again first other e x y =
+      one_read : (octets again : List ℕ) (first other : Answer) → again ≡ octets → ChecksOctets check.table octets first → ChecksOctets check.table again other
+          → (first.status ≡ ModuleRefused → ⊥) → (other.status ≡ ModuleRefused → ⊥) → first ≡ other
+      one_read octets again first other e x y p q =
           let P : List ℕ → Type 0 = λ o. IsChecked check.table o y.written in
-          x.answer_is ∙ one_written octets x.written y.written x.is (subst P e y.is) ∙ sym y.answer_is
+          x.answer_is
+          ∙ one_written octets x.written y.written x.is (subst P e y.is) (λ h. p (ap (λ (a : Answer). a.status) x.answer_is ∙ h)) (λ h. q (ap (λ (a : Answer). a.status) y.answer_is ∙ h))
+          ∙ sym y.answer_is
 
-      one_check : (first other : Answer) → Checks (Some map) old new check first → Checks (Some map) old new check other → first ≡ other
-      one_check _ _ (unread w) (unread v) = refl
-      one_check _ other (unread w) (read octets _ v is) = never_lacks map old new check.«module» octets calm w (has_read map old new check.«module» octets v)
-      one_check first _ (read octets _ w is) (unread v) = never_lacks map old new check.«module» octets calm v (has_read map old new check.«module» octets w)
-      one_check first other (read octets _ w is) (read again _ v was) = one_read octets again first other (same_twice check.«module» octets again w v) is was
+      one_check : (first other : Answer) → Checks (Some map) old new check first → Checks (Some map) old new check other
+          → (first.status ≡ ModuleRefused → ⊥) → (other.status ≡ ModuleRefused → ⊥) → first ≡ other
+      one_check _ _ (unread w) (unread v) p q = refl
+      one_check _ other (unread w) (read octets _ v is) p q = never_lacks map old new check.«module» octets calm w (has_read map old new check.«module» octets v)
+      one_check first _ (read octets _ w is) (unread v) p q = never_lacks map old new check.«module» octets calm v (has_read map old new check.«module» octets w)
+      one_check first other (read octets _ w is) (read again _ v was) p q = one_read octets again first other (same_twice check.«module» octets again w v) is was p q
 
-    one_of : (command : Option Command) (first other : Answer) → IsAnswer (Some map) old new command first → IsAnswer (Some map) old new command other → first ≡ other
-    one_of None first other x y = x ∙ sym y
-    one_of (Some (checks check)) first other x y = one_check check first other x y
-    one_of (Some (pairs pair)) first other x y = one_pair pair first other (pair_case (Some map) old new pair first x) (pair_case (Some map) old new pair other y)
+    one_of : (command : Option Command) (first other : Answer) → IsAnswer (Some map) old new command first → IsAnswer (Some map) old new command other
+        → (first.status ≡ ModuleRefused → ⊥) → (other.status ≡ ModuleRefused → ⊥) → first ≡ other
+    one_of None first other x y p q = x ∙ sym y
+    one_of (Some (checks check)) first other x y p q = one_check check first other x y p q
+    one_of (Some (pairs pair)) first other x y p q =
+        one_pair pair first other (pair_case (Some map) old new pair first x) (pair_case (Some map) old new pair other y) p q
 
 pub one_answer : OneRun → OneTrace → OneAnswer
-one_answer runs traces map old new command first other calm x y = one_of runs traces map old new calm command first other x y
+one_answer runs traces map old new command first other calm x y p q = one_of runs traces map old new calm command first other x y p q
+
+pub one_without_fault : OneRun → OneTrace → OneAnswerWithoutFault
+one_without_fault runs traces map old new pair text first other calm e none x y =
+    let p = pair_case (Some map) old new pair first x in
+    let q = pair_case (Some map) old new pair other y in
+    one_pair runs traces map old new calm pair first other p q (never_refused map old new pair calm text e none first p) (never_refused map old new pair calm text e none other q)

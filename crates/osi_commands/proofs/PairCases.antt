@@ -1,6 +1,6 @@
 -- Why a replay or a trace is answered so: what words and files make, case by case.
 use Rattle.std.proofs.Common.{ℕ, ◌≡◌, ◌⊎◌, List, Option, None, Some, Bool, true, false, refl, sym, ap, subst, inl, inr, ◌∙◌}
-use Rattle.osi_base.specs.Outside.{IsCalm, FileMap, grown}
+use Rattle.osi_base.specs.Outside.{IsCalm, FileMap, grown, logged}
 use Rattle.osi_base.specs.declared.words.Status.{Status}
 use Rattle.osi_base.specs.declared.words.Status.TheVariants.{Done, Usage, ReadFault, ModuleRefused, ScriptRefused}
 use Rattle.stub_tables.specs.declared.tables.Tables.{Tables}
@@ -11,14 +11,13 @@ use Rattle.osi_commands.specs.declared.answers.Answer.{Answer}
 use Rattle.osi_commands.specs.declared.reading.PairRead.{PairRead}
 use Rattle.osi_commands.specs.declared.reading.PairRead.TheVariants.{Answered, Whole}
 use Rattle.osi_commands.specs.Commands.{FilePair}
-use Rattle.osi_commands.specs.Answers.{unread_answer, module_answer, script_answer, Ends, IsUnless}
-use Rattle.osi_commands.specs.Reading.{WasRead, ReadsSecond, no_second, second, ReadsPair, no_module, refused, has_tables, PairAsked, PairAskedFor}
-use Rattle.osi_commands.specs.Causes.{IsRefusedModule, HasNoTables}
+use Rattle.osi_commands.specs.Answers.{unread_answer, module_answer, script_answer, done_answer, Ends, IsUnless}
+use Rattle.osi_commands.specs.Reading.{WasRead, ReadsSecond, no_second, second, ReadsPair, no_module, refused, has_tables, HasModule, PairAsked, PairAskedFor}
+use Rattle.osi_commands.specs.Causes.{IsUnread, IsRefusedModule, HasNoTables, HasNoFault}
 use Rattle.osi_commands.specs.Pairs.{SecondBy, AnswersPair, refuses, works, IsPairDone, IsPairRefused, IsPairUnread, due_by_octets, due_by_second, IsBySecond}
 use Rattle.osi_commands.proofs.Endings.{is_answers, unless}
 use Rattle.osi_commands.proofs.Calm.{has_read, lacks_it, same_read, never_lacks, never_read}
 use Rattle.module_reading.proofs.OneTables.{one_tables}
-use Rattle.module_reading.proofs.TablesOrFault.{tables_or_fault}
 use Rattle.osi_commands.proofs.Second.{SecondCase, worked, bad, case_of, due_second, asked_both}
 
 module _ (told : Option FileMap) (old new : ℕ) (pair : FilePair) where
@@ -223,33 +222,34 @@ module _ (map : FileMap) (old new : ℕ) (pair : FilePair) (calm : IsCalm old ne
       due_second pair.work found octets answer by ∙ ap (λ (t : Tables). due_by_octets pair.work t octets) same
       ∙ sym (ap (λ (x : Option (List ℕ)). due_by_second pair.work tables x) (has_read map old new pair.second octets v))
 
-  -- a module that has tables isn't refused
-  no_refusal : {P : Type 0} (given text : List ℕ) (tables : Tables) (line column : ℕ) (kind : ModuleKind) → HasTables given tables → WasRead (Some map) old new pair.«module» (Some text)
-      → map pair.«module» ≡ Some given → IsRefused text (faults.At line column kind) → P
-  no_refusal given text tables line column kind has w e r =
-      let R : List ℕ → Type 0 = λ o. IsRefused o (faults.At line column kind) in
-      absurd (tables_or_fault given tables line column kind has (subst R (same_read map old new pair.«module» text given w e) r))
-
   pub second_due : (given : List ℕ) (tables : Tables) → map pair.«module» ≡ Some given → HasTables given tables → (answer : Answer) → PairCase (Some map) old new pair answer
-      → answer.status ≡ due_by_second pair.work tables (map pair.second)
+      → (answer.status ≡ due_by_second pair.work tables (map pair.second)) ⊎ (answer.status ≡ ModuleRefused)
   second_due given tables e g _ (module_unread w) = never_lacks map old new pair.«module» given calm w e
-  second_due given tables e g _ (module_faulty text line column kind w r) = no_refusal given text tables line column kind g w e r
-  second_due given tables e g _ (second_unread text found w h v) = unread_due tables v
-  second_due given tables e g answer (second_read text found octets _ w h v by) = read_due tables found octets answer (same_tables given text tables found e g w h) v by
+  second_due given tables e g _ (module_faulty text line column kind w r) = inr refl
+  second_due given tables e g _ (second_unread text found w h v) = inl (unread_due tables v)
+  second_due given tables e g answer (second_read text found octets _ w h v by) =
+      inl (read_due tables found octets answer (same_tables given text tables found e g w h) v by)
 
-  -- one that has a fault has no tables
-  no_tables_with : {P : Type 0} (given text : List ℕ) (tables : Tables) (line column : ℕ) (kind : ModuleKind) → IsRefused given (faults.At line column kind) → WasRead (Some map) old new pair.«module» (Some text)
-      → map pair.«module» ≡ Some given → HasTables text tables → P
-  no_tables_with given text tables line column kind faulty w e h =
-      let H : List ℕ → Type 0 = λ o. HasTables o tables in
-      absurd (tables_or_fault given tables line column kind (subst H (same_read map old new pair.«module» text given w e) h) faulty)
+  no_refusal : {P : Type 0} (given text : List ℕ) (line column : ℕ) (kind : ModuleKind) → HasNoFault given → WasRead (Some map) old new pair.«module» (Some text)
+      → map pair.«module» ≡ Some given → IsRefused text (faults.At line column kind) → P
+  no_refusal given text line column kind none w e r =
+      let R : List ℕ → Type 0 = λ o. IsRefused o (faults.At line column kind) in
+      absurd (none line column kind (subst R (same_read map old new pair.«module» text given w e) r))
 
-  pub fault_due : (given : List ℕ) (line column : ℕ) (kind : ModuleKind) → map pair.«module» ≡ Some given → IsRefused given (faults.At line column kind) → (answer : Answer) → PairCase (Some map) old new pair answer
-      → answer.status ≡ ModuleRefused
-  fault_due given line column kind e faulty _ (module_unread w) = never_lacks map old new pair.«module» given calm w e
-  fault_due given line column kind e faulty _ (module_faulty text l d k w r) = refl
-  fault_due given line column kind e faulty _ (second_unread text tables w h v) = no_tables_with given text tables line column kind faulty w e h
-  fault_due given line column kind e faulty answer (second_read text tables octets _ w h v by) = no_tables_with given text tables line column kind faulty w e h
+  pub no_fault_due : (given : List ℕ) (tables : Tables) → map pair.«module» ≡ Some given → HasTables given tables → HasNoFault given → (answer : Answer)
+      → PairCase (Some map) old new pair answer → answer.status ≡ due_by_second pair.work tables (map pair.second)
+  no_fault_due given tables e g none _ (module_unread w) = never_lacks map old new pair.«module» given calm w e
+  no_fault_due given tables e g none _ (module_faulty text line column kind w r) = no_refusal given text line column kind none w e r
+  no_fault_due given tables e g none _ (second_unread text found w h v) = unread_due tables v
+  no_fault_due given tables e g none answer (second_read text found octets _ w h v by) =
+      read_due tables found octets answer (same_tables given text tables found e g w h) v by
+
+  -- a module without a fault isn't refused
+  pub never_refused : (given : List ℕ) → map pair.«module» ≡ Some given → HasNoFault given → (answer : Answer) → PairCase (Some map) old new pair answer → answer.status ≡ ModuleRefused → ⊥
+  never_refused given e none _ (module_unread w) h = cc
+  never_refused given e none _ (module_faulty text line column kind w r) h = no_refusal given text line column kind none w e r
+  never_refused given e none _ (second_unread text tables w g v) h = cc
+  never_refused given e none answer (second_read text tables octets _ w g v by) h = never (Some map) old new pair tables octets answer by ModuleRefused refl h
 
   -- any module that is there is refused, or has tables
   pub there_due : (given : List ℕ) → map pair.«module» ≡ Some given → (before after : Option (List ℕ)) (sink_old sink_new : ℕ) (status : Status) (answer : Answer)

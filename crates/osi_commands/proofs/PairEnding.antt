@@ -1,6 +1,6 @@
 -- How the top call ends with words that are a replay or a trace.
 use Rattle.std.proofs.Common.{ℕ, ◌≡◌, ◌⊎◌, List, Option, None, Some, IfSome, true, refl, inl, inr}
-use Rattle.osi_base.specs.Outside.{IsCalm, FileMap}
+use Rattle.osi_base.specs.Outside.{IsCalm, FileMap, logged}
 use Rattle.osi_base.specs.declared.words.Status.{Status}
 use Rattle.osi_base.specs.declared.words.Status.TheVariants.{Done, Usage, ReadFault, WriteFault, LineFault, ModuleRefused, ScriptRefused, Ended, Spent, NoMemory}
 use Rattle.osi_commands.specs.declared.answers.Answer.{Answer}
@@ -9,8 +9,8 @@ use Rattle.osi_commands.specs.Answers.{Ends, whole, failed, no_memory, Closes, a
 use Rattle.osi_commands.specs.Reading.{AskedOneOrBoth, AsksPair, PairAsked, PairAskedAtEnd}
 use Rattle.osi_commands.specs.Causes.{IsRefusedModule}
 use Rattle.osi_commands.specs.Pairs.{AnswersPair, IsPairDone, IsPairRefused, IsPairUnread, due_by_second, IsBySecond, IsPairDue, PairEnds}
-use Rattle.osi_commands.proofs.Endings.{is_answers, whole_of, unless_of}
-use Rattle.osi_commands.proofs.PairCases.{pair_case, own_status, never_usage, done_case, script_case, unread_case, module_case, no_module_due, no_tables_due, second_due, fault_due, there_due}
+use Rattle.osi_commands.proofs.Endings.{is_answers, whole_of, unless_of, unless_one_of}
+use Rattle.osi_commands.proofs.PairCases.{pair_case, own_status, never_usage, done_case, script_case, unread_case, module_case, no_module_due, no_tables_due, second_due, no_fault_due, there_due}
 
 -- the status of an answer is one of those
 pub own_pair : (told : Option FileMap) (old new : ℕ) (pair : FilePair) (answer : Answer) → AnswersPair told old new pair answer → is_answers answer.status ≡ true
@@ -61,11 +61,11 @@ module _ (map : FileMap) (old new : ℕ) (pair : FilePair) (before after : Optio
         unless_of (AnswersPair (Some map) old new pair) old new sink_old sink_new before after status ModuleRefused closes
         (λ answer is. no_tables_due map old new pair calm text h none answer (pair_case (Some map) old new pair answer is));
     by_second = λ text tables h has.
-        unless_of (AnswersPair (Some map) old new pair) old new sink_old sink_new before after status (due_by_second pair.work tables (map pair.second)) closes
+        unless_one_of (AnswersPair (Some map) old new pair) old new sink_old sink_new before after status (due_by_second pair.work tables (map pair.second)) ModuleRefused closes
         (λ answer is. second_due map old new pair calm text tables h has answer (pair_case (Some map) old new pair answer is));
-    fault = λ text line column kind h faulty.
-        unless_of (AnswersPair (Some map) old new pair) old new sink_old sink_new before after status ModuleRefused closes
-        (λ answer is. fault_due map old new pair calm text line column kind h faulty answer (pair_case (Some map) old new pair answer is));
+    no_fault = λ text tables h has none.
+        unless_of (AnswersPair (Some map) old new pair) old new sink_old sink_new before after status (due_by_second pair.work tables (map pair.second)) closes
+        (λ answer is. no_fault_due map old new pair calm text tables h has none answer (pair_case (Some map) old new pair answer is));
     there = λ text h. there_of map old new pair before after sink_old sink_new status calm text h closes;
   }
 

@@ -10,7 +10,7 @@ use Rattle.osi_commands.specs.declared.reading.PairRead.{PairRead}
 use Rattle.osi_commands.specs.declared.reading.PairRead.TheVariants.{Answered, Whole}
 use Rattle.osi_commands.specs.Commands.{FilePair}
 use Rattle.osi_commands.specs.Answers.{unread_answer, module_answer}
-use Rattle.osi_commands.specs.Reading.{WasRead, KeepsCountAt, MayAsk, ReadsSecond, no_second, second, ReadsPair, no_module, refused, has_tables, AsksPair, PairAskedFor}
+use Rattle.osi_commands.specs.Reading.{WasRead, KeepsCountAt, MayAsk, ReadsSecond, no_second, second, ReadsPair, no_module, refused, has_tables, AsksPair, PairAsked, PairAskedFor}
 
 -- ---- the second file
 

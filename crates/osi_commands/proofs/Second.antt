@@ -1,6 +1,8 @@
 -- What is answered to a second file, case by case.
-use Rattle.std.proofs.Common.{ℕ, ◌≡◌, List, Option, Result, Ok, Err, Bool, true, false, refl, sym, ap, subst}
+use Rattle.std.proofs.Common.{ℕ, ◌≡◌, ◌⊎◌, List, Option, Result, Ok, Err, Bool, true, false, refl, sym, ap, subst, inl, inr, ◌∙◌}
 use Rattle.osi_base.specs.Outside.{logged}
+use Rattle.osi_base.specs.declared.words.Status.{Status}
+use Rattle.osi_base.specs.declared.words.Status.TheVariants.{Done, ScriptRefused}
 use Rattle.stub_tables.specs.declared.tables.Tables.{Tables}
 use Rattle.script_lines.specs.declared.fault.ScriptFault.{ScriptFault}
 use Rattle.script_lines.specs.declared.fault.ScriptFault.TheVariants.{At, NoMemory}

@@ -1,11 +1,13 @@
 -- How the top call ends, by what the words are.
-use Rattle.std.proofs.Common.{ℕ, ◌≡◌, List, Option, None, Some, Result, Ok, Err, IfOk, MatchResult, true, refl, sym, ap, subst, inr, ◌∙◌}
+use Rattle.std.proofs.Common.{ℕ, ◌≡◌, ◌⊎◌, List, Option, None, Some, Result, Ok, Err, IfOk, MatchResult, true, refl, sym, ap, subst, inr, ◌∙◌}
 use Rattle.osi_base.specs.Outside.{FileMap, logged, grown}
 use Rattle.osi_base.specs.declared.words.Status.{Status}
 use Rattle.osi_base.specs.declared.words.Status.TheVariants.{Done, Usage, ReadFault, WriteFault, LineFault, ModuleRefused, ScriptRefused, Ended, Spent, NoMemory}
 use Rattle.module_check.specs.Command.{Check}
 use Rattle.osi_commands.specs.declared.answers.Answer.{Answer}
+use Rattle.osi_commands.specs.declared.commands.Command.{Command as CommandWords}
 use Rattle.osi_commands.specs.Commands.{FilePair, Command, checks, pairs}
+use Rattle.osi_commands.specs.Given.{given}
 use Rattle.osi_commands.specs.Answers.{usage_answer, Ends, Closes, IsUnless}
 use Rattle.osi_commands.specs.Reading.{CheckAskedAtEnd}
 use Rattle.osi_commands.specs.Checking.{Checks, CheckEnds}

@@ -4,9 +4,7 @@ use Rattle.osi_base.specs.Outside.{IsCalm, FileMap, grown}
 use Rattle.osi_base.specs.declared.words.Status.{Status}
 use Rattle.osi_base.specs.declared.words.Status.TheVariants.{Done, Usage, ReadFault, ModuleRefused, ScriptRefused}
 use Rattle.stub_tables.specs.declared.tables.Tables.{Tables}
-use Rattle.module_reading.specs.declared.fault.ModuleKind.{ModuleKind}
-use Rattle.module_reading.specs.declared.fault.ModuleFault.TheVariants as faults
-use Rattle.module_reading.specs.Modules.{HasTables, IsRefused}
+use Rattle.module_reading.specs.Modules.{HasTables}
 use Rattle.module_check.specs.Command.{Check}
 use Rattle.module_check.specs.Checking.{shown, IsChecked}
 use Rattle.module_check.specs.declared.checking.Checked.{Checked}
@@ -48,12 +46,10 @@ pub record IsShownDone (told : Option FileMap) (old new : ℕ) (check : Check) (
 
 -- ---- when each status comes
 
--- Over a told map whose files didn't fail: a module that is missing isn't read, one that has tables is shown, and one that has a
--- fault is refused. One without a fault is shown, and one without tables is refused. Any module that is there is shown or refused.
+-- Over a told map whose files didn't fail: a module that is missing isn't read, one without tables is refused, and one
+-- without a fault is shown. Any module that is there is shown or refused.
 pub record IsCheckDue (map : FileMap) (check : Check) (sink_old sink_new : ℕ) (status : Status) : Type 0 where
   pub no_module : map check.«module» ≡ None → IsUnless sink_old sink_new ReadFault status
-  pub tables : (octets : List ℕ) (tables : Tables) → map check.«module» ≡ Some octets → HasTables octets tables → IsUnless sink_old sink_new Done status
-  pub fault : (octets : List ℕ) (line column : ℕ) (kind : ModuleKind) → map check.«module» ≡ Some octets → IsRefused octets (faults.At line column kind) → IsUnless sink_old sink_new ModuleRefused status
   pub no_tables : (octets : List ℕ) → map check.«module» ≡ Some octets → HasNoTables octets → IsUnless sink_old sink_new ModuleRefused status
   pub no_fault : (octets : List ℕ) → map check.«module» ≡ Some octets → HasNoFault octets → IsUnless sink_old sink_new Done status
   pub there : (octets : List ℕ) → map check.«module» ≡ Some octets → IsUnless sink_old sink_new Done status ⊎ IsUnless sink_old sink_new ModuleRefused status

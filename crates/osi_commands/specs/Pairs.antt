@@ -4,9 +4,7 @@ use Rattle.osi_base.specs.Outside.{IsCalm, FileMap, grown}
 use Rattle.osi_base.specs.declared.words.Status.{Status}
 use Rattle.osi_base.specs.declared.words.Status.TheVariants.{Done, Usage, ReadFault, ModuleRefused, ScriptRefused}
 use Rattle.stub_tables.specs.declared.tables.Tables.{Tables}
-use Rattle.module_reading.specs.declared.fault.ModuleKind.{ModuleKind}
-use Rattle.module_reading.specs.declared.fault.ModuleFault.TheVariants as faults
-use Rattle.module_reading.specs.Modules.{HasTables, IsRefused}
+use Rattle.module_reading.specs.Modules.{HasTables}
 use Rattle.script_lines.specs.declared.fault.ScriptFault.{ScriptFault}
 use Rattle.script_lines.specs.declared.fault.ScriptFault.TheVariants.{At}
 use Rattle.script_lines.specs.declared.fault.ScriptKind.{ScriptKind}
@@ -20,11 +18,12 @@ use Rattle.trace_vectors.specs.Trace.{TraceTextOf}
 use Rattle.osi_commands.specs.declared.answers.Answer.{Answer}
 use Rattle.osi_commands.specs.declared.commands.Work.{Work}
 use Rattle.osi_commands.specs.declared.commands.Work.TheVariants.{Replay, Trace}
+use Rattle.osi_commands.specs.declared.reading.PairRead.{PairRead}
 use Rattle.osi_commands.specs.declared.reading.PairRead.TheVariants.{Answered, Whole}
 use Rattle.osi_commands.specs.Commands.{FilePair}
 use Rattle.osi_commands.specs.Answers.{script_answer, IsUnless}
 use Rattle.osi_commands.specs.Reading.{WasRead, ReadsPair, HasModule}
-use Rattle.osi_commands.specs.Causes.{IsUnread, IsRefusedModule, HasNoTables}
+use Rattle.osi_commands.specs.Causes.{IsUnread, IsRefusedModule, HasNoTables, HasNoFault}
 use Rattle.osi_commands.specs.Replaying.{bare_alone, Replayed, ReplayedBy}
 use Rattle.osi_commands.specs.Tracing.{script_kind, TracedBy}
 
@@ -132,13 +131,15 @@ pub record IsBySecond (map : FileMap) (pair : FilePair) (sink_old sink_new : ℕ
   pub has : HasTables text tables
   pub by : IsUnless sink_old sink_new (due_by_second pair.work tables (map pair.second)) status
 
--- Over a told map whose files didn't fail: a module that is missing isn't read, one that has a fault is refused, and so is one without
--- tables. One that has tables ends as the second file is due by them. Any module that is there is refused, or has tables.
+-- Over a told map whose files didn't fail: a module that is missing isn't read, and one without tables is refused. One that has
+-- tables is refused, or ends as the second file is due by them; and it isn't refused where it has no fault. Any module that is
+-- there is refused, or has tables.
 pub record IsPairDue (map : FileMap) (pair : FilePair) (sink_old sink_new : ℕ) (status : Status) : Type 0 where
   pub no_module : map pair.«module» ≡ None → IsUnless sink_old sink_new ReadFault status
   pub no_tables : (text : List ℕ) → map pair.«module» ≡ Some text → HasNoTables text → IsUnless sink_old sink_new ModuleRefused status
-  pub fault : (text : List ℕ) (line column : ℕ) (kind : ModuleKind) → map pair.«module» ≡ Some text → IsRefused text (faults.At line column kind) → IsUnless sink_old sink_new ModuleRefused status
   pub by_second : (text : List ℕ) (tables : Tables) → map pair.«module» ≡ Some text → HasTables text tables
+      → IsUnless sink_old sink_new (due_by_second pair.work tables (map pair.second)) status ⊎ IsUnless sink_old sink_new ModuleRefused status
+  pub no_fault : (text : List ℕ) (tables : Tables) → map pair.«module» ≡ Some text → HasTables text tables → HasNoFault text
       → IsUnless sink_old sink_new (due_by_second pair.work tables (map pair.second)) status
   pub there : (text : List ℕ) → map pair.«module» ≡ Some text
       → IsUnless sink_old sink_new ModuleRefused status ⊎ IsBySecond map pair sink_old sink_new status text

@@ -1,5 +1,5 @@
 -- The replay of a schedule.
-use Rattle.std.specs.Prelude.{◌≡◌, ℕ, Bool, false, if◌then◌else◌, List, [], Result, Ok, Err}
+use Rattle.std.specs.Prelude.{◌≡◌, ℕ, Bool, true, false, if◌then◌else◌, List, [], Result, Ok, Err}
 use Rattle.osi_base.specs.declared.words.Side.TheVariants.{A, B}
 use Rattle.stub_tables.specs.declared.tables.Tables.{Tables}
 use Rattle.stub_tables.specs.Readable.{IsReadable}

@@ -5,17 +5,14 @@ use Rattle.std.proofs.lemmas.Bool.{cases_lt}
 use Rattle.std.proofs.lemmas.List.{length-take, length-drop, take-append-drop, append-nil}
 use Rattle.tpkt.specs.declared.packet.Packet.{Packet}
 use Rattle.tpkt.specs.declared.packet.Packet.TheVariants.{Tsdu}
-use Rattle.tpkt.specs.Wire.{packet, header, mark, Tpdu, Whole, Part, IsUnit, Splits, begun_after, begun_by, handed_for, handed, tsdu_limit}
+use Rattle.tpkt.specs.Wire.{packet, header, Tpdu, Whole, Part, IsUnit, Splits, begun_after, begun_by, handed_for, handed, tsdu_limit}
 use Rattle.tpkt.specs.Written.{parts_of, part_packet}
 use Rattle.tpkt.specs.Stream.{IsOctets}
 use Rattle.tpkt.proofs.WrittenLaws.{parts_step, parts_last}
+use Rattle.association_reading.proofs.Beginnings.{cut, octets-front, octets-behind, one_part}
 use Rattle.prefix_laws.specs.Laws.{HandsUpLast, OnlyTheLastPacketHandsUp}
-use Rattle.prefix_laws.proofs.Lists.{cut, octets-behind}
 
 -- ---- the packets of a TSDU
-
-one-part : (begun xs : List ℕ) (last : Bool) → length xs ≤ 65528 → length begun + length xs ≤ tsdu_limit → IsUnit begun (Part last xs) (header (240 ∷ mark last ∷ []) ++ xs)
-one-part begun xs last few within = record { spells = refl; at_least = omega arith; at_most = omega arith; within = within }
 
 last-closes : (most : ℕ) (xs begun : List ℕ) → most ≤ 65528 → length xs ≤ most → length begun + length xs ≤ tsdu_limit → HandsUpLast begun (flat_map part_packet (parts_of most xs)) (Tsdu (begun ++ xs))
 last-closes most xs begun small few within = record {
@@ -23,7 +20,7 @@ last-closes most xs begun small few within = record {
   last = Part true xs;
   splits =
       subst (λ (ps : List (Bool × List ℕ)). Splits begun (flat_map part_packet ps) (Part true xs ∷ []) []) (sym (parts_last most xs few))
-      (header (240 ∷ 128 ∷ []) ++ xs, [], one-part begun xs true (omega arith) within, refl, refl);
+      (header (240 ∷ 128 ∷ []) ++ xs, [], one_part begun xs true (omega arith) within, refl, refl);
   none = refl;
   up = refl;
   whole = refl;
@@ -46,7 +43,7 @@ parts-close (suc fuel) most xs begun small some few within =
                 subst (λ (ps : List (Bool × List ℕ)). Splits begun (flat_map part_packet ps) (Part false (take most xs) ∷ (next.before ++ next.last ∷ [])) []) (sym (parts_step most xs some long)) (
                   header (240 ∷ 0 ∷ []) ++ take most xs,
                   flat_map part_packet (parts_of most (drop most xs)),
-                  one-part begun (take most xs) false (omega (arith, taken)) (omega (arith, taken)),
+                  one_part begun (take most xs) false (omega (arith, taken)) (omega (arith, taken)),
                   refl,
                   next.splits,
                 );

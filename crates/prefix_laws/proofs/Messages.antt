@@ -1,9 +1,10 @@
 -- What came of a message brings nothing before its last octet.
-use Rattle.std.proofs.Common.{◌≡◌, refl, sym, ap, subst, ◌∙◌, ℕ, List, [], ◌∷◌, ◌++◌, arith}
+use Rattle.std.proofs.Common.{◌≡◌, refl, sym, ap, subst, ◌∙◌, ℕ, ◌<◌, List, [], ◌∷◌, ◌++◌, length, arith, None, Err}
 use Rattle.std.proofs.lemmas.List.{append-nil}
 use Rattle.stub_tables.specs.declared.tables.Tables.{Tables}
 use Rattle.tpkt.specs.declared.packet.Packet.{Packet}
 use Rattle.tpkt.specs.declared.packet.Packet.TheVariants.{Connect, Confirm, Disconnect, Tsdu}
+use Rattle.tpkt.specs.declared.stop.Stop.TheVariants.{Short}
 use Rattle.tpkt.specs.Wire.{Tpdu, Splits, begun_by, handed_for, handed}
 use Rattle.tpkt.specs.Stream.{IsOctets, unit_at}
 use Rattle.tpkt.proofs.StreamLaws.{split_read, less_than_a_packet, splits_join, handed_join, octets_join}
@@ -11,12 +12,12 @@ use Rattle.tpkt.proofs.WrittenLaws.{connect_is, confirm_is, disconnect_is}
 use Rattle.end_rules.specs.Messages.{TransportUnit, ConnectionRequest, ConnectionConfirm, DisconnectRequest, TransportError, Message, Transport, Session}
 use Rattle.association_wire.specs.Written.{request_ends, confirm_ends, written_unit, written, tsdu_of}
 use Rattle.association_reading.specs.Front.{Front, OfTransport, fronts_of, all_fronts}
+use Rattle.association_reading.proofs.Beginnings.{octets-front}
 use Rattle.association_worlds.specs.Lines.{IsSize}
 use Rattle.association_worlds.specs.Ways.{IsOfTransport, IsCarried, front_of, Sent, text_of, texts, fronts_of_sent, AreWritten}
 use Rattle.association_worlds.proofs.Streams.{word-front, small-octets, texts-octets}
 use Rattle.association_worlds.proofs.Kept.{fronts-append}
 use Rattle.prefix_laws.specs.Laws.{HandsUpLast, BeginningsBringNothing}
-use Rattle.prefix_laws.proofs.Lists.{octets-front}
 use Rattle.prefix_laws.proofs.Cuts.{last-hands-up, unit-closes, begun-append, none-before, cut-at}
 
 -- ---- one message
@@ -94,7 +95,8 @@ nothing-brought tables before next front back written e some =
     let all : Splits [] (texts tables before ++ front) (r.us ++ k.before) k.rest =
     splits_join [] (texts tables before) front r.us k.before k.rest r.splits (subst (λ (b : List ℕ). Splits b front k.before k.rest) (sym r.whole) k.splits) in
     let begun : begun_by [] (r.us ++ k.before) ≡ begun_by [] k.before = begun-append [] r.us k.before ∙ ap (λ (b : List ℕ). begun_by b k.before) r.whole in
-    let short = ap (λ (b : List ℕ). unit_at b k.rest) begun ∙ less_than_a_packet (begun_by [] k.before) k.next k.unit k.rest k.left k.octets k.is k.whole k.some in
+    let short : unit_at (begun_by [] (r.us ++ k.before)) k.rest ≡ Err Short =
+    ap (λ (b : List ℕ). unit_at b k.rest) begun ∙ less_than_a_packet (begun_by [] k.before) k.next k.unit k.rest k.left k.octets k.is k.whole k.some in
     let read = split_read (texts tables before ++ front) (r.us ++ k.before) k.rest (octets_join (texts tables before) front (texts-octets tables before sent) came) all short in
     let none : handed [] k.before ≡ [] = none-before [] k.before c.closes.before k.after k.next c.closes.last c.closes.none k.are in (
       ap all_fronts (read.0 ∙ handed_join [] r.us k.before)

@@ -1,39 +1,41 @@
 -- In reliable mode no end is dead.
-use Rattle.std.proofs.Common.{◌≡◌, refl, true, false, ◌∙◌, ap, subst, List, [], ◌++◌, inl, inr, ◌⊎◌}
-use Rattle.std.specs.Prelude.{nat_eq}
+use Rattle.std.proofs.Common.{◌≡◌, refl, true, false, ◌∙◌, sym, ap, subst, List, [], ◌++◌, inl, inr, ◌⊎◌}
+use Rattle.osi_base.specs.declared.words.Side.{Side}
 use Rattle.osi_base.specs.declared.words.Side.TheVariants.{A, B}
 use Rattle.stub_tables.specs.declared.tables.Tables.{Tables}
 use Rattle.dialogue.specs.declared.config.Config.{Config}
 use Rattle.dialogue.specs.declared.config.Mode.{Mode}
 use Rattle.dialogue.specs.declared.config.Mode.TheVariants.{Reliable}
 use Rattle.dialogue.specs.declared.config.Phase.TheVariants.{Up, Releasing}
+use Rattle.dialogue.specs.declared.event.Event.{Event}
+use Rattle.dialogue.specs.declared.event.Entry.{Entry}
 use Rattle.end_rules.specs.Base.{Spellings}
 use Rattle.end_rules.specs.Messages.{Message}
 use Rattle.end_rules.specs.State.{Body}
 use Rattle.end_rules.specs.Policy.{is_faulty_proposal}
-use Rattle.end_rules.specs.Writing.{own_proposals, proposals}
+use Rattle.end_rules.specs.Writing.{own_proposals}
 use Rattle.end_rules.specs.Calling.{is_dead}
 use Rattle.end_rules.specs.World.{World}
 use Rattle.end_config.proofs.Proposes.{proposes-rightly}
 use Rattle.agreement.specs.Sets.Role.{Initiator, Responder}
 use Rattle.end_model.specs.Seen.{Free}
-use Rattle.end_model.specs.Pairs.{Two, base_at}
+use Rattle.end_model.specs.Pairs.{Two}
 use Rattle.reliable_model.specs.Goes.{Ledger, Goes}
 use Rattle.reliable_model.specs.ReliablePairs.{IsFit}
-use Rattle.reliable_model.proofs.Fixed.{AreIdentifiers, listed-identifiers}
 use Rattle.reliable_model.proofs.Words.{Side as SideOf, Stands, IsOver}
 use Rattle.reliable_model.proofs.Opening.{Way, First, Again, rests, asks, joins}
 use Rattle.reliable_model.proofs.Machine as machine
 use Rattle.reliable_model.proofs.Machine.{DeafRest, DeafAsked, DeafCarrying, LeftIdle, LeftJoined, LeftBroken, Resting, Calling, Confirming, Connecting, Accepting, Refusing, Deaf, Gone, Standing}
 use Rattle.reliable_model.proofs.Placing.{all-kept}
-use Rattle.said_words.proofs.TransferWorlds.{some-window}
 use Rattle.transfer_laws.specs.Laws.{reliable_ends}
 use Rattle.transfer_laws.proofs.Configs.{identifiers-right, has-window}
 use Rattle.transfer_laws.proofs.Spelled.{spells-so, back-so}
 use Rattle.transfer_laws.proofs.Premises.{ends-modelled}
+use Rattle.association_worlds.specs.Laws.{IsMeant}
 use Rattle.run_laws.specs.Laws.{NobodyIsDead}
+use Rattle.association_runs.specs.Worlds.{Runs}
 use Rattle.association_runs.specs.Sides.{ends_for}
-use Rattle.association_runs.specs.Laws.{ReachesMessages}
+use Rattle.association_runs.specs.Laws.{AreEvents, ReachesMessages}
 use Rattle.transfer_worlds.proofs.Spoken.{of_first, of_second}
 use Rattle.transfer_runs.specs.Laws.{AreReliable}
 
@@ -95,18 +97,9 @@ module _ (tables : Tables) (a b : Config) (d : AreReliable tables a b) where
   abbrev pub free : Free
   free = (ends-modelled tables a b d.ends.module_s d.ends.name (of_first tables a b d.ends) (of_second tables a b d.ends)).0
 
-  pub presumed : machine.Presumed free tables (reliable_ends tables a b).spellings a b
-  presumed = record { fit = fit; carries = (ends-modelled tables a b d.ends.module_s d.ends.name (of_first tables a b d.ends) (of_second tables a b d.ends)).1 }
-
-  -- the initiator proposes identifiers of contexts, and its window isn't 0
-  pub identifiers : AreIdentifiers (proposals (base_at Initiator (reliable_ends tables a b)))
-  identifiers = listed-identifiers (proposals (base_at Initiator (reliable_ends tables a b))) (identifiers-right a (of_first tables a b d.ends).accepted)
-
-  pub window : nat_eq a.window 0 ≡ false
-  window = some-window a.window (has-window a (of_first tables a b d.ends).accepted)
-
   pub kept : (two : Two) (ledger : Ledger) → Goes (reliable_ends tables a b) two ledger → machine.Kept free tables (reliable_ends tables a b).spellings a b two ledger
-  kept two ledger g = all-kept free tables (reliable_ends tables a b).spellings a b presumed two ledger g
+  kept two ledger g =
+      all-kept free tables (reliable_ends tables a b).spellings a b (record { fit = fit; carries = (ends-modelled tables a b d.ends.module_s d.ends.name (of_first tables a b d.ends) (of_second tables a b d.ends)).1 }) two ledger g
 
   pub nobody-dead : (w : World) → ReachesMessages (reliable_ends tables a b) w → NobodyIsDead (ends_for (reliable_ends tables a b)) w
   nobody-dead w s = go

@@ -1,7 +1,7 @@
 -- In reliable mode the responder started nothing and was handed up nothing before its association stood; so that an acceptance that
 -- recovers nothing forgets nothing.
-use Rattle.std.proofs.Common.{◌≡◌, refl, true, false, ◌∙◌, sym, ap, subst, ℕ, List, [], ◌∷◌, inl, inr, ◌⊎◌}
-use Rattle.std.specs.Prelude.{ℤ, Bool, ◌&&◌, ◌||◌, Option, Some, None, Ok, if◌then◌else◌}
+use Rattle.std.proofs.Common.{◌≡◌, refl, true, false, ◌∙◌, sym, ap, subst, ℕ, List, [], ◌∷◌, ◌++◌, inl, inr, ◌⊎◌}
+use Rattle.std.specs.Prelude.{ℤ, Bool, not, ◌&&◌, ◌||◌, Option, Some, None, Ok, if◌then◌else◌}
 use Rattle.asn1_types.specs.declared.value.Val.{Val}
 use Rattle.osi_base.specs.declared.words.Answers.{Answers}
 use Rattle.osi_base.specs.declared.session_word.SessionConnect.{SessionConnect}
@@ -12,6 +12,7 @@ use Rattle.stub_tables.specs.declared.operation.Operation.{Operation}
 use Rattle.stub_tables.specs.Lookup.{operation_at, error_at}
 use Rattle.dialogue.specs.declared.config.Config.{Config}
 use Rattle.dialogue.specs.declared.config.Mode.TheVariants.{Reliable}
+use Rattle.dialogue.specs.declared.config.Phase.{Phase}
 use Rattle.dialogue.specs.declared.config.Phase.TheVariants as phases
 use Rattle.dialogue.specs.declared.call.Call.{Call}
 use Rattle.dialogue.specs.declared.call.Call.TheVariants as the_calls
@@ -21,27 +22,27 @@ use Rattle.end_rules.specs.Sets.{Alteration}
 use Rattle.end_rules.specs.Messages.{Message, Transport, Session, Value, Word, OfAssociation, OfData, OfMarks, OfActivities, TransportUnit, ConnectionRequest, ConnectionConfirm, DisconnectRequest, TransportError}
 use Rattle.end_rules.specs.Messages.{Connect, Accept, Refuse, Finish, Disconnect, Abort, AbortAccept, Values, AlterContext, AlterContextAck, Mark, Give, Start, End, unit_of}
 use Rattle.end_rules.specs.State.{Body, OpenCall, Queued, Octets, opened_with, is_up, is_broken, passes_over}
-use Rattle.end_rules.specs.Faults.{transport_fault}
+use Rattle.end_rules.specs.Faults.{transport_fault, fault_if}
 use Rattle.end_rules.specs.Writing.{connect_values}
 use Rattle.end_rules.specs.Connecting.{is_refused, recovers_in, refused_connect, accepted_connect}
 use Rattle.end_rules.specs.Hearing.{Rejecting, hear, with_reject, take_head, head_of, take_values}
-use Rattle.end_rules.specs.Calling.{can_call}
+use Rattle.end_rules.specs.Calling.{can_call, is_phase_for}
 use Rattle.end_rules.specs.Requesting.{after_accepted, after_sent, after_call, after_invoke, after_outcome, result_in, error_for, due_of}
-use Rattle.end_rules.specs.ByItself.{OwnAct, SendsNow, EncodesOn}
+use Rattle.end_rules.specs.ByItself.{OwnAct, SendsNow, EncodesOn, next_own}
 use Rattle.end_rules.specs.Purging.{is_transport_purged}
-use Rattle.end_rules.specs.TakesTransport.{after_transport, transport_unit_fault, may_request, is_waiting, is_size}
+use Rattle.end_rules.specs.TakesTransport.{after_transport, transport_unit_fault, may_request, is_waiting, phase_asked, is_size}
 use Rattle.end_rules.specs.TakesData.{part_in, with_parts, settled}
 use Rattle.end_rules.specs.TakesActivities.{received, handed_up}
 use Rattle.end_rules.specs.InPlace.{is_in_place}
 use Rattle.end_rules.specs.Reacting.{Passes, Takes, Fails, react, on_transport, after_word}
-use Rattle.end_rules.specs.History.{after_step, step_of, after_taken}
+use Rattle.end_rules.specs.History.{after_step, step_of, after_broke, broken_phase, after_taken}
 use Rattle.agreement.specs.Sets.{Role}
 use Rattle.agreement.specs.Sets.Role.{Initiator, Responder}
 use Rattle.end_model.specs.Seen.{Free}
 use Rattle.end_model.specs.Requests.{sent_all, after_called}
 use Rattle.end_model.specs.Pairs.{Common, base_at, Two, body_at, coming_to}
 use Rattle.end_model.proofs.Ladder.{called}
-use Rattle.reliable_model.specs.Goes.{Ledger, Goes, begins, calls, acts, takes, passes, fails, breaks, items_by, arrived_by}
+use Rattle.reliable_model.specs.Goes.{Ledger, Goes, begins, calls, acts, takes, passes, fails, breaks, deeds_of, items_by, arrived_by}
 use Rattle.reliable_model.specs.ReliablePairs.{reliable_pair}
 use Rattle.reliable_model.proofs.FirmSteps.{in-place}
 use Rattle.reliable_model.proofs.OnWay.{took-word}
@@ -50,12 +51,56 @@ use Rattle.reliable_model.proofs.Opening.{Way, First, Again}
 use Rattle.reliable_model.proofs.Phases.{OnlyAborts, own-up}
 use Rattle.reliable_model.proofs.Machine as machine
 use Rattle.reliable_model.proofs.Machine.{LeftIdle, LeftJoined, LeftBroken, Resting, Calling, Confirming, Connecting, Accepting, Refusing, Deaf, Gone, Standing}
-use Rattle.said_words.proofs.TransferEnds.{is_early}
 use Rattle.association_runs.proofs.Reactions.{taken-leaves}
-use Rattle.run_lemmas.proofs.Tests.{clash, and-left, and-right, no-fault-so}
-use Rattle.run_lemmas.proofs.Phases.{up-late, idle-early, refused-late, was-early, broken-early}
 
 -- ---- before an association stands
+
+abbrev pub is_early : Phase → Bool
+is_early phases.Idle = true
+is_early phases.Opening = true
+is_early phase = false
+
+up-late : (phase : Phase) → is_up phase ≡ true → is_early phase ≡ false
+up-late phases.Up h = refl
+up-late phase h = cc
+
+open-early : (phase : Phase) → is_phase_for the_calls.Open phase ≡ true → is_early phase ≡ true
+open-early phases.Idle h = refl
+open-early phase h = cc
+
+clash : (x : Bool) → x ≡ true → x ≡ false → ⊥
+clash x h i = cc
+
+and-left : (a b : Bool) → (a && b) ≡ true → a ≡ true
+and-left true b h = refl
+and-left false b h = cc
+
+and-right : (a b : Bool) → (a && b) ≡ true → b ≡ true
+and-right true b h = h
+and-right false b h = cc
+
+asked-early : (phase : Phase) (s : Bool) → is_waiting phase ≡ true → is_early (phase_asked phase s) ≡ true → is_early phase ≡ true
+asked-early phases.Idle s w h = refl
+asked-early phases.Broken s w h = cc
+asked-early phase s w h = cc
+
+pub broken-early : (phase : Phase) → is_early (broken_phase Reliable phase) ≡ true → is_early phase ≡ true
+broken-early phases.Idle h = refl
+broken-early phases.Over h = cc
+broken-early phases.Dead h = cc
+broken-early phases.Opening h = refl
+broken-early phases.Up h = cc
+broken-early phases.Releasing h = cc
+broken-early phases.Broken h = cc
+broken-early phases.Recovering h = cc
+
+refused-late : (b : Bool) → is_early (if b then phases.Broken else phases.Over) ≡ false
+refused-late true = refl
+refused-late false = refl
+
+no-fault : (b : Bool) (fault : Fault) → fault_if (not b) fault ≡ None → b ≡ true
+no-fault true fault h = refl
+no-fault false fault h = cc
 
 -- where an end is that early, it was so before
 abbrev pub Before : Body → Body → Type 0
@@ -115,7 +160,7 @@ module _ (free : Free) (tables : Tables) (spellings : Spellings) (a b : Config) 
   outcome-before body id (Some o) (Some apdu) h = h
 
   accepted-before : (body : Body) (call : Call) (answer : Option ℤ) → can_call base body call ≡ Ok answer → Before body (after_accepted base body call answer)
-  accepted-before body the_calls.Open answer can h = idle-early body.link.phase (called base body the_calls.Open answer can).in_phase
+  accepted-before body the_calls.Open answer can h = open-early body.link.phase (called base body the_calls.Open answer can).in_phase
   accepted-before body (the_calls.Invoke context operation argument linked) None can h = h
   accepted-before body (the_calls.Invoke context operation argument linked) (Some id) can h = invoke-before body context operation id linked (operation_at base.tables operation) argument h
   accepted-before body (the_calls.Answer id result) answer can h = outcome-before body id (opened_with false id body.calls.opens) (result_in base body id result) h
@@ -172,8 +217,8 @@ module _ (free : Free) (tables : Tables) (spellings : Spellings) (a b : Config) 
 
   unit-before : (body : Body) (unit : TransportUnit) → transport_unit_fault base body unit ≡ None → Before body (after_transport base body unit)
   unit-before body (ConnectionRequest source size calling other_) fine h =
-      let may : may_request base body ≡ true = no-fault-so (may_request base body) transport_fault fine in
-      was-early body.link.phase (is_size size) (and-right _ (is_waiting body.link.phase) may) h
+      let may : may_request base body ≡ true = no-fault (may_request base body) transport_fault fine in
+      asked-early body.link.phase (is_size size) (and-right _ (is_waiting body.link.phase) may) h
   unit-before body (ConnectionConfirm destination size) fine h = h
   unit-before body (DisconnectRequest destination) fine h = absurd (clash false h refl)
   unit-before body TransportError fine h = h
@@ -229,7 +274,7 @@ module _ (free : Free) (tables : Tables) (spellings : Spellings) (a b : Config) 
   nothing f two ledger (passes x l Initiator message left g e r) = λ h. nothing f x l g h
   nothing f two ledger (passes x l Responder message left g e r) = λ h. nothing f x l g h
   nothing f two ledger (fails x l role message left fault body aborts shown g e r) = λ h. absurd (f x l g role message left fault body aborts shown e r)
-  nothing f two ledger (breaks x l g) = λ h. nothing f x l g (broken-early Reliable x.b.link.phase h)
+  nothing f two ledger (breaks x l g) = λ h. nothing f x l g (broken-early x.b.link.phase h)
 
   -- ---- an opening that is taken
 

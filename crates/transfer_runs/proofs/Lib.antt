@@ -3,9 +3,4 @@ pub mod Alive
 pub mod Early
 pub mod Whole
 pub mod Told
-pub mod Saved
-pub mod Shared
-pub mod Sent
-pub mod Queued
-pub mod Started
-pub mod Outcomes
+pub mod Counted

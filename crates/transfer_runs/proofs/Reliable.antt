@@ -13,7 +13,7 @@ use Rattle.said_worlds.specs.Laws.{ReliableIsSaid}
 use Rattle.transfer_worlds.proofs.Spoken.{all-meant, of_first, of_second}
 use Rattle.run_laws.specs.Passing.{TakenInPlace}
 use Rattle.run_laws.specs.Showing.{EachCarryShows}
-use Rattle.run_laws.specs.Laws.{AtEachMoment, NothingFails, OneHolder}
+use Rattle.run_laws.specs.Laws.{AtEachMoment, NothingFails, NobodyIsDead, OneHolder}
 use Rattle.association_runs.specs.Worlds.{ends_of, Runs}
 use Rattle.association_runs.specs.Sides.{ends_for}
 use Rattle.association_runs.specs.Arriving.{EachArrivesWhole}
@@ -22,23 +22,18 @@ use Rattle.association_runs.specs.Dealings.{Own, own_at}
 use Rattle.outcome_laws.specs.Deals.{dealt_of, AreDistinct, outcomes_in}
 use Rattle.outcome_laws.specs.Outcomes.{AreAllowed, AreAnswers}
 use Rattle.agreement.specs.Laws.{AreFalling}
-use Rattle.agreement.specs.Sets.{Role}
 use Rattle.agreement.specs.Sets.Role.{Initiator, Responder}
 use Rattle.osi_base.specs.declared.words.Side.{Side}
 use Rattle.osi_base.specs.declared.words.Side.TheVariants.{A, B}
-use Rattle.end_model.specs.Pairs.{Two}
-use Rattle.reliable_model.specs.Goes.{Deeds, Encoding, Ledger, Goes, deeds_of}
-use Rattle.reliable_model.specs.Transfers.{Ends as Ends_of, ArrivesWhole, IsNewest, item_of, IsOf}
+use Rattle.reliable_model.specs.Goes.{Deeds}
 use Rattle.run_laws.specs.Transfers.{OneTransfer}
 use Rattle.association_runs.proofs.Deeds.{AreDone}
-use Rattle.association_runs.specs.Laws.{AreEvents, AreOneHolder, ReachesMessages, RunsReachMessages, RunsTakeInPlace, RunsShowWhatIsTaken, RunsNeverFail, RunsHaveOneHolder, RunsTransferWhole, RunsTellOneOutcome, RunsLeaveNothingWhole, RunKeepsLaws}
-use Rattle.counted_runs.specs.Laws.{RunsTakeWhatIsWhole}
-use Rattle.transfer_runs.specs.Laws.{AreReliable, ReliableRunsTakeInPlace, ReliableRunsShowWhatIsTaken, ReliableRunsTellOneOutcome, ReliableRunsNeverFail, ReliableRunsHaveOneHolder, ReliableRunsArriveWhole, ReliableRunsArriveOnce, ReliableRunsTellAnswers, ReliableRunsKeepLaws}
+use Rattle.association_runs.specs.Laws.{AreEvents, AreOneHolder, ReachesMessages, RunsReachMessages, RunsTakeInPlace, RunsShowWhatIsTaken, RunsNeverFail, RunsHaveOneHolder, RunsTransferWhole, RunsTellOneOutcome}
+use Rattle.transfer_runs.specs.Laws.{AreReliable, ReliableRunsTakeInPlace, ReliableRunsShowWhatIsTaken, ReliableRunsTellOneOutcome, ReliableRunsNeverFail, ReliableRunsHaveOneHolder, ReliableRunsArriveWhole, ReliableRunsArriveOnce, ReliableRunsTellAnswers, ReliableRunsKeepEndsAlive, ReliableRunsTransferOnce, ReliableRunsTellOnce}
 use Rattle.association_runs.proofs.Carried.{from-start}
-use Rattle.transfer_runs.proofs.Alive.{nobody-dead, free, presumed, identifiers, window, kept}
-use Rattle.transfer_runs.proofs.Early.{NeverFails}
-use Rattle.transfer_runs.proofs.Sent.{taken-as-sent}
-use Rattle.transfer_runs.proofs.Outcomes.{Presumed, tell-rightly}
+use Rattle.transfer_runs.proofs.Alive.{nobody-dead, free, kept}
+use Rattle.run_laws.specs.Outcomes.{outcomes, Differ}
+use Rattle.transfer_runs.proofs.Told as once
 use Rattle.transfer_runs.proofs.Whole.{KeepThen, keep-keeps, transferred-once}
 
 module _ (tables : Tables) (a b : Config) (d : AreReliable tables a b) where
@@ -79,6 +74,10 @@ tell-one runs law is_said tables a b d =
 pub never-fail : RunsNeverFail → SaidIsMeant → ReliableIsSaid → ReliableRunsNeverFail
 never-fail runs law is_said tables a b d = over tables a b d (λ ends w. NothingFails w) (runs (reliable_ends tables a b) (meant tables a b d law is_said))
 
+pub keep-alive : RunsReachMessages → SaidIsMeant → ReliableIsSaid → ReliableRunsKeepEndsAlive
+keep-alive runs law is_said tables a b d =
+    over tables a b d NobodyIsDead (λ all told w typed r. nobody-dead tables a b d w (runs (reliable_ends tables a b) (meant tables a b d law is_said) all told w typed r))
+
 pub have-one-holder : RunsHaveOneHolder → SaidIsMeant → ReliableIsSaid → ReliableRunsHaveOneHolder
 have-one-holder runs law is_said tables a b d =
     over tables a b d (λ ends w. AtEachMoment (OneHolder ends) w) (λ all told w typed r. runs (reliable_ends tables a b) (meant tables a b d law is_said) all told w typed r (holder tables a b d))
@@ -89,38 +88,40 @@ arrive-whole runs law is_said tables a b d =
     (λ all told w typed r. runs (reliable_ends tables a b) (meant tables a b d law is_said) all told w typed r
     (λ two ledger g. ends-whole tables a b d.ends.module_s d.ends.name (of_first tables a b d.ends) (of_second tables a b d.ends) two ledger g) (λ two ledger g. ends-items tables a b d.ends.module_s d.ends.name (of_first tables a b d.ends) (of_second tables a b d.ends) two ledger g))
 
-module _ (tables : Tables) (a b : Config) (d : AreReliable tables a b) where
-  never : NeverFails (free tables a b d) tables (reliable_ends tables a b).spellings a b
-  never two ledger g role message left fault body aborts shown e h = ends-take tables a b d.ends.module_s d.ends.name (of_first tables a b d.ends) (of_second tables a b d.ends) two ledger g role message left fault body aborts shown e h
-
-  whole : (two : Two) (ledger : Ledger) → Goes (reliable_ends tables a b) two ledger → (role : Role) → Ends_of (reliable_ends tables a b) two role → ArrivesWhole (reliable_ends tables a b) two ledger role
-  whole two ledger g = ends-whole tables a b d.ends.module_s d.ends.name (of_first tables a b d.ends) (of_second tables a b d.ends) two ledger g
-
-  items : (two : Two) (ledger : Ledger) → Goes (reliable_ends tables a b) two ledger → (role : Role) (encoding : Encoding) → IsNewest encoding (deeds_of role ledger.deeds).encoded → IsOf encoding.apdu (item_of encoding.activity (deeds_of role ledger.deeds).started)
-  items two ledger g = ends-items tables a b d.ends.module_s d.ends.name (of_first tables a b d.ends) (of_second tables a b d.ends) two ledger g
-
-  falls : (two : Two) (ledger : Ledger) → Goes (reliable_ends tables a b) two ledger → (role : Role) → AreFalling (deeds_of role ledger.deeds).arrived
-  falls two ledger g role = ends-once tables a b d.ends.module_s d.ends.name (of_first tables a b d.ends) (of_second tables a b d.ends) two ledger g role
-
-  falling : (w : World) → ReachesMessages (reliable_ends tables a b) w → (side : Side) → AreFalling (deeds_at (ends_for (reliable_ends tables a b)) side w).arrived
-  falling w s A = subst (λ (x : Deeds). AreFalling x.arrived) (sym (s.deeds Initiator)) (falls s.two s.ledger s.speaks.goes Initiator)
-  falling w s B = subst (λ (x : Deeds). AreFalling x.arrived) (sym (s.deeds Responder)) (falls s.two s.ledger s.speaks.goes Responder)
-
-  one-transfer : RunsReachMessages → RunsTransferWhole → SaidIsMeant → ReliableIsSaid → (all : List Event) (told : List Entry) (w : World) → AreEvents all → Runs (ends_for (reliable_ends tables a b)) [] all told w → OneTransfer (ends_for (reliable_ends tables a b)) w
-  one-transfer runs arrive law is_said all told w typed r =
-      let m = meant tables a b d law is_said in
-      let s = runs (reliable_ends tables a b) m all told w typed r in
-      let keeps = keep-keeps (free tables a b d) tables (reliable_ends tables a b).spellings a b never (kept tables a b d) in
-      transferred-once (ends_for (reliable_ends tables a b)) w (arrive (reliable_ends tables a b) m all told w typed r whole items)
-      (from-start (reliable_ends tables a b) m (λ w two ledger dealings. AreDone (reliable_ends tables a b) w two ledger dealings × KeepThen (ends_for (reliable_ends tables a b)) w) keeps w all told typed r).extra.1
-      (falling w s)
-
-  given : Presumed (free tables a b d) tables (reliable_ends tables a b).spellings a b
-  given = record { never = never; kept = kept tables a b d; whole = whole; items = items; falls = falls }
-
 pub arrive-once : RunsReachMessages → SaidIsMeant → ReliableIsSaid → ReliableRunsArriveOnce
-arrive-once runs law is_said tables a b d =
-    over tables a b d (λ ends w. (side : Side) → AreFalling (deeds_at ends side w).arrived) (λ all told w typed r. falling tables a b d w (runs (reliable_ends tables a b) (meant tables a b d law is_said) all told w typed r))
+arrive-once runs law is_said tables a b d = over tables a b d (λ ends w. (side : Side) → AreFalling (deeds_at ends side w).arrived) go
+  where
+    go : (all : List Event) (told : List Entry) (w : World) → AreEvents all → Runs (ends_for (reliable_ends tables a b)) [] all told w → (side : Side) → AreFalling (deeds_at (ends_for (reliable_ends tables a b)) side w).arrived
+    go all told w typed r A =
+        let s = runs (reliable_ends tables a b) (meant tables a b d law is_said) all told w typed r in
+        subst (λ (x : Deeds). AreFalling x.arrived) (sym (s.deeds Initiator)) (ends-once tables a b d.ends.module_s d.ends.name (of_first tables a b d.ends) (of_second tables a b d.ends) s.two s.ledger s.speaks.goes Initiator)
+    go all told w typed r B =
+        let s = runs (reliable_ends tables a b) (meant tables a b d law is_said) all told w typed r in
+        subst (λ (x : Deeds). AreFalling x.arrived) (sym (s.deeds Responder)) (ends-once tables a b d.ends.module_s d.ends.name (of_first tables a b d.ends) (of_second tables a b d.ends) s.two s.ledger s.speaks.goes Responder)
+
+pub transfer-once : RunsReachMessages → RunsTransferWhole → SaidIsMeant → ReliableIsSaid → ReliableRunsTransferOnce
+transfer-once runs arrive law is_said tables a b d = over tables a b d OneTransfer go
+  where
+    go : (all : List Event) (told : List Entry) (w : World) → AreEvents all → Runs (ends_for (reliable_ends tables a b)) [] all told w → OneTransfer (ends_for (reliable_ends tables a b)) w
+    go all told w typed r =
+        let m = meant tables a b d law is_said in
+        let s = runs (reliable_ends tables a b) m all told w typed r in
+        let keeps = keep-keeps (free tables a b d) tables (reliable_ends tables a b).spellings a b
+        (λ two ledger g role message left fault body aborts shown e h. ends-take tables a b d.ends.module_s d.ends.name (of_first tables a b d.ends) (of_second tables a b d.ends) two ledger g role message left fault body aborts shown e h) (kept tables a b d) in
+        transferred-once (ends_for (reliable_ends tables a b)) w
+        (arrive (reliable_ends tables a b) m all told w typed r (λ two ledger g. ends-whole tables a b d.ends.module_s d.ends.name (of_first tables a b d.ends) (of_second tables a b d.ends) two ledger g) (λ two ledger g. ends-items tables a b d.ends.module_s d.ends.name (of_first tables a b d.ends) (of_second tables a b d.ends) two ledger g))
+        (from-start (reliable_ends tables a b) m (λ w two ledger dealings. AreDone (reliable_ends tables a b) w two ledger dealings × KeepThen (ends_for (reliable_ends tables a b)) w) keeps w all told typed r).extra.1
+        (falling s)
+      where
+        falling : ReachesMessages (reliable_ends tables a b) w → (side : Side) → AreFalling (deeds_at (ends_for (reliable_ends tables a b)) side w).arrived
+        falling s A = subst (λ (x : Deeds). AreFalling x.arrived) (sym (s.deeds Initiator)) (ends-once tables a b d.ends.module_s d.ends.name (of_first tables a b d.ends) (of_second tables a b d.ends) s.two s.ledger s.speaks.goes Initiator)
+        falling s B = subst (λ (x : Deeds). AreFalling x.arrived) (sym (s.deeds Responder)) (ends-once tables a b d.ends.module_s d.ends.name (of_first tables a b d.ends) (of_second tables a b d.ends) s.two s.ledger s.speaks.goes Responder)
+
+pub tell-once : SaidIsMeant → ReliableIsSaid → ReliableRunsTellOnce
+tell-once law is_said tables a b d =
+    subst (λ (e : Ends). (all : List Event) (told : List Entry) (w : World) → AreEvents all → Runs e [] all told w → (side : Side) → Differ (outcomes side told)) (same-ends tables a b d)
+    (λ all told w typed r side. once.tell-once (free tables a b d) tables (reliable_ends tables a b).spellings a b
+    (λ two ledger g role message left fault body aborts shown e h. ends-take tables a b d.ends.module_s d.ends.name (of_first tables a b d.ends) (of_second tables a b d.ends) two ledger g role message left fault body aborts shown e h) (kept tables a b d) (meant tables a b d law is_said) w all told typed r side)
 
 pub tell-answers : RunsReachMessages → SaidIsMeant → ReliableIsSaid → ReliableRunsTellAnswers
 tell-answers runs law is_said tables a b d = over tables a b d (λ ends w. (side : Side) → AreAnswers ends.a.tables (own_at ends (other side) w).wrote (own_at ends side w).shown) go
@@ -135,28 +136,3 @@ tell-answers runs law is_said tables a b d = over tables a b d (λ ends w. (side
         let s = runs (reliable_ends tables a b) (meant tables a b d law is_said) all told w typed r in
         subst (λ (o : Own). AreAnswers tables o.wrote (own_at (ends_for (reliable_ends tables a b)) B w).shown) (sym (s.dealt Initiator))
         (subst (λ (o : Own). AreAnswers tables (dealt_of Initiator s.dealings).wrote o.shown) (sym (s.dealt Responder)) (ends-answers tables a b d.ends.module_s d.ends.name (of_first tables a b d.ends) (of_second tables a b d.ends) s.two s.ledger s.dealings s.deals Responder))
-
--- ---- all of them
-
-pub keep-laws : RunsReachMessages → RunsTakeInPlace → RunsShowWhatIsTaken → RunsNeverFail → RunsHaveOneHolder → RunsTransferWhole → RunsTakeWhatIsWhole → RunsLeaveNothingWhole → SaidIsMeant → ReliableIsSaid → ReliableRunsKeepLaws
-keep-laws runs places shows calm one_holder arrive taken waits law is_said tables a b d =
-    subst (λ (e : Ends). (all : List Event) (told : List Entry) (w : World) → AreEvents all → Runs e [] all told w → RunKeepsLaws tables e told w) (same-ends tables a b d) go
-  where
-    go : (all : List Event) (told : List Entry) (w : World) → AreEvents all → Runs (ends_for (reliable_ends tables a b)) [] all told w → RunKeepsLaws tables (ends_for (reliable_ends tables a b)) told w
-    go all told w typed r =
-        let m = meant tables a b d law is_said in
-        record {
-          laws =
-              record {
-                taken_as_sent =
-                    taken-as-sent (free tables a b d) tables (reliable_ends tables a b).spellings a b (presumed tables a b d) (identifiers tables a b d) (window tables a b d) m w all told typed r (places (reliable_ends tables a b) m all told w typed r);
-                one_outcome = tell-rightly (free tables a b d) tables (reliable_ends tables a b).spellings a b (given tables a b d) m w all told typed r;
-                one_transfer = one-transfer tables a b d runs arrive law is_said all told w typed r;
-                nothing_fails = calm (reliable_ends tables a b) m all told w typed r;
-                nobody_is_dead = nobody-dead tables a b d w (runs (reliable_ends tables a b) m all told w typed r);
-                one_holder = one_holder (reliable_ends tables a b) m all told w typed r (holder tables a b d);
-                carries_show = shows (reliable_ends tables a b) m all told w typed r;
-              };
-          taken_when_whole = taken (reliable_ends tables a b) m all told w typed r;
-          nothing_whole_waits = waits (ends_for (reliable_ends tables a b)) all told w r;
-        }

@@ -1,23 +1,28 @@
--- In reliable mode the notes among what an end was shown in a whole run are those since its association stood: before, it was told
--- of no invocation.
-use Rattle.std.proofs.Common.{◌≡◌, refl, true, false, ◌∙◌, sym, ap, subst, List, [], ◌∷◌, ◌++◌, map, inl, inr, Ok}
-use Rattle.std.specs.Prelude.{Bool, ◌||◌, if◌then◌else◌}
+-- In reliable mode an end is told at most one outcome of each invocation in a whole run: what it was told before its association stood
+-- is nothing.
+use Rattle.std.proofs.Common.{◌≡◌, refl, true, false, ◌∙◌, sym, ap, subst, List, [], ◌∷◌, ◌++◌, map, inl, inr, ◌⊎◌, Ok}
+use Rattle.std.specs.Prelude.{ℤ, Bool, ◌||◌, Option, flat_map, if◌then◌else◌}
+use Rattle.osi_base.specs.declared.words.Side.{Side}
 use Rattle.osi_base.specs.declared.words.Side.TheVariants.{A, B}
+use Rattle.osi_base.specs.declared.session_word.SessionConnect.{SessionConnect}
+use Rattle.osi_base.specs.declared.presentation_word.PresentationConnect.{PresentationConnect}
 use Rattle.stub_tables.specs.declared.tables.Tables.{Tables}
 use Rattle.dialogue.specs.declared.config.Config.{Config}
-use Rattle.dialogue.specs.declared.config.Mode.TheVariants.{Reliable}
+use Rattle.dialogue.specs.declared.call.Call.{Call}
+use Rattle.dialogue.specs.declared.event.Event.{Event}
+use Rattle.dialogue.specs.declared.event.Entry.{Entry}
 use Rattle.dialogue.specs.declared.indication.Indication.{Indication}
 use Rattle.end_rules.specs.Base.{Base, Spellings}
-use Rattle.end_rules.specs.Messages.{Message, Transport, Session, OfAssociation, OfData, OfMarks, OfActivities, Values, AlterContext, AlterContextAck, Connect, End}
+use Rattle.end_rules.specs.Messages.{Message, Transport, Session, Value, OfAssociation, OfData, OfMarks, OfActivities, Values, AlterContext, AlterContextAck, Connect, End}
 use Rattle.end_rules.specs.State.{Body}
 use Rattle.end_rules.specs.Connecting.{is_refused, recovers_in}
 use Rattle.end_rules.specs.Requesting.{due_of}
 use Rattle.end_rules.specs.ByItself.{OwnAct, SendsNow, EncodesOn}
 use Rattle.end_rules.specs.Reacting.{Takes, react}
-use Rattle.end_rules.specs.History.{Step, called, sent, took, answered, passed, broke, step_of}
+use Rattle.end_rules.specs.History.{Step, called, sent, fed, took, answered, passed, feed_end, gave, broke, step_of}
 use Rattle.end_rules.specs.World as sides
 use Rattle.end_rules.specs.World.{World, Ends}
-use Rattle.agreement.specs.Sets.{Role}
+use Rattle.agreement.specs.Sets.{Role, other}
 use Rattle.agreement.specs.Sets.Role.{Initiator, Responder}
 use Rattle.end_model.specs.Seen.{Free}
 use Rattle.end_model.specs.Pairs as pairs
@@ -29,20 +34,24 @@ use Rattle.reliable_model.specs.ReliablePairs.{reliable_pair}
 use Rattle.reliable_model.proofs.Machine as machine
 use Rattle.outcome_laws.specs.Deals.{Dealings, Dealt, Deals, dealt_of, on_dealt, asked_by, calls_so, gets, stays, meets, loses, takes_so, still_after}
 use Rattle.outcome_laws.specs.Deals as deals
-use Rattle.outcome_laws.proofs.Once.{keeps, still-keeps}
+use Rattle.outcome_laws.proofs.Once.{keeps, still-keeps, once}
 use Rattle.outcome_laws.proofs.Places.{deals-go}
 use Rattle.outcome_laws.proofs.Transferred.{shown_of, shows-so}
-use Rattle.said_words.proofs.TransferEnds.{is_early}
-use Rattle.run_laws.specs.Showing.{shown_in}
-use Rattle.association_runs.specs.Worlds.{stepping}
+use Rattle.association_worlds.specs.Laws.{IsMeant}
+use Rattle.run_laws.specs.Showing.{shown_in, indications_at, EachCarryShows}
+use Rattle.run_laws.specs.Outcomes.{Outcome, outcome_in, outcomes, Differ}
+use Rattle.association_runs.specs.Worlds.{stepping, Runs}
 use Rattle.association_runs.specs.Sides.{ends_for}
+use Rattle.association_runs.specs.Laws.{AreEvents}
 use Rattle.association_runs.proofs.Histories.{end_for, body-for}
 use Rattle.association_runs.proofs.Keeps.{IsQuiet, Keeps}
 use Rattle.association_runs.proofs.Joint.{Joint}
-use Rattle.association_runs.proofs.Transcribed.{seen_at, TakesNone, TakeNone, sents-none, answers-none, own-same, peer-same}
+use Rattle.association_runs.proofs.Joined.{Joined}
+use Rattle.association_runs.proofs.Carried.{from-start}
+use Rattle.association_runs.proofs.Shown.{each-carry-shows}
+use Rattle.association_runs.proofs.Transcribed.{seen_at, seen-told, TakesNone, TakeNone, sents-none, answers-none, own-same, peer-same}
 use Rattle.association_runs.proofs.Noted.{ArePlain, association-plain, settled-plain, marks-plain, transport-plain, activity-plain}
-use Rattle.association_runs.proofs.Telling.{notes_of, notes-append, plain-notes}
-use Rattle.run_lemmas.proofs.Phases.{broken-early}
+use Rattle.association_runs.proofs.Telling.{notes_of, notes-append, plain-notes, note-outcome, same-flat, once-told}
 use Rattle.transfer_runs.proofs.Early as early
 
 act-none : (own : OwnAct) → TakeNone (step_of own ∷ [])
@@ -66,7 +75,7 @@ module _ (ends : Ends) where
   seen-none Responder w xs n Initiator = peer-same ends B w xs
   seen-none Responder w xs n Responder = own-same ends B w xs n
 
-  abbrev pub Same : World → Dealings → Type 0
+  abbrev Same : World → Dealings → Type 0
   Same w d = (r : Role) → notes_of (seen_at ends (side_of r) w) ≡ notes_of (dealt_of r d).shown
 
   unchanged : (w v : World) (d e : Dealings) → ((r : Role) → seen_at ends (side_of r) v ≡ seen_at ends (side_of r) w) → ((r : Role) → (dealt_of r e).shown ≡ (dealt_of r d).shown) → Same w d → Same v e
@@ -83,7 +92,7 @@ module _ (free : Free) (tables : Tables) (spellings : Spellings) (a b : Config) 
   base = base_at Responder common
 
   -- what is shown to an end before its association stands is no note
-  now-plain : (body : Body) (message : Message) (later : Body) (answers : List Message) (shown : List Indication) → react base body message ≡ Takes later answers shown → is_early body.link.phase ≡ true → ArePlain shown
+  now-plain : (body : Body) (message : Message) (later : Body) (answers : List Message) (shown : List Indication) → react base body message ≡ Takes later answers shown → early.is_early body.link.phase ≡ true → ArePlain shown
   now-plain body message later answers shown r h = subst ArePlain (sym (shows-so base body message later answers shown r)) (go message r)
     where
       go : (message : Message) → react base body message ≡ Takes later answers shown → ArePlain (shown_of base body message)
@@ -96,7 +105,7 @@ module _ (free : Free) (tables : Tables) (spellings : Spellings) (a b : Config) 
       go (Session (OfActivities (End number))) r = absurd (early.no-end free tables spellings a b body number later answers shown r h)
       go (Session (OfActivities word)) r = activity-plain base body word tt
 
-  untold : early.NeverFails free tables spellings a b → (two : Two) (ledger : Ledger) (dealings : Dealings) → Deals common two ledger dealings → is_early two.b.link.phase ≡ true → notes_of dealings.b.shown ≡ []
+  untold : early.NeverFails free tables spellings a b → (two : Two) (ledger : Ledger) (dealings : Dealings) → Deals common two ledger dealings → early.is_early two.b.link.phase ≡ true → notes_of dealings.b.shown ≡ []
   untold f two ledger dealings deals.begins h = refl
   untold f two ledger dealings (deals.calls x l d Initiator call answer g c) h = untold f x l d g h
   untold f two ledger dealings (deals.calls x l d Responder call answer g c) h = untold f x l d g (early.call-before free tables spellings a b x.b call answer c h)
@@ -104,7 +113,7 @@ module _ (free : Free) (tables : Tables) (spellings : Spellings) (a b : Config) 
   untold f two ledger dealings (deals.acts x l d Responder own g c) h = untold f x l d g (early.own-before free tables spellings a b x.b own h)
   untold f two ledger dealings (deals.takes x l d Initiator message left body answers shown g e r) h = untold f x l d g h
   untold f two ledger dealings (deals.takes x l d Responder message left body answers shown g e r) h =
-      let soon : is_early x.b.link.phase ≡ true = early.took-before free tables spellings a b x.b message body answers shown r h in
+      let soon : early.is_early x.b.link.phase ≡ true = early.took-before free tables spellings a b x.b message body answers shown r h in
       notes-append (still_after base x.b message d.b.shown) shown
       ∙ (λ i. (ap notes_of (still-keeps base x.b message d.b.shown) ∙ kept (keeps base x.b message) (untold f x l d g soon)) i ++ plain-notes shown (now-plain x.b message body answers shown r soon) i)
     where
@@ -114,7 +123,7 @@ module _ (free : Free) (tables : Tables) (spellings : Spellings) (a b : Config) 
   untold f two ledger dealings (deals.passes x l d Initiator message left g e r) h = untold f x l d g h
   untold f two ledger dealings (deals.passes x l d Responder message left g e r) h = untold f x l d g h
   untold f two ledger dealings (deals.fails x l d role message left fault body aborts shown g e r) h = absurd (f x l (deals-go common x l d g) role message left fault body aborts shown e r)
-  untold f two ledger dealings (deals.breaks x l d g) h = untold f x l d g (broken-early Reliable x.b.link.phase h)
+  untold f two ledger dealings (deals.breaks x l d g) h = untold f x l d g (early.broken-early x.b.link.phase h)
 
   module _ (never : early.NeverFails free tables spellings a b) (model : (two : Two) (ledger : Ledger) → Goes common two ledger → machine.Kept free tables spellings a b two ledger) where
     -- what is kept of what was shown, where a message is taken
@@ -166,7 +175,7 @@ module _ (free : Free) (tables : Tables) (spellings : Spellings) (a b : Config) 
         (λ r. seen-none ends Responder (record { side = A; step = broke } ∷ w) (broke ∷ []) (tt, tt) r ∙ seen-none ends Initiator w (broke ∷ []) (tt, tt) r)
         (on-shown Initiator loses loses (λ x. refl) (λ x. refl) dealings) h
 
-    pub same-keeps : Keeps common (λ w two ledger dealings. Same ends w dealings)
+    same-keeps : Keeps common (λ w two ledger dealings. Same ends w dealings)
     same-keeps = record {
       begins = begins-same;
       calls = λ role w two ledger dealings call answer j c h.
@@ -184,3 +193,13 @@ module _ (free : Free) (tables : Tables) (spellings : Spellings) (a b : Config) 
       quiet = λ role w two ledger dealings x q h. unchanged ends w (stepping (side_of role) w (x ∷ [])) dealings dealings (seen-none ends role w (x ∷ []) (quiet-none x q, tt)) (λ r. refl) h;
       breaks = λ w two ledger dealings j h. broke-same w dealings h;
     }
+
+    module _ (m : IsMeant common) (w : World) (all : List Event) (told : List Entry) (typed : AreEvents all) (r : Runs ends [] all told w) where
+      role-once : (role : Role) → Joined common (λ w two ledger dealings. Same ends w dealings) w → Differ (flat_map outcome_in (seen_at ends (side_of role) w))
+      role-once role s =
+          subst Differ (same-flat outcome_in note-outcome (seen_at ends (side_of role) w) (dealt_of role s.dealings).shown (s.extra role))
+          (once-told (dealt_of role s.dealings).shown (once common s.two s.ledger s.dealings s.joint.deals role).distinct)
+
+      pub tell-once : (side : Side) → Differ (outcomes side told)
+      tell-once A = subst (λ (l : List Indication). Differ (flat_map outcome_in l)) (sym (seen-told ends w all told r (each-carry-shows common m w all told typed r) A)) (role-once Initiator (from-start common m (λ w two ledger dealings. Same ends w dealings) same-keeps w all told typed r))
+      tell-once B = subst (λ (l : List Indication). Differ (flat_map outcome_in l)) (sym (seen-told ends w all told r (each-carry-shows common m w all told typed r) B)) (role-once Responder (from-start common m (λ w two ledger dealings. Same ends w dealings) same-keeps w all told typed r))

@@ -1,23 +1,25 @@
 -- In reliable mode each transfer of a run arrives whole, and at most once.
-use Rattle.std.proofs.Common.{◌≡◌, refl, true, false, ◌∙◌, sym, ap, subst, ℕ, List, [], ◌∷◌, ◌++◌, map, inl, inr, ◌⊎◌, None, Ok}
+use Rattle.std.proofs.Common.{◌≡◌, refl, true, false, ◌∙◌, sym, ap, subst, ℕ, List, [], ◌∷◌, ◌++◌, map, inl, inr, ◌⊎◌, None, Ok, Err}
 use Rattle.std.specs.Prelude.{Bool, ◌||◌, Option, Some, if◌then◌else◌, Result, nat_eq, suc, length}
 use Rattle.osi_base.specs.declared.words.Side.{Side}
 use Rattle.osi_base.specs.declared.words.Side.TheVariants.{A, B}
 use Rattle.osi_base.specs.declared.words.SetItem.{SetItem}
+use Rattle.osi_base.specs.declared.session_word.SessionConnect.{SessionConnect}
+use Rattle.osi_base.specs.declared.presentation_word.PresentationConnect.{PresentationConnect}
 use Rattle.stub_tables.specs.declared.tables.Tables.{Tables}
 use Rattle.stub_tables.specs.declared.apdu.Apdu.{Apdu}
 use Rattle.dialogue.specs.declared.config.Config.{Config}
 use Rattle.dialogue.specs.declared.indication.Indication.{Indication}
 use Rattle.end_rules.specs.Base.{Base, Spellings, Item, Arrived, Whole as WholeItem, Fault}
-use Rattle.end_rules.specs.Messages.{Message, Session, OfAssociation, OfActivities, Connect, Start, End}
+use Rattle.end_rules.specs.Messages.{Message, Transport, Session, Value, Word, OfAssociation, OfData, OfMarks, OfActivities, Connect, Start, End}
 use Rattle.end_rules.specs.State.{Body, Queued, Transfer}
 use Rattle.end_rules.specs.Sets.{pair_of}
 use Rattle.end_rules.specs.Connecting.{is_refused, recovers_in}
 use Rattle.end_rules.specs.Requesting.{due_of}
 use Rattle.end_rules.specs.ByItself.{OwnAct, SendsNow, EncodesOn}
-use Rattle.end_rules.specs.TakesActivities.{arrived_now, values_arrived, handed_up}
+use Rattle.end_rules.specs.TakesActivities.{arrived_now, arrived_value, values_arrived, handed_up}
 use Rattle.end_rules.specs.Reacting.{Takes, react}
-use Rattle.end_rules.specs.History.{Step, called, sent, encoded, took, answered, step_of}
+use Rattle.end_rules.specs.History.{Step, called, sent, encoded, took, answered, passed, broke, step_of}
 use Rattle.end_rules.specs.World as sides
 use Rattle.end_rules.specs.World.{World, Moment, Ends, is_side, shared_at}
 use Rattle.agreement.specs.Sets.{Role}
@@ -33,7 +35,7 @@ use Rattle.reliable_model.specs.Transfers as transfers
 use Rattle.reliable_model.specs.ReliablePairs.{reliable_pair}
 use Rattle.reliable_model.proofs.Machine as machine
 use Rattle.outcome_laws.specs.Deals.{Dealings}
-use Rattle.run_laws.specs.Transfers.{first_of, started_in, started, Encoding, encoding_of, encoded_in, encodings, Arrival, arrivals_of, arrived_in, arrivals, item_of, IsOf, IsNewest, AreWhole, ArriveWhole, AreFalling, OneTransfer}
+use Rattle.run_laws.specs.Transfers.{first_of, started_in, started, Encoding, encoding_of, encoded_in, encodings, Arrival, arrivals_of, arrived_in, arrivals, item_of, IsOf, IsNewest, IsWhole, AreWhole, ArriveWhole, AreFalling, OneTransfer}
 use Rattle.association_runs.specs.Worlds.{stepping}
 use Rattle.association_runs.specs.Sides.{ends_for}
 use Rattle.association_runs.specs.Deeds.{deeds_after, deeds_at}
@@ -91,16 +93,16 @@ all-keep ends side w (x ∷ xs) n h =
 
 -- ---- what was started, encoded and handed up, with nothing forgotten
 
-pub anew-same : {X : Type 0} (b : Bool) (xs : List X) → (b ≡ true) ⊎ (xs ≡ []) → (if b then xs else []) ≡ xs
+anew-same : {X : Type 0} (b : Bool) (xs : List X) → (b ≡ true) ⊎ (xs ≡ []) → (if b then xs else []) ≡ xs
 anew-same true xs h = refl
 anew-same false xs (inl e) = absurd cc
 anew-same false xs (inr e) = sym e
 
-pub first-half : {P Q R : Type 0} → P ⊎ (Q × R) → P ⊎ Q
+first-half : {P Q R : Type 0} → P ⊎ (Q × R) → P ⊎ Q
 first-half (inl p) = inl p
 first-half (inr h) = inr h.0
 
-pub second-half : {P Q R : Type 0} → P ⊎ (Q × R) → P ⊎ R
+second-half : {P Q R : Type 0} → P ⊎ (Q × R) → P ⊎ R
 second-half (inl p) = inl p
 second-half (inr h) = inr h.1
 

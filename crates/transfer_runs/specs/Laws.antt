@@ -9,12 +9,15 @@ use Rattle.end_rules.specs.World.{World, Ends, other}
 use Rattle.said_worlds.specs.Laws.{AreEndsIn}
 use Rattle.run_laws.specs.Passing.{TakenInPlace}
 use Rattle.run_laws.specs.Showing.{EachCarryShows}
-use Rattle.run_laws.specs.Laws.{AtEachMoment, NothingFails, OneHolder}
+use Rattle.run_laws.specs.Outcomes.{outcomes, Differ}
+use Rattle.run_laws.specs.Transfers.{OneTransfer}
+use Rattle.run_laws.specs.Laws.{AtEachMoment, NothingFails, NobodyIsDead, OneHolder}
 use Rattle.association_runs.specs.Worlds.{ends_of, Runs}
 use Rattle.association_runs.specs.Arriving.{EachArrivesWhole}
+use Rattle.association_runs.specs.Octets.{TakenWhenWhole}
 use Rattle.association_runs.specs.Deeds.{deeds_at}
 use Rattle.association_runs.specs.Dealings.{own_at}
-use Rattle.association_runs.specs.Laws.{AreEvents, RunKeepsLaws}
+use Rattle.association_runs.specs.Laws.{AreEvents}
 use Rattle.outcome_laws.specs.Deals.{AreDistinct, outcomes_in}
 use Rattle.outcome_laws.specs.Outcomes.{AreAllowed, AreAnswers}
 use Rattle.agreement.specs.Laws.{AreFalling}
@@ -44,10 +47,22 @@ ReliableRunsShowWhatIsTaken =
 abbrev pub ReliableRunsNeverFail : Type 0
 ReliableRunsNeverFail = EverInRuns (λ ends w. NothingFails w)
 
+-- an end that isn't over took each message whose last octet was given to it, and no other
+abbrev pub ReliableRunsTakeWhatIsWhole : Type 0
+ReliableRunsTakeWhatIsWhole = EverInRuns TakenWhenWhole
+
+-- no end is dead
+abbrev pub ReliableRunsKeepEndsAlive : Type 0
+ReliableRunsKeepEndsAlive = EverInRuns NobodyIsDead
+
 -- what the end of a transfer brings is the item that the other end started as the activity of that number, as it was encoded last;
 -- at each moment
 abbrev pub ReliableRunsArriveWhole : Type 0
 ReliableRunsArriveWhole = EverInRuns EachArrivesWhole
+
+-- so that each transfer of the whole run arrives whole, and at most once
+abbrev pub ReliableRunsTransferOnce : Type 0
+ReliableRunsTransferOnce = EverInRuns OneTransfer
 
 -- the numbers of the transfers that are handed up rise, since an end's association began
 abbrev pub ReliableRunsArriveOnce : Type 0
@@ -59,6 +74,12 @@ abbrev pub ReliableRunsTellOneOutcome : Type 0
 ReliableRunsTellOneOutcome =
     EverInRuns (λ ends w. (side : Side) → AreDistinct (outcomes_in (own_at ends side w).shown) × AreAllowed ends.a.tables (own_at ends side w).asked (own_at ends side w).shown)
 
+-- of the whole transcript too: of no invocation an end is told two outcomes
+abbrev pub ReliableRunsTellOnce : Type 0
+ReliableRunsTellOnce =
+    (tables : Tables) (a b : Config) → AreReliable tables a b → (all : List Event) (told : List Entry) (w : World) → AreEvents all → Runs (ends_of tables a b) [] all told w →
+    (side : Side) → Differ (outcomes side told)
+
 -- each outcome that an end is told is an APDU that the other end wrote
 abbrev pub ReliableRunsTellAnswers : Type 0
 ReliableRunsTellAnswers = EverInRuns (λ ends w. (side : Side) → AreAnswers ends.a.tables (own_at ends (other side) w).wrote (own_at ends side w).shown)
@@ -66,12 +87,3 @@ ReliableRunsTellAnswers = EverInRuns (λ ends w. (side : Side) → AreAnswers en
 -- at no moment do both ends hold the turn
 abbrev pub ReliableRunsHaveOneHolder : Type 0
 ReliableRunsHaveOneHolder = EverInRuns (λ ends w. AtEachMoment (OneHolder ends) w)
-
--- all of them: each message that is taken is the one that was sent in its place, each of its values read under the pair that the shared
--- set gave its identifier at its sending; of the whole transcript each invocation is told once and gets at most one outcome, which its
--- operation has and which the other end gave; each transfer arrives whole, at most once; no end aborts of itself, and none is dead; an end
--- took each message whose last octet was given to it, and no other, and less than a message is left
-abbrev pub ReliableRunsKeepLaws : Type 0
-ReliableRunsKeepLaws =
-    (tables : Tables) (a b : Config) → AreReliable tables a b → (all : List Event) (told : List Entry) (w : World) → AreEvents all → Runs (ends_of tables a b) [] all told w →
-    RunKeepsLaws tables (ends_of tables a b) told w

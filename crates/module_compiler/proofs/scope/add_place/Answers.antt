@@ -1,5 +1,5 @@
 use Rattle.std.proofs.Common.{sym, ◌∙◌}
-use Rattle.module_faults.proofs.FoundNames.{added_old, added_new}
+use Rattle.module_compiler.proofs.Names.{added_old, added_new}
 use Rattle.module_compiler.proofs.scope.add_place.Goals as goal
 
 pub returns-then-contains_key : goal.returns-then-contains_key

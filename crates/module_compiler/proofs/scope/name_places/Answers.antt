@@ -1,6 +1,6 @@
 use Rattle.std.proofs.Common.{◌≡◌, arith}
 use Rattle.std.proofs.lemmas.Grind.{common_steps}
-use Rattle.module_faults.proofs.FoundNames.{found_none, found_step}
+use Rattle.module_compiler.proofs.Names.{found_none, found_step}
 use Rattle.module_compiler.proofs.scope.name_places.Goals as goal
 
 pub loop-place-init : goal.loop-place-init

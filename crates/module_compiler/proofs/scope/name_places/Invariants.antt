@@ -1,5 +1,5 @@
 use Rattle.std.proofs.Common.{take}
-use Rattle.module_faults.specs.Names.{AreFound}
+use Rattle.module_compiler.specs.Kept.{AreFound}
 use Rattle.module_compiler.proofs.scope.name_places.Given as goal
 
 abbrev pub invariant-loop-place : goal.invariant-loop-place

@@ -1,4 +1,5 @@
 use Rattle.std.proofs.lemmas.Result.{IfOk-weaker}
+use Rattle.osi_commands.specs.Replaying.{RanOver}
 use Rattle.osi_commands.proofs.replaying.run_ends.Goals as goal
 
 pub returns : goal.returns

@@ -1,8 +1,0 @@
-use Rattle.association_end.specs.Doing.{ReadsOn, messages_left}
-use Rattle.association_end.proofs.end.End.read_all.Given as goal
-
-abbrev pub invariant-reading : goal.invariant-reading
-invariant-reading l = ReadsOn l.fn.self l.self l.fn.shown l.shown
-
-abbrev pub decreases-reading : goal.decreases-reading
-decreases-reading l = messages_left l.self

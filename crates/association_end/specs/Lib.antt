@@ -1,8 +1,0 @@
-pub mod View
-pub mod Fed
-pub mod Called
-pub mod Seen
-pub mod Doing
-pub mod Reacted
-pub mod Changed
-pub mod Sound

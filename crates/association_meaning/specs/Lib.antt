@@ -1,4 +1,0 @@
-pub mod Grounds
-pub mod Steps
-pub mod Informing
-pub mod Words

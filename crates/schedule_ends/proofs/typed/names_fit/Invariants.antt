@@ -1,7 +1,0 @@
-use Rattle.std.proofs.Common.{◌≡◌, drop}
-use Rattle.std.specs.List.{list_all}
-use Rattle.schedule_ends.specs.Fitting.{name_fits}
-use Rattle.schedule_ends.proofs.typed.names_fit.Given as goal
-
-abbrev pub invariant-loop-name : goal.invariant-loop-name
-invariant-loop-name l = list_all name_fits (drop l.name-index l.names) ≡ list_all name_fits l.names

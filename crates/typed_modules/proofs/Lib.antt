@@ -1,5 +1,0 @@
-pub mod TypedRows
-pub mod Numbers
-pub mod Assigned
-pub mod Files
-pub mod Modules
