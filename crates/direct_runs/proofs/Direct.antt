@@ -25,7 +25,7 @@ use Rattle.end_laws.specs.Laws.{DirectEndsTake, DirectTurnHasOneHolder}
 use Rattle.association_reading.specs.Transfers.{association_spellings}
 use Rattle.association_worlds.specs.Laws.{IsMeant, SaidIsMeant}
 use Rattle.said_worlds.specs.Laws.{DirectIsSaid}
-use Rattle.direct_worlds.proofs.Spoken.{reached, all-meant}
+use Rattle.direct_runs.proofs.Spoken.{reached, all-meant}
 use Rattle.run_laws.specs.Passing.{TakenInPlace}
 use Rattle.run_laws.specs.Showing.{EachCarryShows}
 use Rattle.run_laws.specs.Laws.{AtEachMoment, NothingFails, OneHolder}

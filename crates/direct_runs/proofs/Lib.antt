@@ -4,3 +4,4 @@ pub mod Sent
 pub mod Handed
 pub mod Told
 pub mod Alive
+pub mod Spoken

@@ -2,5 +2,7 @@
 #![tactic(auto)]
 
 mod laws;
+mod worlds;
 
 pub use laws::direct_runs_keep_laws;
+pub use worlds::direct_worlds_are_spelled;

@@ -19,10 +19,12 @@ pub record Begins (old new : MemLine) : Type 0 where
   pub others : new.peers.items ≡ drop 1 old.peers.items
   pub none_read : new.octets_read ≡ 0
 
--- a call that was to fail ended the connection; the peers to come are as they were
+-- a call that was to fail ended the connection: no peer says anything, and the peers to come are
+-- as they were
 pub record EndsFailed (old new : MemLine) : Type 0 where
   pub fails : Fails old.failing new.failing
   pub same_peers : new.peers.items ≡ old.peers.items
+  pub none_said : new.said ≡ []
   pub none_read : new.octets_read ≡ 0
 
 -- a call that wasn't to fail read so many octets of the present peer

@@ -24,6 +24,7 @@ impl MemLine {
         ensures peers { OnOk result (self.new.peers.items ≡ drop 1 self.old.peers.items) }
         ensures failed { OnErr result (Fails self.old.failing self.new.failing) }
         ensures failed_peers { OnErr result (self.new.peers ≡ self.old.peers) }
+        ensures failed_said { OnErr result (self.new.said ≡ []) }
         ensures count { self.old.failing.faults ≤ self.new.failing.faults }
         ensures log { self.new.log ≡ self.old.log }
         ensures most { self.new.most ≡ self.old.most }

@@ -256,7 +256,9 @@ impl Sink for SureSink {
 
     ghost told = { λ it. Some it.written };
 
-    fn write(&mut self, bytes: &[u8]) -> Result<usize, SinkFault> {
+    fn write(&mut self, bytes: &[u8]) -> Result<usize, SinkFault>
+        ensures whole { IfOk result (λ taken. taken ≡ length bytes.now) }
+    {
         self.written.extend(bytes)?;
         Ok(bytes.len())
     }

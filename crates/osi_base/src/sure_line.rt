@@ -1,6 +1,6 @@
 //! A line that never fails and whose peers say nothing.
 
-ghost use Rattle.std.specs.Prelude.{◌≡◌, ◌<◌, [], Some, IfSome, IsOk};
+ghost use Rattle.std.specs.Prelude.{◌≡◌, ◌<◌, [], length, Some, IfOk, IfSome, IsOk};
 ghost use Rattle.osi_base.specs.Outside.{last_count, logged};
 ghost use Rattle.osi_base.specs.Lines.{shuts_told};
 
@@ -65,7 +65,9 @@ impl Line for SureLine {
         Ok(0)
     }
 
-    fn write(&mut self, bytes: &[u8]) -> Result<usize, LineFault> {
+    fn write(&mut self, bytes: &[u8]) -> Result<usize, LineFault>
+        ensures whole { IfOk result (λ taken. taken ≡ length bytes.now) }
+    {
         let octets = Octets::from_slice(self.alloc, bytes)?;
         self.log.push(LineCall::Write(octets, Outcome::Done))?;
         Ok(bytes.len())

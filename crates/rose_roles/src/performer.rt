@@ -237,6 +237,7 @@ impl Performer {
               parent = linked;
             })
             (calls_of forest.old own self.old.kept)) }
+        ensures context { self.new.context ≡ self.old.context }
         ensures peer { AreOpen false forest.new self.new.kept }
         ensures own { (own : Invoking) → AreOpen true forest.old own.kept →
             AreOpen true forest.new own.kept }
@@ -272,6 +273,7 @@ impl Performer {
             heard_with (calls_of forest.new own self.new.kept) taken
             ≡ invoked base (calls_of forest.old own self.old.kept) self.old.context id.now linked
             place carried) }
+        ensures context { self.new.context ≡ self.old.context }
         ensures peer { AreOpen false forest.new self.new.kept }
         ensures own { (own : Invoking) → AreOpen true forest.old own.kept →
             AreOpen true forest.new own.kept }
@@ -302,6 +304,7 @@ impl Performer {
             (calls_of forest.old own.now self.old.kept) (calls_of forest.new own.now self.new.kept)
             taken) }
         ensures own { AreOpen true forest.new own.now.kept }
+        ensures context { self.new.context ≡ self.old.context }
         ensures peer { AreOpen false forest.new self.new.kept }
         ensures err { OnErr result ((self.new ≡ self.old) × (forest.new ≡ forest.old)) }
     {
@@ -342,6 +345,7 @@ impl Performer {
             (calls_of forest.old own.now self.old.kept) (calls_of forest.new own.now self.new.kept)
             taken) }
         ensures own { AreOpen true forest.new own.now.kept }
+        ensures context { self.new.context ≡ self.old.context }
         ensures peer { AreOpen false forest.new self.new.kept }
         ensures err { OnErr result ((self.new ≡ self.old) × (forest.new ≡ forest.old)) }
     {

@@ -1,6 +1,6 @@
 //! A scanner of octets that come bit by bit.
 
-ghost use Rattle.std.specs.Prelude.{◌≡◌, ◌<◌, ◌^◌, ℕ, Bool, List, length};
+ghost use Rattle.std.specs.Prelude.{◌≡◌, ◌<◌, ◌^◌, ℕ, Bool, List, length, false};
 ghost use Rattle.stream_front.specs.Fronts.{front_at};
 ghost use Rattle.stream_front.specs.Resuming.{HasSeen, is_done, told};
 
@@ -85,6 +85,7 @@ impl Scanner {
         requires seen { HasSeen self.old octets.now }
         ensures front { (strict : Bool) → result ≡ front_at strict octets.now }
         ensures seen { HasSeen self.new octets.now }
+        ensures all { is_done self.new.stage ≡ false → self.new.seen ≡ length octets.now }
     {
         while let Some(octet) = octets.get(self.seen) {
             if self.is_done() {

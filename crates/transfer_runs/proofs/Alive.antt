@@ -34,7 +34,7 @@ use Rattle.transfer_laws.proofs.Premises.{ends-modelled}
 use Rattle.run_laws.specs.Laws.{NobodyIsDead}
 use Rattle.association_runs.specs.Sides.{ends_for}
 use Rattle.association_runs.specs.Laws.{ReachesMessages}
-use Rattle.transfer_worlds.proofs.Spoken.{of_first, of_second}
+use Rattle.transfer_runs.proofs.Spoken.{of_first, of_second}
 use Rattle.transfer_runs.specs.Laws.{AreReliable}
 
 rests-alive : (way : Way) → is_dead (rests way) ≡ false

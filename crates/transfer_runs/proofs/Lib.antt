@@ -9,3 +9,4 @@ pub mod Sent
 pub mod Queued
 pub mod Started
 pub mod Outcomes
+pub mod Spoken

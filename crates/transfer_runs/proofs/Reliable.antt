@@ -10,7 +10,7 @@ use Rattle.association_worlds.specs.Laws.{IsMeant, SaidIsMeant}
 use Rattle.transfer_laws.specs.Laws.{reliable_ends}
 use Rattle.transfer_laws.proofs.Premises.{ends-one_holder, ends-take, ends-whole, ends-items, ends-once, ends-answers}
 use Rattle.said_worlds.specs.Laws.{ReliableIsSaid}
-use Rattle.transfer_worlds.proofs.Spoken.{all-meant, of_first, of_second}
+use Rattle.transfer_runs.proofs.Spoken.{all-meant, of_first, of_second}
 use Rattle.run_laws.specs.Passing.{TakenInPlace}
 use Rattle.run_laws.specs.Showing.{EachCarryShows}
 use Rattle.run_laws.specs.Laws.{AtEachMoment, NothingFails, OneHolder}

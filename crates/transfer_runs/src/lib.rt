@@ -2,5 +2,7 @@
 #![tactic(auto)]
 
 mod laws;
+mod worlds;
 
 pub use laws::reliable_runs_keep_laws;
+pub use worlds::reliable_worlds_are_spelled;

@@ -1,5 +1,5 @@
-use Rattle.direct_worlds.proofs.Spoken as worlds
-use Rattle.direct_worlds.proofs.laws.direct_worlds_are_spelled.Goals as goal
+use Rattle.direct_runs.proofs.Spoken as worlds
+use Rattle.direct_runs.proofs.worlds.direct_worlds_are_spelled.Goals as goal
 
 pub returns : goal.returns
 returns c =

@@ -1,6 +1,6 @@
 //! Each law is the contract of a function that does nothing but cite others.
 
-ghost use Rattle.direct_worlds.specs.Laws.{DirectWorldsAreSpelled, DirectWorldsHaveOneHolder, DirectWorldsNeverFail};
+ghost use Rattle.direct_runs.specs.Worlds.{DirectWorldsAreSpelled, DirectWorldsHaveOneHolder, DirectWorldsNeverFail};
 
 use association_worlds::said_is_meant;
 use end_laws::{direct_ends_are_modelled, direct_turn_has_one_holder};

@@ -1,5 +1,5 @@
-use Rattle.transfer_worlds.proofs.Spoken as worlds
-use Rattle.transfer_worlds.proofs.laws.reliable_worlds_are_spelled.Goals as goal
+use Rattle.transfer_runs.proofs.Spoken as worlds
+use Rattle.transfer_runs.proofs.worlds.reliable_worlds_are_spelled.Goals as goal
 
 pub returns : goal.returns
 returns c =

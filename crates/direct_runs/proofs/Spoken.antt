@@ -18,7 +18,7 @@ use Rattle.association_worlds.proofs.Calm.{nothing-fails}
 use Rattle.end_laws.specs.Codecs.{Transfers, direct_ends, IsDirect}
 use Rattle.end_laws.specs.Laws.{DirectEndsTake, DirectTurnHasOneHolder}
 use Rattle.said_worlds.specs.Laws.{AreEnds, DirectIsSaid}
-use Rattle.direct_worlds.specs.Laws.{DirectWorldsAreSpelled, DirectWorldsNeverFail, DirectWorldsHaveOneHolder}
+use Rattle.direct_runs.specs.Worlds.{DirectWorldsAreSpelled, DirectWorldsNeverFail, DirectWorldsHaveOneHolder}
 
 module _ (tables : Tables) (transfers : Transfers) (a b : Config) where
   common : Common

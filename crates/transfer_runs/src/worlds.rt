@@ -1,6 +1,6 @@
 //! Each law is the contract of a function that does nothing but cite others.
 
-ghost use Rattle.transfer_worlds.specs.Laws.{ReliableWorldsAreSpelled, ReliableWorldsHaveOneHolder, ReliableWorldsNeverFail};
+ghost use Rattle.transfer_runs.specs.Worlds.{ReliableWorldsAreSpelled, ReliableWorldsHaveOneHolder, ReliableWorldsNeverFail};
 
 use association_worlds::said_is_meant;
 use said_worlds::reliable_ends_are_said;

@@ -12,7 +12,7 @@ use Rattle.association_worlds.proofs.Calm.{nothing-fails}
 use Rattle.transfer_laws.specs.Laws.{reliable_ends, IsReliable}
 use Rattle.transfer_laws.proofs.Premises.{ends-take, ends-one_holder}
 use Rattle.said_worlds.specs.Laws.{AreEndsIn, ReliableIsSaid}
-use Rattle.transfer_worlds.specs.Laws.{ReliableWorldsAreSpelled, ReliableWorldsNeverFail, ReliableWorldsHaveOneHolder}
+use Rattle.transfer_runs.specs.Worlds.{ReliableWorldsAreSpelled, ReliableWorldsNeverFail, ReliableWorldsHaveOneHolder}
 
 module _ (tables : Tables) (a b : Config) (e : AreEndsIn Reliable tables a b) where
   pub of_first : IsReliable a
