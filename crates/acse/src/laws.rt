@@ -23,8 +23,8 @@ pub fn plain_is_spelled()
     ensures { PlainIsSpelled }
 {}
 
-/// APDUs of known fields alone, of which none is passed over, and values of the fixed table stand for
-/// each other.
+/// APDUs of known fields alone, of which none is passed over, and values of the fixed table stand
+/// for each other.
 pub fn known_are_plain()
     ensures { KnownArePlain }
 {}

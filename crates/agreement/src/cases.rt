@@ -31,7 +31,8 @@ pub fn alterations_collide()
         (a.sets.own ≡ []) × (b.sets.own ≡ [])) }
 {}
 
-/// A deletion of a context on which an invocation is on its way is rejected, and the invocation is taken.
+/// A deletion of a context on which an invocation is on its way is rejected, and the invocation is
+/// taken.
 pub fn deletion_rejected_for_use()
     ensures run { Happens Direct use_rejected }
     ensures outcome { Leaves Direct use_rejected
@@ -40,7 +41,8 @@ pub fn deletion_rejected_for_use()
         ∷ [])) }
 {}
 
-/// A restart drops an addition that was not taken: both ends have the set of mark 1, and the next mark is 2.
+/// A restart drops an addition that was not taken: both ends have the set of mark 1, and the next
+/// mark is 2.
 pub fn restart_drops_an_addition()
     ensures run { Happens Direct addition_dropped }
     ensures outcome { Leaves Direct addition_dropped
@@ -48,7 +50,8 @@ pub fn restart_drops_an_addition()
         (a.sets.own ≡ []) × (next_number a.saved ≡ 2) × (next_number b.saved ≡ 2)) }
 {}
 
-/// Restarts to 3 and to 2 cross: the one to 2 wins, the next mark is 2, and the initiator has the token.
+/// Restarts to 3 and to 2 cross: the one to 2 wins, the next mark is 2, and the initiator has the
+/// token.
 pub fn lower_restart_wins()
     ensures run { Happens Direct lower_wins }
     ensures outcome { Leaves Direct lower_wins
@@ -64,7 +67,8 @@ pub fn initiator_wins_a_tie()
         (b.awaits ≡ NoAnswer) × (a.turn ≡ true) × (b.turn ≡ false)) }
 {}
 
-/// A context that was deleted and added as packed after mark 1 is read in BER again after a restart to 2.
+/// A context that was deleted and added as packed after mark 1 is read in BER again after a restart
+/// to 2.
 pub fn restart_brings_back_a_pair()
     ensures run { Happens Direct read_by_mark }
     ensures outcome { Leaves Direct read_by_mark
@@ -82,7 +86,8 @@ pub fn interrupt_passes_over_confirmations()
         (highest b.incoming.pieces ≡ 1)) }
 {}
 
-/// A discard: the transfer and its invocation are gone at the sender, and the receiver keeps the number alone.
+/// A discard: the transfer and its invocation are gone at the sender, and the receiver keeps the
+/// number alone.
 pub fn discard_forgets()
     ensures run { Happens Reliable discarded }
     ensures outcome { Leaves Reliable discarded
@@ -104,7 +109,8 @@ pub fn resumption_from_a_mark()
     ensures arrivals { Arrive Reliable resumed_from_mark (1 ∷ []) (1 ∷ []) }
 {}
 
-/// A transfer without a confirmed mark is encoded anew, as the item of its activity, and is handed up once.
+/// A transfer without a confirmed mark is encoded anew, as the item of its activity, and is handed
+/// up once.
 pub fn resumption_from_nothing()
     ensures run { Happens Reliable resumed_from_nothing }
     ensures outcome { Leaves Reliable resumed_from_nothing
@@ -205,8 +211,8 @@ pub fn alterations_answered_in_order()
         (lookup a.sets.held 7 ≡ Some in_packed) × (a.sets.own ≡ [])) }
 {}
 
-/// Four additions are in flight, no fifth is asked for, nor one that names the same context; a restart of the other
-/// end drops all four.
+/// Four additions are in flight, no fifth is asked for, nor one that names the same context; a
+/// restart of the other end drops all four.
 pub fn restart_drops_four_additions()
     ensures run { Happens Direct four_lost }
     ensures outcome { Leaves Direct four_lost
@@ -218,8 +224,8 @@ pub fn restart_drops_four_additions()
         (Alters (Addition 7 (in_packed ∷ []) ∷ [])) }
 {}
 
-/// An initiator that withdraws before a recovery cuts its invocations; where the new transport connection is refused
-/// they stay open.
+/// An initiator that withdraws before a recovery cuts its invocations; where the new transport
+/// connection is refused they stay open.
 pub fn refused_transport_leaves_calls()
     ensures run_withdrawn { Happens Reliable withdrawn }
     ensures withdrawn { Leaves Reliable withdrawn

@@ -254,8 +254,8 @@ impl Heads {
         self.result_text(alloc, syntax, id, &returned.code, octets)
     }
 
-    /// The one spelling of an APDU in this syntax (X.882 9): in BER the one of DER. Of an APDU whose
-    /// values fit, with at most 262,144 octets, it is read back as this APDU.
+    /// The one spelling of an APDU in this syntax (X.882 9): in BER the one of DER. Of an APDU
+    /// whose values fit, with at most 262,144 octets, it is read back as this APDU.
     #[tactic(auto, unfolding(apdu_spelling::specs::Writing::written_apdu))]
     pub fn write(
         &self,

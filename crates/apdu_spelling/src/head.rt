@@ -12,8 +12,8 @@ pub enum ApduKind {
     Reject,
 }
 
-/// An APDU as far as it is read without the tables of a module: all but the value that its operation
-/// or error carries.
+/// An APDU as far as it is read without the tables of a module: all but the value that its
+/// operation or error carries.
 #[derive(Debug, Drop)]
 pub struct ApduHead {
     pub kind: ApduKind,
@@ -28,7 +28,8 @@ pub struct ApduHead {
     pub problem: Option<Problem>,
     /// The octets of the argument, the result or the parameter, unread; `None` where it is absent.
     pub rest: Option<Octets>,
-    /// How many octets its value may have, so that the whole APDU has at most 262,144: in the packed
-    /// syntax so many less the octets of the head, before which the value has no length of its own.
+    /// How many octets its value may have, so that the whole APDU has at most 262,144: in the
+    /// packed syntax so many less the octets of the head, before which the value has no length of
+    /// its own.
     pub room: u32,
 }

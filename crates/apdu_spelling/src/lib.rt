@@ -1,4 +1,5 @@
-//! The spellings of APDUs of remote operations (X.880 9, X.882 9) in BER, DER and the packed syntax.
+//! The spellings of APDUs of remote operations (X.880 9, X.882 9) in BER, DER and the packed
+//! syntax.
 #![tactic(auto)]
 
 mod head;

@@ -20,8 +20,8 @@ pub enum RowRefusal {
     TooNested,
     /// A tag doesn't tell the parts apart.
     TagsNotDistinct,
-    /// A part with a default is optional too or an alternative, or its type isn't BOOLEAN, INTEGER or
-    /// ENUMERATED, perhaps under tags, or the default doesn't fit it.
+    /// A part with a default is optional too or an alternative, or its type isn't BOOLEAN, INTEGER
+    /// or ENUMERATED, perhaps under tags, or the default doesn't fit it.
     BadDefault,
     /// Memory was refused.
     NoMemory,

@@ -44,7 +44,8 @@ fn power_of_2(exponent: u8) -> u8
     }
 }
 
-/// Whether 0 to 7 bits of the last octet are unused, none where there is no octet, and they are zero.
+/// Whether 0 to 7 bits of the last octet are unused, none where there is no octet, and they are
+/// zero.
 pub fn are_bits(octets: &[u8], unused: u8) -> bool
     ensures { result ≡ are_bits octets.now unused }
 {

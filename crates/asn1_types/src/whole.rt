@@ -158,8 +158,8 @@ fn behind_whole(levels: u32, octets: &[u8]) -> Option<&[u8]>
     }
 }
 
-/// Whether these octets are one whole value of any type (X.690 8.1): any identifier but UNIVERSAL 0,
-/// and a definite length with that many octets, or an indefinite length with whole values and
+/// Whether these octets are one whole value of any type (X.690 8.1): any identifier but UNIVERSAL
+/// 0, and a definite length with that many octets, or an indefinite length with whole values and
 /// end-of-contents, 32 levels deep at most.
 #[tactic(auto, unfolding(crate::specs::Whole::is_whole))]
 pub fn is_whole(octets: &[u8]) -> bool

@@ -23,8 +23,8 @@ pub(crate) struct Terms<'a> {
     pub agreed: Agreed,
 }
 
-/// In direct mode number 0 saves the accepted contexts; in reliable mode they are the inter-activity
-/// set.
+/// In direct mode number 0 saves the accepted contexts; in reliable mode they are the
+/// inter-activity set.
 fn keep_first(basis: &Ground<'_>, body: &mut Body, accepted: &[SetItem]) -> Result<(), NoMemory>
     ensures { OnOk result (seen body.new ≡ kept_first basis.now.config.mode accepted.now (seen
         body.old)) }

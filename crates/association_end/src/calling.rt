@@ -81,8 +81,8 @@ impl<'t> End<'t> {
 
     /// Makes a call. A refusal is the first row of the conditions that fails, and changes nothing;
     /// but after a refusal by want of memory the end is dead, and answers `Dead` from then on. An
-    /// accepted invocation is answered by its identifier, all else by `None`; then the end sends all
-    /// that it sends by itself.
+    /// accepted invocation is answered by its identifier, all else by `None`; then the end sends
+    /// all that it sends by itself.
     pub fn call(&mut self, call: Call) -> Result<Option<i64>, CallRefusal>
         ensures { MatchBool (is_memory result) (DiedCalled self.old self.new call)
             (Answered self.old self.new call result) }

@@ -111,10 +111,10 @@ impl<'t> End<'t> {
         Ok(shown)
     }
 
-    /// Takes octets that came, however they are cut, and answers the indications of all messages that
-    /// became whole with them; then the end sends all that it sends by itself. After want of memory
-    /// the end is dead, and what waits is what waited and whole messages, a beginning of those that
-    /// were due.
+    /// Takes octets that came, however they are cut, and answers the indications of all messages
+    /// that became whole with them; then the end sends all that it sends by itself. After want of
+    /// memory the end is dead, and what waits is what waited and whole messages, a beginning of
+    /// those that were due.
     pub fn feed(&mut self, octets: &[u8]) -> Result<Indications, NoMemory>
         ensures { MatchResult result (λ shown. Fed self.old self.new octets.now shown)
             (λ _. DiedFed self.old self.new octets.now) }

@@ -1,5 +1,5 @@
-//! One end of an association in direct or reliable mode: its calls, and the octets that it takes and
-//! gives out.
+//! One end of an association in direct or reliable mode: its calls, and the octets that it takes
+//! and gives out.
 #![tactic(auto)]
 
 mod calling;

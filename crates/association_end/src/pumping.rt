@@ -67,8 +67,8 @@ fn encoded_under(
     })
 }
 
-/// The transfer with its item encoded on a context, under the pair that the set gives it; not encoded
-/// where it gives none.
+/// The transfer with its item encoded on a context, under the pair that the set gives it; not
+/// encoded where it gives none.
 fn encoded_on(
     basis: &Ground<'_>,
     codecs: &Codecs,

@@ -69,8 +69,8 @@ impl<'t> End<'t> {
         react_to(&self.basis, &self.codecs, &mut self.body, front)
     }
 
-    /// Does what is to be done with what stood first and was taken off, and answers whether more may
-    /// follow.
+    /// Does what is to be done with what stood first and was taken off, and answers whether more
+    /// may follow.
     pub(crate) fn deal_with(
         &mut self,
         front: Front,

@@ -1,6 +1,6 @@
 //! What becomes of an APDU of remote operations that an end takes on a context: what it shows, what
-//! it opens and closes, which reject it brings (X.880 9, X.882 9); and what both takings and calls do
-//! with transfers.
+//! it opens and closes, which reject it brings (X.880 9, X.882 9); and what both takings and calls
+//! do with transfers.
 #![tactic(auto)]
 
 mod apdus;

@@ -210,7 +210,8 @@ fn known_error_problem(
     }
 }
 
-/// The first problem of an error, as a place in the table of errors, of the operation at this place.
+/// The first problem of an error, as a place in the table of errors, of the operation at this
+/// place.
 pub(crate) fn error_problem(
     basis: &Ground<'_>,
     place: u32,

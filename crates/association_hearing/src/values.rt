@@ -74,8 +74,8 @@ pub fn queueing(body: &mut Body, context: u32, apdu: Apdu) -> Result<(), NoMemor
     Ok(())
 }
 
-/// Sends a reject: in reliable mode it joins the queue, else it goes on the carrier of the context of
-/// what it rejects, or isn't sent.
+/// Sends a reject: in reliable mode it joins the queue, else it goes on the carrier of the context
+/// of what it rejects, or isn't sent.
 fn send_reject(
     basis: &Ground<'_>,
     body: &mut Body,

@@ -22,8 +22,8 @@ struct Parts {
 }
 
 /// What came on a connection and wasn't reacted to: whole units, and what the reader of packets
-/// holds, at most one packet and one TSDU. It takes octets in any cutting, in time that is linear in
-/// them.
+/// holds, at most one packet and one TSDU. It takes octets in any cutting, in time that is linear
+/// in them.
 ///
 /// A contract sees `None` where memory once ran out: such an intake keeps nothing, and answers each
 /// later feed with `NoMemory`.

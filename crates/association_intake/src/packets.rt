@@ -145,8 +145,8 @@ fn push_transport(fronts: &mut VecDeque<Front>, unit: TransportUnit) -> Result<(
     push(fronts, Front::OfTransport(unit))
 }
 
-/// Puts what a packet, or the packets of a TSDU, bring behind the others. A DR goes to an initiator,
-/// whose reference is 1.
+/// Puts what a packet, or the packets of a TSDU, bring behind the others. A DR goes to an
+/// initiator, whose reference is 1.
 fn push_packet(alloc: Global, fronts: &mut VecDeque<Front>, packet: &Packet) -> Result<(), NoMemory>
     requires fronts { ArePlaced fronts.old.items }
     ensures placed { OnOk result (ArePlaced fronts.new.items) }

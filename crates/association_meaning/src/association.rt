@@ -57,8 +57,8 @@ fn first_wrong_unless_left(definitions: &[Proposal], set: &[SetItem], pdvs: &[Pd
     None
 }
 
-/// What a value is of which nothing is asked: the APDU of association control that its octets spell,
-/// or its octets.
+/// What a value is of which nothing is asked: the APDU of association control that its octets
+/// spell, or its octets.
 fn left_content(basis: &Ground<'_>, octets: &[u8]) -> Result<Content, NoMemory>
     ensures { IfOk result (λ content. seen_content content ≡ reading.left_content octets.now
         (acse_at octets.now)) }
@@ -198,8 +198,8 @@ pub(crate) fn connect_values(
     values_for(basis, presentation, set.as_slice(), carrier)
 }
 
-/// Whether an AC stands: its results fit, and the contexts of the association are among those that it
-/// accepts.
+/// Whether an AC stands: its results fit, and the contexts of the association are among those that
+/// it accepts.
 fn stands(
     basis: &Ground<'_>,
     presentation: &PresentationAccept,

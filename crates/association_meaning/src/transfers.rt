@@ -102,9 +102,9 @@ fn arrived_in(
     arrived_by(basis, octets, pdv, pair_of(set, pdv.id))
 }
 
-/// What the octets of a transfer are under a set: an APDU, or octets on a context of the module that
-/// spell none; or the fault that ends the association, of which places count in the octets. `NoMemory`
-/// where memory runs out.
+/// What the octets of a transfer are under a set: an APDU, or octets on a context of the module
+/// that spell none; or the fault that ends the association, of which places count in the octets.
+/// `NoMemory` where memory runs out.
 pub fn arrived_at(basis: &Ground<'_>, set: &[SetItem], octets: &[u8]) -> Result<Arrived, Halt>
     ensures { GivesAs seen_arrived result (reading.arrived_at basis.now.tables.now set.now
         octets.now) }

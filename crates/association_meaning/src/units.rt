@@ -150,10 +150,10 @@ fn unit_meaning(
     }
 }
 
-/// What a unit of the session means under the accepted contexts of the association and the held set,
-/// or the fault that ends the association: its unit of the presentation, then contexts and forms of
-/// values, then their APDUs. Its user data begin at this place of its TSDU. `NoMemory` where memory
-/// runs out; the unit is left as it is.
+/// What a unit of the session means under the accepted contexts of the association and the held
+/// set, or the fault that ends the association: its unit of the presentation, then contexts and
+/// forms of values, then their APDUs. Its user data begin at this place of its TSDU. `NoMemory`
+/// where memory runs out; the unit is left as it is.
 pub fn meaning(
     basis: &Ground<'_>,
     accepted: &[SetItem],

@@ -1,5 +1,5 @@
-//! The pieces of what one end of an association holds, each the matter of one layer, and their small
-//! changes.
+//! The pieces of what one end of an association holds, each the matter of one layer, and their
+//! small changes.
 #![tactic(auto)]
 
 mod link;

@@ -29,7 +29,8 @@ impl Model for Pieces {
 
     ghost view = { λ p. p.stack };
 
-    ghost invariant = { λ p. (p.count ≡ length (joined p.stack)) × (p.top ≡ highest p.stack) × (p.top < 4294967295) };
+    ghost invariant = { λ p. (p.count ≡ length (joined p.stack)) × (p.top ≡ highest p.stack)
+        × (p.top < 4294967295) };
 }
 
 impl Pieces {

@@ -69,8 +69,8 @@ fn react_to_end_word(
     take_or_fail_end(basis, body, number, arrived)
 }
 
-/// What an end of direct or reliable mode does with the end of an activity, of which the transfer was
-/// read: the value that it brings, none where its number was handed up already, or its fault.
+/// What an end of direct or reliable mode does with the end of an activity, of which the transfer
+/// was read: the value that it brings, none where its number was handed up already, or its fault.
 pub fn react_to_end(
     basis: &Ground<'_>,
     body: &mut Body,

@@ -42,7 +42,8 @@ fn activities(word: ActivityWord) -> Message
 
 /// AC with additions and deletions.
 fn alter_message(basis: &Ground<'_>, add: &Proposals, delete: &Ids) -> Result<Message, NoMemory>
-    ensures { IfOk result (λ m. seen_message m ≡ Session (OfData (AlterContext add.now delete.now))) }
+    ensures { IfOk result (λ m. seen_message m
+        ≡ Session (OfData (AlterContext add.now delete.now))) }
 {
     Ok(Message::Session(Word::OfData(DataWord::AlterContext {
         add: add.copy(basis.alloc)?,

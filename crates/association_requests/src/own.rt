@@ -101,8 +101,8 @@ fn sends_end(number: u32) -> Own
     Own::Sends(Message::Session(Word::OfActivities(ActivityWord::End { number })))
 }
 
-/// The mark, the end or the part that comes next of an encoded transfer; nothing where its window is
-/// full.
+/// The mark, the end or the part that comes next of an encoded transfer; nothing where its window
+/// is full.
 fn next_of(
     basis: &Ground<'_>,
     body: &Body,

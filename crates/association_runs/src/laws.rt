@@ -18,9 +18,9 @@ pub fn one_run()
 /// are; the shared set and the dealings are read off its moments. At each moment each message that
 /// was taken is the one that was sent in its place of the connection; each carry shows what the
 /// messages show that are taken in it, and nothing else; no end aborts of itself; and at no moment
-/// do both hold the turn and each transfer arrives whole, where so it is of their messages. Presumed is that the
-/// mode isn't bare, that neither end ever fails with messages, and that each word that is taken
-/// may be written and means itself.
+/// do both hold the turn and each transfer arrives whole, where so it is of their messages.
+/// Presumed is that the mode isn't bare, that neither end ever fails with messages, and that each
+/// word that is taken may be written and means itself.
 pub fn runs_reach_messages()
     ensures reached { RunsReachMessages }
     ensures places { RunsTakeInPlace }

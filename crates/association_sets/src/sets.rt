@@ -108,9 +108,9 @@ pub fn lowest_with(name: &[u32], own: &[Alteration], held: &[SetItem]) -> Option
     None
 }
 
-/// The identifier on which what belongs to a context travels: the context itself where values may be
-/// sent on it, else the lowest of the module's abstract syntax on which they may (this project's own
-/// rule).
+/// The identifier on which what belongs to a context travels: the context itself where values may
+/// be sent on it, else the lowest of the module's abstract syntax on which they may (this project's
+/// own rule).
 pub fn carrier(name: &[u32], held: &[SetItem], own: &[Alteration], id: u32) -> Option<u32>
     ensures { result ≡ carrier name.now held.now own.now id }
 {

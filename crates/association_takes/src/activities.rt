@@ -121,8 +121,8 @@ fn take_arrived(
     }
 }
 
-/// Takes AE with what the transfer brings, which was read before: nothing where its number was handed
-/// up already.
+/// Takes AE with what the transfer brings, which was read before: nothing where its number was
+/// handed up already.
 pub fn end_taken(
     basis: &Ground<'_>,
     body: &mut Body,

@@ -36,7 +36,8 @@ fn invalid_ppdu(basis: &Ground<'_>) -> Fault
 /// Why an alteration may not come: AC may stand where context management is selected and, in
 /// reliable mode, from the end that has the turn.
 pub fn alter_fault(basis: &Ground<'_>, body: &Body, add: &[Proposal]) -> Option<Fault>
-    ensures { option_map seen_fault result ≡ alter_fault (base_in basis.now) (seen body.now) add.now }
+    ensures { option_map seen_fault result
+        ≡ alter_fault (base_in basis.now) (seen body.now) add.now }
 {
     if !body.link.manages || is_reliable(basis.config.mode) && body.link.turn {
         return Some(unexpected_ppdu(basis));

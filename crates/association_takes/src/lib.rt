@@ -1,5 +1,5 @@
-//! What an end of an association does with transport units, data, alterations, marks and tokens, and
-//! activities.
+//! What an end of an association does with transport units, data, alterations, marks and tokens,
+//! and activities.
 #![tactic(auto)]
 
 mod activities;

@@ -190,8 +190,8 @@ fn restored_set(basis: &Ground<'_>, body: &Body, n: u32) -> Result<SetList, NoMe
     copy_set(basis.alloc, body.saved.set_below(n))
 }
 
-/// Goes back to the set of a restart: the marks from it on, own alterations and open invocations are
-/// gone, and the token is at the initiator.
+/// Goes back to the set of a restart: the marks from it on, own alterations and open invocations
+/// are gone, and the token is at the initiator.
 fn restart(basis: &Ground<'_>, body: &mut Body, n: u32, set: SetList)
     requires { set ≡ restored_set (seen body.old) n }
     ensures { seen body.new ≡ restarted (base_in basis.now) n (seen body.old) }

@@ -122,7 +122,8 @@ fn is_too_long(body: &Body, values: &[Value]) -> bool
 fn parts_fault(basis: &Ground<'_>, body: &Body, values: &[Value]) -> Option<Fault>
     ensures { option_map seen_fault result ≡ or_fault (fault_if (list_any (λ (v : rule_value). not
         (is_part v.content)) (seen_values values.now)) rtse_fault) (fault_if (nat_lt 262400 (length
-        (joined (seen body.now).receiving.pieces ++ parts_in (seen_values values.now)))) rtse_fault) }
+        (joined (seen body.now).receiving.pieces
+        ++ parts_in (seen_values values.now)))) rtse_fault) }
 {
     if has_other(values) || is_too_long(body, values) {
         Some(Fault::at(basis.alloc, Layer::Rtse, 0, 4))
@@ -131,8 +132,8 @@ fn parts_fault(basis: &Ground<'_>, body: &Body, values: &[Value]) -> Option<Faul
     }
 }
 
-/// What data may not carry: values of association control anywhere; in reliable mode what is no part
-/// of a transfer, or too many octets; else what is none of remote operations.
+/// What data may not carry: values of association control anywhere; in reliable mode what is no
+/// part of a transfer, or too many octets; else what is none of remote operations.
 pub(crate) fn values_fault(basis: &Ground<'_>, body: &Body, values: &[Value]) -> Option<Fault>
     ensures { option_map seen_fault result ≡ values_fault (base_in basis.now) (seen body.now)
         (seen_values values.now) }

@@ -13,8 +13,8 @@ use std::alloc::Global;
 pub struct Fault {
     /// The layer that finds it.
     pub layer: Layer,
-    /// The place of the faulty field in the octets of a TSDU, of an APDU or of a transfer, or in the
-    /// stream of the connection; 0 where no single field is at fault.
+    /// The place of the faulty field in the octets of a TSDU, of an APDU or of a transfer, or in
+    /// the stream of the connection; 0 where no single field is at fault.
     pub place: u64,
     /// The reason that an abort tells: that of the provider of the presentation (X.226 8.2.5), or
     /// that of reliable transfer (X.228 9); else 0.

@@ -30,9 +30,9 @@ pub fn write_tsdu_of(
     units_written(alloc, &units)
 }
 
-/// The octets of a message in its one spelling (RFC 1006 6, X.224 13, X.225 8.3, X.226 8.2), with at
-/// most `size` octets in a DT, 128 to 65,531. The header of a CR has room for at most 254 octets. An
-/// ER has no octets, since it is never written. `NoMemory` where memory runs out.
+/// The octets of a message in its one spelling (RFC 1006 6, X.224 13, X.225 8.3, X.226 8.2), with
+/// at most `size` octets in a DT, 128 to 65,531. The header of a CR has room for at most 254
+/// octets. An ER has no octets, since it is never written. `NoMemory` where memory runs out.
 pub fn write_message(
     alloc: Global,
     codecs: &Codecs,

@@ -35,9 +35,17 @@ impl<'t> Model for End<'t> {
 
     ghost Value = { EndView };
 
-    ghost view = { λ e. record { tables = e.tables.now; config = e.config; phase = e.phase; calls = e.invocations; waiting = e.waiting; rest = e.rest } };
+    ghost view = { λ e. record {
+      tables = e.tables.now;
+      config = e.config;
+      phase = e.phase;
+      calls = e.invocations;
+      waiting = e.waiting;
+      rest = e.rest;
+    } };
 
-    ghost invariant = { λ e. (e.config.mode ≡ Bare) × (e.pair ≡ record { abstract_name = e.tables.now.name_oid; transfer = Ber }) };
+    ghost invariant = { λ e. (e.config.mode ≡ Bare) × (e.pair
+        ≡ record { abstract_name = e.tables.now.name_oid; transfer = Ber }) };
 }
 
 impl<'t> End<'t> {

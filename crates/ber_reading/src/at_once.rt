@@ -186,8 +186,9 @@ fn is_absent(
     }
 }
 
-/// Puts the first of these parts of a SEQUENCE behind those found before, as many as are read at once, and
-/// answers where reading goes on. It stops at the first that isn't, or whose memory is refused.
+/// Puts the first of these parts of a SEQUENCE behind those found before, as many as are read at
+/// once, and answers where reading goes on. It stops at the first that isn't, or whose memory is
+/// refused.
 #[inline(never)]
 pub(crate) fn parts_at_once<'a>(
     alloc: Global,

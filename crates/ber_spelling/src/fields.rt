@@ -368,8 +368,8 @@ pub(crate) fn contents<'a>(
     ))
 }
 
-/// The scope that the length of a constructed value gives its contents (X.690 8.1.3), and where they
-/// begin; or the first fault in it.
+/// The scope that the length of a constructed value gives its contents (X.690 8.1.3), and where
+/// they begin; or the first fault in it.
 #[tactic(auto, unfolding(crate::specs::Fields::extent_at))]
 #[inline(always)]
 pub fn extent<'a>(scope: &Scope, spot: Spot<'a>) -> Result<(Scope, Spot<'a>), ReadFault>

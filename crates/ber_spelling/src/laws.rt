@@ -94,8 +94,8 @@ pub fn unused_bits_are_cleared()
     ensures { UnusedBitsAreCleared }
 {}
 
-/// Of all octets one holds and no other: a first part is a spelling, there is a first fault, or they
-/// are too short.
+/// Of all octets one holds and no other: a first part is a spelling, there is a first fault, or
+/// they are too short.
 pub fn one_of_three()
     ensures { OneOfThree }
 {}
@@ -106,7 +106,8 @@ pub fn der_is_whole()
     ensures { DerIsWhole }
 {}
 
-/// What spells a value in DER is what is written of it: a value has one DER spelling (X.690 10, 11).
+/// What spells a value in DER is what is written of it: a value has one DER spelling (X.690 10,
+/// 11).
 pub fn der_is_written()
     ensures { DerIsWritten }
 {}

@@ -1,4 +1,5 @@
-//! What spells a value in BER and DER (X.690), the laws of spellings, and the reading of single fields.
+//! What spells a value in BER and DER (X.690), the laws of spellings, and the reading of single
+//! fields.
 #![tactic(auto)]
 
 mod fault;

@@ -36,8 +36,8 @@ fn is_other_truth(default: Option<i64>, truth: bool) -> bool
     }
 }
 
-/// A BOOLEAN behind its identifier (X.690 8.2), and where reading goes on; or the first fault in it.
-/// In DER it isn't the default of its part.
+/// A BOOLEAN behind its identifier (X.690 8.2), and where reading goes on; or the first fault in
+/// it. In DER it isn't the default of its part.
 #[tactic(auto, unfolding(crate::specs::Rules::primitive_at))]
 #[inline(never)]
 pub fn boolean<'a>(

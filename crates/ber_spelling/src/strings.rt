@@ -385,7 +385,8 @@ pub fn octet_string<'a>(
     string(alloc, StringRule::Octets { most }, tag, scope, opened, spot)
 }
 
-/// A BIT STRING behind its identifier (X.690 8.6), and where reading goes on; or the first fault in it.
+/// A BIT STRING behind its identifier (X.690 8.6), and where reading goes on; or the first fault in
+/// it.
 #[inline(never)]
 pub fn bit_string<'a>(
     alloc: Global,

@@ -1,5 +1,5 @@
-//! How the DER spellings of two values of one type compare, octet by octet (X.690 11.6), told in one
-//! pass over the pieces of both, from the last to the first, and without memory.
+//! How the DER spellings of two values of one type compare, octet by octet (X.690 11.6), told in
+//! one pass over the pieces of both, from the last to the first, and without memory.
 //!
 //! Identifiers and lengths compare as the octets that they are written with. Contents of one length
 //! compare as their first pieces that differ, since of two pieces neither begins the other. Where a
@@ -26,8 +26,8 @@ use crate::write::next_rank;
 use asn1_types::{Class, Part, Parts, TypeId, TypeRow, TypeTable, Val, text_number};
 use ber_spelling::{RANKS, Tag, rank_of, tag_or};
 
-/// How the spellings of two values of a row compare, under another tag if one is given; `None` where
-/// that isn't told by their pieces, which is so only of values that don't fit.
+/// How the spellings of two values of a row compare, under another tag if one is given; `None`
+/// where that isn't told by their pieces, which is so only of values that don't fit.
 #[cycle(comparing)]
 pub(crate) fn values_compared(
     table: &TypeTable,

@@ -1,6 +1,6 @@
-//! Identifiers, lengths and the contents of values that have no parts, put into a room in DER from the
-//! last octet to the first. What a function puts stands right before `end`, and it answers where that
-//! begins.
+//! Identifiers, lengths and the contents of values that have no parts, put into a room in DER from
+//! the last octet to the first. What a function puts stands right before `end`, and it answers
+//! where that begins.
 
 ghost use Rattle.std.specs.Prelude.{◌≡◌, ◌++◌, ◌∷◌, ◌+◌, ◌-◌, ◌<◌, ◌≤◌, [], map, false, true, length, drop};
 ghost use Rattle.std.specs.List.{flat_map};
@@ -64,7 +64,8 @@ fn put_base_256(number: u64, room: &mut [u8], end: usize) -> usize
     start
 }
 
-/// An INTEGER's contents (X.690 8.3). Below 0 they are those of -1 less the number, with each bit turned.
+/// An INTEGER's contents (X.690 8.3). Below 0 they are those of -1 less the number, with each bit
+/// turned.
 #[tactic(auto, unfolding(asn1_types::specs::Writing::integer_octets))]
 pub(crate) fn put_integer(number: i64, room: &mut [u8], end: usize) -> usize
     requires room { length (integer_octets number) ≤ end }

@@ -113,11 +113,12 @@ fn any_fits(value: &Val) -> bool
 /// Whether a value fits a row of a table: an INTEGER in its range, an ENUMERATED among its items,
 /// an OCTET STRING of at most `most` octets, a BIT STRING whose 0 to 7 unused bits are zero, a text
 /// of characters of its kind, of a SEQUENCE or SET as many parts as the row has in the order of the
-/// notation, each there unless it may be absent and none with its default's value, of a SET OF items
-/// in rising order of their DER spellings (X.690 11.6), of a CHOICE an alternative that is there, and
-/// in an `Any` one whole value (X.690 8.1). Its DER spelling and its packed one have at most
-/// 4,294,967,295 octets each. Nothing fits a row that is not there. It takes time linear in the value,
-/// and no memory.
+/// notation, each there unless it may be absent and none with its default's value, of a SET OF
+/// items in rising order of their DER spellings (X.690 11.6), of a CHOICE an alternative that is
+/// there, and in an `Any` one whole value (X.690 8.1). Its DER spelling and its packed one have at
+/// most
+/// 4,294,967,295 octets each. Nothing fits a row that is not there. It takes time linear in the
+/// value, and no memory.
 pub fn fits(table: &TypeTable, of: TypeId, value: &Val) -> bool
     ensures { result ≡ fits table.now of.0 value.now }
 {

@@ -377,8 +377,8 @@ pub(crate) fn part_len(table: &TypeTable, of: TypeId, part: &Part, value: &Optio
     }
 }
 
-/// The length of the DER spelling of a value, as `ber_write` writes it. One of 2 ^ 64 or more octets
-/// gives 2 ^ 64 - 1.
+/// The length of the DER spelling of a value, as `ber_write` writes it. One of 2 ^ 64 or more
+/// octets gives 2 ^ 64 - 1.
 #[tactic(auto, unfolding(asn1_types::specs::Writing::written))]
 pub fn ber_len(table: &TypeTable, of: TypeId, value: &Val) -> u64
     ensures { result ≡ min (length (written table.now of.0 value.now)) (2 ^ 64 - 1) }

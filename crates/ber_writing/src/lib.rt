@@ -1,5 +1,5 @@
-//! The lengths of values of the types of `asn1_types` in DER (X.690), their order, which values fit,
-//! and writing them.
+//! The lengths of values of the types of `asn1_types` in DER (X.690), their order, which values
+//! fit, and writing them.
 #![tactic(auto)]
 
 mod compare;

@@ -26,13 +26,15 @@ fn octet_in(octets: &[u8], at: u64) -> u8
     }
 }
 
-/// The octet at a place of identifier and length of contents of `count` octets, or else the place in
-/// the contents.
+/// The octet at a place of identifier and length of contents of `count` octets, or else the place
+/// in the contents.
 fn head_or_place(tag: Tag, constructed: bool, count: u64, at: u64) -> Result<u8, u64>
     requires { count ≤ most_spelled }
     ensures { MatchResult result
-        (λ octet. (contents : List ℕ) → length contents ≡ count → slice_index (definite constructed tag contents) at ≡ octet)
-        (λ place. (contents : List ℕ) → length contents ≡ count → slice_index (definite constructed tag contents) at ≡ slice_index contents place) }
+        (λ octet. (contents : List ℕ) → length contents ≡ count →
+        slice_index (definite constructed tag contents) at ≡ octet)
+        (λ place. (contents : List ℕ) → length contents ≡ count →
+        slice_index (definite constructed tag contents) at ≡ slice_index contents place) }
 {
     let len = identifier_len(tag) + length_len(count);
     if len <= at {
@@ -239,7 +241,8 @@ fn any_octet(tag: Option<Tag>, value: &Val, at: u64) -> u8
     }
 }
 
-/// The octet at a place of what is written of a value of this row, under another tag if one is given.
+/// The octet at a place of what is written of a value of this row, under another tag if one is
+/// given.
 #[cycle(picking)]
 pub(crate) fn octet_at(table: &TypeTable, of: TypeId, tag: Option<Tag>, value: &Val, at: u64) -> u8
     requires { length (writes table.now of.0 tag value.now) ≤ most_spelled }

@@ -20,8 +20,9 @@ use std::alloc::Global;
 /// How many octets a spelling of a value that fits may have.
 pub(crate) const MOST: u64 = 4_294_967_295;
 
-/// Whether the DER spelling of a value is less than that of another, octet by octet; `None` where one
-/// of them has more than 4,294,967,295 octets. It takes time linear in values that fit, and no memory.
+/// Whether the DER spelling of a value is less than that of another, octet by octet; `None` where
+/// one of them has more than 4,294,967,295 octets. It takes time linear in values that fit, and no
+/// memory.
 #[tactic(auto, unfolding(asn1_types::specs::Writing::written))]
 pub fn is_less(table: &TypeTable, of: TypeId, a: &Val, b: &Val) -> Option<bool>
     ensures { result ≡ told_less (written table.now of.0 a.now) (written table.now of.0 b.now) }
@@ -76,8 +77,8 @@ fn each_less(table: &TypeTable, of: TypeId, a: &Val, len: u64, b: &Val, other: u
     len < other
 }
 
-/// As `is_less`, of spellings of any length: those of values that don't fit, and those that have 2^64
-/// octets or more, are written into memory.
+/// As `is_less`, of spellings of any length: those of values that don't fit, and those that have
+/// 2^64 octets or more, are written into memory.
 pub(crate) fn less_in_memory(
     alloc: Global,
     table: &TypeTable,

@@ -1,4 +1,5 @@
-//! How many octets values have in the packed syntax. A length past 64 bits stands still at their end.
+//! How many octets values have in the packed syntax. A length past 64 bits stands still at their
+//! end.
 
 ghost use Rattle.std.specs.Prelude.{◌≡◌, ◌<◌, ◌+◌, Some, slice_get};
 ghost use Rattle.std.specs.List.{AllByRecursion};
@@ -125,7 +126,8 @@ fn choice_size(table: &TypeTable, of: TypeId, alternatives: &Parts, value: &Val)
 #[cycle(sizing)]
 fn sequence_size(table: &TypeTable, of: TypeId, parts: &Parts, value: &Val) -> u64
     requires below { AllByRecursion (λ m. m < of.0) (rows_of_parts parts.now) }
-    ensures { result ≡ saturated (sequence_size (parts_size (packed_size table.now) parts.now) value.now) }
+    ensures { result
+        ≡ saturated (sequence_size (parts_size (packed_size table.now) parts.now) value.now) }
 {
     match &value.node {
         Node::Parts(values) => each_size(table, of, parts.as_slice(), values),
@@ -136,7 +138,8 @@ fn sequence_size(table: &TypeTable, of: TypeId, parts: &Parts, value: &Val) -> u
 #[cycle(sizing)]
 fn each_size(table: &TypeTable, of: TypeId, parts: &[Part], values: &[Option<Val>]) -> u64
     requires below { AllByRecursion (λ m. m < of.0) (rows_of_parts parts.now) }
-    ensures { result ≡ saturated (parts_size (packed_size table.now) parts.now (parts_of values.now)) }
+    ensures { result
+        ≡ saturated (parts_size (packed_size table.now) parts.now (parts_of values.now)) }
 {
     let mut size: u64 = 0;
     let mut index = parts.len().min(values.len());
@@ -173,7 +176,8 @@ fn list_size(table: &TypeTable, of: TypeId, inner: TypeId, value: &Val) -> u64
 #[cycle(sizing)]
 fn items_size(table: &TypeTable, of: TypeId, inner: TypeId, values: &[Val]) -> u64
     requires below { inner.0 < of.0 }
-    ensures { result ≡ saturated (values_size (packed_size table.now inner.0) (values_of values.now)) }
+    ensures { result
+        ≡ saturated (values_size (packed_size table.now inner.0) (values_of values.now)) }
 {
     let mut size: u64 = 0;
     let mut index = values.len();

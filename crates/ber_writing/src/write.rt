@@ -18,8 +18,8 @@ use ber_spelling::{RANKS, Tag, rank_of, tag_or};
 use osi_base::{NoMemory, Octets};
 use std::alloc::Global;
 
-/// Puts a value of this row, under another tag if one is given. Of a value that doesn't fit the row, what
-/// doesn't fit is left out.
+/// Puts a value of this row, under another tag if one is given. Of a value that doesn't fit the
+/// row, what doesn't fit is left out.
 #[cycle(writing)]
 pub(crate) fn put_value(
     table: &TypeTable,
@@ -497,9 +497,10 @@ fn raised(
     }
 }
 
-/// Writes the DER spelling of a value (X.690 10) at the front of the room, and answers its length. Of
-/// a value that fits this type it is the only one; of others it has the parts that can be written.
-/// The octets behind it stay. The room must have the octets that `ber_len` tells. No memory is taken.
+/// Writes the DER spelling of a value (X.690 10) at the front of the room, and answers its length.
+/// Of a value that fits this type it is the only one; of others it has the parts that can be
+/// written. The octets behind it stay. The room must have the octets that `ber_len` tells. No
+/// memory is taken.
 pub fn ber_write(table: &TypeTable, of: TypeId, value: &Val, out: &mut [u8]) -> usize
     requires { length (written table.now of.0 value.now) ≤ length out.old }
     ensures length { result ≡ length (written table.now of.0 value.now) }

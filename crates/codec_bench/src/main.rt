@@ -1,6 +1,7 @@
-//! Reads and writes values over and over, so that a clock outside can time it. Its words say how often: in
-//! BER, reading the sequence, writing it, reading the invocation, writing it; then the same four in the
-//! packed syntax; then the same eight with the numbers in a SET OF and those in a SEQUENCE OF.
+//! Reads and writes values over and over, so that a clock outside can time it. Its words say how
+//! often: in BER, reading the sequence, writing it, reading the invocation, writing it; then the
+//! same four in the packed syntax; then the same eight with the numbers in a SET OF and those in a
+//! SEQUENCE OF.
 #![tactic(auto)]
 
 mod rounds;

@@ -42,7 +42,8 @@ fn number(number: i64) -> Val {
     }
 }
 
-/// SEQUENCE {a INTEGER, b OCTET STRING, c SEQUENCE OF INTEGER} with 1, 1,024 octets and 100 thousands.
+/// SEQUENCE {a INTEGER, b OCTET STRING, c SEQUENCE OF INTEGER} with 1, 1,024 octets and 100
+/// thousands.
 pub fn sequence(alloc: Global) -> Result<Sample, Stopped> {
     let mut table = TypeTable::new(alloc);
     let integer = table.add(any_integer())?;
@@ -106,8 +107,8 @@ pub fn invocation(alloc: Global) -> Result<Sample, Stopped> {
     Ok(Sample { table, of, value })
 }
 
-/// SEQUENCE {a INTEGER DEFAULT 1, b BOOLEAN DEFAULT TRUE, c SET OF INTEGER} with 5, an absent b and the
-/// numbers from 0 to 999; or with a SEQUENCE OF the same numbers.
+/// SEQUENCE {a INTEGER DEFAULT 1, b BOOLEAN DEFAULT TRUE, c SET OF INTEGER} with 5, an absent b and
+/// the numbers from 0 to 999; or with a SEQUENCE OF the same numbers.
 pub fn numbers(alloc: Global, is_set: bool) -> Result<Sample, Stopped> {
     let mut table = TypeTable::new(alloc);
     let integer = table.add(any_integer())?;

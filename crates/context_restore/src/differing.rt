@@ -66,8 +66,8 @@ fn push_missing(
     list.push(item.copy(alloc)?)
 }
 
-/// The contexts of a set that the other hasn't, or has with another pair. Both sets are gone through
-/// once, side by side.
+/// The contexts of a set that the other hasn't, or has with another pair. Both sets are gone
+/// through once, side by side.
 pub(crate) fn missing(
     alloc: Global,
     other: &[SetItem],
@@ -93,7 +93,8 @@ fn leads_nowhere(node: &VersionNode) -> bool
     node.added.len() == 0 && node.lost.len() == 0
 }
 
-/// A copy of a set to which a node leads from the newest one. A set that hasn't changed isn't copied.
+/// A copy of a set to which a node leads from the newest one. A set that hasn't changed isn't
+/// copied.
 pub(crate) fn changed_set(
     node: &VersionNode,
     newest: &[SetItem],

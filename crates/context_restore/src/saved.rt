@@ -171,9 +171,9 @@ impl Saved {
         self.cut(n as usize)
     }
 
-    /// Begins an activity anew at a mark that is kept, or at nothing: the set `now` is restored after
-    /// it, the marks past this one are gone, and the mark's set is answered. At nothing all marks are
-    /// gone, and `now` is the set of number 0 and the answer.
+    /// Begins an activity anew at a mark that is kept, or at nothing: the set `now` is restored
+    /// after it, the marks past this one are gone, and the mark's set is answered. At nothing all
+    /// marks are gone, and `now` is the set of number 0 and the answer.
     pub fn resume(&mut self, n: u32, now: &Contexts) -> Result<SetList, SaveRefusal>
         ensures refused { MatchResult result (λ _. resume_refusal self.old n ≡ None)
             (IsRefused (resume_refusal self.old n)) }
@@ -271,8 +271,8 @@ impl Saved {
         Ok(())
     }
 
-    /// The set to which the oldest versions lead, of which there are so many: the newest one, led back
-    /// by the others.
+    /// The set to which the oldest versions lead, of which there are so many: the newest one, led
+    /// back by the others.
     fn oldest_set(&self, count: usize) -> Result<SetList, SaveRefusal>
         requires { 0 < count }
         ensures list { IfOk result (λ list. list ≡ set_of (below count self.now.nodes)) }

@@ -78,9 +78,9 @@ impl Contexts {
         Ok(())
     }
 
-    /// Asks for an alteration over this set: the contexts to be added and to be deleted, while these
-    /// identifiers are in use. It waits for its answer behind those that wait, and room is made for
-    /// its additions. After a refusal nothing has changed but the room.
+    /// Asks for an alteration over this set: the contexts to be added and to be deleted, while
+    /// these identifiers are in use. It waits for its answer behind those that wait, and room is
+    /// made for its additions. After a refusal nothing has changed but the room.
     pub fn propose(&mut self, add: Proposals, delete: Ids, used: &Ids) -> Result<(), SetRefusal>
         ensures refused { let first = refusal self.old.initiator self.old.set self.old.own used.now
             (record { added = add; deleted = delete }) in
@@ -207,8 +207,8 @@ impl Contexts {
         None
     }
 
-    /// The identifier on which what belongs to this context travels: the context itself where values
-    /// may be sent on it, else the lowest of the module's abstract syntax on which they may.
+    /// The identifier on which what belongs to this context travels: the context itself where
+    /// values may be sent on it, else the lowest of the module's abstract syntax on which they may.
     pub fn carrier(&self, id: u32, module_name: &Oid) -> Option<u32>
         ensures { result ≡ carrier self.now.set self.now.own module_name.now id }
     {

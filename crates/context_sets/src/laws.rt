@@ -39,9 +39,9 @@ fn confirm_fitting(asking: &mut Contexts, answers: &Answers)
     let _ = asking.confirm(answers);
 }
 
-/// Has one end answer what the other asked for longest, while these identifiers are in use at the end
-/// that answers, and hands the answers back. Two sets that agreed agree again. A fault is the first
-/// of what was asked, or want of memory; after it neither set has changed.
+/// Has one end answer what the other asked for longest, while these identifiers are in use at the
+/// end that answers, and hands the answers back. Two sets that agreed agree again. A fault is the
+/// first of what was asked, or want of memory; after it neither set has changed.
 #[tactic(auto, using(crate::proofs::Fitting::answers_fit))]
 pub fn settle_between(
     asking: &mut Contexts,

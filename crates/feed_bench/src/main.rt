@@ -1,6 +1,6 @@
-//! Feeds octets to an end of bare mode over and over, so that a clock outside can time it. Its words
-//! say how many octets come, at most 262,144, and how often: each time once as one long APDU whose
-//! octets come one by one, and once as short APDUs that come at once.
+//! Feeds octets to an end of bare mode over and over, so that a clock outside can time it. Its
+//! words say how many octets come, at most 262,144, and how often: each time once as one long APDU
+//! whose octets come one by one, and once as short APDUs that come at once.
 #![tactic(auto)]
 
 mod rounds;

@@ -29,8 +29,8 @@ impl From<NoMemory> for PduFault {
 }
 
 /// The value of this row that all of these octets, at most `most`, spell in BER (X.690 8). Octets
-/// that end too early lack something at their end; what is nested too deep has a wrong tag, and what
-/// goes past `most` octets a wrong length.
+/// that end too early lack something at their end; what is nested too deep has a wrong tag, and
+/// what goes past `most` octets a wrong length.
 pub fn whole(
     alloc: Global,
     table: &TypeTable,

@@ -45,8 +45,8 @@ fn tagged(number: u32, explicit: bool, inner: u32) -> TypeRow {
     }
 }
 
-/// CHOICE {x OCTET STRING, y [40] IMPLICIT BOOLEAN, z [200] EXPLICIT NULL}, and a SEQUENCE and a SET of
-/// an INTEGER, [0] EXPLICIT INTEGER and such a CHOICE, all optional.
+/// CHOICE {x OCTET STRING, y [40] IMPLICIT BOOLEAN, z [200] EXPLICIT NULL}, and a SEQUENCE and a
+/// SET of an INTEGER, [0] EXPLICIT INTEGER and such a CHOICE, all optional.
 fn table(alloc: Global) -> Result<TypeTable, RowRefusal> {
     let mut table = TypeTable::new(alloc);
     table.add(TypeRow::Integer {

@@ -170,9 +170,9 @@ fn two(alloc: Global, first: Part, second: Part) -> Result<Parts, RowRefusal> {
     Ok(parts)
 }
 
-/// Octets of a type and what they are read as. The syntax is the project's own: a number is its size
-/// in one octet and two's complement of that size, a string or list its count in four octets, and a
-/// part that may be absent has an octet that is 0 or 1 in front.
+/// Octets of a type and what they are read as. The syntax is the project's own: a number is its
+/// size in one octet and two's complement of that size, a string or list its count in four octets,
+/// and a part that may be absent has an octet that is 0 or 1 in front.
 const ROWS: [(u32, &'static [u8], Outcome); 53] = [
     (BOOLEAN, &[0x01], Whole),
     (BOOLEAN, &[0x02], Content(0)),

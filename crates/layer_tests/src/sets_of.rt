@@ -23,8 +23,8 @@ const PAIRS: u32 = 5;
 
 const SETS: u32 = 6;
 
-/// SET OF INTEGER, SET OF OCTET STRING, SET OF SET {a INTEGER OPTIONAL, b OCTET STRING OPTIONAL} and
-/// SET OF SET OF INTEGER.
+/// SET OF INTEGER, SET OF OCTET STRING, SET OF SET {a INTEGER OPTIONAL, b OCTET STRING OPTIONAL}
+/// and SET OF SET OF INTEGER.
 fn table(alloc: Global) -> Result<TypeTable, RowRefusal> {
     let mut table = TypeTable::new(alloc);
     table.add(TypeRow::Integer {
@@ -49,7 +49,8 @@ fn table(alloc: Global) -> Result<TypeTable, RowRefusal> {
     Ok(table)
 }
 
-/// Octets of a type, the place of a fault of kind Form in DER if there is one, and how they are written.
+/// Octets of a type, the place of a fault of kind Form in DER if there is one, and how they are
+/// written.
 const ROWS: [(u32, &'static [u8], Option<usize>, &'static [u8]); 11] = [
     (
         NUMBERS,

@@ -25,8 +25,9 @@ pub type Keys = ListOf<Key>;
 pub type Entries = ListOf<(Key, Option<Key>)>;
 
 /// The open invocations of both ends, in order of opening: nodes in a slab, linked by places, which
-/// a key finds by the number of its opening. A call costs at most the logarithm of what is open, and
-/// what it answers; `post_order` and `entries` cost that logarithm for each key that they answer.
+/// a key finds by the number of its opening. A call costs at most the logarithm of what is open,
+/// and what it answers; `post_order` and `entries` cost that logarithm for each key that they
+/// answer.
 #[derive(Drop)]
 pub struct Forest {
     alloc: Global,

@@ -52,7 +52,10 @@ impl<'m> Model for Scope<'m> {
 
     ghost view = { λ s. record { assignments = s.assignments.now; implicit = s.implicit } };
 
-    ghost invariant = { λ s. record { found : AreFound s.assignments.now s.places; behind : AreBehind s.assignments.now s.behind.items } };
+    ghost invariant = { λ s. record {
+      found : AreFound s.assignments.now s.places;
+      behind : AreBehind s.assignments.now s.behind.items;
+    } };
 }
 
 /// The Name that a type without a tag is, if it is one.

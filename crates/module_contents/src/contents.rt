@@ -187,8 +187,8 @@ fn are_octets(octets: &[u8])
     let _octets = octets;
 }
 
-/// What octets of the module's abstract syntax are: the APDU that they spell in a syntax, with its value
-/// read by the tables of the module, or the octets.
+/// What octets of the module's abstract syntax are: the APDU that they spell in a syntax, with its
+/// value read by the tables of the module, or the octets.
 pub fn content_at(
     alloc: Global,
     heads: &Heads,

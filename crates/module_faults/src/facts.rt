@@ -1,5 +1,5 @@
-//! What types are as a whole: how deep their rows nest, with which tags their values begin, and which
-//! defaults they take; and the faults that these show.
+//! What types are as a whole: how deep their rows nest, with which tags their values begin, and
+//! which defaults they take; and the faults that these show.
 #![tactic(auto, using(crate::proofs::LeastLaws::least_append, crate::proofs::LeastLaws::least_two))]
 
 ghost use Rattle.std.specs.Prelude.{◌≡◌, [], false, slice_get, IfOk, OnOk};
@@ -225,7 +225,8 @@ impl<'s, 'm> Facing<'s, 'm> {
         number: u32,
         least: &mut Least,
     ) -> Result<Facts<'m>, NoMemory>
-        ensures facts { IfOk result (λ facts. facts_of facts ≡ simple number (deeper (type_facts (env_by self.now) levels item.now).nesting) other) }
+        ensures facts { IfOk result (λ facts. facts_of facts
+            ≡ simple number (deeper (type_facts (env_by self.now) levels item.now).nesting) other) }
         ensures shows { OnOk result (least.new.found ≡ least_from least.old.found
             (type_shows (env_by self.now) levels item.now)) }
     {
@@ -348,7 +349,8 @@ impl<'s, 'm> Facing<'s, 'm> {
         of: &'m TypeText,
         least: &mut Least,
     ) -> Result<Facts<'m>, NoMemory>
-        ensures facts { IfOk result (λ facts. facts_of facts ≡ type_facts (env_by self.now) levels of.now) }
+        ensures facts { IfOk result (λ facts. facts_of facts
+            ≡ type_facts (env_by self.now) levels of.now) }
         ensures shows { OnOk result (least.new.found ≡ least_from least.old.found
             (type_shows (env_by self.now) levels of.now)) }
     {

@@ -16,7 +16,8 @@ use osi_base::NoMemory;
 use std::alloc::Global;
 
 /// The least fault of a module with these assignments, by line, column and the order of kinds; or
-/// none, if it has no fault. A place is a line and a column, both counted from 1, columns in octets.
+/// none, if it has no fault. A place is a line and a column, both counted from 1, columns in
+/// octets.
 ///
 /// # Errors
 ///

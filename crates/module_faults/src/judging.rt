@@ -75,7 +75,8 @@ impl<'s, 'm> Facing<'s, 'm> {
         }
     }
 
-    /// The faults that the types of what is assigned show, by what is known of those that they name.
+    /// The faults that the types of what is assigned show, by what is known of those that they
+    /// name.
     fn of_body(&self, name: &Located, body: &'m Body, least: &mut Least) -> Result<(), NoMemory>
         ensures { OnOk result (least.new.found ≡ least_from least.old.found (body_shows
             (env_by self.now) name.now

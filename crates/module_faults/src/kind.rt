@@ -22,8 +22,8 @@ pub enum TableKind {
     NotOperation,
     /// A name in ERRORS that isn't an error's.
     NotError,
-    /// An empty range, a SIZE that doesn't begin with 0 or passes 4,294,967,295, a type with the tag
-    /// UNIVERSAL 0, or the 257th alternative of a CHOICE.
+    /// An empty range, a SIZE that doesn't begin with 0 or passes 4,294,967,295, a type with the
+    /// tag UNIVERSAL 0, or the 257th alternative of a CHOICE.
     BadRange,
     /// A result with a type where RETURN RESULT is FALSE.
     Contradiction,

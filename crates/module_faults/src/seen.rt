@@ -62,7 +62,10 @@ impl<'m> Model for SeenCodes<'m> {
 
     ghost Value = { Codes };
 
-    ghost view = { λ s. record { locals = s.locals.keys; globals = map (λ k. k.now) s.globals.keys } };
+    ghost view = { λ s. record {
+      locals = s.locals.keys;
+      globals = map (λ k. k.now) s.globals.keys;
+    } };
 }
 
 impl<'m> SeenCodes<'m> {

@@ -82,8 +82,8 @@ fn file_tables(alloc: Global, bytes: &[u8]) -> Result<Tables, ModuleFault>
 /// # Errors
 ///
 /// `At`: of a text the first fault as `parse_module` tells it, or where it reads as a module the
-/// least fault of that module as `compile` tells it; of a table file the first fault as `load` tells it.
-/// `NoMemory` where an allocation is refused.
+/// least fault of that module as `compile` tells it; of a table file the first fault as `load`
+/// tells it. `NoMemory` where an allocation is refused.
 pub fn read_module(alloc: Global, bytes: &[u8]) -> Result<Tables, ModuleFault>
     ensures found { IfOk result (HasTables bytes.now) }
     ensures refused { IfErr result (IsRefused bytes.now) }

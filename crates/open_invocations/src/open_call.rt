@@ -25,9 +25,21 @@ impl Model for OpenCall {
 
     ghost Value = { seen_call };
 
-    ghost view = { λ o. record { own = o.own; id = o.id; operation = o.operation; context = o.context; parent = o.parent } };
+    ghost view = { λ o. record {
+      own = o.own;
+      id = o.id;
+      operation = o.operation;
+      context = o.context;
+      parent = o.parent;
+    } };
 
-    ghost inverse = { λ o. record { own = o.own; id = o.id; operation = o.operation; context = o.context; parent = o.parent } };
+    ghost inverse = { λ o. record {
+      own = o.own;
+      id = o.id;
+      operation = o.operation;
+      context = o.context;
+      parent = o.parent;
+    } };
 }
 
 impl OpenCall {

@@ -123,8 +123,8 @@ pub enum PresentationWord {
         add: Proposals,
         delete: Ids,
     },
-    /// ALTER CONTEXT ACKNOWLEDGE, ACA: one result for each definition, `[0]`, and for each deletion,
-    /// `[1]`.
+    /// ALTER CONTEXT ACKNOWLEDGE, ACA: one result for each definition, `[0]`, and for each
+    /// deletion, `[1]`.
     AlterAck {
         answers: Answers,
     },

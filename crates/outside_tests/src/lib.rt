@@ -1,6 +1,6 @@
 //! Tests of the outside: of the objects in memory, and of the trusted edge, where the real files,
-//! output and connections begin. They would notice a count that rises without a fault, and a part of
-//! a write that is told as the whole.
+//! output and connections begin. They would notice a count that rises without a fault, and a part
+//! of a write that is told as the whole.
 #![tactic(auto)]
 
 #[cfg(test)]

@@ -101,8 +101,8 @@ fn of_object_id(value: &Val) -> u64
     }
 }
 
-/// How many octets the packed spelling of a value has, or the last number of 64 bits where there are
-/// more. No memory is taken.
+/// How many octets the packed spelling of a value has, or the last number of 64 bits where there
+/// are more. No memory is taken.
 #[cycle(measuring)]
 pub fn packed_len(table: &TypeTable, of: TypeId, value: &Val) -> u64
     ensures { result ≡ min (length (packed table.now of.0 value.now)) last_count }

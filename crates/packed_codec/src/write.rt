@@ -11,8 +11,8 @@ use crate::octets::{put_count, put_octet};
 use crate::put::{put_bit_string, put_boolean, put_integer, put_octet_string, put_oid, put_text};
 use asn1_types::{Node, Part, Parts, TypeId, TypeRow, TypeTable, Val, may_be_absent};
 
-/// Puts a value of this row at a place of the room, and answers the place behind it. Of a value that doesn't fit the row, what
-/// doesn't fit is left out.
+/// Puts a value of this row at a place of the room, and answers the place behind it. Of a value
+/// that doesn't fit the row, what doesn't fit is left out.
 #[cycle(writing)]
 pub(crate) fn put_value(
     table: &TypeTable,

@@ -17,8 +17,8 @@ pub fn packed_are_octets()
     ensures law { PackedAreOctets }
 {}
 
-/// The packed spelling of a value has as many octets as `packed_size` tells, by which `fits` asks that
-/// they are at most 4,294,967,295.
+/// The packed spelling of a value has as many octets as `packed_size` tells, by which `fits` asks
+/// that they are at most 4,294,967,295.
 pub fn packed_has_size()
     ensures law { PackedHasSize }
 {}

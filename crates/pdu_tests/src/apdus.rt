@@ -1,5 +1,5 @@
-//! APDUs of association control (X.227 9) by the octets that are worked out: each is read and written
-//! back, with fields that are passed over left out, and each fault stands where it should.
+//! APDUs of association control (X.227 9) by the octets that are worked out: each is read and
+//! written back, with fields that are passed over left out, and each fault stands where it should.
 
 use acse::{AcseFault, read_acse, write_acse};
 use osi_base::{Acse, Diagnostic, External, Kind, NoMemory};

@@ -253,9 +253,9 @@ fn place_in(field: PdvField, places: PdvPlaces) -> usize
     }
 }
 
-/// The place of a field of the value with this number, counted from 0, of a unit of the presentation
-/// that begins at this place of its TSDU; 0 where it has none. It looks at each octet a bounded number
-/// of times.
+/// The place of a field of the value with this number, counted from 0, of a unit of the
+/// presentation that begins at this place of its TSDU; 0 where it has none. It looks at each octet
+/// a bounded number of times.
 pub fn field_place(
     alloc: Global,
     carrier: PpduPlace,

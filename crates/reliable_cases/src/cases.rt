@@ -64,7 +64,8 @@ pub fn resumption_goes_on()
         × (place.two.a.sending.current ≡ None)) }
 {}
 
-/// The confirmation of an end is lost: the end comes again, is confirmed again, and nothing is handed up twice.
+/// The confirmation of an end is lost: the end comes again, is confirmed again, and nothing is
+/// handed up twice.
 pub fn end_is_confirmed_again()
     ensures again { Leads calc_pair confirmed_again (λ place.
         (place.told_a ≡ indications.Opened ∷ indications.Recovered ∷ indications.Transferred 1 ∷ [])
@@ -84,7 +85,8 @@ pub fn interrupt_suspends()
 /// A discard: the invocation in the transfer is cut, and nothing was handed up.
 pub fn discard_cuts()
     ensures discarded { Leads calc_pair discarded (λ place.
-        (place.told_a ≡ indications.Opened ∷ indications.Cut true (pos 1) ∷ indications.Discarded 1 ∷ [])
+        (place.told_a
+        ≡ indications.Opened ∷ indications.Cut true (pos 1) ∷ indications.Discarded 1 ∷ [])
         × (place.told_b ≡ indications.Opened ∷ indications.Discarded 1 ∷ [])
         × (place.ledger.deeds.b.arrived ≡ [])
         × (place.two.a.sending.current ≡ None)
@@ -94,7 +96,8 @@ pub fn discard_cuts()
 /// A giving: the responder has the turn, and is told so.
 pub fn giving_hands_the_turn()
     ensures given { Leads calc_pair given (λ place.
-        (place.told_b ≡ indications.Opened ∷ indications.Invoked (pos 1) 0 None None ∷ indications.Turn ∷ [])
+        (place.told_b
+        ≡ indications.Opened ∷ indications.Invoked (pos 1) 0 None None ∷ indications.Turn ∷ [])
         × (place.two.a.link.turn ≡ false)
         × (place.two.b.link.turn ≡ true)) }
 {}
@@ -110,7 +113,8 @@ pub fn broken_giving_returns_the_turn()
 /// A resumption after an interrupt goes on behind the last confirmed mark.
 pub fn interrupted_goes_on()
     ensures resumed { Leads calc_pair interrupted_resumed (λ place.
-        (place.told_a ≡ indications.Opened ∷ indications.Interrupted 1 ∷ indications.Transferred 1 ∷ [])
+        (place.told_a
+        ≡ indications.Opened ∷ indications.Interrupted 1 ∷ indications.Transferred 1 ∷ [])
         × (place.told_b ≡ indications.Opened ∷ indications.Interrupted 1 ∷ indications.Resumed 1 1 ∷ indications.Invoked (pos 1) 0 None None ∷ [])
         × (place.ledger.deeds.b.arrived ≡ 1 ∷ [])
         × (place.two.a.sending.current ≡ None)) }

@@ -1,5 +1,5 @@
-//! APDUs of the module written in three syntaxes (X.882 9; the packed syntax is this project's own),
-//! by worked ones.
+//! APDUs of the module written in three syntaxes (X.882 9; the packed syntax is this project's
+//! own), by worked ones.
 
 use crate::sample::module;
 use apdu_codec::write_apdu;

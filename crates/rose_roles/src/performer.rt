@@ -326,10 +326,10 @@ impl Performer {
         }
     }
 
-    /// What becomes of an invocation (X.880 9.1): the first problem that holds is the reject's, else
-    /// the user is told, and the invocation is open unless its operation is silent. The head was
-    /// read in this syntax; the own keys of the forest are the open invocations of `own`, the others
-    /// those of this side. Want of memory changes nothing.
+    /// What becomes of an invocation (X.880 9.1): the first problem that holds is the reject's,
+    /// else the user is told, and the invocation is open unless its operation is silent. The head
+    /// was read in this syntax; the own keys of the forest are the open invocations of `own`, the
+    /// others those of this side. Want of memory changes nothing.
     pub fn take(
         &mut self,
         own: &Invoker,

@@ -37,9 +37,19 @@ impl Model for Incoming {
 
     ghost Value = { Receiving };
 
-    ghost view = { λ i. record { number = i.number; octets = i.octets.items; marks = i.marks.items; handed_up = i.handed_up } };
+    ghost view = { λ i. record {
+      number = i.number;
+      octets = i.octets.items;
+      marks = i.marks.items;
+      handed_up = i.handed_up;
+    } };
 
-    ghost invariant = { λ i. IsSound (record { number = i.number; octets = i.octets.items; marks = i.marks.items; handed_up = i.handed_up }) };
+    ghost invariant = { λ i. IsSound (record {
+      number = i.number;
+      octets = i.octets.items;
+      marks = i.marks.items;
+      handed_up = i.handed_up;
+    }) };
 }
 
 impl Incoming {

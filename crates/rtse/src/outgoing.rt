@@ -42,9 +42,25 @@ impl Model for Outgoing {
 
     ghost Value = { Sending };
 
-    ghost view = { λ o. record { number = o.number; octets = o.octets; checkpoint = o.checkpoint; window = o.window; chunks = o.chunks; due = o.due; confirmed = o.confirmed } };
+    ghost view = { λ o. record {
+      number = o.number;
+      octets = o.octets;
+      checkpoint = o.checkpoint;
+      window = o.window;
+      chunks = o.chunks;
+      due = o.due;
+      confirmed = o.confirmed;
+    } };
 
-    ghost invariant = { λ o. IsSound (record { number = o.number; octets = o.octets; checkpoint = o.checkpoint; window = o.window; chunks = o.chunks; due = o.due; confirmed = o.confirmed }) };
+    ghost invariant = { λ o. IsSound (record {
+      number = o.number;
+      octets = o.octets;
+      checkpoint = o.checkpoint;
+      window = o.window;
+      chunks = o.chunks;
+      due = o.due;
+      confirmed = o.confirmed;
+    }) };
 }
 
 impl Outgoing {

@@ -18,8 +18,8 @@ pub fn written_rtse_is_read()
     ensures { WrittenRtseIsRead }
 {}
 
-/// The one value of a transfer is spelled by the octets that it is read from, octets are read as the
-/// value that they spell, so as one at most, and what is written of a value is read back.
+/// The one value of a transfer is spelled by the octets that it is read from, octets are read as
+/// the value that they spell, so as one at most, and what is written of a value is read back.
 pub fn transfers()
     ensures spelled { TransferIsSpelled }
     ensures read { SpelledTransferIsRead }

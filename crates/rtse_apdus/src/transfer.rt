@@ -159,7 +159,8 @@ impl TransferTable {
         })
     }
 
-    /// The one presentation data value with its context that all of these octets spell in BER (X.226
+    /// The one presentation data value with its context that all of these octets spell in BER
+    /// (X.226
     /// 8.4.2), or the first field that breaks the grammar. A transfer has at most 262,400 octets.
     pub fn read(&self, alloc: Global, bytes: &[u8]) -> Result<Pdv, PduFault>
         ensures { GivesWhole result (transfer_at bytes.now) }

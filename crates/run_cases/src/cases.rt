@@ -9,8 +9,8 @@ ghost use Rattle.run_laws.specs.Passing.{readings, sendings};
 ghost use Rattle.run_laws.specs.Transfers.{arrivals, encodings};
 ghost use Rattle.run_cases.specs.Cases.{ends_in, world_of, all_read, pairs_sent, pairs_read, answered_once, broken_off};
 
-/// An opening in direct mode: each message is taken as it was sent, the accepted contexts are shared,
-/// and the initiator alone holds the token.
+/// An opening in direct mode: each message is taken as it was sent, the accepted contexts are
+/// shared, and the initiator alone holds the token.
 pub fn opening_is_taken_as_sent()
     ensures read { let w = world_of Direct opening in
         (readings B w ≡ all_read (sendings (ends_in Direct) A w))
@@ -44,7 +44,8 @@ pub fn alterations_that_cross_are_shared()
 pub fn restarts_that_cross_leave_one_holder()
     ensures holder { let w = world_of Direct crossing_restarts in
         (holds_at (ends_in Direct) A w ≡ true) × (holds_at (ends_in Direct) B w ≡ false) }
-    ensures shared { (shared_at (ends_in Direct) (world_of Direct crossing_restarts)).set ≡ with_five }
+    ensures shared { (shared_at (ends_in Direct) (world_of Direct crossing_restarts)).set
+        ≡ with_five }
 {}
 
 /// One transfer in reliable mode: it arrives once, as activity 1, which was encoded once.

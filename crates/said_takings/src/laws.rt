@@ -9,8 +9,9 @@ pub fn direct_ends_take_rightly()
     ensures law { DirectTakesRightly }
 {}
 
-/// Where an end of reliable mode takes a part of a transfer or a plea, its set has reliable transfer
-/// where it was opened; so it is of association control where it takes a release or its answer.
+/// Where an end of reliable mode takes a part of a transfer or a plea, its set has reliable
+/// transfer where it was opened; so it is of association control where it takes a release or its
+/// answer.
 pub fn reliable_ends_take_rightly()
     ensures law { ReliableTakesRightly }
 {}

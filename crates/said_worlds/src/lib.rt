@@ -1,5 +1,5 @@
-//! What two ends of direct mode, and two of reliable mode, say may be written, and means itself where
-//! it is taken.
+//! What two ends of direct mode, and two of reliable mode, say may be written, and means itself
+//! where it is taken.
 #![tactic(auto)]
 
 mod laws;

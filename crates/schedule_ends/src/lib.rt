@@ -1,4 +1,5 @@
-//! What is presumed of two ends and of the events of their run holds of every schedule that is read.
+//! What is presumed of two ends and of the events of their run holds of every schedule that is
+//! read.
 #![tactic(auto)]
 
 mod ends;

@@ -91,8 +91,8 @@ pub fn events_are_calls(events: &Events)
     events_fit(events.as_slice());
 }
 
-/// Does nothing. Its contract says that a configuration which no end refuses is one of an end of its
-/// mode: its selectors and, in reliable mode, its references are octets, and the names of its
+/// Does nothing. Its contract says that a configuration which no end refuses is one of an end of
+/// its mode: its selectors and, in reliable mode, its references are octets, and the names of its
 /// contexts are object identifiers whose arcs have 32 bits (X.660 7.6).
 #[tactic(auto, using(crate::proofs::Fitted::end_of))]
 pub fn config_is_of_end(config: &Config)

@@ -4,7 +4,8 @@ ghost use Rattle.schedule_text.specs.Laws.{EveryTextHasOneReading, SetupsOfBareM
 
 /// Where the ends run direct mode, a text of at most 16,777,216 octets is a schedule, as its lines
 /// say one after the other, or has one first fault: the line that is told breaks the grammar in the
-/// way that is told, and no line before it breaks it. What stands after all lines is told at line 1.
+/// way that is told, and no line before it breaks it. What stands after all lines is told at line
+/// 1.
 pub fn every_text_has_one_reading()
     ensures { EveryTextHasOneReading }
 {}

@@ -192,9 +192,9 @@ fn first_or_lack(alloc: Global, modes: Modes, tables: &Tables, text: &[u8]) -> S
 
 /// Reads a schedule: lines of the setup, and then events. The first line that breaks the grammar is
 /// told, with the kind of its first faulty field. A setup that one of the ends would refuse is a
-/// `BadSetup` at the line that made it so; so is a mode that the ends don't run, and the lack of any
-/// where they don't run the direct one, at line 1. At most 20,000 events and 16,777,216 octets are
-/// read; more is `TooMany`.
+/// `BadSetup` at the line that made it so; so is a mode that the ends don't run, and the lack of
+/// any where they don't run the direct one, at line 1. At most 20,000 events and 16,777,216 octets
+/// are read; more is `TooMany`.
 pub fn read_schedule(
     alloc: Global,
     modes: Modes,

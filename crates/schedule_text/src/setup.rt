@@ -4,8 +4,8 @@ ghost use Rattle.schedule_text.specs.Meeting.{Meet};
 
 use dialogue::Config;
 
-/// The configurations of two ends that meet: a is an initiator's, b a responder's, both of one mode,
-/// and no end refuses them but for want of memory.
+/// The configurations of two ends that meet: a is an initiator's, b a responder's, both of one
+/// mode, and no end refuses them but for want of memory.
 #[derive(Debug, Drop)]
 pub struct Setup {
     pub a: Config,

@@ -23,8 +23,8 @@ pub fn sent_is_writable()
     ensures { SentIsWritable }
 {}
 
-/// Unless the association is over, an own release is unanswered exactly in the phase of release, and
-/// another own request only while the association stands.
+/// Unless the association is over, an own release is unanswered exactly in the phase of release,
+/// and another own request only while the association stands.
 pub fn awaited_in_phase()
     ensures { AwaitedInPhase }
 {}

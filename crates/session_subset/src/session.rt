@@ -107,8 +107,8 @@ impl Session {
         }
     }
 
-    /// What the machine knows: phase, units that are selected, turn, what is awaited and owed, marks
-    /// and activities of both ends.
+    /// What the machine knows: phase, units that are selected, turn, what is awaited and owed,
+    /// marks and activities of both ends.
     pub fn state(&self) -> SessionState
         ensures { result ≡ self.now.state }
     {
@@ -122,8 +122,8 @@ impl Session {
         self.role
     }
 
-    /// Whether this end holds the turn (in direct mode the minor token): it is here, the association
-    /// stands, and no own restart is unanswered.
+    /// Whether this end holds the turn (in direct mode the minor token): it is here, the
+    /// association stands, and no own restart is unanswered.
     pub fn holds_turn(&self) -> bool
         ensures { result ≡ holds_turn self.now.state }
     {
@@ -139,8 +139,8 @@ impl Session {
         self.state.may_request(self.role, word)
     }
 
-    /// Why a request of this word would be refused now. An alteration of contexts, which goes as typed
-    /// data, has its own question, `alteration_refusal`.
+    /// Why a request of this word would be refused now. An alteration of contexts, which goes as
+    /// typed data, has its own question, `alteration_refusal`.
     pub fn refusal(&self, word: &SessionWord) -> Option<SessionRefusal>
         ensures { result ≡ refusal_of self.now.role self.now.state word.now }
     {
@@ -154,11 +154,11 @@ impl Session {
         self.state.alteration_refusal(self.role)
     }
 
-    /// Sends a word (X.225 7): answers the units of its transport unit. For an abort before a CONNECT
-    /// was sent or taken on this connection there are none. Needed is that the phase allows the word,
-    /// that each number in it is the next or the one that is named, and that a word that answers has
-    /// a request that was taken and isn't answered; `may_request` asks so. A refusal is the first
-    /// row of the word's conditions that fails, or `NoMemory`, and changes nothing.
+    /// Sends a word (X.225 7): answers the units of its transport unit. For an abort before a
+    /// CONNECT was sent or taken on this connection there are none. Needed is that the phase allows
+    /// the word, that each number in it is the next or the one that is named, and that a word that
+    /// answers has a request that was taken and isn't answered; `may_request` asks so. A refusal is
+    /// the first row of the word's conditions that fails, or `NoMemory`, and changes nothing.
     pub fn request(&mut self, word: SessionWord) -> Result<Spdus, SessionRefusal>
         requires { may_request self.old.role self.old.state word ≡ true }
         ensures refused { IfSome (refusal_of self.old.role self.old.state word) (λ refusal. result
@@ -184,13 +184,13 @@ impl Session {
         Ok(units)
     }
 
-    /// Takes a unit that came (X.225 7). It is passed over where an own request is unanswered and the
-    /// unit isn't its answer, a restart that wins, a release or an abort; where it is a GT or PT
-    /// without tokens in front of another; and in direct mode where it confirms a mark. Else it is
-    /// taken, or out of place: of a unit that isn't selected, in a wrong phase, from an end without
-    /// the turn or in another state of its activity, with a number that isn't due, an answer to
-    /// nothing, a second request. What is passed over or out of place changes nothing. Takes no
-    /// memory.
+    /// Takes a unit that came (X.225 7). It is passed over where an own request is unanswered and
+    /// the unit isn't its answer, a restart that wins, a release or an abort; where it is a GT or
+    /// PT without tokens in front of another; and in direct mode where it confirms a mark. Else it
+    /// is taken, or out of place: of a unit that isn't selected, in a wrong phase, from an end
+    /// without the turn or in another state of its activity, with a number that isn't due, an
+    /// answer to nothing, a second request. What is passed over or out of place changes nothing.
+    /// Takes no memory.
     pub fn take(&mut self, spdu: Spdu) -> Result<Taken, SessionFault>
         ensures answer { result ≡ taking self.old.role self.old.state spdu }
         ensures state { self.new ≡ record self.old {
@@ -237,8 +237,8 @@ impl Session {
     }
 
     /// The connection broke: an association of reliable mode that stood is to be recovered, and any
-    /// other is over. An own activity in progress is suspended, the peer's is no longer in progress,
-    /// nothing is awaited or owed; the activities' numbers and marks stay.
+    /// other is over. An own activity in progress is suspended, the peer's is no longer in
+    /// progress, nothing is awaited or owed; the activities' numbers and marks stay.
     pub fn broke(&mut self)
         ensures state { self.new ≡ record self.old {
           state = after self.old.role self.old.state broke;

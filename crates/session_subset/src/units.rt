@@ -86,10 +86,10 @@ fn keeps_tokens(setting: Option<u8>) -> bool
     }
 }
 
-/// Whether a responder of this mode may accept a CONNECT (X.225 8.3.1): version 2 is there (22), the
-/// requirements (20) have the units that the mode needs, the initial number (23), if there is one,
-/// is 1, and no token is put at the responder (26). One that isn't acceptable is taken, and is to
-/// be refused.
+/// Whether a responder of this mode may accept a CONNECT (X.225 8.3.1): version 2 is there (22),
+/// the requirements (20) have the units that the mode needs, the initial number (23), if there is
+/// one, is 1, and no token is put at the responder (26). One that isn't acceptable is taken, and is
+/// to be refused.
 pub fn is_acceptable(reliable: bool, connect: &SessionConnect) -> bool
     ensures { result ≡ is_acceptable reliable connect.now }
 {

@@ -1,5 +1,5 @@
-//! Tests of the session machine, over its public calls: two machines that exchange their words, what
-//! is refused, what is passed over and what is out of place.
+//! Tests of the session machine, over its public calls: two machines that exchange their words,
+//! what is refused, what is passed over and what is out of place.
 #![tactic(auto)]
 
 #[cfg(test)]

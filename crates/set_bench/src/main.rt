@@ -1,6 +1,6 @@
 //! Marks a set of 64 contexts over and over, and goes back over marks, so that a clock outside can
-//! time it. Its words say how many marks an activity has, 0 to 65,536, how many activities there are,
-//! and how often each goes back over its newest mark and makes it anew.
+//! time it. Its words say how many marks an activity has, 0 to 65,536, how many activities there
+//! are, and how often each goes back over its newest mark and makes it anew.
 #![tactic(auto)]
 
 mod rounds;

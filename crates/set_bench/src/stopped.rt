@@ -6,7 +6,8 @@ use osi_base::NoMemory;
 use std::alloc::{AllocError, AllocFailed};
 use std::io;
 
-/// Memory was refused, a context or a mark was refused, the words weren't told or the output failed.
+/// Memory was refused, a context or a mark was refused, the words weren't told or the output
+/// failed.
 #[derive(Clone, Copy, Debug)]
 pub struct Stopped;
 

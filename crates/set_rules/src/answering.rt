@@ -145,8 +145,8 @@ pub(crate) fn plain_answers(
     Ok(answers)
 }
 
-/// The answers to additions, where so many contexts are there or on their way: each is accepted with
-/// the first of its transfer syntaxes that is taken, or rejected by the provider.
+/// The answers to additions, where so many contexts are there or on their way: each is accepted
+/// with the first of its transfer syntaxes that is taken, or rejected by the provider.
 pub fn answers_to_additions(
     alloc: Global,
     tables: &Tables,

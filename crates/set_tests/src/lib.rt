@@ -1,5 +1,5 @@
-//! Tests of sets of contexts, of their alterations between two ends, and of saved sets. They stand in
-//! a crate of their own, so that each layer is proved once.
+//! Tests of sets of contexts, of their alterations between two ends, and of saved sets. They stand
+//! in a crate of their own, so that each layer is proved once.
 #![tactic(auto)]
 
 #[cfg(test)]

@@ -29,15 +29,16 @@ pub fn one_reading()
 /// Octets are units or have a first fault, and not both, and they have one first fault at most.
 pub fn units_or_fault()
     ensures either { (octets : List ℕ) → IsOctets octets
-        → ((words : List SessionWord) × AreUnits words octets) ⊎ ((f : Fault) × FirstFault octets f) }
+        → ((words : List SessionWord) × AreUnits words octets) ⊎ ((f : Fault)
+        × FirstFault octets f) }
     ensures not_both { (octets : List ℕ) (words : List SessionWord) (f : Fault)
         → IsOctets octets → AreUnits words octets → FirstFault octets f → ⊥ }
     ensures one { (octets : List ℕ) (f g : Fault) → IsOctets octets → FirstFault octets f
         → FirstFault octets g → f ≡ g }
 {}
 
-/// A first fault stands within the octets or right behind them. One of a code, of a value or of what
-/// is too much stands whatever follows; a length or a parameter that lacks may still come.
+/// A first fault stands within the octets or right behind them. One of a code, of a value or of
+/// what is too much stands whatever follows; a length or a parameter that lacks may still come.
 pub fn where_a_fault_stands()
     ensures within { (octets : List ℕ) (f : Fault) → FirstFault octets f
         → f.place ≤ length octets }

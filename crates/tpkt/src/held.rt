@@ -88,7 +88,10 @@ fn header_taken(
     requires idle { held.coming ≡ None }
     requires right { held.fault ≡ None }
     requires within { length held.tsdu ≤ tsdu_limit }
-    ensures { IfOk result (λ next. taken None None (record { packets = packets.old; held = held }) octet
+    ensures { IfOk result (λ next. taken None None (record {
+      packets = packets.old;
+      held = held;
+    }) octet
         ≡ record { packets = packets.new; held = next }) }
 {
     let Held {
@@ -195,7 +198,10 @@ pub(crate) fn all_taken(
     packets: &mut Packets,
 ) -> Result<Held, NoMemory>
     requires { IsSound held }
-    ensures read { IfOk result (λ new. after (record { packets = packets.old; held = held }) octets.now
+    ensures read { IfOk result (λ new. after (record {
+      packets = packets.old;
+      held = held;
+    }) octets.now
         ≡ record { packets = packets.new; held = new }) }
     ensures sound { IfOk result IsSound }
 {

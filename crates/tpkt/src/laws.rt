@@ -26,7 +26,8 @@ pub fn up_with_its_last_octet()
         → IsOctets (came ++ bytes) → Splits [] came us rest → IsUnit (begun_by [] us) u unit
         → packet unit ≡ rest ++ bytes → 0 < length bytes
         → ((reading nothing came).packets ≡ handed [] us)
-        × ((reading nothing (came ++ bytes)).packets ≡ handed [] us ++ handed_for (begun_by [] us) u) }
+        × ((reading nothing (came ++ bytes)).packets
+        ≡ handed [] us ++ handed_for (begun_by [] us) u) }
 {}
 
 /// Two feeds give together what one feed of all their octets gives.
@@ -89,8 +90,8 @@ pub fn faulty_begins_no_packet()
         → xs ++ ys ≡ packet unit ++ more → ⊥ }
 {}
 
-/// Of all octets one holds and no other: a unit stands in front, there is a first fault, or nothing is
-/// wrong yet and more must come.
+/// Of all octets one holds and no other: a unit stands in front, there is a first fault, or nothing
+/// is wrong yet and more must come.
 pub fn one_of_three()
     ensures { (begun xs : List ℕ) → IsOctets xs → OneHolds begun xs }
 {}
@@ -121,7 +122,8 @@ pub fn written_units()
         → IsUnit begun (Whole (Confirm ends)) (header (connection_fields 208 ends)) }
     ensures disconnect { (begun : List ℕ) (destination source reason : ℕ) → IsTwo destination
         → IsTwo source
-        → IsUnit begun (Whole Disconnect) (header (128 ∷ two destination ++ two source ++ reason ∷ [])) }
+        → IsUnit begun (Whole Disconnect) (header (128 ∷ two destination ++ two source
+        ++ reason ∷ [])) }
     ensures problem { (begun : List ℕ) (destination cause : ℕ)
         → IsUnit begun (Whole Problem) (header (112 ∷ two destination ++ cause ∷ [])) }
 {}

@@ -90,9 +90,9 @@ fn connection(alloc: Global, code: u8, ends: &Ends) -> Result<Octets, NoMemory>
     control(alloc, fields.as_slice())
 }
 
-/// The packet of a connection request, CR (X.224 13.3), of class 0: the references, and the size and
-/// the selectors where they are there. Its header has room for at most 254 octets. `NoMemory` where
-/// memory runs out.
+/// The packet of a connection request, CR (X.224 13.3), of class 0: the references, and the size
+/// and the selectors where they are there. Its header has room for at most 254 octets. `NoMemory`
+/// where memory runs out.
 pub fn write_connect(alloc: Global, ends: &Ends) -> Result<Octets, NoMemory>
     requires { HasRoom ends.now }
     ensures { IfOk result (λ octets. octets ≡ control_packet (connection_fields 224 ends.now)) }
@@ -127,8 +127,8 @@ pub fn write_disconnect(
     control(alloc, fields.as_slice())
 }
 
-/// The packet of a unit that tells an error, ER (X.224 13.12): the reference of the end that it goes
-/// to and the cause, without parameters. `NoMemory` where memory runs out.
+/// The packet of a unit that tells an error, ER (X.224 13.12): the reference of the end that it
+/// goes to and the cause, without parameters. `NoMemory` where memory runs out.
 pub fn write_problem(alloc: Global, destination: u16, cause: u8) -> Result<Octets, NoMemory>
     ensures { IfOk result (λ octets. octets
         ≡ control_packet (112 ∷ two destination ++ cause ∷ [])) }

@@ -100,11 +100,11 @@ fn read_limited(alloc: Global, text: &[u8]) -> Result<Recording, RecordingFault>
     read_lines(alloc, text)
 }
 
-/// The recorded dialogue in a file. A line whose first field is `A>B` or `B>A` tells the octets that
-/// this end sent to the other, as fields of hexadecimal digits in either case, two for each octet; any
-/// other line is passed over, so a transcript is such a file too. A line feed parts two lines and
-/// spaces part two fields; no other octet is blank. A file has at most 16,777,216 octets. One pass,
-/// linear in the file's octets.
+/// The recorded dialogue in a file. A line whose first field is `A>B` or `B>A` tells the octets
+/// that this end sent to the other, as fields of hexadecimal digits in either case, two for each
+/// octet; any other line is passed over, so a transcript is such a file too. A line feed parts two
+/// lines and spaces part two fields; no other octet is blank. A file has at most 16,777,216 octets.
+/// One pass, linear in the file's octets.
 ///
 /// # Errors
 ///

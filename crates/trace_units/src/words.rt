@@ -49,7 +49,8 @@ impl<'t> Viewer<'t> {
         Ok(())
     }
 
-    /// Puts what is said of user data that begin at this place behind the text, or gives their fault.
+    /// Puts what is said of user data that begin at this place behind the text, or gives their
+    /// fault.
     #[tactic(auto, using(crate::proofs::SaidLaws::put_ok, crate::proofs::SaidLaws::put_err))]
     fn put_octets(
         &self,
@@ -166,8 +167,8 @@ impl<'t> Viewer<'t> {
         }
     }
 
-    /// What is said of a transport unit: its session units with what they carry, or the first fault.
-    /// Linear in the octets.
+    /// What is said of a transport unit: its session units with what they carry, or the first
+    /// fault. Linear in the octets.
     ///
     /// # Errors
     ///

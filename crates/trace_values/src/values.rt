@@ -36,9 +36,9 @@ fn first_of(pdvs: &[Pdv]) -> Option<(&Pdv, &[Pdv])>
     }
 }
 
-/// Puts what is said of values behind a text: of each its context's identifier, and which APDU of the
-/// module it is or how many octets it has. Only a value in the form `[0]` that is the head of an APDU
-/// in BER, with a code that the module knows, is told so.
+/// Puts what is said of values behind a text: of each its context's identifier, and which APDU of
+/// the module it is or how many octets it has. Only a value in the form `[0]` that is the head of
+/// an APDU in BER, with a code that the module knows, is told so.
 ///
 /// # Errors
 ///

@@ -109,8 +109,8 @@ fn first_of(packets: &[Packet]) -> Option<(&Packet, &[Packet])>
     }
 }
 
-/// Puts what is said of packets and of the fault of their stream, up to the first fault, and answers
-/// whether there is one.
+/// Puts what is said of packets and of the fault of their stream, up to the first fault, and
+/// answers whether there is one.
 fn put_all(
     viewer: &Viewer,
     from: Side,

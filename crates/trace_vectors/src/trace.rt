@@ -21,9 +21,9 @@ fn first_of(told: &[Recorded]) -> Option<(&Recorded, &[Recorded])>
     }
 }
 
-/// What a recorded dialogue says, with the names of a module: a line for each packet that isn't data
-/// and for each transport unit, in the order in which they were whole; a line for the first fault of
-/// each direction, behind which nothing more is said of it. Linear in the octets.
+/// What a recorded dialogue says, with the names of a module: a line for each packet that isn't
+/// data and for each transport unit, in the order in which they were whole; a line for the first
+/// fault of each direction, behind which nothing more is said of it. Linear in the octets.
 ///
 /// # Errors
 ///

@@ -1,5 +1,5 @@
-//! Sends a transfer from one end to the other over and over, so that a clock outside can time it. Its
-//! words say how many octets the transfer has, 1 to 262,400, and how often it is sent.
+//! Sends a transfer from one end to the other over and over, so that a clock outside can time it.
+//! Its words say how many octets the transfer has, 1 to 262,400, and how often it is sent.
 #![tactic(auto)]
 
 mod rounds;

@@ -14,9 +14,9 @@ use osi_base::{NoMemory, Octets, Oid};
 use std::alloc::Global;
 use value_text::{integer, number};
 
-/// Reads the value that stands first in a text by its form (X.680, the notation for values): `TRUE`,
-/// `FALSE`, `NULL`, a decimal number, `'0A'H`, `'0101'B`, `"text"` or `{2 999 1}`; or `None` where
-/// none of these stands there. What may follow is the caller's matter.
+/// Reads the value that stands first in a text by its form (X.680, the notation for values):
+/// `TRUE`, `FALSE`, `NULL`, a decimal number, `'0A'H`, `'0101'B`, `"text"` or `{2 999 1}`; or
+/// `None` where none of these stands there. What may follow is the caller's matter.
 pub fn read_form(alloc: Global, text: &[u8]) -> Result<Option<Front<'_>>, NoMemory>
     ensures { IfOk result (λ front. found front ≡ form_at text.now) }
 {
@@ -249,8 +249,8 @@ fn read_bit_string(alloc: Global, digits: &[u8]) -> Result<Option<Val>, NoMemory
     }
 }
 
-/// What follows a double quote: characters up to the quote that ends them, of which each quote stands
-/// twice.
+/// What follows a double quote: characters up to the quote that ends them, of which each quote
+/// stands twice.
 fn read_characters(alloc: Global, text: &[u8]) -> Result<Option<Front<'_>>, NoMemory>
     ensures { IfOk result (λ front. found front ≡ characters_at [] text.now) }
 {

@@ -1,5 +1,5 @@
-//! Values read from the notation of X.680 for values: by their types, and by their form where no type
-//! is known.
+//! Values read from the notation of X.680 for values: by their types, and by their form where no
+//! type is known.
 #![tactic(auto)]
 
 mod form;

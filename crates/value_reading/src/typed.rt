@@ -22,12 +22,12 @@ use ber_writing::{fits, in_order};
 use osi_base::NoMemory;
 use std::alloc::Global;
 
-/// Reads the value that stands first in a text by its type (X.680, the notation for values): the items
-/// of an ENUMERATED, the parts of a SEQUENCE or SET and the alternatives of a CHOICE by their names,
-/// all else by its form; or `None` where no value stands there that fits the type. Around braces,
-/// commas and colons there may be spaces. A part that names its default is read as absent, and the
-/// items of a SET OF are put in the order of their DER spellings. What may follow is the caller's
-/// matter.
+/// Reads the value that stands first in a text by its type (X.680, the notation for values): the
+/// items of an ENUMERATED, the parts of a SEQUENCE or SET and the alternatives of a CHOICE by their
+/// names, all else by its form; or `None` where no value stands there that fits the type. Around
+/// braces, commas and colons there may be spaces. A part that names its default is read as absent,
+/// and the items of a SET OF are put in the order of their DER spellings. What may follow is the
+/// caller's matter.
 pub fn read_typed<'a>(
     alloc: Global,
     table: &TypeTable,
@@ -147,7 +147,8 @@ fn place_of(parts: &[Part], name: &[u8]) -> Option<u32>
     u32::try_from(place_named(parts, name)?).ok()
 }
 
-/// Whether a part may stand here: in a SEQUENCE behind those before it, in a SET unless it was there.
+/// Whether a part may stand here: in a SEQUENCE behind those before it, in a SET unless it was
+/// there.
 fn may_stand(in_order: bool, least: usize, slots: &[Option<Val>], place: usize) -> bool
     ensures { result ≡ may_stand in_order least slots.now place }
 {
