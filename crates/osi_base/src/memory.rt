@@ -258,6 +258,10 @@ impl Sink for SureSink {
 
     fn write(&mut self, bytes: &[u8]) -> Result<usize, SinkFault>
         ensures whole { IfOk result (λ taken. taken ≡ length bytes.now) }
+        ensures ok { IfOk result (λ taken. self.new.written ≡ self.old.written
+            ++ take taken bytes.now) }
+        ensures err { OnErr result (self.new.written ≡ self.old.written) }
+        ensures never { ¬ (IsErrOf result SinkFault.Failed) }
     {
         self.written.extend(bytes)?;
         Ok(bytes.len())

@@ -1,6 +1,6 @@
 //! A line that never fails and whose peers say nothing.
 
-ghost use Rattle.std.specs.Prelude.{◌≡◌, ◌<◌, [], length, Some, IfOk, IfSome, IsOk};
+ghost use Rattle.std.specs.Prelude.{◌≡◌, ◌<◌, [], length, take, Some, IfOk, IfSome, IsOk, IsErrOf};
 ghost use Rattle.osi_base.specs.Outside.{last_count, logged};
 ghost use Rattle.osi_base.specs.Lines.{shuts_told};
 
@@ -67,6 +67,10 @@ impl Line for SureLine {
 
     fn write(&mut self, bytes: &[u8]) -> Result<usize, LineFault>
         ensures whole { IfOk result (λ taken. taken ≡ length bytes.now) }
+        ensures ok { IfOk result (λ taken. self.new
+            ≡ logged (LineCall.Write (take taken bytes.now) Outcome.Done) self.old) }
+        ensures no_memory_log { IsErrOf result LineFault.NoMemory → self.new ≡ self.old }
+        ensures never { ¬ (IsErrOf result LineFault.Failed) }
     {
         let octets = Octets::from_slice(self.alloc, bytes)?;
         self.log.push(LineCall::Write(octets, Outcome::Done))?;

@@ -1,4 +1,4 @@
-use Rattle.std.proofs.Common.{◌≡◌, ◌-◌, ◌∙◌, reverse, ap, arith}
+use Rattle.std.proofs.Common.{◌-◌, ◌∙◌, reverse, ap, arith}
 use Rattle.std.proofs.lemmas.List.{reverse-append}
 use Rattle.osi_base.specs.Lines.{shut_after}
 use Rattle.osi_base.proofs.Shuts.{written_out}
