@@ -9,6 +9,7 @@ use osi_base::NoMemory;
 /// 9.4.2): 0 it is no APDU, 1 a field of it is wrong, 2 its lengths or its form are.
 #[derive(Clone, Copy, Debug, PartialEq, Eq)]
 pub enum HeadFault {
+    /// The octets are no head, with this general problem.
     General(u8),
     /// A faulty reject, which is never rejected.
     BadReject,

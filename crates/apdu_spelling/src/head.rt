@@ -6,9 +6,13 @@ use stub_tables::Code;
 /// The four kinds of APDUs (X.880 clause 9).
 #[derive(Clone, Copy, Debug, PartialEq, Eq)]
 pub enum ApduKind {
+    /// An invocation.
     Invoke,
+    /// The result of an invocation.
     Result,
+    /// The error of an invocation.
     Error,
+    /// A reject.
     Reject,
 }
 
@@ -16,6 +20,7 @@ pub enum ApduKind {
 /// operation or error carries.
 #[derive(Debug, Drop)]
 pub struct ApduHead {
+    /// Which of the four APDUs it is.
     pub kind: ApduKind,
     /// The identifier of the invocation; `None` only in a reject of what had none that could be
     /// read.

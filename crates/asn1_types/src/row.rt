@@ -11,7 +11,9 @@ pub struct TypeId(pub u32);
 /// An item of an ENUMERATED (X.680 20).
 #[derive(Debug, Drop)]
 pub struct Item {
+    /// The item's name.
     pub name: Name,
+    /// The item's number.
     pub number: i64,
 }
 
@@ -22,8 +24,11 @@ pub type Named = ListOf<Item>;
 /// nothing, and it has no default. A part isn't both optional and one with a default.
 #[derive(Debug, Drop)]
 pub struct Part {
+    /// The part's name, or the alternative's.
     pub name: Name,
+    /// Its type.
     pub inner: TypeId,
+    /// Whether the part may be absent (OPTIONAL).
     pub optional: bool,
     /// For what the absent part stands (X.680 25.9): 0 or 1 of a BOOLEAN, the number of an
     /// INTEGER or of an item of an ENUMERATED.
@@ -51,16 +56,22 @@ pub enum TextKind {
 /// The class of a tag (X.680 8.1).
 #[derive(Clone, Copy, Debug, PartialEq, Eq)]
 pub enum Class {
+    /// UNIVERSAL: types of the notation itself.
     Universal,
+    /// APPLICATION.
     Application,
+    /// Context-specific: no word in the notation.
     Context,
+    /// PRIVATE.
     Private,
 }
 
 /// A tag.
 #[derive(Clone, Copy)]
 pub struct Tag {
+    /// The tag's class.
     pub class: Class,
+    /// The tag's number.
     pub number: u32,
 }
 

@@ -10,6 +10,7 @@ use std::marker::Model;
 #[cycle(val)]
 #[derive(Debug, Drop)]
 pub struct Val {
+    /// What it is made of.
     pub node: Node,
 }
 

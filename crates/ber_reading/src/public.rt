@@ -22,7 +22,9 @@ pub const LIMIT: u32 = 262_144;
 /// A value that was read, and how many octets spelled it.
 #[derive(Debug, Drop)]
 pub struct Read {
+    /// The value.
     pub value: Val,
+    /// How many octets spelled it, from the first one on.
     pub used: usize,
 }
 

@@ -6,7 +6,9 @@ use osi_base::Octets;
 /// A place in the octets, and what stands from there on.
 #[derive(Clone, Copy)]
 pub struct Spot<'a> {
+    /// Its place, counted from 0.
     pub place: usize,
+    /// The octets from there on.
     pub rest: &'a [u8],
 }
 
@@ -30,8 +32,11 @@ pub struct Scope {
 pub struct Opened<'a> {
     /// Where the identifier begins.
     pub start: Spot<'a>,
+    /// The tag's class.
     pub class: Class,
+    /// Whether the contents are values of their own, and not octets.
     pub constructed: bool,
+    /// The tag's number.
     pub number: u64,
 }
 
@@ -47,7 +52,9 @@ pub enum Ahead<'a> {
 /// Strings whose segments are octets (OCTET STRING and texts), or bits.
 #[derive(Clone, Copy)]
 pub enum StringKind {
+    /// Segments of octets.
     OfOctets,
+    /// Segments of bits.
     OfBits,
 }
 
@@ -65,6 +72,7 @@ pub enum StringRule {
 /// What the segments of a string have together.
 #[derive(Drop)]
 pub struct Gathered {
+    /// The octets of all segments, one behind the other.
     pub octets: Octets,
     /// How many bits of the last octet are unused.
     pub unused: u8,

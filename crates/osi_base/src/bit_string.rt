@@ -11,7 +11,9 @@ use std::alloc::Global;
 /// A BIT STRING: octets, and how many bits of the last, 0 to 7, aren't part of it (X.690 8.6).
 #[derive(Debug, Drop)]
 pub struct BitString {
+    /// The octets, the first bit as the highest of the first.
     pub octets: Octets,
+    /// How many bits of the last octet aren't used, 0 to 7.
     pub unused: u8,
 }
 

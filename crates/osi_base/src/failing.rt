@@ -8,8 +8,11 @@ use crate::line::Outcome;
 /// Which calls of an object in memory are to fail, how many calls there were and how many failed.
 #[derive(Debug, Drop)]
 pub struct FailingCalls {
+    /// The numbers of the calls that are to fail, counted from 0.
     pub numbers: Vec<u64>,
+    /// How many calls were made.
     pub made: u64,
+    /// How many of them failed.
     pub faults: u64,
 }
 

@@ -50,7 +50,9 @@ impl<T: Drop> From<AllocFailed<T>> for LineFault {
 /// Whether a call of a line was done.
 #[derive(Clone, Copy, Debug, PartialEq, Eq)]
 pub enum Outcome {
+    /// It was done.
     Done,
+    /// It failed, and changed nothing outside.
     Failed,
 }
 

@@ -19,7 +19,9 @@ pub struct MemLine {
     pub said: Octets,
     /// How many octets of it were read.
     pub octets_read: usize,
+    /// How many octets a call reads or writes at most.
     pub most: usize,
+    /// Which calls are to fail.
     pub failing: FailingCalls,
     /// The calls so far.
     pub log: CallLog,

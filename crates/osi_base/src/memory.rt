@@ -20,14 +20,18 @@ use std::alloc::Global;
 /// A file in memory.
 #[derive(Debug, Drop)]
 pub struct MemFile {
+    /// The file's name.
     pub name: Name,
+    /// All its octets.
     pub contents: Octets,
 }
 
 /// Files in memory, of which some calls fail. They tell the names that they were asked for.
 #[derive(Debug, Drop)]
 pub struct MemFiles {
+    /// The files that there are.
     pub files: ListOf<MemFile>,
+    /// Which calls are to fail.
     pub failing: FailingCalls,
     /// The names, the oldest first.
     pub asked: Vec<Name>,
@@ -36,6 +40,7 @@ pub struct MemFiles {
 /// Files in memory, which are always read. They tell the names that they were asked for.
 #[derive(Debug, Drop)]
 pub struct SureFiles {
+    /// The files that there are.
     pub files: ListOf<MemFile>,
     /// The names, the oldest first.
     pub asked: Vec<Name>,
@@ -178,8 +183,11 @@ impl Files for SureFiles {
 /// A sink in memory, of which some calls fail. A call takes `most` octets at most.
 #[derive(Debug, Drop)]
 pub struct MemSink {
+    /// The octets that were written so far.
     pub written: Octets,
+    /// How many octets a call writes at most.
     pub most: usize,
+    /// Which calls are to fail.
     pub failing: FailingCalls,
     ghost takes_some: { 0 < most },
 }
@@ -187,6 +195,7 @@ pub struct MemSink {
 /// A sink in memory, which always takes what it is given.
 #[derive(Debug, Drop)]
 pub struct SureSink {
+    /// The octets that were written so far.
     pub written: Octets,
 }
 

@@ -17,14 +17,18 @@ use std::rt;
 /// told.
 #[derive(Drop)]
 pub struct DiskFiles<R> {
+    /// The runtime that the program was given.
     pub rt: R,
+    /// How often reading failed.
     pub faults: u64,
 }
 
 /// The standard output. What was written isn't told.
 #[derive(Drop)]
 pub struct StdSink<R> {
+    /// The runtime that the program was given.
     pub rt: R,
+    /// How often writing failed.
     pub faults: u64,
 }
 

@@ -62,7 +62,9 @@ impl Syntax {
 /// its values travel (X.216 3.3.14).
 #[derive(Debug, Drop)]
 pub struct Pair {
+    /// The abstract syntax: of a module its object identifier.
     pub abstract_name: Oid,
+    /// The transfer syntax in which values are spelled.
     pub transfer: Syntax,
 }
 

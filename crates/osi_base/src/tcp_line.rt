@@ -12,10 +12,13 @@ use std::net::{Ipv4Addr, Net, OpenListener, OpenStream, Shutdown, TcpListener, T
 /// A line over TCP. Its log isn't told. A call that needs a connection fails where there is none.
 #[derive(Drop)]
 pub struct TcpLine<R: Net> {
+    /// The runtime that the program was given.
     pub rt: R,
     listener: Option<(u16, R::Listener)>,
     stream: Option<R::Stream>,
+    /// How often the line failed.
     pub faults: u64,
+    /// How many octets were read on the present connection.
     pub octets_read: u64,
 }
 

@@ -18,7 +18,9 @@ pub type Oids = ListOf<Oid>;
 /// One of the two ends.
 #[derive(Clone, Copy, Debug, PartialEq, Eq)]
 pub enum Side {
+    /// The end that a schedule names A: the initiator.
     A,
+    /// The end that a schedule names B: the responder.
     B,
 }
 
@@ -42,27 +44,39 @@ pub enum Kind {
 /// The layer that found a fault.
 #[derive(Clone, Copy, Debug, PartialEq, Eq)]
 pub enum Layer {
+    /// Packets and transport units (RFC 1006, X.224).
     Transport,
+    /// Session units (X.225).
     Session,
+    /// Presentation units (X.226).
     Presentation,
+    /// Association control (X.227).
     Acse,
+    /// Reliable transfer (X.228).
     Rtse,
+    /// Remote operations (X.880).
     Rose,
 }
 
 /// What a reject speaks of (X.880 8.4).
 #[derive(Clone, Copy, Debug, PartialEq, Eq)]
 pub enum ProblemKind {
+    /// An APDU as a whole, `[0]`.
     General,
+    /// An invocation, `[1]`.
     Invoke,
+    /// A result, `[2]`.
     Result,
+    /// An error, `[3]`.
     Error,
 }
 
 /// The problem that a reject carries (X.880 8.4).
 #[derive(Clone, Copy, Debug, PartialEq, Eq)]
 pub struct Problem {
+    /// What the reject speaks of.
     pub kind: ProblemKind,
+    /// The problem's number among those of its kind.
     pub number: i64,
 }
 
@@ -94,7 +108,9 @@ pub enum Status {
 /// A context of a set: its identifier, and what it stands for (X.216 3.3.15).
 #[derive(Debug, Drop)]
 pub struct SetItem {
+    /// Presentation context identifier, 1 to 32,767.
     pub id: u32,
+    /// The abstract and the transfer syntax that were agreed for it.
     pub pair: Pair,
 }
 
@@ -104,7 +120,9 @@ pub type SetList = ListOf<SetItem>;
 /// An item of the list that a restart carries (X.226 7.9).
 #[derive(Debug, Drop)]
 pub struct RestoredItem {
+    /// Presentation context identifier, 1 to 32,767.
     pub id: u32,
+    /// The name of its transfer syntax.
     pub transfer: Oid,
 }
 
@@ -115,8 +133,11 @@ pub type RestoredList = ListOf<RestoredItem>;
 /// offered for it (X.226 7.2.3).
 #[derive(Debug, Drop)]
 pub struct Proposal {
+    /// Presentation context identifier, 1 to 32,767.
     pub id: u32,
+    /// The abstract syntax.
     pub abstract_name: Oid,
+    /// The transfer syntaxes that are offered, in their order.
     pub transfers: Oids,
 }
 
@@ -126,8 +147,11 @@ pub type Proposals = ListOf<Proposal>;
 /// The answer to one addition: 0 accepted, 1 rejected by the user, 2 by the provider (X.226 8.2).
 #[derive(Debug, Drop)]
 pub struct AddAnswer {
+    /// 0 accepted, 1 rejected by the user, 2 rejected by the provider.
     pub result: u8,
+    /// The transfer syntax that was chosen, where the addition is accepted.
     pub transfer: Option<Oid>,
+    /// Why the provider rejected it, where that is told.
     pub reason: Option<u8>,
 }
 
@@ -137,7 +161,9 @@ pub type AddAnswers = ListOf<AddAnswer>;
 /// The answers to an alteration: one for each addition, and 0 or 1 for each deletion.
 #[derive(Debug, Drop)]
 pub struct Answers {
+    /// One answer for each addition, in the order of the proposals.
     pub added: AddAnswers,
+    /// One octet for each deletion, in their order: 0 accepted, 1 rejected.
     pub deleted: Octets,
 }
 

@@ -22,7 +22,9 @@ const MOST_ITEMS: u32 = 131_072;
 /// A value that was read, and how many octets spelled it.
 #[derive(Debug, Drop)]
 pub struct Read {
+    /// The value.
     pub value: Val,
+    /// How many octets spelled it, from the first one on.
     pub used: usize,
 }
 

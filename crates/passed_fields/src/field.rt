@@ -19,16 +19,22 @@ pub enum Holds {
 /// A field that is known by its tag, whose number is below 31.
 #[derive(Clone, Copy, Debug, PartialEq, Eq)]
 pub struct Field {
+    /// The tag's class.
     pub class: Class,
+    /// The tag's number, below 31.
     pub number: u32,
+    /// What it holds.
     pub holds: Holds,
+    /// Whether it may be absent.
     pub optional: bool,
 }
 
 /// Fields with context tags of these numbers, from `low` to `high` and below 31, are passed over.
 #[derive(Clone, Copy, Debug, PartialEq, Eq)]
 pub struct Passed {
+    /// The lowest of their numbers.
     pub low: u32,
+    /// The highest of their numbers.
     pub high: u32,
     /// Where it is told, they stand before the known field of this place, and those to its left
     /// don't stand behind them; else they stand anywhere.
@@ -39,7 +45,9 @@ pub struct Passed {
 /// over, as often as they come.
 #[derive(Clone, Copy)]
 pub struct Fields<'a> {
+    /// The known fields, in their order.
     pub known: &'a [Field],
+    /// The fields that are passed over.
     pub passed: &'a [Passed],
 }
 

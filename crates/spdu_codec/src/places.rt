@@ -15,7 +15,9 @@ use crate::words::{has_information, leads};
 /// unit's first octet; `None` for a unit that isn't there or has none.
 #[derive(Clone, Copy, Debug, PartialEq, Eq)]
 pub struct UserPlaces {
+    /// Of the first unit.
     pub first: Option<usize>,
+    /// Of the second unit.
     pub second: Option<usize>,
 }
 

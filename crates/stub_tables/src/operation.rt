@@ -19,16 +19,22 @@ pub struct Use {
 /// The code of an operation or an error (X.880 8.5).
 #[derive(Debug, Drop)]
 pub enum Code {
+    /// A number that is meant in this abstract syntax alone.
     Local(i64),
+    /// An object identifier.
     Global(Oid),
 }
 
 /// An operation (X.880 8.2).
 #[derive(Debug, Drop)]
 pub struct Operation {
+    /// The operation's name.
     pub name: Name,
+    /// Its code.
     pub code: Code,
+    /// The value that an invocation carries.
     pub argument: Use,
+    /// The value that a result carries.
     pub result: Use,
     /// Whether a result is ever returned.
     pub returns: bool,
@@ -43,8 +49,11 @@ pub struct Operation {
 /// An error (X.880 8.3).
 #[derive(Debug, Drop)]
 pub struct ErrorRow {
+    /// The error's name.
     pub name: Name,
+    /// Its code.
     pub code: Code,
+    /// The value that the error carries.
     pub parameter: Use,
 }
 

@@ -53,7 +53,9 @@ pub struct TFault {
 /// What a feed gave: the packets that ended in it, and the fault if the stream has one by now.
 #[derive(Debug, Drop)]
 pub struct TFed {
+    /// The packets that ended in it, in their order.
     pub packets: Packets,
+    /// The fault, after which nothing more is read.
     pub fault: Option<TFault>,
 }
 
