@@ -6,8 +6,8 @@ abbrev pub last_count : ℕ
 last_count = 18446744073709551615
 
 -- a count of faults rose by one or more, or stands at its last value
-abbrev pub Rose : ℕ → ℕ → Type 0
-Rose old new = min (old + 1) last_count ≤ new
+abbrev pub FaultsRose : ℕ → ℕ → Type 0
+FaultsRose old new = min (old + 1) last_count ≤ new
 
 -- the opposite of a rise: the object didn't fail
 abbrev pub IsCalm : ℕ → ℕ → Type 0

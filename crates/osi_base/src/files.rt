@@ -2,7 +2,7 @@
 
 ghost use Rattle.std.specs.Prelude.{Option, ◌≡◌, ◌≤◌, ℕ, List, length, IfOk, IfSome, OnOk, IsErrOf};
 ghost use Rattle.osi_base.specs.Limits.{file_most};
-ghost use Rattle.osi_base.specs.Outside.{Rose, FileMap, Lacks, logged};
+ghost use Rattle.osi_base.specs.Outside.{FaultsRose, FileMap, Lacks, logged};
 ghost use Rattle.osi_base.specs.declared.files.FileFault.TheVariants.{NoMemory};
 
 use crate::fault;
@@ -79,7 +79,7 @@ pub trait Files {
 
         // Reading failed
         ensures failed { IsErrOf result FileFault.Failed →
-            Rose (faults self.old) (faults self.new) }
+            FaultsRose (faults self.old) (faults self.new) }
         ensures failed_asked { IsErrOf result FileFault.Failed →
             asked self.new ≡ logged name.now (asked self.old) }
 

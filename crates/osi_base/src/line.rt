@@ -1,7 +1,7 @@
 //! A line to one peer at a time.
 
 ghost use Rattle.std.specs.Prelude.{Option, ◌≡◌, ◌<◌, ◌≤◌, ℕ, List, [], length, take, Some, IfOk, IfSome, OnOk, OnErr, IsErrOf};
-ghost use Rattle.osi_base.specs.Outside.{Rose, logged, counted};
+ghost use Rattle.osi_base.specs.Outside.{FaultsRose, logged, counted};
 ghost use Rattle.osi_base.specs.declared.line.LineFault.TheVariants.{NoMemory};
 ghost use Rattle.osi_base.specs.declared.line.LineCall.{LineCall};
 
@@ -96,7 +96,7 @@ pub trait Line {
 
         // The line failed
         ensures failed { IsErrOf result LineFault.Failed →
-            Rose (faults self.old) (faults self.new) }
+            FaultsRose (faults self.old) (faults self.new) }
         ensures failed_log { IsErrOf result LineFault.Failed →
             told self.new ≡ logged (LineCall.Open host.now port Outcome.Failed) (told self.old) }
         ensures failed_begins { IsErrOf result LineFault.Failed → octets_read self.new ≡ 0 }
@@ -117,7 +117,7 @@ pub trait Line {
 
         // The line failed
         ensures failed { IsErrOf result LineFault.Failed →
-            Rose (faults self.old) (faults self.new) }
+            FaultsRose (faults self.old) (faults self.new) }
         ensures failed_log { IsErrOf result LineFault.Failed →
             told self.new ≡ logged (LineCall.Accept port Outcome.Failed) (told self.old) }
         ensures failed_begins { IsErrOf result LineFault.Failed → octets_read self.new ≡ 0 }
@@ -142,7 +142,7 @@ pub trait Line {
 
         // The line failed
         ensures failed { IsErrOf result LineFault.Failed →
-            Rose (faults self.old) (faults self.new) }
+            FaultsRose (faults self.old) (faults self.new) }
         ensures failed_log { IsErrOf result LineFault.Failed →
             told self.new ≡ logged (LineCall.Read [] Outcome.Failed) (told self.old) }
 
@@ -163,7 +163,7 @@ pub trait Line {
 
         // The line failed
         ensures failed { IsErrOf result LineFault.Failed →
-            Rose (faults self.old) (faults self.new) }
+            FaultsRose (faults self.old) (faults self.new) }
         ensures failed_log { IsErrOf result LineFault.Failed →
             told self.new ≡ logged (LineCall.Write [] Outcome.Failed) (told self.old) }
 
@@ -178,7 +178,7 @@ pub trait Line {
             (λ log. Some log ≡ logged (LineCall.Shut Outcome.Done) (told self.old))) }
         ensures ok_count { OnOk result (faults self.new ≡ faults self.old) }
         ensures read { octets_read self.new ≡ octets_read self.old }
-        ensures failed { OnErr result (Rose (faults self.old) (faults self.new)) }
+        ensures failed { OnErr result (FaultsRose (faults self.old) (faults self.new)) }
         ensures failed_log { OnErr result (IfSome (told self.new)
             (λ log. Some log ≡ logged (LineCall.Shut Outcome.Failed) (told self.old))) };
 }

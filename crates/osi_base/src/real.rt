@@ -2,7 +2,7 @@
 
 ghost use Rattle.std.specs.Prelude.{◌≡◌, ◌<◌, ◌≤◌, None, IfOk, IfSome, IsErrOf, length, take};
 ghost use Rattle.osi_base.specs.Limits.{file_most};
-ghost use Rattle.osi_base.specs.Outside.{Rose};
+ghost use Rattle.osi_base.specs.Outside.{FaultsRose};
 
 use crate::files::{FILE_MOST, FileFault, Files};
 use crate::name::Name;

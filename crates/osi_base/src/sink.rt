@@ -1,7 +1,7 @@
 //! What octets are written to.
 
 ghost use Rattle.std.specs.Prelude.{Option, ◌≡◌, ◌<◌, ◌≤◌, ℕ, List, length, take, IfOk, OnOk, OnErr, IsErrOf};
-ghost use Rattle.osi_base.specs.Outside.{Rose, grown, GrewPart};
+ghost use Rattle.osi_base.specs.Outside.{FaultsRose, grown, GrewPart};
 ghost use Rattle.osi_base.specs.declared.sink.SinkFault.TheVariants.{NoMemory};
 
 use crate::fault;
@@ -56,7 +56,7 @@ pub trait Sink {
 
         // Why nothing is
         ensures failed { IsErrOf result SinkFault.Failed →
-            Rose (faults self.old) (faults self.new) }
+            FaultsRose (faults self.old) (faults self.new) }
         ensures no_memory { IsErrOf result SinkFault.NoMemory → faults self.new ≡ faults self.old };
 }
 
@@ -68,7 +68,8 @@ pub fn write_all<O: Sink>(out: &mut O, bytes: &[u8]) -> Result<(), SinkFault>
     ensures ok { OnOk result (O.told out.new ≡ grown (O.told out.old) bytes.now) }
     ensures ok_count { OnOk result (O.faults out.new ≡ O.faults out.old) }
     ensures err { OnErr result (GrewPart (O.told out.old) (O.told out.new) bytes.now) }
-    ensures failed { IsErrOf result SinkFault.Failed → Rose (O.faults out.old) (O.faults out.new) }
+    ensures failed { IsErrOf result SinkFault.Failed →
+        FaultsRose (O.faults out.old) (O.faults out.new) }
     ensures no_memory { IsErrOf result SinkFault.NoMemory → O.faults out.new ≡ O.faults out.old }
 {
     let mut written = 0;

@@ -1,6 +1,6 @@
 -- What the end of a run says of its answer and of the sink.
 use Rattle.std.proofs.Common.{ℕ, ◌≡◌, ◌⊎◌, List, Option, Bool, true, false, Result, Ok, Err, IfOk, OnErr, MatchResult, refl, sym, ap, subst, inl, inr, ◌∙◌}
-use Rattle.osi_base.specs.Outside.{Rose, grown, GrewPart}
+use Rattle.osi_base.specs.Outside.{FaultsRose, grown, GrewPart}
 use Rattle.osi_base.specs.declared.words.Status.{Status}
 use Rattle.osi_base.specs.declared.words.Status.TheVariants.{Done, Usage, ReadFault, WriteFault, LineFault, ModuleRefused, ScriptRefused, Ended, Spent, NoMemory}
 use Rattle.osi_commands.specs.declared.answers.Answer.{Answer}
@@ -21,7 +21,7 @@ whole_if old new before after answer _ (no_memory same part) wanted h plain = le
 
 -- A fault of writing that isn't the answer's comes only where the sink's count rose, and a beginning was written.
 part_if_failed : (old new : ℕ) (before after : Option (List ℕ)) (answer : Answer) (status : Status) → Ends old new before after answer status
-    → status ≡ WriteFault → (answer.status ≡ WriteFault → ⊥) → Rose old new × GrewPart before after answer.text
+    → status ≡ WriteFault → (answer.status ≡ WriteFault → ⊥) → FaultsRose old new × GrewPart before after answer.text
 part_if_failed old new before after answer _ (whole same written) is other = absurd (other is)
 part_if_failed old new before after answer _ (failed rose part) is other = (rose, part)
 part_if_failed old new before after answer _ (no_memory same part) is other = cc
@@ -149,7 +149,7 @@ module _ (Is : Answer → Type 0) (old new sink_old sink_new : ℕ) (before afte
     foreign answer is wanted alien h = let e : true ≡ false = sym (own answer is) ∙ ap is_answers h ∙ alien in cc
 
     pub write_fault_of : (status : Status) → Closes Is old new sink_old sink_new before after status → status ≡ WriteFault
-        → Rose sink_old sink_new × IsBegun Is old new before after
+        → FaultsRose sink_old sink_new × IsBegun Is old new before after
     write_fault_of status (answered answer _ is counts ends) h =
         let w = part_if_failed sink_old sink_new before after answer status ends h (foreign answer is WriteFault refl) in
         (w.0, record { answer = answer; is = is; counts = counts; part = w.1 })

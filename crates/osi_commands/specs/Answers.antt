@@ -1,6 +1,6 @@
 -- What the program answers: a status, and the text that it writes.
 use Rattle.std.specs.Prelude.{ℕ, ◌≡◌, ◌⊎◌, Bool, true, false, List, ◌++◌, Option, codes, decimal}
-use Rattle.osi_base.specs.Outside.{Rose, grown, GrewPart}
+use Rattle.osi_base.specs.Outside.{FaultsRose, grown, GrewPart}
 use Rattle.osi_base.specs.declared.words.Status.{Status}
 use Rattle.osi_base.specs.declared.words.Status.TheVariants.{Done, Usage, ReadFault, WriteFault, ModuleRefused, ScriptRefused, NoMemory}
 use Rattle.script_lines.specs.declared.fault.ScriptKind.{ScriptKind}
@@ -57,7 +57,7 @@ KeepsCount old new answer = is_read_fault answer.status ≡ false → new ≡ ol
 -- writing failed, so no write is tried again.
 pub data Ends (old new : ℕ) (before after : Option (List ℕ)) (answer : Answer) : Status → Type 0 where
   whole : new ≡ old → after ≡ grown before answer.text → Ends old new before after answer answer.status
-  failed : Rose old new → GrewPart before after answer.text → Ends old new before after answer WriteFault
+  failed : FaultsRose old new → GrewPart before after answer.text → Ends old new before after answer WriteFault
   no_memory : new ≡ old → GrewPart before after answer.text → Ends old new before after answer NoMemory
 
 -- ---- the end of a call of the program that has one of these answers
@@ -92,4 +92,4 @@ CountsWrites old new status = (status ≡ WriteFault) ⊎ (new ≡ old)
 
 -- The status is this one, unless writing failed or memory was refused.
 abbrev pub IsUnless : ℕ → ℕ → Status → Status → Type 0
-IsUnless sink_old sink_new wanted status = (status ≡ wanted) ⊎ (((status ≡ WriteFault) × Rose sink_old sink_new) ⊎ (status ≡ NoMemory))
+IsUnless sink_old sink_new wanted status = (status ≡ wanted) ⊎ (((status ≡ WriteFault) × FaultsRose sink_old sink_new) ⊎ (status ≡ NoMemory))

@@ -1,6 +1,6 @@
 -- What a module or a file that isn't read makes the program end with, whatever the command is.
 use Rattle.std.specs.Prelude.{ℕ, ◌≡◌, ◌⊎◌, List, Option, Some}
-use Rattle.osi_base.specs.Outside.{Rose, FileMap, Lacks, grown}
+use Rattle.osi_base.specs.Outside.{FaultsRose, FileMap, Lacks, grown}
 use Rattle.stub_tables.specs.declared.tables.Tables.{Tables}
 use Rattle.module_reading.specs.declared.fault.ModuleKind.{ModuleKind}
 use Rattle.module_reading.specs.declared.fault.ModuleFault.TheVariants as faults
@@ -10,7 +10,7 @@ use Rattle.osi_commands.specs.Reading.{WasRead}
 
 -- ReadFault: the files' count rose in this call, or they tell that they lack the file; and it is told by its name.
 pub record IsUnread (told : Option FileMap) (old new : ℕ) (name : List ℕ) (before after : Option (List ℕ)) : Type 0 where
-  pub cause : Rose old new ⊎ Lacks told name
+  pub cause : FaultsRose old new ⊎ Lacks told name
   pub written : after ≡ grown before (unread_answer name).text
 
 -- ModuleRefused: the module of this name was read, and this is its fault.

@@ -1,7 +1,7 @@
 -- The files of a command: what is read of them, and which are asked for.
 use Rattle.std.specs.Prelude.{ℕ, ◌≡◌, ◌≤◌, ◌⊎◌, List, length, Option, None, Some, IfSome}
 use Rattle.osi_base.specs.Limits.{file_most}
-use Rattle.osi_base.specs.Outside.{Rose, FileMap, Lacks, logged}
+use Rattle.osi_base.specs.Outside.{FaultsRose, FileMap, Lacks, logged}
 use Rattle.osi_base.specs.declared.words.Status.{Status}
 use Rattle.osi_base.specs.declared.words.Status.TheVariants.{Done, ReadFault, WriteFault, ModuleRefused, ScriptRefused, NoMemory}
 use Rattle.stub_tables.specs.declared.tables.Tables.{Tables}
@@ -22,7 +22,7 @@ use Rattle.osi_commands.specs.Answers.{unread_answer, module_answer, KeepsCount}
 -- count of faults rose or the told map lacks the name.
 abbrev pub WasRead : Option FileMap → ℕ → ℕ → List ℕ → Option (List ℕ) → Type 0
 WasRead told old new name (Some octets) = IfSome told (λ files. files name ≡ Some octets) × (length octets ≤ file_most)
-WasRead told old new name None = Rose old new ⊎ Lacks told name
+WasRead told old new name None = FaultsRose old new ⊎ Lacks told name
 
 -- The files' count is as it was, where octets were read.
 abbrev pub KeepsCountAt : ℕ → ℕ → Option (List ℕ) → Type 0

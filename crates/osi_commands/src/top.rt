@@ -1,7 +1,7 @@
 //! The program's top call.
 
 ghost use Rattle.std.specs.Prelude.{◌≡◌, ◌≢◌, ◌≤◌, ◌⊎◌, Some, None, IfOk, OnErr};
-ghost use Rattle.osi_base.specs.Outside.{Rose};
+ghost use Rattle.osi_base.specs.Outside.{FaultsRose};
 ghost use Rattle.module_check.specs.Command.{Check};
 ghost use Rattle.osi_commands.specs.Answers.{KeepsCount, Closes, IsBegun, IsUnless, CountsFiles, CountsWrites};
 ghost use Rattle.osi_commands.specs.Commands.{FilePair, checks, pairs, command_of};
@@ -126,7 +126,8 @@ pub fn osi_run<F: Files, O: Sink, L: Line>(
         (O.faults out.new) (O.told out.old) (O.told out.new) result }
 
     // Statuses that end every command
-    ensures write_fault { result ≡ Status.WriteFault → Rose (O.faults out.old) (O.faults out.new)
+    ensures write_fault { result ≡ Status.WriteFault →
+        FaultsRose (O.faults out.old) (O.faults out.new)
         × IsBegun (IsAnswer (F.told files.old) (F.faults files.old) (F.faults files.new)
         (command_of words.now)) (F.faults files.old) (F.faults files.new) (O.told out.old)
         (O.told out.new) }
