@@ -13,7 +13,9 @@ pub type Messages = ListOf<Message>;
 /// What the taking of a message answers and shows.
 #[derive(Debug, Drop)]
 pub struct Taken {
+    /// The messages that answer it, in the order in which they are sent.
     pub answers: Messages,
+    /// The indications shown to the user, in their order.
     pub shown: Indications,
 }
 

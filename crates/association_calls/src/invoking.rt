@@ -32,8 +32,11 @@ const MOST_QUEUED: usize = 64;
 /// An invocation that is made: its operation's place, its context, and what it is linked to.
 #[derive(Clone, Copy, Debug)]
 pub struct Making {
+    /// The identifier of the presentation context that the invocation goes on.
     pub context: u32,
+    /// The place of the operation in the module's tables.
     pub place: u32,
+    /// The invoke identifier of the peer's invocation that it is linked to, if any.
     pub linked: Option<i64>,
 }
 

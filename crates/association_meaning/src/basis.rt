@@ -13,9 +13,13 @@ use stub_tables::Tables;
 /// What reading stands on: the fixed tables, the module's tables and the configuration of an end.
 #[derive(Clone, Copy)]
 pub struct Ground<'a> {
+    /// The allocator for all that reading makes.
     pub alloc: Global,
+    /// The fixed tables by which octets are read.
     pub codecs: &'a Codecs,
+    /// The tables of the module.
     pub tables: &'a Tables,
+    /// The configuration of the end.
     pub config: &'a Config,
 }
 

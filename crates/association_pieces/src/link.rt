@@ -23,6 +23,7 @@ pub enum Stage {
 /// The own request that isn't answered yet and stops all else (X.225 7.24, 7.31, 7.33).
 #[derive(Clone, Copy, Debug, PartialEq, Eq)]
 pub enum Awaited {
+    /// No own request waits for its answer.
     NoAnswer,
     /// RS with this number.
     RestartOf(u32),
@@ -37,7 +38,9 @@ pub enum Awaited {
 /// The association and its connection.
 #[derive(Debug, Drop)]
 pub struct Link {
+    /// The phase of the association.
     pub phase: Phase,
+    /// How far the transport connection is.
     pub stage: Stage,
     /// The functional units selected: the session requirements that both ends have (X.225
     /// 8.3.1.16).
@@ -48,14 +51,17 @@ pub struct Link {
     pub turn: bool,
     /// A giving of all tokens isn't confirmed.
     pub gave: bool,
+    /// The own request that isn't answered yet.
     pub awaits: Awaited,
     /// The contexts that were accepted on this connection.
     pub accepted: SetList,
     /// The references of the CN that opened the association.
     pub reference: Option<Octets>,
+    /// The common reference of that CN.
     pub common: Option<Octets>,
     /// Agreed for transfers (X.228 8.1).
     pub checkpoint: u32,
+    /// The window size agreed for transfers: how many marks may be unconfirmed.
     pub window: u32,
 }
 

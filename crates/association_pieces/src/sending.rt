@@ -11,7 +11,9 @@ use stub_tables::Apdu;
 /// An APDU that waits for its transfer, with the context that was asked for.
 #[derive(Debug, Drop)]
 pub struct Queued {
+    /// The identifier of the presentation context that was asked for.
     pub context: u32,
+    /// The APDU that is to be transferred.
     pub apdu: Apdu,
 }
 
@@ -30,9 +32,11 @@ pub fn take_next(queue: &mut Vec<Queued>) -> Option<Queued>
 /// How far the current transfer is.
 #[derive(Clone, Copy, Debug, PartialEq, Eq)]
 pub enum Progress {
+    /// It is in progress, and its end wasn't sent.
     Running,
     /// Its end was sent, and isn't confirmed.
     Ending,
+    /// It was stopped, and isn't resumed yet.
     Suspended,
 }
 
@@ -72,27 +76,40 @@ impl Progress {
 /// window of its encoding.
 #[derive(Debug, Drop)]
 pub struct Encoded {
+    /// The identifier of the presentation context.
     pub id: u32,
+    /// The pair of abstract and transfer syntax that the identifier stands for.
     pub pair: Pair,
+    /// The octets of the APDU in the transfer syntax of the pair.
     pub octets: Octets,
+    /// The checkpoint size it is sent with, in units of 1,024 octets; 0 is without checkpoints.
     pub checkpoint: u32,
+    /// The window size it is sent with: how many marks may be unconfirmed.
     pub window: u32,
 }
 
 /// The current transfer: its item, its encoding, the pieces sent, the highest confirmed mark.
 #[derive(Debug, Drop)]
 pub struct Transfer {
+    /// The APDU and the context that was asked for.
     pub item: Queued,
+    /// How the item was last encoded; `None` before its first encoding.
     pub encoded: Option<Encoded>,
+    /// The pieces that were sent, with their marks.
     pub pieces: Pieces,
+    /// The highest number of a mark that the peer confirmed; 0 where there is none.
     pub confirmed: u32,
+    /// How far the transfer is.
     pub progress: Progress,
 }
 
 /// What an end sends: the number of its last started activity, the current transfer, the queue.
 #[derive(Debug, Drop)]
 pub struct Sending {
+    /// The number of the activity that this end started last; 0 before the first.
     pub started: u32,
+    /// The current transfer, if any.
     pub current: Option<Transfer>,
+    /// The items that wait for their transfers, oldest first.
     pub queue: Vec<Queued>,
 }

@@ -9,8 +9,11 @@ use osi_base::SetList;
 /// first.
 #[derive(Debug, Drop)]
 pub struct Sets {
+    /// The set of contexts that the end holds.
     pub held: SetList,
+    /// The inter-activity set, which is held again when an activity ends.
     pub inter: SetList,
+    /// The own alterations that aren't answered, oldest first.
     pub own: Vec<Alteration>,
 }
 

@@ -22,7 +22,9 @@ const LAST_ACTIVITY: u32 = 999_999;
 /// context.
 #[derive(Debug, Drop)]
 pub enum Own {
+    /// This message is sent.
     Sends(Message),
+    /// The item is encoded on the context with this identifier.
     Encodes(u32),
 }
 

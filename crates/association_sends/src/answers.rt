@@ -57,7 +57,9 @@ fn presentation_accept(
 /// What an AARE says: the application context, and the user information.
 #[derive(Debug, Drop)]
 pub struct Response {
+    /// The application context name.
     pub context: Oid,
+    /// The user information, in its order.
     pub user: UserInformation,
 }
 

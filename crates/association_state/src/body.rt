@@ -16,11 +16,17 @@ use osi_base::{Copied, ListOf, NoMemory, Pair, SetItem, SetList, Syntax};
 /// invocations, and what it sends and receives by transfers.
 #[derive(Drop)]
 pub struct Body {
+    /// The association and its connection.
     pub link: Link,
+    /// The held set, the inter-activity set, and the own alterations that aren't answered.
     pub sets: Sets,
+    /// The saved sets.
     pub saved: SavedSets,
+    /// The open invocations.
     pub calls: Invocations,
+    /// What the end sends by transfers.
     pub sending: Sending,
+    /// What the end receives by transfers.
     pub receiving: Receiving,
 }
 

@@ -48,8 +48,11 @@ pub type Values = ListOf<Value>;
 /// An APDU on a context, with the pair under which it is written or was read.
 #[derive(Debug, Drop)]
 pub struct Item {
+    /// The identifier of the presentation context.
     pub id: u32,
+    /// The pair of abstract and transfer syntax under which the APDU is written or was read.
     pub pair: Pair,
+    /// The APDU.
     pub apdu: Apdu,
 }
 

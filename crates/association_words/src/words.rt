@@ -46,6 +46,7 @@ pub struct Accepting {
 /// What an ABORT carries (X.225 8.3.9, X.226 8.2.4, 8.2.5).
 #[derive(Debug, Drop)]
 pub enum AbortData {
+    /// It carries nothing.
     NoData,
     /// The reason of the provider of the presentation. A reason below 0 counts as 0.
     ProviderReason { reason: Option<i64> },
@@ -164,15 +165,21 @@ pub enum ActivityWord {
 /// One unit of the session with what it carries.
 #[derive(Debug, Drop)]
 pub enum Word {
+    /// A unit that opens, refuses or ends the association.
     OfAssociation(AssociationWord),
+    /// Values, or an alteration of the set of contexts.
     OfData(DataWord),
+    /// A unit of marks, restarts or tokens.
     OfMarks(MarkWord),
+    /// A unit of activities.
     OfActivities(ActivityWord),
 }
 
 /// A message: a transport unit, or one unit of the session.
 #[derive(Debug, Drop)]
 pub enum Message {
+    /// A transport unit.
     Transport(TransportUnit),
+    /// One unit of the session.
     Session(Word),
 }

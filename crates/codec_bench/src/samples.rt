@@ -8,8 +8,11 @@ use std::alloc::Global;
 /// A value and its type.
 #[derive(Drop)]
 pub struct Sample {
+    /// The table that holds the type.
     pub table: TypeTable,
+    /// The identifier of the type in the table.
     pub of: TypeId,
+    /// The value.
     pub value: Val,
 }
 

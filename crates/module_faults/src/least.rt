@@ -9,7 +9,9 @@ use notation_tokens::Place;
 /// A fault and its place.
 #[derive(Clone, Copy, Debug, PartialEq, Eq)]
 pub struct Found {
+    /// Where the fault stands in the text.
     pub place: Place,
+    /// The kind of the fault.
     pub kind: TableKind,
 }
 

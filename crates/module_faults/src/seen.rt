@@ -24,6 +24,7 @@ impl<'m> Model for SeenNames<'m> {
 }
 
 impl<'m> SeenNames<'m> {
+    /// No names were seen.
     pub fn new(alloc: Global) -> SeenNames<'m>
         ensures { result ≡ [] }
     {
@@ -69,6 +70,7 @@ impl<'m> Model for SeenCodes<'m> {
 }
 
 impl<'m> SeenCodes<'m> {
+    /// No codes were seen.
     pub fn new(alloc: Global) -> SeenCodes<'m>
         ensures { result ≡ no_codes }
     {

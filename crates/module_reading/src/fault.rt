@@ -11,8 +11,11 @@ use osi_base::Kind;
 /// at fault.
 #[derive(Clone, Copy, Debug, PartialEq, Eq)]
 pub enum ModuleKind {
+    /// A text breaks the notation.
     Notation(NotationKind),
+    /// A module that reads has a fault.
     Table(TableKind),
+    /// A table file is at fault.
     File(Kind),
 }
 

@@ -29,8 +29,11 @@ pub(crate) enum Piece {
 /// The tokens of a text, and where cutting stopped: at the end, or for this reason.
 #[derive(Debug, Drop)]
 pub struct Lexed {
+    /// The tokens that were cut, in text order.
     pub tokens: Tokens,
+    /// Why cutting stopped before the end; `None` where it came to the end.
     pub stop: Option<NotationKind>,
+    /// The place where cutting stopped.
     pub place: Place,
 }
 

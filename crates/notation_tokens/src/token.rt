@@ -7,8 +7,11 @@ use osi_base::{ListOf, Name};
 /// What a token is.
 #[derive(Clone, Copy, Debug, PartialEq, Eq)]
 pub enum TokenKind {
+    /// A word.
     Word,
+    /// A number.
     Number,
+    /// A sign.
     Sign,
 }
 
@@ -16,10 +19,15 @@ pub enum TokenKind {
 /// columns in octets.
 #[derive(Clone, Copy, Debug, PartialEq, Eq)]
 pub struct Token {
+    /// What the token is.
     pub kind: TokenKind,
+    /// The place of its first octet in the text, counted in octets from 0.
     pub from: usize,
+    /// The place just behind its last octet, counted in octets from 0.
     pub to: usize,
+    /// The line it stands on, counted from 1.
     pub line: u32,
+    /// The column of its first octet, counted in octets from 1.
     pub column: u32,
 }
 
@@ -29,7 +37,9 @@ pub type Tokens = ListOf<Token>;
 /// Where a token stands: line and column from 1, columns in octets.
 #[derive(Clone, Copy, Debug, PartialEq, Eq)]
 pub struct Place {
+    /// The line, counted from 1.
     pub line: u32,
+    /// The column, counted in octets from 1.
     pub column: u32,
 }
 
@@ -49,7 +59,10 @@ impl Token {
 /// A name and the place of its token: line and column from 1, columns in octets.
 #[derive(Debug, Drop)]
 pub struct Located {
+    /// The name.
     pub text: Name,
+    /// The line its token stands on, counted from 1.
     pub line: u32,
+    /// The column of its token, counted in octets from 1.
     pub column: u32,
 }

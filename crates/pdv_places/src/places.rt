@@ -14,16 +14,22 @@ use std::alloc::Global;
 /// of its form with its identifier.
 #[derive(Clone, Copy, Debug, PartialEq, Eq)]
 pub struct PdvPlaces {
+    /// The place of the contents of the transfer syntax name; 0 where there is no name.
     pub name: usize,
+    /// The place of the contents of the presentation context identifier; 0 where there is none.
     pub identifier: usize,
+    /// The place of the form of the value, from its own identifier octets on.
     pub form: usize,
 }
 
 /// A field of a presentation data value.
 #[derive(Clone, Copy, Debug, PartialEq, Eq)]
 pub enum PdvField {
+    /// The transfer syntax name.
     Name,
+    /// The presentation context identifier.
     Identifier,
+    /// The form in which the value is written.
     Form,
 }
 

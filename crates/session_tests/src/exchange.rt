@@ -21,10 +21,12 @@ pub fn connecting(alloc: Global, requirements: u16) -> SessionConnect {
     }
 }
 
+/// CONNECT with these session user requirements and no user data.
 pub fn connect(alloc: Global, requirements: u16) -> SessionWord {
     SessionWord::Connect(connecting(alloc, requirements))
 }
 
+/// ACCEPT with these session user requirements and no user data.
 pub fn accept(alloc: Global, requirements: u16) -> SessionWord {
     SessionWord::Accept {
         options: Some(0),
@@ -35,12 +37,14 @@ pub fn accept(alloc: Global, requirements: u16) -> SessionWord {
     }
 }
 
+/// DATA TRANSFER with no user data.
 pub fn some_data(alloc: Global) -> SessionWord {
     SessionWord::Data {
         user: Octets::new(alloc),
     }
 }
 
+/// FINISH with transport disconnect 1 and no user data.
 pub fn finish(alloc: Global) -> SessionWord {
     SessionWord::Finish {
         transport: Some(1),
@@ -48,20 +52,24 @@ pub fn finish(alloc: Global) -> SessionWord {
     }
 }
 
+/// DISCONNECT with no user data.
 pub fn disconnect(alloc: Global) -> SessionWord {
     SessionWord::Disconnect {
         user: Octets::new(alloc),
     }
 }
 
+/// RESYNCHRONIZE with this serial number.
 pub fn restart(number: u32) -> SessionWord {
     SessionWord::Resynchronize { number, user: None }
 }
 
+/// RESYNCHRONIZE ACK with this serial number.
 pub fn restarted(number: u32) -> SessionWord {
     SessionWord::ResynchronizeAck { number, user: None }
 }
 
+/// ABORT with transport disconnect 3.
 pub fn abort() -> SessionWord {
     SessionWord::Abort {
         transport: Some(3),
@@ -69,10 +77,12 @@ pub fn abort() -> SessionWord {
     }
 }
 
+/// ACTIVITY INTERRUPT with reason 0.
 pub fn interrupt() -> SessionWord {
     SessionWord::ActivityInterrupt { reason: Some(0) }
 }
 
+/// ACTIVITY DISCARD with reason 0.
 pub fn discard() -> SessionWord {
     SessionWord::ActivityDiscard { reason: Some(0) }
 }

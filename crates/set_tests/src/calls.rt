@@ -90,10 +90,12 @@ pub fn is_five(list: SetList, transfer: Syntax) -> bool {
     }
 }
 
+/// Begins an activity over a set.
 pub fn begin(saved: &mut Saved, set: &Contexts) -> Result<(), SaveRefusal> {
     saved.begin(set)
 }
 
+/// Saves a set under the next number, which is answered.
 pub fn mark(saved: &mut Saved, set: &Contexts) -> Result<u32, SaveRefusal> {
     saved.mark(set)
 }
@@ -106,26 +108,32 @@ pub fn mark_often(saved: &mut Saved, set: &Contexts, count: u32) -> Result<(), S
     Ok(())
 }
 
+/// Goes back to the set saved by the highest number below this one, which is answered.
 pub fn restart(saved: &mut Saved, number: u32) -> Result<SetList, SaveRefusal> {
     saved.restart(number)
 }
 
+/// The set saved by the highest number below this one.
 pub fn set_below(saved: &Saved, number: u32) -> Result<SetList, SaveRefusal> {
     saved.set_below(number)
 }
 
+/// Begins an activity anew at this number; its set is answered.
 pub fn resume(saved: &mut Saved, number: u32, now: &Contexts) -> Result<SetList, SaveRefusal> {
     saved.resume(number, now)
 }
 
+/// Ends the activity; the set from before it is answered.
 pub fn end_activity(saved: &mut Saved) -> Result<SetList, SaveRefusal> {
     saved.end()
 }
 
+/// Interrupts the activity; the set from before it is answered.
 pub fn interrupt(saved: &mut Saved) -> Result<SetList, SaveRefusal> {
     saved.interrupt()
 }
 
+/// Discards the activity; the set from before it is answered.
 pub fn discard(saved: &mut Saved) -> Result<SetList, SaveRefusal> {
     saved.discard()
 }
