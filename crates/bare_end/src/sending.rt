@@ -18,7 +18,9 @@ const MOST_OCTETS: usize = 262_144;
 /// What a call sends, or why it is refused.
 #[derive(Drop)]
 pub enum Checked {
+    /// The call is refused, for this reason.
     Refused(CallRefusal),
+    /// The call is accepted, and sends these octets.
     Sends(Octets),
 }
 

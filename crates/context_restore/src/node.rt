@@ -7,7 +7,10 @@ use osi_base::SetList;
 /// What is taken out is kept whole, so that a node leads back to its parent's set too.
 #[derive(Debug, Drop)]
 pub struct VersionNode {
+    /// The number of the version that this one follows; none for the root.
     pub parent: Option<u32>,
+    /// The contexts that it adds to its parent's set.
     pub added: SetList,
+    /// The contexts that it takes out of its parent's set, kept whole.
     pub lost: SetList,
 }

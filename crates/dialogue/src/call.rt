@@ -8,81 +8,133 @@ use std::alloc::Global;
 /// A call of an end.
 #[derive(Debug, Drop)]
 pub enum Call {
+    /// Opens the association.
     Open,
+    /// Invokes the operation at this place on a context, linked to a peer's invocation or not.
     Invoke {
         context: u32,
         operation: u32,
         argument: Option<Val>,
         linked: Option<i64>,
     },
+    /// Returns the result of the peer's invocation of this identifier.
     Answer {
         id: i64,
         result: Option<Val>,
     },
+    /// Returns an error for the peer's invocation of this identifier.
     Refuse {
         id: i64,
         error: u32,
         parameter: Option<Val>,
     },
+    /// Asks for an alteration of the context set.
     Alter {
         add: Proposals,
         delete: Ids,
     },
+    /// Sets a mark, in direct mode.
     Mark,
+    /// Gives the turn to the peer.
     Give,
+    /// Asks the peer for the turn, with this priority.
     Please {
         priority: u32,
     },
+    /// Restarts the dialogue at the mark of this number, in direct mode.
     Resync {
         n: u32,
     },
+    /// Interrupts the own activity, in reliable mode.
     Interrupt,
+    /// Resumes the own activity that is suspended, in reliable mode.
     Resume,
+    /// Discards the own activity, in reliable mode.
     Discard,
+    /// Recovers the broken association over a new connection.
     Recover,
+    /// Releases the association in order.
     Release,
+    /// Aborts the association.
     Abort,
 }
 
 /// Why an end refuses a call.
 #[derive(Clone, Copy, Debug, PartialEq, Eq)]
 pub enum CallRefusal {
+    /// An allocation was refused within an earlier call.
     Dead,
+    /// The call is the initiator's alone.
     NotInitiator,
+    /// The call isn't one for this phase, which is the end's.
     WrongPhase(Phase),
+    /// The mode, or what the ends agreed on, doesn't provide the call.
     NotNegotiated,
+    /// An own request isn't answered yet.
     Waiting,
+    /// The module has no operation at this place.
     UnknownOperation,
+    /// The context of this identifier isn't in the set, or can't carry the operation.
     Absent(u32),
+    /// An own alteration isn't answered yet, and the call has to wait for it.
     AlterPending,
+    /// The peer's invocation of this identifier, which is to be linked to, isn't open.
     ParentClosed(i64),
+    /// The operation may not be linked to the peer's invocation of this identifier.
     LinkNotAllowed(i64),
+    /// The value, or its lack, doesn't fit what is to carry it.
     NotTyped,
+    /// The APDU would have too many octets.
     TooLong,
+    /// 4,096 own invocations are open.
     TooManyOpen,
+    /// The identifiers of invocations, up to 2,147,483,647, are used up.
     NumbersSpent,
+    /// 64 APDUs wait for their transfers.
     QueueFull,
+    /// The peer has no open invocation of this identifier.
     NoInvocation(i64),
+    /// The operation doesn't return a result, or doesn't have this error.
     NotAllowed,
+    /// There is no context on which the outcome can go.
     NoContext,
+    /// The module has no error at this place.
     UnknownError,
+    /// The turn is at the peer.
     NoTurn,
+    /// The end of the own activity of this number was sent, and isn't answered yet.
     Ending(u32),
+    /// The alteration isn't one that may be proposed.
     BadProposal,
+    /// The identifier of this context is odd or even as only the peer's may be.
     WrongParity(u32),
+    /// An own alteration that isn't answered yet names this context.
     Named(u32),
+    /// The context of this identifier is in the set.
     Present(u32),
+    /// The context of this identifier may not be deleted.
     Fixed(u32),
+    /// The context of this identifier is in use.
     InUse(u32),
+    /// The set would have more than 64 contexts, own additions that wait among them.
     SetFull,
+    /// All 65,536 marks are set.
     MarksFull,
+    /// The own activity of this number is in progress, or for a release is suspended.
     ActivityOpen(u32),
+    /// The turn is at this end.
     HasTurn,
+    /// There is no mark of this number.
     NoSuchMark(u32),
+    /// No own activity is in progress.
     NoActivity,
+    /// No own activity is suspended.
     NotSuspended,
+    /// So many APDUs wait for their transfers.
     QueueWaiting(u32),
+    /// So many own invocations are open.
     OpenInvocations(u32),
+    /// An allocation was refused.
     NoMemory,
 }
 

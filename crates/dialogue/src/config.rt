@@ -20,12 +20,19 @@ pub enum Mode {
 /// The phase of an end.
 #[derive(Clone, Copy, Debug, PartialEq, Eq)]
 pub enum Phase {
+    /// No association was asked for yet.
     Idle,
+    /// An association was asked for, and isn't accepted or refused yet.
     Opening,
+    /// The association is open.
     Up,
+    /// This end asked for the release of the association.
     Releasing,
+    /// The connection broke, and the association stays to be recovered.
     Broken,
+    /// This end asked for a new connection that recovers the association.
     Recovering,
+    /// The association has ended.
     Over,
     /// An allocation was refused within a call.
     Dead,
@@ -34,17 +41,25 @@ pub enum Phase {
 /// How an end is set up.
 #[derive(Debug, Drop)]
 pub struct Config {
+    /// Whether the end is the initiator; else it is the responder.
     pub initiator: bool,
+    /// How its APDUs travel.
     pub mode: Mode,
     /// The contexts that an initiator proposes.
     pub contexts: Proposals,
     /// The transfer syntaxes that a responder accepts.
     pub accepts: Oids,
+    /// The calling selector, of 1 to 16 octets.
     pub calling: Octets,
+    /// The called selector, of 1 to 16 octets.
     pub called: Octets,
+    /// The calling reference of the session connection, of 1 to 64 octets.
     pub reference: Octets,
+    /// The common reference of the session connection, of 13 octets.
     pub common: Octets,
+    /// The octets between two marks of a transfer, in units of 1,024, at most 255; 0 for no marks.
     pub checkpoint: u32,
+    /// The window of a transfer, in marks, from 1 to 255.
     pub window: u32,
 }
 
@@ -68,12 +83,19 @@ impl Copied for Config {
 /// Why an end refuses its configuration.
 #[derive(Clone, Copy, Debug, PartialEq, Eq)]
 pub enum ConfigRefusal {
+    /// The context of this identifier may not be proposed.
     BadContext(u32),
+    /// More than 62 contexts are proposed.
     TooManyContexts,
+    /// A selector doesn't have 1 to 16 octets.
     BadSelector,
+    /// The reference doesn't have 1 to 64 octets, or the common one doesn't have 13.
     BadReference,
+    /// The checkpoint is above 255, or the window isn't from 1 to 255.
     BadWindow,
+    /// A CP that opens or recovers the association would have more than 10,240 octets.
     TooLong,
+    /// An allocation was refused.
     NoMemory,
 }
 

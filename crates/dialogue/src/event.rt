@@ -22,23 +22,28 @@ pub type Events = ListOf<Event>;
 /// What a carry did: the octets that it moved, and what the other side indicated.
 #[derive(Debug, Drop)]
 pub struct Carried {
+    /// The octets that were moved.
     pub octets: Octets,
+    /// What the other side indicated, in order.
     pub shown: Indications,
 }
 
 /// An event with what came of it.
 #[derive(Debug, Drop)]
 pub enum Entry {
+    /// A call at one side, with the end's answer.
     Call {
         side: Side,
         call: Call,
         answer: Result<Option<i64>, CallRefusal>,
     },
+    /// A carry from one side to the other, with what it did.
     Carry {
         side: Side,
         most: Option<u32>,
         carried: Carried,
     },
+    /// The connection broke.
     Break,
 }
 
@@ -48,8 +53,12 @@ pub type Entries = ListOf<Entry>;
 /// The transcript of a run: each event with what came of it, and both phases at the end.
 #[derive(Debug, Drop)]
 pub struct Transcript {
+    /// The mode in which the ends ran.
     pub mode: Mode,
+    /// Each event with what came of it, in order.
     pub entries: Entries,
+    /// The phase of end A behind the last event.
     pub a: Phase,
+    /// The phase of end B behind the last event.
     pub b: Phase,
 }

@@ -9,7 +9,9 @@ use crate::config::Config;
 /// mode, and no end refuses them.
 #[derive(Debug, Drop)]
 pub struct Setup {
+    /// The configuration of end A, the initiator.
     pub a: Config,
+    /// The configuration of end B, the responder.
     pub b: Config,
     ghost initiator: { ∥ IsBare true a ∥₁ },
     ghost responder: { ∥ IsBare false b ∥₁ },

@@ -9,7 +9,9 @@ use std::alloc::{AllocError, AllocFailed};
 /// An open invocation: from this end or from the peer, with its identifier.
 #[derive(Clone, Copy, Debug)]
 pub struct Key {
+    /// Whether the invocation is from this end; else it is from the peer.
     pub own: bool,
+    /// The identifier of the invocation.
     pub id: i64,
 }
 
@@ -31,6 +33,7 @@ pub enum ForestRefusal {
     Present(Key),
     /// The key that it is to be linked to isn't.
     ParentAbsent(Key),
+    /// An allocation was refused.
     NoMemory,
 }
 

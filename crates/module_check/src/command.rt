@@ -9,6 +9,7 @@ use osi_base::{Name, Words};
 /// A check of a module, which is a file's name.
 #[derive(Clone, Copy)]
 pub struct Check<'a> {
+    /// The name of the module's file.
     pub module: &'a Name,
     /// Whether its table file is wanted in place of the listing.
     pub table: bool,

@@ -14,7 +14,9 @@ use value_text::Text;
 /// What the program answers: its status, and the text that it writes.
 #[derive(Debug, Drop)]
 pub struct Answer {
+    /// The status with which the program ends.
     pub status: Status,
+    /// The text that the program writes.
     pub text: Octets,
 }
 

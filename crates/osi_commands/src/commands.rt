@@ -21,15 +21,20 @@ pub enum Work {
 /// A module and a second file, by their names, and what is done with them.
 #[derive(Clone, Copy)]
 pub struct FilePair<'a> {
+    /// What is done with the second file.
     pub work: Work,
+    /// The name of the module's file.
     pub module: &'a Name,
+    /// The name of the second file.
     pub second: &'a Name,
 }
 
 /// A command of the program.
 #[derive(Clone, Copy)]
 pub enum Command<'a> {
+    /// A module is checked.
     Check(Check<'a>),
+    /// Something is done with a second file, by the tables of a module.
     Pair(FilePair<'a>),
 }
 

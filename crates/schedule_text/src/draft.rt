@@ -13,7 +13,9 @@ use std::alloc::Global;
 /// What the lines of a schedule say so far.
 #[derive(Debug, Drop)]
 pub struct Draft {
+    /// What the lines of the setup say so far.
     pub setting: Setting,
+    /// The events that the lines say so far, in order.
     pub events: Events,
     /// The operations that the lines invoked.
     pub invoked: InvokedOperations,

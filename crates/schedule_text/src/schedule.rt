@@ -25,7 +25,9 @@ const SCHEDULE_MOST: usize = 16_777_216;
 /// What a schedule says: how the two ends are set up, and the events of their run.
 #[derive(Debug, Drop)]
 pub struct Schedule {
+    /// How the two ends are set up.
     pub setup: Setup,
+    /// The events of their run, in order.
     pub events: Events,
 }
 

@@ -15,7 +15,9 @@ use stub_tables::Tables;
 /// The modes in which the ends run associations. Bare mode they run always.
 #[derive(Clone, Copy, Debug, PartialEq, Eq)]
 pub struct Modes {
+    /// Whether the ends run direct mode.
     pub direct: bool,
+    /// Whether the ends run reliable mode.
     pub reliable: bool,
 }
 
@@ -24,7 +26,9 @@ pub struct Modes {
 pub struct Setting {
     /// The mode, once a line named it.
     pub mode: Option<Mode>,
+    /// The checkpoint of both ends, in units of 1,024 octets; 0 before a line named it.
     pub checkpoint: u32,
+    /// The window of both ends, in marks; 1 before a line named it.
     pub window: u32,
     /// The contexts that lines named.
     pub contexts: Proposals,

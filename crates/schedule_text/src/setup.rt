@@ -8,7 +8,9 @@ use dialogue::Config;
 /// mode, and no end refuses them but for want of memory.
 #[derive(Debug, Drop)]
 pub struct Setup {
+    /// The configuration of end A, the initiator.
     pub a: Config,
+    /// The configuration of end B, the responder.
     pub b: Config,
     ghost meet: { ∥ Meet a b ∥₁ },
 }

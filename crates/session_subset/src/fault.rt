@@ -21,6 +21,7 @@ pub enum SessionRefusal {
     Ending(u32),
     /// No own activity is suspended.
     NotSuspended,
+    /// An allocation was refused.
     NoMemory,
 }
 
@@ -29,6 +30,7 @@ pub enum SessionRefusal {
 pub enum SessionFault {
     /// It may not come now.
     OutOfPlace,
+    /// An allocation was refused.
     NoMemory,
 }
 

@@ -34,6 +34,7 @@ pub enum SessionPhase {
 /// The own request that isn't answered yet and stops all else (X.225 7.24, 7.31, 7.33).
 #[derive(Clone, Copy, Debug, PartialEq, Eq)]
 pub enum Awaited {
+    /// No such request was sent.
     Nothing,
     /// RS with this number; its answer is RA.
     Restart(u32),
@@ -48,6 +49,7 @@ pub enum Awaited {
 /// The peer's request that this end has taken and not answered yet.
 #[derive(Clone, Copy, Debug, PartialEq, Eq)]
 pub enum Owed {
+    /// No such request was taken.
     Nothing,
     /// CN; its answer is AC or RF.
     Connect,
@@ -70,6 +72,7 @@ pub enum Owed {
 pub enum Progress {
     /// There is none: none was started, or the last was ended or discarded.
     Absent,
+    /// It goes on.
     Running,
     /// AE was sent and isn't answered yet.
     Ending,
@@ -82,6 +85,7 @@ pub enum Progress {
 pub struct OwnActivity {
     /// Its number, 0 where there was none.
     pub number: u32,
+    /// How far it has come.
     pub progress: Progress,
     /// Its last mark, 0 where there is none.
     pub marks: u32,
@@ -105,6 +109,7 @@ pub struct PeerActivity {
 /// All that a session machine knows of its association.
 #[derive(Clone, Copy, Debug, PartialEq, Eq)]
 pub struct SessionState {
+    /// How far the association has come.
     pub phase: SessionPhase,
     /// A CONNECT was sent or taken on this connection.
     pub met: bool,
@@ -116,10 +121,14 @@ pub struct SessionState {
     pub turn: bool,
     /// This end gave the turn by GTC, and GTA hasn't come.
     pub giving: bool,
+    /// The own request that isn't answered yet.
     pub awaited: Awaited,
+    /// The peer's request that this end hasn't answered yet.
     pub owed: Owed,
     /// Direct mode: the number of the last mark, 0 where there is none.
     pub mark: u32,
+    /// The last activity that this end started.
     pub own: OwnActivity,
+    /// The last activity that the peer started.
     pub peer: PeerActivity,
 }

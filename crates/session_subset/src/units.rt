@@ -8,11 +8,17 @@ use osi_base::SessionConnect;
 /// The functional units that both ends want (X.215 8.1), out of those that the mode uses.
 #[derive(Clone, Copy, Debug, PartialEq, Eq)]
 pub struct FunctionalUnits {
+    /// The half-duplex functional unit, of reliable mode.
     pub half_duplex: bool,
+    /// The duplex functional unit, of direct mode.
     pub duplex: bool,
+    /// The minor synchronize functional unit, of both modes.
     pub minor_synchronize: bool,
+    /// The resynchronize functional unit, of direct mode.
     pub resynchronize: bool,
+    /// The activity management functional unit, of reliable mode.
     pub activity_management: bool,
+    /// The typed data functional unit, of both modes.
     pub typed_data: bool,
 }
 

@@ -18,6 +18,7 @@ pub struct TypedVal<'t> {
 /// A value, or its lack, that doesn't fit, given back.
 #[derive(Debug, Drop)]
 pub struct Unfit {
+    /// The value, or its lack.
     pub value: Option<Val>,
 }
 

@@ -19,6 +19,7 @@ use std::str;
 pub enum Version {
     /// Without defaults and without SET OF.
     One,
+    /// With defaults and with SET OF.
     Two,
 }
 

@@ -130,8 +130,11 @@ fn tagged<'a>(
 /// A type of parts: a SEQUENCE, SET or CHOICE.
 #[derive(Clone, Copy)]
 pub enum Made {
+    /// A SEQUENCE.
     Sequence,
+    /// A SET.
     Set,
+    /// A CHOICE.
     Choice,
 }
 

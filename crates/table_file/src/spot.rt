@@ -6,8 +6,11 @@ ghost use Rattle.std.specs.Prelude.{◌+◌, ◌<◌, ◌^◌, length};
 /// have together.
 #[derive(Clone, Copy)]
 pub struct Spot<'a> {
+    /// The place in the octets.
     pub place: usize,
+    /// The octets from there on.
     pub rest: &'a [u8],
+    /// How many items the lists that follow may have together.
     pub left: u32,
     ghost whole: { place + length rest.now < 2 ^ 63 },
 }

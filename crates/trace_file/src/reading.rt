@@ -16,7 +16,9 @@ use std::alloc::Global;
 /// Octets that one end sent.
 #[derive(Debug, Drop)]
 pub struct Recorded {
+    /// The end that sent the octets.
     pub from: Side,
+    /// The octets that it sent.
     pub octets: Octets,
 }
 

@@ -11,7 +11,9 @@ use value_text::Text;
 /// What is said of a message: a line, or a fault, which ends its direction.
 #[derive(Debug, Drop)]
 pub enum Said {
+    /// A line of text.
     Line(Octets),
+    /// The text of a fault, which ends the direction of the message.
     Fault(Octets),
 }
 

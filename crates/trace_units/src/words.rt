@@ -21,7 +21,9 @@ use value_text::Text;
 /// With what messages are read: the tables of a module, and those of the upper layers' units.
 #[derive(Drop)]
 pub struct Viewer<'t> {
+    /// The allocator with which texts are made.
     pub alloc: Global,
+    /// The tables of the module.
     pub tables: &'t Tables,
     heads: Heads,
     ppdus: PpduTable,
