@@ -9,7 +9,8 @@ mod laws;
 pub use carried::Carriage;
 pub use cases::{
     aborts_are_read, alterations_are_read, connection_is_read, faulty_units_are_told,
-    faulty_values_are_told, marks_are_read, release_is_read, values_are_read,
+    faulty_values_are_told, marks_are_read, namesakes_are_told_apart, release_is_read,
+    values_are_read,
 };
 pub use laws::{
     alterations_are_read_back, associations_are_read_back, beginnings_are_short,
