@@ -1,7 +1,7 @@
 -- Two ends of reliable mode, and a run of the model that goes with them: from the first transport connection on, through the
 -- opening, transfers, interrupts, discards, resumptions, the turn, alterations, the release and aborts, with breaks at any moment
 -- and recoveries.
-use Rattle.std.specs.Prelude.{◌≡◌, ℕ, ◌≤◌, List, ◌∷◌, true, false}
+use Rattle.std.specs.Prelude.{◌≡◌, ◌≤◌, List, ◌∷◌, true, false}
 use Rattle.std.specs.List.{list_any}
 use Rattle.dialogue.specs.declared.config.Config.{Config}
 use Rattle.dialogue.specs.declared.config.Mode.TheVariants.{Reliable}
