@@ -47,16 +47,16 @@ session_message (Ok word) = Some (Ok (Session word))
 session_message (Err fault) = Some (Err fault)
 
 abbrev pub message_by : Base → Body → Front → Option (Result Message Fault)
-message_by base body Short = None
-message_by base body (OfTransport unit) = Some (Ok (Transport unit))
-message_by base body (OfSession unit start) = session_message (meaning base body unit start)
-message_by base body (Faulty layer at) = Some (Err (grammar_fault body layer at))
+message_by own body Short = None
+message_by own body (OfTransport unit) = Some (Ok (Transport unit))
+message_by own body (OfSession unit start) = session_message (meaning own body unit start)
+message_by own body (Faulty layer at) = Some (Err (grammar_fault body layer at))
 
 abbrev pub front_in : List ℕ → Front
 front_in octets = first_in (with_octets octets nothing_came)
 
 abbrev pub read_by : Base → Body → List ℕ → Option (Result Message Fault)
-read_by base body octets = message_by base body (front_in octets)
+read_by own body octets = message_by own body (front_in octets)
 
 abbrev pub read_as : Body → List ℕ → Option (Result Message Fault)
 read_as body octets = read_by base body octets

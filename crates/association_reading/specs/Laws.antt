@@ -10,7 +10,7 @@ use Rattle.association_wire.specs.Written.{request_ends, confirm_ends, written_u
 use Rattle.end_rules.specs.Messages.{Association, Plea, Part, TransportUnit, ConnectionRequest, ConnectionConfirm, DisconnectRequest, Remote, Value, NoData, Word, OfAssociation, Refuse, Finish, Disconnect, Abort, AbortAccept, OfData, Values, AlterContext, AlterContextAck, OfMarks, Mark, MarkAck, Restart, RestartAck, Give, Please, GiveConfirm, GiveAck, OfActivities, Session, unit_of}
 use Rattle.association_reading.specs.Front.{Short, OfTransport, OfSession, first_in, with_octets, nothing_came}
 use Rattle.association_reading.specs.Values.{without_user, content_under}
-use Rattle.std.specs.Prelude.{◌≡◌, ℕ, ◌<◌, ◌≤◌, List, [], ◌∷◌, ◌++◌, length, true, false, Option, Some, None, Ok}
+use Rattle.std.specs.Prelude.{◌≡◌, ℕ, ◌<◌, ◌≤◌, List, [], ◌∷◌, ◌++◌, length, true, Option, Some, None, Ok}
 use Rattle.osi_base.specs.declared.syntax.Pair.{Pair}
 use Rattle.osi_base.specs.declared.words.SetItem.{SetItem}
 use Rattle.osi_base.specs.declared.words.Proposal.{Proposal}
