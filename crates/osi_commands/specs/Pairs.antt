@@ -25,7 +25,7 @@ use Rattle.osi_commands.specs.Commands.{FilePair}
 use Rattle.osi_commands.specs.Answers.{script_answer, IsUnless}
 use Rattle.osi_commands.specs.Reading.{WasRead, ReadsPair, HasModule}
 use Rattle.osi_commands.specs.Causes.{IsUnread, IsRefusedModule, HasNoTables}
-use Rattle.osi_commands.specs.Replaying.{bare_alone, Replayed, ReplayedBy}
+use Rattle.osi_commands.specs.Replaying.{every_mode, Replayed, ReplayedBy}
 use Rattle.osi_commands.specs.Tracing.{script_kind, TracedBy}
 
 -- ---- the whole of it
@@ -47,7 +47,7 @@ pub data AnswersPair (told : Option FileMap) (old new : ℕ) (pair : FilePair) :
 -- what was written of a schedule that was run, or of a recording
 pub record IsReplayed (brief : Bool) (tables : Tables) (octets text : List ℕ) : Type 0 where
   pub schedule : Said
-  pub reads : schedule_of bare_alone tables octets ≡ Ok schedule
+  pub reads : schedule_of every_mode tables octets ≡ Ok schedule
   pub replayed : Replayed brief tables schedule text
 
 pub record IsTraced (tables : Tables) (octets text : List ℕ) : Type 0 where
@@ -76,7 +76,7 @@ pub record IsPairDone (told : Option FileMap) (old new : ℕ) (pair : FilePair) 
 pub record IsBadSchedule (tables : Tables) (octets text : List ℕ) : Type 0 where
   pub line : ℕ
   pub kind : ScriptKind
-  pub fault : schedule_of bare_alone tables octets ≡ Err (At line kind)
+  pub fault : schedule_of every_mode tables octets ≡ Err (At line kind)
   pub is : text ≡ (script_answer line kind).text
 
 pub record IsBadRecording (octets text : List ℕ) : Type 0 where
@@ -118,7 +118,7 @@ due_by_recording (Ok recorded) = Done
 due_by_recording (Err fault) = ScriptRefused
 
 abbrev pub due_by_octets : Work → Tables → List ℕ → Status
-due_by_octets (Replay brief) tables octets = due_by_schedule (schedule_of bare_alone tables octets)
+due_by_octets (Replay brief) tables octets = due_by_schedule (schedule_of every_mode tables octets)
 due_by_octets Trace tables octets = due_by_recording (recording_of octets)
 
 -- the status that a second file is due by these tables
