@@ -34,7 +34,6 @@ fn written_of(
 }
 
 /// Runs a schedule, and answers what is written of its run.
-#[tactic(auto, using(crate::proofs::Replays::told))]
 fn replay(
     alloc: Global,
     tables: &Tables,

@@ -82,9 +82,19 @@ fn run_words<F: Files, O: Sink>(alloc: Global, words: &Words, files: &mut F, out
 /// - `check MODULE [--table]` reads the module, a text or a table file, and writes a line for each
 ///   of its operations and errors, or with `--table` its tables as a table file.
 /// - `replay MODULE SCHEDULE [--brief]` reads both files, runs the schedule over two ends of the
-///   module and writes the transcript's text, or with `--brief` its summary, once the run is whole.
+///   module, of the mode that it names, and writes the transcript's text, or with `--brief` its
+///   summary, once the run is whole.
 /// - `trace MODULE FILE` reads both files and writes what the recorded dialogue in the second one
 ///   says, with the names of the module.
+///
+/// What a replay writes tells the one run that two new ends with the schedule's configurations make
+/// of its events, and that run keeps all laws of its mode: each presentation value that is taken is
+/// one that the other end sent in its place, read under the pair that the one shared context set
+/// gave its context at the sending; an invocation has at most one outcome, which is allowed to it;
+/// each reliable transfer arrives whole, at most once; nothing whole waits at an end that isn't
+/// over; no end aborts of itself. Over associations, in direct and in reliable mode, these laws are
+/// promised of modules whose name is neither that of association control nor that of reliable
+/// transfer.
 ///
 /// Each other answer is a status with a text of its own, and nothing else is written:
 ///

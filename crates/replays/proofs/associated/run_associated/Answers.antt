@@ -1,5 +1,5 @@
 use Rattle.std.proofs.Common.{ap, ◌∙◌}
-use Rattle.std.proofs.lemmas.Result.{IfOk-weaker}
+use Rattle.std.proofs.lemmas.Result.{IfOk-weaker, IfOk-from_err}
 use Rattle.end_rules.specs.Base.{is_bare}
 use Rattle.schedule_text.specs.Schedules.{said}
 use Rattle.replays.proofs.AssociatedRuns.{scheduled}
@@ -22,3 +22,9 @@ new_end-requires-2-clause-associated c = ap is_bare c.requires.set_up.of_b.mode 
 
 pub new_end-requires-2-clause-accepted : goal.new_end-requires-2-clause-accepted
 new_end-requires-2-clause-accepted c = c.requires.set_up.of_b.accepted
+
+pub returns-in_err-a : goal.returns-in_err-a
+returns-in_err-a c = IfOk-from_err c.from_residual.result _ c.from_residual.ensures.0
+
+pub returns-in_err-b : goal.returns-in_err-b
+returns-in_err-b c = IfOk-from_err c.from_residual-in_err-b.result _ c.from_residual-in_err-b.ensures.0
