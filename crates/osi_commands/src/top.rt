@@ -1,13 +1,14 @@
 //! The program's top call.
 
-ghost use Rattle.std.specs.Prelude.{◌≡◌, ◌≢◌, ◌≤◌, ◌⊎◌, Some, None, IfOk, OnErr};
+ghost use Rattle.std.specs.Prelude.{Bool, ◌≡◌, ◌≢◌, ◌≤◌, ◌⊎◌, Some, None, IfOk, OnErr};
 ghost use Rattle.osi_base.specs.Outside.{FaultsRose};
 ghost use Rattle.module_check.specs.Command.{Check};
+ghost use Rattle.osi_commands.specs.declared.commands.Work.TheVariants as works;
 ghost use Rattle.osi_commands.specs.Answers.{KeepsCount, Closes, IsBegun, IsUnless, CountsFiles, CountsWrites};
 ghost use Rattle.osi_commands.specs.Commands.{FilePair, checks, pairs, command_of};
 ghost use Rattle.osi_commands.specs.Given.{given};
 ghost use Rattle.osi_commands.specs.Checking.{CheckEnds};
-ghost use Rattle.osi_commands.specs.Pairs.{PairEnds};
+ghost use Rattle.osi_commands.specs.Pairs.{PairEnds, IsReplayDone};
 ghost use Rattle.osi_commands.specs.TopCall.{IsAnswer, IsUsage, Asks, AskedBy, AskedAtEnd};
 
 use crate::answers::{Answer, conclude, usage};
@@ -160,6 +161,12 @@ pub fn osi_run<F: Files, O: Sink, L: Line>(
     ensures pair { (pair : FilePair) → command_of words.now ≡ Some (pairs pair)
         → PairEnds (F.told files.old) (F.faults files.old) (F.faults files.new) pair
         (O.faults out.old) (O.faults out.new) (O.told out.old) (O.told out.new) result }
+
+    // In each mode a replay that is done wrote the one run of its schedule, which keeps all laws
+    ensures replay { (pair : FilePair) (brief : Bool) → command_of words.now ≡ Some (pairs pair)
+        → pair.work ≡ works.Replay brief → result ≡ Status.Done
+        → IsReplayDone (F.told files.old) (F.faults files.old) (F.faults files.new) pair brief
+        (O.told out.old) (O.told out.new) }
 {
     run_words(alloc, words, files, out)
 }
