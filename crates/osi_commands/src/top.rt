@@ -93,9 +93,7 @@ fn run_words<F: Files, O: Sink>(alloc: Global, words: &Words, files: &mut F, out
 /// one that the other end sent in its place, read under the pair that the one shared context set
 /// gave its context at the sending; an invocation has at most one outcome, which is allowed to it;
 /// each reliable transfer arrives whole, at most once; nothing whole waits at an end that isn't
-/// over; no end aborts of itself. Over associations, in direct and in reliable mode, these laws are
-/// promised of modules whose name is neither that of association control nor that of reliable
-/// transfer.
+/// over; no end aborts of itself.
 ///
 /// Each other answer is a status with a text of its own, and nothing else is written:
 ///

@@ -11,7 +11,6 @@ use Rattle.dialogue.specs.declared.event.Entry.{Entry}
 use Rattle.dialogue.specs.declared.event.Transcript.{Transcript}
 use Rattle.end_rules.specs.Base.{base_of, is_bare}
 use Rattle.end_rules.specs.World.{World}
-use Rattle.reliable_model.specs.ReliablePairs.{IsOwnName}
 use Rattle.said_worlds.specs.Laws.{AreEndsIn}
 use Rattle.association_reading.specs.Transfers.{association_spellings}
 use Rattle.association_line.specs.Line.{new_end}
@@ -36,13 +35,11 @@ module _ (direct : DirectRunsKeepLaws) (reliable : ReliableRunsKeepLaws) (tables
     laws_in Direct not_bare ends told w runs = direct tables s.a s.b (record { ends = ends; responder = set_up.meet.responder }) s.events told w set_up.events runs
     laws_in Reliable not_bare ends told w runs = reliable tables s.a s.b (record { ends = ends; responder = set_up.meet.responder }) s.events told w set_up.events runs
 
-    laws_of : (told : List Entry) (w : World) → Runs (ends_of tables s.a s.b) [] s.events told w → IsOwnName tables.name_oid
-        → RunKeepsLaws tables (ends_of tables s.a s.b) told w
-    laws_of told w runs own =
+    laws_of : (told : List Entry) (w : World) → Runs (ends_of tables s.a s.b) [] s.events told w → RunKeepsLaws tables (ends_of tables s.a s.b) told w
+    laws_of told w runs =
         laws_in s.a.mode associated
         (record {
           module_s = record { readable = readable; typed = typed };
-          name = own;
           of_a = set_up.of_a;
           initiator = set_up.meet.initiator;
           of_b = set_up.of_b;

@@ -13,7 +13,6 @@ use Rattle.bare_duo.specs.Worlds as bare
 use Rattle.bare_end.specs.View as bare_view
 use Rattle.bare_duo.specs.Laws.{KeepsLaws}
 use Rattle.bare_duo.specs.Ran.{RunsFromStart}
-use Rattle.reliable_model.specs.ReliablePairs.{IsOwnName}
 use Rattle.said_spellings.specs.Laws.{IsEndIn}
 use Rattle.association_runs.specs.Worlds.{ends_of, end_at, Runs}
 use Rattle.association_runs.specs.Laws.{AreEvents, RunKeepsLaws}
@@ -73,9 +72,8 @@ pub record RanAssociated (tables : Tables) (schedule : Said) (transcript : Trans
   pub runs : Runs (ends_of tables schedule.a schedule.b) [] schedule.events transcript.entries world
   -- Each value taken is one handed in at the other end, read under the pair that the shared set gave its identifier at its sending;
   -- each invocation gets at most one outcome, allowed to it; each reliable transfer arrives whole, at most once; an end that isn't over
-  -- took what came whole, and no more; no end aborts of itself. This holds of modules whose name is neither that of association
-  -- control nor that of reliable transfer.
-  pub laws : IsOwnName tables.name_oid → RunKeepsLaws tables (ends_of tables schedule.a schedule.b) transcript.entries world
+  -- took what came whole, and no more; no end aborts of itself.
+  pub laws : RunKeepsLaws tables (ends_of tables schedule.a schedule.b) transcript.entries world
   pub mode : transcript.mode ≡ schedule.a.mode
   pub a_phase : transcript.a ≡ (end_at (ends_of tables schedule.a schedule.b) A world).body.link.phase
   pub b_phase : transcript.b ≡ (end_at (ends_of tables schedule.a schedule.b) B world).body.link.phase

@@ -17,9 +17,7 @@ use stub_tables::Tables;
 /// setup and a module's tables, and answers what came of each event and the phases in which the ends
 /// are left.
 ///
-/// In bare mode the run keeps all laws of such runs, of every module. In direct and in reliable mode
-/// it keeps all laws where the module's name is neither that of association control nor that of
-/// reliable transfer.
+/// The run keeps all laws of such runs, in each mode and of every module.
 ///
 /// The only error is want of memory.
 pub fn run_schedule(
