@@ -12,8 +12,9 @@ use Rattle.end_rules.specs.Sets.{pair_of}
 use Rattle.end_rules.specs.Messages as meant
 use Rattle.pdv_places.specs.declared.places.PdvField.{PdvField}
 use Rattle.pdv_places.specs.Seen.{place_in}
+use Rattle.association_reading.specs.declared.carried.Carriage.{Carriage}
 use Rattle.association_reading.specs.Places.{PdvPlaces}
-use Rattle.association_reading.specs.Contexts.{invalid_at, pdv_fault, form_fault, first_fault}
+use Rattle.association_reading.specs.Contexts.{name_carried, invalid_at, pdv_fault, form_fault, first_fault}
 use Rattle.association_reading.specs.Values.{unless_fault, all_values, value_in, values_under}
 use Rattle.association_reading.specs.Association.{is_left, fault_unless_left, value_or_left, left_values, unasked_value, unasked_values}
 use Rattle.association_reading.specs.Transfers.{unless_wrong, arrived_under}
@@ -47,14 +48,17 @@ module _ (tables : Tables) (at : PdvPlaces) (pdv : Pdv) (pair : Option Pair) whe
 
 -- ---- values under a set
 
-module _ (tables : Tables) (set : List SetItem) (carried : List ℕ) (places : List PdvPlaces) (pdvs : List Pdv) (w : Option Wrong) (first : w ≡ first_wrong 0 (under_set carried set) pdvs) where
-  pub under_right : checked (told_wrong places w) ≡ Ok tt → all_values (value_in tables set) pdvs ≡ values_under tables set carried places pdvs
+module _ (tables : Tables) (set : List SetItem) (carried : Carriage) (places : List PdvPlaces) (pdvs : List Pdv) (w : Option Wrong) (first : w ≡ first_wrong 0 (under_set (name_carried tables carried) set) pdvs) where
+  abbrev name : List ℕ
+  name = name_carried tables carried
+
+  pub under_right : checked (told_wrong places w) ≡ Ok tt → all_values (value_in tables carried set) pdvs ≡ values_under tables set carried places pdvs
   under_right e =
-      judged_right places (under_set carried set) (λ at pdv. pdv_fault carried at pdv (pair_of set pdv.id)) (λ at pdv. told_pdv carried at pdv (pair_of set pdv.id)) pdvs (all_values (value_in tables set) pdvs) w first tt e
+      judged_right places (under_set name set) (λ at pdv. pdv_fault name at pdv (pair_of set pdv.id)) (λ at pdv. told_pdv name at pdv (pair_of set pdv.id)) pdvs (all_values (value_in tables carried set) pdvs) w first tt e
 
   pub under_wrong : (e : Halt) → FailsAs e (checked (told_wrong places w)) → FailsAs e (values_under tables set carried places pdvs)
   under_wrong e h =
-      judged_wrong places (under_set carried set) (λ at pdv. pdv_fault carried at pdv (pair_of set pdv.id)) (λ at pdv. told_pdv carried at pdv (pair_of set pdv.id)) pdvs (all_values (value_in tables set) pdvs) w first e h
+      judged_wrong places (under_set name set) (λ at pdv. pdv_fault name at pdv (pair_of set pdv.id)) (λ at pdv. told_pdv name at pdv (pair_of set pdv.id)) pdvs (all_values (value_in tables carried set) pdvs) w first e h
 
 -- ---- values of which nothing is asked where they are of association control
 

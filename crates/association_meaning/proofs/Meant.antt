@@ -12,9 +12,11 @@ use Rattle.presentation_pdus.specs.declared.place.PpduPlace.TheVariants as place
 use Rattle.presentation_pdus.specs.declared.place.PpduFault.{PpduFault}
 use Rattle.presentation_pdus.specs.declared.place.PpduFault.TheVariants as why
 use Rattle.presentation_pdus.specs.Units.{ppdu_at}
-use Rattle.end_rules.specs.Base.{Base, Fault, acse_name, rtse_name}
+use Rattle.end_rules.specs.Base.{Base, Fault}
 use Rattle.end_rules.specs.State.{Body}
 use Rattle.end_rules.specs.Messages.{Value, Accepting, ProviderReason, UserValues, Word, OfAssociation, Finish, Disconnect, Abort, OfData, Values, OfMarks, Please}
+use Rattle.association_reading.specs.declared.carried.Carriage.{Carriage}
+use Rattle.association_reading.specs.declared.carried.Carriage.TheVariants as carriage
 use Rattle.association_reading.specs.Places.{pdv_places}
 use Rattle.association_reading.specs.Association.{abort_values}
 use Rattle.association_reading.specs.Meaning as reading
@@ -102,7 +104,7 @@ aborted_is base body transport start user (Err why.NoMemory) = refl
 
 -- ---- values alone
 
-module _ (base : Base) (body : Body) (carried : List ℕ) (word : List Value → Word) (carrier : PpduPlace) (start : ℕ) (user : List ℕ) where
+module _ (base : Base) (body : Body) (carried : Carriage) (word : List Value → Word) (carrier : PpduPlace) (start : ℕ) (user : List ℕ) where
   data_is : (r : Read) → reading.with_values word (under base.tables body.sets.held carried (pdv_places carrier start user) (data_in start r)) ≡ reading.on_ppdu start r (reading.data_meaning base body carried word carrier start user)
   data_is (Ok (pdus.Connect p)) = refl
   data_is (Ok (pdus.Accept p)) = refl
@@ -131,7 +133,7 @@ module _ (base : Base) (body : Body) (start : ℕ) where
   plea_is : (tokens : Option ℕ) (user : Option (List ℕ)) → pleaded_with base.tables body.sets.held tokens start user ≡ reading.pleaded_with base body tokens start user
   plea_is None user = refl
   plea_is (Some tokens) None = refl
-  plea_is (Some tokens) (Some user) = data_is base body rtse_name (λ values. OfMarks (Please (Some tokens) values)) place.Pt start user (ppdu_at place.Pt user)
+  plea_is (Some tokens) (Some user) = data_is base body carriage.Transfer (λ values. OfMarks (Please (Some tokens) values)) place.Pt start user (ppdu_at place.Pt user)
 
   restart_is : (number : ℕ) (user : Option (List ℕ)) → restarted_with number start user ≡ reading.restarted_with number start user
   restart_is number None = refl
@@ -146,8 +148,8 @@ module _ (base : Base) (body : Body) (start : ℕ) where
   same (units.Accept options version initial requirements user) =
       accepted_is base (reading.accepting options version initial requirements) start user (ppdu_at place.Ac user)
   same (units.Refuse transport reason user) = refusal_is transport reason user
-  same (units.Finish transport user) = data_is base body acse_name (λ values. OfAssociation (Finish transport values)) place.Fn start user (ppdu_at place.Fn user)
-  same (units.Disconnect user) = data_is base body acse_name (λ values. OfAssociation (Disconnect values)) place.Dn start user (ppdu_at place.Dn user)
+  same (units.Finish transport user) = data_is base body carriage.Association (λ values. OfAssociation (Finish transport values)) place.Fn start user (ppdu_at place.Fn user)
+  same (units.Disconnect user) = data_is base body carriage.Association (λ values. OfAssociation (Disconnect values)) place.Dn start user (ppdu_at place.Dn user)
   same (units.Abort transport user) = abort_is transport user
   same units.AbortAccept = refl
   same (units.GiveTokens tokens) = refl

@@ -14,7 +14,7 @@ use Rattle.osi_base.specs.declared.syntax.Syntax.TheVariants.{Ber}
 use Rattle.osi_base.specs.declared.presentation_word.PresentationConnect.{PresentationConnect}
 use Rattle.osi_base.specs.declared.presentation_word.PresentationAccept.{PresentationAccept}
 use Rattle.stub_tables.specs.declared.tables.Tables.{Tables}
-use Rattle.end_rules.specs.Base.{Base, Fault, Arrived, acse_name}
+use Rattle.end_rules.specs.Base.{Base, Fault, Arrived}
 use Rattle.end_rules.specs.Connecting.{has_acse}
 use Rattle.end_rules.specs.Faults.{fault_at, invalid_ppdu}
 use Rattle.end_rules.specs.Sets.{pair_of}
@@ -22,6 +22,7 @@ use Rattle.end_rules.specs.Messages.{Value}
 use Rattle.pdv_places.specs.declared.places.PdvField.{PdvField}
 use Rattle.pdv_places.specs.declared.places.PdvField.TheVariants as fields
 use Rattle.pdv_places.specs.Seen.{place_in, places_at}
+use Rattle.association_reading.specs.declared.carried.Carriage.TheVariants as carriage
 use Rattle.association_reading.specs.Places.{PdvPlaces}
 use Rattle.association_reading.specs.Contexts.{is_named, is_form, is_carried, invalid_at, pdv_fault}
 use Rattle.association_reading.specs.Values.{values_under, and_informed}
@@ -90,7 +91,7 @@ joined values (Err fault) = Err fault
 -- ---- values of a CN whose list may stand, and of an AC that stands
 
 abbrev pub values_associated : Base → PresentationConnect → List SetItem → List PdvPlaces → Result (List Value) Fault
-values_associated base presentation set places = and_informed base set is_aarq (values_under base.tables set acse_name places presentation.user)
+values_associated base presentation set places = and_informed base set is_aarq (values_under base.tables set carriage.Association places presentation.user)
 
 abbrev pub values_for : Base → PresentationConnect → List SetItem → List PdvPlaces → Result (List Value) Fault
 values_for base presentation set places =
@@ -98,7 +99,7 @@ values_for base presentation set places =
     else left_values base presentation.definitions set places presentation.user
 
 abbrev pub accepted_values : Base → PresentationAccept → List SetItem → List PdvPlaces → Result (List Value) Fault
-accepted_values base presentation set places = and_informed base set is_acceptance (values_under base.tables set acse_name places presentation.user)
+accepted_values base presentation set places = and_informed base set is_acceptance (values_under base.tables set carriage.Association places presentation.user)
 
 -- values of which no contexts are asked
 abbrev pub unasked : Pdv → Option PdvField

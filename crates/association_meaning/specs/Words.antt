@@ -15,9 +15,11 @@ use Rattle.presentation_pdus.specs.declared.place.PpduPlace.TheVariants as place
 use Rattle.presentation_pdus.specs.declared.place.PpduFault.{PpduFault}
 use Rattle.presentation_pdus.specs.Units.{ppdu_at}
 use Rattle.stub_tables.specs.declared.tables.Tables.{Tables}
-use Rattle.end_rules.specs.Base.{Base, Fault, acse_name, rtse_name}
+use Rattle.end_rules.specs.Base.{Base, Fault}
 use Rattle.end_rules.specs.Faults.{invalid_ppdu}
 use Rattle.end_rules.specs.Messages.{Value, Accepting, AbortData, NoData, ProviderReason, UserValues, Word, OfAssociation, Connect, Accept, Refuse, Finish, Disconnect, Abort, AbortAccept, OfData, Values, OfMarks, Mark, MarkAck, Restart, RestartAck, Give, Please, GiveConfirm, GiveAck, OfActivities, Start, Resume, End, EndAck, Interrupt, InterruptAck, Discard, DiscardAck}
+use Rattle.association_reading.specs.declared.carried.Carriage.{Carriage}
+use Rattle.association_reading.specs.declared.carried.Carriage.TheVariants as carriage
 use Rattle.association_reading.specs.Places.{PdvPlaces, pdv_places}
 use Rattle.association_reading.specs.Values.{values_under}
 use Rattle.association_reading.specs.Association.{connect_values, accept_values, refuse_values, abort_values}
@@ -112,20 +114,20 @@ aborted_with base set transport start (Some user) = aborted base set transport s
 
 -- ---- values alone
 
-abbrev pub under : Tables → List SetItem → List ℕ → List PdvPlaces → Result (List Pdv) Fault → Result (List Value) Fault
+abbrev pub under : Tables → List SetItem → Carriage → List PdvPlaces → Result (List Pdv) Fault → Result (List Value) Fault
 under tables held carried places (Ok pdvs) = values_under tables held carried places pdvs
 under tables held carried places (Err fault) = Err fault
 
-abbrev pub values_with : Tables → List SetItem → List ℕ → PpduPlace → ℕ → List ℕ → Result (List Value) Fault
+abbrev pub values_with : Tables → List SetItem → Carriage → PpduPlace → ℕ → List ℕ → Result (List Value) Fault
 values_with tables held carried carrier start user = under tables held carried (pdv_places carrier start user) (data_in start (ppdu_at carrier user))
 
 abbrev pub finished : Tables → List SetItem → Option ℕ → ℕ → List ℕ → Result Word Fault
 finished tables held transport start user =
-    with_values (λ values. OfAssociation (Finish transport values)) (values_with tables held acse_name place.Fn start user)
+    with_values (λ values. OfAssociation (Finish transport values)) (values_with tables held carriage.Association place.Fn start user)
 
 abbrev pub disconnected : Tables → List SetItem → ℕ → List ℕ → Result Word Fault
 disconnected tables held start user =
-    with_values (λ values. OfAssociation (Disconnect values)) (values_with tables held acse_name place.Dn start user)
+    with_values (λ values. OfAssociation (Disconnect values)) (values_with tables held carriage.Association place.Dn start user)
 
 abbrev pub sent : Base → List SetItem → ℕ → List ℕ → Result Word Fault
 sent base held start user =
@@ -133,7 +135,7 @@ sent base held start user =
 
 abbrev pub pleaded : Tables → List SetItem → ℕ → ℕ → List ℕ → Result Word Fault
 pleaded tables held tokens start user =
-    with_values (λ values. OfMarks (Please (Some tokens) values)) (values_with tables held rtse_name place.Pt start user)
+    with_values (λ values. OfMarks (Please (Some tokens) values)) (values_with tables held carriage.Transfer place.Pt start user)
 
 abbrev pub pleaded_with : Tables → List SetItem → Option ℕ → ℕ → Option (List ℕ) → Result Word Fault
 pleaded_with tables held None start user = Ok (OfMarks (Please None []))

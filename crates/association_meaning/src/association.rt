@@ -20,6 +20,7 @@ use crate::names::{acse_name, rtse_name};
 use crate::values::{value_in, values_under};
 use acse::AcseFault;
 use association_ground::{is_reliable, same_name};
+use association_reading::Carriage;
 use association_sets::{fit_proposals, pair_of};
 use association_words::{Content, Value, Values};
 use osi_base::{
@@ -83,7 +84,7 @@ fn value_or_left(
         basis.now.tables.now basis.now.config.now) definitions.now set.now pdv.now) }
 {
     if !is_left(definitions, pdv) {
-        return value_in(basis, set, pdv);
+        return value_in(basis, Carriage::Association, set, pdv);
     }
     Ok(Value {
         id: pdv.id,
@@ -147,7 +148,7 @@ fn values_associated(
     let values = values_under(
         basis,
         set,
-        acse_name(),
+        Carriage::Association,
         carrier,
         presentation.user.as_slice(),
     )?;
@@ -229,7 +230,7 @@ fn accepted_values(
         carrier.now.place carrier.now.start carrier.now.user.now)) }
 {
     let pdvs = presentation.user.as_slice();
-    let values = values_under(basis, accepted, acse_name(), carrier, pdvs)?;
+    let values = values_under(basis, accepted, Carriage::Association, carrier, pdvs)?;
     and_informed(basis, accepted, AcseKind::Acceptance, values)
 }
 

@@ -4,14 +4,16 @@ ghost use Rattle.std.specs.Prelude.{◌≡◌, map, IfOk};
 ghost use Rattle.std.specs.Option.{option_copied};
 ghost use Rattle.acse.specs.Fields as acse_fields;
 ghost use Rattle.rtse_apdus.specs.Reading as rtse_reading;
+ghost use Rattle.association_reading.specs.declared.carried.Carriage.TheVariants as carriages;
 ghost use Rattle.association_reading.specs.Values as reading;
 ghost use Rattle.association_words.specs.Seen.{seen_information, seen_content};
 ghost use Rattle.association_meaning.specs.Grounds.{GivesAs};
 
 use crate::basis::{Ground, Halt, fault_at};
-use crate::names::{acse_name, rtse_name};
+use crate::names::rtse_name;
 use acse::AcseFault;
 use association_ground::same_name;
+use association_reading::Carriage;
 use association_words::{Content, Information, UserInformation};
 use fixed_tables::PduFault;
 use module_contents::content_at;
@@ -117,17 +119,24 @@ fn rtse_content(basis: &Ground<'_>, octets: &[u8]) -> Result<Content, Halt>
     }
 }
 
-/// What octets are under a pair.
-pub(crate) fn content_under(basis: &Ground<'_>, pair: &Pair, octets: &[u8]) -> Result<Content, Halt>
-    ensures { GivesAs seen_content result (reading.content_under basis.now.tables.now pair.now
-        octets.now) }
+/// What octets are under a pair in a message of reliable transfer.
+fn transfer_content(basis: &Ground<'_>, pair: &Pair, octets: &[u8]) -> Result<Content, Halt>
+    ensures { GivesAs seen_content result (reading.content_under basis.now.tables.now
+        carriages.Transfer pair.now octets.now) }
 {
-    let name = pair.abstract_name.arcs();
-    if same_name(name, acse_name()) {
-        acse_content(basis, octets)
-    } else if same_name(name, rtse_name()) {
+    if same_name(pair.abstract_name.arcs(), rtse_name()) {
         rtse_content(basis, octets)
     } else {
+        acse_content(basis, octets)
+    }
+}
+
+/// What octets are under a pair in a message of the module.
+fn module_content(basis: &Ground<'_>, pair: &Pair, octets: &[u8]) -> Result<Content, Halt>
+    ensures { GivesAs seen_content result (reading.content_under basis.now.tables.now
+        carriages.Module pair.now octets.now) }
+{
+    if same_name(pair.abstract_name.arcs(), basis.tables.name_oid.arcs()) {
         Ok(content_at(
             basis.alloc,
             &basis.codecs.heads,
@@ -135,20 +144,40 @@ pub(crate) fn content_under(basis: &Ground<'_>, pair: &Pair, octets: &[u8]) -> R
             pair.transfer,
             octets,
         )?)
+    } else {
+        acse_content(basis, octets)
+    }
+}
+
+/// What octets are under a pair in a message that carries these values.
+pub(crate) fn content_under(
+    basis: &Ground<'_>,
+    carried: Carriage,
+    pair: &Pair,
+    octets: &[u8],
+) -> Result<Content, Halt>
+    ensures { GivesAs seen_content result (reading.content_under basis.now.tables.now carried
+        pair.now octets.now) }
+{
+    match carried {
+        Carriage::Association => acse_content(basis, octets),
+        Carriage::Transfer => transfer_content(basis, pair, octets),
+        Carriage::Module => module_content(basis, pair, octets),
     }
 }
 
 /// What octets are under the pair of their context, where there is one.
 pub(crate) fn content_by(
     basis: &Ground<'_>,
+    carried: Carriage,
     pair: Option<&Pair>,
     octets: &[u8],
 ) -> Result<Content, Halt>
-    ensures { GivesAs seen_content result (reading.content_by basis.now.tables.now (option_copied
-        pair.entry) octets.now) }
+    ensures { GivesAs seen_content result (reading.content_by basis.now.tables.now carried
+        (option_copied pair.entry) octets.now) }
 {
     match pair {
         None => Ok(Content::Unread(Octets::from_slice(basis.alloc, octets)?)),
-        Some(pair) => content_under(basis, pair, octets),
+        Some(pair) => content_under(basis, carried, pair, octets),
     }
 }

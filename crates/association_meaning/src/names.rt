@@ -2,6 +2,10 @@
 
 ghost use Rattle.std.specs.Prelude.{◌≡◌};
 ghost use Rattle.end_rules.specs.Base as rules;
+ghost use Rattle.association_reading.specs.Contexts as reading;
+
+use association_reading::Carriage;
+use stub_tables::Tables;
 
 /// The name of association control (X.227 11).
 pub(crate) fn acse_name() -> &'static [u32]
@@ -15,4 +19,15 @@ pub(crate) fn rtse_name() -> &'static [u32]
     ensures { result.now ≡ rules.rtse_name }
 {
     &[2, 999, 5, 2]
+}
+
+/// The abstract syntax of the values that a message carries.
+pub(crate) fn name_carried<'a>(tables: &'a Tables, carried: Carriage) -> &'a [u32]
+    ensures { result.now ≡ reading.name_carried tables.now carried }
+{
+    match carried {
+        Carriage::Association => acse_name(),
+        Carriage::Transfer => rtse_name(),
+        Carriage::Module => tables.name_oid.arcs(),
+    }
 }

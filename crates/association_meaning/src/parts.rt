@@ -14,9 +14,9 @@ ghost use Rattle.association_meaning.specs.Words as words;
 use crate::association::{abort_values, accept_values, connect_values, refuse_values};
 use crate::basis::{Ground, Halt, fault_at, invalid_ppdu};
 use crate::contexts::Carrier;
-use crate::names::{acse_name, rtse_name};
 use crate::values::values_under;
 use association_ground::is_reliable;
+use association_reading::Carriage;
 use association_words::{AbortData, Accepting, AssociationWord, DataWord, MarkWord, Values, Word};
 use osi_base::{
     Copied, Layer, ListOf, NoMemory, Octets, Pdv, Pdvs, PresentationAccept, PresentationConnect,
@@ -348,16 +348,16 @@ pub(crate) fn aborted_with(
     }
 }
 
-/// Values alone in user data, of one abstract syntax, under the held set.
+/// Values alone in user data under the held set.
 fn values_with(
     basis: &Ground<'_>,
     held: &[SetItem],
-    carried: &[u32],
+    carried: Carriage,
     carrier: &Carrier<'_>,
 ) -> Result<Values, Halt>
     requires { carrier.now.start + length carrier.now.user.now < 2 ^ 63 }
     ensures { GivesAs seen_values result (words.values_with basis.now.tables.now held.now
-        carried.now carrier.now.place carrier.now.start carrier.now.user.now) }
+        carried carrier.now.place carrier.now.start carrier.now.user.now) }
 {
     let pdvs = data_in(basis, carrier)?;
     values_under(basis, held, carried, carrier, pdvs.as_slice())
@@ -380,7 +380,7 @@ pub(crate) fn finish_meaning(
         start,
         user,
     };
-    let values = values_with(basis, held, acse_name(), &carrier)?;
+    let values = values_with(basis, held, Carriage::Association, &carrier)?;
     Ok(Word::OfAssociation(AssociationWord::Finish { transport, values }))
 }
 
@@ -400,19 +400,19 @@ pub(crate) fn disconnect_meaning(
         start,
         user,
     };
-    let values = values_with(basis, held, acse_name(), &carrier)?;
+    let values = values_with(basis, held, Carriage::Association, &carrier)?;
     Ok(Word::OfAssociation(AssociationWord::Disconnect { values }))
 }
 
-/// The abstract syntax of the values that DT carries.
-fn carried_by_data<'a>(basis: &Ground<'a>) -> &'a [u32]
-    ensures { result.now ≡ reading.carried_by_data (association_base basis.now.tables.now
+/// The values that DT carries.
+fn carried_by_data(basis: &Ground<'_>) -> Carriage
+    ensures { result ≡ reading.carried_by_data (association_base basis.now.tables.now
         basis.now.config.now) }
 {
     if is_reliable(basis.config.mode) {
-        rtse_name()
+        Carriage::Transfer
     } else {
-        basis.tables.name_oid.arcs()
+        Carriage::Module
     }
 }
 
@@ -453,7 +453,7 @@ fn plea_meaning(
         start,
         user,
     };
-    let values = values_with(basis, held, rtse_name(), &carrier)?;
+    let values = values_with(basis, held, Carriage::Transfer, &carrier)?;
     Ok(Word::OfMarks(MarkWord::Please {
         tokens: Some(tokens),
         values,

@@ -13,6 +13,7 @@ ghost use Rattle.association_meaning.specs.Steps as steps;
 use crate::basis::{Ground, Halt, fault_at};
 use crate::contexts::pdv_wrong;
 use crate::layers::content_under;
+use association_reading::Carriage;
 use association_sets::pair_of;
 use association_words::{Arrived, Content, Item};
 use fixed_tables::PduFault;
@@ -69,7 +70,8 @@ fn arrived_under(
     let Some(pair) = pair else {
         return invalid_at(basis, octets, PdvField::Identifier);
     };
-    let content = content_under(basis, pair, pdv.content.octets().as_slice())?;
+    let value = pdv.content.octets().as_slice();
+    let content = content_under(basis, Carriage::Module, pair, value)?;
     arrived_as(basis, octets, pdv.id, pair, content)
 }
 

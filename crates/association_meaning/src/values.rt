@@ -10,6 +10,8 @@ ghost use Rattle.association_meaning.specs.Grounds.{GivesAs};
 use crate::basis::{Ground, Halt};
 use crate::contexts::{Carrier, check, first_wrong};
 use crate::layers::content_by;
+use crate::names::name_carried;
+use association_reading::Carriage;
 use association_sets::pair_of;
 use association_words::{Value, Values};
 use osi_base::{Copied, ListOf, NoMemory, Pair, Pdv, SetItem};
@@ -26,11 +28,16 @@ fn copied(alloc: Global, pair: Option<&Pair>) -> Result<Option<Pair>, NoMemory>
 }
 
 /// A value under the pair of its context, where there is one.
-fn value_by(basis: &Ground<'_>, pair: Option<&Pair>, pdv: &Pdv) -> Result<Value, Halt>
-    ensures { GivesAs seen_value result (reading.value_by basis.now.tables.now (option_copied
-        pair.entry) pdv.now) }
+fn value_by(
+    basis: &Ground<'_>,
+    carried: Carriage,
+    pair: Option<&Pair>,
+    pdv: &Pdv,
+) -> Result<Value, Halt>
+    ensures { GivesAs seen_value result (reading.value_by basis.now.tables.now carried
+        (option_copied pair.entry) pdv.now) }
 {
-    let content = content_by(basis, pair, pdv.content.octets().as_slice())?;
+    let content = content_by(basis, carried, pair, pdv.content.octets().as_slice())?;
     let pair = copied(basis.alloc, pair)?;
     Ok(Value {
         id: pdv.id,
@@ -40,39 +47,49 @@ fn value_by(basis: &Ground<'_>, pair: Option<&Pair>, pdv: &Pdv) -> Result<Value,
 }
 
 /// A value under a set.
-pub(crate) fn value_in(basis: &Ground<'_>, set: &[SetItem], pdv: &Pdv) -> Result<Value, Halt>
-    ensures { GivesAs seen_value result (reading.value_in basis.now.tables.now set.now pdv.now) }
+pub(crate) fn value_in(
+    basis: &Ground<'_>,
+    carried: Carriage,
+    set: &[SetItem],
+    pdv: &Pdv,
+) -> Result<Value, Halt>
+    ensures { GivesAs seen_value result (reading.value_in basis.now.tables.now carried set.now
+        pdv.now) }
 {
-    value_by(basis, pair_of(set, pdv.id), pdv)
+    value_by(basis, carried, pair_of(set, pdv.id), pdv)
 }
 
 /// Values under a set, one after the other.
-fn all_in(basis: &Ground<'_>, set: &[SetItem], pdvs: &[Pdv]) -> Result<Values, Halt>
+fn all_in(
+    basis: &Ground<'_>,
+    carried: Carriage,
+    set: &[SetItem],
+    pdvs: &[Pdv],
+) -> Result<Values, Halt>
     ensures { GivesAs seen_values result (reading.all_values (reading.value_in basis.now.tables.now
-        set.now) pdvs.now) }
+        carried set.now) pdvs.now) }
 {
     let mut values: Values = ListOf::new(basis.alloc);
     for pdv in pdvs {
-        let value = value_in(basis, set, pdv)?;
+        let value = value_in(basis, carried, set, pdv)?;
         values.push(value)?;
     }
     Ok(values)
 }
 
-/// Values of a message that carries those of this abstract syntax: the contexts and forms of all,
-/// then what each is.
+/// Values of a message that carries these: the contexts and forms of all, then what each is.
 pub(crate) fn values_under(
     basis: &Ground<'_>,
     set: &[SetItem],
-    carried: &[u32],
+    carried: Carriage,
     carrier: &Carrier<'_>,
     pdvs: &[Pdv],
 ) -> Result<Values, Halt>
     requires { carrier.now.start + length carrier.now.user.now < 2 ^ 63 }
     ensures { GivesAs seen_values result (reading.values_under basis.now.tables.now set.now
-        carried.now (pdv_places carrier.now.place carrier.now.start carrier.now.user.now)
-        pdvs.now) }
+        carried (pdv_places carrier.now.place carrier.now.start carrier.now.user.now) pdvs.now) }
 {
-    check(basis, carrier, first_wrong(carried, set, pdvs))?;
-    all_in(basis, set, pdvs)
+    let name = name_carried(basis.tables, carried);
+    check(basis, carrier, first_wrong(name, set, pdvs))?;
+    all_in(basis, carried, set, pdvs)
 }

@@ -33,6 +33,7 @@ use Rattle.end_rules.specs.Writing.{acse_pair}
 use Rattle.end_rules.specs.Connecting.{set_for, set_accepted, has_acse}
 use Rattle.end_rules.specs.Policy.{is_faulty_proposal}
 use Rattle.association_wire.specs.Values.{with_user as user_put, external_of, pdv_of, pdvs_of}
+use Rattle.association_reading.specs.declared.carried.Carriage.TheVariants as carriage
 use Rattle.association_reading.specs.Places.{PdvPlaces, pdv_places}
 use Rattle.association_reading.specs.Contexts.{pdv_fault, first_place}
 use Rattle.association_reading.specs.Values.{without_user, externals_of, other, acse_content, with_content, value_by, before_values, unless_fault, values_under, informed, first_informed, with_user, informed_value, and_informed}
@@ -151,10 +152,10 @@ module _ (base : Base) (accepted : List SetItem) (is_kind : Acse → Bool) (keep
 
   -- on its context
   under-back : (tables : Tables) (places : List PdvPlaces) (values : List Value) (one : CarriesOne base accepted is_kind values) → pair_of accepted one.id ≡ Some acse_pair
-      → and_informed base accepted is_kind (values_under tables accepted acse_name places (pdvs_of tables (value_so one.id one.apdu one.user ∷ []))) ≡ the_values (value_so one.id one.apdu one.user ∷ [])
+      → and_informed base accepted is_kind (values_under tables accepted carriage.Association places (pdvs_of tables (value_so one.id one.apdu one.user ∷ []))) ≡ the_values (value_so one.id one.apdu one.user ∷ [])
   under-back tables places values one on_it =
       ap (λ (p : Option Pair). and_informed base accepted is_kind
-      (unless_fault (or_fault (pdv_fault acse_name (first_place places) (pdv_of tables (value_so one.id one.apdu one.user)) p) None) (before_values (value_by tables p (pdv_of tables (value_so one.id one.apdu one.user))) (the_values []))))
+      (unless_fault (or_fault (pdv_fault acse_name (first_place places) (pdv_of tables (value_so one.id one.apdu one.user)) p) None) (before_values (value_by tables carriage.Association p (pdv_of tables (value_so one.id one.apdu one.user))) (the_values []))))
       on_it
       ∙ ap (λ (r : Result Content Fault). and_informed base accepted is_kind (before_values (with_content one.id (Some acse_pair) r) (the_values []))) (content-back values one)
       ∙ informed-back values one
@@ -189,10 +190,10 @@ associations = record {
         let set : List SetItem = set_for base presentation in
         let words : List Value → Word = λ vs. OfAssociation (Connect (record session { user = [] }) (record presentation { user = [] }) vs) in
         let places : List PdvPlaces = pdv_places place.Cn start user in
-        let under : Result (List Value) Fault = and_informed base set is_aarq (values_under base.tables set acse_name places (pdvs_of base.tables values)) in
+        let under : Result (List Value) Fault = and_informed base set is_aarq (values_under base.tables set carriage.Association places (pdvs_of base.tables values)) in
         let otherwise : Result (List Value) Fault = left_values base presentation.definitions set places (pdvs_of base.tables values) in
         let is : under ≡ the_values values =
-        ap (λ (vs : List Value). and_informed base set is_aarq (values_under base.tables set acse_name places (pdvs_of base.tables vs))) h.one.is_one
+        ap (λ (vs : List Value). and_informed base set is_aarq (values_under base.tables set carriage.Association places (pdvs_of base.tables vs))) h.one.is_one
         ∙ under-back base set is_aarq keeps-aarq base.tables places values h.one h.on_it ∙ ap the_values (sym h.one.is_one) in
         ap (λ (r : Result PresentationWord PpduFault). on_ppdu start r (connect_meaning base (record session { user = user }) start)) (read_in place.Cn (ppdus.Connect (record presentation { user = pdvs_of base.tables values })) w)
         ∙ ap (λ (b : Bool). with_values words (if b then Ok [] else (if has_acse set then under else otherwise))) faulty
@@ -209,9 +210,9 @@ associations = record {
         let set : List SetItem = set_accepted base presentation in
         let words : List Value → Word = λ vs. OfAssociation (Accept session (record presentation { user = [] }) vs) in
         let places : List PdvPlaces = pdv_places place.Ac start user in
-        let under : Result (List Value) Fault = and_informed base set is_acceptance (values_under base.tables set acse_name places (pdvs_of base.tables values)) in
+        let under : Result (List Value) Fault = and_informed base set is_acceptance (values_under base.tables set carriage.Association places (pdvs_of base.tables values)) in
         let is : under ≡ the_values values =
-        ap (λ (vs : List Value). and_informed base set is_acceptance (values_under base.tables set acse_name places (pdvs_of base.tables vs))) h.one.is_one
+        ap (λ (vs : List Value). and_informed base set is_acceptance (values_under base.tables set carriage.Association places (pdvs_of base.tables vs))) h.one.is_one
         ∙ under-back base set is_acceptance keeps-acceptance base.tables places values h.one h.on_it ∙ ap the_values (sym h.one.is_one) in
         ap (λ (r : Result PresentationWord PpduFault). on_ppdu start r (accept_meaning base session start user)) (read_in place.Ac (ppdus.Accept (record presentation { user = pdvs_of base.tables values })) w)
         ∙ ap (λ (b : Bool). with_values words (if b then under else Ok [])) fits

@@ -29,7 +29,7 @@ use Rattle.presentation_pdus.specs.declared.place.PpduFault.{PpduFault}
 use Rattle.presentation_pdus.specs.Words.{written_ppdu}
 use Rattle.ppdu_laws.proofs.UnitsBack.{written_ppdu_is_read}
 use Rattle.presentation_pdus.specs.Units.{ppdu_at}
-use Rattle.end_rules.specs.Base.{Base, Fault, Head, acse_name, rtse_name}
+use Rattle.end_rules.specs.Base.{Base, Fault, Head}
 use Rattle.end_rules.specs.Hearing.{syntax_of}
 use Rattle.end_wire.specs.Heads.{apdu_of}
 use Rattle.end_rules.specs.Sets.{pair_of}
@@ -37,8 +37,10 @@ use Rattle.end_rules.specs.Faults.{or_fault}
 use Rattle.end_rules.specs.State.{Body}
 use Rattle.end_wire.specs.Values.{content_of}
 use Rattle.end_wire.proofs.ContentLaws.{said_is, spelled_said}
+use Rattle.association_reading.specs.declared.carried.Carriage.{Carriage}
+use Rattle.association_reading.specs.declared.carried.Carriage.TheVariants as carriage
 use Rattle.association_reading.specs.Places.{PdvPlaces, pdv_places}
-use Rattle.association_reading.specs.Contexts.{is_form, pdv_fault, first_place, other_places, first_fault}
+use Rattle.association_reading.specs.Contexts.{is_form, name_carried, pdv_fault, first_place, other_places, first_fault}
 use Rattle.association_reading.specs.Meaning.{on_ppdu, with_values, data_meaning, carried_by_data, typed_meaning, restart_meaning, restart_ack_meaning}
 
 -- ---- words of the session alone
@@ -104,7 +106,7 @@ octets_are Ber octets = refl
 octets_are Der octets = refl
 octets_are Packed octets = refl
 
-module _ (tables : Tables) (set : List SetItem) (carried : List ℕ) where
+module _ (tables : Tables) (set : List SetItem) (carried : Carriage) where
   -- a value as it was written under this pair
   abbrev written_as : ℕ → Pair → Content → Pdv
   written_as id pair content = record { transfer = None; id = id; content = in_form pair.transfer (content_octets tables pair.transfer content) }
@@ -113,19 +115,19 @@ module _ (tables : Tables) (set : List SetItem) (carried : List ℕ) where
   same_pdv v h = ap (λ (p : Option Pair). let x : Pdv = record { transfer = None; id = v.id; content = in_form (syntax_of p) (content_octets tables (syntax_of p) v.content) } in x) h.has_pair
 
   abbrev fault_at_place : PdvPlaces → Pdv → Option Fault
-  fault_at_place at pdv = pdv_fault carried at pdv (pair_of set pdv.id)
+  fault_at_place at pdv = pdv_fault (name_carried tables carried) at pdv (pair_of set pdv.id)
 
   no_fault : (v : Value) (at : PdvPlaces) → IsMeant tables set carried v → fault_at_place at (pdv_of tables v) ≡ None
   no_fault v at h =
       ap (λ (pdv : Pdv). fault_at_place at pdv) (same_pdv v h)
-      ∙ ap (λ (p : Option Pair). pdv_fault carried at (written_as v.id h.pair v.content) p) h.in_set
+      ∙ ap (λ (p : Option Pair). pdv_fault (name_carried tables carried) at (written_as v.id h.pair v.content) p) h.in_set
       ∙ rw (h.carries, form_is h.pair.transfer (content_octets tables h.pair.transfer v.content)) refl
 
-  value_back : (v : Value) → IsMeant tables set carried v → value_in tables set (pdv_of tables v) ≡ Ok v
+  value_back : (v : Value) → IsMeant tables set carried v → value_in tables carried set (pdv_of tables v) ≡ Ok v
   value_back v h =
-      ap (λ (pdv : Pdv). value_in tables set pdv) (same_pdv v h)
-      ∙ ap (λ (p : Option Pair). value_by tables p (written_as v.id h.pair v.content)) h.in_set
-      ∙ ap (λ (os : List ℕ). with_content v.id (Some h.pair) (content_under tables h.pair os)) (octets_are h.pair.transfer (content_octets tables h.pair.transfer v.content))
+      ap (λ (pdv : Pdv). value_in tables carried set pdv) (same_pdv v h)
+      ∙ ap (λ (p : Option Pair). value_by tables carried p (written_as v.id h.pair v.content)) h.in_set
+      ∙ ap (λ (os : List ℕ). with_content v.id (Some h.pair) (content_under tables carried h.pair os)) (octets_are h.pair.transfer (content_octets tables h.pair.transfer v.content))
       ∙ ap (λ (r : Result Content Fault). with_content v.id (Some h.pair) r) h.content
       ∙ ap (λ (p : Option Pair). let x : Result Value Fault = Ok (record { id = v.id; pair = p; content = v.content }) in x) (sym h.has_pair)
 
@@ -135,18 +137,18 @@ module _ (tables : Tables) (set : List SetItem) (carried : List ℕ) where
       ap (λ (f : Option Fault). or_fault f (first_fault fault_at_place (other_places places) (pdvs_of tables vs))) (no_fault v (first_place places) h.0)
       ∙ no_faults vs (other_places places) h.1
 
-  values_back : (vs : List Value) → AreMeantIn tables set carried vs → all_values (value_in tables set) (pdvs_of tables vs) ≡ Ok vs
+  values_back : (vs : List Value) → AreMeantIn tables set carried vs → all_values (value_in tables carried set) (pdvs_of tables vs) ≡ Ok vs
   values_back [] h = refl
   values_back (v ∷ vs) h =
-      ap (λ (r : Result Value Fault). before_values r (all_values (value_in tables set) (pdvs_of tables vs))) (value_back v h.0)
+      ap (λ (r : Result Value Fault). before_values r (all_values (value_in tables carried set) (pdvs_of tables vs))) (value_back v h.0)
       ∙ ap (λ (r : Result (List Value) Fault). before_values (Ok v) r) (values_back vs h.1)
 
   all_back : (vs : List Value) (places : List PdvPlaces) → AreMeantIn tables set carried vs → values_under tables set carried places (pdvs_of tables vs) ≡ Ok vs
   all_back vs places h =
-      ap (λ (f : Option Fault). unless_fault f (all_values (value_in tables set) (pdvs_of tables vs))) (no_faults vs places h)
+      ap (λ (f : Option Fault). unless_fault f (all_values (value_in tables carried set) (pdvs_of tables vs))) (no_faults vs places h)
       ∙ values_back vs h
 
-data_back : (base : Base) (body : Body) (carried : List ℕ) (word : List Value → Word) (carrier : PpduPlace) (start : ℕ) (vs : List Value)
+data_back : (base : Base) (body : Body) (carried : Carriage) (word : List Value → Word) (carrier : PpduPlace) (start : ℕ) (vs : List Value)
     → IsWrittenIn carrier (ppdus.Data (pdvs_of base.tables vs)) → AreMeantIn base.tables body.sets.held carried vs
     → on_ppdu start (ppdu_at carrier (written_ppdu (ppdus.Data (pdvs_of base.tables vs)))) (data_meaning base body carried word carrier start (written_ppdu (ppdus.Data (pdvs_of base.tables vs)))) ≡ Ok (word vs)
 data_back base body carried word carrier start vs back meant =
@@ -157,17 +159,17 @@ data_back base body carried word carrier start vs back meant =
 pub data_words : DataAreReadBack
 data_words = record {
   values = λ base body start v vs back meant. data_back base body (carried_by_data base) (λ values. OfData (Values values)) place.Dt start (v ∷ vs) back meant;
-  please = λ base body start tokens v vs back meant. data_back base body rtse_name (λ values. OfMarks (Please (Some tokens) values)) place.Pt start (v ∷ vs) back meant;
-  finish = λ base body start transport v vs back meant. data_back base body acse_name (λ values. OfAssociation (Finish transport values)) place.Fn start (v ∷ vs) back meant;
-  disconnect = λ base body start v vs back meant. data_back base body acse_name (λ values. OfAssociation (Disconnect values)) place.Dn start (v ∷ vs) back meant;
+  please = λ base body start tokens v vs back meant. data_back base body carriage.Transfer (λ values. OfMarks (Please (Some tokens) values)) place.Pt start (v ∷ vs) back meant;
+  finish = λ base body start transport v vs back meant. data_back base body carriage.Association (λ values. OfAssociation (Finish transport values)) place.Fn start (v ∷ vs) back meant;
+  disconnect = λ base body start v vs back meant. data_back base body carriage.Association (λ values. OfAssociation (Disconnect values)) place.Dn start (v ∷ vs) back meant;
 }
 
 pub remote_content : RemoteIsReadBack
-remote_content tables pair apdu readable writable other_acse other_rtse =
+remote_content tables pair apdu readable writable of_module =
     let octets : List ℕ = written_apdu tables pair.transfer apdu in
     let s = written_spelled tables readable pair.transfer apdu writable in
     let found = ap (λ (h : Head). content_of octets (apdu_of tables h)) (spelled_said tables pair.transfer readable apdu octets s) ∙ ap (content_of octets) (said_is tables pair.transfer readable apdu s.head s.says) in
-    rw (other_acse, other_rtse) (ap (λ (c : Content). let x : Result Content Fault = Ok c in x) found)
+    rw of_module (ap (λ (c : Content). let x : Result Content Fault = Ok c in x) found)
 
 without_none : (apdu : Acse) → user_put [] (without_user apdu) ≡ without_user apdu
 without_none (acse.AssociateRequest version context user) = refl
@@ -184,13 +186,13 @@ alone_said (acse.ReleaseResponse reason) = refl
 alone_said (acse.Abort source user) = refl
 
 pub association_content : AssociationIsReadBack
-association_content tables pair apdu writable is_acse =
+association_content tables pair apdu writable =
     let read : acse_at (written_acse (user_put [] (without_user apdu))) ≡ Ok (without_user apdu) =
     ap (λ (a : Acse). acse_at (written_acse a)) (without_none apdu) ∙ (written_acse_is_read (without_user apdu) writable).1 in
-    rw is_acse (ap acse_content read ∙ ap (λ (c : Content). let x : Result Content Fault = Ok c in x) (alone_said apdu))
+    ap acse_content read ∙ ap (λ (c : Content). let x : Result Content Fault = Ok c in x) (alone_said apdu)
 
 pub transfer_contents : TransferWordsAreReadBack
 transfer_contents = record {
-  plea = λ tables pair priority writable other_acse is_rtse. rw (other_acse, is_rtse) (ap rtse_content (written_rtse_is_read (rtse.TurnPlease priority) writable).1);
-  part = λ tables pair octets writable other_acse is_rtse. rw (other_acse, is_rtse) (ap rtse_content (written_rtse_is_read (rtse.Transfer octets) writable).1);
+  plea = λ tables pair priority writable is_rtse. rw is_rtse (ap rtse_content (written_rtse_is_read (rtse.TurnPlease priority) writable).1);
+  part = λ tables pair octets writable is_rtse. rw is_rtse (ap rtse_content (written_rtse_is_read (rtse.Transfer octets) writable).1);
 }

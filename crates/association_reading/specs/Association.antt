@@ -19,6 +19,7 @@ use Rattle.end_rules.specs.Messages.{Content, Unread, Value}
 use Rattle.end_rules.specs.Policy.{is_faulty_proposal}
 use Rattle.end_rules.specs.Writing.{proposals, acse_pair}
 use Rattle.end_rules.specs.Connecting.{Associated, is_request, is_accepting, set_for, set_accepted, has_acse, has_rtse}
+use Rattle.association_reading.specs.declared.carried.Carriage.TheVariants as carriage
 use Rattle.association_reading.specs.Places.{PdvPlaces}
 use Rattle.association_reading.specs.Contexts.{pdv_fault, form_fault, first_fault}
 use Rattle.association_reading.specs.Values.{associated, acse_content, with_content, value_in, all_values, unless_fault, values_under, and_informed}
@@ -60,7 +61,7 @@ abbrev pub fault_unless_left : List Proposal → List SetItem → PdvPlaces → 
 fault_unless_left definitions set at pdv = if is_left definitions pdv then None else pdv_fault acse_name at pdv (pair_of set pdv.id)
 
 abbrev pub value_or_left : Base → List Proposal → List SetItem → Pdv → Result Value Fault
-value_or_left base definitions set pdv = if is_left definitions pdv then Ok (left_value pdv) else value_in base.tables set pdv
+value_or_left base definitions set pdv = if is_left definitions pdv then Ok (left_value pdv) else value_in base.tables carriage.Association set pdv
 
 abbrev pub left_values : Base → List Proposal → List SetItem → List PdvPlaces → List Pdv → Result (List Value) Fault
 left_values base definitions set places pdvs =
@@ -71,7 +72,7 @@ abbrev pub connect_values : Base → PresentationConnect → List PdvPlaces → 
 connect_values base presentation places =
     if is_faulty_proposal true [] presentation.definitions then Ok []
     else (if has_acse (set_for base presentation)
-    then and_informed base (set_for base presentation) is_aarq (values_under base.tables (set_for base presentation) acse_name places presentation.user)
+    then and_informed base (set_for base presentation) is_aarq (values_under base.tables (set_for base presentation) carriage.Association places presentation.user)
     else left_values base presentation.definitions (set_for base presentation) places presentation.user)
 
 -- ---- AC: results that don't fit, or that leave a context of the association, end it before values are looked at
@@ -84,7 +85,7 @@ stands base presentation =
 abbrev pub accept_values : Base → PresentationAccept → List PdvPlaces → Result (List Value) Fault
 accept_values base presentation places =
     if stands base presentation
-    then and_informed base (set_accepted base presentation) is_acceptance (values_under base.tables (set_accepted base presentation) acse_name places presentation.user)
+    then and_informed base (set_accepted base presentation) is_acceptance (values_under base.tables (set_accepted base presentation) carriage.Association places presentation.user)
     else Ok []
 
 -- ---- RF and AB: no contexts are asked; values are APDUs of association control in BER

@@ -1,10 +1,15 @@
 -- Worked messages of direct mode as they are read, and faulty ones.
-use Rattle.std.specs.Prelude.{ℕ, List, [], ◌∷◌, length, true, Option, Some, None, Result, Ok, Err}
+use Rattle.std.specs.Prelude.{ℕ, pos, List, [], ◌∷◌, length, true, Option, Some, None, Result, Ok, Err}
 use Rattle.osi_base.specs.declared.words.SetItem.{SetItem}
 use Rattle.dialogue.specs.declared.config.Mode.TheVariants.{Direct}
 use Rattle.dialogue.specs.declared.config.Phase.TheVariants.{Up}
-use Rattle.end_rules.specs.Base.{Base, Fault, base_of}
-use Rattle.end_rules.specs.Messages.{Word, Message, Transport, Session}
+use Rattle.asn1_types.specs.Value.{integer}
+use Rattle.stub_tables.specs.declared.tables.Tables.{Tables}
+use Rattle.stub_tables.specs.declared.apdu.Apdu.TheVariants as apdus
+use Rattle.stub_tables.specs.declared.operation.Code.TheVariants.{Local}
+use Rattle.end_rules.specs.Base.{Base, Fault, base_of, acse_name}
+use Rattle.end_rules.specs.Messages.{Remote, OfData, Values, Word, Message, Transport, Session}
+use Rattle.end_rules.specs.Writing.{acse_pair}
 use Rattle.end_rules.specs.Cases.{config_of, module_name}
 use Rattle.end_rules.specs.State.{Body, Carrying, new_body}
 use Rattle.association_wire.specs.Cases.{calc, in_ber, accepted}
@@ -41,17 +46,39 @@ abbrev pub session_message : Result Word Fault → Option (Result Message Fault)
 session_message (Ok word) = Some (Ok (Session word))
 session_message (Err fault) = Some (Err fault)
 
-abbrev pub message_in : Body → Front → Option (Result Message Fault)
-message_in body Short = None
-message_in body (OfTransport unit) = Some (Ok (Transport unit))
-message_in body (OfSession unit start) = session_message (meaning base body unit start)
-message_in body (Faulty layer at) = Some (Err (grammar_fault body layer at))
+abbrev pub message_by : Base → Body → Front → Option (Result Message Fault)
+message_by own body Short = None
+message_by own body (OfTransport unit) = Some (Ok (Transport unit))
+message_by own body (OfSession unit start) = session_message (meaning own body unit start)
+message_by own body (Faulty layer at) = Some (Err (grammar_fault body layer at))
 
 abbrev pub front_in : List ℕ → Front
 front_in octets = first_in (with_octets octets nothing_came)
 
+abbrev pub read_by : Base → Body → List ℕ → Option (Result Message Fault)
+read_by own body octets = message_by own body (front_in octets)
+
 abbrev pub read_as : Body → List ℕ → Option (Result Message Fault)
-read_as body octets = message_in body (front_in octets)
+read_as body octets = read_by base body octets
+
+-- an end of a module that has the name of association control, with context 1 for association control, and 5 for the module
+abbrev pub namesake : Tables
+namesake = record calc { name_oid = acse_name }
+
+abbrev pub namesake_base : Base
+namesake_base = base_of namesake (config_of true Direct) (association_spellings namesake)
+
+abbrev pub namesake_up : Body
+namesake_up = with_sets (in_ber 1 acse_name ∷ in_ber 5 acse_name ∷ []) (new_body namesake_base)
+
+-- its invocation of the first operation with 5, on context 5
+abbrev pub namesake_five : Message
+namesake_five =
+    Session (OfData (Values (record {
+      id = 5;
+      pair = Some acse_pair;
+      content = Remote (apdus.Invoke (pos 1) None (Local (pos 1)) (Some (integer (pos 5))));
+    } ∷ [])))
 
 -- an invocation on context 5 in BER, with the name of the packed syntax
 abbrev pub named_invoke_octets : List ℕ

@@ -9,9 +9,12 @@ use Rattle.osi_base.specs.declared.words.Layer.TheVariants as layers
 use Rattle.osi_base.specs.declared.presentation_word.Pdv.{Pdv}
 use Rattle.osi_base.specs.declared.presentation_word.PdvContent.{PdvContent}
 use Rattle.osi_base.specs.declared.presentation_word.PdvContent.TheVariants as forms
-use Rattle.end_rules.specs.Base.{Fault, acse_name}
+use Rattle.stub_tables.specs.declared.tables.Tables.{Tables}
+use Rattle.end_rules.specs.Base.{Fault, acse_name, rtse_name}
 use Rattle.end_rules.specs.Sets.{same_name}
 use Rattle.end_rules.specs.Faults.{fault_at, fault_if, or_fault}
+use Rattle.association_reading.specs.declared.carried.Carriage.{Carriage}
+use Rattle.association_reading.specs.declared.carried.Carriage.TheVariants as carriage
 use Rattle.association_reading.specs.Places.{PdvPlaces}
 
 -- an invalid unit (6) at this place
@@ -30,6 +33,12 @@ is_form Ber (forms.SingleAsn1Type octets) = true
 is_form Der (forms.SingleAsn1Type octets) = true
 is_form Packed (forms.SingleAsn1Type octets) = false
 is_form syntax (forms.Arbitrary bits) = false
+
+-- the abstract syntax of the values that a message carries
+abbrev pub name_carried : Tables → Carriage → List ℕ
+name_carried tables carriage.Association = acse_name
+name_carried tables carriage.Transfer = rtse_name
+name_carried tables carriage.Module = tables.name_oid
 
 -- A message carries values of one abstract syntax. One of association control elsewhere is a fault of association control,
 -- and none of the presentation.

@@ -10,7 +10,7 @@ use Rattle.association_wire.specs.Written.{request_ends, confirm_ends, written_u
 use Rattle.end_rules.specs.Messages.{Association, Plea, Part, TransportUnit, ConnectionRequest, ConnectionConfirm, DisconnectRequest, Remote, Value, NoData, Word, OfAssociation, Refuse, Finish, Disconnect, Abort, AbortAccept, OfData, Values, AlterContext, AlterContextAck, OfMarks, Mark, MarkAck, Restart, RestartAck, Give, Please, GiveConfirm, GiveAck, OfActivities, Session, unit_of}
 use Rattle.association_reading.specs.Front.{Short, OfTransport, OfSession, first_in, with_octets, nothing_came}
 use Rattle.association_reading.specs.Values.{without_user, content_under}
-use Rattle.std.specs.Prelude.{◌≡◌, ℕ, ◌<◌, ◌≤◌, List, [], ◌∷◌, ◌++◌, length, true, false, Option, Some, None, Ok}
+use Rattle.std.specs.Prelude.{◌≡◌, ℕ, ◌<◌, ◌≤◌, List, [], ◌∷◌, ◌++◌, length, true, Option, Some, None, Ok}
 use Rattle.osi_base.specs.declared.syntax.Pair.{Pair}
 use Rattle.osi_base.specs.declared.words.SetItem.{SetItem}
 use Rattle.osi_base.specs.declared.words.Proposal.{Proposal}
@@ -27,12 +27,14 @@ use Rattle.spdu_codec.specs.Written.{AreWritable}
 use Rattle.presentation_pdus.specs.declared.place.PpduPlace.{PpduPlace}
 use Rattle.presentation_pdus.specs.declared.place.PpduPlace.TheVariants as place
 use Rattle.ppdu_laws.specs.Written.{IsWritable as IsWritablePpdu}
-use Rattle.end_rules.specs.Base.{Base, acse_name, rtse_name}
+use Rattle.end_rules.specs.Base.{Base, rtse_name}
 use Rattle.end_rules.specs.Sets.{same_name, pair_of}
 use Rattle.end_rules.specs.State.{Body}
 use Rattle.association_wire.specs.Values.{content_octets, pdvs_of}
 use Rattle.association_wire.specs.Units.{user_octets}
-use Rattle.association_reading.specs.Contexts.{is_carried}
+use Rattle.association_reading.specs.declared.carried.Carriage.{Carriage}
+use Rattle.association_reading.specs.declared.carried.Carriage.TheVariants as carriage
+use Rattle.association_reading.specs.Contexts.{name_carried, is_carried}
 use Rattle.association_reading.specs.Meaning.{meaning, carried_by_data}
 
 -- ---- what stands first
@@ -86,16 +88,16 @@ pub record AlterationsAreReadBack : Type 0 where
 
 -- ---- values
 
--- a value is meant under a set in a message that carries values of this abstract syntax: its pair is that of its context,
--- and its content is what its octets are under the pair
-pub record IsMeant (tables : Tables) (set : List SetItem) (carried : List ℕ) (value : Value) : Type 0 where
+-- a value is meant under a set in a message that carries these values: its pair is that of its context, and its content is
+-- what its octets are under the pair
+pub record IsMeant (tables : Tables) (set : List SetItem) (carried : Carriage) (value : Value) : Type 0 where
   pub pair : Pair
   pub has_pair : value.pair ≡ Some pair
   pub in_set : pair_of set value.id ≡ Some pair
-  pub carries : is_carried carried pair.abstract_name ≡ true
-  pub content : content_under tables pair (content_octets tables pair.transfer value.content) ≡ Ok value.content
+  pub carries : is_carried (name_carried tables carried) pair.abstract_name ≡ true
+  pub content : content_under tables carried pair (content_octets tables pair.transfer value.content) ≡ Ok value.content
 
-abbrev pub AreMeantIn : Tables → List SetItem → List ℕ → List Value → Type 0
+abbrev pub AreMeantIn : Tables → List SetItem → Carriage → List Value → Type 0
 AreMeantIn tables set carried [] = Unit {0}
 AreMeantIn tables set carried (value ∷ values) = IsMeant tables set carried value × AreMeantIn tables set carried values
 
@@ -105,38 +107,37 @@ pub record DataAreReadBack : Type 0 where
       IsWrittenIn place.Dt (ppdus.Data (pdvs_of base.tables (value ∷ values))) → AreMeantIn base.tables body.sets.held (carried_by_data base) (value ∷ values) →
       meaning base body (with_user (user_octets base.tables (OfData (Values (value ∷ values)))) (unit_of (OfData (Values (value ∷ values))))) start ≡ Ok (OfData (Values (value ∷ values)))
   pub please : (base : Base) (body : Body) (start : ℕ) (tokens : ℕ) (value : Value) (values : List Value) →
-      IsWrittenIn place.Pt (ppdus.Data (pdvs_of base.tables (value ∷ values))) → AreMeantIn base.tables body.sets.held rtse_name (value ∷ values) →
+      IsWrittenIn place.Pt (ppdus.Data (pdvs_of base.tables (value ∷ values))) → AreMeantIn base.tables body.sets.held carriage.Transfer (value ∷ values) →
       meaning base body (with_user (user_octets base.tables (OfMarks (Please (Some tokens) (value ∷ values)))) (unit_of (OfMarks (Please (Some tokens) (value ∷ values))))) start ≡ Ok (OfMarks (Please (Some tokens) (value ∷ values)))
   pub finish : (base : Base) (body : Body) (start : ℕ) (transport : Option ℕ) (value : Value) (values : List Value) →
-      IsWrittenIn place.Fn (ppdus.Data (pdvs_of base.tables (value ∷ values))) → AreMeantIn base.tables body.sets.held acse_name (value ∷ values) →
+      IsWrittenIn place.Fn (ppdus.Data (pdvs_of base.tables (value ∷ values))) → AreMeantIn base.tables body.sets.held carriage.Association (value ∷ values) →
       meaning base body (with_user (user_octets base.tables (OfAssociation (Finish transport (value ∷ values)))) (unit_of (OfAssociation (Finish transport (value ∷ values))))) start ≡ Ok (OfAssociation (Finish transport (value ∷ values)))
   pub disconnect : (base : Base) (body : Body) (start : ℕ) (value : Value) (values : List Value) →
-      IsWrittenIn place.Dn (ppdus.Data (pdvs_of base.tables (value ∷ values))) → AreMeantIn base.tables body.sets.held acse_name (value ∷ values) →
+      IsWrittenIn place.Dn (ppdus.Data (pdvs_of base.tables (value ∷ values))) → AreMeantIn base.tables body.sets.held carriage.Association (value ∷ values) →
       meaning base body (with_user (user_octets base.tables (OfAssociation (Disconnect (value ∷ values)))) (unit_of (OfAssociation (Disconnect (value ∷ values))))) start ≡ Ok (OfAssociation (Disconnect (value ∷ values)))
 
--- An APDU of the module that may be written is what its octets are, on a context of neither association control nor
--- reliable transfer.
+-- An APDU of the module that may be written is what its octets are in data, on a context of the module.
 abbrev pub RemoteIsReadBack : Type 0
 RemoteIsReadBack =
     (tables : Tables) (pair : Pair) (apdu : Apdu) → IsReadable tables → IsWritable tables pair.transfer apdu →
-    same_name pair.abstract_name acse_name ≡ false → same_name pair.abstract_name rtse_name ≡ false →
-    content_under tables pair (content_octets tables pair.transfer (Remote apdu)) ≡ Ok (Remote apdu)
+    same_name pair.abstract_name tables.name_oid ≡ true →
+    content_under tables carriage.Module pair (content_octets tables pair.transfer (Remote apdu)) ≡ Ok (Remote apdu)
 
--- An APDU of association control without user information that may be written is what its octets are, on a context of
+-- An APDU of association control without user information that may be written is what its octets are in a message of
 -- association control.
 abbrev pub AssociationIsReadBack : Type 0
 AssociationIsReadBack =
-    (tables : Tables) (pair : Pair) (apdu : Acse) → IsWritableAcse (without_user apdu) → same_name pair.abstract_name acse_name ≡ true →
-    content_under tables pair (content_octets tables pair.transfer (Association (without_user apdu) [])) ≡ Ok (Association (without_user apdu) [])
+    (tables : Tables) (pair : Pair) (apdu : Acse) → IsWritableAcse (without_user apdu) →
+    content_under tables carriage.Association pair (content_octets tables pair.transfer (Association (without_user apdu) [])) ≡ Ok (Association (without_user apdu) [])
 
 -- So are a plea and a part of a transfer on a context of reliable transfer.
 pub record TransferWordsAreReadBack : Type 0 where
   pub plea : (tables : Tables) (pair : Pair) (priority : ℕ) → IsWritableRtse (rtse.TurnPlease priority) →
-      same_name pair.abstract_name acse_name ≡ false → same_name pair.abstract_name rtse_name ≡ true →
-      content_under tables pair (content_octets tables pair.transfer (Plea priority)) ≡ Ok (Plea priority)
+      same_name pair.abstract_name rtse_name ≡ true →
+      content_under tables carriage.Transfer pair (content_octets tables pair.transfer (Plea priority)) ≡ Ok (Plea priority)
   pub part : (tables : Tables) (pair : Pair) (octets : List ℕ) → IsWritableRtse (rtse.Transfer octets) →
-      same_name pair.abstract_name acse_name ≡ false → same_name pair.abstract_name rtse_name ≡ true →
-      content_under tables pair (content_octets tables pair.transfer (Part octets)) ≡ Ok (Part octets)
+      same_name pair.abstract_name rtse_name ≡ true →
+      content_under tables carriage.Transfer pair (content_octets tables pair.transfer (Part octets)) ≡ Ok (Part octets)
 
 -- ---- transport units: a CR, a CC and a DR to an initiator stand first, whatever follows
 

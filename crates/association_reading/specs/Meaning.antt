@@ -12,10 +12,12 @@ use Rattle.presentation_pdus.specs.declared.place.PpduPlace.TheVariants as place
 use Rattle.presentation_pdus.specs.declared.place.PpduFault.{PpduFault}
 use Rattle.presentation_pdus.specs.declared.place.PpduFault.TheVariants as why
 use Rattle.presentation_pdus.specs.Units.{ppdu_at}
-use Rattle.end_rules.specs.Base.{Base, Fault, acse_name, rtse_name, is_reliable}
+use Rattle.end_rules.specs.Base.{Base, Fault, is_reliable}
 use Rattle.end_rules.specs.Messages.{Value, Accepting, NoData, ProviderReason, UserValues, Word, OfAssociation, Connect, Accept, Refuse, Finish, Disconnect, Abort, AbortAccept, OfData, Values, AlterContext, AlterContextAck, OfMarks, Mark, MarkAck, Restart, RestartAck, Give, Please, GiveConfirm, GiveAck, OfActivities, Start, Resume, End, EndAck, Interrupt, InterruptAck, Discard, DiscardAck}
 use Rattle.end_rules.specs.State.{Body}
 use Rattle.end_rules.specs.Faults.{fault_at, invalid_ppdu}
+use Rattle.association_reading.specs.declared.carried.Carriage.{Carriage}
+use Rattle.association_reading.specs.declared.carried.Carriage.TheVariants as carriage
 use Rattle.association_reading.specs.Places.{pdv_places}
 use Rattle.association_reading.specs.Values.{values_under}
 use Rattle.association_reading.specs.Association.{connect_values, accept_values, refuse_values, abort_values}
@@ -77,25 +79,25 @@ aborted_with base body transport start (Some user) = on_ppdu start (ppdu_at plac
 
 -- ---- user data alone, with values of one abstract syntax under the held set
 
-abbrev pub data_meaning : Base → Body → List ℕ → (List Value → Word) → PpduPlace → ℕ → List ℕ → PresentationWord → Result Word Fault
+abbrev pub data_meaning : Base → Body → Carriage → (List Value → Word) → PpduPlace → ℕ → List ℕ → PresentationWord → Result Word Fault
 data_meaning base body carried word carrier start user (ppdus.Data pdvs) =
     with_values word (values_under base.tables body.sets.held carried (pdv_places carrier start user) pdvs)
 data_meaning base body carried word carrier start user _ = not_carried
 
-abbrev pub data_with : Base → Body → List ℕ → (List Value → Word) → PpduPlace → ℕ → List ℕ → Result Word Fault
+abbrev pub data_with : Base → Body → Carriage → (List Value → Word) → PpduPlace → ℕ → List ℕ → Result Word Fault
 data_with base body carried word carrier start user =
     on_ppdu start (ppdu_at carrier user) (data_meaning base body carried word carrier start user)
 
 -- DT carries the module's values, in reliable mode parts of transfers
-abbrev pub carried_by_data : Base → List ℕ
-carried_by_data base = if is_reliable base.mode then rtse_name else base.tables.name_oid
+abbrev pub carried_by_data : Base → Carriage
+carried_by_data base = if is_reliable base.mode then carriage.Transfer else carriage.Module
 
 -- a plea without a token item says nothing, whatever it carries
 abbrev pub pleaded_with : Base → Body → Option ℕ → ℕ → Option (List ℕ) → Result Word Fault
 pleaded_with base body None start user = Ok (OfMarks (Please None []))
 pleaded_with base body (Some tokens) start None = Ok (OfMarks (Please (Some tokens) []))
 pleaded_with base body (Some tokens) start (Some user) =
-    data_with base body rtse_name (λ values. OfMarks (Please (Some tokens) values)) place.Pt start user
+    data_with base body carriage.Transfer (λ values. OfMarks (Please (Some tokens) values)) place.Pt start user
 
 -- ---- alterations and restarts
 
@@ -133,9 +135,9 @@ meaning base body (units.Accept options version initial requirements user) start
     on_ppdu start (ppdu_at place.Ac user) (accept_meaning base (accepting options version initial requirements) start user)
 meaning base body (units.Refuse transport reason user) start = refused_with base transport reason start user
 meaning base body (units.Finish transport user) start =
-    data_with base body acse_name (λ values. OfAssociation (Finish transport values)) place.Fn start user
+    data_with base body carriage.Association (λ values. OfAssociation (Finish transport values)) place.Fn start user
 meaning base body (units.Disconnect user) start =
-    data_with base body acse_name (λ values. OfAssociation (Disconnect values)) place.Dn start user
+    data_with base body carriage.Association (λ values. OfAssociation (Disconnect values)) place.Dn start user
 meaning base body (units.Abort transport user) start = aborted_with base body transport start user
 meaning base body units.AbortAccept start = Ok (OfAssociation AbortAccept)
 meaning base body (units.GiveTokens tokens) start = Ok (OfMarks (Give tokens))

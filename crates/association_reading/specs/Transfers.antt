@@ -14,6 +14,7 @@ use Rattle.end_rules.specs.Messages.{Content, Remote, Unread, Association, Plea,
 use Rattle.end_rules.specs.Faults.{acse_fault, rtse_fault}
 use Rattle.end_wire.specs.Values.{spellings_with}
 use Rattle.association_wire.specs.Values.{pdv_of}
+use Rattle.association_reading.specs.declared.carried.Carriage.TheVariants as carriage
 use Rattle.association_reading.specs.Places.{PdvPlaces, places_of, spot_at}
 use Rattle.association_reading.specs.Contexts.{invalid_at, pdv_fault}
 use Rattle.association_reading.specs.Values.{content_under}
@@ -29,7 +30,7 @@ arrived_as at id pair (Err fault) = Err fault
 
 abbrev pub arrived_under : Tables → PdvPlaces → Pdv → Option Pair → Result Arrived Fault
 arrived_under tables at pdv None = Err (invalid_at at.identifier)
-arrived_under tables at pdv (Some pair) = arrived_as at pdv.id pair (content_under tables pair (octets_of pdv.content))
+arrived_under tables at pdv (Some pair) = arrived_as at pdv.id pair (content_under tables carriage.Module pair (octets_of pdv.content))
 
 abbrev pub unless_wrong : Option Fault → Result Arrived Fault → Result Arrived Fault
 unless_wrong None arrived = arrived

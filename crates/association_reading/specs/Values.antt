@@ -15,14 +15,16 @@ use Rattle.fixed_tables.specs.declared.pdu.PduFault.TheVariants as why
 use Rattle.acse.specs.Fields.{acse_at}
 use Rattle.rtse_apdus.specs.Reading.{rtse_at}
 use Rattle.stub_tables.specs.declared.tables.Tables.{Tables}
-use Rattle.end_rules.specs.Base.{Base, Fault, acse_name, rtse_name, is_reliable}
+use Rattle.end_rules.specs.Base.{Base, Fault, rtse_name, is_reliable}
 use Rattle.end_rules.specs.Sets.{same_name, pair_of}
 use Rattle.end_rules.specs.Messages.{Information, Transferring, Other, Content, Unread, Association, Plea, Part, Value}
 use Rattle.end_rules.specs.Connecting.{is_on_rtse}
 use Rattle.end_rules.specs.Faults.{fault_at, acse_fault, rtse_fault}
 use Rattle.end_wire.specs.Values.{content_at}
+use Rattle.association_reading.specs.declared.carried.Carriage.{Carriage}
+use Rattle.association_reading.specs.declared.carried.Carriage.TheVariants as carriage
 use Rattle.association_reading.specs.Places.{PdvPlaces}
-use Rattle.association_reading.specs.Contexts.{pdv_fault, first_fault}
+use Rattle.association_reading.specs.Contexts.{name_carried, pdv_fault, first_fault}
 
 -- ---- APDUs of association control: their user information stands beside them
 
@@ -66,25 +68,28 @@ rtse_content (Err fault) = Err (unreadable_rtse fault)
 
 -- ---- a value under its pair
 
-abbrev pub content_under : Tables → Pair → List ℕ → Result Content Fault
-content_under tables pair octets =
-    if same_name pair.abstract_name acse_name then acse_content (acse_at octets)
-    else (if same_name pair.abstract_name rtse_name then rtse_content (rtse_at octets)
-    else Ok (content_at tables pair.transfer octets))
+-- The message says how its values are read, so that a module whose name is that of association control or of reliable transfer
+-- is as any other. A value on another context is one of association control.
+abbrev pub content_under : Tables → Carriage → Pair → List ℕ → Result Content Fault
+content_under tables carriage.Association pair octets = acse_content (acse_at octets)
+content_under tables carriage.Transfer pair octets =
+    if same_name pair.abstract_name rtse_name then rtse_content (rtse_at octets) else acse_content (acse_at octets)
+content_under tables carriage.Module pair octets =
+    if same_name pair.abstract_name tables.name_oid then Ok (content_at tables pair.transfer octets) else acse_content (acse_at octets)
 
-abbrev pub content_by : Tables → Option Pair → List ℕ → Result Content Fault
-content_by tables None octets = Ok (Unread octets)
-content_by tables (Some pair) octets = content_under tables pair octets
+abbrev pub content_by : Tables → Carriage → Option Pair → List ℕ → Result Content Fault
+content_by tables carried None octets = Ok (Unread octets)
+content_by tables carried (Some pair) octets = content_under tables carried pair octets
 
 abbrev pub with_content : ℕ → Option Pair → Result Content Fault → Result Value Fault
 with_content id pair (Ok content) = Ok (record { id = id; pair = pair; content = content })
 with_content id pair (Err fault) = Err fault
 
-abbrev pub value_by : Tables → Option Pair → Pdv → Result Value Fault
-value_by tables pair pdv = with_content pdv.id pair (content_by tables pair (octets_of pdv.content))
+abbrev pub value_by : Tables → Carriage → Option Pair → Pdv → Result Value Fault
+value_by tables carried pair pdv = with_content pdv.id pair (content_by tables carried pair (octets_of pdv.content))
 
-abbrev pub value_in : Tables → List SetItem → Pdv → Result Value Fault
-value_in tables set pdv = value_by tables (pair_of set pdv.id) pdv
+abbrev pub value_in : Tables → Carriage → List SetItem → Pdv → Result Value Fault
+value_in tables carried set pdv = value_by tables carried (pair_of set pdv.id) pdv
 
 -- ---- values one after the other: the contexts and forms of all, then what each is
 
@@ -101,11 +106,11 @@ abbrev pub unless_fault : Option Fault → Result (List Value) Fault → Result 
 unless_fault None values = values
 unless_fault (Some fault) values = Err fault
 
--- values of a message that carries those of this abstract syntax
-abbrev pub values_under : Tables → List SetItem → List ℕ → List PdvPlaces → List Pdv → Result (List Value) Fault
+-- values of a message
+abbrev pub values_under : Tables → List SetItem → Carriage → List PdvPlaces → List Pdv → Result (List Value) Fault
 values_under tables set carried places pdvs =
-    unless_fault (first_fault (λ (at : PdvPlaces) (pdv : Pdv). pdv_fault carried at pdv (pair_of set pdv.id)) places pdvs)
-    (all_values (value_in tables set) pdvs)
+    unless_fault (first_fault (λ (at : PdvPlaces) (pdv : Pdv). pdv_fault (name_carried tables carried) at pdv (pair_of set pdv.id)) places pdvs)
+    (all_values (value_in tables carried set) pdvs)
 
 -- ---- user information: in reliable mode the first EXTERNAL is read, where its context is an accepted one of reliable
 -- transfer, in an APDU of the kind that the message carries

@@ -29,6 +29,15 @@ pub fn values_are_read()
         ≡ Some (Ok (row.add_five 9 Packed)) }
 {}
 
+/// In a module that has the name of association control, data carry its values, and a release those
+/// of association control.
+pub fn namesakes_are_told_apart()
+    ensures invocation { case.read_by case.namesake_base case.namesake_up row.invoke_octets
+        ≡ Some (Ok case.namesake_five) }
+    ensures release { case.read_by case.namesake_base case.namesake_up row.finish_octets
+        ≡ Some (Ok (finish_message case.namesake_up)) }
+{}
+
 /// An addition and a deletion, and their answers.
 pub fn alterations_are_read()
     ensures addition { case.read_as case.up row.alteration_octets ≡ Some (Ok row.addition) }

@@ -8,8 +8,8 @@ ghost use Rattle.end_wire.specs.Line.{going_on, end_of};
 ghost use Rattle.bare_end.specs.View.{base, body, Answers, Answered, Died, is_memory, StandsFor};
 
 use crate::end::End;
-use crate::gate::{is_dead, is_initiators, is_of_bare_mode, is_phase_for};
 use crate::invoking::Making;
+use crate::phases::{is_dead, is_initiators, is_of_bare_mode, is_phase_for};
 use dialogue::{Call, CallRefusal, Phase};
 
 /// Whether memory was refused.

@@ -2,9 +2,9 @@
 
 ghost use Rattle.std.specs.Prelude.{◌≡◌, ◌≢◌, ℕ, List, [], ◌∷◌, ◌++◌, length, min, take, drop, IfOk, IfErr, OnOk, true, Some, None, is_some};
 
-use crate::gate::{broken, is_up};
 use crate::intake::Intake;
 use crate::invocations::Invocations;
+use crate::phases::{broken, is_up};
 use crate::queue::{OctetQueue, copy_front};
 use apdu_codec::Heads;
 use dialogue::{Config, ConfigRefusal, Phase, check_config};

@@ -16,8 +16,8 @@ ghost use Rattle.bare_end.specs.Feed.{TookOne, ReadAll, Goes, Fed, KeepsDue, Die
 ghost use Rattle.bare_end.specs.First.{IsFirst};
 
 use crate::end::End;
-use crate::gate::passes_over;
 use crate::order::tell_cuts;
+use crate::phases::passes_over;
 use dialogue::{Indication, Indications, Phase};
 use osi_base::{Layer, ListOf, NoMemory};
 use stream_front::Front;

@@ -5,7 +5,6 @@ mod answering;
 mod calling;
 mod end;
 mod feeding;
-mod gate;
 mod hearing;
 mod intake;
 mod invocations;
@@ -13,6 +12,7 @@ mod invoking;
 mod listing;
 mod open_call;
 mod order;
+mod phases;
 mod queue;
 mod sending;
 

@@ -13,23 +13,26 @@ use Rattle.module_compiler.specs.Refusals.{IsFault, HasNoFault, HasFault}
 abbrev pub FaultlessHaveTables : Type 0
 FaultlessHaveTables = (m : ModuleText) → IsWellFormed m → length m.assignments < 2 ^ 32 → HasNoFault m → (tables : Tables) × AreTablesOf m tables
 
--- The least fault of a module is one of its faults, and none of them comes before it.
+-- This is one of the module's faults, and none of them comes before it.
 pub record IsLeast (m : ModuleText) (found : Found) : Type 0 where
   pub is : IsFault m found
   pub first : (other : Found) → IsFault m other → is_before other found ≡ false
 
+-- A module is refused for its least fault.
 abbrev pub RefusedAreLeast : Type 0
 RefusedAreLeast = (m : ModuleText) (line column : ℕ) (kind : TableKind) → HasFault m line column kind → IsLeast m (fault line column kind)
 
--- A module has a least fault or none: one of the two always, and never both.
+-- Some fault is the module's least.
 pub record HasLeastFault (m : ModuleText) : Type 0 where
   pub line : ℕ
   pub column : ℕ
   pub kind : TableKind
   pub is : HasFault m line column kind
 
+-- A module has a least fault or none: one of the two always.
 abbrev pub FaultOrNone : Type 0
 FaultOrNone = (m : ModuleText) → HasNoFault m ⊎ HasLeastFault m
 
+-- A module without a fault has none of them: never both.
 abbrev pub NeverBoth : Type 0
 NeverBoth = (m : ModuleText) (found : Found) → HasNoFault m → IsFault m found → ⊥

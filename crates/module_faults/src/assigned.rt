@@ -11,7 +11,7 @@ use crate::kind::TableKind;
 use crate::least::Least;
 use crate::locals::{MOST_LEVELS, of_type, of_use};
 use crate::names::Names;
-use crate::seen::SeenCodes;
+use crate::names_seen::SeenCodes;
 use notation_tokens::Located;
 use operation_notation::{Assignment, Body, CodeText, OpText, UseText};
 use osi_base::NoMemory;

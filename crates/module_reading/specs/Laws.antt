@@ -20,10 +20,11 @@ abbrev pub OneFault : Type 0
 OneFault = (octets : List ℕ) (line column other_line other_column : ℕ) (kind other_kind : ModuleKind) → IsRefused octets (faults.At line column kind) → IsRefused octets (faults.At other_line other_column other_kind)
     → faults.At line column kind ≡ faults.At other_line other_column other_kind
 
--- Octets that have tables are without a fault, and those without a fault are never refused.
+-- Octets that have tables are without a fault.
 abbrev pub TablesAreFaultless : Type 0
 TablesAreFaultless = (octets : List ℕ) (tables : Tables) → HasTables octets tables → IsFaultless octets
 
+-- Octets without a fault are never refused for one.
 abbrev pub FaultlessAreTaken : Type 0
 FaultlessAreTaken = (octets : List ℕ) (line column : ℕ) (kind : ModuleKind) → IsFaultless octets → IsRefused octets (faults.At line column kind) → ⊥
 
@@ -31,12 +32,13 @@ FaultlessAreTaken = (octets : List ℕ) (line column : ℕ) (kind : ModuleKind) 
 abbrev pub FaultlessTextsHaveTables : Type 0
 FaultlessTextsHaveTables = (text : List ℕ) → is_table_file text ≡ false → IsFaultless text → (tables : Tables) × HasTables text tables
 
--- A text that reads as a module has tables or a fault: one of the two always (and never both).
+-- These octets are refused for some fault.
 pub record HasFault (octets : List ℕ) : Type 0 where
   pub line : ℕ
   pub column : ℕ
   pub kind : ModuleKind
   pub is : IsRefused octets (faults.At line column kind)
 
+-- A text that reads as a module has tables or a fault: one of the two always.
 abbrev pub ModulesHaveEither : Type 0
 ModulesHaveEither = (text : List ℕ) (read : ModuleText) → is_table_file text ≡ false → module_of text ≡ Ok read → ((tables : Tables) × HasTables text tables) ⊎ HasFault text

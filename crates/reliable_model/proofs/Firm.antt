@@ -1,6 +1,6 @@
 -- The contexts of the association stay in each set of an end of reliable mode, and nothing is handed in on them.
 use Rattle.std.proofs.Common.{◌≡◌, refl, true, false, ◌∙◌, sym, ap, subst, arith, ℕ, zero, suc, ◌≤◌, List, [], ◌∷◌, ◌++◌, map}
-use Rattle.std.specs.Prelude.{ℤ, Bool, not, ◌&&◌, ◌||◌, Option, Some, None, is_some, Ok, Err, Result, filter, nat_eq, if◌then◌else◌}
+use Rattle.std.specs.Prelude.{ℤ, Bool, not, ◌&&◌, Option, Some, None, is_some, Ok, Err, Result, filter, nat_eq, if◌then◌else◌}
 use Rattle.std.proofs.lemmas.Bool.Decides.{nat_tests}
 use Rattle.osi_base.specs.declared.syntax.Pair.{Pair}
 use Rattle.osi_base.specs.declared.words.SetItem.{SetItem}
@@ -9,7 +9,6 @@ use Rattle.stub_tables.specs.declared.operation.Code.{Code}
 use Rattle.stub_tables.specs.Lookup.{operation_at, operation_with, error_with}
 use Rattle.dialogue.specs.declared.config.Mode.TheVariants.{Reliable}
 use Rattle.end_rules.specs.Base.{Base, Fault, Arrived, Whole, Raw, Carried, Head, General, BadReject, InvokeHead, ResultHead, ErrorHead, RejectHead}
-use Rattle.end_rules.specs.Base.{acse_name, rtse_name}
 use Rattle.end_rules.specs.Sets.{Alteration, same_name, is_among, named_ids, pair_of, has_abstract, is_fixed}
 use Rattle.end_rules.specs.State.{Body, OpenCall, Calls, Queued, Piece, Octets, Marked, Transfer}
 use Rattle.end_rules.specs.State.{is_key, opened_with, orphaned, closed, close, from_mark, up_to, newest_set, highest, pieces_of, confirmed_of}
@@ -23,8 +22,8 @@ use Rattle.end_rules.specs.TakesActivities.{values_arrived}
 use Rattle.dialogue.specs.declared.indication.Indication.TheVariants as indications
 use Rattle.end_model.specs.Rows.{at}
 use Rattle.end_model.proofs.Handing.{has-pair}
-use Rattle.end_model.proofs.Fitting.{one-name}
-use Rattle.reliable_model.specs.ReliablePairs.{IsOwnName}
+use Rattle.end_model.proofs.Fitting.{one-name, same-itself}
+use Rattle.reliable_model.proofs.Fixed.{is_others}
 
 -- ---- what holds of an end, where these contexts were accepted at the opening
 
@@ -32,9 +31,9 @@ use Rattle.reliable_model.specs.ReliablePairs.{IsOwnName}
 abbrev pub Keeps : List SetItem → List SetItem → Type 0
 Keeps first set = (k : ℕ) → is_fixed (pair_of first k) ≡ true → pair_of set k ≡ pair_of first k
 
--- the identifier is of no fixed context
-abbrev pub IsLoose : List SetItem → ℕ → Type 0
-IsLoose first k = is_fixed (pair_of first k) ≡ false
+-- the identifier is of no context that is of association control or of reliable transfer alone
+abbrev pub IsLoose : List ℕ → List SetItem → ℕ → Type 0
+IsLoose name first k = is_others name (pair_of first k) ≡ false
 
 -- marks are numbered from 1
 abbrev pub PiecesKeep : List SetItem → List Piece → Type 0
@@ -46,69 +45,72 @@ abbrev pub OwnSpares : List SetItem → List Alteration → Type 0
 OwnSpares first [] = Unit {0}
 OwnSpares first (a ∷ own) = ((k : ℕ) → is_fixed (pair_of first k) ≡ true → is_among k (named_ids a) ≡ false) × OwnSpares first own
 
-abbrev pub OpensLoose : List SetItem → List OpenCall → Type 0
-OpensLoose first [] = Unit {0}
-OpensLoose first (o ∷ os) = IsLoose first o.context × OpensLoose first os
+abbrev pub OpensLoose : List ℕ → List SetItem → List OpenCall → Type 0
+OpensLoose name first [] = Unit {0}
+OpensLoose name first (o ∷ os) = IsLoose name first o.context × OpensLoose name first os
 
-abbrev pub QueueLoose : List SetItem → List Queued → Type 0
-QueueLoose first [] = Unit {0}
-QueueLoose first (item ∷ items) = IsLoose first item.context × QueueLoose first items
+abbrev pub QueueLoose : List ℕ → List SetItem → List Queued → Type 0
+QueueLoose name first [] = Unit {0}
+QueueLoose name first (item ∷ items) = IsLoose name first item.context × QueueLoose name first items
 
-pub record TransferKeeps (first : List SetItem) (t : Transfer) : Type 0 where
-  pub loose : IsLoose first t.item.context
+pub record TransferKeeps (name : List ℕ) (first : List SetItem) (t : Transfer) : Type 0 where
+  pub loose : IsLoose name first t.item.context
   pub pieces : PiecesKeep first t.pieces
   pub confirmed : t.confirmed ≤ highest t.pieces
 
-abbrev pub CurrentKeeps : List SetItem → Option Transfer → Type 0
-CurrentKeeps first None = Unit {0}
-CurrentKeeps first (Some t) = TransferKeeps first t
+abbrev pub CurrentKeeps : List ℕ → List SetItem → Option Transfer → Type 0
+CurrentKeeps name first None = Unit {0}
+CurrentKeeps name first (Some t) = TransferKeeps name first t
 
-pub record Firm (first : List SetItem) (body : Body) : Type 0 where
+pub record Firm (name : List ℕ) (first : List SetItem) (body : Body) : Type 0 where
   pub held : Keeps first body.sets.held
   pub inter : Keeps first body.sets.inter
   pub own : OwnSpares first body.sets.own
-  pub opens : OpensLoose first body.calls.opens
-  pub queue : QueueLoose first body.sending.queue
-  pub current : CurrentKeeps first body.sending.current
+  pub opens : OpensLoose name first body.calls.opens
+  pub queue : QueueLoose name first body.sending.queue
+  pub current : CurrentKeeps name first body.sending.current
   pub came : PiecesKeep first body.receiving.pieces
 
 -- ---- the identifiers of contexts of the module are loose
 
-pub module-loose : (first held : List SetItem) (name : List ℕ) (k : ℕ) (pair : Pair) → IsOwnName name → Keeps first held → pair_of held k ≡ Some pair → pair.abstract_name ≡ name → IsLoose first k
-module-loose first held name k pair unfixed keeps there named = go (is_fixed (pair_of first k)) refl
+and-false : (b : Bool) → (b && false) ≡ false
+and-false true = refl
+and-false false = refl
+
+pub module-loose : (name : List ℕ) (first held : List SetItem) (k : ℕ) (pair : Pair) → Keeps first held → pair_of held k ≡ Some pair → pair.abstract_name ≡ name → IsLoose name first k
+module-loose name first held k pair keeps there named = go (is_fixed (pair_of first k)) refl
   where
-    clash : (x : Bool) → x ≡ true → x ≡ false → ⊥
-    clash x h i = cc
+    has : has_abstract name (Some pair) ≡ true
+    has = ap (λ n. same_name n name) named ∙ same-itself name
 
-    go : (b : Bool) → is_fixed (pair_of first k) ≡ b → is_fixed (pair_of first k) ≡ false
-    go false e = e
+    go : (b : Bool) → is_fixed (pair_of first k) ≡ b → is_others name (pair_of first k) ≡ false
+    go false e = ap (λ b. b && not (has_abstract name (pair_of first k))) e
     go true e =
-        let fixed : is_fixed (Some pair) ≡ true = ap is_fixed (sym there ∙ keeps k e) ∙ e in
-        let not_fixed : is_fixed (Some pair) ≡ false = subst (λ n. (same_name n acse_name || same_name n rtse_name) ≡ false) (sym named) unfixed in
-        absurd (clash (is_fixed (Some pair)) fixed not_fixed)
+        let same : pair_of first k ≡ Some pair = sym (keeps k e) ∙ there in
+        ap (is_others name) same ∙ ap (λ b. is_fixed (Some pair) && not b) has ∙ and-false (is_fixed (Some pair))
 
-pub on-module_loose : (base : Base) (first : List SetItem) (body : Body) (context : ℕ) → IsOwnName base.tables.name_oid → Keeps first body.sets.held → is_on_module base body context ≡ true → IsLoose first context
-on-module_loose base first body context unfixed keeps h =
+pub on-module_loose : (base : Base) (first : List SetItem) (body : Body) (context : ℕ) → Keeps first body.sets.held → is_on_module base body context ≡ true → IsLoose base.tables.name_oid first context
+on-module_loose base first body context keeps h =
     let p = has-pair base.tables.name_oid body.sets.held context h in
-    module-loose first body.sets.held base.tables.name_oid context p.0 unfixed keeps p.1
+    module-loose base.tables.name_oid first body.sets.held context p.0 keeps p.1
     (one-name p.0.abstract_name base.tables.name_oid (ap (has_abstract base.tables.name_oid) (sym p.1) ∙ h))
 
 -- ---- open invocations and the queue
 
-opens-append : (first : List SetItem) (os ps : List OpenCall) → OpensLoose first os → OpensLoose first ps → OpensLoose first (os ++ ps)
-opens-append first [] ps h i = i
-opens-append first (o ∷ os) ps h i = (h.0, opens-append first os ps h.1 i)
+opens-append : (name : List ℕ) (first : List SetItem) (os ps : List OpenCall) → OpensLoose name first os → OpensLoose name first ps → OpensLoose name first (os ++ ps)
+opens-append name first [] ps h i = i
+opens-append name first (o ∷ os) ps h i = (h.0, opens-append name first os ps h.1 i)
 
-pub queue-append : (first : List SetItem) (xs ys : List Queued) → QueueLoose first xs → QueueLoose first ys → QueueLoose first (xs ++ ys)
-queue-append first [] ys h i = i
-queue-append first (x ∷ xs) ys h i = (h.0, queue-append first xs ys h.1 i)
+pub queue-append : (name : List ℕ) (first : List SetItem) (xs ys : List Queued) → QueueLoose name first xs → QueueLoose name first ys → QueueLoose name first (xs ++ ys)
+queue-append name first [] ys h i = i
+queue-append name first (x ∷ xs) ys h i = (h.0, queue-append name first xs ys h.1 i)
 
-pub opened-loose : (first : List SetItem) (base : Base) (o : OpenCall) (calls : Calls) → OpensLoose first calls.opens → IsLoose first o.context → OpensLoose first (opening base o calls).opens
-opened-loose first base o calls h l = go (is_silent_at base (Some o.operation))
+pub opened-loose : (name : List ℕ) (first : List SetItem) (base : Base) (o : OpenCall) (calls : Calls) → OpensLoose name first calls.opens → IsLoose name first o.context → OpensLoose name first (opening base o calls).opens
+opened-loose name first base o calls h l = go (is_silent_at base (Some o.operation))
   where
-    go : (b : Bool) → OpensLoose first (if b then calls else record calls { opens = calls.opens ++ o ∷ [] }).opens
+    go : (b : Bool) → OpensLoose name first (if b then calls else record calls { opens = calls.opens ++ o ∷ [] }).opens
     go true = h
-    go false = opens-append first calls.opens (o ∷ []) h (l, tt)
+    go false = opens-append name first calls.opens (o ∷ []) h (l, tt)
 
 same-context : (own : Bool) (id : ℤ) (o : OpenCall) → (orphaned own id o).context ≡ o.context
 same-context own id o = go _
@@ -117,60 +119,60 @@ same-context own id o = go _
     go true = refl
     go false = refl
 
-pub closed-loose : (first : List SetItem) (own : Bool) (id : ℤ) (os : List OpenCall) → OpensLoose first os → OpensLoose first (closed own id os)
-closed-loose first own id [] h = tt
-closed-loose first own id (o ∷ os) h = go (closed-loose first own id os h.1) (not (is_key own id o))
+pub closed-loose : (name : List ℕ) (first : List SetItem) (own : Bool) (id : ℤ) (os : List OpenCall) → OpensLoose name first os → OpensLoose name first (closed own id os)
+closed-loose name first own id [] h = tt
+closed-loose name first own id (o ∷ os) h = go (closed-loose name first own id os h.1) (not (is_key own id o))
   where
-    go : OpensLoose first (closed own id os) → (b : Bool) → OpensLoose first (map (orphaned own id) (if b then o ∷ filter (λ o. not (is_key own id o)) os else filter (λ o. not (is_key own id o)) os))
-    go later true = (subst (IsLoose first) (sym (same-context own id o)) h.0, later)
+    go : OpensLoose name first (closed own id os) → (b : Bool) → OpensLoose name first (map (orphaned own id) (if b then o ∷ filter (λ o. not (is_key own id o)) os else filter (λ o. not (is_key own id o)) os))
+    go later true = (subst (IsLoose name first) (sym (same-context own id o)) h.0, later)
     go later false = later
 
-pub found-loose : (first : List SetItem) (own : Bool) (id : ℤ) (os : List OpenCall) (o : OpenCall) → OpensLoose first os → opened_with own id os ≡ Some o → IsLoose first o.context
-found-loose first own id [] o h e = cc
-found-loose first own id (x ∷ os) o h e = go (found-loose first own id os o h.1) (is_key own id x) e
+pub found-loose : (name : List ℕ) (first : List SetItem) (own : Bool) (id : ℤ) (os : List OpenCall) (o : OpenCall) → OpensLoose name first os → opened_with own id os ≡ Some o → IsLoose name first o.context
+found-loose name first own id [] o h e = cc
+found-loose name first own id (x ∷ os) o h e = go (found-loose name first own id os o h.1) (is_key own id x) e
   where
-    go : (opened_with own id os ≡ Some o → IsLoose first o.context) → (b : Bool) → (if b then Some x else opened_with own id os) ≡ Some o → IsLoose first o.context
-    go later true e = let s : x ≡ o = cc in subst (λ (y : OpenCall). IsLoose first y.context) s h.0
+    go : (opened_with own id os ≡ Some o → IsLoose name first o.context) → (b : Bool) → (if b then Some x else opened_with own id os) ≡ Some o → IsLoose name first o.context
+    go later true e = let s : x ≡ o = cc in subst (λ (y : OpenCall). IsLoose name first y.context) s h.0
     go later false e = later e
 
 -- ---- what is heard
 
-abbrev HeardLoose : List SetItem → Heard → Type 0
-HeardLoose first heard = OpensLoose first heard.calls.opens
+abbrev HeardLoose : List ℕ → List SetItem → Heard → Type 0
+HeardLoose name first heard = OpensLoose name first heard.calls.opens
 
-module _ (first : List SetItem) (base : Base) (calls : Calls) (loose : OpensLoose first calls.opens) where
-  unless-loose : (p : Option ℕ) (refused : ℕ → Heard) (heard : Heard) → ((n : ℕ) → HeardLoose first (refused n)) → HeardLoose first heard → HeardLoose first (unless_problem p refused heard)
+module _ (name : List ℕ) (first : List SetItem) (base : Base) (calls : Calls) (loose : OpensLoose name first calls.opens) where
+  unless-loose : (p : Option ℕ) (refused : ℕ → Heard) (heard : Heard) → ((n : ℕ) → HeardLoose name first (refused n)) → HeardLoose name first heard → HeardLoose name first (unless_problem p refused heard)
   unless-loose None refused heard f h = h
   unless-loose (Some n) refused heard f h = f n
 
-  close-loose : (own : Bool) (id : ℤ) → OpensLoose first (close own id calls).opens
-  close-loose own id = closed-loose first own id calls.opens loose
+  close-loose : (own : Bool) (id : ℤ) → OpensLoose name first (close own id calls).opens
+  close-loose own id = closed-loose name first own id calls.opens loose
 
-  invoked-loose : (context : ℕ) (id : ℤ) (linked : Option ℤ) (place : Option ℕ) (argument : Carried) → IsLoose first context → HeardLoose first (invoked base calls context id linked place argument)
+  invoked-loose : (context : ℕ) (id : ℤ) (linked : Option ℤ) (place : Option ℕ) (argument : Carried) → IsLoose name first context → HeardLoose name first (invoked base calls context id linked place argument)
   invoked-loose context id linked None argument l = loose
-  invoked-loose context id linked (Some place) argument l = opened-loose first base _ calls loose l
+  invoked-loose context id linked (Some place) argument l = opened-loose name first base _ calls loose l
 
-  result-loose : (id : ℤ) (o : Option OpenCall) (code : Option Code) (value : Carried) → HeardLoose first (hear_result_of base calls id o code value)
+  result-loose : (id : ℤ) (o : Option OpenCall) (code : Option Code) (value : Carried) → HeardLoose name first (hear_result_of base calls id o code value)
   result-loose id None code value = loose
   result-loose id (Some o) code value = unless-loose (result_problem base o.operation (operation_at base.tables o.operation) code value) _ _ (λ n. close-loose true id) (close-loose true id)
 
-  told-loose : (id : ℤ) (place : Option ℕ) (parameter : Carried) → HeardLoose first (error_told (close true id calls) id place parameter)
+  told-loose : (id : ℤ) (place : Option ℕ) (parameter : Carried) → HeardLoose name first (error_told (close true id calls) id place parameter)
   told-loose id None parameter = close-loose true id
   told-loose id (Some place) parameter = close-loose true id
 
-  error-loose : (id : ℤ) (o : Option OpenCall) (place : Option ℕ) (parameter : Carried) → HeardLoose first (hear_error_of base calls id o place parameter)
+  error-loose : (id : ℤ) (o : Option OpenCall) (place : Option ℕ) (parameter : Carried) → HeardLoose name first (hear_error_of base calls id o place parameter)
   error-loose id None place parameter = loose
   error-loose id (Some o) place parameter = unless-loose (error_problem base (operation_at base.tables o.operation) place parameter) _ _ (λ n. close-loose true id) (told-loose id place parameter)
 
-  reject-loose : (id : Option ℤ) (problem : Problem) → HeardLoose first (hear_reject calls id problem)
+  reject-loose : (id : Option ℤ) (problem : Problem) → HeardLoose name first (hear_reject calls id problem)
   reject-loose None problem = loose
   reject-loose (Some id) problem = go (is_of_invocation problem.kind && is_some (opened_with true id calls.opens))
     where
-      go : (b : Bool) → HeardLoose first (if b then told (close true id calls) (indications.Rejected id problem) else told calls (indications.RejectTaken (Some id) problem))
+      go : (b : Bool) → HeardLoose name first (if b then told (close true id calls) (indications.Rejected id problem) else told calls (indications.RejectTaken (Some id) problem))
       go true = close-loose true id
       go false = loose
 
-  heard-loose : (context : ℕ) (head : Head) → IsLoose first context → HeardLoose first (hear base calls context head)
+  heard-loose : (context : ℕ) (head : Head) → IsLoose name first context → HeardLoose name first (hear base calls context head)
   heard-loose context (General number) l = loose
   heard-loose context BadReject l = loose
   heard-loose context (InvokeHead id linked code argument) l =
@@ -181,16 +183,12 @@ module _ (first : List SetItem) (base : Base) (calls : Calls) (loose : OpensLoos
 
 -- ---- changes of a body
 
-module _ (first : List SetItem) where
-  -- a change of the current transfer
-  pub changed-firm : (change : Transfer → Transfer) (body : Body) → ((t : Transfer) → body.sending.current ≡ Some t → TransferKeeps first t → TransferKeeps first (change t)) → Firm first body → Firm first (on_transfer change body)
-  changed-firm change body f h =
-      record { held = h.held; inter = h.inter; own = h.own; opens = h.opens; queue = h.queue; current = go body.sending.current refl h.current; came = h.came }
-    where
-      go : (c : Option Transfer) → body.sending.current ≡ c → CurrentKeeps first c → CurrentKeeps first (on_current change (record body.sending { current = c })).current
-      go None e k = tt
-      go (Some t) e k = f t e k
+-- the context of what arrives
+abbrev pub context_of : Arrived → ℕ
+context_of (Whole item) = item.id
+context_of (Raw id pair octets) = id
 
+module _ (first : List SetItem) where
   -- the marks back to one of them
   from-keeps : (n : ℕ) (pieces : List Piece) → PiecesKeep first pieces → PiecesKeep first (from_mark n pieces)
   from-keeps n [] h = tt
@@ -241,36 +239,42 @@ module _ (first : List SetItem) where
   back-number zero pieces h high = omega arith
   back-number (suc n) pieces h high = subst (λ (m : ℕ). suc n ≤ m) (sym (found-mark (suc n) pieces h (omega arith) high).number) (omega arith)
 
-  pub resumed-keeps : (t : Transfer) → TransferKeeps first t → TransferKeeps first (resumed t)
-  resumed-keeps t h =
-      record { loose = h.loose; pieces = back-keeps t.confirmed t.pieces h.pieces; confirmed = back-number t.confirmed t.pieces h.pieces h.confirmed }
+module _ (name : List ℕ) (first : List SetItem) where
+  -- a change of the current transfer
+  pub changed-firm : (change : Transfer → Transfer) (body : Body) → ((t : Transfer) → body.sending.current ≡ Some t → TransferKeeps name first t → TransferKeeps name first (change t)) → Firm name first body → Firm name first (on_transfer change body)
+  changed-firm change body f h =
+      record { held = h.held; inter = h.inter; own = h.own; opens = h.opens; queue = h.queue; current = go body.sending.current refl h.current; came = h.came }
+    where
+      go : (c : Option Transfer) → body.sending.current ≡ c → CurrentKeeps name first c → CurrentKeeps name first (on_current change (record body.sending { current = c })).current
+      go None e k = tt
+      go (Some t) e k = f t e k
 
-  pub current-pieces : (c : Option Transfer) → CurrentKeeps first c → PiecesKeep first (pieces_of c) × (confirmed_of c ≤ highest (pieces_of c))
+  pub resumed-keeps : (t : Transfer) → TransferKeeps name first t → TransferKeeps name first (resumed t)
+  resumed-keeps t h =
+      record { loose = h.loose; pieces = back-keeps first t.confirmed t.pieces h.pieces; confirmed = back-number first t.confirmed t.pieces h.pieces h.confirmed }
+
+  pub current-pieces : (c : Option Transfer) → CurrentKeeps name first c → PiecesKeep first (pieces_of c) × (confirmed_of c ≤ highest (pieces_of c))
   current-pieces None h = (tt, omega arith)
   current-pieces (Some t) h = (h.pieces, h.confirmed)
 
-  pub begun-current : (queue : List Queued) (started : ℕ) (current : Option Transfer) → QueueLoose first queue → QueueLoose first (begun (record { started = started; current = current; queue = queue })).queue × CurrentKeeps first (begun (record { started = started; current = current; queue = queue })).current
+  pub begun-current : (queue : List Queued) (started : ℕ) (current : Option Transfer) → QueueLoose name first queue → QueueLoose name first (begun (record { started = started; current = current; queue = queue })).queue × CurrentKeeps name first (begun (record { started = started; current = current; queue = queue })).current
   begun-current [] started current h = (tt, tt)
   begun-current (item ∷ items) started current h = (h.1, record { loose = h.0; pieces = tt; confirmed = omega arith })
 
   -- ---- an APDU that is taken
 
-  pub head-firm : (base : Base) (body : Body) (context : ℕ) (head : Head) → IsLoose first context → Firm first body → Firm first (take_head (at Reliable base) body context head).body
+  pub head-firm : (base : Base) (body : Body) (context : ℕ) (head : Head) → IsLoose name first context → Firm name first body → Firm name first (take_head (at Reliable base) body context head).body
   head-firm base body context head l h = go (hear (at Reliable base) body.calls context head).reject
     where
-      opens : OpensLoose first (hear (at Reliable base) body.calls context head).calls.opens
-      opens = heard-loose first (at Reliable base) body.calls h.opens context head l
+      opens : OpensLoose name first (hear (at Reliable base) body.calls context head).calls.opens
+      opens = heard-loose name first (at Reliable base) body.calls h.opens context head l
 
-      go : (r : Option Rejecting) → Firm first (with_reject (at Reliable base) (record body { calls = (hear (at Reliable base) body.calls context head).calls }) context r).body
+      go : (r : Option Rejecting) → Firm name first (with_reject (at Reliable base) (record body { calls = (hear (at Reliable base) body.calls context head).calls }) context r).body
       go None = record { held = h.held; inter = h.inter; own = h.own; opens = opens; queue = h.queue; current = h.current; came = h.came }
       go (Some r) =
-          record { held = h.held; inter = h.inter; own = h.own; opens = opens; queue = queue-append first body.sending.queue (_ ∷ []) h.queue (l, tt); current = h.current; came = h.came }
+          record { held = h.held; inter = h.inter; own = h.own; opens = opens; queue = queue-append name first body.sending.queue (_ ∷ []) h.queue (l, tt); current = h.current; came = h.came }
 
-  abbrev pub context_of : Arrived → ℕ
-  context_of (Whole item) = item.id
-  context_of (Raw id pair octets) = id
-
-  pub arrived-firm : (base : Base) (body : Body) (r : Result Arrived Fault) → ((arrived : Arrived) → r ≡ Ok arrived → IsLoose first (context_of arrived)) → Firm first body → Firm first (take_values (at Reliable base) body (values_arrived r)).body
+  pub arrived-firm : (base : Base) (body : Body) (r : Result Arrived Fault) → ((arrived : Arrived) → r ≡ Ok arrived → IsLoose name first (context_of arrived)) → Firm name first body → Firm name first (take_values (at Reliable base) body (values_arrived r)).body
   arrived-firm base body (Ok (Whole item)) f h = head-firm base body item.id _ (f (Whole item) refl) h
   arrived-firm base body (Ok (Raw id pair octets)) f h = head-firm base body id _ (f (Raw id pair octets) refl) h
   arrived-firm base body (Err fault) f h = h

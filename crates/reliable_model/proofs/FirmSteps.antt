@@ -39,7 +39,6 @@ use Rattle.end_model.specs.Requests.{sent_all, after_called}
 use Rattle.end_model.proofs.Ladder.{passed, unrefused, called}
 use Rattle.end_model.proofs.InvokeRungs.{invokable}
 use Rattle.end_model.proofs.OwnActs.{leading}
-use Rattle.reliable_model.specs.ReliablePairs.{IsOwnName}
 use Rattle.reliable_model.proofs.Words.{OwnWord}
 use Rattle.reliable_model.proofs.Fixed.{fixed-there, others-altered, unnamed-unharmed, fixed-unharmed, unproposed, unadded, undeleted}
 use Rattle.reliable_model.proofs.Fixed.{among-append, among-first, among-second}
@@ -100,45 +99,48 @@ alterable base body a answer h =
     let w = passed (is_bad a) refusals.BadProposal _ answer v.later in
     record { good = w.holds; unrefused = (unrefused (alteration_refusal (at Reliable base) body a) (Ok None) answer w.later).holds }
 
-module _ (first : List SetItem) (base : Base) (unfixed : IsOwnName base.tables.name_oid) where
+module _ (first : List SetItem) (base : Base) where
+  abbrev name : List ℕ
+  name = base.tables.name_oid
+
   abbrev b : Base
   b = at Reliable base
 
-  fixed-held : (body : Body) → Firm first body → (k : ℕ) → is_fixed (pair_of first k) ≡ true → is_fixed (pair_of body.sets.held k) ≡ true
+  fixed-held : (body : Body) → Firm name first body → (k : ℕ) → is_fixed (pair_of first k) ≡ true → is_fixed (pair_of body.sets.held k) ≡ true
   fixed-held body h k e = ap is_fixed (h.held k e) ∙ e
 
   -- the same but for what is said of it anew
-  pub linked : (body later : Body) → later.sets ≡ body.sets → later.calls ≡ body.calls → later.sending ≡ body.sending → later.receiving.pieces ≡ body.receiving.pieces → Firm first body → Firm first later
+  pub linked : (body later : Body) → later.sets ≡ body.sets → later.calls ≡ body.calls → later.sending ≡ body.sending → later.receiving.pieces ≡ body.receiving.pieces → Firm name first body → Firm name first later
   linked body later s c o r h =
       record {
         held = subst (λ (x : Sets). Keeps first x.held) (sym s) h.held;
         inter = subst (λ (x : Sets). Keeps first x.inter) (sym s) h.inter;
         own = subst (λ (x : Sets). OwnSpares first x.own) (sym s) h.own;
-        opens = subst (λ (x : Calls). OpensLoose first x.opens) (sym c) h.opens;
-        queue = subst (λ (x : Sending). QueueLoose first x.queue) (sym o) h.queue;
-        current = subst (λ (x : Sending). CurrentKeeps first x.current) (sym o) h.current;
+        opens = subst (λ (x : Calls). OpensLoose name first x.opens) (sym c) h.opens;
+        queue = subst (λ (x : Sending). QueueLoose name first x.queue) (sym o) h.queue;
+        current = subst (λ (x : Sending). CurrentKeeps name first x.current) (sym o) h.current;
         came = subst (PiecesKeep first) (sym r) h.came;
       }
 
   -- ---- calls
 
-  queued-firm : (body : Body) (opens : List OpenCall) (made context : ℕ) (apdu : Apdu) → OpensLoose first opens → IsLoose first context → Firm first body → Firm first (record body { calls = record { opens = opens; made = made }; sending = record body.sending { queue = body.sending.queue ++ record { context = context; apdu = apdu } ∷ [] } })
+  queued-firm : (body : Body) (opens : List OpenCall) (made context : ℕ) (apdu : Apdu) → OpensLoose name first opens → IsLoose name first context → Firm name first body → Firm name first (record body { calls = record { opens = opens; made = made }; sending = record body.sending { queue = body.sending.queue ++ record { context = context; apdu = apdu } ∷ [] } })
   queued-firm body opens made context apdu o l h =
-      record { held = h.held; inter = h.inter; own = h.own; opens = o; queue = queue-append first body.sending.queue (_ ∷ []) h.queue (l, tt); current = h.current; came = h.came }
+      record { held = h.held; inter = h.inter; own = h.own; opens = o; queue = queue-append name first body.sending.queue (_ ∷ []) h.queue (l, tt); current = h.current; came = h.came }
 
-  invoke-firm : (body : Body) (context place : ℕ) (id : ℤ) (linked_to : Option ℤ) (o : Option Operation) (argument : Option Val) → IsLoose first context → Firm first body → Firm first (sent_all Reliable (after_invoke b body context place id linked_to o argument) (due_invoke b body context id linked_to o argument))
+  invoke-firm : (body : Body) (context place : ℕ) (id : ℤ) (linked_to : Option ℤ) (o : Option Operation) (argument : Option Val) → IsLoose name first context → Firm name first body → Firm name first (sent_all Reliable (after_invoke b body context place id linked_to o argument) (due_invoke b body context id linked_to o argument))
   invoke-firm body context place id linked_to None argument l h = h
   invoke-firm body context place id linked_to (Some operation) argument l h =
-      queued-firm body _ _ context _ (opened-loose first b _ (record body.calls { made = suc body.calls.made }) h.opens l) l h
+      queued-firm body _ _ context _ (opened-loose name first b _ (record body.calls { made = suc body.calls.made }) h.opens l) l h
 
-  outcome-firm : (body : Body) (id : ℤ) (o : Option OpenCall) (apdu : Option Apdu) → opened_with false id body.calls.opens ≡ o → Firm first body → Firm first (sent_all Reliable (after_outcome b body id o apdu) (due_outcome b body o apdu))
+  outcome-firm : (body : Body) (id : ℤ) (o : Option OpenCall) (apdu : Option Apdu) → opened_with false id body.calls.opens ≡ o → Firm name first body → Firm name first (sent_all Reliable (after_outcome b body id o apdu) (due_outcome b body o apdu))
   outcome-firm body id None None e h = h
   outcome-firm body id None (Some apdu) e h = h
   outcome-firm body id (Some o) None e h = h
   outcome-firm body id (Some o) (Some apdu) e h =
-      queued-firm body _ _ o.context apdu (closed-loose first false id body.calls.opens h.opens) (found-loose first false id body.calls.opens o h.opens e) h
+      queued-firm body _ _ o.context apdu (closed-loose name first false id body.calls.opens h.opens) (found-loose name first false id body.calls.opens o h.opens e) h
 
-  abort-firm : (body : Body) (c : Bool) → Firm first body → Firm first (sent_all Reliable (over body) (if c then user_abort body.link.accepted 0 [] ∷ [] else []))
+  abort-firm : (body : Body) (c : Bool) → Firm name first body → Firm name first (sent_all Reliable (over body) (if c then user_abort body.link.accepted 0 [] ∷ [] else []))
   abort-firm body true h = record { held = h.held; inter = h.inter; own = h.own; opens = tt; queue = h.queue; current = h.current; came = h.came }
   abort-firm body false h = record { held = h.held; inter = h.inter; own = h.own; opens = tt; queue = h.queue; current = h.current; came = h.came }
 
@@ -154,7 +156,7 @@ module _ (first : List SetItem) (base : Base) (unfixed : IsOwnName base.tables.n
   or-second None y h = h
   or-second (Some refusal) y h = cc
 
-  spared : (body : Body) (a : Alteration) → alteration_refusal b body a ≡ None → Firm first body → (k : ℕ) → is_fixed (pair_of first k) ≡ true → is_among k (named_ids a) ≡ false
+  spared : (body : Body) (a : Alteration) → alteration_refusal b body a ≡ None → Firm name first body → (k : ℕ) → is_fixed (pair_of first k) ≡ true → is_among k (named_ids a) ≡ false
   spared body a h f k e =
       let more = or_else (deletions_refusal body a.delete) (if is_set_full body a then Some refusals.SetFull else None) in
       let adds = or-first (additions_refusal b body a.add) more h in
@@ -165,10 +167,10 @@ module _ (first : List SetItem) (base : Base) (unfixed : IsOwnName base.tables.n
   no-mark : (body : Body) (answer : Option ℤ) → can_mark b body ≡ Ok answer → ⊥
   no-mark body answer h = cc
 
-  resume-firm : (body : Body) → Firm first body → Firm first (sent_all Reliable body (Session (OfActivities (Resume body.sending.started (confirmed_of body.sending.current))) ∷ []))
+  resume-firm : (body : Body) → Firm name first body → Firm name first (sent_all Reliable body (Session (OfActivities (Resume body.sending.started (confirmed_of body.sending.current))) ∷ []))
   resume-firm body h =
-      let c = current-pieces first body.sending.current h.current in
-      let r = changed-firm first resumed body (λ t e k. resumed-keeps first t k) h in
+      let c = current-pieces name first body.sending.current h.current in
+      let r = changed-firm name first resumed body (λ t e k. resumed-keeps name first t k) h in
       record {
         held = back-set first (confirmed_of body.sending.current) (pieces_of body.sending.current) body.sets.held c.0 c.1 h.held;
         inter = h.held;
@@ -179,23 +181,23 @@ module _ (first : List SetItem) (base : Base) (unfixed : IsOwnName base.tables.n
         came = h.came;
       }
 
-  discard-firm : (body : Body) → Firm first body → Firm first (on_transfer (λ (t : Transfer). record t { confirmed = 0 }) body)
-  discard-firm body h = changed-firm first (λ (t : Transfer). record t { confirmed = 0 }) body (λ t e k. record { loose = k.loose; pieces = k.pieces; confirmed = omega arith }) h
+  discard-firm : (body : Body) → Firm name first body → Firm name first (on_transfer (λ (t : Transfer). record t { confirmed = 0 }) body)
+  discard-firm body h = changed-firm name first (λ (t : Transfer). record t { confirmed = 0 }) body (λ t e k. record { loose = k.loose; pieces = k.pieces; confirmed = omega arith }) h
 
-  pub called-firm : (body : Body) (call : Call) (answer : Option ℤ) → Firm first body → can_call b body call ≡ Ok answer → Firm first (after_called Reliable base body call answer)
+  pub called-firm : (body : Body) (call : Call) (answer : Option ℤ) → Firm name first body → can_call b body call ≡ Ok answer → Firm name first (after_called Reliable base body call answer)
   called-firm body call answer h can = go call (called b body call answer can).rows
     where
-      rest : (later : Body) → later.sets ≡ body.sets → later.calls ≡ body.calls → later.sending ≡ body.sending → later.receiving.pieces ≡ body.receiving.pieces → Firm first later
+      rest : (later : Body) → later.sets ≡ body.sets → later.calls ≡ body.calls → later.sending ≡ body.sending → later.receiving.pieces ≡ body.receiving.pieces → Firm name first later
       rest later s c o r = linked body later s c o r h
 
-      invokes : (context operation : ℕ) (argument : Option Val) (link : Option ℤ) (answer : Option ℤ) → can_invoke b body context operation argument link ≡ Ok answer → Firm first (after_called Reliable base body (the_calls.Invoke context operation argument link) answer)
+      invokes : (context operation : ℕ) (argument : Option Val) (link : Option ℤ) (answer : Option ℤ) → can_invoke b body context operation argument link ≡ Ok answer → Firm name first (after_called Reliable base body (the_calls.Invoke context operation argument link) answer)
       invokes context operation argument link None e = h
       invokes context operation argument link (Some id) e =
           let p = passed (is_stopped b body) refusals.Waiting _ (Some id) e in
           let i = invokable b body context operation (operation_at base.tables operation) argument link (Some id) p.later in
-          invoke-firm body context operation id link (operation_at base.tables operation) argument (on-module_loose b first body context unfixed h.held i.on_module) h
+          invoke-firm body context operation id link (operation_at base.tables operation) argument (on-module_loose b first body context h.held i.on_module) h
 
-      go : (call : Call) → can_by_rows b body call ≡ Ok answer → Firm first (after_called Reliable base body call answer)
+      go : (call : Call) → can_by_rows b body call ≡ Ok answer → Firm name first (after_called Reliable base body call answer)
       go the_calls.Open e = rest _ refl refl refl refl
       go (the_calls.Invoke context operation argument link) e = invokes context operation argument link answer e
       go (the_calls.Answer id result) e = outcome-firm body id (opened_with false id body.calls.opens) (result_in b body id result) refl h
@@ -227,41 +229,41 @@ module _ (first : List SetItem) (base : Base) (unfixed : IsOwnName base.tables.n
   one-transfer : (s t : Transfer) → Some s ≡ Some t → s ≡ t
   one-transfer s t h = cc
 
-  pub own-firm : (body : Body) (own : OwnAct) → Firm first body → next_own b body ≡ Some own → Firm first (after_step b body (step_of own))
+  pub own-firm : (body : Body) (own : OwnAct) → Firm name first body → next_own b body ≡ Some own → Firm name first (after_step b body (step_of own))
   own-firm body own h next = go (kind base body own body.sending.current refl (leading base body own next).next)
     where
-      go : Kind body own → Firm first (after_step b body (step_of own))
+      go : Kind body own → Firm name first (after_step b body (step_of own))
       go (StartsNext item items e q is) =
-          subst (λ o. Firm first (after_step b body (step_of o))) (sym is)
-          (let x = begun-current first body.sending.queue body.sending.started body.sending.current h.queue in
+          subst (λ o. Firm name first (after_step b body (step_of o))) (sym is)
+          (let x = begun-current name first body.sending.queue body.sending.started body.sending.current h.queue in
           record { held = h.held; inter = h.held; own = h.own; opens = h.opens; queue = x.0; current = x.1; came = h.came })
       go (EncodesIt t context e d is) =
-          subst (λ o. Firm first (after_step b body (step_of o))) (sym is)
-          (changed-firm first (λ u. record u { encoded = encoded_as b body (item_on context u.item (pair_of body.sets.held context)) }) body (λ u e k. record { loose = k.loose; pieces = k.pieces; confirmed = k.confirmed }) h)
+          subst (λ o. Firm name first (after_step b body (step_of o))) (sym is)
+          (changed-firm name first (λ u. record u { encoded = encoded_as b body (item_on context u.item (pair_of body.sets.held context)) }) body (λ u e k. record { loose = k.loose; pieces = k.pieces; confirmed = k.confirmed }) h)
       go (MarksIt t e s ends more is) =
-          subst (λ o. Firm first (after_step b body (step_of o))) (sym is)
-          (changed-firm first (λ (u : Transfer). record u { pieces = Marked (suc (highest t.pieces)) body.sets.held ∷ u.pieces }) body
+          subst (λ o. Firm name first (after_step b body (step_of o))) (sym is)
+          (changed-firm name first (λ (u : Transfer). record u { pieces = Marked (suc (highest t.pieces)) body.sets.held ∷ u.pieces }) body
           (λ u d k.
           let same : t ≡ u = one-transfer t u (sym s.is_it ∙ d) in
           let number : suc (highest t.pieces) ≡ suc (highest u.pieces) = ap (λ (v : Transfer). suc (highest v.pieces)) same in
           let low : u.confirmed ≤ suc (highest t.pieces) = let c : u.confirmed ≤ highest u.pieces = k.confirmed in omega arith in
           record { loose = k.loose; pieces = (h.held, number, k.pieces); confirmed = low }) h)
       go (EndsIt t e s none is) =
-          subst (λ o. Firm first (after_step b body (step_of o))) (sym is)
-          (changed-firm first (λ (u : Transfer). record u { progress = Ending }) body (λ u d k. record { loose = k.loose; pieces = k.pieces; confirmed = k.confirmed }) h)
+          subst (λ o. Firm name first (after_step b body (step_of o))) (sym is)
+          (changed-firm name first (λ (u : Transfer). record u { progress = Ending }) body (λ u d k. record { loose = k.loose; pieces = k.pieces; confirmed = k.confirmed }) h)
       go (GivesPart t e s more is) =
-          subst (λ o. Firm first (after_step b body (step_of o))) (sym is)
-          (changed-firm first (λ (u : Transfer). record u { pieces = Octets _ ∷ u.pieces }) body (λ u d k. record { loose = k.loose; pieces = k.pieces; confirmed = k.confirmed }) h)
+          subst (λ o. Firm name first (after_step b body (step_of o))) (sym is)
+          (changed-firm name first (λ (u : Transfer). record u { pieces = Octets _ ∷ u.pieces }) body (λ u d k. record { loose = k.loose; pieces = k.pieces; confirmed = k.confirmed }) h)
 
   -- ---- takings, where the association stands
 
-  parts-firm : (values : List Value) (body : Body) → Firm first body → Firm first (with_parts values body)
+  parts-firm : (values : List Value) (body : Body) → Firm name first body → Firm name first (with_parts values body)
   parts-firm [] body h = h
   parts-firm (value ∷ values) body h =
       parts-firm values (record body { receiving = record body.receiving { pieces = Octets (part_in value.content) ∷ body.receiving.pieces } })
       (record { held = h.held; inter = h.inter; own = h.own; opens = h.opens; queue = h.queue; current = h.current; came = h.came })
 
-  alter-firm : (body : Body) (a : Alteration) → alter_fault b body a.add ≡ None → Firm first body → Firm first (record body { sets = record body.sets { held = altered a (policy b body a) body.sets.held } })
+  alter-firm : (body : Body) (a : Alteration) → alter_fault b body a.add ≡ None → Firm name first body → Firm name first (record body { sets = record body.sets { held = altered a (policy b body a) body.sets.held } })
   alter-firm body a fine h =
       record {
         held =
@@ -281,7 +283,7 @@ module _ (first : List SetItem) (base : Base) (unfixed : IsOwnName base.tables.n
           no-fault (is_faulty_proposal (not base.initiator) body.sets.held a.add) invalid_ppdu
           (none-second (fault_if (not body.link.manages || true && body.link.turn) unexpected_ppdu) (fault_if (is_faulty_proposal (not base.initiator) body.sets.held a.add) invalid_ppdu) fine)
 
-  settled-firm : (body : Body) (own : List Alteration) (answers : Answers) → OwnSpares first own → Firm first body → Firm first (settled own answers body)
+  settled-firm : (body : Body) (own : List Alteration) (answers : Answers) → OwnSpares first own → Firm name first body → Firm name first (settled own answers body)
   settled-firm body [] answers o h = h
   settled-firm body (a ∷ own) answers o h =
       record {
@@ -297,12 +299,12 @@ module _ (first : List SetItem) (base : Base) (unfixed : IsOwnName base.tables.n
       }
 
   -- the receiving is as an interrupt, a discard or a start leaves it
-  between-firm : (body : Body) (receiving : Receiving) → PiecesKeep first receiving.pieces → Firm first body → Firm first (record body { sets = record body.sets { held = body.sets.inter }; receiving = receiving })
+  between-firm : (body : Body) (receiving : Receiving) → PiecesKeep first receiving.pieces → Firm name first body → Firm name first (record body { sets = record body.sets { held = body.sets.inter }; receiving = receiving })
   between-firm body receiving p h = record { held = h.inter; inter = h.inter; own = h.own; opens = h.opens; queue = h.queue; current = h.current; came = p }
 
-  cut-loose : (id : Option ℤ) (body : Body) → Firm first body → OpensLoose first (cut_invocation id body.calls).opens
+  cut-loose : (id : Option ℤ) (body : Body) → Firm name first body → OpensLoose name first (cut_invocation id body.calls).opens
   cut-loose None body h = h.opens
-  cut-loose (Some id) body h = closed-loose first true id body.calls.opens h.opens
+  cut-loose (Some id) body h = closed-loose name first true id body.calls.opens h.opens
 
   record Confirms (body : Body) (number : ℕ) : Type 0 where
     high : (t : Transfer) → body.sending.current ≡ Some t → number ≤ highest t.pieces
@@ -333,38 +335,38 @@ module _ (first : List SetItem) (base : Base) (unfixed : IsOwnName base.tables.n
 
   -- what arrives is on loose contexts
   abbrev pub ArrivesLoose : Body → Type 0
-  ArrivesLoose body = body.receiving.was_handed ≡ false → (arrived : Arrived) → arrived_now base body ≡ Ok arrived → IsLoose first (context_of first arrived)
+  ArrivesLoose body = body.receiving.was_handed ≡ false → (arrived : Arrived) → arrived_now base body ≡ Ok arrived → IsLoose name first (context_of arrived)
 
   abbrev pub ArrivesIn : Body → Word → Type 0
   ArrivesIn body (OfActivities (End number)) = ArrivesLoose body
   ArrivesIn body word = Unit {0}
 
-  end-firm : (body : Body) (number : ℕ) → ArrivesLoose body → Firm first body → Firm first (after_word b body (OfActivities (End number)))
+  end-firm : (body : Body) (number : ℕ) → ArrivesLoose body → Firm name first body → Firm name first (after_word b body (OfActivities (End number)))
   end-firm body number f h = go body.receiving.was_handed refl
     where
       ended : Body
       ended = received (λ r. record r { was_handed = true; active = false }) body
 
-      ended-so : Firm first ended
+      ended-so : Firm name first ended
       ended-so = record { held = h.held; inter = h.inter; own = h.own; opens = h.opens; queue = h.queue; current = h.current; came = h.came }
 
-      later : (x : Body) → Firm first x → Firm first (between x)
+      later : (x : Body) → Firm name first x → Firm name first (between x)
       later x k = record { held = k.inter; inter = k.inter; own = k.own; opens = k.opens; queue = k.queue; current = k.current; came = k.came }
 
-      go : (w : Bool) → body.receiving.was_handed ≡ w → Firm first (between (take_values b ended (if w then [] else values_arrived (arrived_now b body))).body)
+      go : (w : Bool) → body.receiving.was_handed ≡ w → Firm name first (between (take_values b ended (if w then [] else values_arrived (arrived_now b body))).body)
       go true e = later ended ended-so
-      go false e = later _ (arrived-firm first base ended (arrived_now b body) (f e) ended-so)
+      go false e = later _ (arrived-firm name first base ended (arrived_now b body) (f e) ended-so)
 
-  pub word-firm : (body : Body) (word : Word) → OwnWord word → word_fault b body word ≡ None → ArrivesIn body word → Firm first body → Firm first (after_word b body word)
+  pub word-firm : (body : Body) (word : Word) → OwnWord word → word_fault b body word ≡ None → ArrivesIn body word → Firm name first body → Firm name first (after_word b body word)
   word-firm body word own fine f h = go word own (in-place b body word fine) (nothing-above b body word fine) f
     where
-      rest : (later : Body) → later.sets ≡ body.sets → later.calls ≡ body.calls → later.sending ≡ body.sending → later.receiving.pieces ≡ body.receiving.pieces → Firm first later
+      rest : (later : Body) → later.sets ≡ body.sets → later.calls ≡ body.calls → later.sending ≡ body.sending → later.receiving.pieces ≡ body.receiving.pieces → Firm name first later
       rest later s c o r = linked body later s c o r h
 
-      gone : (link : Link) → Firm first (record body { link = link; calls = record body.calls { opens = [] } })
+      gone : (link : Link) → Firm name first (record body { link = link; calls = record body.calls { opens = [] } })
       gone link = record { held = h.held; inter = h.inter; own = h.own; opens = tt; queue = h.queue; current = h.current; came = h.came }
 
-      go : (word : Word) → OwnWord word → is_in_place b body (unit_of word) ≡ true → fault_above b body word ≡ None → ArrivesIn body word → Firm first (after_word b body word)
+      go : (word : Word) → OwnWord word → is_in_place b body (unit_of word) ≡ true → fault_above b body word ≡ None → ArrivesIn body word → Firm name first (after_word b body word)
       go (OfAssociation (Finish transport values)) own in_place above f = gone _
       go (OfAssociation (Disconnect values)) own in_place above f = gone _
       go (OfAssociation (Abort transport user)) own in_place above f = gone _
@@ -386,7 +388,7 @@ module _ (first : List SetItem) (base : Base) (unfixed : IsOwnName base.tables.n
           marked number e = eq-same number (suc (highest body.receiving.pieces)) (and-right _ (nat_eq number (suc (highest body.receiving.pieces))) (and-left _ (nat_le number most_marks) e))
       go (OfMarks (MarkAck number)) own in_place above f =
           let c = confirms body number body.sending.current refl (and-right _ (is_next_confirmed body.sending.current number) in_place) in
-          changed-firm first (λ (t : Transfer). record t { confirmed = number }) body (λ t e k. record { loose = k.loose; pieces = k.pieces; confirmed = c.high t e }) h
+          changed-firm name first (λ (t : Transfer). record t { confirmed = number }) body (λ t e k. record { loose = k.loose; pieces = k.pieces; confirmed = c.high t e }) h
       go (OfMarks (Please (Some tokens) values)) own in_place above f = h
       go (OfMarks GiveConfirm) own in_place above f = rest _ refl refl refl refl
       go (OfMarks GiveAck) own in_place above f = rest _ refl refl refl refl
@@ -406,7 +408,7 @@ module _ (first : List SetItem) (base : Base) (unfixed : IsOwnName base.tables.n
       go (OfActivities (EndAck number)) own in_place above f = record { held = h.inter; inter = h.inter; own = h.own; opens = h.opens; queue = h.queue; current = tt; came = h.came }
       go (OfActivities (Interrupt reason)) own in_place above f = between-firm body _ h.came h
       go (OfActivities InterruptAck) own in_place above f =
-          let s = changed-firm first (λ (t : Transfer). record t { progress = Suspended }) body (λ t e k. record { loose = k.loose; pieces = k.pieces; confirmed = k.confirmed }) h in
+          let s = changed-firm name first (λ (t : Transfer). record t { progress = Suspended }) body (λ t e k. record { loose = k.loose; pieces = k.pieces; confirmed = k.confirmed }) h in
           record { held = h.inter; inter = h.inter; own = tt; opens = h.opens; queue = s.queue; current = s.current; came = h.came }
       go (OfActivities (Discard reason)) own in_place above f = between-firm body _ tt h
       go (OfActivities DiscardAck) own in_place above f =
@@ -415,7 +417,7 @@ module _ (first : List SetItem) (base : Base) (unfixed : IsOwnName base.tables.n
 
   -- ---- breaks
 
-  pub broke-firm : (body : Body) → Firm first body → Firm first (after_broke b body)
+  pub broke-firm : (body : Body) → Firm name first body → Firm name first (after_broke b body)
   broke-firm body h =
-      let s = changed-firm first (λ (t : Transfer). record t { progress = Suspended }) body (λ t e k. record { loose = k.loose; pieces = k.pieces; confirmed = k.confirmed }) h in
+      let s = changed-firm name first (λ (t : Transfer). record t { progress = Suspended }) body (λ t e k. record { loose = k.loose; pieces = k.pieces; confirmed = k.confirmed }) h in
       record { held = h.held; inter = h.inter; own = h.own; opens = h.opens; queue = s.queue; current = s.current; came = h.came }

@@ -14,7 +14,7 @@ use Rattle.osi_base.specs.declared.words.Answers.{Answers}
 use Rattle.dialogue.specs.declared.call.CallRefusal.{CallRefusal}
 use Rattle.end_rules.specs.Base.{Base, acse_name, rtse_name, highest_context}
 use Rattle.end_rules.specs.Sets.{Alteration, same_name, is_among, pair_of, put, without_context, put_accepted, pair_accepted, accepted_pair}
-use Rattle.end_rules.specs.Sets.{named_syntax, with_added, with_deleted, altered, named_ids, proposed_ids, is_named_in, is_fixed, has_parity}
+use Rattle.end_rules.specs.Sets.{named_syntax, with_added, with_deleted, altered, named_ids, proposed_ids, is_named_in, has_abstract, is_fixed, has_parity}
 use Rattle.end_rules.specs.Altering.{has_double, is_no_context, is_bad, has_bad_transfers, used, addition_refusal, additions_refusal}
 use Rattle.end_rules.specs.Altering.{deletion_refusal, deletions_refusal, or_else}
 use Rattle.end_rules.specs.State.{Body, is_empty}
@@ -356,13 +356,17 @@ module-taken base name h = one-name name base.tables.name_oid (first (same_name 
     first true h = refl
     first false h = cc
 
--- and in one that of no fixed context, too
-pub module-or_fixed : (base : Base) (pair : Pair) → is_taken base true pair.abstract_name ≡ true → is_fixed (Some pair) ≡ false → pair.abstract_name ≡ base.tables.name_oid
-module-or_fixed base pair h fixed =
+-- of association control or of reliable transfer, and not of a module of this name
+abbrev pub is_others : List ℕ → Option Pair → Bool
+is_others name pair = is_fixed pair && not (has_abstract name pair)
+
+-- and in one all that isn't theirs alone, too
+pub module-or_others : (base : Base) (pair : Pair) → is_taken base true pair.abstract_name ≡ true → is_others base.tables.name_oid (Some pair) ≡ false → pair.abstract_name ≡ base.tables.name_oid
+module-or_others base pair h others =
     one-name pair.abstract_name base.tables.name_oid
-    (go (same_name pair.abstract_name base.tables.name_oid) (same_name pair.abstract_name acse_name) (same_name pair.abstract_name rtse_name) _ h fixed)
+    (go (same_name pair.abstract_name base.tables.name_oid) (same_name pair.abstract_name acse_name) (same_name pair.abstract_name rtse_name) _ h others)
   where
-    go : (m a r q : Bool) → (m || (true && (a || (q && r)))) ≡ true → (a || r) ≡ false → m ≡ true
+    go : (m a r q : Bool) → (m || (true && (a || (q && r)))) ≡ true → ((a || r) && not m) ≡ false → m ≡ true
     go true a r q h f = refl
     go false true r q h f = cc
     go false false true q h f = cc

@@ -12,7 +12,7 @@ use Rattle.dialogue.specs.declared.config.Phase.TheVariants.{Idle, Opening, Up, 
 use Rattle.dialogue.specs.declared.call.Call.{Call}
 use Rattle.dialogue.specs.declared.indication.Indication.{Indication}
 use Rattle.end_rules.specs.Base.{Base, Spellings, Fault, Item, Arrived, Whole}
-use Rattle.end_rules.specs.Sets.{Alteration, carrier, pair_of, accepted_set, is_fixed, may_send, lowest_with, has_abstract}
+use Rattle.end_rules.specs.Sets.{Alteration, carrier, pair_of, accepted_set, may_send, lowest_with, has_abstract}
 use Rattle.end_rules.specs.Messages.{Message, Transport, Session, TransportUnit, ConnectionRequest, ConnectionConfirm, DisconnectRequest, TransportError}
 use Rattle.end_rules.specs.Messages.{Word, OfAssociation, OfData, OfMarks, OfActivities, Accept, Refuse, Finish, Disconnect, Abort}
 use Rattle.end_rules.specs.Messages.{Values, AlterContext, AlterContextAck, Mark, MarkAck, Please, GiveConfirm, GiveAck}
@@ -50,10 +50,10 @@ use Rattle.reliable_model.specs.Codecs.{IsContextOf, Carries}
 use Rattle.reliable_model.specs.Goes.{Ledger, first_ledger, Goes, begins, calls, acts, takes, passes, fails, breaks, own_messages, after_sending, after_own, after_taking}
 use Rattle.reliable_model.specs.OwnRows.{EncodesInPlace}
 use Rattle.reliable_model.specs.Transfers.{Ends}
-use Rattle.reliable_model.specs.ReliablePairs.{reliable_pair, IsFit, IsOwnName}
+use Rattle.reliable_model.specs.ReliablePairs.{reliable_pair, IsFit}
 use Rattle.reliable_model.proofs.Contexts.{lowest-found}
 use Rattle.reliable_model.proofs.Fixed.{IsIdentifier, AreIdentifiers, listed-identifiers, answers-taken, AllContexts, none-contexts}
-use Rattle.reliable_model.proofs.Fixed.{added-contexts, answered-contexts, module-taken, module-or_fixed}
+use Rattle.reliable_model.proofs.Fixed.{added-contexts, answered-contexts, module-taken, is_others, module-or_others}
 use Rattle.reliable_model.proofs.Firm.{Keeps, IsLoose, PiecesKeep, OwnSpares, OpensLoose, QueueLoose, TransferKeeps, CurrentKeeps, Firm, module-loose, context_of}
 use Rattle.reliable_model.proofs.FirmSteps.{linked, called-firm, own-firm, word-firm, broke-firm, ArrivesIn}
 use Rattle.reliable_model.proofs.Leading.{leads-shared}
@@ -93,7 +93,7 @@ module _ (free : Free) (tables : Tables) (spellings : Spellings) (a b : Config) 
 
   data Rooted (body : Body) : Type 0 where
     Young : IsYoung body → Rooted body
-    Stood : Firm first body → Rooted body
+    Stood : Firm tables.name_oid first body → Rooted body
     Ended : body.link.phase ≡ Over → Rooted body
 
   record Placed (two : Two) (ledger : Ledger) : Type 0 where
@@ -118,7 +118,6 @@ module _ (free : Free) (tables : Tables) (spellings : Spellings) (a b : Config) 
 
   -- what is presumed
   record Sets_ : Type 0 where
-    name : IsOwnName tables.name_oid
     identifiers : AreIdentifiers (proposals (base Initiator))
 
   -- ---- what is first accepted
@@ -158,7 +157,7 @@ module _ (free : Free) (tables : Tables) (spellings : Spellings) (a b : Config) 
 
   called-rooted : Sets_ → (role : Role) (body : Body) (call : Call) (answer : Option ℤ) → Rooted body → can_call (base role) body call ≡ Ok answer → Rooted (after_called Reliable (base role) body call answer)
   called-rooted s role body call answer (Young y) h = young-called role body call answer y h
-  called-rooted s role body call answer (Stood f) h = Stood (called-firm first (base role) s.name body call answer f h)
+  called-rooted s role body call answer (Stood f) h = Stood (called-firm first (base role) body call answer f h)
   called-rooted s role body call answer (Ended e) h = absurd (over-calls (base role) body call answer e h)
 
   own-rooted : Sets_ → (role : Role) (body : Body) (own : OwnAct) → Rooted body → next_own (base role) body ≡ Some own → Rooted (after_step (base role) body (step_of own))
@@ -176,7 +175,7 @@ module _ (free : Free) (tables : Tables) (spellings : Spellings) (a b : Config) 
       go : (body.link.phase ≡ Idle) ⊎ (body.link.phase ≡ Opening) → ⊥
       go (inl e) = idle (sym e ∙ up)
       go (inr e) = opens (sym e ∙ up)
-  own-rooted s role body own (Stood f) h = Stood (own-firm first (base role) s.name body own f h)
+  own-rooted s role body own (Stood f) h = Stood (own-firm first (base role) body own f h)
   own-rooted s role body own (Ended e) h = absurd (over-up (sym e ∙ own-up (base role) body own h))
     where
       over-up : Over ≡ Up → ⊥
@@ -194,7 +193,7 @@ module _ (free : Free) (tables : Tables) (spellings : Spellings) (a b : Config) 
             came = y.came;
           })
       go (inr e) = Ended (ap (broken_phase Reliable) e)
-  broke-rooted s role body (Stood f) = Stood (broke-firm first (base role) s.name body f)
+  broke-rooted s role body (Stood f) = Stood (broke-firm first (base role) body f)
   broke-rooted s role body (Ended e) = Ended (ap (broken_phase Reliable) e)
 
   -- ---- what comes next
@@ -307,28 +306,28 @@ module _ (free : Free) (tables : Tables) (spellings : Spellings) (a b : Config) 
       go (inl u) = f (sym e ∙ u)
       go (inr r) = g (sym e ∙ r)
 
-  firm-of_live : (body : Body) → Live body → Rooted body → Firm first body
+  firm-of_live : (body : Body) → Live body → Rooted body → Firm tables.name_oid first body
   firm-of_live body live (Stood f) = f
   firm-of_live body live (Ended e) = live-phase body Over live e (λ x. cc) (λ x. cc)
   firm-of_live body live (Young y) = go y.phase
     where
-      go : (body.link.phase ≡ Idle) ⊎ (body.link.phase ≡ Opening) → Firm first body
+      go : (body.link.phase ≡ Idle) ⊎ (body.link.phase ≡ Opening) → Firm tables.name_oid first body
       go (inl e) = live-phase body Idle live e (λ x. cc) (λ x. cc)
       go (inr e) = live-phase body Opening live e (λ x. cc) (λ x. cc)
 
-  firm-of_broken : (body : Body) → body.link.phase ≡ Broken → Rooted body → Firm first body
+  firm-of_broken : (body : Body) → body.link.phase ≡ Broken → Rooted body → Firm tables.name_oid first body
   firm-of_broken body b_ (Stood f) = f
   firm-of_broken body b_ (Ended e) = let x : Over ≡ Broken = sym e ∙ b_ in cc
   firm-of_broken body b_ (Young y) = go y.phase
     where
-      go : (body.link.phase ≡ Idle) ⊎ (body.link.phase ≡ Opening) → Firm first body
+      go : (body.link.phase ≡ Idle) ⊎ (body.link.phase ≡ Opening) → Firm tables.name_oid first body
       go (inl e) = let x : Idle ≡ Broken = sym e ∙ b_ in cc
       go (inr e) = let x : Opening ≡ Broken = sym e ∙ b_ in cc
 
   unit-rooted : Sets_ → (role : Role) (body : Body) (unit : TransportUnit) → passes_over body.link.phase ≡ false → Rooted body → Rooted (after_transport (base role) body unit)
   unit-rooted s role body unit alive (Ended e) = let x : true ≡ false = sym (ap passes_over e) ∙ alive in cc
-  unit-rooted s role body (ConnectionRequest source size calling other_) alive (Stood f) = Stood (linked first (base role) s.name body _ refl refl refl refl f)
-  unit-rooted s role body (ConnectionConfirm destination size) alive (Stood f) = Stood (linked first (base role) s.name body _ refl refl refl refl f)
+  unit-rooted s role body (ConnectionRequest source size calling other_) alive (Stood f) = Stood (linked first (base role) body _ refl refl refl refl f)
+  unit-rooted s role body (ConnectionConfirm destination size) alive (Stood f) = Stood (linked first (base role) body _ refl refl refl refl f)
   unit-rooted s role body (DisconnectRequest destination) alive (Stood f) = Ended refl
   unit-rooted s role body TransportError alive (Stood f) = Stood f
   unit-rooted s role body (ConnectionRequest source size calling other_) alive (Young y) = go y.phase (is_size size) refl
@@ -383,17 +382,17 @@ module _ (free : Free) (tables : Tables) (spellings : Spellings) (a b : Config) 
   one-arrived : (item : Item) (arrived : Arrived) → ◌≡◌ {A = Result Arrived Fault} (Ok (Whole item)) (Ok arrived) → Whole item ≡ arrived
   one-arrived item arrived e = cc
 
-  arrives-in : (s : Sets_) → Carries free (base Initiator) → IsFit common → (role : Role) (two : Two) (ledger : Ledger) (word : Word) (left : List Message) (later : Body) (answers : List Message) (shown : List Indication) → machine.Kept free tables spellings a b two ledger → Firm first (body_at role two) →
-      coming_to role two ≡ Session word ∷ left → react (base role) (body_at role two) (Session word) ≡ Takes later answers shown → ArrivesIn first (base role) s.name (body_at role two) word
+  arrives-in : (s : Sets_) → Carries free (base Initiator) → IsFit common → (role : Role) (two : Two) (ledger : Ledger) (word : Word) (left : List Message) (later : Body) (answers : List Message) (shown : List Indication) → machine.Kept free tables spellings a b two ledger → Firm tables.name_oid first (body_at role two) →
+      coming_to role two ≡ Session word ∷ left → react (base role) (body_at role two) (Session word) ≡ Takes later answers shown → ArrivesIn first (base role) (body_at role two) word
   arrives-in s carries fit role two ledger word left later answers shown k f comes taken = go word comes taken
     where
-      go : (word : Word) → coming_to role two ≡ Session word ∷ left → react (base role) (body_at role two) (Session word) ≡ Takes later answers shown → ArrivesIn first (base role) s.name (body_at role two) word
+      go : (word : Word) → coming_to role two ≡ Session word ∷ left → react (base role) (body_at role two) (Session word) ≡ Takes later answers shown → ArrivesIn first (base role) (body_at role two) word
       go (OfActivities (End number)) comes taken =
           λ new arrived e.
           let x : Ends common two role = record { number = number; left = left; body = later; answers = answers; shown = shown; comes = comes; taken = taken; is_new = new } in
           let w = arriving.whole-at free tables spellings a b two ledger role carries fit k x in
-          let loose : IsLoose first w.item.id = module-loose first (body_at role two).sets.held tables.name_oid w.item.id w.item.pair s.name f.held w.there w.placed.named in
-          subst (λ y. IsLoose first (context_of first y)) (one-arrived w.item arrived (sym w.arrived ∙ e)) loose
+          let loose : IsLoose tables.name_oid first w.item.id = module-loose tables.name_oid first (body_at role two).sets.held w.item.id w.item.pair f.held w.there w.placed.named in
+          subst (λ y. IsLoose tables.name_oid first (context_of y)) (one-arrived w.item arrived (sym w.arrived ∙ e)) loose
       go (OfActivities (Start activity)) comes taken = tt
       go (OfActivities (Resume activity mark)) comes taken = tt
       go (OfActivities (EndAck number)) comes taken = tt
@@ -411,36 +410,36 @@ module _ (free : Free) (tables : Tables) (spellings : Spellings) (a b : Config) 
       let body : Body = body_at role two in
       let t = took-word (base role) body word later answers shown taken in
       let f = firm-of_live body live (at_role role two ledger p) in
-      let g : Firm first (after_word (base role) body word) = word-firm first (base role) s.name body word own t.fine (arrives-in s carries fit role two ledger word left later answers shown k f comes taken) f in
+      let g : Firm tables.name_oid first (after_word (base role) body word) = word-firm first (base role) body word own t.fine (arrives-in s carries fit role two ledger word left later answers shown k f comes taken) f in
       let r : AllRanged (Session word ∷ left) = subst AllRanged comes (coming-ranged role two ledger p) in
       record {
-        rooted = Stood (subst (Firm first) (sym t.later_is) g);
+        rooted = Stood (subst (Firm tables.name_oid first) (sym t.later_is) g);
         ranged = subst AllRanged (sym t.answers_are) (answered-ranged (base role) body word);
         has = subst (AnswersHave IsPlain (Session word)) (sym t.answers_are) (own-has role body word own r.0);
       }
 
   -- the initiator takes an acceptance
-  young-firm : (body later : Body) → IsYoung body → later.sets ≡ record { held = first; inter = first; own = [] } → later.calls ≡ body.calls → later.sending ≡ body.sending → later.receiving ≡ body.receiving → Firm first later
+  young-firm : (body later : Body) → IsYoung body → later.sets ≡ record { held = first; inter = first; own = [] } → later.calls ≡ body.calls → later.sending ≡ body.sending → later.receiving ≡ body.receiving → Firm tables.name_oid first later
   young-firm body later y e c o r =
       record {
         held = subst (λ (x : Sets). Keeps first x.held) (sym e) first-keeps;
         inter = subst (λ (x : Sets). Keeps first x.inter) (sym e) first-keeps;
         own = subst (λ (x : Sets). OwnSpares first x.own) (sym e) tt;
-        opens = subst (OpensLoose first) (sym (ap (λ (x : Calls). x.opens) c ∙ y.opens)) tt;
-        queue = subst (λ (x : Sending). QueueLoose first x.queue) (sym (o ∙ y.sending)) tt;
-        current = subst (λ (x : Sending). CurrentKeeps first x.current) (sym (o ∙ y.sending)) tt;
+        opens = subst (OpensLoose tables.name_oid first) (sym (ap (λ (x : Calls). x.opens) c ∙ y.opens)) tt;
+        queue = subst (λ (x : Sending). QueueLoose tables.name_oid first x.queue) (sym (o ∙ y.sending)) tt;
+        current = subst (λ (x : Sending). CurrentKeeps tables.name_oid first x.current) (sym (o ∙ y.sending)) tt;
         came = subst (PiecesKeep first) (sym (ap (λ (x : Receiving). x.pieces) r ∙ y.came)) tt;
       }
 
-  joined-firm : (body later : Body) → Firm first body → later.sets ≡ record { held = first; inter = first; own = [] } → later.calls ≡ body.calls → later.sending ≡ body.sending → later.receiving ≡ body.receiving → Firm first later
+  joined-firm : (body later : Body) → Firm tables.name_oid first body → later.sets ≡ record { held = first; inter = first; own = [] } → later.calls ≡ body.calls → later.sending ≡ body.sending → later.receiving ≡ body.receiving → Firm tables.name_oid first later
   joined-firm body later f e c o r =
       record {
         held = subst (λ (x : Sets). Keeps first x.held) (sym e) first-keeps;
         inter = subst (λ (x : Sets). Keeps first x.inter) (sym e) first-keeps;
         own = subst (λ (x : Sets). OwnSpares first x.own) (sym e) tt;
-        opens = subst (λ (x : Calls). OpensLoose first x.opens) (sym c) f.opens;
-        queue = subst (λ (x : Sending). QueueLoose first x.queue) (sym o) f.queue;
-        current = subst (λ (x : Sending). CurrentKeeps first x.current) (sym o) f.current;
+        opens = subst (λ (x : Calls). OpensLoose tables.name_oid first x.opens) (sym c) f.opens;
+        queue = subst (λ (x : Sending). QueueLoose tables.name_oid first x.queue) (sym o) f.queue;
+        current = subst (λ (x : Sending). CurrentKeeps tables.name_oid first x.current) (sym o) f.current;
         came = subst (λ (x : Receiving). PiecesKeep first x.pieces) (sym r) f.came;
       }
 
@@ -484,7 +483,7 @@ module _ (free : Free) (tables : Tables) (spellings : Spellings) (a b : Config) 
 
   -- the responder takes a CN
   refused-rooted : (s : Sets_) (body : Body) → Rooted body → Rooted (refused_connect body)
-  refused-rooted s body (Stood f) = Stood (linked first (base Responder) s.name body _ refl refl refl refl f)
+  refused-rooted s body (Stood f) = Stood (linked first (base Responder) body _ refl refl refl refl f)
   refused-rooted s body (Ended e) = Ended (ap (λ p. if is_broken p then Broken else Over) e)
   refused-rooted s body (Young y) = go y.phase
     where
@@ -492,14 +491,14 @@ module _ (free : Free) (tables : Tables) (spellings : Spellings) (a b : Config) 
       go (inl e) = Ended (ap (λ p. if is_broken p then Broken else Over) e)
       go (inr e) = Ended (ap (λ p. if is_broken p then Broken else Over) e)
 
-  recovering-firm : (way : Way) (body : Body) → At (joins way) Joined body → Rooted body → recovers_in (base Responder) (opening.values free tables spellings a b way) ≡ true → Firm first body
+  recovering-firm : (way : Way) (body : Body) → At (joins way) Joined body → Rooted body → recovers_in (base Responder) (opening.values free tables spellings a b way) ≡ true → Firm tables.name_oid first body
   recovering-firm First body at r e = cc
   recovering-firm Again body at r e = firm-of_broken body at.phase_is r
 
-  connected-firm : (way : Way) (body : Body) → At (joins way) Joined body → Rooted body → Firm first (accepted_connect (base Responder) body (opening.session free tables spellings a b) (opening.presentation free tables spellings a b) (opening.values free tables spellings a b way))
+  connected-firm : (way : Way) (body : Body) → At (joins way) Joined body → Rooted body → Firm tables.name_oid first (accepted_connect (base Responder) body (opening.session free tables spellings a b) (opening.presentation free tables spellings a b) (opening.values free tables spellings a b way))
   connected-firm way body at r = go (recovers_in (base Responder) (opening.values free tables spellings a b way)) refl
     where
-      go : (c : Bool) → recovers_in (base Responder) (opening.values free tables spellings a b way) ≡ c → Firm first (accepted_connect (base Responder) body (opening.session free tables spellings a b) (opening.presentation free tables spellings a b) (opening.values free tables spellings a b way))
+      go : (c : Bool) → recovers_in (base Responder) (opening.values free tables spellings a b way) ≡ c → Firm tables.name_oid first (accepted_connect (base Responder) body (opening.session free tables spellings a b) (opening.presentation free tables spellings a b) (opening.values free tables spellings a b way))
       go true e =
           let f = recovering-firm way body at r e in
           let calls_are = ap (λ (c : Bool). (if c then body else begun_with (base Responder) (opening.session free tables spellings a b)).calls) e in
@@ -582,7 +581,7 @@ module _ (free : Free) (tables : Tables) (spellings : Spellings) (a b : Config) 
   is-context i n = record { low = i.low; high = i.high; named = n }
 
   -- the carrier of a loose identifier is one of the module
-  carrier-named : Sets_ → (held : List SetItem) (own : List Alteration) (c context : ℕ) (pair : Pair) → IsRising (set_seen held) → IsLoose first c → IsPlain context pair → pair_of held context ≡ Some pair →
+  carrier-named : Sets_ → (held : List SetItem) (own : List Alteration) (c context : ℕ) (pair : Pair) → IsRising (set_seen held) → IsLoose tables.name_oid first c → IsPlain context pair → pair_of held context ≡ Some pair →
       carrier tables.name_oid held own c ≡ Some context → pair.abstract_name ≡ tables.name_oid
   carrier-named s held own c context pair rising loose plain there h = by-plain plain.1 (may_send held own c) h
     where
@@ -591,8 +590,8 @@ module _ (free : Free) (tables : Tables) (spellings : Spellings) (a b : Config) 
 
       itself : c ≡ context → pair_of first context ≡ Some pair → pair.abstract_name ≡ tables.name_oid
       itself e at_first =
-          let fixed : is_fixed (pair_of first context) ≡ false = subst (λ k. is_fixed (pair_of first k) ≡ false) e loose in
-          module-or_fixed (base Responder) pair ((first-taken s).each context pair at_first).1 (ap is_fixed (sym at_first) ∙ fixed)
+          let others : is_others tables.name_oid (pair_of first context) ≡ false = subst (IsLoose tables.name_oid first) e loose in
+          module-or_others (base Responder) pair ((first-taken s).each context pair at_first).1 (ap (is_others tables.name_oid) (sym at_first) ∙ others)
 
       by-plain : (pair.abstract_name ≡ tables.name_oid) ⊎ (pair_of first context ≡ Some pair) → (m : Bool) → (if m then Some c else lowest_with tables.name_oid own held) ≡ Some context → pair.abstract_name ≡ tables.name_oid
       by-plain (inl n) m h = n
@@ -626,16 +625,16 @@ module _ (free : Free) (tables : Tables) (spellings : Spellings) (a b : Config) 
       let found : pair_of ledger.shared.set context ≡ Some pair = found-back ledger.shared.set context pair (ap (λ set. lookup set context) same ∙ found-pair body.sets.held context pair there) in
       let plain : IsPlain context pair = p.shared.set.each context pair found in
       let rising : IsRising (set_seen body.sets.held) = subst IsRising same p.shared.set.rising in
-      let f : Firm first body = up-firm body (own-up (base role) body (EncodesOn context) h) (at_role role two ledger p) in
-      let t : TransferKeeps first x.transfer = subst (CurrentKeeps first) x.is_it f.current in
+      let f : Firm tables.name_oid first body = up-firm body (own-up (base role) body (EncodesOn context) h) (at_role role two ledger p) in
+      let t : TransferKeeps tables.name_oid first x.transfer = subst (CurrentKeeps tables.name_oid first) x.is_it f.current in
       is-context plain.0 (carrier-named s body.sets.held body.sets.own x.transfer.item.context context pair rising t.loose plain there x.carrier)
     where
-      up-firm : (body : Body) → body.link.phase ≡ Up → Rooted body → Firm first body
+      up-firm : (body : Body) → body.link.phase ≡ Up → Rooted body → Firm tables.name_oid first body
       up-firm body e (Stood f) = f
       up-firm body e (Ended q) = let z : Over ≡ Up = sym q ∙ e in cc
       up-firm body e (Young y) = go y.phase
         where
-          go : (body.link.phase ≡ Idle) ⊎ (body.link.phase ≡ Opening) → Firm first body
+          go : (body.link.phase ≡ Idle) ⊎ (body.link.phase ≡ Opening) → Firm tables.name_oid first body
           go (inl q) = let z : Idle ≡ Up = sym q ∙ e in cc
           go (inr q) = let z : Opening ≡ Up = sym q ∙ e in cc
 
@@ -706,4 +705,4 @@ module _ (free : Free) (tables : Tables) (spellings : Spellings) (a b : Config) 
 
   pub all-kept : machine.Presumed free tables spellings a b → (two : Two) (ledger : Ledger) → Goes common two ledger → machine.Kept free tables spellings a b two ledger
   all-kept q two ledger reached =
-      (all-both (record { name = q.fit.name; identifiers = listed-identifiers (proposals (base Initiator)) q.fit.identifiers }) q two ledger reached).kept
+      (all-both (record { identifiers = listed-identifiers (proposals (base Initiator)) q.fit.identifiers }) q two ledger reached).kept

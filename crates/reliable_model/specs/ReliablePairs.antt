@@ -1,14 +1,14 @@
 -- Two ends of reliable mode, and a run of the model that goes with them: from the first transport connection on, through the
 -- opening, transfers, interrupts, discards, resumptions, the turn, alterations, the release and aborts, with breaks at any moment
 -- and recoveries.
-use Rattle.std.specs.Prelude.{◌≡◌, ◌||◌, ℕ, ◌≤◌, List, ◌∷◌, true, false}
+use Rattle.std.specs.Prelude.{◌≡◌, ◌≤◌, List, ◌∷◌, true, false}
 use Rattle.std.specs.List.{list_any}
 use Rattle.dialogue.specs.declared.config.Config.{Config}
 use Rattle.dialogue.specs.declared.config.Mode.TheVariants.{Reliable}
 use Rattle.dialogue.specs.declared.indication.Indication.{Indication}
 use Rattle.stub_tables.specs.declared.tables.Tables.{Tables}
-use Rattle.end_rules.specs.Base.{Spellings, Fault, acse_name, rtse_name}
-use Rattle.end_rules.specs.Sets.{same_name, proposed_ids}
+use Rattle.end_rules.specs.Base.{Spellings, Fault}
+use Rattle.end_rules.specs.Sets.{proposed_ids}
 use Rattle.end_rules.specs.Altering.{is_no_context}
 use Rattle.end_rules.specs.Writing.{proposals}
 use Rattle.end_rules.specs.Messages.{Message}
@@ -26,17 +26,12 @@ use Rattle.reliable_model.specs.Goes.{Ledger, Goes}
 abbrev pub reliable_pair : Tables → Spellings → Config → Config → Common
 reliable_pair tables spellings a b = record { tables = tables; spellings = spellings; mode = Reliable; of_initiator = a; of_responder = b }
 
--- the module's abstract syntax is none of the association's
-abbrev pub IsOwnName : List ℕ → Type 0
-IsOwnName name = (same_name name acse_name || same_name name rtse_name) ≡ false
-
--- What is presumed of them: APDUs and transfers are read back as they were written; the module has a name of its own; the
--- contexts that the initiator proposes come once each, have its parity and identifiers of contexts, and the window of the
--- responder isn't 0, as configurations that aren't refused have it.
+-- What is presumed of them: APDUs and transfers are read back as they were written; the contexts that the initiator proposes
+-- come once each, have its parity and identifiers of contexts, and the window of the responder isn't 0, as configurations that
+-- aren't refused have it.
 pub record IsFit (common : Common) : Type 0 where
   pub reads : ReadsBack (base_at Initiator common)
   pub spells : SpellsTransfers (base_at Initiator common)
-  pub name : IsOwnName common.tables.name_oid
   pub proposes : ProposesRightly common
   pub identifiers : list_any is_no_context (proposed_ids (proposals (base_at Initiator common))) ≡ false
   pub window : 1 ≤ common.of_responder.window

@@ -30,7 +30,6 @@ use Rattle.end_model.specs.Rows.{at}
 use Rattle.end_model.proofs.Ladder.{passed, unrefused}
 use Rattle.end_model.proofs.Fitting.{one-name}
 use Rattle.end_model.proofs.Handing.{has-pair}
-use Rattle.reliable_model.specs.ReliablePairs.{IsOwnName}
 use Rattle.reliable_model.proofs.Contexts.{lowest-found}
 use Rattle.reliable_model.proofs.Fixed.{fixed-there, others-altered, unnamed-unharmed, fixed-unharmed, unproposed, unadded, undeleted, among-append, among-first, among-second}
 use Rattle.reliable_model.proofs.Firm.{Keeps, IsLoose, OwnSpares, OpensLoose, module-loose, opened-loose, closed-loose}
@@ -155,54 +154,54 @@ spares-append first (x ∷ own) a h n = (h.0, spares-append first own a h.1 n)
 
 -- ---- the carrier of a loose context
 
-pub carrier-loose : (first held : List SetItem) (own : List Alteration) (name : List ℕ) (c k : ℕ) → IsOwnName name → IsKept first held → IsLoose first c → carrier name held own c ≡ Some k → IsLoose first k
-carrier-loose first held own name c k unfixed h loose e = go (may_send held own c) e
+pub carrier-loose : (name : List ℕ) (first held : List SetItem) (own : List Alteration) (c k : ℕ) → IsKept first held → IsLoose name first c → carrier name held own c ≡ Some k → IsLoose name first k
+carrier-loose name first held own c k h loose e = go (may_send held own c) e
   where
-    go : (b : Bool) → (if b then Some c else lowest_with name own held) ≡ Some k → IsLoose first k
-    go true e = let same : c ≡ k = cc in subst (IsLoose first) same loose
+    go : (b : Bool) → (if b then Some c else lowest_with name own held) ≡ Some k → IsLoose name first k
+    go true e = let same : c ≡ k = cc in subst (IsLoose name first) same loose
     go false e =
         let has = lowest-found name own k held h.rising e in
         let p = has-pair name held k has in
-        module-loose first held name k p.0 unfixed h.keeps p.1 (one-name p.0.abstract_name name (ap (has_abstract name) (sym p.1) ∙ has))
+        module-loose name first held k p.0 h.keeps p.1 (one-name p.0.abstract_name name (ap (has_abstract name) (sym p.1) ∙ has))
 
 -- ---- what is heard
 
-abbrev HeardLoose : List SetItem → Heard → Type 0
-HeardLoose first heard = OpensLoose first heard.calls.opens
+abbrev HeardLoose : List ℕ → List SetItem → Heard → Type 0
+HeardLoose name first heard = OpensLoose name first heard.calls.opens
 
-module _ (first : List SetItem) (base : Base) (calls : Calls) (loose : OpensLoose first calls.opens) where
-  unless-loose : (p : Option ℕ) (refused : ℕ → Heard) (heard : Heard) → ((n : ℕ) → HeardLoose first (refused n)) → HeardLoose first heard → HeardLoose first (unless_problem p refused heard)
+module _ (name : List ℕ) (first : List SetItem) (base : Base) (calls : Calls) (loose : OpensLoose name first calls.opens) where
+  unless-loose : (p : Option ℕ) (refused : ℕ → Heard) (heard : Heard) → ((n : ℕ) → HeardLoose name first (refused n)) → HeardLoose name first heard → HeardLoose name first (unless_problem p refused heard)
   unless-loose None refused heard f h = h
   unless-loose (Some n) refused heard f h = f n
 
-  close-loose : (own : Bool) (id : ℤ) → OpensLoose first (close own id calls).opens
-  close-loose own id = closed-loose first own id calls.opens loose
+  close-loose : (own : Bool) (id : ℤ) → OpensLoose name first (close own id calls).opens
+  close-loose own id = closed-loose name first own id calls.opens loose
 
-  invoked-loose : (context : ℕ) (id : ℤ) (linked : Option ℤ) (place : Option ℕ) (argument : Carried) → IsLoose first context → HeardLoose first (invoked base calls context id linked place argument)
+  invoked-loose : (context : ℕ) (id : ℤ) (linked : Option ℤ) (place : Option ℕ) (argument : Carried) → IsLoose name first context → HeardLoose name first (invoked base calls context id linked place argument)
   invoked-loose context id linked None argument l = loose
-  invoked-loose context id linked (Some place) argument l = opened-loose first base _ calls loose l
+  invoked-loose context id linked (Some place) argument l = opened-loose name first base _ calls loose l
 
-  result-loose : (id : ℤ) (o : Option OpenCall) (code : Option Code) (value : Carried) → HeardLoose first (hear_result_of base calls id o code value)
+  result-loose : (id : ℤ) (o : Option OpenCall) (code : Option Code) (value : Carried) → HeardLoose name first (hear_result_of base calls id o code value)
   result-loose id None code value = loose
   result-loose id (Some o) code value = unless-loose (result_problem base o.operation (operation_at base.tables o.operation) code value) _ _ (λ n. close-loose true id) (close-loose true id)
 
-  told-loose : (id : ℤ) (place : Option ℕ) (parameter : Carried) → HeardLoose first (error_told (close true id calls) id place parameter)
+  told-loose : (id : ℤ) (place : Option ℕ) (parameter : Carried) → HeardLoose name first (error_told (close true id calls) id place parameter)
   told-loose id None parameter = close-loose true id
   told-loose id (Some place) parameter = close-loose true id
 
-  error-loose : (id : ℤ) (o : Option OpenCall) (place : Option ℕ) (parameter : Carried) → HeardLoose first (hear_error_of base calls id o place parameter)
+  error-loose : (id : ℤ) (o : Option OpenCall) (place : Option ℕ) (parameter : Carried) → HeardLoose name first (hear_error_of base calls id o place parameter)
   error-loose id None place parameter = loose
   error-loose id (Some o) place parameter = unless-loose (error_problem base (operation_at base.tables o.operation) place parameter) _ _ (λ n. close-loose true id) (told-loose id place parameter)
 
-  reject-loose : (id : Option ℤ) (problem : Problem) → HeardLoose first (hear_reject calls id problem)
+  reject-loose : (id : Option ℤ) (problem : Problem) → HeardLoose name first (hear_reject calls id problem)
   reject-loose None problem = loose
   reject-loose (Some id) problem = go (is_of_invocation problem.kind && is_some (opened_with true id calls.opens))
     where
-      go : (b : Bool) → HeardLoose first (if b then told (close true id calls) (indications.Rejected id problem) else told calls (indications.RejectTaken (Some id) problem))
+      go : (b : Bool) → HeardLoose name first (if b then told (close true id calls) (indications.Rejected id problem) else told calls (indications.RejectTaken (Some id) problem))
       go true = close-loose true id
       go false = loose
 
-  pub apdu-loose : (context : ℕ) (apdu : Apdu) → IsLoose first context → OpensLoose first (hear base calls context (head_of_apdu apdu)).calls.opens
+  pub apdu-loose : (context : ℕ) (apdu : Apdu) → IsLoose name first context → OpensLoose name first (hear base calls context (head_of_apdu apdu)).calls.opens
   apdu-loose context (apdus.Invoke id linked code argument) l =
       unless-loose (invoke_problem base calls id linked (operation_with base.tables code) (carried_in argument)) _ _ (λ n. loose) (invoked-loose context id linked (operation_with base.tables code) (carried_in argument) l)
   apdu-loose context (apdus.Result id returned) l = result-loose id (opened_with true id calls.opens) (code_returned returned) (value_returned returned)

@@ -57,8 +57,7 @@ use Rattle.reliable_model.specs.Goes.{Ledger, Goes, begins, calls, acts, takes, 
 use Rattle.reliable_model.proofs.FirmSteps.{in-place, nothing-above}
 use Rattle.reliable_model.proofs.Phases.{only-open, only-abort, over-calls}
 use Rattle.reliable_model.proofs.Opening.{First}
-use Rattle.reliable_model.specs.ReliablePairs.{IsOwnName}
-use Rattle.reliable_model.proofs.Fixed.{IsIdentifier, AreIdentifiers, listed-identifiers, answers-taken, AllContexts, none-contexts, added-contexts, answered-contexts, module-taken, module-or_fixed}
+use Rattle.reliable_model.proofs.Fixed.{IsIdentifier, AreIdentifiers, listed-identifiers, answers-taken, AllContexts, none-contexts, added-contexts, answered-contexts, module-taken, is_others, module-or_others}
 use Rattle.reliable_model.proofs.Firm.{IsLoose, OwnSpares, OpensLoose, on-module_loose, opened-loose, closed-loose, found-loose}
 use Rattle.reliable_model.proofs.OnWay.{took-unit, SharedHas, AnswersHave, all-answered_has}
 use Rattle.said_words.proofs.Lists.{few-identifiers}
@@ -106,17 +105,17 @@ not-up body y = go y.phase
     go (inr e) = ap is_up e
 
 -- what is on its way goes on loose contexts
-abbrev AllLoose : List SetItem → List Value → Type 0
-AllLoose first [] = Unit {0}
-AllLoose first (value ∷ values) = IsLoose first value.id × AllLoose first values
+abbrev AllLoose : List ℕ → List SetItem → List Value → Type 0
+AllLoose name first [] = Unit {0}
+AllLoose name first (value ∷ values) = IsLoose name first value.id × AllLoose name first values
 
-abbrev LooseIn : List SetItem → Message → Type 0
-LooseIn first (Session (OfData (Values values))) = AllLoose first values
-LooseIn first message = Unit {0}
+abbrev LooseIn : List ℕ → List SetItem → Message → Type 0
+LooseIn name first (Session (OfData (Values values))) = AllLoose name first values
+LooseIn name first message = Unit {0}
 
-abbrev AreLoose : List SetItem → List Message → Type 0
-AreLoose first [] = Unit {0}
-AreLoose first (message ∷ messages) = LooseIn first message × AreLoose first messages
+abbrev AreLoose : List ℕ → List SetItem → List Message → Type 0
+AreLoose name first [] = Unit {0}
+AreLoose name first (message ∷ messages) = LooseIn name first message × AreLoose name first messages
 
 abbrev AllPlain : (ℕ → Pair → Type 0) → List (List SetItem) → Type 0
 AllPlain P [] = Unit {0}
@@ -165,7 +164,7 @@ module _ (free : Free) (tables : Tables) (spellings : Spellings) (a b : Config) 
   record Sure (body : Body) : Type 0 where
     held : IsKept first body.sets.held
     own : OwnSpares first body.sets.own
-    opens : OpensLoose first body.calls.opens
+    opens : OpensLoose tables.name_oid first body.calls.opens
     saved : MarksKept first body.saved
 
   data Firmly (body : Body) : Type 0 where
@@ -175,13 +174,13 @@ module _ (free : Free) (tables : Tables) (spellings : Spellings) (a b : Config) 
 
   record Does (later : Body) (sent : List Message) : Type 0 where
     firm : Firmly later
-    loose : AreLoose first sent
+    loose : AreLoose tables.name_oid first sent
 
   abort-over : (body : Body) (c : Bool) → (sent_all Direct (over body) (if c then user_abort body.link.accepted 0 [] ∷ [] else [])).link.phase ≡ Over
   abort-over body true = refl
   abort-over body false = refl
 
-  abort-loose : (body : Body) (c : Bool) → AreLoose first (if c then user_abort body.link.accepted 0 [] ∷ [] else [])
+  abort-loose : (body : Body) (c : Bool) → AreLoose tables.name_oid first (if c then user_abort body.link.accepted 0 [] ∷ [] else [])
   abort-loose body true = (tt, tt)
   abort-loose body false = tt
 
@@ -191,14 +190,14 @@ module _ (free : Free) (tables : Tables) (spellings : Spellings) (a b : Config) 
       record {
         held = subst (λ (x : Sets). IsKept first x.held) (sym s) h.held;
         own = subst (λ (x : Sets). OwnSpares first x.own) (sym s) h.own;
-        opens = subst (λ (x : Calls). OpensLoose first x.opens) (sym c) h.opens;
+        opens = subst (λ (x : Calls). OpensLoose tables.name_oid first x.opens) (sym c) h.opens;
         saved = subst (MarksKept first) (sym m) h.saved;
       }
 
-  with-opens : (body : Body) (others : Calls) → OpensLoose first others.opens → Sure body → Sure (record body { calls = others })
+  with-opens : (body : Body) (others : Calls) → OpensLoose tables.name_oid first others.opens → Sure body → Sure (record body { calls = others })
   with-opens body others l s = record { held = s.held; own = s.own; opens = l; saved = s.saved }
 
-  module _ (writes : WritesAll free) (back : ReadsBack (base Initiator)) (right : ProposesRightly common) (ids : AreIdentifiers (proposals (base Initiator))) (unfixed : IsOwnName tables.name_oid) where
+  module _ (writes : WritesAll free) (back : ReadsBack (base Initiator)) (right : ProposesRightly common) (ids : AreIdentifiers (proposals (base Initiator))) where
     -- ---- what is first accepted
 
     abbrev IsAccepted : ℕ → Pair → Type 0
@@ -234,11 +233,11 @@ module _ (free : Free) (tables : Tables) (spellings : Spellings) (a b : Config) 
             subst (λ c. CallDoes role body c answer) (sym (only-abort First call (in-phase Opening e)))
             (record { firm = IsOver (abort-over body (is_carrying body.link.stage)); loose = abort-loose body (is_carrying body.link.stage) })
 
-    invoke-does : (role : Role) (body : Body) (context place : ℕ) (id : ℤ) (linked : Option ℤ) (o : Option Operation) (argument : Option Val) → IsLoose first context → Sure body →
+    invoke-does : (role : Role) (body : Body) (context place : ℕ) (id : ℤ) (linked : Option ℤ) (o : Option Operation) (argument : Option Val) → IsLoose tables.name_oid first context → Sure body →
         Does (sent_all Direct (after_invoke (base role) body context place id linked o argument) (due_invoke (base role) body context id linked o argument)) (due_invoke (base role) body context id linked o argument)
     invoke-does role body context place id linked None argument l s = record { firm = IsSure s; loose = tt }
     invoke-does role body context place id linked (Some operation) argument l s =
-        record { firm = IsSure (with-opens body _ (opened-loose first (base role) _ (record body.calls { made = suc body.calls.made }) s.opens l) s); loose = ((l, tt), tt) }
+        record { firm = IsSure (with-opens body _ (opened-loose tables.name_oid first (base role) _ (record body.calls { made = suc body.calls.made }) s.opens l) s); loose = ((l, tt), tt) }
 
     outcome-does : (role : Role) (body : Body) (id : ℤ) (o : Option OpenCall) (x : Option Apdu) → opened_with false id body.calls.opens ≡ o → Sure body →
         Does (sent_all Direct (after_outcome (base role) body id o x) (due_outcome (base role) body o x)) (due_outcome (base role) body o x)
@@ -248,11 +247,11 @@ module _ (free : Free) (tables : Tables) (spellings : Spellings) (a b : Config) 
     outcome-does role body id (Some o) (Some apdu) e s = go (carrier_in (base role) body o.context) refl
       where
         closes : Sure (answering id body)
-        closes = with-opens body _ (closed-loose first false id body.calls.opens s.opens) s
+        closes = with-opens body _ (closed-loose tables.name_oid first false id body.calls.opens s.opens) s
 
         go : (c : Option ℕ) → carrier_in (base role) body o.context ≡ c → Does (sent_all Direct (answering id body) (sent_at_once Direct body c apdu)) (sent_at_once Direct body c apdu)
         go None f = record { firm = IsSure closes; loose = tt }
-        go (Some k) f = record { firm = IsSure closes; loose = ((carrier-loose first body.sets.held body.sets.own tables.name_oid o.context k unfixed s.held (found-loose first false id body.calls.opens o s.opens e) f, tt), tt) }
+        go (Some k) f = record { firm = IsSure closes; loose = ((carrier-loose tables.name_oid first body.sets.held body.sets.own o.context k s.held (found-loose tables.name_oid first false id body.calls.opens o s.opens e) f, tt), tt) }
 
     sure-called : (role : Role) (body : Body) (call : Call) (answer : Option ℤ) → Sure body → can_call (base role) body call ≡ Ok answer → CallDoes role body call answer
     sure-called role body the_calls.Open answer s can = record { firm = IsSure (same-sure body _ refl refl refl s); loose = (tt, tt) }
@@ -260,7 +259,7 @@ module _ (free : Free) (tables : Tables) (spellings : Spellings) (a b : Config) 
     sure-called role body (the_calls.Invoke context operation argument linked) (Some id) s can =
         let p = passed (is_stopped (base role) body) refusals.Waiting _ (Some id) (called (base role) body (the_calls.Invoke context operation argument linked) (Some id) can).rows in
         let i = invokable (base role) body context operation (operation_at tables operation) argument linked (Some id) p.later in
-        invoke-does role body context operation id linked (operation_at tables operation) argument (on-module_loose (base role) first body context unfixed s.held.keeps i.on_module) s
+        invoke-does role body context operation id linked (operation_at tables operation) argument (on-module_loose (base role) first body context s.held.keeps i.on_module) s
     sure-called role body (the_calls.Answer id result) answer s can = outcome-does role body id (opened_with false id body.calls.opens) (result_in (base role) body id result) refl s
     sure-called role body (the_calls.Refuse id error parameter) answer s can = outcome-does role body id (opened_with false id body.calls.opens) (error_for id parameter (error_at tables error)) refl s
     sure-called role body (the_calls.Alter add delete) answer s can =
@@ -331,7 +330,7 @@ module _ (free : Free) (tables : Tables) (spellings : Spellings) (a b : Config) 
     early role body (OfMarks GiveAck) i in_place y = absurd i
     early role body (OfActivities word) i in_place y = absurd i
 
-    opened-sure : (later : Body) → later.sets.held ≡ first → later.sets.own ≡ [] → OpensLoose first later.calls.opens → later.saved ≡ record { number = 0; set = first } ∷ [] → Sure later
+    opened-sure : (later : Body) → later.sets.held ≡ first → later.sets.own ≡ [] → OpensLoose tables.name_oid first later.calls.opens → later.saved ≡ record { number = 0; set = first } ∷ [] → Sure later
     opened-sure later h o l sv =
         record { held = subst (IsKept first) (sym h) first-kept; own = subst (OwnSpares first) (sym o) tt; opens = l; saved = subst (MarksKept first) (sym sv) (refl, first-kept) }
 
@@ -347,11 +346,11 @@ module _ (free : Free) (tables : Tables) (spellings : Spellings) (a b : Config) 
     AcceptDoes role body (Session (OfAssociation (Accept session presentation values))) = Firmly (after_accept (base role) body session presentation values)
     AcceptDoes role body message = Unit {0}
 
-    accepts : (role : Role) (body : Body) → is_initiator role ≡ true → OpensLoose first body.calls.opens → AcceptDoes role body (the_acceptance (base Initiator) (base Responder) false)
+    accepts : (role : Role) (body : Body) → is_initiator role ≡ true → OpensLoose tables.name_oid first body.calls.opens → AcceptDoes role body (the_acceptance (base Initiator) (base Responder) false)
     accepts Initiator body h l = IsSure (opened-sure _ refl refl l refl)
     accepts Responder body h l = cc
 
-    accepted-does : (role : Role) (body : Body) (session : Accepting) (presentation : PresentationAccept) (values : List Value) → IsWord (base Initiator) (base Responder) (OfAssociation (Accept session presentation values)) → InPlace role body (OfAssociation (Accept session presentation values)) → OpensLoose first body.calls.opens → WordDoes role body (OfAssociation (Accept session presentation values))
+    accepted-does : (role : Role) (body : Body) (session : Accepting) (presentation : PresentationAccept) (values : List Value) → IsWord (base Initiator) (base Responder) (OfAssociation (Accept session presentation values)) → InPlace role body (OfAssociation (Accept session presentation values)) → OpensLoose tables.name_oid first body.calls.opens → WordDoes role body (OfAssociation (Accept session presentation values))
     accepted-does role body session presentation values i in_place l =
         record {
           firm =
@@ -360,18 +359,18 @@ module _ (free : Free) (tables : Tables) (spellings : Spellings) (a b : Config) 
           loose = tt;
         }
 
-    rejecting : (role : Role) (body : Body) (context : ℕ) (r : Option Rejecting) → IsLoose first context → Sure body → Does (with_reject (base role) body context r).body ((with_reject (base role) body context r).answers ++ [])
+    rejecting : (role : Role) (body : Body) (context : ℕ) (r : Option Rejecting) → IsLoose tables.name_oid first context → Sure body → Does (with_reject (base role) body context r).body ((with_reject (base role) body context r).answers ++ [])
     rejecting role body context None l s = record { firm = IsSure s; loose = tt }
     rejecting role body context (Some r) l s = go (carrier_in (base role) body context) refl
       where
         go : (c : Option ℕ) → carrier_in (base role) body context ≡ c → Does (sent_on body r c).body ((sent_on body r c).answers ++ [])
         go None e = record { firm = IsSure s; loose = tt }
-        go (Some k) e = record { firm = IsSure s; loose = ((carrier-loose first body.sets.held body.sets.own tables.name_oid context k unfixed s.held l e, tt), tt) }
+        go (Some k) e = record { firm = IsSure s; loose = ((carrier-loose tables.name_oid first body.sets.held body.sets.own context k s.held l e, tt), tt) }
 
-    data-taken : (role : Role) (body : Body) (item : Item) → IsLoose first item.id → Sure body → WordDoes role body (OfData (Values (value_of_item item ∷ [])))
+    data-taken : (role : Role) (body : Body) (item : Item) → IsLoose tables.name_oid first item.id → Sure body → WordDoes role body (OfData (Values (value_of_item item ∷ [])))
     data-taken role body item l s =
         let heard = hear (base role) body.calls item.id (head_of_apdu item.apdu) in
-        let r = rejecting role (record body { calls = heard.calls }) item.id heard.reject l (with-opens body heard.calls (apdu-loose first (base role) body.calls s.opens item.id item.apdu l) s) in
+        let r = rejecting role (record body { calls = heard.calls }) item.id heard.reject l (with-opens body heard.calls (apdu-loose tables.name_oid first (base role) body.calls s.opens item.id item.apdu l) s) in
         record { firm = r.firm; loose = r.loose }
 
     settled-firm : (body : Body) (own : List Alteration) (answers : Answers) → body.sets.own ≡ own → Sure body → Firmly (settled own answers body)
@@ -385,7 +384,7 @@ module _ (free : Free) (tables : Tables) (spellings : Spellings) (a b : Config) 
         let m = below-kept first n body.saved low s.saved in
         subst Firmly (sym e) (IsSure (record { held = newest-kept first (below n body.saved) m; own = tt; opens = tt; saved = m }))
 
-    sure-word : (role : Role) (body : Body) (word : Word) → IsWord (base Initiator) (base Responder) word → LooseIn first (Session word) → InPlace role body word → fault_above (base role) body word ≡ None → Sure body → WordDoes role body word
+    sure-word : (role : Role) (body : Body) (word : Word) → IsWord (base Initiator) (base Responder) word → LooseIn tables.name_oid first (Session word) → InPlace role body word → fault_above (base role) body word ≡ None → Sure body → WordDoes role body word
     sure-word role body (OfAssociation (Connect session presentation values)) i l in_place above s = subst (λ w. WordDoes role body (OfAssociation w)) (sym i.1) (connects role body in_place)
     sure-word role body (OfAssociation (Accept session presentation values)) i l in_place above s = accepted-does role body session presentation values i in_place s.opens
     sure-word role body (OfAssociation (Refuse transport reason presentation values)) i l in_place above s = absurd i
@@ -394,7 +393,7 @@ module _ (free : Free) (tables : Tables) (spellings : Spellings) (a b : Config) 
     sure-word role body (OfAssociation (Abort transport user)) i l in_place above s = record { firm = IsOver refl; loose = tt }
     sure-word role body (OfAssociation AbortAccept) i l in_place above s = absurd i
     sure-word role body (OfData (Values values)) i l in_place above s =
-        let m : AllLoose first (value_of_item i.item ∷ []) = subst (AllLoose first) i.is_one l in
+        let m : AllLoose tables.name_oid first (value_of_item i.item ∷ []) = subst (AllLoose tables.name_oid first) i.is_one l in
         subst (λ vs. WordDoes role body (OfData (Values vs))) (sym i.is_one) (data-taken role body i.item m.0 s)
     sure-word role body (OfData (AlterContext add delete)) i l in_place above s =
         let proposes : is_faulty_proposal (not (is_initiator role)) body.sets.held add ≡ false =
@@ -416,7 +415,7 @@ module _ (free : Free) (tables : Tables) (spellings : Spellings) (a b : Config) 
 
     young-word : (role : Role) (body : Body) (word : Word) → IsWord (base Initiator) (base Responder) word → InPlace role body word → IsEarly word → Young body → WordDoes role body word
     young-word role body (OfAssociation (Connect session presentation values)) i in_place e y = subst (λ w. WordDoes role body (OfAssociation w)) (sym i.1) (connects role body in_place)
-    young-word role body (OfAssociation (Accept session presentation values)) i in_place e y = accepted-does role body session presentation values i in_place (subst (OpensLoose first) (sym y.opens) tt)
+    young-word role body (OfAssociation (Accept session presentation values)) i in_place e y = accepted-does role body session presentation values i in_place (subst (OpensLoose tables.name_oid first) (sym y.opens) tt)
     young-word role body (OfAssociation (Abort transport user)) i in_place e y = record { firm = IsOver refl; loose = tt }
     young-word role body word i in_place e y = absurd e
 
@@ -463,7 +462,7 @@ module _ (free : Free) (tables : Tables) (spellings : Spellings) (a b : Config) 
             let y : answers_to_word (base role) body word ≡ answers = cc in
             record { alive = e; fine = g; later_is = x; answers_are = y }
 
-    word-does : (role : Role) (body : Body) (word : Word) → IsWord (base Initiator) (base Responder) word → LooseIn first (Session word) → word_fault (base role) body word ≡ None → passes_over body.link.phase ≡ false → Firmly body → WordDoes role body word
+    word-does : (role : Role) (body : Body) (word : Word) → IsWord (base Initiator) (base Responder) word → LooseIn tables.name_oid first (Session word) → word_fault (base role) body word ≡ None → passes_over body.link.phase ≡ false → Firmly body → WordDoes role body word
     word-does role body word i l fine alive (IsYoung y) = let p = in-place (base role) body word fine in young-word role body word i p (early role body word i p y) y
     word-does role body word i l fine alive (IsSure s) = sure-word role body word i l (in-place (base role) body word fine) (nothing-above (base role) body word fine) s
     word-does role body word i l fine alive (IsOver e) = absurd (clash (passes_over body.link.phase) (ap passes_over e) alive)
@@ -522,7 +521,7 @@ module _ (free : Free) (tables : Tables) (spellings : Spellings) (a b : Config) 
       does : Does later answers
       has : AnswersHave IsPlain message answers
 
-    taken : (role : Role) (body : Body) (message : Message) (later : Body) (answers : List Message) (shown : List Indication) → IsMessage (base Initiator) (base Responder) message → LooseIn first message → Firmly body → react (base role) body message ≡ Takes later answers shown → Taken message later answers
+    taken : (role : Role) (body : Body) (message : Message) (later : Body) (answers : List Message) (shown : List Indication) → IsMessage (base Initiator) (base Responder) message → LooseIn tables.name_oid first message → Firmly body → react (base role) body message ≡ Takes later answers shown → Taken message later answers
     taken role body (Transport unit) later answers shown i l f h =
         let t = took-unit (base role) body unit later answers shown h in
         let d = unit-does role body unit i f t.alive in
@@ -548,13 +547,13 @@ module _ (free : Free) (tables : Tables) (spellings : Spellings) (a b : Config) 
     record Placed (two : Two) (shared : Shared) (sets : SetsSent) : Type 0 where
       of_a : Firmly two.a
       of_b : Firmly two.b
-      to_a : AreLoose first two.to_a
-      to_b : AreLoose first two.to_b
+      to_a : AreLoose tables.name_oid first two.to_a
+      to_b : AreLoose tables.name_oid first two.to_b
       shared_has : SharedHas IsPlain shared
       sets_a : AllPlain IsPlain sets.to_a
       sets_b : AllPlain IsPlain sets.to_b
 
-    loose-append : (xs ys : List Message) → AreLoose first xs → AreLoose first ys → AreLoose first (xs ++ ys)
+    loose-append : (xs ys : List Message) → AreLoose tables.name_oid first xs → AreLoose tables.name_oid first ys → AreLoose tables.name_oid first (xs ++ ys)
     loose-append [] ys h k = k
     loose-append (x ∷ xs) ys h k = (h.0, loose-append xs ys h.1 k)
 
@@ -562,7 +561,7 @@ module _ (free : Free) (tables : Tables) (spellings : Spellings) (a b : Config) 
     firm-at Initiator two shared sets p = p.of_a
     firm-at Responder two shared sets p = p.of_b
 
-    coming-loose : (role : Role) (two : Two) (shared : Shared) (sets : SetsSent) → Placed two shared sets → AreLoose first (coming_to role two)
+    coming-loose : (role : Role) (two : Two) (shared : Shared) (sets : SetsSent) → Placed two shared sets → AreLoose tables.name_oid first (coming_to role two)
     coming-loose Initiator two shared sets p = p.to_a
     coming-loose Responder two shared sets p = p.to_b
 
@@ -570,7 +569,7 @@ module _ (free : Free) (tables : Tables) (spellings : Spellings) (a b : Config) 
     sets-plain Initiator two shared sets p = p.sets_a
     sets-plain Responder two shared sets p = p.sets_b
 
-    step : (role : Role) (two : Two) (shared new : Shared) (sets : SetsSent) (later : Body) (left sent : List Message) (rest : List (List SetItem)) → Placed two shared sets → Firmly later → AreLoose first left → AreLoose first sent → AllPlain IsPlain rest → SharedHas IsPlain new → Placed (stepped role later left sent two) new (sets_stepped role rest (before shared sent) sets)
+    step : (role : Role) (two : Two) (shared new : Shared) (sets : SetsSent) (later : Body) (left sent : List Message) (rest : List (List SetItem)) → Placed two shared sets → Firmly later → AreLoose tables.name_oid first left → AreLoose tables.name_oid first sent → AllPlain IsPlain rest → SharedHas IsPlain new → Placed (stepped role later left sent two) new (sets_stepped role rest (before shared sent) sets)
     step Initiator two shared new sets later left sent rest p f l m r h =
         record { of_a = f; of_b = p.of_b; to_a = l; to_b = loose-append two.to_b sent p.to_b m; shared_has = h; sets_a = r; sets_b = plain-append IsPlain sets.to_b (before shared sent) p.sets_b (plain-before IsPlain shared sent p.shared_has) }
     step Responder two shared new sets later left sent rest p f l m r h =
@@ -621,7 +620,7 @@ module _ (free : Free) (tables : Tables) (spellings : Spellings) (a b : Config) 
         let p = o.placed in
         let n = sets-there free tables spellings a b x l.shared o.sets role message left (kept x l.shared o.sets o.shares) e in
         let s : AreMessages (base Initiator) (base Responder) (message ∷ left) = subst (AreMessages (base Initiator) (base Responder)) e (coming-said free tables spellings a b writes back right ids role x (all-said free tables spellings a b writes back right ids x l g c)) in
-        let m : AreLoose first (message ∷ left) = subst (AreLoose first) e (coming-loose role x l.shared o.sets p) in
+        let m : AreLoose tables.name_oid first (message ∷ left) = subst (AreLoose tables.name_oid first) e (coming-loose role x l.shared o.sets p) in
         let t = taken role (body_at role x) message body answers shown s.0 m.0 (firm-at role x l.shared o.sets p) h in
         let r : AllPlain IsPlain (n.first ∷ n.rest) = subst (AllPlain IsPlain) n.is_it (sets-plain role x l.shared o.sets p) in
         record {
@@ -635,7 +634,7 @@ module _ (free : Free) (tables : Tables) (spellings : Spellings) (a b : Config) 
         let o = all-placed x l g c in
         let p = o.placed in
         let n = sets-there free tables spellings a b x l.shared o.sets role message left (kept x l.shared o.sets o.shares) e in
-        let m : AreLoose first (message ∷ left) = subst (AreLoose first) e (coming-loose role x l.shared o.sets p) in
+        let m : AreLoose tables.name_oid first (message ∷ left) = subst (AreLoose tables.name_oid first) e (coming-loose role x l.shared o.sets p) in
         let r : AllPlain IsPlain (n.first ∷ n.rest) = subst (AllPlain IsPlain) n.is_it (sets-plain role x l.shared o.sets p) in
         record {
           sets = _;
@@ -665,9 +664,9 @@ module _ (free : Free) (tables : Tables) (spellings : Spellings) (a b : Config) 
         let f = first-pair tables spellings a b right ids in s.held.keeps 1 (ap is_fixed f) ∙ f
     on-acse role body word i late in_place alive (IsOver e) = absurd (clash (passes_over body.link.phase) (ap passes_over e) alive)
 
-    one-named : (k : ℕ) (pair : Pair) → IsLoose first k → IsPlain k pair → pair.abstract_name ≡ tables.name_oid
+    one-named : (k : ℕ) (pair : Pair) → IsLoose tables.name_oid first k → IsPlain k pair → pair.abstract_name ≡ tables.name_oid
     one-named k pair l (i, inl n) = n
-    one-named k pair l (i, inr there) = module-or_fixed (base Responder) pair (first-taken.each k pair there).1 (ap is_fixed (sym there) ∙ l)
+    one-named k pair l (i, inr there) = module-or_others (base Responder) pair (first-taken.each k pair there).1 (ap (is_others tables.name_oid) (sym there) ∙ l)
 
     taken-rightly : (two : Two) (ledger : Ledger) (g : Goes common two ledger) → AreCalls common two ledger g → (role : Role) (word : Word) (left : List Message) (body : Body) (answers : List Message) (shown : List Indication) → coming_to role two ≡ Session word ∷ left → react (base role) (body_at role two) (Session word) ≡ Takes body answers shown → IsTaken (base role) (body_at role two) word
     taken-rightly two ledger g c role word left body answers shown e h = go word e h
@@ -689,7 +688,7 @@ module _ (free : Free) (tables : Tables) (spellings : Spellings) (a b : Config) 
             let h_one : react (base role) (body_at role two) (Session (OfData (Values (value_of_item item ∷ [])))) ≡ Takes body answers shown = subst (λ vs. react (base role) (body_at role two) (Session (OfData (Values vs))) ≡ Takes body answers shown) is h in
             let n = sets-there free tables spellings a b two ledger.shared (all-placed two ledger g c).sets role (Session (OfData (Values (value_of_item item ∷ [])))) left (kept two ledger.shared (all-placed two ledger g c).sets (all-placed two ledger g c).shares) e_one in
             let s = direct-as_sent free tables spellings a b writes back right two ledger.shared (all-placed two ledger g c).sets role (value_of_item item) left n.first n.rest body answers shown (all-placed two ledger g c).shares e_one n.is_it h_one in
-            let m : AreLoose first (Session (OfData (Values (value_of_item item ∷ []))) ∷ left) = subst (AreLoose first) e_one (coming-loose role two ledger.shared (all-placed two ledger g c).sets p) in
+            let m : AreLoose tables.name_oid first (Session (OfData (Values (value_of_item item ∷ []))) ∷ left) = subst (AreLoose tables.name_oid first) e_one (coming-loose role two ledger.shared (all-placed two ledger g c).sets p) in
             let r : AllPlain IsPlain (n.first ∷ n.rest) = subst (AllPlain IsPlain) n.is_it (sets-plain role two ledger.shared (all-placed two ledger g c).sets p) in
             record { there = s.0; named = one-named item.id item.pair m.0.0 (r.0.each item.id item.pair s.1) }
         go (OfAssociation (Finish transport values)) e h = there (OfAssociation (Finish transport values)) e h (λ x. x)
@@ -708,5 +707,5 @@ module _ (free : Free) (tables : Tables) (spellings : Spellings) (a b : Config) 
     word-in_place role body word later answers shown h = in-place (base role) body word (took role body word later answers shown h).fine
 
 pub direct-takes_rightly : DirectTakesRightly
-direct-takes_rightly free tables spellings a b writes back right contexts unfixed two ledger s role word left body answers shown e h =
-    taken-rightly free tables spellings a b writes back right (listed-identifiers (proposals (base_at Initiator (direct_pair tables spellings a b))) contexts) unfixed two ledger s.goes s.calls role word left body answers shown e h
+direct-takes_rightly free tables spellings a b writes back right contexts two ledger s role word left body answers shown e h =
+    taken-rightly free tables spellings a b writes back right (listed-identifiers (proposals (base_at Initiator (direct_pair tables spellings a b))) contexts) two ledger s.goes s.calls role word left body answers shown e h

@@ -17,7 +17,7 @@ use Rattle.end_model.specs.Pairs.{Two, base_at, body_at, coming_to, WritesAll}
 use Rattle.end_model.specs.DirectPairs.{direct_pair, ProposesRightly}
 use Rattle.reliable_model.specs.Codecs.{Carries}
 use Rattle.reliable_model.specs.Goes.{Ledger}
-use Rattle.reliable_model.specs.ReliablePairs.{reliable_pair, IsFit, IsOwnName}
+use Rattle.reliable_model.specs.ReliablePairs.{reliable_pair, IsFit}
 use Rattle.said_words.specs.Calls.{Speaks}
 use Rattle.said_words.specs.Words.{rtse_pair, value_of_item}
 use Rattle.said_words.specs.Laws.{ProposesContexts}
@@ -37,7 +37,7 @@ abbrev pub DirectTakesRightly : Type 0
 DirectTakesRightly =
     (free : Free) (tables : Tables) (spellings : Spellings) (a b : Config) → WritesAll free →
     ReadsBack (base_at Initiator (direct_pair tables spellings a b)) → ProposesRightly (direct_pair tables spellings a b) →
-    ProposesContexts (direct_pair tables spellings a b) → IsOwnName tables.name_oid →
+    ProposesContexts (direct_pair tables spellings a b) →
     (two : Two) (ledger : Ledger) → Speaks (direct_pair tables spellings a b) two ledger →
     (role : Role) (word : Word) (left : List Message) (body : Body) (answers : List Message) (shown : List Indication) →
     coming_to role two ≡ Session word ∷ left → react (base_at role (direct_pair tables spellings a b)) (body_at role two) (Session word) ≡ Takes body answers shown →

@@ -53,7 +53,7 @@ use Rattle.end_model.proofs.Fitting.{same-itself}
 use Rattle.end_model.proofs.OwnActs.{leading}
 use Rattle.reliable_model.specs.Codecs.{IsTransferable, SpellsTransfers}
 use Rattle.reliable_model.specs.Goes.{own_messages}
-use Rattle.reliable_model.specs.ReliablePairs.{reliable_pair, IsOwnName}
+use Rattle.reliable_model.specs.ReliablePairs.{reliable_pair}
 use Rattle.reliable_model.specs.Transferring.{IsBeginning, OnEncoded, IsCurrent, OnCurrent, IsSending}
 use Rattle.reliable_model.proofs.Fixed.{AreIdentifiers}
 use Rattle.reliable_model.proofs.Firm.{Keeps, OwnSpares, OpensLoose, QueueLoose, CurrentKeeps, PiecesKeep, Firm, current-pieces}
@@ -226,7 +226,7 @@ module _ (free : Free) (tables : Tables) (spellings : Spellings) (a b : Config) 
     pub accepted : body.link.accepted ≡ first
     pub named : IsNamed role body
     pub started : IsStarted body.sending
-    pub firm : Firm first body
+    pub firm : Firm tables.name_oid first body
 
   pub data Rooted (role : Role) (body : Body) : Type 0 where
     IsYoung : Young body → Rooted role body
@@ -254,14 +254,14 @@ module _ (free : Free) (tables : Tables) (spellings : Spellings) (a b : Config) 
   named-still Initiator body later r c n = tt
   named-still Responder body later r c n = (r ∙ n.0, c ∙ n.1)
 
-  still : (role : Role) (body later : Body) → Stood role body → later.link.accepted ≡ body.link.accepted → later.link.reference ≡ body.link.reference → later.link.common ≡ body.link.common → is_early later.link.phase ≡ false → IsStarted later.sending → Firm first later → Rooted role later
+  still : (role : Role) (body later : Body) → Stood role body → later.link.accepted ≡ body.link.accepted → later.link.reference ≡ body.link.reference → later.link.common ≡ body.link.common → is_early later.link.phase ≡ false → IsStarted later.sending → Firm tables.name_oid first later → Rooted role later
   still role body later s x r c e n f = IsStood (record { late = e; accepted = x ∙ s.accepted; named = named-still role body later r c s.named; started = n; firm = f })
 
-  linked-still : (role : Role) (body later : Body) → Stood role body → later.link ≡ body.link → IsStarted later.sending → Firm first later → Rooted role later
+  linked-still : (role : Role) (body later : Body) → Stood role body → later.link ≡ body.link → IsStarted later.sending → Firm tables.name_oid first later → Rooted role later
   linked-still role body later s l n f =
       still role body later s (ap (λ (x : Link). x.accepted) l) (ap (λ (x : Link). x.reference) l) (ap (λ (x : Link). x.common) l) (ap (λ (x : Link). is_early x.phase) l ∙ s.late) n f
 
-  left-still : (role : Role) (body later : Body) → Stood role body → Leaves body later → Firm first later → Rooted role later
+  left-still : (role : Role) (body later : Body) → Stood role body → Leaves body later → Firm tables.name_oid first later → Rooted role later
   left-still role body later s l f = linked-still role body later s l.link (same-started body.sending later.sending l.started l.current s.started) f
 
   -- ---- aborts and releases
@@ -278,7 +278,7 @@ module _ (free : Free) (tables : Tables) (spellings : Spellings) (a b : Config) 
 
   -- ---- what is presumed
 
-  module _ (spells : SpellsTransfers (base Initiator)) (right : ProposesRightly common) (ids : AreIdentifiers (proposals (base Initiator))) (unfixed : IsOwnName tables.name_oid) (window : nat_eq a.window 0 ≡ false) where
+  module _ (spells : SpellsTransfers (base Initiator)) (right : ProposesRightly common) (ids : AreIdentifiers (proposals (base Initiator))) (window : nat_eq a.window 0 ≡ false) where
     on-one : (role : Role) (body : Body) → Stood role body → acse_context body.link.accepted ≡ 1
     on-one role body s = ap acse_context s.accepted ∙ on-acse tables spellings a b right ids
 
@@ -323,13 +323,13 @@ module _ (free : Free) (tables : Tables) (spellings : Spellings) (a b : Config) 
         go (inr e) = subst (λ c. CallSays role body c answer) (sym (only-abort First call (in-phase Opening e))) (aborts role body answer (on-none body y))
 
     invoke-says : (role : Role) (body : Body) (context place : ℕ) (id : ℤ) (link : Option ℤ) (o : Option Operation) (argument : Option Val) → Stood role body
-        → Firm first (sent_all Reliable (after_invoke (base role) body context place id link o argument) (due_invoke (base role) body context id link o argument))
+        → Firm tables.name_oid first (sent_all Reliable (after_invoke (base role) body context place id link o argument) (due_invoke (base role) body context id link o argument))
         → Says role (sent_all Reliable (after_invoke (base role) body context place id link o argument) (due_invoke (base role) body context id link o argument)) (due_invoke (base role) body context id link o argument)
     invoke-says role body context place id link None argument s f = record { rooted = IsStood s; said = tt }
     invoke-says role body context place id link (Some operation) argument s f = record { rooted = left-still role body _ s (record { link = refl; started = refl; current = refl }) f; said = tt }
 
     outcome-says : (role : Role) (body : Body) (id : ℤ) (o : Option OpenCall) (x : Option Apdu) → Stood role body
-        → Firm first (sent_all Reliable (after_outcome (base role) body id o x) (due_outcome (base role) body o x))
+        → Firm tables.name_oid first (sent_all Reliable (after_outcome (base role) body id o x) (due_outcome (base role) body o x))
         → Says role (sent_all Reliable (after_outcome (base role) body id o x) (due_outcome (base role) body o x)) (due_outcome (base role) body o x)
     outcome-says role body id None None s f = record { rooted = IsStood s; said = tt }
     outcome-says role body id None (Some apdu) s f = record { rooted = IsStood s; said = tt }
@@ -339,7 +339,7 @@ module _ (free : Free) (tables : Tables) (spellings : Spellings) (a b : Config) 
     -- the mark from which an activity is resumed
     resumes : (role : Role) (body : Body) → IsSending (base role) body.sending → Stood role body → confirmed_of body.sending.current ≤ most_marks
     resumes role body sending s =
-        let p = current-pieces first body.sending.current s.firm.current in
+        let p = current-pieces tables.name_oid first body.sending.current s.firm.current in
         let low : confirmed_of body.sending.current ≤ highest (pieces_of body.sending.current) = p.1 in
         let few : highest (pieces_of body.sending.current) ≤ 256 = few-marks (base role) body.sending.current (calling.spells-at free tables spellings a b role spells) sending.current in
         omega arith
@@ -349,13 +349,13 @@ module _ (free : Free) (tables : Tables) (spellings : Spellings) (a b : Config) 
     suspended-started (Some t) started h n = n
 
     stood-called : (role : Role) (body : Body) (call : Call) (answer : Option ℤ) → IsSending (base role) body.sending → IsCall call → Stood role body → can_call (base role) body call ≡ Ok answer → CallSays role body call answer
-    stood-called role body call answer sending i s can = go call i can (called-firm first (base role) unfixed body call answer s.firm can)
+    stood-called role body call answer sending i s can = go call i can (called-firm first (base role) body call answer s.firm can)
       where
-        go : (call : Call) → IsCall call → can_call (base role) body call ≡ Ok answer → Firm first (after_called Reliable (base role) body call answer) → CallSays role body call answer
+        go : (call : Call) → IsCall call → can_call (base role) body call ≡ Ok answer → Firm tables.name_oid first (after_called Reliable (base role) body call answer) → CallSays role body call answer
         go the_calls.Open i can f = absurd (clash (is_early body.link.phase) (idle-early body.link.phase (called (base role) body the_calls.Open answer can).in_phase) s.late)
         go (the_calls.Invoke context operation argument link) i can f = invokes answer can f
           where
-            invokes : (answer : Option ℤ) → can_call (base role) body (the_calls.Invoke context operation argument link) ≡ Ok answer → Firm first (after_called Reliable (base role) body (the_calls.Invoke context operation argument link) answer) → CallSays role body (the_calls.Invoke context operation argument link) answer
+            invokes : (answer : Option ℤ) → can_call (base role) body (the_calls.Invoke context operation argument link) ≡ Ok answer → Firm tables.name_oid first (after_called Reliable (base role) body (the_calls.Invoke context operation argument link) answer) → CallSays role body (the_calls.Invoke context operation argument link) answer
             invokes None can f = record { rooted = IsStood s; said = tt }
             invokes (Some id) can f = invoke-says role body context operation id link (operation_at tables operation) argument s f
         go (the_calls.Answer id result) i can f = outcome-says role body id (opened_with false id body.calls.opens) (result_in (base role) body id result) s f
@@ -382,7 +382,7 @@ module _ (free : Free) (tables : Tables) (spellings : Spellings) (a b : Config) 
         go the_calls.Discard i can f = record { rooted = still role body _ s refl refl refl s.late (changed-started _ body.sending s.started) f; said = (refl, tt) }
         go the_calls.Recover i can f = recovers role (called (base role) body the_calls.Recover answer can).initiates s f
           where
-            recovers : (r : Role) → (true && not (is_initiator r)) ≡ false → Stood r body → Firm first (after_called Reliable (base r) body the_calls.Recover answer) → CallSays r body the_calls.Recover answer
+            recovers : (r : Role) → (true && not (is_initiator r)) ≡ false → Stood r body → Firm tables.name_oid first (after_called Reliable (base r) body the_calls.Recover answer) → CallSays r body the_calls.Recover answer
             recovers Initiator h s f = record { rooted = still Initiator body _ s refl refl refl refl s.started f; said = (refl, tt) }
             recovers Responder h s f = cc
         go the_calls.Release i can f = record { rooted = still role body _ s refl refl refl refl s.started f; said = (finish-said body.link.accepted (on-one role body s), tt) }
@@ -434,15 +434,15 @@ module _ (free : Free) (tables : Tables) (spellings : Spellings) (a b : Config) 
         }
 
     stood-own : (role : Role) (body : Body) (own : OwnAct) → IsSending (base role) body.sending → Stood role body → next_own (base role) body ≡ Some own → OwnSays role body own
-    stood-own role body own sending s next = go (kind (base role) body own body.sending.current refl l) (own-firm first (base role) unfixed body own s.firm next)
+    stood-own role body own sending s next = go (kind (base role) body own body.sending.current refl l) (own-firm first (base role) body own s.firm next)
       where
         l : next_in (base role) body body.sending.current ≡ Some own
         l = (leading (base role) body own next).next
 
-        to : (o : OwnAct) → own ≡ o → Firm first (after_step (base role) body (step_of own)) → (Firm first (after_step (base role) body (step_of o)) → OwnSays role body o) → OwnSays role body own
-        to o is f h = subst (OwnSays role body) (sym is) (h (subst (λ (x : OwnAct). Firm first (after_step (base role) body (step_of x))) is f))
+        to : (o : OwnAct) → own ≡ o → Firm tables.name_oid first (after_step (base role) body (step_of own)) → (Firm tables.name_oid first (after_step (base role) body (step_of o)) → OwnSays role body o) → OwnSays role body own
+        to o is f h = subst (OwnSays role body) (sym is) (h (subst (λ (x : OwnAct). Firm tables.name_oid first (after_step (base role) body (step_of x))) is f))
 
-        go : Kind body own → Firm first (after_step (base role) body (step_of own)) → OwnSays role body own
+        go : Kind body own → Firm tables.name_oid first (after_step (base role) body (step_of own)) → OwnSays role body own
         go (StartsNext item items e q is) f =
             let low = starts-low role body own item items e q l in
             to _ is f (λ f. record { rooted = linked-still role body _ s refl (begun-started body.sending.started body.sending.current body.sending.queue low) f; said = ((omega arith, low), tt) })
@@ -477,7 +477,7 @@ module _ (free : Free) (tables : Tables) (spellings : Spellings) (a b : Config) 
             })
         go (inr e) = IsOver (ap (broken_phase Reliable) e)
     broke-rooted role body (IsStood s) =
-        still role body _ s refl refl refl (still-late body.link.phase s.late) (changed-started _ body.sending s.started) (broke-firm first (base role) unfixed body s.firm)
+        still role body _ s refl refl refl (still-late body.link.phase s.late) (changed-started _ body.sending s.started) (broke-firm first (base role) body s.firm)
     broke-rooted role body (IsOver e) = IsOver (ap (broken_phase Reliable) e)
 
     -- ---- units of the transport
@@ -502,13 +502,13 @@ module _ (free : Free) (tables : Tables) (spellings : Spellings) (a b : Config) 
         asked : Rooted role body → UnitSays role body (ConnectionRequest 1 (Some 10) a.calling a.called)
         asked (IsYoung y) = record { rooted = IsYoung (record { phase = inr (opens y.phase); accepted = y.accepted; calm = y.calm; opens = y.opens; sending = y.sending; came = y.came }); said = (refl, tt) }
         asked (IsStood s) =
-            record { rooted = still role body _ s refl refl refl (asked-late body.link.phase waits s.late) s.started (linked first (base role) unfixed body _ refl refl refl refl s.firm); said = (refl, tt) }
+            record { rooted = still role body _ s refl refl refl (asked-late body.link.phase waits s.late) s.started (linked first (base role) body _ refl refl refl refl s.firm); said = (refl, tt) }
         asked (IsOver e) = not-over body e alive
     unit-says role body (ConnectionConfirm destination size) i fine alive r = record { rooted = confirmed r; said = (confirms role body destination size fine, tt) }
       where
         confirmed : Rooted role body → Rooted role (after_transport (base role) body (ConnectionConfirm destination size))
         confirmed (IsYoung y) = IsYoung (record { phase = y.phase; accepted = y.accepted; calm = y.calm; opens = y.opens; sending = y.sending; came = y.came })
-        confirmed (IsStood s) = still role body _ s refl refl refl s.late s.started (linked first (base role) unfixed body _ refl refl refl refl s.firm)
+        confirmed (IsStood s) = still role body _ s refl refl refl s.late s.started (linked first (base role) body _ refl refl refl refl s.firm)
         confirmed (IsOver e) = IsOver e
     unit-says role body (DisconnectRequest destination) i fine alive r = absurd i
     unit-says role body TransportError i fine alive r = absurd i
@@ -527,15 +527,15 @@ module _ (free : Free) (tables : Tables) (spellings : Spellings) (a b : Config) 
     Meets body word = Unit {0}
 
     -- a fresh end with these sets
-    fresh-firm : (later : Body) → later.sets.held ≡ first → later.sets.inter ≡ first → later.sets.own ≡ [] → later.calls.opens ≡ [] → later.sending ≡ record { started = 0; current = None; queue = [] } → later.receiving.pieces ≡ [] → Firm first later
+    fresh-firm : (later : Body) → later.sets.held ≡ first → later.sets.inter ≡ first → later.sets.own ≡ [] → later.calls.opens ≡ [] → later.sending ≡ record { started = 0; current = None; queue = [] } → later.receiving.pieces ≡ [] → Firm tables.name_oid first later
     fresh-firm later h i o c n p =
         record {
           held = subst (Keeps first) (sym h) (λ k e. refl);
           inter = subst (Keeps first) (sym i) (λ k e. refl);
           own = subst (OwnSpares first) (sym o) tt;
-          opens = subst (OpensLoose first) (sym c) tt;
-          queue = subst (λ (x : Sending). QueueLoose first x.queue) (sym n) tt;
-          current = subst (λ (x : Sending). CurrentKeeps first x.current) (sym n) tt;
+          opens = subst (OpensLoose tables.name_oid first) (sym c) tt;
+          queue = subst (λ (x : Sending). QueueLoose tables.name_oid first x.queue) (sym n) tt;
+          current = subst (λ (x : Sending). CurrentKeeps tables.name_oid first x.current) (sym n) tt;
           came = subst (PiecesKeep first) (sym p) tt;
         }
 
@@ -618,12 +618,12 @@ module _ (free : Free) (tables : Tables) (spellings : Spellings) (a b : Config) 
     own-of (OfMarks GiveAck) i l = tt
     own-of (OfActivities word) i l = tt
 
-    ends-still : (role : Role) (body : Body) (number : ℕ) → Stood role body → Firm first (after_word (base role) body (OfActivities (End number))) → Rooted role (after_word (base role) body (OfActivities (End number)))
+    ends-still : (role : Role) (body : Body) (number : ℕ) → Stood role body → Firm tables.name_oid first (after_word (base role) body (OfActivities (End number))) → Rooted role (after_word (base role) body (OfActivities (End number)))
     ends-still role body number s f =
         let l = values-leave (base role) (handed_up (base role) body) (received (λ r. record r { was_handed = true; active = false }) body) in
         left-still role body _ s (record { link = l.link; started = l.started; current = l.current }) f
 
-    stood-word : (role : Role) (body : Body) (word : Word) → IsReliableWord (base Initiator) (base Responder) word → IsLater word → Firm first (after_word (base role) body word) → Stood role body → WordSays role body word
+    stood-word : (role : Role) (body : Body) (word : Word) → IsReliableWord (base Initiator) (base Responder) word → IsLater word → Firm tables.name_oid first (after_word (base role) body word) → Stood role body → WordSays role body word
     stood-word role body (OfAssociation (Connect session presentation values)) i l f s = absurd l
     stood-word role body (OfAssociation (Accept session presentation values)) i l f s = absurd l
     stood-word role body (OfAssociation (Refuse transport reason presentation values)) i l f s = absurd i
@@ -633,7 +633,7 @@ module _ (free : Free) (tables : Tables) (spellings : Spellings) (a b : Config) 
     stood-word role body (OfAssociation AbortAccept) i l f s = absurd i
     stood-word role body (OfData (Values values)) i l f s =
         subst (λ (vs : List Value). WordSays role body (OfData (Values vs))) (sym i.is_one)
-        (record { rooted = left-still role body _ s (record { link = refl; started = refl; current = refl }) (subst (λ (vs : List Value). Firm first (after_word (base role) body (OfData (Values vs)))) i.is_one f); said = tt })
+        (record { rooted = left-still role body _ s (record { link = refl; started = refl; current = refl }) (subst (λ (vs : List Value). Firm tables.name_oid first (after_word (base role) body (OfData (Values vs)))) i.is_one f); said = tt })
     stood-word role body (OfData (AlterContext add delete)) i l f s =
         record { rooted = left-still role body _ s (record { link = refl; started = refl; current = refl }) f; said = (answers-so (base role) body (alteration add delete) i, tt) }
     stood-word role body (OfData (AlterContextAck answers)) i l f s = record { rooted = left-still role body _ s (settled-leaves body body.sets.own answers) f; said = tt }
@@ -696,12 +696,12 @@ module _ (free : Free) (tables : Tables) (spellings : Spellings) (a b : Config) 
     young-word role body (OfAssociation (Abort transport user)) e = record { rooted = IsOver refl; said = tt }
     young-word role body word e = absurd e
 
-    later-says : (role : Role) (body : Body) (word : Word) → IsReliableWord (base Initiator) (base Responder) word → IsLater word → word_fault (base role) body word ≡ None → (Firm first body → ArrivesIn first (base role) unfixed body word) → passes_over body.link.phase ≡ false → Rooted role body → WordSays role body word
+    later-says : (role : Role) (body : Body) (word : Word) → IsReliableWord (base Initiator) (base Responder) word → IsLater word → word_fault (base role) body word ≡ None → (Firm tables.name_oid first body → ArrivesIn first (base role) body word) → passes_over body.link.phase ≡ false → Rooted role body → WordSays role body word
     later-says role body word i l fine arrives alive (IsYoung y) = young-word role body word (early role body word i l (in-place (base role) body word fine) y)
-    later-says role body word i l fine arrives alive (IsStood s) = stood-word role body word i l (word-firm first (base role) unfixed body word (own-of word i l) fine (arrives s.firm) s.firm) s
+    later-says role body word i l fine arrives alive (IsStood s) = stood-word role body word i l (word-firm first (base role) body word (own-of word i l) fine (arrives s.firm) s.firm) s
     later-says role body word i l fine arrives alive (IsOver e) = not-over body e alive
 
-    pub word-says : (role : Role) (body : Body) (word : Word) → IsReliableWord (base Initiator) (base Responder) word → Meets body word → word_fault (base role) body word ≡ None → (Firm first body → ArrivesIn first (base role) unfixed body word) → passes_over body.link.phase ≡ false → Rooted role body → WordSays role body word
+    pub word-says : (role : Role) (body : Body) (word : Word) → IsReliableWord (base Initiator) (base Responder) word → Meets body word → word_fault (base role) body word ≡ None → (Firm tables.name_oid first body → ArrivesIn first (base role) body word) → passes_over body.link.phase ≡ false → Rooted role body → WordSays role body word
     word-says role body (OfAssociation (Connect session presentation values)) i meets fine arrives alive r =
         subst (λ (w : AssociationWord). WordSays role body (OfAssociation w)) (sym i.1)
         (connects role body i.0 (in-place (base role) body (OfAssociation (Connect session presentation values)) fine) (subst (λ (w : AssociationWord). Meets body (OfAssociation w)) i.1 meets) alive r)

@@ -152,7 +152,7 @@ module _ (free : Free) (tables : Tables) (spellings : Spellings) (a b : Config) 
 
   module _ (q : machine.Presumed free tables spellings a b) (ids : AreIdentifiers (proposals (base Initiator))) (window : nat_eq a.window 0 ≡ false) where
     abbrev Meets : Body → Word → Type 0
-    Meets = ends.Meets free tables spellings a b q.fit.spells q.fit.proposes ids q.fit.name window
+    Meets = ends.Meets free tables spellings a b q.fit.spells q.fit.proposes ids window
 
     meets : (role : Role) (two : Two) (ledger : Ledger) (word : Word) (left : List Message) → Kept two ledger → coming_to role two ≡ Session word ∷ left → passes_over (body_at role two).link.phase ≡ false → is_in_place (base role) (body_at role two) (unit_of word) ≡ true → Meets (body_at role two) word
     meets Responder two ledger word left k e alive p = go word (subst (BeginsRightly two.b) e (to-b_rightly two ledger k))
@@ -186,16 +186,16 @@ module _ (free : Free) (tables : Tables) (spellings : Spellings) (a b : Config) 
     one-arrived : (item : Item) (arrived : Arrived) → ◌≡◌ {A = Result Arrived Fault} (Ok (Whole item)) (Ok arrived) → Whole item ≡ arrived
     one-arrived item arrived e = cc
 
-    arrives : (role : Role) (two : Two) (ledger : Ledger) (word : Word) (left : List Message) (later : Body) (answers : List Message) (shown : List Indication) → Kept two ledger → coming_to role two ≡ Session word ∷ left → react (base role) (body_at role two) (Session word) ≡ Takes later answers shown → Firm first (body_at role two) → ArrivesIn first (base role) q.fit.name (body_at role two) word
+    arrives : (role : Role) (two : Two) (ledger : Ledger) (word : Word) (left : List Message) (later : Body) (answers : List Message) (shown : List Indication) → Kept two ledger → coming_to role two ≡ Session word ∷ left → react (base role) (body_at role two) (Session word) ≡ Takes later answers shown → Firm tables.name_oid first (body_at role two) → ArrivesIn first (base role) (body_at role two) word
     arrives role two ledger word left later answers shown k comes taken f = go word comes taken
       where
-        go : (word : Word) → coming_to role two ≡ Session word ∷ left → react (base role) (body_at role two) (Session word) ≡ Takes later answers shown → ArrivesIn first (base role) q.fit.name (body_at role two) word
+        go : (word : Word) → coming_to role two ≡ Session word ∷ left → react (base role) (body_at role two) (Session word) ≡ Takes later answers shown → ArrivesIn first (base role) (body_at role two) word
         go (OfActivities (End number)) comes taken =
             λ new arrived e.
             let x : Ends common two role = record { number = number; left = left; body = later; answers = answers; shown = shown; comes = comes; taken = taken; is_new = new } in
             let w = arriving.whole-at free tables spellings a b two ledger role q.carries q.fit k x in
-            let loose : IsLoose first w.item.id = module-loose first (body_at role two).sets.held tables.name_oid w.item.id w.item.pair q.fit.name f.held w.there w.placed.named in
-            subst (λ y. IsLoose first (context_of first y)) (one-arrived w.item arrived (sym w.arrived ∙ e)) loose
+            let loose : IsLoose tables.name_oid first w.item.id = module-loose tables.name_oid first (body_at role two).sets.held w.item.id w.item.pair f.held w.there w.placed.named in
+            subst (λ y. IsLoose tables.name_oid first (context_of y)) (one-arrived w.item arrived (sym w.arrived ∙ e)) loose
         go (OfActivities (Start activity)) comes taken = tt
         go (OfActivities (Resume activity mark)) comes taken = tt
         go (OfActivities (EndAck number)) comes taken = tt
@@ -246,7 +246,7 @@ module _ (free : Free) (tables : Tables) (spellings : Spellings) (a b : Config) 
         go false e false None g h =
             let x : after_transport (base role) body unit ≡ later = cc in
             let y : answers_to_transport (base role) body unit ≡ answers = cc in
-            subst (λ z. Says role z answers) x (subst (Says role (after_transport (base role) body unit)) y (ends.unit-says free tables spellings a b q.fit.spells q.fit.proposes ids q.fit.name window role body unit i g e r))
+            subst (λ z. Says role z answers) x (subst (Says role (after_transport (base role) body unit)) y (ends.unit-says free tables spellings a b q.fit.spells q.fit.proposes ids window role body unit i g e r))
 
     taken-says : (role : Role) (two : Two) (ledger : Ledger) (message : Message) (left : List Message) (later : Body) (answers : List Message) (shown : List Indication) → Kept two ledger → IsMessage (base Initiator) (base Responder) message → Rooted role (body_at role two) → coming_to role two ≡ message ∷ left → react (base role) (body_at role two) message ≡ Takes later answers shown → Says role later answers
     taken-says role two ledger (Transport unit) left later answers shown k i r e h = unit-taken role (body_at role two) unit later answers shown i r h
@@ -255,7 +255,7 @@ module _ (free : Free) (tables : Tables) (spellings : Spellings) (a b : Config) 
         let t = took-word (base role) body word later answers shown h in
         let m = meets role two ledger word left k e t.alive (in-place (base role) body word t.fine) in
         let s : Says role (after_word (base role) body word) (answers_to_word (base role) body word) =
-        ends.word-says free tables spellings a b q.fit.spells q.fit.proposes ids q.fit.name window role body word i m t.fine (arrives role two ledger word left later answers shown k e h) t.alive r in
+        ends.word-says free tables spellings a b q.fit.spells q.fit.proposes ids window role body word i m t.fine (arrives role two ledger word left later answers shown k e h) t.alive r in
         subst (λ (z : Body). Says role z answers) (sym t.later_is) (subst (Says role (after_word (base role) body word)) (sym t.answers_are) s)
 
     pub all-said : (two : Two) (ledger : Ledger) (g : Goes common two ledger) → AreCalls common two ledger g → Said two
@@ -268,11 +268,11 @@ module _ (free : Free) (tables : Tables) (spellings : Spellings) (a b : Config) 
         }
     all-said two ledger (calls x l role call answer g h) c =
         let s = all-said x l g c.1 in
-        let n = ends.called-says free tables spellings a b q.fit.spells q.fit.proposes ids q.fit.name window role (body_at role x) call answer (sending-at role x l (kept x l g)) c.0 (rooted-at role x s) h in
+        let n = ends.called-says free tables spellings a b q.fit.spells q.fit.proposes ids window role (body_at role x) call answer (sending-at role x l (kept x l g)) c.0 (rooted-at role x s) h in
         stepped-said role x _ (coming_to role x) (due_of (base role) (body_at role x) call (Ok answer)) s n (coming-said role x s)
     all-said two ledger (acts x l role own g h) c =
         let s = all-said x l g c in
-        let n = ends.own-says free tables spellings a b q.fit.spells q.fit.proposes ids q.fit.name window role (body_at role x) own (sending-at role x l (kept x l g)) (rooted-at role x s) h in
+        let n = ends.own-says free tables spellings a b q.fit.spells q.fit.proposes ids window role (body_at role x) own (sending-at role x l (kept x l g)) (rooted-at role x s) h in
         stepped-said role x _ (coming_to role x) _ s n (coming-said role x s)
     all-said two ledger (takes x l role message left body answers shown g e h) c =
         let s = all-said x l g c in
@@ -287,8 +287,8 @@ module _ (free : Free) (tables : Tables) (spellings : Spellings) (a b : Config) 
     all-said two ledger (breaks x l g) c =
         let s = all-said x l g c in
         record {
-          of_a = ends.broke-rooted free tables spellings a b q.fit.spells q.fit.proposes ids q.fit.name window Initiator x.a s.of_a;
-          of_b = ends.broke-rooted free tables spellings a b q.fit.spells q.fit.proposes ids q.fit.name window Responder x.b s.of_b;
+          of_a = ends.broke-rooted free tables spellings a b q.fit.spells q.fit.proposes ids window Initiator x.a s.of_a;
+          of_b = ends.broke-rooted free tables spellings a b q.fit.spells q.fit.proposes ids window Responder x.b s.of_b;
           to_a = tt;
           to_b = tt;
         }
@@ -307,14 +307,14 @@ module _ (free : Free) (tables : Tables) (spellings : Spellings) (a b : Config) 
     NeedsContexts (OfAssociation (Disconnect values)) = Unit {0}
     NeedsContexts word = ⊥
 
-    needs-later : (word : Word) → NeedsContexts word → ends.IsLater free tables spellings a b q.fit.spells q.fit.proposes ids q.fit.name window word
+    needs-later : (word : Word) → NeedsContexts word → ends.IsLater free tables spellings a b q.fit.spells q.fit.proposes ids window word
     needs-later (OfData (Values values)) h = tt
     needs-later (OfMarks (Please tokens values)) h = tt
     needs-later (OfAssociation (Finish transport values)) h = tt
     needs-later (OfAssociation (Disconnect values)) h = tt
     needs-later word h = absurd h
 
-    needs-late : (word : Word) → NeedsContexts word → ends.IsEarly free tables spellings a b q.fit.spells q.fit.proposes ids q.fit.name window word → ⊥
+    needs-late : (word : Word) → NeedsContexts word → ends.IsEarly free tables spellings a b q.fit.spells q.fit.proposes ids window word → ⊥
     needs-late (OfData (Values values)) h e = e
     needs-late (OfMarks (Please tokens values)) h e = e
     needs-late (OfAssociation (Finish transport values)) h e = e
@@ -326,10 +326,10 @@ module _ (free : Free) (tables : Tables) (spellings : Spellings) (a b : Config) 
         let s = all-said two ledger g c in
         let t = took-word (base role) (body_at role two) word body answers shown h in
         let n : AreSaid (Session word ∷ left) = subst AreSaid e (coming-said role two s) in
-        let x = ends.stands free tables spellings a b q.fit.spells q.fit.proposes ids q.fit.name window role (body_at role two) word n.0 (needs-later word needs) (needs-late word needs) (in-place (base role) (body_at role two) word t.fine) t.alive (rooted-at role two s) in
+        let x = ends.stands free tables spellings a b q.fit.spells q.fit.proposes ids window role (body_at role two) word n.0 (needs-later word needs) (needs-late word needs) (in-place (base role) (body_at role two) word t.fine) t.alive (rooted-at role two s) in
         record {
-          acse = ends.held-acse free tables spellings a b q.fit.spells q.fit.proposes ids q.fit.name window role (body_at role two) x;
-          rtse = ends.held-rtse free tables spellings a b q.fit.spells q.fit.proposes ids q.fit.name window role (body_at role two) x;
+          acse = ends.held-acse free tables spellings a b q.fit.spells q.fit.proposes ids window role (body_at role two) x;
+          rtse = ends.held-rtse free tables spellings a b q.fit.spells q.fit.proposes ids window role (body_at role two) x;
         }
 
 -- a window that isn't 0

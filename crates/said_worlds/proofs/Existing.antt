@@ -126,6 +126,6 @@ responder-met_r = record { mode = refl; accepted = refl; calling = refl; called 
 
 pub ends-met : EndsAreMet
 ends-met = (
-  record { module_s = module-met; name = refl; of_a = initiator-met; initiator = refl; of_b = responder-met },
-  record { module_s = module-met; name = refl; of_a = initiator-met_r; initiator = refl; of_b = responder-met_r },
+  record { module_s = module-met; of_a = initiator-met; initiator = refl; of_b = responder-met },
+  record { module_s = module-met; of_a = initiator-met_r; initiator = refl; of_b = responder-met_r },
 )

@@ -67,12 +67,12 @@ module _ (reads : Readings) (base : Base) (body : Body) (start : ℕ) where
   pub finish-meant : pair_of body.sets.held 1 ≡ Some acse_pair → IsMeantAs base body start (OfAssociation the_finish)
   finish-meant there =
       reads.data_words.finish base body start (Some 1) _ [] finish-in.writable
-      (record { pair = acse_pair; has_pair = refl; in_set = there; carries = refl; content = reads.association base.tables acse_pair (acse.ReleaseRequest (pos 0)) release-writable refl }, tt)
+      (record { pair = acse_pair; has_pair = refl; in_set = there; carries = refl; content = reads.association base.tables acse_pair (acse.ReleaseRequest (pos 0)) release-writable }, tt)
 
   pub disconnect-meant : pair_of body.sets.held 1 ≡ Some acse_pair → IsMeantAs base body start (OfAssociation the_disconnect)
   disconnect-meant there =
       reads.data_words.disconnect base body start _ [] disconnect-in.writable
-      (record { pair = acse_pair; has_pair = refl; in_set = there; carries = refl; content = reads.association base.tables acse_pair (acse.ReleaseResponse (pos 0)) released-writable refl }, tt)
+      (record { pair = acse_pair; has_pair = refl; in_set = there; carries = refl; content = reads.association base.tables acse_pair (acse.ReleaseResponse (pos 0)) released-writable }, tt)
 
   pub abort-meant : IsMeantAs base body start (OfAssociation the_abort)
   abort-meant =

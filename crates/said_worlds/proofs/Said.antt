@@ -5,7 +5,7 @@ use Rattle.osi_base.specs.declared.acse_word.Acse.TheVariants as acse
 use Rattle.osi_base.specs.declared.acse_word.Diagnostic.TheVariants.{User}
 use Rattle.stub_tables.specs.declared.tables.Tables.{Tables}
 use Rattle.dialogue.specs.declared.config.Config.{Config}
-use Rattle.end_rules.specs.Base.{Base, Item, acse_name, rtse_name}
+use Rattle.end_rules.specs.Base.{Base, Item, acse_name}
 use Rattle.end_rules.specs.Sets.{same_name, pair_of, fit_proposals}
 use Rattle.end_rules.specs.State.{Body, is_carrying, is_joined}
 use Rattle.end_rules.specs.Messages.{Message, Transport, Session, Value, Word, OfAssociation, OfData, OfMarks, OfActivities, AssociationWord, Connect, Accept, Refuse, Finish, Disconnect, Abort, AbortAccept, Values, AlterContext, AlterContextAck, Mark, MarkAck, Restart, RestartAck, Give, Please, GiveConfirm, GiveAck, unit_of}
@@ -46,14 +46,6 @@ use Rattle.said_spellings.proofs.Carried.{item-in}
 use Rattle.said_spellings.proofs.Association.{connect-in, acceptance-in}
 use Rattle.said_worlds.proofs.Meant.{Readings, asking-writable, accepting-writable, alter-meant, ack-meant, restart-meant, restart_ack-meant, finish-meant, disconnect-meant, abort-meant}
 use Rattle.said_worlds.specs.Laws.{AreEnds, DirectIsSaid}
-
-or-left : (p q : Bool) → (p || q) ≡ false → p ≡ false
-or-left true q h = cc
-or-left false q h = refl
-
-or-right : (p q : Bool) → (p || q) ≡ false → q ≡ false
-or-right true q h = cc
-or-right false q h = h
 
 or-true : (p q : Bool) → p ≡ true → (p || q) ≡ true
 or-true true q e = refl
@@ -104,11 +96,9 @@ module _ (reads : Readings) (tables : Tables) (transfers : Transfers) (a b : Con
   value-meant role body item start t i there named =
       let w = transferables-writable (base Initiator) item.pair.transfer item.apdu refl e.module_s t in
       let p = item-in tables item e.module_s w i in
-      let not_acse : same_name item.pair.abstract_name acse_name ≡ false = subst (λ n. same_name n acse_name ≡ false) (sym named) (or-left (same_name tables.name_oid acse_name) (same_name tables.name_oid rtse_name) e.name) in
-      let not_rtse : same_name item.pair.abstract_name rtse_name ≡ false = subst (λ n. same_name n rtse_name ≡ false) (sym named) (or-right (same_name tables.name_oid acse_name) (same_name tables.name_oid rtse_name) e.name) in
       let its : same_name item.pair.abstract_name tables.name_oid ≡ true = ap (λ n. same_name n tables.name_oid) named ∙ same-itself tables.name_oid in
       reads.data_words.values (base role) body start (value_of_item item) [] p.writable
-      (record { pair = item.pair; has_pair = refl; in_set = there; carries = or-true (same_name item.pair.abstract_name tables.name_oid) (same_name item.pair.abstract_name acse_name) its; content = reads.remote tables item.pair item.apdu e.module_s.readable w not_acse not_rtse }, tt)
+      (record { pair = item.pair; has_pair = refl; in_set = there; carries = or-true (same_name item.pair.abstract_name tables.name_oid) (same_name item.pair.abstract_name acse_name) its; content = reads.remote tables item.pair item.apdu e.module_s.readable w its }, tt)
 
   connect-meant : (role : Role) (body : Body) (start : ℕ) → (not (is_initiator role) && is_joined body.link.stage) ≡ true → Meant role body (OfAssociation (the_connect (base Initiator) false)) start
   connect-meant Initiator body start h = cc
@@ -174,6 +164,6 @@ direct-is_said reads tables transfers a b e =
           λ two ledger s role word left body answers shown start late comes h.
           word-meant reads tables transfers a b e role (body_at role two) word start late
           (subst (AreMessages (base reads tables transfers a b e Initiator) (base reads tables transfers a b e Responder)) comes (said reads tables transfers a b e two ledger s role)).0
-          (direct-takes_rightly has-codec.0 tables (direct_ends tables transfers a b).spellings a b has-codec.1 (direct-back tables transfers a b e.module_s.readable) (right reads tables transfers a b e) (contexts reads tables transfers a b e) e.name two ledger s role word left body answers shown comes h)
+          (direct-takes_rightly has-codec.0 tables (direct_ends tables transfers a b).spellings a b has-codec.1 (direct-back tables transfers a b e.module_s.readable) (right reads tables transfers a b e) (contexts reads tables transfers a b e) two ledger s role word left body answers shown comes h)
           (word-in_place has-codec.0 tables (direct_ends tables transfers a b).spellings a b has-codec.1 (direct-back tables transfers a b e.module_s.readable) (right reads tables transfers a b e) (ids reads tables transfers a b e) e.name role (body_at role two) word body answers shown h);
     }

@@ -68,19 +68,19 @@ module _ (reads : Readings) (tables : Tables) (a b : Config) (e : AreEndsIn Reli
   of_b = record { mode = e.of_b.mode; accepted = e.of_b.accepted }
 
   ids : AreIdentifiers (proposals (base Initiator))
-  ids = listed-identifiers (proposals (base Initiator)) (fit tables a b e.module_s e.name of_a of_b).identifiers
+  ids = listed-identifiers (proposals (base Initiator)) (fit tables a b e.module_s of_a of_b).identifiers
 
   said : (two : Two) (ledger : Ledger) → Speaks common two ledger → (role : Role) → AreMessages (base Initiator) (base Responder) (coming_to role two)
   said two ledger s role =
-      let f = has-free tables a b e.module_s e.name of_a of_b in
-      reliable-says f.0 tables common.spellings a b f.1 (fit tables a b e.module_s e.name of_a of_b) (has-window a e.of_a.accepted) two ledger s role
+      let f = has-free tables a b e.module_s of_a of_b in
+      reliable-says f.0 tables common.spellings a b f.1 (fit tables a b e.module_s of_a of_b) (has-window a e.of_a.accepted) two ledger s role
 
   -- ---- they may be written
 
   all-carried : (messages : List Message) → AreMessages (base Initiator) (base Responder) messages → AreCarried tables messages
   all-carried [] h = tt
   all-carried (message ∷ messages) h = (
-    said-carried Reliable tables common.spellings a b message e.module_s refl refl e.of_a e.initiator e.of_b (fit tables a b e.module_s e.name of_a of_b).proposes (fit tables a b e.module_s e.name of_a of_b).identifiers h.0,
+    said-carried Reliable tables common.spellings a b message e.module_s refl refl e.of_a e.initiator e.of_b (fit tables a b e.module_s of_a of_b).proposes (fit tables a b e.module_s of_a of_b).identifiers h.0,
     all-carried messages h.1,
   )
 
@@ -94,19 +94,19 @@ module _ (reads : Readings) (tables : Tables) (a b : Config) (e : AreEndsIn Reli
       let o = part-octets (base Initiator) values refl refl e.module_s i in
       subst (λ (vs : List Value). Meant role body (OfData (Values vs)) start) (sym o.is_one)
       (reads.data_words.values (base role) body start (transfer_value (Part o.octets)) [] (part-in o.octets o.are o.few).writable
-      (record { pair = rtse_pair; has_pair = refl; in_set = there; carries = refl; content = reads.transfers.part tables rtse_pair o.octets (part-spelled o.octets o.are o.few).writable refl refl }, tt))
+      (record { pair = rtse_pair; has_pair = refl; in_set = there; carries = refl; content = reads.transfers.part tables rtse_pair o.octets (part-spelled o.octets o.are o.few).writable refl }, tt))
 
   plea-meant : (role : Role) (body : Body) (tokens : Option ℕ) (values : List Value) (start : ℕ) → tokens ≡ Some 21 → IsPlea values → pair_of body.sets.held 3 ≡ Some rtse_pair → Meant role body (OfMarks (Please tokens values)) start
   plea-meant role body tokens values start t i there =
       subst (λ (x : Option ℕ). Meant role body (OfMarks (Please x values)) start) (sym t)
       (subst (λ (vs : List Value). Meant role body (OfMarks (Please (Some 21) vs)) start) (sym i.is_one)
       (reads.data_words.please (base role) body start 21 (transfer_value (Plea i.priority)) [] (plea-in i.priority i.few).writable
-      (record { pair = rtse_pair; has_pair = refl; in_set = there; carries = refl; content = reads.transfers.plea tables rtse_pair i.priority (plea-spelled i.priority i.few).writable refl refl }, tt)))
+      (record { pair = rtse_pair; has_pair = refl; in_set = there; carries = refl; content = reads.transfers.plea tables rtse_pair i.priority (plea-spelled i.priority i.few).writable refl }, tt)))
 
   connect-meant : (role : Role) (body : Body) (start : ℕ) (recovers : Bool) → (not (is_initiator role) && is_joined body.link.stage) ≡ true → Meant role body (OfAssociation (the_connect (base Initiator) recovers)) start
   connect-meant Initiator body start recovers h = cc
   connect-meant Responder body start recovers h =
-      let p = (fit tables a b e.module_s e.name of_a of_b).proposes in
+      let p = (fit tables a b e.module_s of_a of_b).proposes in
       reads.associations.connect (base Responder) body start (session_connect (base Initiator)) (presentation_connect (base Initiator)) (connect_values (base Initiator) recovers) refl refl p (with-acse tables common.spellings a b p ids)
       (record {
         one =
@@ -131,7 +131,7 @@ module _ (reads : Readings) (tables : Tables) (a b : Config) (e : AreEndsIn Reli
   accept-meant : (role : Role) (body : Body) (start : ℕ) (recovers : Bool) → is_initiator role ≡ true → AcceptMeant role body start (the_acceptance (base Initiator) (base Responder) recovers)
   accept-meant Responder body start recovers h = cc
   accept-meant Initiator body start recovers h =
-      let p = (fit tables a b e.module_s e.name of_a of_b).proposes in
+      let p = (fit tables a b e.module_s of_a of_b).proposes in
       let fits : fit_proposals (proposals (base Initiator)) (opening_policy (base Responder) (proposals (base Initiator))) ≡ true = additions-answered (base Responder) true 0 (proposals (base Initiator)) in
       let k : acse_context (first_of common) ≡ 1 = on-acse tables common.spellings a b p ids in
       let on : is_on_rtse (first_of common) (rtse_context (first_of common)) ≡ true =
@@ -183,10 +183,10 @@ module _ (reads : Readings) (tables : Tables) (a b : Config) (e : AreEndsIn Reli
 
   took-meant : (two : Two) (ledger : Ledger) → Speaks common two ledger → (role : Role) (word : Word) (left : List Message) (body : Body) (answers : List Message) (shown : List Indication) (start : ℕ) → (IsOfSession word → ⊥) → coming_to role two ≡ Session word ∷ left → react (base role) (body_at role two) (Session word) ≡ Takes body answers shown → Meant role (body_at role two) word start
   took-meant two ledger s role word left body answers shown start late comes h =
-      let f = has-free tables a b e.module_s e.name of_a of_b in
+      let f = has-free tables a b e.module_s of_a of_b in
       let t = took-word (base role) (body_at role two) word body answers shown h in
       word-meant role (body_at role two) word start late (subst (AreMessages (base Initiator) (base Responder)) comes (said two ledger s role)).0
-      (reliable-takes_rightly f.0 tables common.spellings a b f.1 (fit tables a b e.module_s e.name of_a of_b) (has-window a e.of_a.accepted) two ledger s role word left body answers shown comes h)
+      (reliable-takes_rightly f.0 tables common.spellings a b f.1 (fit tables a b e.module_s of_a of_b) (has-window a e.of_a.accepted) two ledger s role word left body answers shown comes h)
       (in-place (base role) (body_at role two) word t.fine)
 
 pub reliable-is_said : Readings → ReliableIsSaid

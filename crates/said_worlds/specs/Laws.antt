@@ -6,16 +6,14 @@ use Rattle.dialogue.specs.declared.config.Mode.{Mode}
 use Rattle.dialogue.specs.declared.config.Mode.TheVariants.{Direct, Reliable}
 use Rattle.end_rules.specs.Cases.{calc, config_of}
 use Rattle.end_laws.specs.Codecs.{Transfers, direct_ends}
-use Rattle.reliable_model.specs.ReliablePairs.{IsOwnName}
 use Rattle.transfer_spelling.specs.Laws.{IsModule}
 use Rattle.transfer_laws.specs.Laws.{reliable_ends}
 use Rattle.association_worlds.specs.Laws.{IsSaid}
 use Rattle.said_spellings.specs.Laws.{IsEndIn}
 
--- A module without any type, of a name of its own, and two configurations of a mode that no end refuses, the first of an initiator.
+-- A module without any type, and two configurations of a mode that no end refuses, the first of an initiator.
 pub record AreEndsIn (mode : Mode) (tables : Tables) (a b : Config) : Type 0 where
   pub module_s : IsModule tables
-  pub name : IsOwnName tables.name_oid
   pub of_a : IsEndIn mode a
   pub initiator : a.initiator ≡ true
   pub of_b : IsEndIn mode b

@@ -25,9 +25,8 @@ from_run modes tables s run readable a b events =
       responder = meet.responder;
       events = events;
       readable = readable;
-      ends = λ no_any own. record {
+      ends = λ no_any. record {
         module_s = record { readable = readable; typed = no_any };
-        name = own;
         of_a = of_a;
         initiator = meet.initiator;
         of_b = of_b;

@@ -3,7 +3,6 @@ use Rattle.std.specs.Prelude.{◌≡◌, true, false}
 use Rattle.stub_tables.specs.declared.tables.Tables.{Tables}
 use Rattle.stub_tables.specs.Readable.{IsReadable}
 use Rattle.packed_codec.specs.Laws.{HasNoAny}
-use Rattle.reliable_model.specs.ReliablePairs.{IsOwnName}
 use Rattle.said_spellings.specs.Laws.{IsEndIn}
 use Rattle.said_worlds.specs.Laws.{AreEndsIn}
 use Rattle.association_runs.specs.Laws.{AreEvents}
@@ -22,6 +21,5 @@ pub record HasEnds (modes : Modes) (tables : Tables) (s : Said) : Type 0 where
   pub events : AreEvents s.events
   -- what every table of a module keeps
   pub readable : IsReadable tables
-  -- what is presumed of two ends of one mode, where no type of the module is any type and its name is neither that of association
-  -- control nor that of reliable transfer
-  pub ends : HasNoAny tables.types → IsOwnName tables.name_oid → AreEndsIn s.a.mode tables s.a s.b
+  -- what is presumed of two ends of one mode, where no type of the module is any type
+  pub ends : HasNoAny tables.types → AreEndsIn s.a.mode tables s.a s.b

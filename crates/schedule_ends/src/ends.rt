@@ -13,7 +13,7 @@ use stub_tables::Tables;
 /// text and in whatever modes are run: its mode is one of these, its configurations are ones of an
 /// initiator and of a responder of that mode that no end refuses, and its calls are calls as their
 /// types have them. So what is presumed of two ends of direct mode, or of reliable mode, holds of
-/// its ends, where the tables have no `Any` and the module's name is its own.
+/// its ends, where the tables have no `Any`.
 pub fn schedule_has_ends(tables: &Tables, schedule: &Schedule)
     ensures { (modes : Modes) (text : List ℕ)
         → schedule_of modes tables.now text ≡ Ok (said schedule.now)

@@ -18,7 +18,7 @@ use Rattle.apdu_spelling.specs.Writing.{written_apdu, IsWritable}
 use Rattle.apdu_spelling.proofs.Written.{written_spelled}
 use Rattle.dialogue.specs.declared.config.Config.{Config}
 use Rattle.dialogue.specs.declared.config.Mode.{Mode}
-use Rattle.end_rules.specs.Base.{Base, Head, Item, Fault, Whole, acse_name, rtse_name}
+use Rattle.end_rules.specs.Base.{Base, Head, Item, Fault, Whole, acse_name}
 use Rattle.end_rules.specs.Sets.{same_name, pair_of}
 use Rattle.end_rules.specs.Faults.{fault_if, or_fault}
 use Rattle.end_rules.specs.Messages.{Content, Remote}
@@ -31,12 +31,12 @@ use Rattle.end_model.specs.Opens.{IsProper}
 use Rattle.end_model.specs.Acting.{ReadsBack, IsSaidBack}
 use Rattle.end_model.proofs.Fitting.{same-itself}
 use Rattle.association_wire.specs.Values.{in_form}
+use Rattle.association_reading.specs.declared.carried.Carriage.TheVariants as carriage
 use Rattle.association_reading.specs.Places.{PdvPlaces, places_of, spot_at}
 use Rattle.association_reading.specs.Contexts.{is_form, is_carried, pdv_fault, invalid_at}
 use Rattle.association_reading.specs.Values.{content_under}
 use Rattle.association_reading.specs.Transfers.{arrived_as, arrived_under, unless_wrong, arrived_in, arrived_at, transferred}
 use Rattle.reliable_model.specs.Codecs.{IsTransferable, IsPlaced, SpellsTransfers}
-use Rattle.reliable_model.specs.ReliablePairs.{IsOwnName}
 use Rattle.transfer_spelling.specs.Laws.{IsModule, form_of}
 use Rattle.transfer_spelling.proofs.Writable.{transferables-writable}
 use Rattle.transfer_spelling.proofs.Transfers.{values-transfers}
@@ -57,15 +57,7 @@ same-form Ber octets = refl
 same-form Der octets = refl
 same-form Packed octets = refl
 
-or-left : (p q : Bool) → (p || q) ≡ false → p ≡ false
-or-left true q h = cc
-or-left false q h = refl
-
-or-right : (p q : Bool) → (p || q) ≡ false → q ≡ false
-or-right true q h = cc
-or-right false q h = h
-
-module _ (tables : Tables) (config : Config) (initiator : Bool) (mode : Mode) (module_s : IsModule tables) (own : IsOwnName tables.name_oid) where
+module _ (tables : Tables) (config : Config) (initiator : Bool) (mode : Mode) (module_s : IsModule tables) where
   abbrev base : Base
   base = base_with tables config initiator mode (transferred tables) (arrived_at tables)
 
@@ -83,15 +75,11 @@ module _ (tables : Tables) (config : Config) (initiator : Bool) (mode : Mode) (m
       subst (λ (c : PdvContent). IsTransfer (record { transfer = None; id = item.id; content = c })) (same-form item.pair.transfer (text item))
       (values-transfers tables item.id item.pair.transfer item.apdu module_s p.low p.high (writable-so item t))
 
-  -- the module's name is none of the association's
-  other-acse : (item : Item) → IsPlaced base item → same_name item.pair.abstract_name acse_name ≡ false
-  other-acse item p = subst (λ n. same_name n acse_name ≡ false) (sym p.named) (or-left (same_name tables.name_oid acse_name) (same_name tables.name_oid rtse_name) own)
-
-  other-rtse : (item : Item) → IsPlaced base item → same_name item.pair.abstract_name rtse_name ≡ false
-  other-rtse item p = subst (λ n. same_name n rtse_name ≡ false) (sym p.named) (or-right (same_name tables.name_oid acse_name) (same_name tables.name_oid rtse_name) own)
+  of-module : (item : Item) → IsPlaced base item → same_name item.pair.abstract_name tables.name_oid ≡ true
+  of-module item p = subst (λ n. same_name n tables.name_oid ≡ true) (sym p.named) (same-itself tables.name_oid)
 
   carried-so : (item : Item) → IsPlaced base item → is_carried tables.name_oid item.pair.abstract_name ≡ true
-  carried-so item p = ap (λ c. c || same_name item.pair.abstract_name acse_name) (subst (λ n. same_name n tables.name_oid ≡ true) (sym p.named) (same-itself tables.name_oid))
+  carried-so item p = ap (λ c. c || same_name item.pair.abstract_name acse_name) (of-module item p)
 
   no-fault : (item : Item) (at : PdvPlaces) → IsPlaced base item → pdv_fault tables.name_oid at (pdv item) (Some item.pair) ≡ None
   no-fault item at p =
@@ -99,15 +87,15 @@ module _ (tables : Tables) (config : Config) (initiator : Bool) (mode : Mode) (m
       ap (λ c. fault_if (not c) (invalid_at at.form)) (form-is item.pair.transfer (text item))
 
   -- the octets of an APDU are that APDU
-  remote-content : (item : Item) → IsTransferable base item.apdu → IsPlaced base item → content_under tables item.pair (text item) ≡ Ok (Remote item.apdu)
+  remote-content : (item : Item) → IsTransferable base item.apdu → IsPlaced base item → content_under tables carriage.Module item.pair (text item) ≡ Ok (Remote item.apdu)
   remote-content item t p =
       let s = written_spelled tables module_s.readable item.pair.transfer item.apdu (writable-so item t) in
       let found = ap (λ (h : Head). content_of (text item) (apdu_of tables h)) (spelled_said tables item.pair.transfer module_s.readable item.apdu (text item) s) ∙ ap (content_of (text item)) (said_is tables item.pair.transfer module_s.readable item.apdu s.head s.says) in
-      rw (other-acse item p, other-rtse item p) (ap (λ (c : Content). let x : Result Content Fault = Ok c in x) found)
+      rw (of-module item p) (ap (λ (c : Content). let x : Result Content Fault = Ok c in x) found)
 
   arrives-under : (item : Item) (at : PdvPlaces) → IsTransferable base item.apdu → IsPlaced base item → arrived_under tables at (pdv item) (Some item.pair) ≡ Ok (Whole item)
   arrives-under item at t p =
-      ap (λ (os : List ℕ). arrived_as at item.id item.pair (content_under tables item.pair os)) (octets-are item.pair.transfer (text item)) ∙
+      ap (λ (os : List ℕ). arrived_as at item.id item.pair (content_under tables carriage.Module item.pair os)) (octets-are item.pair.transfer (text item)) ∙
       ap (λ (r : Result Content Fault). arrived_as at item.id item.pair r) (remote-content item t p)
 
   reads-so : (set : List SetItem) (item : Item) → IsTransferable base item.apdu → IsPlaced base item → pair_of set item.id ≡ Some item.pair → arrived_at tables set (transferred tables item) ≡ Ok (Whole item)

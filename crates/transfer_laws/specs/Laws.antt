@@ -1,5 +1,5 @@
 -- The laws of two ends of reliable mode where APDUs and transfers are spelled by the codecs. Of the tables it is asked that they
--- are those of a module with a name of its own, and of the configurations that no end refuses them.
+-- are those of a module, and of the configurations that no end refuses them.
 use Rattle.std.specs.Prelude.{◌≡◌, List, ◌∷◌, true, false, None, Some, Ok}
 use Rattle.dialogue.specs.declared.config.Config.{Config}
 use Rattle.dialogue.specs.declared.config.Mode.TheVariants.{Reliable}
@@ -22,7 +22,7 @@ use Rattle.end_model.specs.DirectPairs.{RunOf}
 use Rattle.association_reading.specs.Transfers.{association_spellings}
 use Rattle.reliable_model.specs.Codecs.{Carries}
 use Rattle.reliable_model.specs.Goes.{Encoding, deeds_of, Ledger, Goes}
-use Rattle.reliable_model.specs.ReliablePairs.{reliable_pair, IsOwnName}
+use Rattle.reliable_model.specs.ReliablePairs.{reliable_pair}
 use Rattle.reliable_model.specs.Transfers.{Ends, IsNewest, ArrivesWhole, item_of, IsOf}
 use Rattle.outcome_laws.specs.Deals.{Dealings, dealt_of, Deals}
 use Rattle.outcome_laws.specs.Outcomes.{AreAnswers}
@@ -39,14 +39,14 @@ pub record IsReliable (config : Config) : Type 0 where
 -- The model has a codec with the spellings of these ends, and with it there is a run of whatever they reach.
 abbrev pub ReliableEndsAreModelled : Type 0
 ReliableEndsAreModelled =
-    (tables : Tables) (a b : Config) → IsModule tables → IsOwnName tables.name_oid → IsReliable a → IsReliable b →
+    (tables : Tables) (a b : Config) → IsModule tables → IsReliable a → IsReliable b →
     (free : Free) × Carries free (base_at Initiator (reliable_ends tables a b)) ×
     ((two : Two) (ledger : Ledger) → Goes (reliable_ends tables a b) two ledger → RunOf free (reliable_ends tables a b) two)
 
 -- in every pair of such ends this holds of whatever they reach
 abbrev pub EverInEnds : (Common → Two → Ledger → Type 0) → Type 0
 EverInEnds Law =
-    (tables : Tables) (a b : Config) → IsModule tables → IsOwnName tables.name_oid → IsReliable a → IsReliable b →
+    (tables : Tables) (a b : Config) → IsModule tables → IsReliable a → IsReliable b →
     (two : Two) (ledger : Ledger) → Goes (reliable_ends tables a b) two ledger → Law (reliable_ends tables a b) two ledger
 
 -- Neither aborts of itself: whatever comes next to an end is taken or passed over.
@@ -86,11 +86,11 @@ ReliableEndsTakeAsSent =
 -- Each outcome that an end is told is an APDU that the other end wrote.
 abbrev pub ReliableEndsTellAnswers : Type 0
 ReliableEndsTellAnswers =
-    (tables : Tables) (a b : Config) → IsModule tables → IsOwnName tables.name_oid → IsReliable a → IsReliable b →
+    (tables : Tables) (a b : Config) → IsModule tables → IsReliable a → IsReliable b →
     (two : Two) (ledger : Ledger) (dealings : Dealings) → Deals (reliable_ends tables a b) two ledger dealings →
     (role : Role) → AreAnswers tables (dealt_of (other role) dealings).wrote (dealt_of role dealings).shown
 
 -- These premises are met: by a module of two operations, with a context that each end may have in reliable mode. That the CP of the
 -- initiator's configuration isn't too long isn't computed here.
 abbrev pub PremisesAreMet : Type 0
-PremisesAreMet = IsModule calc × IsOwnName calc.name_oid × IsReliable (config_of false Reliable) × (early_refusal (config_of true Reliable) ≡ None)
+PremisesAreMet = IsModule calc × IsReliable (config_of false Reliable) × (early_refusal (config_of true Reliable) ≡ None)

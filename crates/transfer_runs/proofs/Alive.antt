@@ -84,19 +84,18 @@ module _ (tables : Tables) (a b : Config) (d : AreReliable tables a b) where
   fit : IsFit (reliable_ends tables a b)
   fit =
       record {
-        reads = back-so tables a true Reliable d.ends.module_s d.ends.name;
-        spells = spells-so tables a true Reliable d.ends.module_s d.ends.name;
-        name = d.ends.name;
+        reads = back-so tables a true Reliable d.ends.module_s;
+        spells = spells-so tables a true Reliable d.ends.module_s;
         proposes = subst (λ (m : Mode). is_faulty_proposal true [] (own_proposals m ++ a.contexts) ≡ false) (of_first tables a b d.ends).mode (proposes-rightly a (of_first tables a b d.ends).accepted);
         identifiers = identifiers-right a (of_first tables a b d.ends).accepted;
         window = has-window b (of_second tables a b d.ends).accepted;
       }
 
   abbrev pub free : Free
-  free = (ends-modelled tables a b d.ends.module_s d.ends.name (of_first tables a b d.ends) (of_second tables a b d.ends)).0
+  free = (ends-modelled tables a b d.ends.module_s (of_first tables a b d.ends) (of_second tables a b d.ends)).0
 
   pub presumed : machine.Presumed free tables (reliable_ends tables a b).spellings a b
-  presumed = record { fit = fit; carries = (ends-modelled tables a b d.ends.module_s d.ends.name (of_first tables a b d.ends) (of_second tables a b d.ends)).1 }
+  presumed = record { fit = fit; carries = (ends-modelled tables a b d.ends.module_s (of_first tables a b d.ends) (of_second tables a b d.ends)).1 }
 
   -- the initiator proposes identifiers of contexts, and its window isn't 0
   pub identifiers : AreIdentifiers (proposals (base_at Initiator (reliable_ends tables a b)))

@@ -57,7 +57,7 @@ module _ (tables : Tables) (a b : Config) (d : AreReliable tables a b) where
   meant law is_said = all-meant tables a b d.ends law is_said
 
   holder : AreOneHolder (reliable_ends tables a b)
-  holder two ledger g = ends-one_holder tables a b d.ends.module_s d.ends.name (of_first tables a b d.ends) (of_second tables a b d.ends) two ledger g
+  holder two ledger g = ends-one_holder tables a b d.ends.module_s (of_first tables a b d.ends) (of_second tables a b d.ends) two ledger g
 
 pub take-in-place : RunsTakeInPlace → SaidIsMeant → ReliableIsSaid → ReliableRunsTakeInPlace
 take-in-place runs law is_said tables a b d = over tables a b d (λ ends w. AtEachMoment (TakenInPlace ends) w) (runs (reliable_ends tables a b) (meant tables a b d law is_said))
@@ -87,20 +87,20 @@ pub arrive-whole : RunsTransferWhole → SaidIsMeant → ReliableIsSaid → Reli
 arrive-whole runs law is_said tables a b d =
     over tables a b d EachArrivesWhole
     (λ all told w typed r. runs (reliable_ends tables a b) (meant tables a b d law is_said) all told w typed r
-    (λ two ledger g. ends-whole tables a b d.ends.module_s d.ends.name (of_first tables a b d.ends) (of_second tables a b d.ends) two ledger g) (λ two ledger g. ends-items tables a b d.ends.module_s d.ends.name (of_first tables a b d.ends) (of_second tables a b d.ends) two ledger g))
+    (λ two ledger g. ends-whole tables a b d.ends.module_s (of_first tables a b d.ends) (of_second tables a b d.ends) two ledger g) (λ two ledger g. ends-items tables a b d.ends.module_s (of_first tables a b d.ends) (of_second tables a b d.ends) two ledger g))
 
 module _ (tables : Tables) (a b : Config) (d : AreReliable tables a b) where
   never : NeverFails (free tables a b d) tables (reliable_ends tables a b).spellings a b
-  never two ledger g role message left fault body aborts shown e h = ends-take tables a b d.ends.module_s d.ends.name (of_first tables a b d.ends) (of_second tables a b d.ends) two ledger g role message left fault body aborts shown e h
+  never two ledger g role message left fault body aborts shown e h = ends-take tables a b d.ends.module_s (of_first tables a b d.ends) (of_second tables a b d.ends) two ledger g role message left fault body aborts shown e h
 
   whole : (two : Two) (ledger : Ledger) → Goes (reliable_ends tables a b) two ledger → (role : Role) → Ends_of (reliable_ends tables a b) two role → ArrivesWhole (reliable_ends tables a b) two ledger role
-  whole two ledger g = ends-whole tables a b d.ends.module_s d.ends.name (of_first tables a b d.ends) (of_second tables a b d.ends) two ledger g
+  whole two ledger g = ends-whole tables a b d.ends.module_s (of_first tables a b d.ends) (of_second tables a b d.ends) two ledger g
 
   items : (two : Two) (ledger : Ledger) → Goes (reliable_ends tables a b) two ledger → (role : Role) (encoding : Encoding) → IsNewest encoding (deeds_of role ledger.deeds).encoded → IsOf encoding.apdu (item_of encoding.activity (deeds_of role ledger.deeds).started)
-  items two ledger g = ends-items tables a b d.ends.module_s d.ends.name (of_first tables a b d.ends) (of_second tables a b d.ends) two ledger g
+  items two ledger g = ends-items tables a b d.ends.module_s (of_first tables a b d.ends) (of_second tables a b d.ends) two ledger g
 
   falls : (two : Two) (ledger : Ledger) → Goes (reliable_ends tables a b) two ledger → (role : Role) → AreFalling (deeds_of role ledger.deeds).arrived
-  falls two ledger g role = ends-once tables a b d.ends.module_s d.ends.name (of_first tables a b d.ends) (of_second tables a b d.ends) two ledger g role
+  falls two ledger g role = ends-once tables a b d.ends.module_s (of_first tables a b d.ends) (of_second tables a b d.ends) two ledger g role
 
   falling : (w : World) → ReachesMessages (reliable_ends tables a b) w → (side : Side) → AreFalling (deeds_at (ends_for (reliable_ends tables a b)) side w).arrived
   falling w s A = subst (λ (x : Deeds). AreFalling x.arrived) (sym (s.deeds Initiator)) (falls s.two s.ledger s.speaks.goes Initiator)
@@ -130,11 +130,11 @@ tell-answers runs law is_said tables a b d = over tables a b d (λ ends w. (side
     go all told w typed r A =
         let s = runs (reliable_ends tables a b) (meant tables a b d law is_said) all told w typed r in
         subst (λ (o : Own). AreAnswers tables o.wrote (own_at (ends_for (reliable_ends tables a b)) A w).shown) (sym (s.dealt Responder))
-        (subst (λ (o : Own). AreAnswers tables (dealt_of Responder s.dealings).wrote o.shown) (sym (s.dealt Initiator)) (ends-answers tables a b d.ends.module_s d.ends.name (of_first tables a b d.ends) (of_second tables a b d.ends) s.two s.ledger s.dealings s.deals Initiator))
+        (subst (λ (o : Own). AreAnswers tables (dealt_of Responder s.dealings).wrote o.shown) (sym (s.dealt Initiator)) (ends-answers tables a b d.ends.module_s (of_first tables a b d.ends) (of_second tables a b d.ends) s.two s.ledger s.dealings s.deals Initiator))
     go all told w typed r B =
         let s = runs (reliable_ends tables a b) (meant tables a b d law is_said) all told w typed r in
         subst (λ (o : Own). AreAnswers tables o.wrote (own_at (ends_for (reliable_ends tables a b)) B w).shown) (sym (s.dealt Initiator))
-        (subst (λ (o : Own). AreAnswers tables (dealt_of Initiator s.dealings).wrote o.shown) (sym (s.dealt Responder)) (ends-answers tables a b d.ends.module_s d.ends.name (of_first tables a b d.ends) (of_second tables a b d.ends) s.two s.ledger s.dealings s.deals Responder))
+        (subst (λ (o : Own). AreAnswers tables (dealt_of Initiator s.dealings).wrote o.shown) (sym (s.dealt Responder)) (ends-answers tables a b d.ends.module_s (of_first tables a b d.ends) (of_second tables a b d.ends) s.two s.ledger s.dealings s.deals Responder))
 
 -- ---- all of them
 

@@ -279,7 +279,7 @@ module _ (free : Free) (tables : Tables) (spellings : Spellings) (a b : Config) 
       stood-does (the_calls.Please priority) answer s h can = stays-one _ _ (inr h) (λ x. x) (one-pair (transfer-pair role body shared s h.keeping))
       stood-does (the_calls.Resync n) answer s h can = let r = (called (base role) body (the_calls.Resync n) answer can).rows in absurd cc
       stood-does the_calls.Interrupt answer s h can = stays-one _ _ (still _ refl h) (λ x. x) refl
-      stood-does the_calls.Resume answer s h can = resume-does body.sending.current refl (current-pieces first body.sending.current s.firm.current).1 h
+      stood-does the_calls.Resume answer s h can = resume-does body.sending.current refl (current-pieces tables.name_oid first body.sending.current s.firm.current).1 h
       stood-does the_calls.Discard answer s h can = stays-one _ _ (still _ (changed-marks (λ (t : Transfer). record t { confirmed = 0 }) body (λ t. refl)) h) (λ x. x) refl
       stood-does the_calls.Recover answer s h can = stays-one _ _ (still _ refl h) (λ x. x) refl
       stood-does the_calls.Release answer s h can = stays-one _ _ (still _ refl h) (λ x. x) (one-pair (association-pair role body shared s h.keeping))
@@ -508,9 +508,9 @@ module _ (free : Free) (tables : Tables) (spellings : Spellings) (a b : Config) 
 
     -- ---- a taking
 
-    stood-at : (role : Role) (body : Body) (word : Word) → IsReliableWord (base Initiator) (base Responder) word → said_ends.IsLater free tables spellings a b q.fit.spells q.fit.proposes ids q.fit.name window word → (said_ends.IsEarly free tables spellings a b q.fit.spells q.fit.proposes ids q.fit.name window word → ⊥) →
+    stood-at : (role : Role) (body : Body) (word : Word) → IsReliableWord (base Initiator) (base Responder) word → said_ends.IsLater free tables spellings a b q.fit.spells q.fit.proposes ids window word → (said_ends.IsEarly free tables spellings a b q.fit.spells q.fit.proposes ids window word → ⊥) →
         word_fault (base role) body word ≡ None → passes_over body.link.phase ≡ false → Rooted role body → Stood role body
-    stood-at role body word i l late fine alive r = said_ends.stands free tables spellings a b q.fit.spells q.fit.proposes ids q.fit.name window role body word i l late (in-place (base role) body word fine) alive r
+    stood-at role body word i l late fine alive r = said_ends.stands free tables spellings a b q.fit.spells q.fit.proposes ids window role body word i l late (in-place (base role) body word fine) alive r
 
     module _ (role : Role) (body peer : Body) (shared : Shared) (alive : passes_over body.link.phase ≡ false) (r : Rooted role body) (h : Held role body shared) where
       later-does : (word : Word) → IsReliableWord (base Initiator) (base Responder) word → IsLater word → word_fault (base role) body word ≡ None → Stood role body → WordDoes role body peer shared word

@@ -24,7 +24,7 @@ module _ (tables : Tables) (a b : Config) (e : AreEndsIn Reliable tables a b) wh
   pub all-meant : SaidIsMeant → ReliableIsSaid → IsMeant (reliable_ends tables a b)
   all-meant law is_said =
       law (reliable_ends tables a b) refl
-      (λ two ledger g role message left fault body aborts shown. ends-take tables a b e.module_s e.name of_first of_second two ledger g role message left fault body aborts shown)
+      (λ two ledger g role message left fault body aborts shown. ends-take tables a b e.module_s of_first of_second two ledger g role message left fault body aborts shown)
       (is_said tables a b e)
 
 pub worlds-spelled : SaidIsMeant → ReliableIsSaid → ReliableWorldsAreSpelled
@@ -36,5 +36,5 @@ worlds-calm law is_said tables a b e ends s = nothing-fails (reliable_ends table
 pub worlds-one_holder : SaidIsMeant → ReliableIsSaid → ReliableWorldsHaveOneHolder
 worlds-one_holder law is_said tables a b e ends s h k =
     let r = worlds-spelled law is_said tables a b e ends s in
-    ends-one_holder tables a b e.module_s e.name (of_first tables a b e) (of_second tables a b e) r.two r.ledger r.speaks.goes
+    ends-one_holder tables a b e.module_s (of_first tables a b e) (of_second tables a b e) r.two r.ledger r.speaks.goes
     (ap holds_turn (sym (r.bodies Initiator)) ∙ h) (ap holds_turn (sym (r.bodies Responder)) ∙ k)

@@ -1,4 +1,4 @@
-use Rattle.end_rules.specs.Base.{acse_name}
+use Rattle.association_reading.specs.declared.carried.Carriage.TheVariants as carriage
 use Rattle.association_reading.specs.Places.{pdv_places}
 use Rattle.association_reading.specs.Values.{values_under}
 use Rattle.association_reading.specs.Association.{is_aarq}
@@ -10,4 +10,4 @@ use Rattle.association_meaning.proofs.association.values_associated.Goals as goa
 
 pub returns-in_err-values : goal.returns-in_err-values
 returns-in_err-values c =
-    halts seen_values c.from_residual.result (values_associated (association_base c.args.basis.now.tables.now c.args.basis.now.config.now) c.args.presentation.now c.args.set.now (pdv_places c.args.carrier.now.place c.args.carrier.now.start c.args.carrier.now.user.now)) c.in_err-values.field-0.0 c.from_residual.ensures.1 (informed_fails c.in_err-values.field-0.0 (association_base c.args.basis.now.tables.now c.args.basis.now.config.now) c.args.set.now is_aarq (values_under c.args.basis.now.tables.now c.args.set.now acse_name (pdv_places c.args.carrier.now.place c.args.carrier.now.start c.args.carrier.now.user.now) c.args.presentation.now.user) (rw (c.acse_name.ensures, c.as_slice.ensures) at c.in_err-values.ensures))
+    halts seen_values c.from_residual.result (values_associated (association_base c.args.basis.now.tables.now c.args.basis.now.config.now) c.args.presentation.now c.args.set.now (pdv_places c.args.carrier.now.place c.args.carrier.now.start c.args.carrier.now.user.now)) c.in_err-values.field-0.0 c.from_residual.ensures.1 (informed_fails c.in_err-values.field-0.0 (association_base c.args.basis.now.tables.now c.args.basis.now.config.now) c.args.set.now is_aarq (values_under c.args.basis.now.tables.now c.args.set.now carriage.Association (pdv_places c.args.carrier.now.place c.args.carrier.now.start c.args.carrier.now.user.now) c.args.presentation.now.user) (rw c.as_slice.ensures at c.in_err-values.ensures))

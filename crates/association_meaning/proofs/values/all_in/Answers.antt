@@ -7,14 +7,14 @@ use Rattle.association_meaning.proofs.values.all_in.Goals as goal
 
 pub loop-pdv-preserved : goal.loop-pdv-preserved
 loop-pdv-preserved c =
-    all_step (value_in c.args.basis.now.tables.now c.args.set.now) c.args.pdvs.now c.loop-pdv.pdv-index c.pdv-item.result (omega arith) c.loop-pdv.values c.loop-pdv.invariant c.in_ok-value.value c.push.new.self
-    (ap (value_in c.args.basis.now.tables.now c.args.set.now) (sym c.pdv-item.is) ∙ c.in_ok-value.ensures) c.in_ok-push.ensures.ok
+    all_step (value_in c.args.basis.now.tables.now c.args.carried c.args.set.now) c.args.pdvs.now c.loop-pdv.pdv-index c.pdv-item.result (omega arith) c.loop-pdv.values c.loop-pdv.invariant c.in_ok-value.value c.push.new.self
+    (ap (value_in c.args.basis.now.tables.now c.args.carried c.args.set.now) (sym c.pdv-item.is) ∙ c.in_ok-value.ensures) c.in_ok-push.ensures.ok
 
 pub returns-in_err-value : goal.returns-in_err-value
 returns-in_err-value c =
-    halts seen_values c.from_residual.result (all_values (value_in c.args.basis.now.tables.now c.args.set.now) c.args.pdvs.now) c.in_err-value.field-0.0 c.from_residual.ensures.1
-    (fails_at (value_in c.args.basis.now.tables.now c.args.set.now) c.args.pdvs.now c.loop-pdv.pdv-index c.pdv-item.result (omega arith) c.loop-pdv.values c.loop-pdv.invariant c.in_err-value.field-0.0 ((value_in c.args.basis.now.tables.now c.args.set.now) c.pdv-item.result) (ap (value_in c.args.basis.now.tables.now c.args.set.now) (sym c.pdv-item.is)) c.in_err-value.ensures)
+    halts seen_values c.from_residual.result (all_values (value_in c.args.basis.now.tables.now c.args.carried c.args.set.now) c.args.pdvs.now) c.in_err-value.field-0.0 c.from_residual.ensures.1
+    (fails_at (value_in c.args.basis.now.tables.now c.args.carried c.args.set.now) c.args.pdvs.now c.loop-pdv.pdv-index c.pdv-item.result (omega arith) c.loop-pdv.values c.loop-pdv.invariant c.in_err-value.field-0.0 ((value_in c.args.basis.now.tables.now c.args.carried c.args.set.now) c.pdv-item.result) (ap (value_in c.args.basis.now.tables.now c.args.carried c.args.set.now) (sym c.pdv-item.is)) c.in_err-value.ensures)
 
 pub returns : goal.returns
 returns c =
-    all_done (value_in c.args.basis.now.tables.now c.args.set.now) c.args.pdvs.now c.loop-pdv.pdv-index c.loop-pdv.values (omega arith) c.loop-pdv.invariant
+    all_done (value_in c.args.basis.now.tables.now c.args.carried c.args.set.now) c.args.pdvs.now c.loop-pdv.pdv-index c.loop-pdv.values (omega arith) c.loop-pdv.invariant

@@ -5,4 +5,4 @@ use Rattle.association_reading.specs.Values as values_read
 use Rattle.association_meaning.proofs.values.all_in.Given as goal
 
 abbrev pub invariant-loop-pdv : goal.invariant-loop-pdv
-invariant-loop-pdv l = steps.joined (seen_values l.values) (values_read.all_values (values_read.value_in l.basis.tables.now l.set) (drop l.pdv-index l.pdvs)) ≡ values_read.all_values (values_read.value_in l.basis.tables.now l.set) l.pdvs
+invariant-loop-pdv l = steps.joined (seen_values l.values) (values_read.all_values (values_read.value_in l.basis.tables.now l.carried l.set) (drop l.pdv-index l.pdvs)) ≡ values_read.all_values (values_read.value_in l.basis.tables.now l.carried l.set) l.pdvs

@@ -13,7 +13,6 @@ returns c =
           readable = record { types = record { each = λ n row h. absurd (no-row n row h); short = λ n row h. absurd (no-row n row h) }; operations = refl; errors = refl };
           typed = record { each = λ n h. no-row n _ h };
         },
-        refl,
         record { mode = refl; accepted = refl },
         refl,
       );

@@ -1,6 +1,6 @@
 use Rattle.std.specs.Prelude.{map}
 use Rattle.module_faults.proofs.SeenLists.{seen_was, seen_now, codes_with, code_was, code_now}
-use Rattle.module_faults.proofs.seen.SeenCodes.see.Goals as goal
+use Rattle.module_faults.proofs.names_seen.SeenCodes.see.Goals as goal
 
 pub returns-in_ok-insert-in-None-Some-clause-was :
     goal.returns-in_ok-insert-in-None-Some-clause-was

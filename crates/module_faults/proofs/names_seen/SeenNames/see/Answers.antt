@@ -1,7 +1,7 @@
 use Rattle.std.proofs.Common.{ℕ, List, ap, ◌∙◌}
 use Rattle.module_faults.specs.Seen.{has_list, with_list}
 use Rattle.module_faults.proofs.SeenLists.{seen_was, seen_now}
-use Rattle.module_faults.proofs.seen.SeenNames.see.Goals as goal
+use Rattle.module_faults.proofs.names_seen.SeenNames.see.Goals as goal
 
 pub returns-clause-was : goal.returns-clause-was
 returns-clause-was c =
