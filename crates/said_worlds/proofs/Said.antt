@@ -165,5 +165,5 @@ direct-is_said reads tables transfers a b e =
           word-meant reads tables transfers a b e role (body_at role two) word start late
           (subst (AreMessages (base reads tables transfers a b e Initiator) (base reads tables transfers a b e Responder)) comes (said reads tables transfers a b e two ledger s role)).0
           (direct-takes_rightly has-codec.0 tables (direct_ends tables transfers a b).spellings a b has-codec.1 (direct-back tables transfers a b e.module_s.readable) (right reads tables transfers a b e) (contexts reads tables transfers a b e) two ledger s role word left body answers shown comes h)
-          (word-in_place has-codec.0 tables (direct_ends tables transfers a b).spellings a b has-codec.1 (direct-back tables transfers a b e.module_s.readable) (right reads tables transfers a b e) (ids reads tables transfers a b e) e.name role (body_at role two) word body answers shown h);
+          (word-in_place has-codec.0 tables (direct_ends tables transfers a b).spellings a b has-codec.1 (direct-back tables transfers a b e.module_s.readable) (right reads tables transfers a b e) (ids reads tables transfers a b e) role (body_at role two) word body answers shown h);
     }
