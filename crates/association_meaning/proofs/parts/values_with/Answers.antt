@@ -7,4 +7,4 @@ use Rattle.association_meaning.proofs.parts.values_with.Goals as goal
 
 pub returns-in_err-pdvs : goal.returns-in_err-pdvs
 returns-in_err-pdvs c =
-    halts seen_values c.from_residual.result (values_with c.args.basis.now.tables.now c.args.held.now c.args.carried.now c.args.carrier.now.place c.args.carrier.now.start c.args.carrier.now.user.now) c.in_err-pdvs.field-0.0 c.from_residual.ensures.1 (under_fails c.in_err-pdvs.field-0.0 c.args.basis.now.tables.now c.args.held.now c.args.carried.now (pdv_places c.args.carrier.now.place c.args.carrier.now.start c.args.carrier.now.user.now) (data_in c.args.carrier.now.start (ppdu_at c.args.carrier.now.place c.args.carrier.now.user.now)) c.in_err-pdvs.ensures)
+    halts seen_values c.from_residual.result (values_with c.args.basis.now.tables.now c.args.held.now c.args.carried c.args.carrier.now.place c.args.carrier.now.start c.args.carrier.now.user.now) c.in_err-pdvs.field-0.0 c.from_residual.ensures.1 (under_fails c.in_err-pdvs.field-0.0 c.args.basis.now.tables.now c.args.held.now c.args.carried (pdv_places c.args.carrier.now.place c.args.carrier.now.start c.args.carrier.now.user.now) (data_in c.args.carrier.now.start (ppdu_at c.args.carrier.now.place c.args.carrier.now.user.now)) c.in_err-pdvs.ensures)
