@@ -2,6 +2,8 @@
 #![tactic(auto)]
 
 #[cfg(test)]
+mod associations;
+#[cfg(test)]
 mod checks;
 #[cfg(test)]
 mod replays;

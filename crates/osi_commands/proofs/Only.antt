@@ -1,18 +1,8 @@
 -- Words have one answer over told files that don't fail.
 use Rattle.std.proofs.Common.{ℕ, ◌≡◌, Bool, List, [], Option, None, Some, Result, Ok, Err, refl, sym, ap, subst, ◌∙◌}
 use Rattle.osi_base.specs.Outside.{IsCalm, FileMap}
-use Rattle.osi_base.specs.declared.words.Side.TheVariants.{A, B}
 use Rattle.stub_tables.specs.declared.tables.Tables.{Tables}
-use Rattle.dialogue.specs.declared.config.Config.{Config}
-use Rattle.dialogue.specs.declared.setup.Setup.{Setup}
-use Rattle.dialogue.specs.declared.config.Mode.{Mode}
-use Rattle.dialogue.specs.declared.config.Phase.{Phase}
-use Rattle.dialogue.specs.declared.event.Entry.{Entry}
-use Rattle.dialogue.specs.declared.event.Transcript.{Transcript}
-use Rattle.end_rules.specs.World.{Ends}
-use Rattle.end_wire.specs.Bare.{bare_base}
-use Rattle.bare_duo.specs.Worlds.{ends_of, end_at, Runs}
-use Rattle.bare_duo.specs.Laws.{OneRun}
+use Rattle.replays.specs.Runs.{OneTranscript}
 use Rattle.module_reading.specs.declared.fault.ModuleKind.{ModuleKind}
 use Rattle.module_reading.specs.declared.fault.ModuleFault.{ModuleFault}
 use Rattle.module_reading.specs.declared.fault.ModuleFault.TheVariants as faults
@@ -35,7 +25,7 @@ use Rattle.osi_commands.specs.declared.commands.Work.TheVariants.{Replay, Trace}
 use Rattle.osi_commands.specs.Commands.{FilePair, Command, checks, pairs}
 use Rattle.osi_commands.specs.Answers.{usage_answer, module_answer, done_answer}
 use Rattle.osi_commands.specs.Reading.{WasRead}
-use Rattle.osi_commands.specs.Replaying.{bare_alone, RanSchedule, written_of, Replayed, RepliedBy}
+use Rattle.osi_commands.specs.Replaying.{every_mode, written_of, Replayed, RepliedBy}
 use Rattle.osi_commands.specs.Tracing.{ToldBy}
 use Rattle.osi_commands.specs.Checking.{checked_answer, ChecksOctets, Checks, unread, read}
 use Rattle.osi_commands.specs.Pairs.{SecondBy}
@@ -49,35 +39,8 @@ use Rattle.osi_commands.proofs.PairCases.{PairCase, module_unread, module_faulty
 
 -- ---- what is replayed
 
-abbrev ends_with : Tables → Config → Config → Ends
-ends_with tables a b = record { a = bare_base tables a; b = bare_base tables b }
-
-abbrev told_by : Mode → List Entry → Phase → Phase → Transcript
-told_by mode entries a b = record { mode = mode; entries = entries; a = a; b = b }
-
--- setups with these configurations make the same ends
-same_ends : (tables : Tables) (r s : Setup) → r.a ≡ s.a → r.b ≡ s.b → ends_of r tables ≡ ends_of s tables
-same_ends tables r s a b =
-    let first : ends_with tables r.a r.b ≡ ends_with tables s.a r.b = ap (λ x. ends_with tables x r.b) a in first ∙ ap (λ x. ends_with tables s.a x) b
-
-one_text : OneRun → (brief : Bool) (tables : Tables) (schedule : Said) (x y : List ℕ) → Replayed brief tables schedule x → Replayed brief tables schedule y → x ≡ y
-one_text one brief tables schedule x y p q =
-    let r : RanSchedule tables schedule p.transcript = p.ran in
-    let s : RanSchedule tables schedule q.transcript = q.ran in
-    let ends : ends_of s.setup tables ≡ ends_of r.setup tables = same_ends tables s.setup r.setup (s.a_is ∙ sym r.a_is) (s.b_is ∙ sym r.b_is) in
-    let R : Ends → Type 0 = λ e. Runs e [] schedule.events q.transcript.entries s.world in
-    let runs = one tables r.setup [] r.world s.world schedule.events p.transcript.entries q.transcript.entries r.readable r.runs (subst R ends s.runs) in
-    let t = p.transcript in
-    let u = q.transcript in
-    let modes : told_by t.mode t.entries t.a t.b ≡ told_by u.mode t.entries t.a t.b = ap (λ m. told_by m t.entries t.a t.b) (r.mode ∙ sym s.mode) in
-    let entries : told_by u.mode t.entries t.a t.b ≡ told_by u.mode u.entries t.a t.b = ap (λ es. told_by u.mode es t.a t.b) runs.0 in
-    let firsts : told_by u.mode u.entries t.a t.b ≡ told_by u.mode u.entries u.a t.b =
-    ap (λ x. told_by u.mode u.entries x t.b)
-    (r.a_phase ∙ ap (λ w. (end_at (ends_of r.setup tables) A w).body.link.phase) runs.1 ∙ ap (λ (e : Ends). (end_at e A s.world).body.link.phase) (sym ends) ∙ sym s.a_phase) in
-    let seconds : told_by u.mode u.entries u.a t.b ≡ told_by u.mode u.entries u.a u.b =
-    ap (λ x. told_by u.mode u.entries u.a x)
-    (r.b_phase ∙ ap (λ w. (end_at (ends_of r.setup tables) B w).body.link.phase) runs.1 ∙ ap (λ (e : Ends). (end_at e B s.world).body.link.phase) (sym ends) ∙ sym s.b_phase) in
-    p.text_is ∙ ap (written_of brief tables) (modes ∙ entries ∙ firsts ∙ seconds) ∙ sym q.text_is
+one_text : OneTranscript → (brief : Bool) (tables : Tables) (schedule : Said) (x y : List ℕ) → Replayed brief tables schedule x → Replayed brief tables schedule y → x ≡ y
+one_text one brief tables schedule x y p q = p.text_is ∙ ap (written_of brief tables) (one tables schedule p.transcript q.transcript p.ran q.ran) ∙ sym q.text_is
 
 -- ---- faults
 
@@ -94,7 +57,7 @@ refused_answer text = checked_answer (Refused text)
 
 -- ---- the second file
 
-one_reply : OneRun → (brief : Bool) (tables : Tables) (r : Result Said ScriptFault) (first other : Answer) → RepliedBy brief tables r first → RepliedBy brief tables r other → first ≡ other
+one_reply : OneTranscript → (brief : Bool) (tables : Tables) (r : Result Said ScriptFault) (first other : Answer) → RepliedBy brief tables r first → RepliedBy brief tables r other → first ≡ other
 one_reply one brief tables (Ok schedule) first other x y = x.2 ∙ ap done_answer (one_text one brief tables schedule x.0 y.0 x.1 y.1) ∙ sym y.2
 one_reply one brief tables (Err (At number kind)) first other x y = x ∙ sym y
 one_reply one brief tables (Err NoMemory) first other x y = absurd x
@@ -104,9 +67,9 @@ one_telling one tables (Ok told) first other x y = x.2 ∙ ap done_answer (one t
 one_telling one tables (Err (recording_faults.At number kind)) first other x y = x ∙ sym y
 one_telling one tables (Err recording_faults.NoMemory) first other x y = absurd x
 
-module _ (runs : OneRun) (traces : OneTrace) where
+module _ (runs : OneTranscript) (traces : OneTrace) where
   one_second : (work : Work) (tables : Tables) (octets : List ℕ) (first other : Answer) → SecondBy work tables octets first → SecondBy work tables octets other → first ≡ other
-  one_second (Replay brief) tables octets first other x y = one_reply runs brief tables (schedule_of bare_alone tables octets) first other x y
+  one_second (Replay brief) tables octets first other x y = one_reply runs brief tables (schedule_of every_mode tables octets) first other x y
   one_second Trace tables octets first other x y = one_telling traces tables (recording_of octets) first other x y
 
   module _ (map : FileMap) (old new : ℕ) (calm : IsCalm old new) where
@@ -180,5 +143,5 @@ module _ (runs : OneRun) (traces : OneTrace) where
     one_of (Some (checks check)) first other x y = one_check check first other x y
     one_of (Some (pairs pair)) first other x y = one_pair pair first other (pair_case (Some map) old new pair first x) (pair_case (Some map) old new pair other y)
 
-pub one_answer : OneRun → OneTrace → OneAnswer
+pub one_answer : OneTranscript → OneTrace → OneAnswer
 one_answer runs traces map old new command first other calm x y = one_of runs traces map old new calm command first other x y

@@ -1,20 +1,43 @@
 -- How the top call ends with words that are a replay or a trace.
-use Rattle.std.proofs.Common.{ℕ, ◌≡◌, ◌⊎◌, List, Option, None, Some, IfSome, true, refl, inl, inr}
-use Rattle.osi_base.specs.Outside.{IsCalm, FileMap}
+use Rattle.std.proofs.Common.{ℕ, ◌≡◌, ◌⊎◌, List, Option, None, Some, IfSome, Bool, true, refl, ap, subst, inl, inr, ◌∙◌}
+use Rattle.osi_base.specs.Outside.{IsCalm, FileMap, grown}
 use Rattle.osi_base.specs.declared.words.Status.{Status}
 use Rattle.osi_base.specs.declared.words.Status.TheVariants.{Done, Usage, ReadFault, WriteFault, LineFault, ModuleRefused, ScriptRefused, Ended, Spent, NoMemory}
 use Rattle.osi_commands.specs.declared.answers.Answer.{Answer}
+use Rattle.osi_commands.specs.declared.commands.Work.{Work}
+use Rattle.osi_commands.specs.declared.commands.Work.TheVariants.{Replay}
 use Rattle.osi_commands.specs.Commands.{FilePair}
-use Rattle.osi_commands.specs.Answers.{Ends, whole, failed, no_memory, Closes, answered, no_room, IsUnless}
+use Rattle.osi_commands.specs.Answers.{EndedWith, whole, failed, no_memory, Closes, answered, no_room, IsUnless}
 use Rattle.osi_commands.specs.Reading.{AskedOneOrBoth, AsksPair, PairAsked, PairAskedAtEnd}
 use Rattle.osi_commands.specs.Causes.{IsRefusedModule}
-use Rattle.osi_commands.specs.Pairs.{AnswersPair, IsPairDone, IsPairRefused, IsPairUnread, due_by_second, IsBySecond, IsPairDue, PairEnds}
+use Rattle.osi_commands.specs.Pairs.{AnswersPair, IsReplayed, IsWorked, IsPairDone, IsReplayDone, IsPairRefused, IsPairUnread, due_by_second, IsBySecond, IsPairDue, PairEnds}
 use Rattle.osi_commands.proofs.Endings.{is_answers, whole_of, unless_of}
 use Rattle.osi_commands.proofs.PairCases.{pair_case, own_status, never_usage, done_case, script_case, unread_case, module_case, no_module_due, no_tables_due, second_due, fault_due, there_due}
 
 -- the status of an answer is one of those
 pub own_pair : (told : Option FileMap) (old new : ℕ) (pair : FilePair) (answer : Answer) → AnswersPair told old new pair answer → is_answers answer.status ≡ true
 own_pair told old new pair answer is = own_status told old new pair answer (pair_case told old new pair answer is)
+
+-- a replay that is done
+pub replay_done : (told : Option FileMap) (old new : ℕ) (pair : FilePair) (brief : Bool) (before after : Option (List ℕ)) → pair.work ≡ Replay brief
+    → IsPairDone told old new pair before after → IsReplayDone told old new pair brief before after
+replay_done told old new pair brief before after is done =
+    let W : Work → Type 0 = λ w. IsWorked w done.tables done.octets done.text in
+    let r : IsReplayed brief done.tables done.octets done.text = subst W is done.worked in
+    record {
+      «module» = done.«module»;
+      module_read = done.module_read;
+      tables = done.tables;
+      has = done.has;
+      octets = done.octets;
+      second_read = done.second_read;
+      schedule = r.schedule;
+      reads = r.reads;
+      transcript = r.replayed.transcript;
+      ran = r.replayed.ran;
+      only = r.replayed.only;
+      written = done.written ∙ ap (λ (text : List ℕ). grown before text) r.replayed.text_is;
+    }
 
 module _ (told : Option FileMap) (old new : ℕ) (pair : FilePair) (before after : Option (List ℕ)) (sink_old sink_new : ℕ) (status : Status)
     (closes : Closes (AnswersPair told old new pair) old new sink_old sink_new before after status) where
@@ -114,7 +137,7 @@ module _ (pair : FilePair) (first last : Option (List (List ℕ))) where
   one_or_both Spent asked = absurd asked
   one_or_both NoMemory asked = absurd asked
 
-  pub pair_answered : (old new : ℕ) (before after : Option (List ℕ)) (answer : Answer) (status : Status) → Ends old new before after answer status
+  pub pair_answered : (old new : ℕ) (before after : Option (List ℕ)) (answer : Answer) (status : Status) → EndedWith old new before after answer status
       → PairAsked pair first last answer.status → PairAskedAtEnd pair first last status
   pair_answered old new before after answer _ (whole same written) asked = kept answer.status asked
   pair_answered old new before after answer _ (failed rose part) asked = one_or_both answer.status asked

@@ -2,6 +2,7 @@
 use Rattle.std.proofs.Common.{ℕ, ◌≡◌, List, Option, None, Some, sym, ap, subst, inl, inr, ◌∙◌}
 use Rattle.osi_base.specs.Outside.{FileMap, logged}
 use Rattle.stub_tables.specs.declared.tables.Tables.{Tables}
+use Rattle.packed_codec.specs.Laws.{HasNoAny}
 use Rattle.module_reading.specs.declared.fault.ModuleKind.{ModuleKind}
 use Rattle.module_reading.specs.declared.fault.ModuleFault.TheVariants as faults
 use Rattle.module_reading.specs.Modules.{HasTables, IsRefused}
@@ -10,7 +11,7 @@ use Rattle.osi_commands.specs.declared.reading.PairRead.{PairRead}
 use Rattle.osi_commands.specs.declared.reading.PairRead.TheVariants.{Answered, Whole}
 use Rattle.osi_commands.specs.Commands.{FilePair}
 use Rattle.osi_commands.specs.Answers.{unread_answer, module_answer}
-use Rattle.osi_commands.specs.Reading.{WasRead, KeepsCountAt, MayAsk, ReadsSecond, no_second, second, ReadsPair, no_module, refused, has_tables, AsksPair, PairAskedFor}
+use Rattle.osi_commands.specs.Reading.{WasRead, KeepsCountAt, MayAsk, ReadsSecond, no_second, second, ReadsPair, no_module, refused, has_tables, IsTyped, AsksPair, PairAskedFor}
 
 -- ---- the second file
 
@@ -73,3 +74,9 @@ pub second_asked : (pair : FilePair) (tables : Tables) (told : Option FileMap) (
     → ReadsSecond tables told old new pair.second read → middle ≡ logged pair.«module» before → after ≡ logged pair.second middle → PairAskedFor pair before after read
 second_asked pair tables told old new read before middle after t first last =
     both_asked pair tables told old new read before after t (last ∙ ap (λ (m : Option (List (List ℕ))). logged pair.second m) first)
+
+-- ---- the types of a module
+
+-- what was read whole has no type that is any type
+pub typed_whole : (read : PairRead) (tables : Tables) (octets : List ℕ) → read ≡ Whole tables octets → IsTyped read → HasNoAny tables.types
+typed_whole read tables octets is typed = subst (λ (r : PairRead). IsTyped r) is typed

@@ -1,56 +1,16 @@
--- The replay of a schedule, from what the run of two new ends says.
-use Rattle.std.proofs.Common.{◌≡◌, ℕ, Bool, true, false, List, [], refl, sym, subst, ◌∙◌}
+-- The replay of a schedule, from what its run says.
+use Rattle.std.proofs.Common.{◌≡◌, ℕ, Bool, List}
 use Rattle.stub_tables.specs.declared.tables.Tables.{Tables}
-use Rattle.dialogue.specs.declared.config.Config.{Config}
-use Rattle.dialogue.specs.Config.{IsBare}
-use Rattle.dialogue.specs.declared.setup.Setup.{Setup}
-use Rattle.dialogue.specs.declared.event.Event.{Event}
 use Rattle.dialogue.specs.declared.event.Transcript.{Transcript}
-use Rattle.bare_end.specs.View.{EndView, StandsFor}
-use Rattle.bare_duo.specs.Ran.{RanFromStart, RunsFromStart}
 use Rattle.schedule_text.specs.Schedules.{Said}
-use Rattle.osi_commands.specs.Replaying.{RanOver, RanSchedule, written_of, Replayed}
+use Rattle.replays.specs.Runs.{RanSchedule, OneTranscript}
+use Rattle.osi_commands.specs.Replaying.{written_of, Replayed}
 
--- two configurations of bare mode
-module _ (a b : Config) (a_is : IsBare true a) (b_is : IsBare false b) where
-  module _ (tables : Tables) (events : List Event) (transcript : Transcript) where
-    abbrev schedule : Said
-    schedule = record { a = a; b = b; events = events }
-
-    abbrev setup : Setup
-    setup = record { a = a; b = b; initiator = ∣ a_is ∣₁; responder = ∣ b_is ∣₁ }
-
-    from_run : (a_after b_after : EndView) → RanFromStart setup tables events transcript a_after b_after → RanSchedule tables schedule transcript
-    from_run a_after b_after run = record {
-      setup = setup;
-      a_is = refl;
-      b_is = refl;
-      world = run.ran.world;
-      runs = run.ran.runs;
-      readable = run.readable;
-      laws = run.laws;
-      mode = run.mode;
-      a_phase = run.a_phase;
-      b_phase = run.b_phase;
-    }
-
-    pub replays : (x y x_after y_after : EndView) → x.tables ≡ tables → x.config ≡ a → StandsFor x [] → y.tables ≡ tables → y.config ≡ b → StandsFor y []
-        → RunsFromStart events transcript x y x_after y_after → RanSchedule tables schedule transcript
-    replays x y x_after y_after x_tables x_config x_new y_tables y_config y_new run =
-        let P : Tables → Type 0 = λ t. RanFromStart setup t events transcript x_after y_after in
-        let ran : RanFromStart setup x.tables events transcript x_after y_after =
-        run setup (record {
-          a_stands = record { tables_are = refl; config_is = x_config; stands = x_new };
-          b_stands = record { tables_are = y_tables ∙ sym x_tables; config_is = y_config; stands = y_new };
-        }) in
-        from_run x_after y_after (subst P x_tables ran)
-
-    -- the run of two new ends is one of the schedule
-    pub scheduled : (x y : EndView) → x.tables ≡ tables → x.config ≡ a → StandsFor x [] → y.tables ≡ tables → y.config ≡ b → StandsFor y []
-        → RanOver events x y transcript → RanSchedule tables schedule transcript
-    scheduled x y x_tables x_config x_new y_tables y_config y_new over =
-        replays x y over.a_after over.b_after x_tables x_config x_new y_tables y_config y_new over.runs
-
-pub told : {brief : Bool} {tables : Tables} {schedule : Said} {transcript : Transcript} {text : List ℕ}
-    → RanSchedule tables schedule transcript → text ≡ written_of brief tables transcript → Replayed brief tables schedule text
-told {transcript = transcript} ran is = record { transcript = transcript; ran = ran; text_is = is }
+pub told : OneTranscript → (brief : Bool) (tables : Tables) (schedule : Said) (transcript : Transcript) (text : List ℕ) → RanSchedule tables schedule transcript
+    → text ≡ written_of brief tables transcript → Replayed brief tables schedule text
+told one brief tables schedule transcript text ran is = record {
+  transcript = transcript;
+  ran = ran;
+  only = λ other run. one tables schedule other transcript run ran;
+  text_is = is;
+}

@@ -5,8 +5,10 @@ use Rattle.stub_tables.specs.declared.tables.Tables.{Tables}
 use Rattle.script_lines.specs.declared.fault.ScriptFault.{ScriptFault}
 use Rattle.script_lines.specs.declared.fault.ScriptFault.TheVariants.{At, NoMemory}
 use Rattle.script_lines.specs.declared.fault.ScriptKind.{ScriptKind}
-use Rattle.dialogue.specs.Config.{IsBare}
-use Rattle.schedule_text.specs.Laws.{BareSchedulesAreBare}
+use Rattle.schedule_text.specs.declared.setting.Modes.{Modes}
+use Rattle.schedule_text.specs.Laws.{SchedulesAreRun}
+use Rattle.schedule_ends.specs.Ends.{HasEnds}
+use Rattle.replays.specs.Runs.{IsSetUp}
 use Rattle.schedule_text.specs.Schedules.{Said, schedule_of}
 use Rattle.trace_file.specs.declared.fault.RecordingKind.{RecordingKind}
 use Rattle.trace_file.specs.declared.fault.RecordingFault.{RecordingFault}
@@ -20,21 +22,23 @@ use Rattle.osi_commands.specs.declared.commands.Work.TheVariants.{Replay, Trace}
 use Rattle.osi_commands.specs.Commands.{FilePair}
 use Rattle.osi_commands.specs.Answers.{script_answer, done_answer}
 use Rattle.osi_commands.specs.Reading.{PairAsked}
-use Rattle.osi_commands.specs.Replaying.{bare_alone, Replayed, RepliedBy, ReplayedBy}
+use Rattle.osi_commands.specs.Replaying.{every_mode, Replayed, RepliedBy, ReplayedBy}
 use Rattle.osi_commands.specs.Tracing.{script_kind, ToldBy, TracedBy}
 use Rattle.osi_commands.specs.Pairs.{SecondBy, IsWorked, IsBadSecond, due_by_schedule, due_by_recording, due_by_octets}
 
 -- ---- from the steps of the code
 
--- a schedule that is read where bare mode alone is run is one of bare mode
-pub is_of_bare_mode : BareSchedulesAreBare → (tables : Tables) (octets : List ℕ) (s : Said) → schedule_of bare_alone tables octets ≡ Ok s → IsBare true s.a × IsBare false s.b
-is_of_bare_mode law tables octets s e = law bare_alone tables octets s refl refl e
+-- a schedule that is read is one that can be run
+pub is_set_up : SchedulesAreRun → (tables : Tables) (octets : List ℕ) (s : Said) → ((modes : Modes) (text : List ℕ) → schedule_of modes tables text ≡ Ok s → HasEnds modes tables s) → schedule_of every_mode tables octets ≡ Ok s → IsSetUp s
+is_set_up law tables octets s ends e =
+    let has : HasEnds every_mode tables s = ends every_mode octets e in
+    record { meet = (law every_mode tables octets s e).meet; of_a = has.of_a; of_b = has.of_b; events = has.events }
 
-pub replayed_ok : (brief : Bool) (tables : Tables) (octets : List ℕ) (schedule : Said) (text : List ℕ) (answer : Answer) → schedule_of bare_alone tables octets ≡ Ok schedule → Replayed brief tables schedule text
+pub replayed_ok : (brief : Bool) (tables : Tables) (octets : List ℕ) (schedule : Said) (text : List ℕ) (answer : Answer) → schedule_of every_mode tables octets ≡ Ok schedule → Replayed brief tables schedule text
     → answer ≡ done_answer text → ReplayedBy brief tables octets answer
 replayed_ok brief tables octets schedule text answer e h a = let P : Result Said ScriptFault → Type 0 = λ r. RepliedBy brief tables r answer in subst P (sym e) (text, h, a)
 
-pub replayed_err : (brief : Bool) (tables : Tables) (octets : List ℕ) (number : ℕ) (kind : ScriptKind) (answer : Answer) → schedule_of bare_alone tables octets ≡ Err (At number kind)
+pub replayed_err : (brief : Bool) (tables : Tables) (octets : List ℕ) (number : ℕ) (kind : ScriptKind) (answer : Answer) → schedule_of every_mode tables octets ≡ Err (At number kind)
     → answer ≡ script_answer number kind → ReplayedBy brief tables octets answer
 replayed_err brief tables octets number kind answer e a = let P : Result Said ScriptFault → Type 0 = λ r. RepliedBy brief tables r answer in subst P (sym e) a
 
@@ -55,7 +59,7 @@ pub data SecondCase (work : Work) (tables : Tables) (octets : List ℕ) : Answer
 along : (work : Work) (tables : Tables) (octets : List ℕ) (made answer : Answer) → answer ≡ made → SecondCase work tables octets made → SecondCase work tables octets answer
 along work tables octets made answer e c = let P : Answer → Type 0 = λ a. SecondCase work tables octets a in subst P (sym e) c
 
-by_schedule : (brief : Bool) (tables : Tables) (octets : List ℕ) (answer : Answer) (r : Result Said ScriptFault) → schedule_of bare_alone tables octets ≡ r → RepliedBy brief tables r answer → SecondCase (Replay brief) tables octets answer
+by_schedule : (brief : Bool) (tables : Tables) (octets : List ℕ) (answer : Answer) (r : Result Said ScriptFault) → schedule_of every_mode tables octets ≡ r → RepliedBy brief tables r answer → SecondCase (Replay brief) tables octets answer
 by_schedule brief tables octets answer (Ok schedule) e t =
     along (Replay brief) tables octets (done_answer t.0) answer t.2 (worked t.0 (record { schedule = schedule; reads = e; replayed = t.1 }))
 by_schedule brief tables octets answer (Err (At number kind)) e t =
@@ -71,7 +75,7 @@ by_recording tables octets answer (Err (recording_faults.At number kind)) e t =
 by_recording tables octets answer (Err recording_faults.NoMemory) e t = absurd t
 
 pub case_of : (work : Work) (tables : Tables) (octets : List ℕ) (answer : Answer) → SecondBy work tables octets answer → SecondCase work tables octets answer
-case_of (Replay brief) tables octets answer t = by_schedule brief tables octets answer (schedule_of bare_alone tables octets) refl t
+case_of (Replay brief) tables octets answer t = by_schedule brief tables octets answer (schedule_of every_mode tables octets) refl t
 case_of Trace tables octets answer t = by_recording tables octets answer (recording_of octets) refl t
 
 -- ---- the status that is due
@@ -87,7 +91,7 @@ due_recording tables answer (Err (recording_faults.At number kind)) t = ap (λ (
 due_recording tables answer (Err recording_faults.NoMemory) t = absurd t
 
 pub due_second : (work : Work) (tables : Tables) (octets : List ℕ) (answer : Answer) → SecondBy work tables octets answer → answer.status ≡ due_by_octets work tables octets
-due_second (Replay brief) tables octets answer t = due_schedule brief tables answer (schedule_of bare_alone tables octets) t
+due_second (Replay brief) tables octets answer t = due_schedule brief tables answer (schedule_of every_mode tables octets) t
 due_second Trace tables octets answer t = due_recording tables answer (recording_of octets) t
 
 -- ---- which files were asked for

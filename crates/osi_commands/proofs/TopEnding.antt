@@ -1,20 +1,21 @@
 -- How the top call ends, by what the words are.
-use Rattle.std.proofs.Common.{ℕ, ◌≡◌, List, Option, None, Some, Result, Ok, Err, IfOk, MatchResult, true, refl, sym, ap, subst, inr, ◌∙◌}
+use Rattle.std.proofs.Common.{ℕ, ◌≡◌, List, Option, None, Some, Result, Ok, Err, IfOk, MatchResult, Bool, true, refl, sym, ap, subst, inr, ◌∙◌}
 use Rattle.osi_base.specs.Outside.{FileMap, logged, grown}
 use Rattle.osi_base.specs.declared.words.Status.{Status}
 use Rattle.osi_base.specs.declared.words.Status.TheVariants.{Done, Usage, ReadFault, WriteFault, LineFault, ModuleRefused, ScriptRefused, Ended, Spent, NoMemory}
 use Rattle.module_check.specs.Command.{Check}
 use Rattle.osi_commands.specs.declared.answers.Answer.{Answer}
+use Rattle.osi_commands.specs.declared.commands.Work.TheVariants.{Replay}
 use Rattle.osi_commands.specs.Commands.{FilePair, Command, checks, pairs}
-use Rattle.osi_commands.specs.Answers.{usage_answer, Ends, Closes, IsUnless}
+use Rattle.osi_commands.specs.Answers.{usage_answer, EndedWith, Closes, IsUnless}
 use Rattle.osi_commands.specs.Reading.{CheckAskedAtEnd}
 use Rattle.osi_commands.specs.Checking.{Checks, CheckEnds}
-use Rattle.osi_commands.specs.Pairs.{AnswersPair, PairEnds}
+use Rattle.osi_commands.specs.Pairs.{AnswersPair, IsReplayDone, PairEnds}
 use Rattle.osi_commands.specs.TopCall.{IsAnswer, IsUsage, Asks, AskedBy, AskedAtEnd}
 use Rattle.osi_commands.proofs.Endings.{is_answers, whole_of, unless_of, closes_as}
 use Rattle.osi_commands.proofs.CheckEnding.{own_check, check_ends, never_usage_check}
 use Rattle.osi_commands.proofs.PairCases.{pair_case, never_usage}
-use Rattle.osi_commands.proofs.PairEnding.{own_pair, pair_ends, pair_answered, none_answered}
+use Rattle.osi_commands.proofs.PairEnding.{own_pair, replay_done, pair_ends, pair_answered, none_answered}
 
 -- ---- the answer to words, once it is known what they are
 
@@ -60,7 +61,7 @@ check_asked name first last Ended asked = asked
 check_asked name first last Spent asked = asked
 
 module _ (first last : Option (List (List ℕ))) (sink_old sink_new : ℕ) (before after : Option (List ℕ)) where
-  answered_end : (command : Option Command) (answer : Answer) (status : Status) → Ends sink_old sink_new before after answer status → AskedBy command first last answer.status
+  answered_end : (command : Option Command) (answer : Answer) (status : Status) → EndedWith sink_old sink_new before after answer status → AskedBy command first last answer.status
       → AskedAtEnd command first last status
   answered_end None answer status ends asked = asked
   answered_end (Some (checks check)) answer status ends asked = check_asked check.«module» first last status asked
@@ -74,7 +75,7 @@ module _ (first last : Option (List (List ℕ))) (sink_old sink_new : ℕ) (befo
 
   pub asked_at_end : {E : Type 0} (command : Option Command) (told : Option FileMap) (old new : ℕ) (status : Status) (r : Result Answer E)
       → Asks told old new command first last → IfOk r (λ answer. AskedBy command first last answer.status)
-      → MatchResult r (λ made. Ends sink_old sink_new before after made status) (λ _. (status ≡ NoMemory) × (sink_new ≡ sink_old) × (after ≡ before))
+      → MatchResult r (λ made. EndedWith sink_old sink_new before after made status) (λ _. (status ≡ NoMemory) × (sink_new ≡ sink_old) × (after ≡ before))
       → AskedAtEnd command first last status
   asked_at_end command told old new status (Ok answer) asks asked ends = answered_end command answer status ends asked
   asked_at_end command told old new status (Err fault) asks asked ends =
@@ -126,3 +127,7 @@ module _ (told : Option FileMap) (old new : ℕ) (command : Option Command) (bef
   pair_ends_so pair e =
       pair_ends told old new pair before after sink_old sink_new status
       (closes_as (IsAnswer told old new command) old new sink_old sink_new before after (AnswersPair told old new pair) status (as_pair pair e) closes)
+
+  pub replay_done_so : (pair : FilePair) (brief : Bool) → command ≡ Some (pairs pair) → pair.work ≡ Replay brief → status ≡ Done
+      → IsReplayDone told old new pair brief before after
+  replay_done_so pair brief e is h = replay_done told old new pair brief before after is ((pair_ends_so pair e).done h)

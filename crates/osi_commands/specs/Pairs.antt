@@ -4,6 +4,7 @@ use Rattle.osi_base.specs.Outside.{IsCalm, FileMap, grown}
 use Rattle.osi_base.specs.declared.words.Status.{Status}
 use Rattle.osi_base.specs.declared.words.Status.TheVariants.{Done, Usage, ReadFault, ModuleRefused, ScriptRefused}
 use Rattle.stub_tables.specs.declared.tables.Tables.{Tables}
+use Rattle.dialogue.specs.declared.event.Transcript.{Transcript}
 use Rattle.module_reading.specs.declared.fault.ModuleKind.{ModuleKind}
 use Rattle.module_reading.specs.declared.fault.ModuleFault.TheVariants as faults
 use Rattle.module_reading.specs.Modules.{HasTables, IsRefused}
@@ -11,6 +12,7 @@ use Rattle.script_lines.specs.declared.fault.ScriptFault.{ScriptFault}
 use Rattle.script_lines.specs.declared.fault.ScriptFault.TheVariants.{At}
 use Rattle.script_lines.specs.declared.fault.ScriptKind.{ScriptKind}
 use Rattle.schedule_text.specs.Schedules.{Said, schedule_of}
+use Rattle.replays.specs.Runs.{RanSchedule}
 use Rattle.trace_file.specs.declared.fault.RecordingKind.{RecordingKind}
 use Rattle.trace_file.specs.declared.fault.RecordingFault.{RecordingFault}
 use Rattle.trace_file.specs.declared.fault.RecordingFault.TheVariants as recording_faults
@@ -25,7 +27,7 @@ use Rattle.osi_commands.specs.Commands.{FilePair}
 use Rattle.osi_commands.specs.Answers.{script_answer, IsUnless}
 use Rattle.osi_commands.specs.Reading.{WasRead, ReadsPair, HasModule}
 use Rattle.osi_commands.specs.Causes.{IsUnread, IsRefusedModule, HasNoTables}
-use Rattle.osi_commands.specs.Replaying.{bare_alone, Replayed, ReplayedBy}
+use Rattle.osi_commands.specs.Replaying.{every_mode, written_of, Replayed, ReplayedBy}
 use Rattle.osi_commands.specs.Tracing.{script_kind, TracedBy}
 
 -- ---- the whole of it
@@ -47,7 +49,7 @@ pub data AnswersPair (told : Option FileMap) (old new : ℕ) (pair : FilePair) :
 -- what was written of a schedule that was run, or of a recording
 pub record IsReplayed (brief : Bool) (tables : Tables) (octets text : List ℕ) : Type 0 where
   pub schedule : Said
-  pub reads : schedule_of bare_alone tables octets ≡ Ok schedule
+  pub reads : schedule_of every_mode tables octets ≡ Ok schedule
   pub replayed : Replayed brief tables schedule text
 
 pub record IsTraced (tables : Tables) (octets text : List ℕ) : Type 0 where
@@ -72,11 +74,28 @@ pub record IsPairDone (told : Option FileMap) (old new : ℕ) (pair : FilePair) 
   pub worked : IsWorked pair.work tables octets text
   pub written : after ≡ grown before text
 
+-- The same of a replay that is done, whose run is told here: the module was read and has tables, the schedule was read, and two new
+-- ends with its configurations ran its events. The run keeps all laws of its mode, what was written tells it, whole or in brief, and
+-- every such run of the schedule has this transcript.
+pub record IsReplayDone (told : Option FileMap) (old new : ℕ) (pair : FilePair) (brief : Bool) (before after : Option (List ℕ)) : Type 0 where
+  pub «module» : List ℕ
+  pub module_read : WasRead told old new pair.«module» (Some «module»)
+  pub tables : Tables
+  pub has : HasTables «module» tables
+  pub octets : List ℕ
+  pub second_read : WasRead told old new pair.second (Some octets)
+  pub schedule : Said
+  pub reads : schedule_of every_mode tables octets ≡ Ok schedule
+  pub transcript : Transcript
+  pub ran : RanSchedule tables schedule transcript
+  pub only : (other : Transcript) → RanSchedule tables schedule other → other ≡ transcript
+  pub written : after ≡ grown before (written_of brief tables transcript)
+
 -- the first faulty line of a schedule, or of a recording
 pub record IsBadSchedule (tables : Tables) (octets text : List ℕ) : Type 0 where
   pub line : ℕ
   pub kind : ScriptKind
-  pub fault : schedule_of bare_alone tables octets ≡ Err (At line kind)
+  pub fault : schedule_of every_mode tables octets ≡ Err (At line kind)
   pub is : text ≡ (script_answer line kind).text
 
 pub record IsBadRecording (octets text : List ℕ) : Type 0 where
@@ -118,7 +137,7 @@ due_by_recording (Ok recorded) = Done
 due_by_recording (Err fault) = ScriptRefused
 
 abbrev pub due_by_octets : Work → Tables → List ℕ → Status
-due_by_octets (Replay brief) tables octets = due_by_schedule (schedule_of bare_alone tables octets)
+due_by_octets (Replay brief) tables octets = due_by_schedule (schedule_of every_mode tables octets)
 due_by_octets Trace tables octets = due_by_recording (recording_of octets)
 
 -- the status that a second file is due by these tables

@@ -5,6 +5,7 @@ use Rattle.osi_base.specs.Outside.{FaultsRose, FileMap, Lacks, logged}
 use Rattle.osi_base.specs.declared.words.Status.{Status}
 use Rattle.osi_base.specs.declared.words.Status.TheVariants.{Done, ReadFault, WriteFault, ModuleRefused, ScriptRefused, NoMemory}
 use Rattle.stub_tables.specs.declared.tables.Tables.{Tables}
+use Rattle.packed_codec.specs.Laws.{HasNoAny}
 use Rattle.module_reading.specs.declared.fault.ModuleKind.{ModuleKind}
 use Rattle.module_reading.specs.declared.fault.ModuleFault.TheVariants as faults
 use Rattle.module_reading.specs.Modules.{HasTables, IsRefused}
@@ -55,6 +56,11 @@ pub data ReadsPair (told : Option FileMap) (old new : ℕ) (pair : FilePair) : P
   -- it has tables, and the second file is read or isn't
   has_tables : (text : List ℕ) (tables : Tables) (read : PairRead) → WasRead told old new pair.«module» (Some text) → HasTables text tables
       → ReadsSecond tables told old new pair.second read → ReadsPair told old new pair read
+
+-- no type of the module that was read is any type
+abbrev pub IsTyped : PairRead → Type 0
+IsTyped (Answered answer) = Unit {0}
+IsTyped (Whole tables octets) = HasNoAny tables.types
 
 -- The files' count is as it was, unless it is answered that a file isn't read.
 abbrev pub KeepsCountFor : ℕ → ℕ → PairRead → Type 0

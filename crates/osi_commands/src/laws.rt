@@ -2,7 +2,7 @@
 
 ghost use Rattle.osi_commands.specs.Laws.{OneAnswer};
 
-use bare_duo::one_run;
+use replays::one_transcript;
 use trace_vectors::one_trace;
 
 /// Words have one answer over told files that don't fail: so a beginning that was written before
@@ -10,6 +10,6 @@ use trace_vectors::one_trace;
 pub fn one_answer()
     ensures { OneAnswer }
 {
-    one_run();
+    one_transcript();
     one_trace();
 }

@@ -1,6 +1,7 @@
 //! What is done with a module and a second file.
 
 ghost use Rattle.std.specs.Prelude.{◌≡◌, ◌≤◌, IfOk, OnErr};
+ghost use Rattle.packed_codec.specs.Laws.{HasNoAny};
 ghost use Rattle.osi_commands.specs.Answers.{KeepsCount};
 ghost use Rattle.osi_commands.specs.Given.{pair_given};
 ghost use Rattle.osi_commands.specs.Reading.{AsksPair, PairAsked};
@@ -22,6 +23,7 @@ fn answer_octets(
     tables: &Tables,
     octets: &[u8],
 ) -> Result<Answer, NoMemory>
+    requires typed { HasNoAny tables.now.types }
     ensures { IfOk result (SecondBy work tables.now octets.now) }
 {
     match work {

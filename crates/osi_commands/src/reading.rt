@@ -3,7 +3,8 @@
 ghost use Rattle.std.specs.Prelude.{◌≡◌, ◌≤◌, IfOk, OnOk, OnErr};
 ghost use Rattle.osi_base.specs.Outside.{logged};
 ghost use Rattle.osi_commands.specs.Given.{pair_given};
-ghost use Rattle.osi_commands.specs.Reading.{WasRead, KeepsCountAt, KeepsCountFor, MayAsk, ReadsSecond, ReadsPair, AsksPair, PairAskedFor};
+ghost use Rattle.packed_codec.specs.Laws.{HasNoAny};
+ghost use Rattle.osi_commands.specs.Reading.{WasRead, KeepsCountAt, KeepsCountFor, MayAsk, ReadsSecond, ReadsPair, IsTyped, AsksPair, PairAskedFor};
 
 use crate::answers::{Answer, cannot_read, module_refused};
 use crate::commands::FilePair;
@@ -11,6 +12,7 @@ use module_reading::{ModuleFault, read_module};
 use osi_base::{FileFault, Files, Name, NoMemory, Octets};
 use std::alloc::Global;
 use stub_tables::Tables;
+use typed_modules::module_has_no_any;
 
 /// What comes of reading a module and a second file.
 #[derive(Debug, Drop)]
@@ -55,8 +57,10 @@ fn read_second<F: Files>(
     name: &Name,
     files: &mut F,
 ) -> Result<PairRead, NoMemory>
+    requires typed { HasNoAny tables.types }
     ensures count { F.faults files.old ≤ F.faults files.new }
     ensures kept { F.told files.new ≡ F.told files.old }
+    ensures typed { IfOk result IsTyped }
     ensures read { IfOk result (λ read. ReadsSecond tables (F.told files.old) (F.faults files.old)
         (F.faults files.new) name.now read) }
     ensures counts { IfOk result (λ read. KeepsCountFor (F.faults files.old) (F.faults files.new)
@@ -82,6 +86,7 @@ pub fn read_pair<F: Files>(
 ) -> Result<PairRead, NoMemory>
     ensures count { F.faults files.old ≤ F.faults files.new }
     ensures kept { F.told files.new ≡ F.told files.old }
+    ensures typed { IfOk result IsTyped }
     ensures read { IfOk result (λ read. ReadsPair (F.told files.old) (F.faults files.old)
         (F.faults files.new) (pair_given pair.entry) read) }
     ensures counts { IfOk result (λ read. KeepsCountFor (F.faults files.old) (F.faults files.new)
@@ -96,7 +101,9 @@ pub fn read_pair<F: Files>(
     let Some(text) = read_file(alloc, files, pair.module)? else {
         return Ok(PairRead::Answered(unread));
     };
-    match read_module(alloc, text.as_slice()) {
+    let octets = text.as_slice();
+    module_has_no_any(octets);
+    match read_module(alloc, octets) {
         Ok(tables) => {
             let read = read_second(alloc, tables, pair.second, files)?;
             Ok(read)

@@ -1,13 +1,14 @@
 //! The program's top call.
 
-ghost use Rattle.std.specs.Prelude.{◌≡◌, ◌≢◌, ◌≤◌, ◌⊎◌, Some, None, IfOk, OnErr};
+ghost use Rattle.std.specs.Prelude.{Bool, ◌≡◌, ◌≢◌, ◌≤◌, ◌⊎◌, Some, None, IfOk, OnErr};
 ghost use Rattle.osi_base.specs.Outside.{FaultsRose};
 ghost use Rattle.module_check.specs.Command.{Check};
+ghost use Rattle.osi_commands.specs.declared.commands.Work.TheVariants as works;
 ghost use Rattle.osi_commands.specs.Answers.{KeepsCount, Closes, IsBegun, IsUnless, CountsFiles, CountsWrites};
 ghost use Rattle.osi_commands.specs.Commands.{FilePair, checks, pairs, command_of};
 ghost use Rattle.osi_commands.specs.Given.{given};
 ghost use Rattle.osi_commands.specs.Checking.{CheckEnds};
-ghost use Rattle.osi_commands.specs.Pairs.{PairEnds};
+ghost use Rattle.osi_commands.specs.Pairs.{PairEnds, IsReplayDone};
 ghost use Rattle.osi_commands.specs.TopCall.{IsAnswer, IsUsage, Asks, AskedBy, AskedAtEnd};
 
 use crate::answers::{Answer, conclude, usage};
@@ -82,9 +83,17 @@ fn run_words<F: Files, O: Sink>(alloc: Global, words: &Words, files: &mut F, out
 /// - `check MODULE [--table]` reads the module, a text or a table file, and writes a line for each
 ///   of its operations and errors, or with `--table` its tables as a table file.
 /// - `replay MODULE SCHEDULE [--brief]` reads both files, runs the schedule over two ends of the
-///   module and writes the transcript's text, or with `--brief` its summary, once the run is whole.
+///   module, of the mode that it names, and writes the transcript's text, or with `--brief` its
+///   summary, once the run is whole.
 /// - `trace MODULE FILE` reads both files and writes what the recorded dialogue in the second one
 ///   says, with the names of the module.
+///
+/// What a replay writes tells the one run that two new ends with the schedule's configurations make
+/// of its events, and that run keeps all laws of its mode: each presentation value that is taken is
+/// one that the other end sent in its place, read under the pair that the one shared context set
+/// gave its context at the sending; an invocation has at most one outcome, which is allowed to it;
+/// each reliable transfer arrives whole, at most once; nothing whole waits at an end that isn't
+/// over; no end aborts of itself.
 ///
 /// Each other answer is a status with a text of its own, and nothing else is written:
 ///
@@ -150,6 +159,12 @@ pub fn osi_run<F: Files, O: Sink, L: Line>(
     ensures pair { (pair : FilePair) → command_of words.now ≡ Some (pairs pair)
         → PairEnds (F.told files.old) (F.faults files.old) (F.faults files.new) pair
         (O.faults out.old) (O.faults out.new) (O.told out.old) (O.told out.new) result }
+
+    // In each mode a replay that is done wrote the one run of its schedule, which keeps all laws
+    ensures replay { (pair : FilePair) (brief : Bool) → command_of words.now ≡ Some (pairs pair)
+        → pair.work ≡ works.Replay brief → result ≡ Status.Done
+        → IsReplayDone (F.told files.old) (F.faults files.old) (F.faults files.new) pair brief
+        (O.told out.old) (O.told out.new) }
 {
     run_words(alloc, words, files, out)
 }

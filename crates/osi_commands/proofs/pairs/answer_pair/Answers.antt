@@ -1,4 +1,5 @@
 use Rattle.osi_commands.specs.Given.{pair_given}
+use Rattle.osi_commands.proofs.PairReading.{typed_whole}
 use Rattle.osi_commands.proofs.PairCases.{pair_refused, pair_worked, pair_asked}
 use Rattle.osi_commands.proofs.pairs.answer_pair.Goals as goal
 
@@ -12,3 +13,6 @@ returns-in_ok-answer-in-Whole-clause-answer g c =
 pub returns-in_ok-answer-in-Whole-clause-asked_for : goal.returns-in_ok-answer-in-Whole-clause-asked_for
 returns-in_ok-answer-in-Whole-clause-asked_for g c =
     pair_asked (pair_given c.args.pair) _ _ _ _ _ _ _ c.in-Whole.is c.in_ok-answer.ensures.asked_for c.in_ok-answer-in-Whole.ensures
+
+pub answer_octets-requires-clause-typed : goal.answer_octets-requires-clause-typed
+answer_octets-requires-clause-typed g c = typed_whole _ _ _ c.in-Whole.is c.in_ok-answer.ensures.typed

@@ -1,8 +1,5 @@
-use Rattle.osi_commands.proofs.Second.{is_of_bare_mode}
+use Rattle.osi_commands.proofs.Second.{is_set_up}
 use Rattle.osi_commands.proofs.replaying.replay_octets.Goals as goal
 
-pub replay-requires-clause-a : goal.replay-requires-clause-a
-replay-requires-clause-a c = (is_of_bare_mode c.bare_schedules_are_bare.ensures c.args.tables.now c.args.octets.now _ c.in-Ok.ensures.ok).0
-
-pub replay-requires-clause-b : goal.replay-requires-clause-b
-replay-requires-clause-b c = (is_of_bare_mode c.bare_schedules_are_bare.ensures c.args.tables.now c.args.octets.now _ c.in-Ok.ensures.ok).1
+pub replay-requires-clause-set_up : goal.replay-requires-clause-set_up
+replay-requires-clause-set_up c = is_set_up c.schedules_are_run.ensures c.args.tables.now c.args.octets.now _ c.schedule_has_ends.ensures c.in-Ok.ensures.ok

@@ -1,7 +1,7 @@
 use Rattle.osi_commands.specs.Commands.{command_of}
 use Rattle.osi_commands.specs.TopCall.{IsAnswer}
 use Rattle.osi_commands.proofs.Endings.{files_count_of, sink_count_of, write_fault_of, no_memory_of, no_other_of}
-use Rattle.osi_commands.proofs.TopEnding.{own, usage_of, no_command_of, check_ends_so, pair_ends_so}
+use Rattle.osi_commands.proofs.TopEnding.{own, usage_of, no_command_of, check_ends_so, pair_ends_so, replay_done_so}
 use Rattle.osi_commands.proofs.top.osi_run.Goals as goal
 
 pub returns-clause-files_count : goal.returns-clause-files_count
@@ -39,3 +39,7 @@ returns-clause-check g c =
 pub returns-clause-pair : goal.returns-clause-pair
 returns-clause-pair g c =
     pair_ends_so (g.F.Files.told c.args.files.now) (g.F.Files.faults c.args.files.now) (g.F.Files.faults c.run_words.new.files) (command_of c.args.words.now) (g.O.Sink.told c.args.out.now) (g.O.Sink.told c.run_words.new.out) (g.O.Sink.faults c.args.out.now) (g.O.Sink.faults c.run_words.new.out) c.run_words.result c.run_words.ensures.closes
+
+pub returns-clause-replay : goal.returns-clause-replay
+returns-clause-replay g c =
+    replay_done_so (g.F.Files.told c.args.files.now) (g.F.Files.faults c.args.files.now) (g.F.Files.faults c.run_words.new.files) (command_of c.args.words.now) (g.O.Sink.told c.args.out.now) (g.O.Sink.told c.run_words.new.out) (g.O.Sink.faults c.args.out.now) (g.O.Sink.faults c.run_words.new.out) c.run_words.result c.run_words.ensures.closes

@@ -1,5 +1,5 @@
 use Rattle.std.proofs.lemmas.Result.{IfOk-weaker}
-use Rattle.osi_commands.proofs.replaying.run_ends.Goals as goal
+use Rattle.replays.proofs.bare.run_ends.Goals as goal
 
 pub returns : goal.returns
 returns c =

@@ -1,6 +1,6 @@
 use Rattle.std.proofs.lemmas.Result.{IfOk-weaker}
-use Rattle.osi_commands.proofs.Replays.{scheduled}
-use Rattle.osi_commands.proofs.replaying.run_schedule.Goals as goal
+use Rattle.replays.proofs.BareRuns.{scheduled}
+use Rattle.replays.proofs.bare.run_bare.Goals as goal
 
 pub returns : goal.returns
 returns c =

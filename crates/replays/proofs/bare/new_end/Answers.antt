@@ -1,6 +1,6 @@
 use Rattle.std.proofs.Common.{ap}
 use Rattle.bare_end.specs.View.{EndView}
-use Rattle.osi_commands.proofs.replaying.new_end.Goals as goal
+use Rattle.replays.proofs.bare.new_end.Goals as goal
 
 pub returns-in-Ok-clause-tables : goal.returns-in-Ok-clause-tables
 returns-in-Ok-clause-tables c = ap (λ (e : EndView). e.tables) c.in-Ok.ensures.made

@@ -1,0 +1,10 @@
+use Rattle.std.proofs.lemmas.Result.{IfOk-weaker}
+use Rattle.schedule_text.specs.Schedules.{said}
+use Rattle.osi_commands.proofs.Replays.{told}
+use Rattle.osi_commands.proofs.replaying.replay.Goals as goal
+
+pub returns : goal.returns
+returns c =
+    IfOk-weaker c.written_of.result _ _
+    (λ text is. told c.one_transcript.ensures c.args.brief c.args.tables.now (said c.args.schedule) c.in_ok-transcript.transcript text c.in_ok-transcript.ensures is)
+    c.written_of.ensures

@@ -1,0 +1,5 @@
+mod BareRuns
+mod AssociatedRuns
+mod Unique
+mod Same
+mod SetUp

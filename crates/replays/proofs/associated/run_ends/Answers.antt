@@ -1,0 +1,8 @@
+use Rattle.std.proofs.lemmas.Result.{IfOk-weaker}
+use Rattle.replays.proofs.associated.run_ends.Goals as goal
+
+pub returns : goal.returns
+returns c =
+    IfOk-weaker c.run_world.result _ _
+    (λ transcript runs. record { a_after = c.run_world.new.a; b_after = c.run_world.new.b; runs = runs })
+    c.run_world.ensures
