@@ -26,7 +26,7 @@ transfers_of tables = record { octets = transferred tables; arrived = arrived_at
 abbrev pub ends_meant : Tables → Config → Config → Common
 ends_meant tables a b = direct_ends tables (transfers_of tables) a b
 
--- An initiator and a responder of direct mode with one module, of a name of its own and without any type, and with configurations that
+-- An initiator and a responder of direct mode with one module, whatever its name, without any type, and with configurations that
 -- no end refuses.
 pub record AreDirect (tables : Tables) (a b : Config) : Type 0 where
   pub ends : AreEnds tables a b

@@ -20,7 +20,7 @@ use Rattle.outcome_laws.specs.Outcomes.{AreAllowed, AreAnswers}
 use Rattle.agreement.specs.Laws.{AreFalling}
 use Rattle.osi_base.specs.declared.words.Side.{Side}
 
--- An initiator and a responder of reliable mode with one module, of a name of its own and without any type, and with configurations that
+-- An initiator and a responder of reliable mode with one module, whatever its name, without any type, and with configurations that
 -- no end refuses.
 pub record AreReliable (tables : Tables) (a b : Config) : Type 0 where
   pub ends : AreEndsIn Reliable tables a b
