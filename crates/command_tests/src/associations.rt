@@ -1,8 +1,8 @@
 //! What no clause says of replays over associations: whole runs with ample memory, which a model of
 //! the rules that was written apart from this project gave.
 
-use crate::replays::{files, words};
 use crate::traces::CALC_MODULE;
+use crate::whole_runs::{files, words};
 use osi_base::{Name, NoMemory, Octets, Status, SureLine, SureSink};
 use osi_commands::osi_run;
 use std::alloc::{AllocError, Global};

@@ -1,7 +1,7 @@
 //! What no clause says of checks: whole runs with ample memory, over the worked modules.
 
-use crate::replays::words;
 use crate::traces::CALC_MODULE;
+use crate::whole_runs::words;
 use osi_base::{
     FailingCalls, ListOf, MemFile, MemFiles, Name, NoMemory, Octets, Status, SureLine, SureSink,
 };

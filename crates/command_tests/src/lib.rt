@@ -6,6 +6,6 @@ mod associations;
 #[cfg(test)]
 mod checks;
 #[cfg(test)]
-mod replays;
-#[cfg(test)]
 mod traces;
+#[cfg(test)]
+mod whole_runs;

@@ -1,6 +1,6 @@
 //! What no clause says of traces: whole runs with ample memory, among them those of the examples.
 
-use crate::replays::{ONE_MODULE, files, words};
+use crate::whole_runs::{ONE_MODULE, files, words};
 use osi_base::{NoMemory, Octets, Status, SureLine, SureSink};
 use osi_commands::osi_run;
 use std::alloc::Global;
