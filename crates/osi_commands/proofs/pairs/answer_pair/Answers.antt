@@ -14,5 +14,5 @@ pub returns-in_ok-answer-in-Whole-clause-asked_for : goal.returns-in_ok-answer-i
 returns-in_ok-answer-in-Whole-clause-asked_for g c =
     pair_asked (pair_given c.args.pair) _ _ _ _ _ _ _ c.in-Whole.is c.in_ok-answer.ensures.asked_for c.in_ok-answer-in-Whole.ensures
 
-pub answer_octets-requires-clause-typed : goal.answer_octets-requires-clause-typed
-answer_octets-requires-clause-typed g c = typed_whole _ _ _ c.in-Whole.is c.in_ok-answer.ensures.typed
+pub answer_octets-requires : goal.answer_octets-requires
+answer_octets-requires g c = record { typed = typed_whole _ _ _ c.in-Whole.is c.in_ok-answer.ensures.typed }

@@ -27,8 +27,8 @@ returns-in-Err-At-clause-read g c =
     module_refused (g.F.Files.told c.args.files.now) (g.F.Files.faults c.args.files.now) (g.F.Files.faults c.read_file.new.files) (pair_given c.args.pair) c.in_ok-text.field-0 c.in-Some.text c.as_slice-octets.result.now c.in-Err-At.line c.in-Err-At.column c.in-Err-At.kind c.in_ok-answer-in-Err-At.answer
     c.in_ok-text.ensures.read c.in-Some.is c.as_slice-octets.ensures (rw c.in-Err-At.field-0-is at c.in-Err-At.ensures.refused) c.in_ok-answer-in-Err-At.ensures
 
-pub read_second-requires-clause-typed : goal.read_second-requires-clause-typed
-read_second-requires-clause-typed g c = c.module_has_no_any.ensures c.in-Ok.tables c.in-Ok.ensures.found
+pub read_second-requires : goal.read_second-requires
+read_second-requires g c = record { typed = c.module_has_no_any.ensures c.in-Ok.tables c.in-Ok.ensures.found }
 
 pub returns-in-Ok-clause-typed : goal.returns-in-Ok-clause-typed
 returns-in-Ok-clause-typed g c = c.in_ok-read-in-Ok.ensures.typed
