@@ -12,7 +12,7 @@ use crate::basis::{Ground, Halt, fault_at};
 use crate::names::{acse_name, rtse_name};
 use acse::AcseFault;
 use association_ground::same_name;
-use association_words::{Content, Information, UserInformation};
+use association_words::{ValueContent, Information, UserInformation};
 use fixed_tables::PduFault;
 use module_contents::content_at;
 use osi_base::{Acse, Copied, External, Layer, ListOf, NoMemory, Octets, Pair, Rtse};
@@ -80,18 +80,18 @@ fn without_user(alloc: Global, apdu: Acse) -> Acse
 }
 
 /// An APDU of association control, with its user information beside it.
-pub(crate) fn associated(alloc: Global, apdu: Acse) -> Result<Content, NoMemory>
+pub(crate) fn associated(alloc: Global, apdu: Acse) -> Result<ValueContent, NoMemory>
     ensures { IfOk result (λ content. seen_content content ≡ reading.associated apdu) }
 {
     let user = others(alloc, externals_of(&apdu))?;
-    Ok(Content::Association {
+    Ok(ValueContent::Association {
         apdu: without_user(alloc, apdu),
         user,
     })
 }
 
 /// What octets are as an APDU of association control.
-pub(crate) fn acse_content(basis: &Ground<'_>, octets: &[u8]) -> Result<Content, Halt>
+pub(crate) fn acse_content(basis: &Ground<'_>, octets: &[u8]) -> Result<ValueContent, Halt>
     ensures { GivesAs seen_content result (reading.acse_content (acse_fields.acse_at octets.now)) }
 {
     match basis.codecs.acse.read(basis.alloc, octets) {
@@ -102,12 +102,12 @@ pub(crate) fn acse_content(basis: &Ground<'_>, octets: &[u8]) -> Result<Content,
 }
 
 /// What octets are as an APDU of reliable transfer: among values a plea or a part of a transfer.
-fn rtse_content(basis: &Ground<'_>, octets: &[u8]) -> Result<Content, Halt>
+fn rtse_content(basis: &Ground<'_>, octets: &[u8]) -> Result<ValueContent, Halt>
     ensures { GivesAs seen_content result (reading.rtse_content (rtse_reading.rtse_at octets.now)) }
 {
     match basis.codecs.rtse.read(basis.alloc, octets) {
-        Ok(Rtse::TurnPlease { priority }) => Ok(Content::Plea { priority }),
-        Ok(Rtse::Transfer { octets }) => Ok(Content::Part(octets)),
+        Ok(Rtse::TurnPlease { priority }) => Ok(ValueContent::Plea { priority }),
+        Ok(Rtse::Transfer { octets }) => Ok(ValueContent::Part(octets)),
         Ok(Rtse::OpenRequest { .. }) => fault_at(basis.alloc, Layer::Rtse, 0, 4),
         Ok(Rtse::OpenAccept { .. }) => fault_at(basis.alloc, Layer::Rtse, 0, 4),
         Ok(Rtse::OpenReject { .. }) => fault_at(basis.alloc, Layer::Rtse, 0, 4),
@@ -118,7 +118,7 @@ fn rtse_content(basis: &Ground<'_>, octets: &[u8]) -> Result<Content, Halt>
 }
 
 /// What octets are under a pair.
-pub(crate) fn content_under(basis: &Ground<'_>, pair: &Pair, octets: &[u8]) -> Result<Content, Halt>
+pub(crate) fn content_under(basis: &Ground<'_>, pair: &Pair, octets: &[u8]) -> Result<ValueContent, Halt>
     ensures { GivesAs seen_content result (reading.content_under basis.now.tables.now pair.now
         octets.now) }
 {
@@ -143,12 +143,12 @@ pub(crate) fn content_by(
     basis: &Ground<'_>,
     pair: Option<&Pair>,
     octets: &[u8],
-) -> Result<Content, Halt>
+) -> Result<ValueContent, Halt>
     ensures { GivesAs seen_content result (reading.content_by basis.now.tables.now (option_copied
         pair.entry) octets.now) }
 {
     match pair {
-        None => Ok(Content::Unread(Octets::from_slice(basis.alloc, octets)?)),
+        None => Ok(ValueContent::Unread(Octets::from_slice(basis.alloc, octets)?)),
         Some(pair) => content_under(basis, pair, octets),
     }
 }

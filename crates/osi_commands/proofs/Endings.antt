@@ -4,7 +4,7 @@ use Rattle.osi_base.specs.Outside.{FaultsRose, grown, GrewPart}
 use Rattle.osi_base.specs.declared.words.Status.{Status}
 use Rattle.osi_base.specs.declared.words.Status.TheVariants.{Done, Usage, ReadFault, WriteFault, LineFault, ModuleRefused, ScriptRefused, Ended, Spent, NoMemory}
 use Rattle.osi_commands.specs.declared.answers.Answer.{Answer}
-use Rattle.osi_commands.specs.Answers.{is_read_fault, KeepsCount, Ends, whole, failed, no_memory, Closes, answered, no_room, IsBegun, CountsFiles, CountsWrites, IsUnless}
+use Rattle.osi_commands.specs.Answers.{is_read_fault, KeepsCount, RunEnds, whole, failed, no_memory, Closes, answered, no_room, IsBegun, CountsFiles, CountsWrites, IsUnless}
 
 -- the statuses of a write that isn't whole
 abbrev pub is_writes : Status → Bool
@@ -13,27 +13,27 @@ is_writes NoMemory = true
 is_writes _ = false
 
 -- Any other status is the answer's, and its text is written whole.
-whole_if : (old new : ℕ) (before after : Option (List ℕ)) (answer : Answer) (status : Status) → Ends old new before after answer status
+whole_if : (old new : ℕ) (before after : Option (List ℕ)) (answer : Answer) (status : Status) → RunEnds old new before after answer status
     → (wanted : Status) → status ≡ wanted → is_writes wanted ≡ false → (answer.status ≡ wanted) × (after ≡ grown before answer.text)
 whole_if old new before after answer _ (whole same written) wanted h plain = (h, written)
 whole_if old new before after answer _ (failed rose part) wanted h plain = let e : true ≡ false = ap is_writes h ∙ plain in cc
 whole_if old new before after answer _ (no_memory same part) wanted h plain = let e : true ≡ false = ap is_writes h ∙ plain in cc
 
 -- A fault of writing that isn't the answer's comes only where the sink's count rose, and a beginning was written.
-part_if_failed : (old new : ℕ) (before after : Option (List ℕ)) (answer : Answer) (status : Status) → Ends old new before after answer status
+part_if_failed : (old new : ℕ) (before after : Option (List ℕ)) (answer : Answer) (status : Status) → RunEnds old new before after answer status
     → status ≡ WriteFault → (answer.status ≡ WriteFault → ⊥) → FaultsRose old new × GrewPart before after answer.text
 part_if_failed old new before after answer _ (whole same written) is other = absurd (other is)
 part_if_failed old new before after answer _ (failed rose part) is other = (rose, part)
 part_if_failed old new before after answer _ (no_memory same part) is other = cc
 
-part_if_no_memory : (old new : ℕ) (before after : Option (List ℕ)) (answer : Answer) (status : Status) → Ends old new before after answer status
+part_if_no_memory : (old new : ℕ) (before after : Option (List ℕ)) (answer : Answer) (status : Status) → RunEnds old new before after answer status
     → status ≡ NoMemory → (answer.status ≡ NoMemory → ⊥) → GrewPart before after answer.text
 part_if_no_memory old new before after answer _ (whole same written) is other = absurd (other is)
 part_if_no_memory old new before after answer _ (failed rose part) is other = cc
 part_if_no_memory old new before after answer _ (no_memory same part) is other = part
 
 -- The sink's count is as it was, unless the status is that of the sink.
-counts_writes : (old new : ℕ) (before after : Option (List ℕ)) (answer : Answer) (status : Status) → Ends old new before after answer status
+counts_writes : (old new : ℕ) (before after : Option (List ℕ)) (answer : Answer) (status : Status) → RunEnds old new before after answer status
     → CountsWrites old new status
 counts_writes old new before after answer _ (whole same written) = inr same
 counts_writes old new before after answer _ (failed rose part) = inl refl
@@ -53,7 +53,7 @@ same_or_unread old new answer Ended is counts = inl (counts (ap is_read_fault is
 same_or_unread old new answer Spent is counts = inl (counts (ap is_read_fault is))
 
 -- The status is the answer's, unless writing failed or memory was refused.
-pub unless : (old new : ℕ) (before after : Option (List ℕ)) (answer : Answer) (status : Status) → Ends old new before after answer status
+pub unless : (old new : ℕ) (before after : Option (List ℕ)) (answer : Answer) (status : Status) → RunEnds old new before after answer status
     → (wanted : Status) → answer.status ≡ wanted → IsUnless old new wanted status
 unless old new before after answer _ (whole same written) wanted h = inl h
 unless old new before after answer _ (failed rose part) wanted h = inr (inl (refl, rose))
@@ -81,7 +81,7 @@ module _ (Is : Answer → Type 0) (old new sink_old sink_new : ℕ) (before afte
 
   -- the end of the call, once the answer was made, or memory was refused for it
   pub closed : {E : Type 0} (status : Status) (r : Result Answer E) → IfOk r (λ answer. Is answer) → IfOk r (λ answer. KeepsCount old new answer)
-      → OnErr r (new ≡ old) → MatchResult r (λ made. Ends sink_old sink_new before after made status) (λ _. (status ≡ NoMemory) × (sink_new ≡ sink_old) × (after ≡ before))
+      → OnErr r (new ≡ old) → MatchResult r (λ made. RunEnds sink_old sink_new before after made status) (λ _. (status ≡ NoMemory) × (sink_new ≡ sink_old) × (after ≡ before))
       → Closes Is old new sink_old sink_new before after status
   closed status (Ok answer) is counts kept ends = answered answer status is counts ends
   closed status (Err fault) is counts kept ends =
@@ -132,7 +132,7 @@ module _ (Is : Answer → Type 0) (old new sink_old sink_new : ℕ) (before afte
   if_begun answer is counts status cause part (inr unread) =
       inr (inr (cause, record { begun = record { answer = answer; is = is; counts = counts; part = part }; unread = unread }))
 
-  counts_answer : (answer : Answer) → Is answer → KeepsCount old new answer → (status : Status) → Ends sink_old sink_new before after answer status
+  counts_answer : (answer : Answer) → Is answer → KeepsCount old new answer → (status : Status) → RunEnds sink_old sink_new before after answer status
       → CountsFiles Is old new before after status
   counts_answer answer is counts _ (whole same written) = if_whole answer (same_or_unread old new answer answer.status refl counts)
   counts_answer answer is counts _ (failed rose part) = if_begun answer is counts WriteFault (inl refl) part (same_or_unread old new answer answer.status refl counts)

@@ -11,7 +11,7 @@ use Rattle.osi_commands.specs.declared.answers.Answer.{Answer}
 use Rattle.osi_commands.specs.declared.reading.PairRead.{PairRead}
 use Rattle.osi_commands.specs.declared.reading.PairRead.TheVariants.{Answered, Whole}
 use Rattle.osi_commands.specs.Commands.{FilePair}
-use Rattle.osi_commands.specs.Answers.{unread_answer, module_answer, script_answer, Ends, IsUnless}
+use Rattle.osi_commands.specs.Answers.{unread_answer, module_answer, script_answer, RunEnds, IsUnless}
 use Rattle.osi_commands.specs.Reading.{WasRead, ReadsSecond, no_second, second, ReadsPair, no_module, refused, has_tables, PairAsked, PairAskedFor}
 use Rattle.osi_commands.specs.Causes.{IsRefusedModule, HasNoTables}
 use Rattle.osi_commands.specs.Pairs.{SecondBy, AnswersPair, refuses, works, IsPairDone, IsPairRefused, IsPairUnread, due_by_octets, due_by_second, IsBySecond}
@@ -253,7 +253,7 @@ module _ (map : FileMap) (old new : ℕ) (pair : FilePair) (calm : IsCalm old ne
 
   -- any module that is there is refused, or has tables
   pub there_due : (given : List ℕ) → map pair.«module» ≡ Some given → (before after : Option (List ℕ)) (sink_old sink_new : ℕ) (status : Status) (answer : Answer)
-      → PairCase (Some map) old new pair answer → Ends sink_old sink_new before after answer status
+      → PairCase (Some map) old new pair answer → RunEnds sink_old sink_new before after answer status
       → IsUnless sink_old sink_new ModuleRefused status ⊎ IsBySecond map pair sink_old sink_new status given
   there_due given e before after sink_old sink_new status _ (module_unread w) ends = never_lacks map old new pair.«module» given calm w e
   there_due given e before after sink_old sink_new status _ (module_faulty text line column kind w r) ends =

@@ -5,7 +5,7 @@ use Rattle.osi_base.specs.declared.words.Status.{Status}
 use Rattle.osi_base.specs.declared.words.Status.TheVariants.{Done, Usage, ReadFault, WriteFault, LineFault, ModuleRefused, ScriptRefused, Ended, Spent, NoMemory}
 use Rattle.osi_commands.specs.declared.answers.Answer.{Answer}
 use Rattle.osi_commands.specs.Commands.{FilePair}
-use Rattle.osi_commands.specs.Answers.{Ends, whole, failed, no_memory, Closes, answered, no_room, IsUnless}
+use Rattle.osi_commands.specs.Answers.{RunEnds, whole, failed, no_memory, Closes, answered, no_room, IsUnless}
 use Rattle.osi_commands.specs.Reading.{AskedOneOrBoth, AsksPair, PairAsked, PairAskedAtEnd}
 use Rattle.osi_commands.specs.Causes.{IsRefusedModule}
 use Rattle.osi_commands.specs.Pairs.{AnswersPair, IsPairDone, IsPairRefused, IsPairUnread, due_by_second, IsBySecond, IsPairDue, PairEnds}
@@ -114,7 +114,7 @@ module _ (pair : FilePair) (first last : Option (List (List ℕ))) where
   one_or_both Spent asked = absurd asked
   one_or_both NoMemory asked = absurd asked
 
-  pub pair_answered : (old new : ℕ) (before after : Option (List ℕ)) (answer : Answer) (status : Status) → Ends old new before after answer status
+  pub pair_answered : (old new : ℕ) (before after : Option (List ℕ)) (answer : Answer) (status : Status) → RunEnds old new before after answer status
       → PairAsked pair first last answer.status → PairAskedAtEnd pair first last status
   pair_answered old new before after answer _ (whole same written) asked = kept answer.status asked
   pair_answered old new before after answer _ (failed rose part) asked = one_or_both answer.status asked

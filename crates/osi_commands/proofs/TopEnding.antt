@@ -6,7 +6,7 @@ use Rattle.osi_base.specs.declared.words.Status.TheVariants.{Done, Usage, ReadFa
 use Rattle.module_check.specs.Command.{Check}
 use Rattle.osi_commands.specs.declared.answers.Answer.{Answer}
 use Rattle.osi_commands.specs.Commands.{FilePair, Command, checks, pairs}
-use Rattle.osi_commands.specs.Answers.{usage_answer, Ends, Closes, IsUnless}
+use Rattle.osi_commands.specs.Answers.{usage_answer, RunEnds, Closes, IsUnless}
 use Rattle.osi_commands.specs.Reading.{CheckAskedAtEnd}
 use Rattle.osi_commands.specs.Checking.{Checks, CheckEnds}
 use Rattle.osi_commands.specs.Pairs.{AnswersPair, PairEnds}
@@ -60,7 +60,7 @@ check_asked name first last Ended asked = asked
 check_asked name first last Spent asked = asked
 
 module _ (first last : Option (List (List ℕ))) (sink_old sink_new : ℕ) (before after : Option (List ℕ)) where
-  answered_end : (command : Option Command) (answer : Answer) (status : Status) → Ends sink_old sink_new before after answer status → AskedBy command first last answer.status
+  answered_end : (command : Option Command) (answer : Answer) (status : Status) → RunEnds sink_old sink_new before after answer status → AskedBy command first last answer.status
       → AskedAtEnd command first last status
   answered_end None answer status ends asked = asked
   answered_end (Some (checks check)) answer status ends asked = check_asked check.«module» first last status asked
@@ -74,7 +74,7 @@ module _ (first last : Option (List (List ℕ))) (sink_old sink_new : ℕ) (befo
 
   pub asked_at_end : {E : Type 0} (command : Option Command) (told : Option FileMap) (old new : ℕ) (status : Status) (r : Result Answer E)
       → Asks told old new command first last → IfOk r (λ answer. AskedBy command first last answer.status)
-      → MatchResult r (λ made. Ends sink_old sink_new before after made status) (λ _. (status ≡ NoMemory) × (sink_new ≡ sink_old) × (after ≡ before))
+      → MatchResult r (λ made. RunEnds sink_old sink_new before after made status) (λ _. (status ≡ NoMemory) × (sink_new ≡ sink_old) × (after ≡ before))
       → AskedAtEnd command first last status
   asked_at_end command told old new status (Ok answer) asks asked ends = answered_end command answer status ends asked
   asked_at_end command told old new status (Err fault) asks asked ends =

@@ -55,16 +55,16 @@ KeepsCount old new answer = is_read_fault answer.status ≡ false → new ≡ ol
 -- How a run ends that has this answer, by the sink's count of faults and what it tells, both before and after:
 -- all is written, or a beginning of it, and writing failed or memory was refused. The count is as it was unless
 -- writing failed, so no write is tried again.
-pub data Ends (old new : ℕ) (before after : Option (List ℕ)) (answer : Answer) : Status → Type 0 where
-  whole : new ≡ old → after ≡ grown before answer.text → Ends old new before after answer answer.status
-  failed : FaultsRose old new → GrewPart before after answer.text → Ends old new before after answer WriteFault
-  no_memory : new ≡ old → GrewPart before after answer.text → Ends old new before after answer NoMemory
+pub data RunEnds (old new : ℕ) (before after : Option (List ℕ)) (answer : Answer) : Status → Type 0 where
+  whole : new ≡ old → after ≡ grown before answer.text → RunEnds old new before after answer answer.status
+  failed : FaultsRose old new → GrewPart before after answer.text → RunEnds old new before after answer WriteFault
+  no_memory : new ≡ old → GrewPart before after answer.text → RunEnds old new before after answer NoMemory
 
 -- ---- the end of a call of the program that has one of these answers
 
 -- An answer is written, or a beginning of it; or memory was refused before there was one, and no file had failed.
 pub data Closes (Is : Answer → Type 0) (old new sink_old sink_new : ℕ) (before after : Option (List ℕ)) : Status → Type 0 where
-  answered : (answer : Answer) (status : Status) → Is answer → KeepsCount old new answer → Ends sink_old sink_new before after answer status
+  answered : (answer : Answer) (status : Status) → Is answer → KeepsCount old new answer → RunEnds sink_old sink_new before after answer status
       → Closes Is old new sink_old sink_new before after status
   no_room : new ≡ old → sink_new ≡ sink_old → after ≡ before → Closes Is old new sink_old sink_new before after NoMemory
 

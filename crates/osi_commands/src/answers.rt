@@ -1,7 +1,7 @@
 //! What the program answers: a status, and the text that it writes.
 
 ghost use Rattle.std.specs.Prelude.{◌≡◌, ◌≤◌, ◌++◌, IfOk, MatchResult, codes, decimal};
-ghost use Rattle.osi_commands.specs.Answers.{usage_answer, unread_answer, module_answer, kind_word, script_answer, done_answer, Ends};
+ghost use Rattle.osi_commands.specs.Answers.{usage_answer, unread_answer, module_answer, kind_word, script_answer, done_answer, RunEnds};
 ghost use Rattle.osi_base.specs.declared.words.Status.TheVariants.{NoMemory as no_room};
 
 use module_check::refused_text;
@@ -110,7 +110,7 @@ pub fn done(text: Octets) -> Answer
 /// Writes the text of an answer, where memory sufficed to make one.
 pub fn conclude<O: Sink>(out: &mut O, answer: Result<Answer, NoMemory>) -> Status
     ensures count { O.faults out.old ≤ O.faults out.new }
-    ensures ends { MatchResult answer (λ made. Ends (O.faults out.old) (O.faults out.new)
+    ensures ends { MatchResult answer (λ made. RunEnds (O.faults out.old) (O.faults out.new)
         (O.told out.old) (O.told out.new) made result)
         (λ _. (result ≡ no_room) × (O.faults out.new ≡ O.faults out.old) ×
         (O.told out.new ≡ O.told out.old)) }
@@ -125,7 +125,7 @@ pub fn conclude<O: Sink>(out: &mut O, answer: Result<Answer, NoMemory>) -> Statu
 /// of the write.
 pub fn finish<O: Sink>(out: &mut O, answer: Answer) -> Status
     ensures count { O.faults out.old ≤ O.faults out.new }
-    ensures ends { Ends (O.faults out.old) (O.faults out.new) (O.told out.old) (O.told out.new)
+    ensures ends { RunEnds (O.faults out.old) (O.faults out.new) (O.told out.old) (O.told out.new)
         answer result }
 {
     let Answer { status, text } = answer;

@@ -16,7 +16,7 @@ ghost use Rattle.rose_roles.specs.Hearing.{Hears, heard_with};
 
 use crate::called::Called;
 use crate::invoker::Invoker;
-use crate::judging::{Judged, is_silent_at, judge_argument, link_problem};
+use crate::apdu_problems::{Judged, is_silent_at, judge_argument, link_problem};
 use crate::opening::{called, enter, key_of, leave};
 use crate::taken::{RoseTaken, invoke_rejected, invoked};
 use apdu_spelling::ApduHead;
