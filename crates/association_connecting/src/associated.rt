@@ -9,7 +9,7 @@ ghost use Rattle.association_connecting.specs.Associated.{only_one, first_fault}
 
 use association_sets::{has_abstract, pair_of};
 use association_state::Ground;
-use association_words::{ValueContent, Fault, Information, Value};
+use association_words::{Fault, Information, Value, ValueContent};
 use osi_base::{Acse, Copied, Layer, NoMemory, Oid, Rtse, SetItem};
 
 /// The one value, where there is one.

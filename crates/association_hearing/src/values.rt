@@ -16,7 +16,7 @@ use association_calls::carrier_in;
 use association_ground::is_reliable;
 use association_sends::pair_copied;
 use association_state::{Body, Ground, Queued};
-use association_words::{ValueContent, DataWord, Message, Value, Values, Word, syntax_of};
+use association_words::{DataWord, Message, Value, ValueContent, Values, Word, syntax_of};
 use dialogue::Indication;
 use open_invocations::Invocations;
 use osi_base::{ListOf, NoMemory, Problem, ProblemKind};
@@ -37,7 +37,11 @@ fn hear_value(
     match content {
         ValueContent::Remote(apdu) => hear_apdu(basis, calls, id, apdu),
         ValueContent::Unread(octets) => hear_unread(basis, calls, id, syntax, &octets),
-        ValueContent::Association { apdu: _, user: _ } => Ok(rejected(None, ProblemKind::General, 0)),
+        ValueContent::Association { apdu: _, user: _ } => Ok(rejected(
+            None,
+            ProblemKind::General,
+            0,
+        )),
         ValueContent::Plea { priority: _ } => Ok(rejected(None, ProblemKind::General, 0)),
         ValueContent::Part(_) => Ok(rejected(None, ProblemKind::General, 0)),
     }

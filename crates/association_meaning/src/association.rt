@@ -21,7 +21,7 @@ use crate::values::{value_in, values_under};
 use acse::AcseFault;
 use association_ground::{is_reliable, same_name};
 use association_sets::{fit_proposals, pair_of};
-use association_words::{ValueContent, Value, Values};
+use association_words::{Value, ValueContent, Values};
 use osi_base::{
     Acse, ListOf, NoMemory, Octets, Oid, Pair, Pdv, PresentationAccept, PresentationConnect,
     PresentationReject, Proposal, SetItem, SetList, Syntax,

@@ -15,7 +15,7 @@ use crate::basis::{Ground, Halt, fault_at};
 use crate::names::rtse_name;
 use association_ground::is_reliable;
 use association_sets::{has_abstract, pair_of};
-use association_words::{ValueContent, Information, UserInformation, Value, Values};
+use association_words::{Information, UserInformation, Value, ValueContent, Values};
 use fixed_tables::PduFault;
 use osi_base::{Acse, Layer, ListOf, Octets, Pair, SetItem};
 
@@ -174,7 +174,12 @@ fn first_informed(
 }
 
 /// One value.
-fn one(basis: &Ground<'_>, id: u32, pair: Option<Pair>, content: ValueContent) -> Result<Values, Halt>
+fn one(
+    basis: &Ground<'_>,
+    id: u32,
+    pair: Option<Pair>,
+    content: ValueContent,
+) -> Result<Values, Halt>
     ensures { GivesAs seen_values result (Ok (seen_value (record {
       id = id;
       pair = pair;

@@ -12,7 +12,7 @@ use crate::basis::{Ground, Halt, fault_at};
 use crate::names::{acse_name, rtse_name};
 use acse::AcseFault;
 use association_ground::same_name;
-use association_words::{ValueContent, Information, UserInformation};
+use association_words::{Information, UserInformation, ValueContent};
 use fixed_tables::PduFault;
 use module_contents::content_at;
 use osi_base::{Acse, Copied, External, Layer, ListOf, NoMemory, Octets, Pair, Rtse};
@@ -118,7 +118,11 @@ fn rtse_content(basis: &Ground<'_>, octets: &[u8]) -> Result<ValueContent, Halt>
 }
 
 /// What octets are under a pair.
-pub(crate) fn content_under(basis: &Ground<'_>, pair: &Pair, octets: &[u8]) -> Result<ValueContent, Halt>
+pub(crate) fn content_under(
+    basis: &Ground<'_>,
+    pair: &Pair,
+    octets: &[u8],
+) -> Result<ValueContent, Halt>
     ensures { GivesAs seen_content result (reading.content_under basis.now.tables.now pair.now
         octets.now) }
 {

@@ -14,7 +14,7 @@ use crate::basis::{Ground, Halt, fault_at};
 use crate::contexts::pdv_wrong;
 use crate::layers::content_under;
 use association_sets::pair_of;
-use association_words::{Arrived, ValueContent, Item};
+use association_words::{Arrived, Item, ValueContent};
 use fixed_tables::PduFault;
 use osi_base::{Copied, Layer, Pair, Pdv, SetItem};
 use pdv_places::{PdvField, transfer_place};

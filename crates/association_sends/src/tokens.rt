@@ -10,7 +10,7 @@ ghost use Rattle.association_state.specs.Seen.{seen};
 use crate::values::rtse_context;
 use association_sets::pair_of;
 use association_state::Body;
-use association_words::{ValueContent, DataWord, MarkWord, Message, Value, Values, Word};
+use association_words::{DataWord, MarkWord, Message, Value, ValueContent, Values, Word};
 use dialogue::Mode;
 use osi_base::{Copied, ListOf, NoMemory, Octets, Pair, SetItem};
 use std::alloc::Global;

@@ -15,7 +15,7 @@ use crate::parts::has_associated;
 use association_answers::{Taken, answered, push_cuts, push_losses, quiet, told};
 use association_sets::{copy_set, listed, same_lists};
 use association_state::{Awaited, Body, Ground};
-use association_words::{ValueContent, Fault, MarkWord, Message, Value, Word};
+use association_words::{Fault, MarkWord, Message, Value, ValueContent, Word};
 use dialogue::{Indication, Indications, Mode};
 use osi_base::{Copied, Layer, ListOf, NoMemory, RestoredList, SetItem, SetList};
 use std::alloc::Global;

@@ -12,7 +12,7 @@ ghost use Rattle.association_state.specs.Seen.{base_in, seen};
 use association_ground::is_reliable;
 use association_hearing::part_in;
 use association_state::{Body, Ground};
-use association_words::{ValueContent, Fault, Value};
+use association_words::{Fault, Value, ValueContent};
 use osi_base::{Layer, NoMemory, Octets};
 use std::alloc::Global;
 

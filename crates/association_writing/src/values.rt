@@ -12,8 +12,11 @@ ghost use Rattle.association_writing.specs.Room.{item_pdv};
 ghost use Rattle.association_wire.specs.Values.{external_of, with_user, content_octets, in_form, pdv_of, pdvs_of};
 
 use association_codecs::Codecs;
-use association_words::{ValueContent, Information, Item, Value, syntax_of};
-use osi_base::{Acse, Copied, External, Externals, ListOf, NoMemory, Octets, Pdv, PdvContent, Pdvs, Rtse, Syntax};
+use association_words::{Information, Item, Value, ValueContent, syntax_of};
+use osi_base::{
+    Acse, Copied, External, Externals, ListOf, NoMemory, Octets, Pdv, PdvContent, Pdvs, Rtse,
+    Syntax,
+};
 use std::alloc::Global;
 use stub_tables::{Apdu, Tables};
 

@@ -4,8 +4,8 @@ use osi_base::{Kind, NoMemory, Octets};
 use std::alloc::Global;
 use std::test::*;
 use tpkt::{
-    ConnectionFields, Packet, TFault, TFed, TReader, write_confirm, write_connect, write_disconnect,
-    write_problem, write_tsdu,
+    ConnectionFields, Packet, TFault, TFed, TReader, write_confirm, write_connect,
+    write_disconnect, write_problem, write_tsdu,
 };
 
 /// An invocation in one DT.
@@ -248,7 +248,12 @@ fn units_are_read(rt: HostRuntime) -> Result<(), Fail> {
 }
 
 /// The ends of a connection with size 0A.
-fn ends(alloc: Global, destination: u16, source: u16, selector: &[u8]) -> Result<ConnectionFields, NoMemory> {
+fn ends(
+    alloc: Global,
+    destination: u16,
+    source: u16,
+    selector: &[u8],
+) -> Result<ConnectionFields, NoMemory> {
     Ok(ConnectionFields {
         destination,
         source,

@@ -8,7 +8,8 @@ ghost use Rattle.operation_notation.specs.declared.module.ModuleText.{ModuleText
 
 /// No text reads as two modules.
 pub fn one_reading()
-    ensures { (text : List ℕ) (a b : ModuleText) → ReadsAsModule text a → ReadsAsModule text b → a ≡ b }
+    ensures { (text : List ℕ) (a b : ModuleText) → ReadsAsModule text a → ReadsAsModule text b
+        → a ≡ b }
 {}
 
 /// A text reads as a module or has a first fault, and never both.

@@ -1,6 +1,7 @@
 //! Calls that are to fail.
 
 ghost use Rattle.std.specs.Prelude.{◌≡◌, ◌↔◌, ◌+◌, ◌≤◌, min, IsTrue, Contains, if◌then◌else◌};
+ghost use Rattle.osi_base.specs.Failing.{CallPasses, CallFails};
 ghost use Rattle.osi_base.specs.Outside.{last_count};
 
 use crate::line::Outcome;
@@ -54,5 +55,18 @@ impl FailingCalls {
             self.faults = self.faults.saturating_add(1);
         }
         is_due
+    }
+
+    /// Makes the next call, and answers what it comes to.
+    pub fn make(&mut self) -> Outcome
+        ensures done { result ≡ Outcome.Done → CallPasses self.old self.new }
+        ensures failed { result ≡ Outcome.Failed → CallFails self.old self.new }
+        ensures count { self.old.faults ≤ self.new.faults }
+    {
+        if self.is_next() {
+            Outcome::Failed
+        } else {
+            Outcome::Done
+        }
     }
 }

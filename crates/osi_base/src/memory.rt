@@ -103,6 +103,19 @@ fn read_in(files: &[MemFile], alloc: Global, name: &Name) -> Result<Option<Octet
     }
 }
 
+/// What was handed up, or that there is no such file.
+fn found(contents: Option<Octets>) -> Result<Octets, FileFault>
+    ensures ok { IfOk result (λ octets. contents ≡ Some octets) }
+    ensures missing { IsErrOf result FileFault.Missing → contents ≡ None }
+    ensures never_failed { ¬ (IsErrOf result FileFault.Failed) }
+    ensures never_out { ¬ (IsErrOf result FileFault.NoMemory) }
+{
+    match contents {
+        Some(octets) => Ok(octets),
+        None => Err(FileFault::Missing),
+    }
+}
+
 #[tactic(auto, using(crate::proofs::Contents::contents_in_bounded))]
 impl Files for MemFiles {
     ghost faults = { λ it. it.failing.faults };
@@ -123,7 +136,8 @@ impl Files for MemFiles {
 
         // It fails exactly where it is to
         ensures ok { OnOk result (CallPasses self.old.failing self.new.failing) }
-        ensures failed { IsErrOf result FileFault.Failed → CallFails self.old.failing self.new.failing }
+        ensures failed { IsErrOf result FileFault.Failed →
+            CallFails self.old.failing self.new.failing }
         ensures failed_asked { IsErrOf result FileFault.Failed → self.new.asked.items
             ≡ self.old.asked.items ++ name.now ∷ [] }
 
@@ -144,10 +158,10 @@ impl Files for MemFiles {
         let title = name.copy(alloc)?;
         let contents = read_in(self.files.as_slice(), alloc, name)?;
         self.asked.push(title)?;
-        if self.failing.is_next() {
-            return Err(FileFault::Failed);
+        match self.failing.make() {
+            Outcome::Failed => Err(FileFault::Failed),
+            Outcome::Done => found(contents),
         }
-        contents.ok_or(FileFault::Missing)
     }
 }
 
@@ -163,7 +177,7 @@ impl Files for SureFiles {
         let title = name.copy(alloc)?;
         let contents = read_in(self.files.as_slice(), alloc, name)?;
         self.asked.push(title)?;
-        contents.ok_or(FileFault::Missing)
+        found(contents)
     }
 }
 
@@ -229,7 +243,8 @@ impl Sink for MemSink {
 
         // It fails exactly where it is to
         ensures passes { OnOk result (CallPasses self.old.failing self.new.failing) }
-        ensures failed { IsErrOf result SinkFault.Failed → CallFails self.old.failing self.new.failing }
+        ensures failed { IsErrOf result SinkFault.Failed →
+            CallFails self.old.failing self.new.failing }
         ensures no_memory { IsErrOf result SinkFault.NoMemory →
             self.new.failing ≡ self.old.failing }
     {

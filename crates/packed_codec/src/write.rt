@@ -7,8 +7,10 @@ ghost use Rattle.asn1_types.specs.Table.{AreSoundRows};
 ghost use Rattle.asn1_types.specs.ValueView.{parts_of, values_of};
 ghost use Rattle.packed_codec.specs.Writing.{part_written, parts_written, sequence_written, values_written, list_written, choice_written, write_by, packed, IsPut};
 
+use crate::field_writing::{
+    put_bit_string, put_boolean, put_integer, put_octet_string, put_oid, put_text,
+};
 use crate::octets::{put_count, put_octet};
-use crate::field_writing::{put_bit_string, put_boolean, put_integer, put_octet_string, put_oid, put_text};
 use asn1_types::{Node, Part, Parts, TypeId, TypeRow, TypeTable, Val, may_be_absent};
 
 /// Puts a value of this row at a place of the room, and answers the place behind it. Of a value

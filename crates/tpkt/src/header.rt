@@ -4,10 +4,10 @@ ghost use Rattle.std.specs.Prelude.{◌≡◌, ◌≤◌, ◌<◌, ◌-◌, leng
 ghost use Rattle.tpkt.specs.Wire.{tsdu_limit};
 ghost use Rattle.tpkt.specs.Header.{Gives, or_empty, ends_at, passed_at, data_at, mark_at, code_at, indicator_at, length_at, header_at};
 
+use crate::header_stops::{Halt, fault, short};
 use crate::numbers::number_of;
 use crate::packet::{ConnectionFields, Packet};
 use crate::parameters::parameters_at;
-use crate::header_stops::{Halt, fault, short};
 use osi_base::{Kind, Octets};
 use std::alloc::Global;
 

@@ -130,10 +130,12 @@ pub fn written_units()
 
 /// A unit that is written is read back by a new reader as the packet that it is, with its fields.
 pub fn written_units_are_read()
-    ensures connect { (ends : ConnectionFields) → IsTwo ends.destination → IsTwo ends.source → HasRoom ends
+    ensures connect { (ends : ConnectionFields) → IsTwo ends.destination → IsTwo ends.source
+        → HasRoom ends
         → let octets = control_packet (connection_fields 224 ends) in IsOctets octets
         → IsReadAs (Connect ends) octets }
-    ensures confirm { (ends : ConnectionFields) → IsTwo ends.destination → IsTwo ends.source → HasRoom ends
+    ensures confirm { (ends : ConnectionFields) → IsTwo ends.destination → IsTwo ends.source
+        → HasRoom ends
         → let octets = control_packet (connection_fields 208 ends) in IsOctets octets
         → IsReadAs (Confirm ends) octets }
     ensures disconnect { (destination source reason : ℕ) → IsTwo destination → IsTwo source

@@ -4,13 +4,13 @@
 
 mod header;
 mod header_stops;
+pub mod laws;
 mod numbers;
 mod packet;
 mod parameters;
 mod reader;
 mod reader_state;
 mod writer;
-pub mod laws;
 
 pub use packet::{ConnectionFields, Packet, Packets, TFault, TFed};
 pub use reader::TReader;

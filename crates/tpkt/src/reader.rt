@@ -1,4 +1,4 @@
-//! ReadsAsPackets the packets of a stream, in whatever pieces it comes.
+//! Reads the packets of a stream, in whatever pieces it comes.
 
 ghost use Rattle.std.specs.Prelude.{◌≡◌, ℕ, ◌++◌, List, [], Some, None, IfSome, IfOk, OnErr};
 ghost use Rattle.tpkt.specs.declared.packet.Packet.{Packet};
@@ -7,13 +7,13 @@ ghost use Rattle.tpkt.specs.declared.reader_state.Held.{Held};
 ghost use Rattle.tpkt.specs.Reader.{nothing, IsFed, IsKept};
 ghost use Rattle.tpkt.specs.Stream.{IsOctets, ReadsAsPackets, HasRead};
 
-use crate::reader_state::{Held, all_taken, between};
 use crate::packet::{Packets, TFed};
+use crate::reader_state::{Held, all_taken, between};
 use osi_base::{NoMemory, Octets};
 use std::alloc::Global;
 use std::marker::Model;
 
-/// ReadsAsPackets the packets of one connection's stream (RFC 1006 6; X.224 13, class 0). It keeps at most
+/// Reads the packets of one connection's stream (RFC 1006 6; X.224 13, class 0). It keeps at most
 /// one packet, of 65,535 octets, and one TSDU, of 1,048,576; a longer TSDU is a fault.
 ///
 /// A contract sees what the reader holds, or `None` where a feed once wanted memory and got none:
@@ -58,7 +58,8 @@ impl TReader {
         // All feeds together give the packets of the stream and its first fault.
         ensures all { (came : List ℕ) (given : List Packet) → IsOctets came
             → HasRead came given self.old
-            → IfOk result (λ fed. ReadsAsPackets (came ++ bytes.now) (given ++ fed.packets) fed.fault) }
+            → IfOk result (λ fed. ReadsAsPackets (came ++ bytes.now) (given ++ fed.packets)
+            fed.fault) }
         ensures goes_on { (came : List ℕ) (given : List Packet) → HasRead came given self.old
             → IfOk result (λ fed. HasRead (came ++ bytes.now) (given ++ fed.packets) self.new) }
         // After a fault nothing changes.

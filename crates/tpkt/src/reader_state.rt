@@ -5,8 +5,8 @@ ghost use Rattle.tpkt.specs.Wire.{tsdu_limit};
 ghost use Rattle.tpkt.specs.Reader.{ReaderProgress, on, between, nothing, closed, opened, judged, taken, after, IsSoundReader};
 
 use crate::header::{Header, header_at};
-use crate::packet::{Packet, Packets, TFault};
 use crate::header_stops::{Halt, Stop};
+use crate::packet::{Packet, Packets, TFault};
 use osi_base::{NoMemory, Octets};
 use std::alloc::Global;
 
