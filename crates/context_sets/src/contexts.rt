@@ -47,7 +47,7 @@ impl Model for Contexts {
 
     ghost invariant = { λ contexts.
         IsSoundHeldSet contexts.items.items contexts.own.items
-          (vec_capacity contexts.items - vec_len contexts.items) };
+        (vec_capacity contexts.items - vec_len contexts.items) };
 }
 
 impl Contexts {
