@@ -3,10 +3,8 @@
 #![tactic(auto)]
 
 #[cfg(test)]
-mod invoking;
-#[cfg(test)]
-mod performing;
-#[cfg(test)]
 mod sample;
+#[cfg(test)]
+mod taking;
 #[cfg(test)]
 mod writing;

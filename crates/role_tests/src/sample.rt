@@ -1,142 +1,93 @@
-//! A module with three operations and one error, and octets of its APDUs.
+//! A module with three operations and one error.
 
-ghost use Rattle.std.specs.Prelude.{◌≡◌, pos, IfOk};
-ghost use Rattle.stub_tables.specs.declared.operation.Code.TheVariants as codes;
-
-use apdu_codec::write_apdu;
 use asn1_types::{Node, TypeId, TypeRow, TypeTable, Val};
-use osi_base::{Indices, ListOf, Name, NoMemory, Oid, Syntax};
-use rose_roles::{Called, RoseTaken};
+use osi_base::{Indices, ListOf, Name, NoMemory, Oid};
 use std::alloc::Global;
-use stub_tables::{Apdu, Code, ErrorRow, ErrorRows, Operation, Operations, Tables, Use};
+use stub_tables::{Code, ErrorRow, ErrorRows, Operation, Operations, Tables, Use};
 
-/// A value of INTEGER, the first row of the types.
-fn number() -> Use {
+/// A value of INTEGER.
+pub(crate) fn integer(number: i64) -> Val {
+    Val {
+        node: Node::Int(number),
+    }
+}
+
+/// What carries a value of INTEGER, the first row of the types, or nothing.
+fn carrying(number: bool) -> Use {
     Use {
-        inner: Some(TypeId(0)),
+        inner: if number { Some(TypeId(0)) } else { None },
         optional: false,
     }
 }
 
-/// No value.
-fn nothing() -> Use {
-    Use {
-        inner: None,
-        optional: false,
-    }
+/// Places of errors or of operations.
+fn places(alloc: Global, places: &[u32]) -> Result<Indices, NoMemory> {
+    Ok(ListOf::from_vec(Vec::from_slice(alloc, places)?))
 }
 
-/// The operation `add`, from INTEGER to INTEGER, with the code 1, the one error, and the operation
-/// at place 1 as the one that may be linked to it.
-fn add_row(alloc: Global) -> Result<Operation, NoMemory>
-    ensures { IfOk result (λ o. o.code ≡ codes.Local (pos 1)) }
-{
-    let mut errors: Indices = ListOf::new(alloc);
-    errors.push(0)?;
-    let mut linked: Indices = ListOf::new(alloc);
-    linked.push(1)?;
+/// An operation with an INTEGER as its argument, and as its result if it has one; with these errors
+/// and with those operations that may be linked to it.
+fn operation(
+    alloc: Global,
+    name: &str,
+    code: i64,
+    returns: bool,
+    errors: &[u32],
+    linked: &[u32],
+) -> Result<Operation, NoMemory> {
     Ok(Operation {
-        name: Name::from_str(alloc, "add")?,
-        code: Code::Local(1),
-        argument: number(),
-        result: number(),
-        returns: true,
+        name: Name::from_str(alloc, name)?,
+        code: Code::Local(code),
+        argument: carrying(true),
+        result: carrying(returns),
+        returns,
         always: true,
-        errors,
-        linked,
+        errors: places(alloc, errors)?,
+        linked: places(alloc, linked)?,
     })
 }
 
-/// The operation `ask`, from INTEGER to INTEGER, with the code 3 and no error.
-fn ask_row(alloc: Global) -> Result<Operation, NoMemory>
-    ensures { IfOk result (λ o. o.code ≡ codes.Local (pos 3)) }
-{
-    Ok(Operation {
-        name: Name::from_str(alloc, "ask")?,
-        code: Code::Local(3),
-        argument: number(),
-        result: number(),
-        returns: true,
-        always: true,
-        errors: ListOf::new(alloc),
-        linked: ListOf::new(alloc),
-    })
-}
-
-/// The operation `note`, which is silent, with the code 4.
-fn note_row(alloc: Global) -> Result<Operation, NoMemory>
-    ensures { IfOk result (λ o. o.code ≡ codes.Local (pos 4)) }
-{
-    Ok(Operation {
-        name: Name::from_str(alloc, "note")?,
-        code: Code::Local(4),
-        argument: number(),
-        result: nothing(),
-        returns: false,
-        always: true,
-        errors: ListOf::new(alloc),
-        linked: ListOf::new(alloc),
-    })
-}
-
-/// A module with these operations and the error `overflow`, which carries an INTEGER and has the
-/// code 1.
-pub(crate) fn module(alloc: Global) -> Result<Tables, NoMemory> {
-    let mut types = TypeTable::new(alloc);
-    let Ok(_) = types.add(TypeRow::Integer {
-        low: i64::MIN,
-        high: i64::MAX,
-    }) else {
-        return Err(NoMemory);
-    };
+/// `add`, to which `ask` may be linked and which may answer the error; `ask`; and `note`, which is
+/// silent.
+fn operations(alloc: Global) -> Result<Operations, NoMemory> {
     let mut operations = Operations::new(alloc);
-    operations.push(add_row(alloc)?)?;
-    operations.push(ask_row(alloc)?)?;
-    operations.push(note_row(alloc)?)?;
+    operations.push(operation(alloc, "add", 1, true, &[0], &[1])?)?;
+    operations.push(operation(alloc, "ask", 3, true, &[], &[])?)?;
+    operations.push(operation(alloc, "note", 4, false, &[], &[])?)?;
+    Ok(operations)
+}
+
+/// `overflow`, which carries an INTEGER.
+fn errors(alloc: Global) -> Result<ErrorRows, NoMemory> {
     let mut errors = ErrorRows::new(alloc);
     errors.push(ErrorRow {
         name: Name::from_str(alloc, "overflow")?,
         code: Code::Local(1),
-        parameter: number(),
+        parameter: carrying(true),
     })?;
+    Ok(errors)
+}
+
+/// INTEGER.
+fn types(alloc: Global) -> Result<TypeTable, NoMemory> {
+    let mut types = TypeTable::new(alloc);
+    let whole = TypeRow::Integer {
+        low: i64::MIN,
+        high: i64::MAX,
+    };
+    match types.add(whole) {
+        Ok(_) => Ok(types),
+        Err(_) => Err(NoMemory),
+    }
+}
+
+/// A module with these operations and this error.
+pub(crate) fn module(alloc: Global) -> Result<Tables, NoMemory> {
     Ok(Tables {
         name: Name::from_str(alloc, "Calc")?,
         name_oid: Oid::from_slice(alloc, &[2, 999, 7, 1])?,
-        types,
-        operations,
-        errors,
+        types: types(alloc)?,
+        operations: operations(alloc)?,
+        errors: errors(alloc)?,
     })
-}
-
-/// The operation `add` as it is called on the context 5.
-pub(crate) fn add() -> Called {
-    Called {
-        operation: 0,
-        context: 5,
-    }
-}
-
-/// Whether this is that value of INTEGER.
-pub(crate) fn is_integer(value: &Option<Val>, number: i64) -> bool {
-    matches!(value, Some(Val { node: Node::Int(n) }) if *n == number)
-}
-
-/// Whether a reject is to be sent that has these octets in BER.
-pub(crate) fn is_reject(
-    alloc: Global,
-    tables: &Tables,
-    taken: &RoseTaken,
-    octets: &[u8],
-) -> Result<bool, NoMemory> {
-    match taken {
-        RoseTaken::Reject { id, problem } => {
-            let apdu = Apdu::Reject {
-                id: *id,
-                problem: *problem,
-            };
-            let written = write_apdu(alloc, Syntax::Ber, tables, &apdu)?;
-            Ok(written.as_slice() == octets)
-        }
-        _ => Ok(false),
-    }
 }

@@ -1,123 +1,142 @@
 //! APDUs of the module written in three syntaxes (X.882 9; the packed syntax is this project's
 //! own), by worked ones.
 
-use crate::sample::module;
+use crate::sample::{integer, module};
+use Sample::{Error, Invoke, Returns};
+use Syntax::{Ber, Der, Packed};
 use apdu_codec::write_apdu;
-use asn1_types::{Node, Val};
 use osi_base::{NoMemory, Syntax};
 use std::alloc::Global;
-use std::test::*;
-use stub_tables::{Apdu, Code, Returned};
+use std::test::Fail;
+use stub_tables::{Apdu, Code, Returned, Tables};
 
-fn integer(number: i64) -> Option<Val> {
-    Some(Val {
-        node: Node::Int(number),
-    })
+/// An APDU with the identifier 1.
+#[derive(Clone, Copy)]
+enum Sample {
+    /// The operation with this code, with this number, linked to the invocation 1 or to none.
+    Invoke(i64, i64, bool),
+    /// The result of the operation with the code 1, or one without a value.
+    Returns(Option<i64>),
+    /// The error with the code 1, with this number.
+    Error(i64),
+}
+
+/// What a row shows, an APDU, and its octets in a syntax.
+const ROWS: [(&'static str, Sample, Syntax, &'static [u8]); 11] = [
+    (
+        "an invocation",
+        Invoke(1, 5, false),
+        Ber,
+        &[0xA1, 9, 2, 1, 1, 2, 1, 1, 2, 1, 5],
+    ),
+    (
+        "an invocation in DER",
+        Invoke(1, 5, false),
+        Der,
+        &[0xA1, 9, 2, 1, 1, 2, 1, 1, 2, 1, 5],
+    ),
+    (
+        "a packed invocation",
+        Invoke(1, 5, false),
+        Packed,
+        &[1, 1, 1, 0, 0, 1, 1, 1, 1, 5],
+    ),
+    (
+        "a linked invocation",
+        Invoke(3, 7, true),
+        Ber,
+        &[0xA1, 0x0C, 2, 1, 1, 0x80, 1, 1, 2, 1, 3, 2, 1, 7],
+    ),
+    (
+        "a packed linked invocation",
+        Invoke(3, 7, true),
+        Packed,
+        &[1, 1, 1, 1, 1, 1, 0, 1, 3, 1, 1, 7],
+    ),
+    (
+        "a result",
+        Returns(Some(5)),
+        Ber,
+        &[0xA2, 0x0B, 2, 1, 1, 0x30, 6, 2, 1, 1, 2, 1, 5],
+    ),
+    (
+        "a packed result",
+        Returns(Some(5)),
+        Packed,
+        &[2, 1, 1, 1, 0, 1, 1, 1, 5],
+    ),
+    (
+        "a result without a value",
+        Returns(None),
+        Ber,
+        &[0xA2, 3, 2, 1, 1],
+    ),
+    (
+        "a packed result without a value",
+        Returns(None),
+        Packed,
+        &[2, 1, 1, 0],
+    ),
+    (
+        "an error",
+        Error(5),
+        Ber,
+        &[0xA3, 9, 2, 1, 1, 2, 1, 1, 2, 1, 5],
+    ),
+    (
+        "a packed error",
+        Error(5),
+        Packed,
+        &[3, 1, 1, 0, 1, 1, 1, 1, 5],
+    ),
+];
+
+/// What the result of the operation with the code 1 returns.
+fn returned(number: i64) -> Returned {
+    Returned {
+        code: Code::Local(1),
+        value: integer(number),
+    }
+}
+
+fn apdu(sample: Sample) -> Apdu {
+    match sample {
+        Invoke(code, number, linked) => Apdu::Invoke {
+            id: 1,
+            linked: if linked { Some(1) } else { None },
+            code: Code::Local(code),
+            argument: Some(integer(number)),
+        },
+        Returns(number) => Apdu::Result {
+            id: 1,
+            returned: number.map(returned),
+        },
+        Error(number) => Apdu::Error {
+            id: 1,
+            code: Code::Local(1),
+            parameter: Some(integer(number)),
+        },
+    }
 }
 
 /// Whether an APDU of the module is written as these octets.
-fn is_written(alloc: Global, syntax: Syntax, apdu: Apdu, octets: &[u8]) -> Result<bool, NoMemory> {
-    let written = write_apdu(alloc, syntax, &module(alloc)?, &apdu)?;
+fn is_written(
+    alloc: Global,
+    tables: &Tables,
+    syntax: Syntax,
+    sample: Sample,
+    octets: &[u8],
+) -> Result<bool, NoMemory> {
+    let written = write_apdu(alloc, syntax, tables, &apdu(sample))?;
     Ok(written.as_slice() == octets)
 }
 
-fn invocation() -> Apdu {
-    Apdu::Invoke {
-        id: 1,
-        linked: None,
-        code: Code::Local(1),
-        argument: integer(5),
-    }
-}
-
 #[test]
-fn an_invocation_is_written(rt: HostRuntime) -> Result<(), Fail> {
-    let ber = [0xA1, 9, 2, 1, 1, 2, 1, 1, 2, 1, 5];
-    assert!(rt; is_written(rt.alloc(), Syntax::Ber, invocation(), &ber)?);
-    assert!(rt; is_written(rt.alloc(), Syntax::Der, invocation(), &ber)?);
-    let packed = [1, 1, 1, 0, 0, 1, 1, 1, 1, 5];
-    assert!(rt; is_written(rt.alloc(), Syntax::Packed, invocation(), &packed)?);
-    Ok(())
-}
-
-fn linked_invocation() -> Apdu {
-    Apdu::Invoke {
-        id: 1,
-        linked: Some(1),
-        code: Code::Local(3),
-        argument: integer(7),
+fn apdus_are_written(rt: HostRuntime) -> Result<(), Fail> {
+    let tables = module(rt.alloc())?;
+    for (shows, sample, syntax, octets) in &ROWS {
+        let written = is_written(rt.alloc(), &tables, *syntax, *sample, octets)?;
+        assert!(rt; written, "{shows}");
     }
-}
-
-#[test]
-fn a_linked_invocation_is_written(rt: HostRuntime) -> Result<(), Fail> {
-    let ber = [0xA1, 0x0C, 2, 1, 1, 0x80, 1, 1, 2, 1, 3, 2, 1, 7];
-    assert!(rt; is_written(rt.alloc(), Syntax::Ber, linked_invocation(), &ber)?);
-    let packed = [1, 1, 1, 1, 1, 1, 0, 1, 3, 1, 1, 7];
-    assert!(rt; is_written(rt.alloc(), Syntax::Packed, linked_invocation(), &packed)?);
-    Ok(())
-}
-
-fn result() -> Apdu {
-    Apdu::Result {
-        id: 1,
-        returned: Some(Returned {
-            code: Code::Local(1),
-            value: Val { node: Node::Int(5) },
-        }),
-    }
-}
-
-#[test]
-fn a_result_is_written(rt: HostRuntime) -> Result<(), Fail> {
-    let ber = [0xA2, 0x0B, 2, 1, 1, 0x30, 6, 2, 1, 1, 2, 1, 5];
-    assert!(rt; is_written(rt.alloc(), Syntax::Ber, result(), &ber)?);
-    let packed = [2, 1, 1, 1, 0, 1, 1, 1, 5];
-    assert!(rt; is_written(rt.alloc(), Syntax::Packed, result(), &packed)?);
-    Ok(())
-}
-
-fn result_without_a_value() -> Apdu {
-    Apdu::Result {
-        id: 1,
-        returned: None,
-    }
-}
-
-#[test]
-fn a_result_without_a_value_is_written(rt: HostRuntime) -> Result<(), Fail> {
-    assert!(rt;
-        is_written(
-            rt.alloc(),
-            Syntax::Ber,
-            result_without_a_value(),
-            &[0xA2, 3, 2, 1, 1]
-        )?
-    );
-    assert!(rt;
-        is_written(
-            rt.alloc(),
-            Syntax::Packed,
-            result_without_a_value(),
-            &[2, 1, 1, 0]
-        )?
-    );
-    Ok(())
-}
-
-fn error() -> Apdu {
-    Apdu::Error {
-        id: 1,
-        code: Code::Local(1),
-        parameter: integer(5),
-    }
-}
-
-#[test]
-fn an_error_is_written(rt: HostRuntime) -> Result<(), Fail> {
-    let ber = [0xA3, 9, 2, 1, 1, 2, 1, 1, 2, 1, 5];
-    assert!(rt; is_written(rt.alloc(), Syntax::Ber, error(), &ber)?);
-    let packed = [3, 1, 1, 0, 1, 1, 1, 1, 5];
-    assert!(rt; is_written(rt.alloc(), Syntax::Packed, error(), &packed)?);
     Ok(())
 }

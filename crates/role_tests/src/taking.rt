@@ -1,0 +1,449 @@
+//! What becomes of APDUs that come (X.880 9; the packed syntax is this project's own).
+
+ghost use Rattle.std.specs.Prelude.{◌≡◌, true, false, [], IfOk};
+ghost use Rattle.rose_roles.specs.Calls.{AreOpen};
+ghost use Rattle.rose_roles.specs.Heads.{is_invocation};
+
+use crate::sample::module;
+use Syntax::{Ber, Packed};
+use Told::{BadReject, Invoked, Reject, RejectTaken, Rejected, Returned};
+use apdu_codec::{ApduHead, ApduKind, read_apdu, write_apdu};
+use asn1_types::{Node, Val};
+use linked_ops::{Forest, Key};
+use osi_base::{NoMemory, Problem, Syntax};
+use rose_roles::{Called, Invoker, Performer, RoseTaken, refused};
+use std::alloc::Global;
+use std::test::Fail;
+use stub_tables::{Apdu, Tables};
+
+/// What becomes of an APDU.
+#[derive(Clone, Copy)]
+enum Told {
+    /// Its invocation 1 is told, of the operation at this place, with this number, linked to the
+    /// own invocation 1 or to none.
+    Invoked(u32, i64, bool),
+    /// The result of the own invocation 1 is told, with this number.
+    Returned(i64),
+    /// The own invocation 1 was rejected.
+    Rejected,
+    /// Another reject was taken.
+    RejectTaken,
+    /// A reject can't be read.
+    BadReject,
+    /// The APDU is rejected, by these octets in BER.
+    Reject(&'static [u8]),
+}
+
+/// APDUs that come on the context 7.
+struct Row {
+    /// What the row shows.
+    shows: &'static str,
+    /// The place of the operation whose own invocation 1 is open, if any is.
+    open: Option<u32>,
+    /// Whether the APDU came before too.
+    again: bool,
+    syntax: Syntax,
+    octets: &'static [u8],
+    /// What becomes of it.
+    told: Told,
+    /// Whether the own invocation 1 is open then.
+    own: bool,
+    /// The operation of the peer's invocation 1, if it is open then, and whether that stands under
+    /// the own one.
+    peer: Option<(u32, bool)>,
+}
+
+const ADD: Option<u32> = Some(0);
+
+const ASK: Option<u32> = Some(1);
+
+/// The result 5 of `add`.
+const RESULT: &'static [u8] = &[0xA2, 0x0B, 2, 1, 1, 0x30, 6, 2, 1, 1, 2, 1, 5];
+
+/// The same under the code of another operation.
+const OTHER_RESULT: &'static [u8] = &[0xA2, 0x0B, 2, 1, 1, 0x30, 6, 2, 1, 2, 2, 1, 5];
+
+const PACKED_RESULT: &'static [u8] = &[2, 1, 1, 1, 0, 1, 1, 1, 5];
+
+/// An invocation of `add` with 5.
+const INVOCATION: &'static [u8] = &[0xA1, 9, 2, 1, 1, 2, 1, 1, 2, 1, 5];
+
+const PACKED_INVOCATION: &'static [u8] = &[1, 1, 1, 0, 0, 1, 1, 1, 1, 5];
+
+/// Outcomes and rejects.
+const OUTCOMES: [Row; 7] = [
+    Row {
+        shows: "a result is handed up",
+        open: ADD,
+        again: false,
+        syntax: Ber,
+        octets: RESULT,
+        told: Returned(5),
+        own: false,
+        peer: None,
+    },
+    Row {
+        shows: "a packed result is handed up",
+        open: ADD,
+        again: false,
+        syntax: Packed,
+        octets: PACKED_RESULT,
+        told: Returned(5),
+        own: false,
+        peer: None,
+    },
+    Row {
+        shows: "a result that comes twice is rejected",
+        open: ADD,
+        again: true,
+        syntax: Ber,
+        octets: RESULT,
+        told: Reject(&[0xA4, 6, 2, 1, 1, 0x82, 1, 0]),
+        own: false,
+        peer: None,
+    },
+    Row {
+        shows: "a result of another code closes its invocation",
+        open: ADD,
+        again: false,
+        syntax: Ber,
+        octets: OTHER_RESULT,
+        told: Reject(&[0xA4, 6, 2, 1, 1, 0x82, 1, 2]),
+        own: false,
+        peer: None,
+    },
+    Row {
+        shows: "a reject closes what it names",
+        open: ADD,
+        again: false,
+        syntax: Ber,
+        octets: &[0xA4, 6, 2, 1, 1, 0x81, 1, 2],
+        told: Rejected,
+        own: false,
+        peer: None,
+    },
+    Row {
+        shows: "a reject of what is not open is told",
+        open: ADD,
+        again: false,
+        syntax: Ber,
+        octets: &[0xA4, 6, 2, 1, 2, 0x81, 1, 2],
+        told: RejectTaken,
+        own: true,
+        peer: None,
+    },
+    Row {
+        shows: "a faulty reject is told",
+        open: ADD,
+        again: false,
+        syntax: Ber,
+        octets: &[0xA4, 0],
+        told: BadReject,
+        own: true,
+        peer: None,
+    },
+];
+
+/// Invocations.
+const INVOCATIONS: [Row; 11] = [
+    Row {
+        shows: "an invocation is taken",
+        open: None,
+        again: false,
+        syntax: Ber,
+        octets: INVOCATION,
+        told: Invoked(0, 5, false),
+        own: false,
+        peer: Some((0, false)),
+    },
+    Row {
+        shows: "a packed invocation is taken",
+        open: None,
+        again: false,
+        syntax: Packed,
+        octets: PACKED_INVOCATION,
+        told: Invoked(0, 5, false),
+        own: false,
+        peer: Some((0, false)),
+    },
+    Row {
+        shows: "an invocation is taken once",
+        open: None,
+        again: true,
+        syntax: Ber,
+        octets: INVOCATION,
+        told: Reject(&[0xA4, 6, 2, 1, 1, 0x81, 1, 0]),
+        own: false,
+        peer: Some((0, false)),
+    },
+    Row {
+        shows: "a silent invocation is never open",
+        open: None,
+        again: false,
+        syntax: Ber,
+        octets: &[0xA1, 9, 2, 1, 1, 2, 1, 4, 2, 1, 5],
+        told: Invoked(2, 5, false),
+        own: false,
+        peer: None,
+    },
+    Row {
+        shows: "an unknown operation is rejected",
+        open: None,
+        again: false,
+        syntax: Ber,
+        octets: &[0xA1, 9, 2, 1, 9, 2, 1, 77, 2, 1, 5],
+        told: Reject(&[0xA4, 6, 2, 1, 9, 0x81, 1, 1]),
+        own: false,
+        peer: None,
+    },
+    Row {
+        shows: "a lacking argument is rejected",
+        open: None,
+        again: false,
+        syntax: Ber,
+        octets: &[0xA1, 6, 2, 1, 1, 2, 1, 1],
+        told: Reject(&[0xA4, 6, 2, 1, 1, 0x81, 1, 2]),
+        own: false,
+        peer: None,
+    },
+    Row {
+        shows: "what is no APDU is rejected",
+        open: None,
+        again: false,
+        syntax: Ber,
+        octets: &[0xA5, 0],
+        told: Reject(&[0xA4, 5, 5, 0, 0x80, 1, 0]),
+        own: false,
+        peer: None,
+    },
+    Row {
+        shows: "a linked invocation stands under its parent",
+        open: ADD,
+        again: false,
+        syntax: Ber,
+        octets: &[0xA1, 0x0C, 2, 1, 1, 0x80, 1, 1, 2, 1, 3, 2, 1, 7],
+        told: Invoked(1, 7, true),
+        own: true,
+        peer: Some((1, true)),
+    },
+    Row {
+        shows: "a link to nothing is rejected",
+        open: None,
+        again: false,
+        syntax: Ber,
+        octets: &[0xA1, 0x0C, 2, 1, 9, 0x80, 1, 1, 2, 1, 3, 2, 1, 7],
+        told: Reject(&[0xA4, 6, 2, 1, 9, 0x81, 1, 5]),
+        own: false,
+        peer: None,
+    },
+    Row {
+        shows: "a link to an operation without links is rejected",
+        open: ASK,
+        again: false,
+        syntax: Ber,
+        octets: &[0xA1, 0x0C, 2, 1, 1, 0x80, 1, 1, 2, 1, 3, 2, 1, 7],
+        told: Reject(&[0xA4, 6, 2, 1, 1, 0x81, 1, 6]),
+        own: true,
+        peer: None,
+    },
+    Row {
+        shows: "a link of another operation is rejected",
+        open: ADD,
+        again: false,
+        syntax: Ber,
+        octets: &[0xA1, 0x0C, 2, 1, 1, 0x80, 1, 1, 2, 1, 4, 2, 1, 7],
+        told: Reject(&[0xA4, 6, 2, 1, 1, 0x81, 1, 7]),
+        own: true,
+        peer: None,
+    },
+];
+
+/// An end with its own invocations and the peer's.
+#[derive(Drop)]
+struct Both {
+    forest: Forest,
+    own: Invoker,
+    performer: Performer,
+}
+
+/// An end without invocations, to which APDUs come on the context 7.
+fn without_any(alloc: Global) -> Both
+    ensures forest { result.forest ≡ [] }
+    ensures made { result.own ≡ record { kept = []; made = 0 } }
+    ensures own { AreOpen true result.forest result.own.kept }
+    ensures peer { AreOpen false result.forest result.performer.kept }
+{
+    let mut performer = Performer::new(alloc);
+    performer.set_context(7);
+    Both {
+        forest: Forest::new(alloc),
+        own: Invoker::new(alloc),
+        performer,
+    }
+}
+
+/// The same with an open own invocation 1 of the operation at this place, if at any.
+fn with_open(alloc: Global, place: Option<u32>) -> Result<Both, NoMemory>
+    ensures own { IfOk result (λ both. AreOpen true both.forest both.own.kept) }
+    ensures peer { IfOk result (λ both. AreOpen false both.forest both.performer.kept) }
+{
+    let mut both = without_any(alloc);
+    let Some(operation) = place else {
+        return Ok(both);
+    };
+    let called = Called {
+        operation,
+        context: 5,
+    };
+    both.own.open(&mut both.forest, called, None)?;
+    Ok(both)
+}
+
+/// Whether this is the head of an invocation.
+fn is_invocation(head: &ApduHead) -> bool
+    ensures { result ≡ is_invocation head.now.kind }
+{
+    match head.kind {
+        ApduKind::Invoke => true,
+        ApduKind::Result | ApduKind::Error | ApduKind::Reject => false,
+    }
+}
+
+/// What becomes of the octets of an APDU.
+fn take(
+    alloc: Global,
+    both: &mut Both,
+    tables: &Tables,
+    syntax: Syntax,
+    octets: &[u8],
+) -> Result<RoseTaken, NoMemory>
+    requires own { AreOpen true both.old.forest both.old.own.kept }
+    requires peer { AreOpen false both.old.forest both.old.performer.kept }
+    ensures own { AreOpen true both.new.forest both.new.own.kept }
+    ensures peer { AreOpen false both.new.forest both.new.performer.kept }
+{
+    match read_apdu(alloc, syntax, octets) {
+        Ok(head) => {
+            if is_invocation(&head) {
+                both.performer
+                    .take(&both.own, &mut both.forest, syntax, tables, head)
+            } else {
+                both.own.take(&mut both.forest, syntax, tables, head)
+            }
+        }
+        Err(fault) => refused(fault),
+    }
+}
+
+/// Takes the APDU of a row as often as it comes before.
+fn take_before(alloc: Global, both: &mut Both, tables: &Tables, row: &Row) -> Result<(), NoMemory>
+    requires own { AreOpen true both.old.forest both.old.own.kept }
+    requires peer { AreOpen false both.old.forest both.old.performer.kept }
+    ensures own { AreOpen true both.new.forest both.new.own.kept }
+    ensures peer { AreOpen false both.new.forest both.new.performer.kept }
+{
+    if !row.again {
+        return Ok(());
+    }
+    take(alloc, both, tables, row.syntax, row.octets)?;
+    Ok(())
+}
+
+/// Whether this is that value of INTEGER.
+fn is_integer(value: &Option<Val>, number: i64) -> bool {
+    matches!(value, Some(Val { node: Node::Int(n) }) if *n == number)
+}
+
+/// Whether a reject has these octets in BER.
+fn is_written(
+    alloc: Global,
+    tables: &Tables,
+    id: Option<i64>,
+    problem: Problem,
+    octets: &[u8],
+) -> Result<bool, NoMemory> {
+    let written = write_apdu(alloc, Ber, tables, &Apdu::Reject { id, problem })?;
+    Ok(written.as_slice() == octets)
+}
+
+/// Whether that became of an APDU.
+fn is_told(
+    alloc: Global,
+    tables: &Tables,
+    taken: &RoseTaken,
+    told: Told,
+) -> Result<bool, NoMemory> {
+    Ok(match (taken, told) {
+        (
+            RoseTaken::Invoked {
+                id,
+                operation,
+                linked,
+                argument,
+            },
+            Invoked(place, number, under),
+        ) => {
+            let parent = if under { Some(1) } else { None };
+            *id == 1 && *operation == place && *linked == parent && is_integer(argument, number)
+        }
+        (RoseTaken::Result { id, value }, Returned(number)) => *id == 1
+            && is_integer(value, number),
+        (RoseTaken::Rejected { id, .. }, Rejected) => *id == 1,
+        (RoseTaken::RejectTaken { .. }, RejectTaken) => true,
+        (RoseTaken::BadReject, BadReject) => true,
+        (RoseTaken::Reject { id, problem }, Reject(octets)) => {
+            is_written(alloc, tables, *id, *problem, octets)?
+        }
+        _ => false,
+    })
+}
+
+/// Whether the own invocation 1 is open.
+fn is_own(both: &Both, own: bool) -> bool {
+    both.forest.is_open(Key { own: true, id: 1 }) == own
+}
+
+/// Whether the peer's invocation 1 alone is open, or none, as a row says.
+fn is_peer(both: &Both, peer: Option<(u32, bool)>) -> bool {
+    match (both.performer.called(1), peer) {
+        (None, None) => both.performer.open_count() == 0,
+        (Some(called), Some((operation, under))) => {
+            let parent = both.forest.parent(Key { own: false, id: 1 });
+            both.performer.open_count() == 1
+                && called
+                    == Called {
+                        operation,
+                        context: 7,
+                    }
+                && matches!(parent, Some(Key { own: true, id: 1 })) == under
+        }
+        _ => false,
+    }
+}
+
+/// Whether it goes as a row says.
+fn is_so(alloc: Global, tables: &Tables, row: &Row) -> Result<bool, NoMemory> {
+    let mut both = with_open(alloc, row.open)?;
+    take_before(alloc, &mut both, tables, row)?;
+    let taken = take(alloc, &mut both, tables, row.syntax, row.octets)?;
+    let left = is_own(&both, row.own) && is_peer(&both, row.peer);
+    Ok(is_told(alloc, tables, &taken, row.told)? && left)
+}
+
+#[test]
+fn outcomes_and_rejects(rt: HostRuntime) -> Result<(), Fail> {
+    let tables = module(rt.alloc())?;
+    for row in &OUTCOMES {
+        assert!(rt; is_so(rt.alloc(), &tables, row)?, "{}", row.shows);
+    }
+    Ok(())
+}
+
+#[test]
+fn invocations(rt: HostRuntime) -> Result<(), Fail> {
+    let tables = module(rt.alloc())?;
+    for row in &INVOCATIONS {
+        assert!(rt; is_so(rt.alloc(), &tables, row)?, "{}", row.shows);
+    }
+    Ok(())
+}
