@@ -5,10 +5,6 @@
 #[cfg(test)]
 mod alterations;
 #[cfg(test)]
-mod calls;
-#[cfg(test)]
 mod made;
-#[cfg(test)]
-mod refusals;
 #[cfg(test)]
 mod saving;

@@ -1,111 +1,188 @@
-//! Marks, restarts and resumptions.
+//! Marks, restarts and resumptions, told as steps.
 
-use crate::calls::{
-    begin, discard, end_activity, interrupt, is_five, mark, mark_often, nodes, restart, resume,
-    set_below,
-};
 use crate::made::{full_set, only_five};
+use Step::{Below, Discards, Ends, Interrupts, Marks, Nodes, Restarts, Resumes};
+use Syntax::{Ber, Packed};
 use context_restore::{SaveRefusal, Saved};
-use osi_base::Syntax;
+use context_sets::Contexts;
+use osi_base::{SetList, Syntax};
 use std::alloc::Global;
+use std::process::Abort;
 use std::test::Fail;
+
+/// The transfer syntax of a set that is the module alone, or why none is answered.
+type Answer = Result<Syntax, SaveRefusal>;
+
+/// What is done, or what then holds. A set is the module alone, under 5, with this transfer syntax.
+#[derive(Clone, Copy)]
+enum Step {
+    /// The set is saved under the next number, which is answered.
+    Marks(Syntax, Result<u32, SaveRefusal>),
+    /// The set saved by the highest number below this one is answered and gone back to.
+    Restarts(u32, Answer),
+    /// It is answered.
+    Below(u32, Answer),
+    /// The activity begins anew at this number, while the set is in BER; its set is answered.
+    Resumes(u32, Answer),
+    /// The activity ends; the set from before it is answered.
+    Ends(Answer),
+    /// It is interrupted; the set from before it is answered.
+    Interrupts(Answer),
+    /// It is discarded; the set from before it is answered.
+    Discards(Answer),
+    /// So many nodes are kept.
+    Nodes(u32),
+}
+
+/// What is done in an activity that began in BER.
+const ROWS: [(&'static str, &'static [Step]); 8] = [
+    (
+        "a restart goes back over a context that was replaced",
+        &[
+            Marks(Ber, Ok(1)),
+            Marks(Packed, Ok(2)),
+            Nodes(3),
+            Restarts(2, Ok(Ber)),
+            Nodes(2),
+        ],
+    ),
+    (
+        "the newest set is below the next number",
+        &[
+            Marks(Ber, Ok(1)),
+            Marks(Packed, Ok(2)),
+            Below(3, Ok(Packed)),
+        ],
+    ),
+    (
+        "a number that was forgotten is given again",
+        &[
+            Marks(Ber, Ok(1)),
+            Marks(Packed, Ok(2)),
+            Marks(Packed, Ok(3)),
+            Restarts(2, Ok(Ber)),
+            Marks(Packed, Ok(2)),
+        ],
+    ),
+    (
+        "nothing is marked without an activity, and one that was interrupted is resumed at a mark",
+        &[
+            Marks(Packed, Ok(1)),
+            Interrupts(Ok(Ber)),
+            Marks(Packed, Err(SaveRefusal::NoActivity)),
+            Resumes(1, Ok(Packed)),
+            Nodes(2),
+        ],
+    ),
+    (
+        "an activity that ends gives the set before it",
+        &[
+            Marks(Ber, Ok(1)),
+            Marks(Packed, Ok(2)),
+            Ends(Ok(Ber)),
+            Nodes(3),
+        ],
+    ),
+    (
+        "a discarded activity keeps no marks",
+        &[
+            Marks(Ber, Ok(1)),
+            Marks(Packed, Ok(2)),
+            Discards(Ok(Ber)),
+            Nodes(0),
+        ],
+    ),
+    (
+        "a restart names a mark that there is, or the next",
+        &[
+            Restarts(0, Err(SaveRefusal::NoSuchMark(0))),
+            Restarts(2, Err(SaveRefusal::NoSuchMark(2))),
+            Restarts(1, Ok(Ber)),
+        ],
+    ),
+    (
+        "a resumption names a mark that there is",
+        &[Resumes(1, Err(SaveRefusal::NoSuchMark(1)))],
+    ),
+];
 
 /// An activity over the module in BER.
 fn begun(alloc: Global) -> Result<Saved, Fail> {
+    let set = only_five(alloc, Ber)?;
     let mut saved = Saved::new(alloc);
-    begin(&mut saved, &only_five(alloc, Syntax::Ber)?)?;
+    saved.begin(&set)?;
     Ok(saved)
 }
 
-/// That activity with the set of number 0 saved under 1 too, and with the module replaced under 2.
-fn replaced(alloc: Global) -> Result<Saved, Fail> {
+/// Whether a list is the module alone, under 5, with this transfer syntax.
+fn is_five(list: &SetList, transfer: Syntax) -> bool {
+    match list.as_slice() {
+        [item] => item.id == 5 && item.pair.transfer == transfer,
+        _ => false,
+    }
+}
+
+/// Whether this is the answer.
+fn is_answer(came: &Result<SetList, SaveRefusal>, wanted: &Answer) -> bool {
+    match (came, wanted) {
+        (Ok(list), Ok(transfer)) => is_five(list, *transfer),
+        (Err(refusal), Err(other)) => *refusal == *other,
+        _ => false,
+    }
+}
+
+/// The answer where the set of these contexts is marked.
+fn mark(alloc: Global, saved: &mut Saved, transfer: Syntax) -> Result<u32, SaveRefusal> {
+    match only_five(alloc, transfer) {
+        Ok(set) => saved.mark(&set),
+        Err(_) => Err(SaveRefusal::NoMemory),
+    }
+}
+
+/// The answer to a resumption while the set is in BER.
+fn resume(alloc: Global, saved: &mut Saved, number: u32) -> Result<SetList, SaveRefusal> {
+    match only_five(alloc, Ber) {
+        Ok(set) => saved.resume(number, &set),
+        Err(_) => Err(SaveRefusal::NoMemory),
+    }
+}
+
+/// Whether a step goes as it should.
+fn goes(alloc: Global, saved: &mut Saved, step: &Step) -> bool {
+    match step {
+        Marks(transfer, answer) => mark(alloc, saved, *transfer) == *answer,
+        Restarts(number, answer) => is_answer(&saved.restart(*number), answer),
+        Below(number, answer) => is_answer(&saved.set_below(*number), answer),
+        Resumes(number, answer) => is_answer(&resume(alloc, saved, *number), answer),
+        Ends(answer) => is_answer(&saved.end(), answer),
+        Interrupts(answer) => is_answer(&saved.interrupt(), answer),
+        Discards(answer) => is_answer(&saved.discard(), answer),
+        Nodes(count) => saved.nodes() == *count,
+    }
+}
+
+/// Each step of a row goes as it should.
+fn go(rt: &impl Abort, alloc: Global, shows: &str, steps: &[Step]) -> Result<(), Fail> {
     let mut saved = begun(alloc)?;
-    mark(&mut saved, &only_five(alloc, Syntax::Ber)?)?;
-    mark(&mut saved, &only_five(alloc, Syntax::Packed)?)?;
-    Ok(saved)
-}
-
-#[test]
-fn a_restart_goes_back_over_a_context_that_was_replaced(rt: HostRuntime) -> Result<(), Fail> {
-    let mut saved = replaced(rt.alloc())?;
-    assert!(rt; nodes(&saved) == 3);
-    assert!(rt; is_five(restart(&mut saved, 2)?, Syntax::Ber));
-    assert!(rt; nodes(&saved) == 2);
+    for (place, step) in steps.iter().enumerate() {
+        assert!(rt; goes(alloc, &mut saved, step), "{shows}, step {place}");
+    }
     Ok(())
 }
 
 #[test]
-fn the_newest_set_is_below_the_next_number(rt: HostRuntime) -> Result<(), Fail> {
-    let saved = replaced(rt.alloc())?;
-    assert!(rt; is_five(set_below(&saved, 3)?, Syntax::Packed));
+fn marks_and_restarts(rt: HostRuntime) -> Result<(), Fail> {
+    for (shows, steps) in &ROWS {
+        go(&rt, rt.alloc(), shows, steps)?;
+    }
     Ok(())
 }
 
-#[test]
-fn a_number_that_was_forgotten_is_given_again(rt: HostRuntime) -> Result<(), Fail> {
-    let mut saved = replaced(rt.alloc())?;
-    let set = only_five(rt.alloc(), Syntax::Packed)?;
-    assert!(rt; mark(&mut saved, &set) == Ok(3));
-    assert!(rt; is_five(restart(&mut saved, 2)?, Syntax::Ber));
-    assert!(rt; mark(&mut saved, &set) == Ok(2));
-    Ok(())
-}
-
-/// An activity over the module in BER with the packed syntax marked, interrupted.
-fn interrupted(alloc: Global) -> Result<Saved, Fail> {
-    let mut saved = begun(alloc)?;
-    mark(&mut saved, &only_five(alloc, Syntax::Packed)?)?;
-    interrupt(&mut saved)?;
-    Ok(saved)
-}
-
-#[test]
-fn nothing_is_marked_without_an_activity(rt: HostRuntime) -> Result<(), Fail> {
-    let mut saved = interrupted(rt.alloc())?;
-    let set = only_five(rt.alloc(), Syntax::Packed)?;
-    assert!(rt; mark(&mut saved, &set) == Err(SaveRefusal::NoActivity));
-    Ok(())
-}
-
-#[test]
-fn an_interrupted_activity_is_resumed_at_a_mark(rt: HostRuntime) -> Result<(), Fail> {
-    let mut saved = interrupted(rt.alloc())?;
-    let set = only_five(rt.alloc(), Syntax::Ber)?;
-    assert!(rt; is_five(resume(&mut saved, 1, &set)?, Syntax::Packed));
-    assert!(rt; nodes(&saved) == 2);
-    Ok(())
-}
-
-#[test]
-fn an_activity_that_ends_gives_the_set_before_it(rt: HostRuntime) -> Result<(), Fail> {
-    let mut saved = replaced(rt.alloc())?;
-    assert!(rt; is_five(end_activity(&mut saved)?, Syntax::Ber));
-    assert!(rt; nodes(&saved) == 3);
-    Ok(())
-}
-
-#[test]
-fn a_discarded_activity_keeps_no_marks(rt: HostRuntime) -> Result<(), Fail> {
-    let mut saved = replaced(rt.alloc())?;
-    assert!(rt; is_five(discard(&mut saved)?, Syntax::Ber));
-    assert!(rt; nodes(&saved) == 0);
-    Ok(())
-}
-
-#[test]
-fn a_restart_names_a_mark_that_there_is_or_the_next(rt: HostRuntime) -> Result<(), Fail> {
-    let mut saved = begun(rt.alloc())?;
-    assert!(rt; restart(&mut saved, 0).err() == Some(SaveRefusal::NoSuchMark(0)));
-    assert!(rt; restart(&mut saved, 2).err() == Some(SaveRefusal::NoSuchMark(2)));
-    assert!(rt; is_five(restart(&mut saved, 1)?, Syntax::Ber));
-    Ok(())
-}
-
-#[test]
-fn a_resumption_names_a_mark_that_there_is(rt: HostRuntime) -> Result<(), Fail> {
-    let mut saved = begun(rt.alloc())?;
-    let set = only_five(rt.alloc(), Syntax::Ber)?;
-    assert!(rt; resume(&mut saved, 1, &set).err() == Some(SaveRefusal::NoSuchMark(1)));
+/// Saves a set under so many numbers.
+fn mark_often(saved: &mut Saved, set: &Contexts, count: u32) -> Result<(), SaveRefusal> {
+    for _ in 0..count {
+        saved.mark(set)?;
+    }
     Ok(())
 }
 
@@ -113,11 +190,11 @@ fn a_resumption_names_a_mark_that_there_is(rt: HostRuntime) -> Result<(), Fail> 
 fn an_unchanged_set_of_64_contexts_is_marked_65536_times(rt: HostRuntime) -> Result<(), Fail> {
     let set = full_set(rt.alloc())?;
     let mut saved = Saved::new(rt.alloc());
-    begin(&mut saved, &set)?;
+    saved.begin(&set)?;
     mark_often(&mut saved, &set, 65_536)?;
-    assert!(rt; nodes(&saved) == 65_537);
-    assert!(rt; mark(&mut saved, &set) == Err(SaveRefusal::MarksFull));
-    assert!(rt; restart(&mut saved, 2)?.len() == 64);
-    assert!(rt; nodes(&saved) == 2);
+    assert!(rt; saved.nodes() == 65_537);
+    assert!(rt; saved.mark(&set) == Err(SaveRefusal::MarksFull));
+    assert!(rt; saved.restart(2)?.len() == 64);
+    assert!(rt; saved.nodes() == 2);
     Ok(())
 }
