@@ -1,10 +1,10 @@
 //! Octets of each unit, from outside.
 
-ghost use Rattle.std.specs.Prelude.{◌≡◌, ◌≤◌, true, length};
-ghost use Rattle.spdu_codec.specs.Written.{AreFields, AreWritable, octets_in, stands_alone, stands_second};
+ghost use Rattle.std.specs.Prelude.{◌≡◌, ◌≤◌, true};
+ghost use Rattle.spdu_codec.specs.Written.{AreFields, octets_in, stands_alone};
 
-use osi_base::{Kind, Octets, SessionConnect, SessionWord, Spdus};
-use spdu_codec::{SFault, read_spdus, write_spdus};
+use osi_base::{Kind, NoMemory, Octets, SessionConnect, SessionWord, Spdus};
+use spdu_codec::{SFault, read_spdus, units_written, write_spdus};
 use std::alloc::Global;
 use std::process::Abort;
 use std::test::*;
@@ -195,48 +195,56 @@ const FAULTY: [(&'static [u8], usize, Kind); 17] = [
     ),
 ];
 
-/// A copy of octets, which are 200 at most.
-fn octets(rt: &impl Abort, alloc: Global, bytes: &[u8]) -> Octets
-    ensures { length result ≤ 200 }
-{
-    assert!(rt; bytes.len() <= 200);
+/// A copy of octets.
+fn octets(rt: &impl Abort, alloc: Global, bytes: &[u8]) -> Octets {
     Octets::from_slice(alloc, bytes).expect(rt, "memory")
 }
 
 /// These words are written as these octets, and the octets are read as these words.
-fn check(rt: &impl Abort, alloc: Global, words: &Spdus, octets: &[u8]) -> Result<(), Fail>
-    requires { AreWritable words.now }
-{
-    let written = write_spdus(alloc, words)?;
-    assert_eq!(rt; written.as_slice(), octets);
+fn check(rt: &impl Abort, alloc: Global, words: &Spdus, octets: &[u8]) -> Result<(), Fail> {
+    let written = units_written(alloc, words)?;
+    assert!(rt; written.as_slice() == octets);
     let read = read_spdus(alloc, octets)?;
     let came = format!(in alloc; "{read:?}")?;
     let want = format!(in alloc; "{words:?}")?;
-    assert_eq!(rt; came.as_str(), want.as_str());
+    assert!(rt; came.as_str() == want.as_str());
     Ok(())
 }
 
 /// A unit that stands alone.
-fn alone(rt: &impl Abort, alloc: Global, word: SessionWord, octets: &[u8]) -> Result<(), Fail>
-    requires stands { stands_alone word ≡ true }
-    requires fields { AreFields word }
-    requires short { octets_in word ≤ 1000 }
-{
+fn alone(rt: &impl Abort, alloc: Global, word: SessionWord, octets: &[u8]) -> Result<(), Fail> {
     let mut words = Spdus::new(alloc);
     words.push(word)?;
     check(rt, alloc, &words, octets)
 }
 
 /// A unit behind an empty GT.
-fn second(rt: &impl Abort, alloc: Global, word: SessionWord, octets: &[u8]) -> Result<(), Fail>
-    requires stands { stands_second word ≡ true }
-    requires fields { AreFields word }
-    requires short { octets_in word ≤ 1000 }
-{
+fn second(rt: &impl Abort, alloc: Global, word: SessionWord, octets: &[u8]) -> Result<(), Fail> {
     let mut words = Spdus::new(alloc);
     words.push(SessionWord::GiveTokens { tokens: None })?;
     words.push(word)?;
     check(rt, alloc, &words, octets)
+}
+
+/// The octets of a unit that may be written.
+fn written(alloc: Global, word: SessionWord) -> Result<Octets, NoMemory>
+    requires stands { stands_alone word ≡ true }
+    requires fields { AreFields word }
+    requires short { octets_in word ≤ 1000 }
+{
+    let mut words = Spdus::new(alloc);
+    words.push(word)?;
+    write_spdus(alloc, &words)
+}
+
+/// A unit whose fields are those that are read is written the same.
+#[test]
+fn a_unit_that_may_be_written(rt: HostRuntime) -> Result<(), Fail> {
+    let user = octets(&rt, rt.alloc(), DISCONNECT_DATA);
+    assert!(rt; user.len() <= 200);
+    let octets = written(rt.alloc(), SessionWord::Disconnect { user })?;
+    assert!(rt; octets.as_slice() == DISCONNECT);
+    Ok(())
 }
 
 /// The connect of an opening in direct mode.
@@ -306,12 +314,10 @@ fn a_short_accept(rt: HostRuntime) -> Result<(), Fail> {
 
 #[test]
 fn a_refusal(rt: HostRuntime) -> Result<(), Fail> {
-    let user = octets(&rt, rt.alloc(), &[0x30, 0x00]);
-    assert!(rt; user.len() > 0);
     let word = SessionWord::Refuse {
         transport: Some(1),
         reason: Some(2),
-        user: Some(user),
+        user: Some(octets(&rt, rt.alloc(), &[0x30, 0x00])),
     };
     alone(&rt, rt.alloc(), word, REFUSE)
 }
