@@ -1,5 +1,9 @@
 //! A module with three operations and one error.
 
+ghost use Rattle.std.specs.Prelude.{◌≡◌, ◌<◌, ◌^◌, IfOk, IsTrue, length};
+ghost use Rattle.stub_tables.specs.Codes.{have_own_codes};
+ghost use Rattle.stub_tables.specs.declared.operation.Code.TheVariants as codes;
+
 use asn1_types::{Node, TypeId, TypeRow, TypeTable, Val};
 use osi_base::{Indices, ListOf, Name, NoMemory, Oid};
 use std::alloc::Global;
@@ -34,7 +38,9 @@ fn operation(
     returns: bool,
     errors: &[u32],
     linked: &[u32],
-) -> Result<Operation, NoMemory> {
+) -> Result<Operation, NoMemory>
+    ensures { IfOk result (λ o. o.code ≡ codes.Local code) }
+{
     Ok(Operation {
         name: Name::from_str(alloc, name)?,
         code: Code::Local(code),
@@ -49,7 +55,10 @@ fn operation(
 
 /// `add`, to which `ask` may be linked and which may answer the error; `ask`; and `note`, which is
 /// silent.
-fn operations(alloc: Global) -> Result<Operations, NoMemory> {
+fn operations(alloc: Global) -> Result<Operations, NoMemory>
+    ensures few { IfOk result (λ operations. length operations < 2 ^ 32) }
+    ensures own { IfOk result (λ operations. IsTrue (have_own_codes (λ o. o.code) operations)) }
+{
     let mut operations = Operations::new(alloc);
     operations.push(operation(alloc, "add", 1, true, &[0], &[1])?)?;
     operations.push(operation(alloc, "ask", 3, true, &[], &[])?)?;
@@ -58,7 +67,10 @@ fn operations(alloc: Global) -> Result<Operations, NoMemory> {
 }
 
 /// `overflow`, which carries an INTEGER.
-fn errors(alloc: Global) -> Result<ErrorRows, NoMemory> {
+fn errors(alloc: Global) -> Result<ErrorRows, NoMemory>
+    ensures few { IfOk result (λ errors. length errors < 2 ^ 32) }
+    ensures own { IfOk result (λ errors. IsTrue (have_own_codes (λ e. e.code) errors)) }
+{
     let mut errors = ErrorRows::new(alloc);
     errors.push(ErrorRow {
         name: Name::from_str(alloc, "overflow")?,
