@@ -8,4 +8,5 @@ pub mod Memory
 pub mod Oid
 pub mod Outside
 pub mod PdvContent
+pub mod Printed
 pub mod Syntax

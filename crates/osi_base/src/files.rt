@@ -9,6 +9,8 @@ use crate::fault;
 use crate::name::Name;
 use crate::octets::Octets;
 use std::alloc::{AllocError, AllocFailed, Global};
+use std::error::Error;
+use std::fmt;
 
 /// How many octets of a file are handed up at most: one more than any file that is read whole
 /// may have, so that a file which is too long is seen to be.
@@ -24,6 +26,23 @@ pub enum FileFault {
     /// An allocation was refused.
     NoMemory,
 }
+
+impl fmt::Display for FileFault {
+    ghost use Rattle.std.specs.Prelude.{Some};
+    ghost use Rattle.osi_base.specs.Printed.{file_fault_text};
+
+    ghost output = { λ fault. Some (file_fault_text fault) };
+
+    fn fmt<W: fmt::Write>(&self, f: &mut fmt::Formatter<W>) -> fmt::Result {
+        f.write_str(match self {
+            FileFault::Failed => "reading failed",
+            FileFault::Missing => "there is no such file",
+            FileFault::NoMemory => "out of memory",
+        })
+    }
+}
+
+impl Error for FileFault {}
 
 impl From<fault::NoMemory> for FileFault {
     ghost from_gives = { λ _ fault. fault ≡ NoMemory };

@@ -9,10 +9,24 @@ use crate::fault;
 use crate::name::Name;
 use crate::octets::Octets;
 use std::alloc::{AllocError, AllocFailed, Global};
+use std::error::Error;
+use std::fmt;
 
 /// A call of the outside failed.
 #[derive(Clone, Copy, Debug, PartialEq, Eq)]
 pub struct Failed;
+
+impl fmt::Display for Failed {
+    ghost use Rattle.std.specs.Prelude.{Some, codes};
+
+    ghost output = { λ _. Some (codes "a call of the outside failed") };
+
+    fn fmt<W: fmt::Write>(&self, f: &mut fmt::Formatter<W>) -> fmt::Result {
+        f.write_str("a call of the outside failed")
+    }
+}
+
+impl Error for Failed {}
 
 /// Why a call of a line was not done.
 #[derive(Clone, Copy, Debug, PartialEq, Eq)]
@@ -22,6 +36,22 @@ pub enum LineFault {
     /// An allocation was refused.
     NoMemory,
 }
+
+impl fmt::Display for LineFault {
+    ghost use Rattle.std.specs.Prelude.{Some};
+    ghost use Rattle.osi_base.specs.Printed.{line_fault_text};
+
+    ghost output = { λ fault. Some (line_fault_text fault) };
+
+    fn fmt<W: fmt::Write>(&self, f: &mut fmt::Formatter<W>) -> fmt::Result {
+        f.write_str(match self {
+            LineFault::Failed => "the line failed",
+            LineFault::NoMemory => "out of memory",
+        })
+    }
+}
+
+impl Error for LineFault {}
 
 impl From<fault::NoMemory> for LineFault {
     ghost from_gives = { λ _ fault. fault ≡ NoMemory };

@@ -1,6 +1,7 @@
 //! The units of the presentation protocol (X.226 8.2), with the fields that are read or written.
 
 ghost use Rattle.std.specs.Prelude.{◌≡◌, IfOk};
+ghost use Rattle.osi_base.specs.declared.presentation_word.PresentationWord.TheVariants as words;
 
 use crate::bit_string::BitString;
 use crate::copied::Copied;
@@ -218,40 +219,96 @@ impl Copied for PresentationReject {
     }
 }
 
+fn copy_connect(alloc: Global, fields: &PresentationConnect) -> Result<PresentationWord, NoMemory>
+    ensures { IfOk result (λ copy. copy ≡ words.Connect fields.now) }
+{
+    Ok(PresentationWord::Connect(fields.copy(alloc)?))
+}
+
+fn copy_accept(alloc: Global, fields: &PresentationAccept) -> Result<PresentationWord, NoMemory>
+    ensures { IfOk result (λ copy. copy ≡ words.Accept fields.now) }
+{
+    Ok(PresentationWord::Accept(fields.copy(alloc)?))
+}
+
+fn copy_reject(alloc: Global, fields: &PresentationReject) -> Result<PresentationWord, NoMemory>
+    ensures { IfOk result (λ copy. copy ≡ words.Reject fields.now) }
+{
+    Ok(PresentationWord::Reject(fields.copy(alloc)?))
+}
+
+fn copy_alter(alloc: Global, add: &Proposals, delete: &Ids) -> Result<PresentationWord, NoMemory>
+    ensures { IfOk result (λ copy. copy ≡ words.Alter add.now delete.now) }
+{
+    Ok(PresentationWord::Alter {
+        add: add.copy(alloc)?,
+        delete: delete.copy(alloc)?,
+    })
+}
+
+fn copy_alter_ack(alloc: Global, answers: &Answers) -> Result<PresentationWord, NoMemory>
+    ensures { IfOk result (λ copy. copy ≡ words.AlterAck answers.now) }
+{
+    Ok(PresentationWord::AlterAck {
+        answers: answers.copy(alloc)?,
+    })
+}
+
+fn copy_resynchronize(alloc: Global, restored: &Option<RestoredList>) -> Result<PresentationWord, NoMemory>
+    ensures { IfOk result (λ copy. copy ≡ words.Resynchronize restored.now) }
+{
+    Ok(PresentationWord::Resynchronize {
+        restored: restored.copy(alloc)?,
+    })
+}
+
+fn copy_resynchronize_ack(alloc: Global, restored: &Option<RestoredList>) -> Result<PresentationWord, NoMemory>
+    ensures { IfOk result (λ copy. copy ≡ words.ResynchronizeAck restored.now) }
+{
+    Ok(PresentationWord::ResynchronizeAck {
+        restored: restored.copy(alloc)?,
+    })
+}
+
+fn copy_user_abort(alloc: Global, contexts: &Option<RestoredList>, user: &Pdvs) -> Result<PresentationWord, NoMemory>
+    ensures { IfOk result (λ copy. copy ≡ words.UserAbort contexts.now user.now) }
+{
+    Ok(PresentationWord::UserAbort {
+        contexts: contexts.copy(alloc)?,
+        user: user.copy(alloc)?,
+    })
+}
+
+fn copy_data(alloc: Global, user: &Pdvs) -> Result<PresentationWord, NoMemory>
+    ensures { IfOk result (λ copy. copy ≡ words.Data user.now) }
+{
+    Ok(PresentationWord::Data {
+        user: user.copy(alloc)?,
+    })
+}
+
 impl Copied for PresentationWord {
     fn copy(&self, alloc: Global) -> Result<PresentationWord, NoMemory> {
         match self {
-            PresentationWord::Connect(fields) => Ok(PresentationWord::Connect(fields.copy(alloc)?)),
-            PresentationWord::Accept(fields) => Ok(PresentationWord::Accept(fields.copy(alloc)?)),
-            PresentationWord::Reject(fields) => Ok(PresentationWord::Reject(fields.copy(alloc)?)),
-            PresentationWord::Alter { add, delete } => Ok(PresentationWord::Alter {
-                add: add.copy(alloc)?,
-                delete: delete.copy(alloc)?,
-            }),
-            PresentationWord::AlterAck { answers } => Ok(PresentationWord::AlterAck {
-                answers: answers.copy(alloc)?,
-            }),
-            PresentationWord::Resynchronize { restored } => Ok(PresentationWord::Resynchronize {
-                restored: restored.copy(alloc)?,
-            }),
+            PresentationWord::Connect(fields) => copy_connect(alloc, fields),
+            PresentationWord::Accept(fields) => copy_accept(alloc, fields),
+            PresentationWord::Reject(fields) => copy_reject(alloc, fields),
+            PresentationWord::Alter { add, delete } => copy_alter(alloc, add, delete),
+            PresentationWord::AlterAck { answers } => copy_alter_ack(alloc, answers),
+            PresentationWord::Resynchronize { restored } => copy_resynchronize(alloc, restored),
             PresentationWord::ResynchronizeAck { restored } => {
-                Ok(PresentationWord::ResynchronizeAck {
-                    restored: restored.copy(alloc)?,
-                })
+                copy_resynchronize_ack(alloc, restored)
             }
-            PresentationWord::UserAbort { contexts, user } => Ok(PresentationWord::UserAbort {
-                contexts: contexts.copy(alloc)?,
-                user: user.copy(alloc)?,
-            }),
+            PresentationWord::UserAbort { contexts, user } => {
+                copy_user_abort(alloc, contexts, user)
+            }
             PresentationWord::ProviderAbort { reason, event } => {
                 Ok(PresentationWord::ProviderAbort {
                     reason: *reason,
                     event: *event,
                 })
             }
-            PresentationWord::Data { user } => Ok(PresentationWord::Data {
-                user: user.copy(alloc)?,
-            }),
+            PresentationWord::Data { user } => copy_data(alloc, user),
         }
     }
 }

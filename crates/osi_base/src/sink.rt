@@ -6,6 +6,8 @@ ghost use Rattle.osi_base.specs.declared.sink.SinkFault.TheVariants.{NoMemory};
 
 use crate::fault;
 use std::alloc::AllocError;
+use std::error::Error;
+use std::fmt;
 
 /// Why octets could not be written.
 #[derive(Clone, Copy, Debug, PartialEq, Eq)]
@@ -15,6 +17,22 @@ pub enum SinkFault {
     /// An allocation was refused.
     NoMemory,
 }
+
+impl fmt::Display for SinkFault {
+    ghost use Rattle.std.specs.Prelude.{Some};
+    ghost use Rattle.osi_base.specs.Printed.{sink_fault_text};
+
+    ghost output = { λ fault. Some (sink_fault_text fault) };
+
+    fn fmt<W: fmt::Write>(&self, f: &mut fmt::Formatter<W>) -> fmt::Result {
+        f.write_str(match self {
+            SinkFault::Failed => "writing failed",
+            SinkFault::NoMemory => "out of memory",
+        })
+    }
+}
+
+impl Error for SinkFault {}
 
 impl From<fault::NoMemory> for SinkFault {
     ghost from_gives = { λ _ fault. fault ≡ NoMemory };

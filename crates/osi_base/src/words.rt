@@ -7,6 +7,7 @@ use crate::octets::Octets;
 use crate::oid::Oid;
 use crate::syntax::Pair;
 use std::alloc::Global;
+use std::fmt;
 
 /// Numbers of contexts, as a list.
 pub type Ids = ListOf<u32>;
@@ -41,6 +42,36 @@ pub enum Kind {
     Form,
 }
 
+impl Kind {
+    ghost use Rattle.std.specs.Prelude.{◌≡◌};
+    ghost use Rattle.osi_base.specs.Printed.{kind_word};
+
+    /// The name of the kind.
+    pub fn word(self) -> &'static str
+        ensures { result.now ≡ kind_word self }
+    {
+        match self {
+            Kind::Tag => "Tag",
+            Kind::Missing => "Missing",
+            Kind::Extra => "Extra",
+            Kind::Length => "Length",
+            Kind::Content => "Content",
+            Kind::Form => "Form",
+        }
+    }
+}
+
+impl fmt::Display for Kind {
+    ghost use Rattle.std.specs.Prelude.{Some};
+    ghost use Rattle.osi_base.specs.Printed.{kind_word};
+
+    ghost output = { λ kind. Some (kind_word kind) };
+
+    fn fmt<W: fmt::Write>(&self, f: &mut fmt::Formatter<W>) -> fmt::Result {
+        f.write_str(self.word())
+    }
+}
+
 /// The layer that found a fault.
 #[derive(Clone, Copy, Debug, PartialEq, Eq)]
 pub enum Layer {
@@ -56,6 +87,36 @@ pub enum Layer {
     Rtse,
     /// Remote operations (X.880).
     Rose,
+}
+
+impl Layer {
+    ghost use Rattle.std.specs.Prelude.{◌≡◌};
+    ghost use Rattle.osi_base.specs.Printed.{layer_word};
+
+    /// The name of the layer.
+    pub fn word(self) -> &'static str
+        ensures { result.now ≡ layer_word self }
+    {
+        match self {
+            Layer::Transport => "transport",
+            Layer::Session => "session",
+            Layer::Presentation => "presentation",
+            Layer::Acse => "acse",
+            Layer::Rtse => "rtse",
+            Layer::Rose => "rose",
+        }
+    }
+}
+
+impl fmt::Display for Layer {
+    ghost use Rattle.std.specs.Prelude.{Some};
+    ghost use Rattle.osi_base.specs.Printed.{layer_word};
+
+    ghost output = { λ layer. Some (layer_word layer) };
+
+    fn fmt<W: fmt::Write>(&self, f: &mut fmt::Formatter<W>) -> fmt::Result {
+        f.write_str(self.word())
+    }
 }
 
 /// What a reject speaks of (X.880 8.4).
