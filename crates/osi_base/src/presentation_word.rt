@@ -254,7 +254,10 @@ fn copy_alter_ack(alloc: Global, answers: &Answers) -> Result<PresentationWord, 
     })
 }
 
-fn copy_resynchronize(alloc: Global, restored: &Option<RestoredList>) -> Result<PresentationWord, NoMemory>
+fn copy_resynchronize(
+    alloc: Global,
+    restored: &Option<RestoredList>,
+) -> Result<PresentationWord, NoMemory>
     ensures { IfOk result (λ copy. copy ≡ words.Resynchronize restored.now) }
 {
     Ok(PresentationWord::Resynchronize {
@@ -262,7 +265,10 @@ fn copy_resynchronize(alloc: Global, restored: &Option<RestoredList>) -> Result<
     })
 }
 
-fn copy_resynchronize_ack(alloc: Global, restored: &Option<RestoredList>) -> Result<PresentationWord, NoMemory>
+fn copy_resynchronize_ack(
+    alloc: Global,
+    restored: &Option<RestoredList>,
+) -> Result<PresentationWord, NoMemory>
     ensures { IfOk result (λ copy. copy ≡ words.ResynchronizeAck restored.now) }
 {
     Ok(PresentationWord::ResynchronizeAck {
@@ -270,7 +276,11 @@ fn copy_resynchronize_ack(alloc: Global, restored: &Option<RestoredList>) -> Res
     })
 }
 
-fn copy_user_abort(alloc: Global, contexts: &Option<RestoredList>, user: &Pdvs) -> Result<PresentationWord, NoMemory>
+fn copy_user_abort(
+    alloc: Global,
+    contexts: &Option<RestoredList>,
+    user: &Pdvs,
+) -> Result<PresentationWord, NoMemory>
     ensures { IfOk result (λ copy. copy ≡ words.UserAbort contexts.now user.now) }
 {
     Ok(PresentationWord::UserAbort {
