@@ -125,7 +125,8 @@ impl<'t> End<'t> {
     fn send(&mut self, message: &Message) -> Result<(), NoMemory>
         requires up { passes_over self.old.end.body.link.phase ≡ false }
         requires room { MayStand (seen_message message.now) }
-        ensures ok { OnOk result (Stepped self.old self.new (sent (seen_message message.now) ∷ [])) }
+        ensures ok { OnOk result
+            (Stepped self.old self.new (sent (seen_message message.now) ∷ [])) }
         ensures err { OnErr result (Keeps self.old self.new) }
     {
         after_sent(&self.basis, &mut self.body, message)?;

@@ -221,7 +221,8 @@ fn resume_sent(basis: &Ground<'_>, body: &mut Body, mark: u32) -> Result<(), NoM
     ensures { OnOk result (seen body.new ≡ record (on_transfer resumed (seen body.old)) {
       sets = record (seen body.old).sets {
         inter = (seen body.old).sets.held;
-        held = resumed_set mark (pieces_of (seen body.old).sending.current) (seen body.old).sets.held;
+        held = resumed_set mark (pieces_of (seen body.old).sending.current)
+            (seen body.old).sets.held;
       };
     }) }
 {

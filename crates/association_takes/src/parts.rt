@@ -154,7 +154,8 @@ pub(crate) fn values_fault(basis: &Ground<'_>, body: &Body, values: &[Value]) ->
 fn push_part(alloc: Global, body: &mut Body, content: &Content) -> Result<(), NoMemory>
     ensures { OnOk result (seen body.new ≡ record (seen body.old) {
       receiving = record (seen body.old).receiving {
-        pieces = octets_piece (part_in (seen_content content.now)) ∷ (seen body.old).receiving.pieces;
+        pieces = octets_piece (part_in (seen_content content.now))
+            ∷ (seen body.old).receiving.pieces;
       };
     }) }
 {

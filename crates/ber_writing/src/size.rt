@@ -112,7 +112,8 @@ fn row_size(table: &TypeTable, of: TypeId, row: &TypeRow, value: &Val) -> u64
 #[cycle(sizing)]
 fn choice_size(table: &TypeTable, of: TypeId, alternatives: &Parts, value: &Val) -> u64
     requires below { AllByRecursion (λ m. m < of.0) (rows_of_parts alternatives.now) }
-    ensures { result ≡ saturated (choice_size (λ which. alternative_size (packed_size table.now) (slice_get alternatives.now which)) value.now) }
+    ensures { result ≡ saturated (choice_size (λ which.
+        alternative_size (packed_size table.now) (slice_get alternatives.now which)) value.now) }
 {
     match &value.node {
         Node::Chosen { which, value } => match alternatives.get(*which as usize) {

@@ -42,7 +42,8 @@ impl Model for Saved {
       active = saved.active;
     } };
 
-    ghost invariant = { λ saved. IsKept saved.nodes saved.head saved.newest saved.inter saved.active };
+    ghost invariant = { λ saved.
+        IsKept saved.nodes saved.head saved.newest saved.inter saved.active };
 }
 
 impl Saved {

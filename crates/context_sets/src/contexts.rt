@@ -46,7 +46,8 @@ impl Model for Contexts {
     } };
 
     ghost invariant = { λ contexts.
-        IsSound contexts.items.items contexts.own.items (vec_capacity contexts.items - vec_len contexts.items) };
+        IsSound contexts.items.items contexts.own.items
+        (vec_capacity contexts.items - vec_len contexts.items) };
 }
 
 impl Contexts {

@@ -69,7 +69,8 @@ pub fn four_additions_are_lost()
     ensures sets { let two = played Direct four_lost in
         (two.a.sets.held ≡ with_five) × (two.b.sets.held ≡ with_five) × (two.a.sets.own ≡ []) }
     ensures replies { let two = played Direct four_lost in
-        two.replies ≡ Ok None ∷ Ok None ∷ Ok None ∷ Ok None ∷ Ok None ∷ Err refusals.AlterPending ∷ Ok None ∷ [] }
+        two.replies ≡ Ok None ∷ Ok None ∷ Ok None ∷ Ok None ∷ Ok None
+        ∷ Err refusals.AlterPending ∷ Ok None ∷ [] }
 {}
 
 /// A transfer in two parts with one mark: the invocation is handed up as its end is taken.
@@ -100,7 +101,8 @@ pub fn transfer_is_resumed()
 /// refused.
 pub fn link_to_a_closed_parent()
     ensures replies { let two = played Bare linked in
-        two.replies ≡ Ok (Some (pos 1)) ∷ Ok (Some (pos 1)) ∷ Ok None ∷ Err (refusals.ParentClosed (pos 1)) ∷ [] }
+        two.replies ≡ Ok (Some (pos 1)) ∷ Ok (Some (pos 1)) ∷ Ok None
+        ∷ Err (refusals.ParentClosed (pos 1)) ∷ [] }
     ensures told { let two = played Bare linked in
         (two.told_a
         ≡ indications.Invoked (pos 1) 1 (Some (pos 1)) None ∷ indications.Result (pos 1) None ∷ [])

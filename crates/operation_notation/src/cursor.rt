@@ -36,7 +36,8 @@ impl<'t> Model for Cursor<'t> {
 
     ghost view = { λ c. lexemes c.source.now c.tokens.now };
 
-    ghost invariant = { λ c. AllByRecursion (IsSpan c.source.now (length c.source.now)) c.tokens.now };
+    ghost invariant = { λ c.
+        AllByRecursion (IsSpan c.source.now (length c.source.now)) c.tokens.now };
 }
 
 /// The name that a word's octets are, at a place.

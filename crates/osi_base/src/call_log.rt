@@ -25,7 +25,8 @@ impl Model for CallLog {
 
     ghost Value = { Option (List LineCall) };
 
-    ghost view = { λ log. (if log.is_told then Some (shut_after log.shuts (reverse log.calls.items)) else None) };
+    ghost view = { λ log.
+        (if log.is_told then Some (shut_after log.shuts (reverse log.calls.items)) else None) };
 }
 
 /// Writes out the calls of `shut` that were only counted.

@@ -59,7 +59,8 @@ pub fn break_suspends()
 pub fn resumption_goes_on()
     ensures resumed { Leads calc_pair resumed (λ place.
         (place.told_a ≡ indications.Opened ∷ indications.Recovered ∷ indications.Transferred 1 ∷ [])
-        × (place.told_b ≡ indications.Opened ∷ indications.Recovered ∷ indications.Resumed 1 1 ∷ indications.Invoked (pos 1) 0 None None ∷ [])
+        × (place.told_b ≡ indications.Opened ∷ indications.Recovered ∷ indications.Resumed 1 1
+        ∷ indications.Invoked (pos 1) 0 None None ∷ [])
         × (place.ledger.deeds.b.arrived ≡ 1 ∷ [])
         × (place.two.a.sending.current ≡ None)) }
 {}
@@ -69,7 +70,8 @@ pub fn resumption_goes_on()
 pub fn end_is_confirmed_again()
     ensures again { Leads calc_pair confirmed_again (λ place.
         (place.told_a ≡ indications.Opened ∷ indications.Recovered ∷ indications.Transferred 1 ∷ [])
-        × (place.told_b ≡ indications.Opened ∷ indications.Invoked (pos 1) 0 None None ∷ indications.Recovered ∷ indications.Resumed 1 2 ∷ [])
+        × (place.told_b ≡ indications.Opened ∷ indications.Invoked (pos 1) 0 None None ∷ indications.Recovered
+        ∷ indications.Resumed 1 2 ∷ [])
         × (place.ledger.deeds.b.arrived ≡ 1 ∷ [])
         × (place.two.a.sending.current ≡ None)) }
 {}
@@ -115,7 +117,8 @@ pub fn interrupted_goes_on()
     ensures resumed { Leads calc_pair interrupted_resumed (λ place.
         (place.told_a
         ≡ indications.Opened ∷ indications.Interrupted 1 ∷ indications.Transferred 1 ∷ [])
-        × (place.told_b ≡ indications.Opened ∷ indications.Interrupted 1 ∷ indications.Resumed 1 1 ∷ indications.Invoked (pos 1) 0 None None ∷ [])
+        × (place.told_b ≡ indications.Opened ∷ indications.Interrupted 1 ∷ indications.Resumed 1 1
+        ∷ indications.Invoked (pos 1) 0 None None ∷ [])
         × (place.ledger.deeds.b.arrived ≡ 1 ∷ [])
         × (place.two.a.sending.current ≡ None)) }
 {}
@@ -123,7 +126,9 @@ pub fn interrupted_goes_on()
 /// After a discard the next transfer has the next number, and only it is handed up.
 pub fn number_of_discarded_is_spent()
     ensures next { Leads calc_pair next_after_discard (λ place.
-        (place.told_a ≡ indications.Opened ∷ indications.Cut true (pos 1) ∷ indications.Discarded 1 ∷ indications.Transferred 2 ∷ [])
-        × (place.told_b ≡ indications.Opened ∷ indications.Discarded 1 ∷ indications.Invoked (pos 1) 0 None None ∷ [])
+        (place.told_a ≡ indications.Opened ∷ indications.Cut true (pos 1) ∷ indications.Discarded 1
+        ∷ indications.Transferred 2 ∷ [])
+        × (place.told_b ≡ indications.Opened ∷ indications.Discarded 1
+        ∷ indications.Invoked (pos 1) 0 None None ∷ [])
         × (place.ledger.deeds.b.arrived ≡ 2 ∷ [])) }
 {}

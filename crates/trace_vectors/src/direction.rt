@@ -151,7 +151,8 @@ impl Direction {
         text: &mut Text,
     ) -> Result<(), NoMemory>
         ensures { (sent : List ℕ) → StandsFor viewer.now.tables.now sent self.old
-            → OnOk result (ShownWith viewer.now.tables.now from sent octets.now self.new text.old text.new) }
+            → OnOk result (ShownWith viewer.now.tables.now from sent octets.now self.new
+            text.old text.new) }
     {
         if self.is_over {
             return Ok(());
@@ -188,7 +189,8 @@ impl Directions {
         text: &mut Text,
     ) -> Result<(), NoMemory>
         ensures { (sent : Sent) → BothStand viewer.now.tables.now sent self.old
-            → OnOk result (RecordShown viewer.now.tables.now recorded.now.from recorded.now.octets sent self.new text.old text.new) }
+            → OnOk result (RecordShown viewer.now.tables.now recorded.now.from recorded.now.octets
+            sent self.new text.old text.new) }
     {
         let octets = recorded.octets.as_slice();
         match recorded.from {
