@@ -5,4 +5,4 @@ pub returns : goal.returns
 returns c =
     IfOk-weaker c.run_world.result _ _
     (λ transcript runs. record { a_after = c.run_world.new.a; b_after = c.run_world.new.b; runs = runs })
-    c.run_world.ensures
+    c.run_world.ensures.laws
