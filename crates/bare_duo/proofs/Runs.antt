@@ -27,7 +27,7 @@ use Rattle.bare_end.specs.View.{EndView, base, body, seen, Stepped, StandsFor}
 use Rattle.bare_end.proofs.Histories.{stands_on}
 use Rattle.bare_duo.specs.Worlds.{ends_of, end_at, stepping, first_octets, Runs, rests, calls, carries, breaks}
 use Rattle.bare_duo.specs.Laws.{EveryRunKeepsLaws}
-use Rattle.bare_duo.specs.Ran.{StandsAt, Stand, RanFromStart}
+use Rattle.bare_duo.specs.Ran.{StandsAt, Stand, Told, RanFromStart}
 use Rattle.bare_duo.specs.Steps.{RunsOn, AnsweredOne, AnsweredAt, CarriedOver, CarriedFrom}
 
 -- ---- one run after another
@@ -190,21 +190,25 @@ runs_break a b a1 b1 e f setup t w s =
       };
     }
 
--- ---- a run from the start
+-- ---- the whole run, told
 
-pub from_start : EveryRunKeepsLaws → (all : List Event) (transcript : Transcript) (a b a1 b1 : EndView) → IsReadable a.tables → RunsOn all transcript.entries a b a1 b1 → transcript.mode ≡ a.config.mode → transcript.a ≡ a1.phase → transcript.b ≡ b1.phase
-    → (setup : Setup) → Stand setup a.tables [] a b → RanFromStart setup a.tables all transcript a1 b1
-from_start keeps all transcript a b a1 b1 readable runs m p q setup s =
-    let t = a.tables in
-    let r = runs setup t [] s in
+pub run_told : (all : List Event) (transcript : Transcript) (a b a1 b1 : EndView) → RunsOn all transcript.entries a b a1 b1 → transcript.mode ≡ a.config.mode → transcript.a ≡ a1.phase → transcript.b ≡ b1.phase
+    → (setup : Setup) (t : Tables) (w : World) → Stand setup t w a b → Told setup t w all transcript a1 b1
+run_told all transcript a b a1 b1 runs m p q setup t w s =
+    let r = runs setup t w s in
     record {
-      readable = readable;
       ran = r;
-      laws = keeps t setup all transcript.entries r.world readable r.runs;
       mode = m ∙ ap (λ (c : Config). c.mode) s.a_stands.config_is;
       a_phase = p ∙ ap (λ (x : End). x.body.link.phase) (its_end setup t A r.world a1 r.stand.a_stands);
       b_phase = q ∙ ap (λ (x : End). x.body.link.phase) (its_end setup t B r.world b1 r.stand.b_stands);
     }
+
+-- a run from the start is one of these
+pub from_start : EveryRunKeepsLaws → (all : List Event) (transcript : Transcript) (a b a1 b1 : EndView) → IsReadable a.tables → RunsOn all transcript.entries a b a1 b1 → transcript.mode ≡ a.config.mode → transcript.a ≡ a1.phase → transcript.b ≡ b1.phase
+    → (setup : Setup) → Stand setup a.tables [] a b → RanFromStart setup a.tables all transcript a1 b1
+from_start keeps all transcript a b a1 b1 readable runs m p q setup s =
+    let t : Told setup a.tables [] all transcript a1 b1 = run_told all transcript a b a1 b1 runs m p q setup a.tables [] s in
+    record { readable = readable; told = t; laws = keeps a.tables setup all transcript.entries t.ran.world readable t.ran.runs }
 
 -- ---- event after event
 

@@ -29,15 +29,23 @@ pub record Ran (setup : Setup) (tables : Tables) (w : World) (all : List Event) 
   pub runs : Runs (ends_of setup tables) w all told world
   pub stand : Stand setup tables world a b
 
+-- The transcript tells the run.
+pub record Told (setup : Setup) (tables : Tables) (w : World) (all : List Event) (transcript : Transcript) (a b : EndView) : Type 0 where
+  pub ran : Ran setup tables w all transcript.entries a b
+  pub mode : transcript.mode ≡ setup.a.mode
+  pub a_phase : transcript.a ≡ (end_at (ends_of setup tables) A ran.world).body.link.phase
+  pub b_phase : transcript.b ≡ (end_at (ends_of setup tables) B ran.world).body.link.phase
+
+-- From every world for which the ends stand, also where they made steps before.
+abbrev pub RunsTold : List Event → Transcript → EndView → EndView → EndView → EndView → Type 0
+RunsTold all transcript a b a_after b_after = (setup : Setup) (tables : Tables) (w : World) → Stand setup tables w a b → Told setup tables w all transcript a_after b_after
+
 -- The run of two ends that had made no step keeps the laws, and the transcript tells it. The tables are readable, as
 -- all tables are.
 pub record RanFromStart (setup : Setup) (tables : Tables) (all : List Event) (transcript : Transcript) (a b : EndView) : Type 0 where
   pub readable : IsReadable tables
-  pub ran : Ran setup tables [] all transcript.entries a b
-  pub laws : KeepsLaws tables (ends_of setup tables) transcript.entries ran.world
-  pub mode : transcript.mode ≡ setup.a.mode
-  pub a_phase : transcript.a ≡ (end_at (ends_of setup tables) A ran.world).body.link.phase
-  pub b_phase : transcript.b ≡ (end_at (ends_of setup tables) B ran.world).body.link.phase
+  pub told : Told setup tables [] all transcript a b
+  pub laws : KeepsLaws tables (ends_of setup tables) transcript.entries told.ran.world
 
 -- From every setup for which the ends stand and had made no step.
 abbrev pub RunsFromStart : List Event → Transcript → EndView → EndView → EndView → EndView → Type 0

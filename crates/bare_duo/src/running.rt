@@ -2,8 +2,9 @@
 
 ghost use Rattle.std.specs.Prelude.{IfOk};
 ghost use Rattle.dialogue.specs.declared.event.Event.TheVariants as the_events;
-ghost use Rattle.bare_duo.specs.Ran.{RunsFromStart};
-ghost use Rattle.bare_duo.specs.Steps.{AnsweredAt, AnsweredTo, CarriedOver, CarriedFrom, RunsOn, RunsOne};
+ghost use Rattle.bare_duo.specs.Ran.{RunsFromStart, RunsTold};
+ghost use Rattle.bare_duo.specs.Steps.{AnsweredAt, AnsweredTo, CarriedOver, CarriedFrom};
+ghost use Rattle.bare_duo.specs.Steps.{RunsOn, RunsOne};
 
 use crate::giving::give_octets;
 use crate::laws::every_run_keeps_laws;
@@ -161,8 +162,9 @@ fn run_events(
 /// refuses. A carry gives out at most so many octets of those that wait at its side, or all, and
 /// feeds exactly them to the other end. A break comes to both ends.
 ///
-/// Where the ends have made no step, have the same tables and the configurations of one setup, the
-/// run keeps the laws of two ends, and each end then stands for its own history of the run.
+/// Where the ends have the same tables and the configurations of one setup, the run is one by the
+/// rules from every world for which they stand, whatever they did before, and each end then stands
+/// for its own history with it. Where they have made no step, the run keeps the laws of two ends.
 ///
 /// The only error is want of memory. The run ends there, and of the ends only that is known which
 /// `End::call` and `End::feed` say.
@@ -172,7 +174,9 @@ pub fn run_world(
     b: &mut End<'_>,
     events: &Events,
 ) -> Result<Transcript, NoMemory>
-    ensures { IfOk result (λ transcript. RunsFromStart events.now transcript a.old b.old a.new
+    ensures told { IfOk result (λ transcript. RunsTold events.now transcript a.old b.old a.new
+        b.new) }
+    ensures laws { IfOk result (λ transcript. RunsFromStart events.now transcript a.old b.old a.new
         b.new) }
 {
     a.tables().is_readable();

@@ -272,8 +272,8 @@ end B up
     Ok(())
 }
 
-/// A schedule with a transfer of a value of 1,100 octets, which is interrupted behind its first mark
-/// and resumed.
+/// A schedule in which the transfer of a value of 1,100 octets is interrupted, resumed and confirmed,
+/// and the connection breaks behind it and is recovered.
 fn interrupted(alloc: Global) -> Result<String, AllocError> {
     let mut digits = String::new(alloc);
     for _ in 0..1100 {
@@ -281,39 +281,79 @@ fn interrupted(alloc: Global) -> Result<String, AllocError> {
     }
     format!(in alloc;
         "mode reliable 1 1
-context 7 packed der
+context 5 packed
+context 9 der
+context 7 ber packed
 A open
 carry A all
 carry B all
 carry A all
 carry B all
+A answer 2 4
+carry B 7
 A invoke 7 add 0
 carry A all
-carry B all
-A invoke 7 store '{digits}'H
-carry A all
-B answer 1 1
+B interrupt
+carry B 2
+A invoke 5 store '{digits}'H
+A answer 2 4
+carry B 140
+carry A 165
 A interrupt
-carry B all
-carry A all
-carry B all
+B invoke 9 add 8
+A resume
+B resume
+carry A 110
+carry A 158
+carry A 94
+carry A 182
+carry A 75
 A resume
 carry A all
 carry B all
+A answer 1 6
+A resume
+carry A 125
+carry A 119
 carry A all
+carry B 35
+B answer 1 7
+carry A all
+carry B 130
+break
+B resume
+A resume
+A recover
+carry A 176
+carry A 143
+A give
+carry B 66
+carry A 194
+carry B 132
+carry A all
+carry A all
+carry B 84
+carry B 62
+carry B 22
+carry A 55
+carry A 18
+A answer 1 7
+A resume
 "
     )
 }
 
-const INTERRUPTED_SUMMARY: &str = "events 19
-octets A>B 2604
-octets B>A 192
+/// What the model gave as the transcript of that schedule, summed up: how many events it has, octets
+/// each way, values taken, transfers and refused calls, and in which phases the ends are left.
+const INTERRUPTED_SUMMARY: &str = "events 55
+octets A>B 2902
+octets B>A 404
 values 2
 outcomes 0
 rejects 0
 cut 0
 transfers 2
-refused 0
+refused 12
 end A up
 end B up
 ";

@@ -1,5 +1,5 @@
 -- What is answered to a second file, case by case.
-use Rattle.std.proofs.Common.{ℕ, ◌≡◌, List, Option, Result, Ok, Err, Bool, true, false, refl, sym, ap, subst}
+use Rattle.std.proofs.Common.{ℕ, ◌≡◌, List, Option, Result, Ok, Err, Bool, refl, sym, ap, subst}
 use Rattle.osi_base.specs.Outside.{logged}
 use Rattle.stub_tables.specs.declared.tables.Tables.{Tables}
 use Rattle.script_lines.specs.declared.fault.ScriptFault.{ScriptFault}

@@ -25,13 +25,13 @@ module _ (a b : Config) (a_is : IsBare true a) (b_is : IsBare false b) where
       setup = setup;
       a_is = refl;
       b_is = refl;
-      world = run.ran.world;
-      runs = run.ran.runs;
+      world = run.told.ran.world;
+      runs = run.told.ran.runs;
       readable = run.readable;
       laws = run.laws;
-      mode = run.mode;
-      a_phase = run.a_phase;
-      b_phase = run.b_phase;
+      mode = run.told.mode;
+      a_phase = run.told.a_phase;
+      b_phase = run.told.b_phase;
     }
 
     pub runs : (x y x_after y_after : EndView) → x.tables ≡ tables → x.config ≡ a → StandsFor x [] → y.tables ≡ tables → y.config ≡ b → StandsFor y []

@@ -38,7 +38,8 @@ fn new_end<'t>(alloc: Global, tables: &'t Tables, config: Config) -> Result<End<
     }
 }
 
-/// Runs events over two ends, which end with them.
+/// Runs events over two ends, which are let go behind them: each by a call, since what such an end
+/// holds is much to let go where a function ends.
 fn run_ends(
     alloc: Global,
     mut a: End<'_>,
@@ -47,7 +48,10 @@ fn run_ends(
 ) -> Result<Transcript, NoMemory>
     ensures { IfOk result (RanOver events.now a.entry b.entry) }
 {
-    run_world(alloc, &mut a, &mut b, events)
+    let told = run_world(alloc, &mut a, &mut b, events);
+    drop(a);
+    drop(b);
+    told
 }
 
 /// Runs the events of a schedule of direct or of reliable mode over two new ends with the
@@ -66,6 +70,11 @@ pub fn run_associated(
     tables.is_readable();
     let Schedule { setup, events } = schedule;
     let a = new_end(alloc, tables, setup.a)?;
-    let b = new_end(alloc, tables, setup.b)?;
-    run_ends(alloc, a, b, &events)
+    match new_end(alloc, tables, setup.b) {
+        Ok(b) => run_ends(alloc, a, b, &events),
+        Err(fault) => {
+            drop(a);
+            Err(fault)
+        }
+    }
 }

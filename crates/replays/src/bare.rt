@@ -31,7 +31,8 @@ fn new_end<'t>(alloc: Global, tables: &'t Tables, config: Config) -> Result<End<
     }
 }
 
-/// Runs events over two ends, which end with them.
+/// Runs events over two ends, which are let go behind them: each by a call, since what such an end
+/// holds is much to let go where a function ends.
 fn run_ends(
     alloc: Global,
     mut a: End<'_>,
@@ -40,7 +41,10 @@ fn run_ends(
 ) -> Result<Transcript, NoMemory>
     ensures { IfOk result (BareRanOver events.now a.entry b.entry) }
 {
-    run_world(alloc, &mut a, &mut b, events)
+    let told = run_world(alloc, &mut a, &mut b, events);
+    drop(a);
+    drop(b);
+    told
 }
 
 /// Runs the events of a schedule of bare mode over two new ends with the configurations of its
@@ -52,6 +56,11 @@ pub fn run_bare(alloc: Global, tables: &Tables, schedule: Schedule) -> Result<Tr
 {
     let Schedule { setup, events } = schedule;
     let a = new_end(alloc, tables, setup.a)?;
-    let b = new_end(alloc, tables, setup.b)?;
-    run_ends(alloc, a, b, &events)
+    match new_end(alloc, tables, setup.b) {
+        Ok(b) => run_ends(alloc, a, b, &events),
+        Err(fault) => {
+            drop(a);
+            Err(fault)
+        }
+    }
 }

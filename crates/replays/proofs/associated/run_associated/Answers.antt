@@ -5,10 +5,10 @@ use Rattle.schedule_text.specs.Schedules.{said}
 use Rattle.replays.proofs.AssociatedRuns.{scheduled}
 use Rattle.replays.proofs.associated.run_associated.Goals as goal
 
-pub returns : goal.returns
-returns c =
+pub returns-in-Ok : goal.returns-in-Ok
+returns-in-Ok c =
     IfOk-weaker c.run_ends.result _ _
-    (λ transcript over. scheduled c.associated_runs_keep_laws.ensures.direct c.associated_runs_keep_laws.ensures.reliable c.args.tables.now c.is_readable.ensures c.requires.typed (said c.args.schedule) c.requires.set_up c.requires.associated transcript c.in_ok-a.a c.in_ok-b.b c.in_ok-a.ensures.made c.in_ok-a.ensures.new c.in_ok-b.ensures.made c.in_ok-b.ensures.new over)
+    (λ transcript over. scheduled c.associated_runs_keep_laws.ensures.direct c.associated_runs_keep_laws.ensures.reliable c.args.tables.now c.is_readable.ensures c.requires.typed (said c.args.schedule) c.requires.set_up c.requires.associated transcript c.in_ok-a.a c.in-Ok.b c.in_ok-a.ensures.made c.in_ok-a.ensures.new c.in-Ok.ensures.made c.in-Ok.ensures.new over)
     c.run_ends.ensures
 
 pub new_end-requires-clause-associated : goal.new_end-requires-clause-associated
@@ -25,6 +25,3 @@ new_end-requires-2-clause-accepted c = c.requires.set_up.of_b.accepted
 
 pub returns-in_err-a : goal.returns-in_err-a
 returns-in_err-a c = IfOk-from_err c.from_residual.result _ c.from_residual.ensures.0
-
-pub returns-in_err-b : goal.returns-in_err-b
-returns-in_err-b c = IfOk-from_err c.from_residual-in_err-b.result _ c.from_residual-in_err-b.ensures.0
