@@ -1,3 +1,4 @@
+pub mod Added
 pub mod Lists
 pub mod Forth
 pub mod Back

@@ -1,11 +1,12 @@
 //! The fixed table of the heads of APDUs.
 
-ghost use Rattle.std.specs.Prelude.{slice_get, take, Some, ◌≡◌, IfOk, OnOk, ◌++◌, ◌∷◌, []};
+ghost use Rattle.std.specs.Prelude.{◌≡◌, IfOk};
 ghost use Rattle.apdu_spelling.specs.Rows as table;
 ghost use Rattle.apdu_spelling.specs.Rows.{head_rows, tagged};
 
-use asn1_types::{Class, Part, Parts, TypeId, TypeRow, TypeTable};
-use osi_base::{ListOf, Name, NoMemory};
+use asn1_types::{Class, Parts, TypeId, TypeRow, TypeTable};
+use fixed_tables::{part, table_of, tagged};
+use osi_base::{ListOf, NoMemory};
 use std::alloc::Global;
 use std::marker::Model;
 
@@ -30,23 +31,6 @@ impl Model for Heads {
     ghost view = { λ heads. tt };
 
     ghost invariant = { λ heads. heads.types ≡ head_rows };
-}
-
-/// A part, or one that may lack.
-fn part(alloc: Global, name: &str, row: u32, optional: bool) -> Result<Part, NoMemory>
-    ensures { IfOk result (λ p. p ≡ record {
-      name = name.now;
-      inner = record { 0 = row };
-      optional = optional;
-      default = None;
-    }) }
-{
-    Ok(Part {
-        name: Name::from_str(alloc, name)?,
-        inner: TypeId(row),
-        optional,
-        default: None,
-    })
 }
 
 fn code_kinds(alloc: Global) -> Result<Parts, NoMemory>
@@ -179,111 +163,65 @@ fn packed_apdu_kinds(alloc: Global) -> Result<Parts, NoMemory>
     Ok(parts)
 }
 
-/// Puts a row of the fixed table behind the others, which is never refused but for memory.
-fn add(types: &mut TypeTable, row: TypeRow) -> Result<(), NoMemory>
-    ensures { OnOk result (types.new ≡ types.old ++ row ∷ []) }
+/// A context tag in the place of a row's own.
+fn implicit(number: u32, inner: u32) -> TypeRow
+    ensures { result ≡ tagged number inner }
 {
-    match types.add(row) {
-        Ok(_) => Ok(()),
-        Err(_) => Err(NoMemory),
-    }
+    tagged(Class::Context, number, false, inner)
 }
 
-/// Puts a tag of the context class in the place of a row's own.
-fn add_tagged(types: &mut TypeTable, number: u32, inner: u32) -> Result<(), NoMemory>
-    ensures { OnOk result (types.new ≡ types.old ++ tagged number inner ∷ []) }
+/// All rows.
+fn all_rows(alloc: Global) -> Result<Vec<TypeRow>, NoMemory>
+    ensures { IfOk result (λ rows. rows.items ≡ head_rows) }
 {
-    add(
-        types,
-        TypeRow::Tagged {
-            class: Class::Context,
-            number,
-            explicit: false,
-            inner: TypeId(inner),
-        },
-    )
-}
-
-/// The rows of identifiers and codes, of marks, and of what is carried.
-fn add_fields(alloc: Global, types: &mut TypeTable) -> Result<(), NoMemory>
-    requires { types.old ≡ [] }
-    ensures { OnOk result (types.new ≡ take 8 head_rows) }
-{
-    add(
-        types,
+    Ok(vec![in alloc;
         TypeRow::Integer {
             low: -2_147_483_648,
-            high: 2_147_483_647,
+            high: 2_147_483_647
         },
-    )?;
-    add(
-        types,
         TypeRow::Integer {
             low: i64::MIN,
-            high: i64::MAX,
+            high: i64::MAX
         },
-    )?;
-    add(types, TypeRow::ObjectId)?;
-    add(types, TypeRow::Choice(code_kinds(alloc)?))?;
-    add(types, TypeRow::Null)?;
-    add(types, TypeRow::Boolean)?;
-    add(types, TypeRow::Any)?;
-    add_tagged(types, 0, 0)
-}
-
-/// The rows of problems and rejects.
-fn add_rejects(alloc: Global, types: &mut TypeTable) -> Result<(), NoMemory>
-    requires { types.old ≡ take 8 head_rows }
-    ensures { OnOk result (types.new ≡ take 16 head_rows) }
-{
-    add_tagged(types, 0, 1)?;
-    add_tagged(types, 1, 1)?;
-    add_tagged(types, 2, 1)?;
-    add_tagged(types, 3, 1)?;
-    add(types, TypeRow::Choice(problem_kinds(alloc)?))?;
-    add(types, TypeRow::Choice(rejected_kinds(alloc)?))?;
-    add(types, TypeRow::Sequence(reject_parts(alloc)?))?;
-    add_tagged(types, 4, 14)
-}
-
-/// The rows of BER and DER.
-fn add_ber(alloc: Global, types: &mut TypeTable) -> Result<(), NoMemory>
-    requires { types.old ≡ take 16 head_rows }
-    ensures { OnOk result (types.new ≡ take 24 head_rows) }
-{
-    add(types, TypeRow::Sequence(invoke_parts(alloc)?))?;
-    add_tagged(types, 1, 16)?;
-    add(types, TypeRow::Sequence(returned_parts(alloc)?))?;
-    add(types, TypeRow::Sequence(result_parts(alloc)?))?;
-    add_tagged(types, 2, 19)?;
-    add(types, TypeRow::Sequence(error_parts(alloc)?))?;
-    add_tagged(types, 3, 21)?;
-    add(types, TypeRow::Choice(apdu_kinds(alloc)?))
-}
-
-/// The rows of the packed syntax.
-fn add_packed(alloc: Global, types: &mut TypeTable) -> Result<(), NoMemory>
-    requires { types.old ≡ take 24 head_rows }
-    ensures { OnOk result (types.new ≡ head_rows) }
-{
-    add(types, TypeRow::Sequence(packed_invoke_parts(alloc)?))?;
-    add_tagged(types, 1, 24)?;
-    add(types, TypeRow::Sequence(packed_result_parts(alloc)?))?;
-    add_tagged(types, 2, 26)?;
-    add(types, TypeRow::Sequence(packed_error_parts(alloc)?))?;
-    add_tagged(types, 3, 28)?;
-    add(types, TypeRow::Choice(packed_apdu_kinds(alloc)?))
+        TypeRow::ObjectId,
+        TypeRow::Choice(code_kinds(alloc)?),
+        TypeRow::Null,
+        TypeRow::Boolean,
+        TypeRow::Any,
+        implicit(0, 0),
+        implicit(0, 1),
+        implicit(1, 1),
+        implicit(2, 1),
+        implicit(3, 1),
+        TypeRow::Choice(problem_kinds(alloc)?),
+        TypeRow::Choice(rejected_kinds(alloc)?),
+        TypeRow::Sequence(reject_parts(alloc)?),
+        implicit(4, 14),
+        TypeRow::Sequence(invoke_parts(alloc)?),
+        implicit(1, 16),
+        TypeRow::Sequence(returned_parts(alloc)?),
+        TypeRow::Sequence(result_parts(alloc)?),
+        implicit(2, 19),
+        TypeRow::Sequence(error_parts(alloc)?),
+        implicit(3, 21),
+        TypeRow::Choice(apdu_kinds(alloc)?),
+        TypeRow::Sequence(packed_invoke_parts(alloc)?),
+        implicit(1, 24),
+        TypeRow::Sequence(packed_result_parts(alloc)?),
+        implicit(2, 26),
+        TypeRow::Sequence(packed_error_parts(alloc)?),
+        implicit(3, 28),
+        TypeRow::Choice(packed_apdu_kinds(alloc)?),
+    ]?)
 }
 
 impl Heads {
-    /// The fixed table of heads.
+    /// The fixed table of heads, which only want of memory can refuse.
+    #[tactic(auto, using(crate::proofs::Added::head_rows_added))]
     pub fn new(alloc: Global) -> Result<Heads, NoMemory> {
-        let mut types = TypeTable::new(alloc);
-        add_fields(alloc, &mut types)?;
-        add_rejects(alloc, &mut types)?;
-        add_ber(alloc, &mut types)?;
-        add_packed(alloc, &mut types)?;
-        Ok(Heads { types })
+        Ok(Heads {
+            types: table_of(alloc, all_rows(alloc)?)?,
+        })
     }
 
     /// The rows of the fixed table.

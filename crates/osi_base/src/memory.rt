@@ -9,7 +9,6 @@ ghost use Rattle.osi_base.specs.Memory.{contents_in};
 
 use crate::copied::Copied;
 use crate::failing::FailingCalls;
-use crate::fault::NoMemory;
 use crate::files::{FILE_MOST, FileFault, Files};
 use crate::line::Outcome;
 use crate::list::ListOf;
@@ -93,13 +92,18 @@ fn cut(contents: &[u8]) -> &[u8]
     &contents[..FILE_MOST.min(contents.len())]
 }
 
-/// What is handed up of the first file of this name, where there is one.
-fn read_in(files: &[MemFile], alloc: Global, name: &Name) -> Result<Option<Octets>, NoMemory>
-    ensures { IfOk result (λ contents. contents ≡ contents_in files.now name.now) }
+/// What is handed up of the first file of this name.
+#[tactic(auto, using(crate::proofs::Contents::contents_in_bounded))]
+fn read_in(files: &[MemFile], alloc: Global, name: &Name) -> Result<Octets, FileFault>
+    ensures contents { IfOk result (λ octets. contents_in files.now name.now ≡ Some octets) }
+    ensures bounded { IfSome (contents_in files.now name.now)
+        (λ octets. length octets ≤ file_most) }
+    ensures missing { IsErrOf result FileFault.Missing → contents_in files.now name.now ≡ None }
+    ensures never_failed { ¬ (IsErrOf result FileFault.Failed) }
 {
     match find_file(files, name) {
-        None => Ok(None),
-        Some(file) => Ok(Some(Octets::from_slice(alloc, cut(file.contents.as_slice()))?)),
+        None => Err(FileFault::Missing),
+        Some(file) => Ok(Octets::from_slice(alloc, cut(file.contents.as_slice()))?),
     }
 }
 
@@ -142,12 +146,17 @@ impl Files for MemFiles {
             ≡ self.old.asked.items }
     {
         let title = name.copy(alloc)?;
-        let contents = read_in(self.files.as_slice(), alloc, name)?;
-        self.asked.push(title)?;
-        if self.failing.is_next() {
-            return Err(FileFault::Failed);
+        self.asked.reserve(1)?;
+        let contents = match self.failing.next_outcome() {
+            Outcome::Failed => Err(FileFault::Failed),
+            Outcome::Done => read_in(self.files.as_slice(), alloc, name),
+        };
+        if let Err(FileFault::NoMemory) = contents {
+            return Err(FileFault::NoMemory);
         }
-        contents.ok_or(FileFault::Missing)
+        self.asked.push(title)?;
+        self.failing.is_next();
+        contents
     }
 }
 
@@ -161,9 +170,13 @@ impl Files for SureFiles {
 
     fn read(&mut self, alloc: Global, name: &Name) -> Result<Octets, FileFault> {
         let title = name.copy(alloc)?;
-        let contents = read_in(self.files.as_slice(), alloc, name)?;
+        self.asked.reserve(1)?;
+        let contents = read_in(self.files.as_slice(), alloc, name);
+        if let Err(FileFault::NoMemory) = contents {
+            return Err(FileFault::NoMemory);
+        }
         self.asked.push(title)?;
-        contents.ok_or(FileFault::Missing)
+        contents
     }
 }
 

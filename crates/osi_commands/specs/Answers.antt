@@ -54,7 +54,7 @@ KeepsCount old new answer = is_read_fault answer.status ≡ false → new ≡ ol
 
 -- How a run ends that has this answer, by the sink's count of faults and what it tells, both before and after:
 -- all is written, or a beginning of it, and writing failed or memory was refused. The count is as it was unless
--- writing failed, so no write is tried again.
+-- writing failed, so a failed write isn't told as done or as want of memory.
 pub data EndedWith (old new : ℕ) (before after : Option (List ℕ)) (answer : Answer) : Status → Type 0 where
   whole : new ≡ old → after ≡ grown before answer.text → EndedWith old new before after answer answer.status
   failed : FaultsRose old new → GrewPart before after answer.text → EndedWith old new before after answer WriteFault

@@ -7,7 +7,7 @@ use Rattle.osi_commands.specs.declared.process.Arguments.TheVariants.{Given, Not
 use Rattle.osi_commands.specs.Statuses.{exit_code}
 use Rattle.osi_commands.specs.Answers.{Closes}
 use Rattle.osi_commands.specs.Commands.{command_of}
-use Rattle.osi_commands.specs.TopCall.{IsAnswer}
+use Rattle.osi_commands.specs.TopCall.{IsAnswer, AskedAtEnd}
 
 -- the words that arguments give: all but the first, which is the program's name; none where one is no text
 abbrev pub words_given : Arguments → List (List ℕ)
@@ -15,8 +15,10 @@ words_given (Given arguments) = map (λ argument. string_bytes argument) (drop 1
 words_given NotText = []
 words_given Unread = []
 
--- The process ends with the number of the status with which the top call ends for these words.
-pub record Exits (told : Option FileMap) (old new : ℕ) (words : List (List ℕ)) (sink_old sink_new : ℕ) (before after : Option (List ℕ)) (code : ℕ) : Type 0 where
+-- The process ends with the number of the status with which the top call ends for these words; the names of files that were
+-- asked for are `first` before the call and `last` after it.
+pub record Exits (told : Option FileMap) (old new : ℕ) (words : List (List ℕ)) (first last : Option (List (List ℕ))) (sink_old sink_new : ℕ) (before after : Option (List ℕ)) (code : ℕ) : Type 0 where
   pub status : Status
   pub closes : Closes (IsAnswer told old new (command_of words)) old new sink_old sink_new before after status
+  pub asked : AskedAtEnd (command_of words) first last status
   pub code_is : code ≡ exit_code status

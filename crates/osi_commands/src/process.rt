@@ -1,9 +1,10 @@
 //! The program as a process: its arguments in, the number with which it ends out.
 
-ghost use Rattle.std.specs.Prelude.{◌≡◌, IfOk, map, drop, string_bytes};
+ghost use Rattle.std.specs.Prelude.{◌≡◌, IfOk, IsErr, map, drop, string_bytes};
 ghost use Rattle.osi_commands.specs.Commands.{command_of};
 ghost use Rattle.osi_commands.specs.TopCall.{Asks};
 ghost use Rattle.osi_commands.specs.Process.{words_given, Exits};
+ghost use Rattle.osi_commands.specs.Statuses.{exit_code};
 
 use crate::statuses::exit_code;
 use crate::top::osi_run;
@@ -38,7 +39,8 @@ fn words_of(alloc: Global, arguments: &[String]) -> Result<Words, NoMemory>
 
 /// The words that arguments give.
 fn read_words(alloc: Global, arguments: Arguments) -> Result<Words, NoMemory>
-    ensures { IfOk result (λ words. words ≡ words_given arguments) }
+    ensures words { IfOk result (λ words. words ≡ words_given arguments) }
+    ensures unread { arguments ≡ Arguments.Unread → IsErr result }
 {
     match arguments {
         Arguments::Given(arguments) => words_of(alloc, arguments.as_slice()),
@@ -48,7 +50,8 @@ fn read_words(alloc: Global, arguments: Arguments) -> Result<Words, NoMemory>
 }
 
 /// Runs the program with the words that these arguments give, and answers the number of the status
-/// with which it ends. Arguments of which one is no UTF-8 are no command.
+/// with which it ends. Arguments of which one is no UTF-8 are no command, and where memory was
+/// refused for them the status is that of want of memory. The line isn't used.
 pub fn run_process<F: Files, O: Sink, L: Line>(
     alloc: Global,
     arguments: Arguments,
@@ -57,10 +60,12 @@ pub fn run_process<F: Files, O: Sink, L: Line>(
     line: &mut L,
 ) -> u8
     ensures exits { Exits (F.told files.old) (F.faults files.old) (F.faults files.new)
-        (words_given arguments) (O.faults out.old) (O.faults out.new) (O.told out.old)
-        (O.told out.new) result }
+        (words_given arguments) (F.asked files.old) (F.asked files.new) (O.faults out.old)
+        (O.faults out.new) (O.told out.old) (O.told out.new) result }
+    ensures unread { arguments ≡ Arguments.Unread → result ≡ exit_code Status.NoMemory }
     ensures asked { Asks (F.told files.old) (F.faults files.old) (F.faults files.new)
         (command_of (words_given arguments)) (F.asked files.old) (F.asked files.new) }
+    ensures line { line.new ≡ line.old }
 {
     match read_words(alloc, arguments) {
         Ok(words) => exit_code(osi_run(alloc, &words, files, out, line)),

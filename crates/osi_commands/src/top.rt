@@ -105,8 +105,8 @@ fn run_words<F: Files, O: Sink>(alloc: Global, words: &Words, files: &mut F, out
 /// - `NoMemory`: an allocation was refused; a beginning of the text, or none of it, was written.
 ///
 /// The words come first, then the module, the second file and the run: the first fault decides. A
-/// file that isn't due isn't asked for, and neither a read nor a write that failed is tried again.
-/// The line isn't used.
+/// file that isn't due isn't asked for, and one that failed isn't read again. A write that failed is
+/// told as that. The line isn't used.
 pub fn osi_run<F: Files, O: Sink, L: Line>(
     alloc: Global,
     words: &Words,
