@@ -11,7 +11,8 @@ use Rattle.end_rules.specs.ByItself.{OwnAct, next_own}
 use Rattle.end_rules.specs.Reacting.{Reaction, Passes, Takes, Fails, react}
 use Rattle.end_rules.specs.History.{Step, took, answered, passed, fault, aborted, broke, call_steps, step_of}
 use Rattle.end_rules.specs.World.{World, Ends, base_at, body_at}
-use Rattle.end_rules.specs.Cases.{base_for, opening, invokes, Event, CallsA, CallsB, TakesA, TakesB, Breaks}
+use Rattle.end_rules.specs.Base.{ber_name}
+use Rattle.end_rules.specs.Cases.{base_for, opening, invokes, adds, deletes, Event, CallsA, CallsB, TakesA, TakesB, Breaks}
 use Rattle.run_laws.specs.Passing.{Passed, sent_in}
 
 abbrev pub ends_in : Mode → Ends
@@ -96,3 +97,18 @@ answered_once = opening ++ CallsA invokes ∷ TakesB ∷ CallsB (the_calls.Answe
 
 abbrev pub broken_off : List Event
 broken_off = answered_once ++ CallsA invokes ∷ Breaks ∷ []
+
+-- context 7 is added
+abbrev pub with_context_seven : List Event
+with_context_seven = opening ++ CallsA (adds 7 ber_name) ∷ TakesB ∷ TakesA ∷ []
+
+abbrev pub invokes_on : ℕ → Call
+invokes_on id = the_calls.Invoke id 0 None None
+
+-- a deletion of context 7 and an invocation on it cross
+abbrev pub crossed_deletion : List Event
+crossed_deletion = with_context_seven ++ CallsA (deletes 7) ∷ CallsB (invokes_on 7) ∷ TakesA ∷ TakesB ∷ TakesA ∷ []
+
+-- an invocation on context 7 and its result, and the context is deleted behind them
+abbrev pub deleted_later : List Event
+deleted_later = with_context_seven ++ CallsA (invokes_on 7) ∷ TakesB ∷ CallsB (the_calls.Answer (pos 1) None) ∷ TakesA ∷ CallsA (deletes 7) ∷ TakesB ∷ TakesA ∷ []

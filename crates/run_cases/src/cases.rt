@@ -4,10 +4,13 @@ ghost use Rattle.std.specs.Prelude.{◌≡◌, [], ◌∷◌, length, map, pos, 
 ghost use Rattle.osi_base.specs.declared.words.Side.TheVariants.{A, B};
 ghost use Rattle.dialogue.specs.declared.config.Mode.TheVariants.{Direct, Reliable};
 ghost use Rattle.end_rules.specs.World.{shared_at, holds_at};
-ghost use Rattle.end_rules.specs.Cases.{opening, collision, crossing_restarts, transfer, acse_alone, with_five, in_ber, module_name};
+ghost use Rattle.end_rules.specs.Cases.{opening, collision, crossing_restarts, transfer};
+ghost use Rattle.end_rules.specs.Cases.{acse_alone, with_five, with_seven, in_ber, module_name};
 ghost use Rattle.run_laws.specs.Passing.{readings, sendings};
 ghost use Rattle.run_laws.specs.Transfers.{arrivals, encodings};
-ghost use Rattle.run_cases.specs.Cases.{ends_in, world_of, all_read, pairs_sent, pairs_read, answered_once, broken_off};
+ghost use Rattle.run_cases.specs.Cases.{ends_in, world_of, all_read, pairs_sent, pairs_read};
+ghost use Rattle.run_cases.specs.Cases.{answered_once, broken_off, crossed_deletion, deleted_later};
+ghost use Rattle.run_cases.specs.Copies.{pairs_by, set_dropping, set_newest};
 
 /// An opening in direct mode: each message is taken as it was sent, the accepted contexts are
 /// shared, and the initiator alone holds the token.
@@ -38,6 +41,30 @@ pub fn alterations_that_cross_are_shared()
     ensures shared { (shared_at (ends_in Direct) (world_of Direct collision)).set ≡ acse_alone }
     ensures read { let w = world_of Direct collision in
         (length (readings A w) ≡ 4) × (length (readings B w) ≡ 4) }
+{}
+
+/// A deletion of a context and an invocation on it cross: the invocation is sent and read under the
+/// pair that the context still has, and the deletion is rejected. A set that drops a context at its
+/// proposal gives the value no pair.
+pub fn deletion_waits_for_its_answer()
+    ensures pairs { let w = world_of Direct crossed_deletion in
+        (pairs_sent (sendings (ends_in Direct) B w) ≡ Some (in_ber module_name) ∷ [])
+        × (pairs_read (readings A w) ≡ Some (in_ber module_name) ∷ []) }
+    ensures shared { (shared_at (ends_in Direct) (world_of Direct crossed_deletion)).set
+        ≡ with_seven }
+    ensures dropped { pairs_by (set_dropping (ends_in Direct)) B (world_of Direct crossed_deletion)
+        ≡ None ∷ [] }
+{}
+
+/// A context is deleted behind an invocation on it: the invocation was sent and read under the pair
+/// of its sending. The newest set gives the value no pair.
+pub fn value_has_the_pair_of_its_sending()
+    ensures pairs { let w = world_of Direct deleted_later in
+        (pairs_sent (sendings (ends_in Direct) A w) ≡ Some (in_ber module_name) ∷ [])
+        × (pairs_read (readings B w) ≡ Some (in_ber module_name) ∷ []) }
+    ensures shared { (shared_at (ends_in Direct) (world_of Direct deleted_later)).set ≡ with_five }
+    ensures newest { let w = world_of Direct deleted_later in
+        pairs_by (set_newest (ends_in Direct) w) A w ≡ None ∷ [] }
 {}
 
 /// Restarts to 3 and to 2 cross: the one to 3 is passed over, and the initiator holds the token.
