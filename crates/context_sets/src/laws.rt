@@ -34,6 +34,7 @@ fn confirm_fitting(asking: &mut Contexts, answers: &Answers)
     requires { mismatch (oldest asking.old.own) answers.now ≡ None }
     ensures set { asking.new.set ≡ altered (oldest asking.old.own) answers.now asking.old.set }
     ensures own { asking.new.own ≡ later asking.old.own }
+    ensures initiator { asking.new.initiator ≡ asking.old.initiator }
 {
     // Answers that fit are taken, so this can't fail.
     let _ = asking.confirm(answers);
@@ -58,6 +59,9 @@ pub fn settle_between(
     ensures agree { OnOk result (asking.old.set ≡ answering.old.set →
         asking.new.set ≡ answering.new.set) }
     ensures settled { OnOk result (asking.new.own ≡ later asking.old.own) }
+    ensures kept { answering.new.own ≡ answering.old.own }
+    ensures asking_role { asking.new.initiator ≡ asking.old.initiator }
+    ensures answering_role { answering.new.initiator ≡ answering.old.initiator }
     ensures err { OnErr result (asking.new ≡ asking.old) }
     ensures err_answering { OnErr result (answering.new.set ≡ answering.old.set) }
 {
