@@ -1,7 +1,7 @@
 //! The faults of a module that its types show as a whole.
 #![tactic(auto, using(crate::proofs::LeastLaws::least_append, crate::proofs::LeastLaws::least_two))]
 
-ghost use Rattle.std.specs.Prelude.{◌≡◌, ◌+◌, ℕ, Some, true, false, slice_get, IfOk, OnOk, length, slice_set};
+ghost use Rattle.std.specs.Prelude.{◌≡◌, ◌+◌, ◌≤◌, ◌^◌, ℕ, Some, true, false, slice_get, IfErr, IfOk, OnOk, length, slice_set};
 ghost use Rattle.std.specs.List.{list_all};
 ghost use Rattle.module_faults.specs.Least.{least_from};
 ghost use Rattle.module_faults.specs.Recursion.{type_uses};
@@ -195,8 +195,10 @@ pub(crate) fn first_recursive(
     standings: &[Standing],
     least: &mut Least,
 ) -> Result<(), NoMemory>
-    ensures { OnOk result (least.new.found ≡ least_from least.old.found
+    ensures found { OnOk result (least.new.found ≡ least_from least.old.found
         (first_recursive (says standings.now) 0 assignments.now)) }
+    // Only more assignments than places can count are refused.
+    ensures refused { IfErr result (λ _. 2 ^ 32 ≤ length assignments.now) }
 {
     let mut rest = assignments;
     let mut place: u32 = 0;

@@ -1,6 +1,6 @@
 //! Which assignments reach themselves by names used as types.
 
-ghost use Rattle.std.specs.Prelude.{◌≡◌, ◌<◌, ℕ, true, length, slice_get, IfOk, IsTrue};
+ghost use Rattle.std.specs.Prelude.{◌≡◌, ◌<◌, ◌^◌, ℕ, true, length, slice_get, IfOk, IsTrue};
 ghost use Rattle.std.specs.Option.{option_copied};
 ghost use Rattle.module_faults.specs.Recursion.{list_at};
 ghost use Rattle.module_faults.specs.Standings.{says, falls_to, all_fall, is_lower, leads_to, goes_on, is_earlier, is_place, comes_from, is_shown_by, is_shown, AreShown};
@@ -129,7 +129,8 @@ fn is_shown(uses: &UseLists, standings: &[Standing], place: u32) -> bool
 
 /// Whether all that is said is so.
 pub(crate) fn are_shown(uses: &UseLists, standings: &[Standing]) -> bool
-    ensures { IsTrue result → AreShown uses.now standings.now }
+    ensures shown { IsTrue result → AreShown uses.now standings.now }
+    ensures whole { AreShown uses.now standings.now → length uses.now < 2 ^ 32 → IsTrue result }
 {
     if standings.len() != uses.len() {
         return false;
