@@ -1,3 +1,4 @@
+pub mod Added
 pub mod Folding
 pub mod Seen
 pub mod Sizes

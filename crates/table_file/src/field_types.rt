@@ -3,7 +3,8 @@
 ghost use Rattle.std.specs.Prelude.{◌≡◌, IfOk};
 ghost use Rattle.table_file.specs.FieldTypes.{field_types};
 
-use asn1_types::{RowRefusal, TypeId, TypeRow, TypeTable};
+use asn1_types::{TypeId, TypeRow, TypeTable};
+use fixed_tables::table_of;
 use osi_base::NoMemory;
 use std::alloc::Global;
 
@@ -13,20 +14,16 @@ pub(crate) const INTEGER: TypeId = TypeId(0);
 /// The type OBJECT IDENTIFIER.
 pub(crate) const OBJECT_ID: TypeId = TypeId(1);
 
-/// INTEGER and OBJECT IDENTIFIER, as a table of types.
+/// INTEGER and OBJECT IDENTIFIER, as a table of types. Only want of memory can refuse it.
+#[tactic(auto, using(crate::proofs::Added::field_types_added))]
 pub(crate) fn field_types(alloc: Global) -> Result<TypeTable, NoMemory>
     ensures { IfOk result (λ types. types ≡ field_types) }
 {
-    let mut types = TypeTable::new(alloc);
-    let integer = TypeRow::Integer {
+    let mut rows = Vec::new(alloc);
+    rows.push(TypeRow::Integer {
         low: i64::MIN,
         high: i64::MAX,
-    };
-    if types.add(integer).is_err() {
-        return Err(NoMemory);
-    }
-    if types.add(TypeRow::ObjectId).is_err() {
-        return Err(NoMemory);
-    }
-    Ok(types)
+    })?;
+    rows.push(TypeRow::ObjectId)?;
+    table_of(alloc, rows)
 }
