@@ -1,5 +1,5 @@
 -- What stands behind aliases: over more turns the same.
-use Rattle.std.proofs.Common.{◌≡◌, ℕ, zero, suc, ◌+◌, ◌≤◌, true, List, [], ◌∷◌, ◌++◌, length, Option, Some, None, refl, sym, ap, subst, ◌∙◌, arith, inl, inr}
+use Rattle.std.proofs.Common.{◌≡◌, ℕ, zero, suc, ◌+◌, ◌≤◌, true, false, List, [], ◌∷◌, ◌++◌, length, Option, Some, None, refl, sym, ap, subst, ◌∙◌, arith, inl, inr}
 use Rattle.std.specs.Prelude.{replicate, slice_get, slice_set, ◌⊎◌}
 use Rattle.operation_notation.specs.Tree.{TypeTree}
 use Rattle.operation_notation.specs.declared.module.Assignment.{Assignment}
@@ -101,6 +101,33 @@ plain_here assignments t place (Some of) e = go (alias of) e
 pub behind_plain : (assignments : List Assignment) (place : ℕ) → is_plain (type_at assignments place) ≡ true → behind_by assignments (suc 0) place ≡ Some place
 unfolding behind_by
 behind_plain assignments place e = plain_here assignments 0 place (type_at assignments place) e
+
+-- a type that is no alias stands behind itself
+pub behind_here : (assignments : List Assignment) (t place : ℕ) → is_plain (type_at assignments place) ≡ true → behind_by assignments (suc t) place ≡ Some place
+unfolding behind_by
+behind_here assignments t place e = plain_here assignments t place (type_at assignments place) e
+
+stops_here : (assignments : List Assignment) (t place : ℕ) (o : Option TypeTree) → is_plain o ≡ false → or_none (or_none o alias) (find assignments) ≡ None → or_none o (λ of. beyond assignments (behind_by assignments t) place of (alias of)) ≡ None
+stops_here assignments t place None p e = refl
+stops_here assignments t place (Some of) p e = go (alias of) p e
+  where
+    go : (n : Option (List ℕ)) → is_none n ≡ false → or_none n (find assignments) ≡ None → beyond assignments (behind_by assignments t) place of n ≡ None
+    go None p h = absurd cc
+    go (Some name) p h = ap (λ (q : Option ℕ). or_none q (behind_by assignments t)) h
+
+-- behind an alias of no type stands none
+pub behind_stops : (assignments : List Assignment) (t place : ℕ) → is_plain (type_at assignments place) ≡ false → step assignments place ≡ None → behind_by assignments (suc t) place ≡ None
+unfolding behind_by
+behind_stops assignments t place p e = stops_here assignments t place (type_at assignments place) p e
+
+-- over no more turns none is found
+pub behind_over : (assignments : List Assignment) (place : ℕ) → behind_by assignments zero place ≡ None
+unfolding behind_by
+behind_over assignments place = refl
+
+pub behind_is : (assignments : List Assignment) (place : ℕ) → behind assignments place ≡ behind_by assignments (length assignments) place
+unfolding behind
+behind_is assignments place = refl
 
 -- what is found in some turns is found in more
 module _ (assignments : List Assignment) (f g : ℕ → Option ℕ) (place found : ℕ) (ih : (q : ℕ) → f q ≡ Some found → g q ≡ Some found) where

@@ -2,6 +2,7 @@
 
 ghost use Rattle.std.specs.Prelude.{◌≡◌};
 ghost use Rattle.module_compiler.specs.declared.fault.TableFault.TheVariants as faults;
+ghost use Rattle.module_compiler.specs.declared.fault.Halt.TheVariants as halts;
 
 use module_faults::TableKind;
 use osi_base::NoMemory;
@@ -37,18 +38,24 @@ pub(crate) enum Halt {
 }
 
 impl From<NoMemory> for Halt {
+    ghost from_gives = { λ _ e. e ≡ halts.NoMemory };
+
     fn from(_error: NoMemory) -> Halt {
         Halt::NoMemory
     }
 }
 
 impl<T: Drop> From<std::alloc::AllocFailed<T>> for Halt {
+    ghost from_gives = { λ _ e. e ≡ halts.NoMemory };
+
     fn from(_error: std::alloc::AllocFailed<T>) -> Halt {
         Halt::NoMemory
     }
 }
 
 impl From<std::alloc::AllocError> for Halt {
+    ghost from_gives = { λ _ e. e ≡ halts.NoMemory };
+
     fn from(_error: std::alloc::AllocError) -> Halt {
         Halt::NoMemory
     }

@@ -1,9 +1,10 @@
 //! Numbering the types of a module.
 
-ghost use Rattle.std.specs.Prelude.{◌≡◌, ◌+◌, ℕ, List, Option, Some, None, length, map, replicate, slice_get, slice_set, IfOk, IfSome, OnErr, []};
+ghost use Rattle.std.specs.Prelude.{◌≡◌, ◌+◌, ℕ, List, Option, Some, None, length, map, replicate, slice_get, slice_set, IfOk, IfErr, IsSome, IfSome, OnErr, []};
 ghost use Rattle.std.specs.Option.{option_copied};
 ghost use Rattle.std.specs.Str.{bytes_eq};
 ghost use Rattle.module_faults.specs.Names.{find, type_at, or_none};
+ghost use Rattle.asn1_types.specs.Table.{refusal};
 ghost use Rattle.module_compiler.specs.Scope.{behind};
 ghost use Rattle.operation_notation.specs.TreeView.{plain_of, parts_of as trees};
 ghost use Rattle.module_compiler.specs.Numbering.{Numbered, Gives, add, note, known, is_choice, base, base_in, range_row, size_of, kind_of, class_of, item_of, item_number, number_in, default_number, part_of, tagged, parts_of, row_of, row_behind, named_row, plain_row, walk, type_row, use_of};
@@ -57,7 +58,10 @@ impl Numbering {
     /// Puts a row behind the others.
     #[tactic(auto, unfolding(crate::specs::Numbering::add))]
     fn add(&mut self, row: TypeRow) -> Result<TypeId, Halt>
-        ensures { Gives result self.new (add row self.old) }
+        ensures gives { Gives result self.new (add row self.old) }
+        // The table refuses the row, or memory was refused.
+        ensures refused { IfErr result (λ e. e ≡ Halt.NoTables →
+            IsSome (refusal self.old.rows row)) }
     {
         match self.types.add(row) {
             Ok(id) => Ok(id),
@@ -217,7 +221,9 @@ impl Numbering {
     /// The default of a part.
     #[tactic(auto, unfolding(crate::specs::Numbering::default_number))]
     fn default_of(&self, of: TypeId, dflt: &Option<DfltText>) -> Result<Option<i64>, Halt>
-        ensures { IfOk result (λ default. default_number self.now.rows of dflt.now ≡ Some default) }
+        ensures found { IfOk result (λ default. default_number self.now.rows of dflt.now
+            ≡ Some default) }
+        ensures none { IfErr result (λ _. default_number self.now.rows of dflt.now ≡ None) }
     {
         match dflt {
             None => Ok(None),

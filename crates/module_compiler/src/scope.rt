@@ -129,6 +129,25 @@ fn is_type(assignments: &[Assignment], place: u32) -> bool
     }
 }
 
+/// The place of the type that stands behind the aliases from a place on, sought along them. Where
+/// they come round to one of them again, or to a name that is no type's, there is none.
+fn sought(assignments: &[Assignment], places: &IndexMap<&str, u32>, place: u32) -> Option<u32>
+    requires { AreFound assignments.now places.now }
+    ensures { result ≡ behind assignments.now place }
+{
+    let mut at = place;
+    for _turn in 0..assignments.len() {
+        if is_type(assignments, at) {
+            return Some(at);
+        }
+        let Some(then) = next(assignments, places, at) else {
+            return None;
+        };
+        at = then;
+    }
+    None
+}
+
 impl<'m> Scope<'m> {
     /// The scope of a module.
     pub fn new(alloc: Global, text: &'m ModuleText) -> Result<Scope<'m>, NoMemory>
@@ -171,6 +190,16 @@ impl<'m> Scope<'m> {
 
     /// The place of the type that stands behind the aliases from a place on.
     pub fn behind(&self, place: u32) -> Option<u32>
+        ensures { result ≡ behind self.now.assignments place }
+    {
+        match self.known(place) {
+            Some(found) => Some(found),
+            None => sought(self.assignments, &self.places, place),
+        }
+    }
+
+    /// The same, if it is known.
+    fn known(&self, place: u32) -> Option<u32>
         ensures { IfSome result (λ found. behind self.now.assignments place ≡ Some found) }
     {
         match self.behind.get(place as usize)? {

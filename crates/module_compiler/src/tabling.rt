@@ -1,6 +1,6 @@
 //! The operations and errors of a module, with the rows of its types.
 
-ghost use Rattle.std.specs.Prelude.{◌≡◌, ◌+◌, ℕ, List, [], Option, Some, None, IfOk, OnOk, MatchResult};
+ghost use Rattle.std.specs.Prelude.{◌≡◌, ◌+◌, ℕ, List, [], Option, Some, None, IfOk, IfErr, OnOk, MatchResult};
 ghost use Rattle.std.specs.Option.{option_copied};
 ghost use Rattle.module_compiler.specs.Scope.{own_numbers};
 ghost use Rattle.module_compiler.specs.Numbering.{Gives};
@@ -51,7 +51,8 @@ fn is_of(sort: Sort, body: &Body) -> bool
 
 /// The numbers of operations and errors, each among its sort, by the places of their assignments.
 fn numbers(alloc: Global, assignments: &[Assignment]) -> Result<Vec<u32>, Halt>
-    ensures { IfOk result (λ of. of.items ≡ own_numbers 0 0 assignments.now) }
+    ensures found { IfOk result (λ of. of.items ≡ own_numbers 0 0 assignments.now) }
+    ensures refused { IfErr result (λ e. e ≡ Halt.NoMemory) }
 {
     let mut of = Vec::new(alloc);
     let mut operations: u32 = 0;
@@ -84,8 +85,10 @@ fn numbers(alloc: Global, assignments: &[Assignment]) -> Result<Vec<u32>, Halt>
 #[tactic(auto, unfolding(crate::specs::Tabling::number_by))]
 fn number_of(scope: &Scope<'_>, numbers: &[u32], sort: Sort, name: &Located) -> Result<u32, Halt>
     requires { numbers.now ≡ own_numbers 0 0 scope.now.assignments }
-    ensures { IfOk result (λ n. number_by (sort_test sort) scope.now.assignments name.now.text
-        ≡ Some n) }
+    ensures found { IfOk result (λ n. number_by (sort_test sort) scope.now.assignments
+        name.now.text ≡ Some n) }
+    ensures none { IfErr result (λ _. number_by (sort_test sort) scope.now.assignments
+        name.now.text ≡ None) }
 {
     let Some(place) = scope.find(&name.text) else {
         return Err(Halt::NoTables);
@@ -121,7 +124,8 @@ fn numbers_of(
 
 /// The code that is written.
 fn code_of(alloc: Global, text: &Option<CodeText>) -> Result<Code, Halt>
-    ensures { IfOk result (λ code. code_of text.now ≡ Some code) }
+    ensures found { IfOk result (λ code. code_of text.now ≡ Some code) }
+    ensures none { IfErr result (λ e. e ≡ Halt.NoTables → code_of text.now ≡ None) }
 {
     match text {
         None => Err(Halt::NoTables),
