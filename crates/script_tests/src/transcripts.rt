@@ -4,9 +4,10 @@ use crate::refusals::calc;
 use asn1_types::{Node, Val};
 use dialogue::{Call, CallRefusal, Carried, Entries, Entry, Indication, Mode, Phase, Transcript};
 use module_reading::read_module;
-use osi_base::{ListOf, Octets, Problem, ProblemKind, Side};
+use osi_base::{ListOf, NoMemory, Octets, Problem, ProblemKind, Side};
 use std::alloc::Global;
 use std::test::Fail;
+use stub_tables::Tables;
 use transcript_text::{summary_text, transcript_text};
 
 fn number(number: i64) -> Option<Val> {
@@ -28,7 +29,12 @@ fn invoke(operation: u32, argument: Option<Val>) -> Call {
     }
 }
 
-fn carry(alloc: Global, side: Side, octets: &[u8], indication: Indication) -> Result<Entry, Fail> {
+fn carry(
+    alloc: Global,
+    side: Side,
+    octets: &[u8],
+    indication: Indication,
+) -> Result<Entry, NoMemory> {
     let mut shown = ListOf::new(alloc);
     shown.push(indication)?;
     let octets = Octets::from_slice(alloc, octets)?;
@@ -48,9 +54,8 @@ fn of_bare_mode(entries: Entries) -> Transcript {
     }
 }
 
-/// One addition and its result (X.880 8).
-fn addition(alloc: Global) -> Result<Transcript, Fail> {
-    let mut entries = ListOf::new(alloc);
+/// An addition is invoked.
+fn put_invocation(alloc: Global, entries: &mut Entries) -> Result<(), NoMemory> {
     entries.push(call(Side::A, invoke(0, number(5)), Ok(Some(1))))?;
     let invoked = Indication::Invoked {
         id: 1,
@@ -60,26 +65,45 @@ fn addition(alloc: Global) -> Result<Transcript, Fail> {
     };
     let octets = b"\xA1\x09\x02\x01\x01\x02\x01\x01\x02\x01\x05";
     entries.push(carry(alloc, Side::A, octets.as_slice(), invoked)?)?;
+    Ok(())
+}
+
+/// It is answered.
+fn put_answer(alloc: Global, entries: &mut Entries) -> Result<(), NoMemory> {
     let answer = Call::Answer {
         id: 1,
         result: number(5),
     };
     entries.push(call(Side::B, answer, Ok(None)))?;
-    let result_shown = Indication::Result {
+    let shown = Indication::Result {
         id: 1,
         value: number(5),
     };
     let octets = b"\xA2\x0B\x02\x01\x01\x30\x06\x02\x01\x01\x02\x01\x05";
-    entries.push(carry(alloc, Side::B, octets.as_slice(), result_shown)?)?;
+    entries.push(carry(alloc, Side::B, octets.as_slice(), shown)?)?;
+    Ok(())
+}
+
+/// One addition and its result (X.880 8).
+fn addition(alloc: Global) -> Result<Transcript, NoMemory> {
+    let mut entries = ListOf::new(alloc);
+    put_invocation(alloc, &mut entries)?;
+    put_answer(alloc, &mut entries)?;
     Ok(of_bare_mode(entries))
 }
 
-#[test]
-fn an_addition(rt: HostRuntime) -> Result<(), Fail> {
-    let alloc = rt.alloc();
-    let tables = calc(alloc)?;
-    let text = transcript_text(alloc, &tables, &addition(alloc)?)?;
-    let wanted = "mode bare
+/// Whether this is the transcript of a module, as a text.
+fn is_printed(
+    alloc: Global,
+    tables: &Tables,
+    transcript: &Transcript,
+    wanted: &str,
+) -> Result<bool, NoMemory> {
+    let text = transcript_text(alloc, tables, transcript)?;
+    Ok(text.as_slice() == wanted.as_bytes())
+}
+
+const ADDITION: &'static str = "mode bare
 1 A invoke 0 add 5
   ok 1
 2 carry A all
@@ -93,15 +117,16 @@ fn an_addition(rt: HostRuntime) -> Result<(), Fail> {
 end A up
 end B up
 ";
-    assert!(rt; text.as_slice() == wanted.as_bytes());
+
+#[test]
+fn an_addition(rt: HostRuntime) -> Result<(), Fail> {
+    let tables = calc(rt.alloc())?;
+    let transcript = addition(rt.alloc())?;
+    assert!(rt; is_printed(rt.alloc(), &tables, &transcript, ADDITION)?);
     Ok(())
 }
 
-#[test]
-fn an_addition_summed_up(rt: HostRuntime) -> Result<(), Fail> {
-    let alloc = rt.alloc();
-    let text = summary_text(alloc, &addition(alloc)?)?;
-    let wanted = "events 4
+const SUMMED_UP: &'static str = "events 4
 octets A>B 11
 octets B>A 13
 values 2
@@ -113,24 +138,28 @@ refused 0
 end A up
 end B up
 ";
-    assert!(rt; text.as_slice() == wanted.as_bytes());
+
+#[test]
+fn an_addition_summed_up(rt: HostRuntime) -> Result<(), Fail> {
+    let transcript = addition(rt.alloc())?;
+    let text = summary_text(rt.alloc(), &transcript)?;
+    assert!(rt; text.as_slice() == SUMMED_UP.as_bytes());
     Ok(())
 }
 
-/// Colours are printed by their names, of results by the invocation that was accepted.
-#[test]
-fn values_print_by_their_types(rt: HostRuntime) -> Result<(), Fail> {
-    let alloc = rt.alloc();
-    let module = "M {2 999 1} DEFINITIONS ::= BEGIN
+/// A module with an ENUMERATED.
+const COLOURS: &'static str = "M {2 999 1} DEFINITIONS ::= BEGIN
 ask OPERATION ::= {ARGUMENT INTEGER RESULT INTEGER CODE local:1}
 pick OPERATION ::= {RESULT ENUMERATED {red(0), light-blue(1)} CODE local:2}
 END
 ";
-    let Ok(tables) = read_module(alloc, module.as_bytes()) else {
-        assert!(rt; false, "the module isn't read");
-        return Ok(());
-    };
-    let mut entries = ListOf::new(alloc);
+
+fn colours(alloc: Global) -> Result<Tables, Fail> {
+    read_module(alloc, COLOURS.as_bytes()).map_err(|_| Fail::from("the module isn't read"))
+}
+
+/// Calls of that module, of which the second is accepted.
+fn put_calls(entries: &mut Entries) -> Result<(), NoMemory> {
     entries.push(call(Side::A, invoke(0, None), Err(CallRefusal::NotTyped)))?;
     entries.push(call(Side::A, invoke(1, None), Ok(Some(1))))?;
     let answer = Call::Answer {
@@ -138,6 +167,11 @@ END
         result: number(1),
     };
     entries.push(call(Side::B, answer, Err(CallRefusal::NoInvocation(2))))?;
+    Ok(())
+}
+
+/// Its result comes, then a reject is sent, and the connection breaks.
+fn put_indications(alloc: Global, entries: &mut Entries) -> Result<(), NoMemory> {
     let result_shown = Indication::Result {
         id: 1,
         value: number(1),
@@ -152,9 +186,17 @@ END
     };
     entries.push(carry(alloc, Side::A, &[0], sent)?)?;
     entries.push(Entry::Break)?;
-    let transcript = of_bare_mode(entries);
-    let text = transcript_text(alloc, &tables, &transcript)?;
-    let wanted = "mode bare
+    Ok(())
+}
+
+fn of_colours(alloc: Global) -> Result<Transcript, NoMemory> {
+    let mut entries = ListOf::new(alloc);
+    put_calls(&mut entries)?;
+    put_indications(alloc, &mut entries)?;
+    Ok(of_bare_mode(entries))
+}
+
+const COLOURED: &'static str = "mode bare
 1 A invoke 0 ask
   refused NotTyped
 2 A invoke 0 pick
@@ -171,6 +213,12 @@ END
 end A up
 end B up
 ";
-    assert!(rt; text.as_slice() == wanted.as_bytes());
+
+/// Colours are printed by their names, of results by the invocation that was accepted.
+#[test]
+fn values_print_by_their_types(rt: HostRuntime) -> Result<(), Fail> {
+    let tables = colours(rt.alloc())?;
+    let transcript = of_colours(rt.alloc())?;
+    assert!(rt; is_printed(rt.alloc(), &tables, &transcript, COLOURED)?);
     Ok(())
 }
