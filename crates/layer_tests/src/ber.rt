@@ -1,10 +1,11 @@
 //! Worked rows: what octets are read as in BER and in DER, and what their value is written as.
 
+use crate::parts::{Member, parts};
 use ber_codec::{
-    Class, LIMIT, Part, Parts, ReadFault, RowRefusal, TextKind, TypeId, TypeRow, TypeTable,
-    ber_octets, ber_read, ber_read_within, der_read,
+    Class, LIMIT, ReadFault, RowRefusal, TextKind, TypeId, TypeRow, TypeTable, ber_octets,
+    ber_read, ber_read_within, der_read,
 };
-use osi_base::{Kind, Name, NoMemory, Octets};
+use osi_base::{Kind, Octets};
 use std::alloc::Global;
 use std::test::*;
 
@@ -44,22 +45,6 @@ const SWITCHED: u32 = 10;
 const BIT_LISTS: u32 = 11;
 
 const FLAGGED: u32 = 12;
-
-/// A part with a default.
-fn with_default(alloc: Global, name: &str, inner: u32, default: i64) -> Result<Part, NoMemory> {
-    let mut part = part(alloc, name, inner)?;
-    part.default = Some(default);
-    Ok(part)
-}
-
-fn part(alloc: Global, name: &str, inner: u32) -> Result<Part, NoMemory> {
-    Ok(Part {
-        name: Name::from_str(alloc, name)?,
-        inner: TypeId(inner),
-        optional: false,
-        default: None,
-    })
-}
 
 /// Octets of a type: what they are read as in BER and in DER, and how their value is written. Each
 /// follows from the section of X.690 that is named above it, and its place from counting octets.
@@ -309,13 +294,7 @@ const ROWS: [(u32, &'static [u8], Outcome, Outcome, &'static [u8]); 38] = [
     ),
 ];
 
-/// The parts `a` and another, an INTEGER and a BOOLEAN.
-fn parts(alloc: Global, second: &str) -> Result<Parts, NoMemory> {
-    let mut parts = Parts::new(alloc);
-    parts.push(part(alloc, "a", INTEGER)?)?;
-    parts.push(part(alloc, second, BOOLEAN)?)?;
-    Ok(parts)
-}
+const TWO: [Member; 2] = [("a", INTEGER, false, None), ("b", BOOLEAN, false, None)];
 
 /// The rows that the constants name, and SET {a INTEGER, b BOOLEAN} in the third place.
 fn table(alloc: Global) -> Result<TypeTable, RowRefusal> {
@@ -325,7 +304,7 @@ fn table(alloc: Global) -> Result<TypeTable, RowRefusal> {
         high: i64::MAX,
     })?;
     table.add(TypeRow::Boolean)?;
-    table.add(TypeRow::Set(parts(alloc, "b")?))?;
+    table.add(TypeRow::Set(parts(alloc, &TWO)?))?;
     add_octets(&mut table)?;
     add_defaults(alloc, &mut table)?;
     add_nested(alloc, &mut table)?;
@@ -344,21 +323,17 @@ fn add_octets(table: &mut TypeTable) -> Result<(), RowRefusal> {
 /// SEQUENCE {a INTEGER, b INTEGER DEFAULT 7}, SEQUENCE {c [1] EXPLICIT INTEGER DEFAULT 7} and
 /// SET {d BOOLEAN DEFAULT TRUE}.
 fn add_defaults(alloc: Global, table: &mut TypeTable) -> Result<(), RowRefusal> {
-    let mut counted = Parts::new(alloc);
-    counted.push(part(alloc, "a", INTEGER)?)?;
-    counted.push(with_default(alloc, "b", INTEGER, 7)?)?;
-    table.add(TypeRow::Sequence(counted))?;
+    let counted = [("a", INTEGER, false, None), ("b", INTEGER, false, Some(7))];
+    table.add(TypeRow::Sequence(parts(alloc, &counted)?))?;
     table.add(TypeRow::Tagged {
         class: Class::Context,
         number: 1,
         explicit: true,
         inner: TypeId(INTEGER),
     })?;
-    let mut tagged = Parts::new(alloc);
-    tagged.push(with_default(alloc, "c", NUMBER, 7)?)?;
+    let tagged = parts(alloc, &[("c", NUMBER, false, Some(7))])?;
     table.add(TypeRow::Sequence(tagged))?;
-    let mut switched = Parts::new(alloc);
-    switched.push(with_default(alloc, "d", BOOLEAN, 1)?)?;
+    let switched = parts(alloc, &[("d", BOOLEAN, false, Some(1))])?;
     table.add(TypeRow::Set(switched))?;
     Ok(())
 }
@@ -366,12 +341,8 @@ fn add_defaults(alloc: Global, table: &mut TypeTable) -> Result<(), RowRefusal> 
 /// SEQUENCE OF BIT STRING, and SET {a INTEGER, b BOOLEAN OPTIONAL}.
 fn add_nested(alloc: Global, table: &mut TypeTable) -> Result<(), RowRefusal> {
     table.add(TypeRow::SequenceOf(TypeId(BITS)))?;
-    let mut flagged = Parts::new(alloc);
-    flagged.push(part(alloc, "a", INTEGER)?)?;
-    let mut flag = part(alloc, "b", BOOLEAN)?;
-    flag.optional = true;
-    flagged.push(flag)?;
-    table.add(TypeRow::Set(flagged))?;
+    let flagged = [("a", INTEGER, false, None), ("b", BOOLEAN, true, None)];
+    table.add(TypeRow::Set(parts(alloc, &flagged)?))?;
     Ok(())
 }
 
@@ -449,10 +420,7 @@ fn worked_rows(rt: HostRuntime) {
 /// Whether SEQUENCE {a T DEFAULT d} is refused for its default.
 fn is_bad(alloc: Global, inner: u32, default: i64, optional: bool) -> Result<bool, RowRefusal> {
     let mut table = table(alloc)?;
-    let mut part = with_default(alloc, "a", inner, default)?;
-    part.optional = optional;
-    let mut parts = Parts::new(alloc);
-    parts.push(part)?;
+    let parts = parts(alloc, &[("a", inner, optional, Some(default))])?;
     Ok(matches!(
         table.add(TypeRow::Sequence(parts)),
         Err(RowRefusal::BadDefault)
@@ -514,7 +482,8 @@ fn octets_within_a_limit(rt: HostRuntime) {
 #[test]
 fn two_parts_of_one_name(rt: HostRuntime) -> Result<(), Fail> {
     let mut table = table(rt.alloc())?;
-    let added = table.add(TypeRow::Sequence(parts(rt.alloc(), "a")?));
+    let twice = [("a", INTEGER, false, None), ("a", BOOLEAN, false, None)];
+    let added = table.add(TypeRow::Sequence(parts(rt.alloc(), &twice)?));
     assert!(rt; matches!(added, Err(RowRefusal::DoubleName)));
     Ok(())
 }

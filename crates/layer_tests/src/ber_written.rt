@@ -17,11 +17,11 @@ fn writes_into_the_front_of_a_room(rt: HostRuntime) -> Result<(), Fail> {
         },
     };
     let mut room = [0xAA; 6];
-    assert_eq!(rt; ber_len(&table, of, &value), 4);
+    assert!(rt; ber_len(&table, of, &value) == 4);
     let used = ber_write(&table, of, &value, &mut room);
-    assert_eq!(rt; used, 4);
-    assert_eq!(rt; room, [0x03, 0x02, 0x04, 0x50, 0xAA, 0xAA]);
+    assert!(rt; used == 4);
+    assert!(rt; room == [0x03, 0x02, 0x04, 0x50, 0xAA, 0xAA]);
     let octets = ber_octets(alloc, &table, of, &value)?;
-    assert_eq!(rt; octets.as_slice(), [0x03, 0x02, 0x04, 0x50].as_slice());
+    assert!(rt; octets.as_slice() == [0x03, 0x02, 0x04, 0x50].as_slice());
     Ok(())
 }

@@ -1,11 +1,11 @@
 //! The order of DER spellings that is told of values is that of their octets: all pairs of many
 //! values of a type are compared both ways.
 
+use crate::parts::{Member, parts};
 use ber_codec::{
-    Class, Node, Part, Parts, RowRefusal, TypeId, TypeRow, TypeTable, Val, Vals, ber_octets, fits,
-    is_less,
+    Class, Node, RowRefusal, TypeId, TypeRow, TypeTable, Val, Vals, ber_octets, fits, is_less,
 };
-use osi_base::{Copied, Name, NoMemory, Octets, Oid};
+use osi_base::{Copied, NoMemory, Octets, Oid};
 use std::alloc::Global;
 use std::test::*;
 
@@ -27,15 +27,6 @@ const BITS: u32 = 12;
 
 const LISTS: u32 = 13;
 
-fn part(alloc: Global, name: &str, inner: u32, optional: bool) -> Result<Part, NoMemory> {
-    Ok(Part {
-        name: Name::from_str(alloc, name)?,
-        inner: TypeId(inner),
-        optional,
-        default: None,
-    })
-}
-
 fn tagged(number: u32, explicit: bool, inner: u32) -> TypeRow {
     TypeRow::Tagged {
         class: Class::Context,
@@ -45,10 +36,8 @@ fn tagged(number: u32, explicit: bool, inner: u32) -> TypeRow {
     }
 }
 
-/// CHOICE {x OCTET STRING, y [40] IMPLICIT BOOLEAN, z [200] EXPLICIT NULL}, and a SEQUENCE and a
-/// SET of an INTEGER, [0] EXPLICIT INTEGER and such a CHOICE, all optional.
-fn table(alloc: Global) -> Result<TypeTable, RowRefusal> {
-    let mut table = TypeTable::new(alloc);
+/// The rows that name at most one other, up to [0] EXPLICIT INTEGER.
+fn add_plain(table: &mut TypeTable) -> Result<(), RowRefusal> {
     table.add(TypeRow::Integer {
         low: i64::MIN,
         high: i64::MAX,
@@ -59,23 +48,46 @@ fn table(alloc: Global) -> Result<TypeTable, RowRefusal> {
     table.add(tagged(40, false, 2))?;
     table.add(tagged(200, true, 3))?;
     table.add(tagged(0, true, INTEGER))?;
-    let mut alternatives = Parts::new(alloc);
-    for (name, inner) in [("x", OCTETS), ("y", 4), ("z", 5)] {
-        alternatives.push(part(alloc, name, inner, false)?)?;
-    }
-    table.add(TypeRow::Choice(alternatives))?;
-    let mut parts = Parts::new(alloc);
-    let mut others = Parts::new(alloc);
-    for (name, inner) in [("a", INTEGER), ("b", 6), ("c", CHOICE)] {
-        parts.push(part(alloc, name, inner, true)?)?;
-        others.push(part(alloc, name, inner, true)?)?;
-    }
-    table.add(TypeRow::Sequence(parts))?;
-    table.add(TypeRow::Set(others))?;
+    Ok(())
+}
+
+/// OCTET STRING, [40] IMPLICIT BOOLEAN and [200] EXPLICIT NULL.
+const ALTERNATIVES: [Member; 3] = [
+    ("x", OCTETS, false, None),
+    ("y", 4, false, None),
+    ("z", 5, false, None),
+];
+
+/// INTEGER, [0] EXPLICIT INTEGER and a CHOICE of those.
+const MEMBERS: [Member; 3] = [
+    ("a", INTEGER, true, None),
+    ("b", 6, true, None),
+    ("c", CHOICE, true, None),
+];
+
+/// The CHOICE, and a SEQUENCE and a SET of these parts.
+fn add_made(alloc: Global, table: &mut TypeTable) -> Result<(), RowRefusal> {
+    table.add(TypeRow::Choice(parts(alloc, &ALTERNATIVES)?))?;
+    table.add(TypeRow::Sequence(parts(alloc, &MEMBERS)?))?;
+    table.add(TypeRow::Set(parts(alloc, &MEMBERS)?))?;
+    Ok(())
+}
+
+/// The rows behind those.
+fn add_lists(table: &mut TypeTable) -> Result<(), RowRefusal> {
     table.add(TypeRow::SequenceOf(TypeId(INTEGER)))?;
     table.add(TypeRow::ObjectId)?;
     table.add(TypeRow::BitString)?;
     table.add(TypeRow::SetOf(TypeId(LIST)))?;
+    Ok(())
+}
+
+/// The rows that the constants name, and those that they are made of.
+fn table(alloc: Global) -> Result<TypeTable, RowRefusal> {
+    let mut table = TypeTable::new(alloc);
+    add_plain(&mut table)?;
+    add_made(alloc, &mut table)?;
+    add_lists(&mut table)?;
     Ok(table)
 }
 
@@ -149,23 +161,34 @@ fn choices(alloc: Global) -> Result<Vals, NoMemory> {
     Ok(all)
 }
 
+/// The value at this place of those of the CHOICE, if there is one.
+fn choice(alloc: Global, place: usize) -> Result<Option<Val>, NoMemory> {
+    let mut choices = choices(alloc)?;
+    Ok(if place < choices.len() {
+        Some(choices.swap_remove(place))
+    } else {
+        None
+    })
+}
+
+/// The value of these parts, the last of which is the CHOICE at this place, if there is one.
+fn record(alloc: Global, a: Option<i64>, b: Option<i64>, c: usize) -> Result<Val, NoMemory> {
+    let mut parts = Vec::new(alloc);
+    parts.push(a.map(number))?;
+    parts.push(b.map(number))?;
+    parts.push(choice(alloc, c)?)?;
+    Ok(Val {
+        node: Node::Parts(parts),
+    })
+}
+
 /// Parts that are there or not, in all ways.
 fn records(alloc: Global) -> Result<Vals, NoMemory> {
     let mut all = Vec::new(alloc);
     for a in [None, Some(1), Some(300)] {
         for b in [None, Some(-1), Some(128)] {
             for c in 0..6_usize {
-                let mut parts = Vec::new(alloc);
-                parts.push(a.map(number))?;
-                parts.push(b.map(number))?;
-                let mut choices = choices(alloc)?;
-                parts.push(if c < choices.len() {
-                    Some(choices.swap_remove(c))
-                } else {
-                    None
-                })?;
-                let node = Node::Parts(parts);
-                all.push(Val { node })?;
+                all.push(record(alloc, a, b, c)?)?;
             }
         }
     }
@@ -201,17 +224,29 @@ fn lists(alloc: Global) -> Result<Vals, NoMemory> {
     Ok(all)
 }
 
+/// The list of these two.
+fn pair(alloc: Global, first: &Val, second: Val) -> Result<Val, NoMemory> {
+    let mut items = Vec::new(alloc);
+    items.push(first.copy(alloc)?)?;
+    items.push(second)?;
+    Ok(Val {
+        node: Node::List(items),
+    })
+}
+
+/// Pairs of a list with each.
+fn put_pairs(alloc: Global, first: &Val, all: &mut Vals) -> Result<(), NoMemory> {
+    for second in lists(alloc)? {
+        all.push(pair(alloc, first, second)?)?;
+    }
+    Ok(())
+}
+
 /// Pairs of lists.
 fn pairs(alloc: Global) -> Result<Vals, NoMemory> {
     let mut all = Vec::new(alloc);
-    for first in lists(alloc)? {
-        for second in lists(alloc)? {
-            let mut items = Vec::new(alloc);
-            items.push(first.copy(alloc)?)?;
-            items.push(second)?;
-            let node = Node::List(items);
-            all.push(Val { node })?;
-        }
+    for first in &lists(alloc)? {
+        put_pairs(alloc, first, &mut all)?;
     }
     Ok(all)
 }
@@ -287,27 +322,34 @@ fn is_told(alloc: Global, table: &TypeTable, of: u32, values: &Vals) -> Result<b
     Ok(true)
 }
 
+/// The values that are compared of a type, of those that are named below.
+fn values(alloc: Global, of: u32) -> Result<Vals, NoMemory> {
+    match of {
+        INTEGER => integers(alloc),
+        OCTETS => strings(alloc),
+        CHOICE => choices(alloc),
+        SEQUENCE | SET => records(alloc),
+        LIST => lists(alloc),
+        OBJECT_ID => object_ids(alloc),
+        BITS => bit_strings(alloc),
+        _ => pairs(alloc),
+    }
+}
+
 #[test]
 fn values_compare_as_their_octets(rt: HostRuntime) -> Result<(), Fail> {
-    let alloc = rt.alloc();
-    let table = table(alloc)?;
-    assert!(rt; is_told(alloc, &table, INTEGER, &integers(alloc)?)?);
-    assert!(rt; is_told(alloc, &table, OCTETS, &strings(alloc)?)?);
-    assert!(rt; is_told(alloc, &table, CHOICE, &choices(alloc)?)?);
-    assert!(rt; is_told(alloc, &table, SEQUENCE, &records(alloc)?)?);
-    assert!(rt; is_told(alloc, &table, SET, &records(alloc)?)?);
-    assert!(rt; is_told(alloc, &table, LIST, &lists(alloc)?)?);
-    assert!(rt; is_told(alloc, &table, OBJECT_ID, &object_ids(alloc)?)?);
-    assert!(rt; is_told(alloc, &table, BITS, &bit_strings(alloc)?)?);
-    assert!(rt; is_told(alloc, &table, LISTS, &pairs(alloc)?)?);
+    let table = table(rt.alloc())?;
+    for of in [
+        INTEGER, OCTETS, CHOICE, SEQUENCE, SET, LIST, OBJECT_ID, BITS, LISTS,
+    ] {
+        let values = values(rt.alloc(), of)?;
+        assert!(rt; is_told(rt.alloc(), &table, of, &values)?);
+    }
     Ok(())
 }
 
-/// A value whose parts stand in the wrong places has no form, and is compared all the same.
-#[test]
-fn values_without_form_compare_too(rt: HostRuntime) -> Result<(), Fail> {
-    let alloc = rt.alloc();
-    let table = table(alloc)?;
+/// Values of a SEQUENCE, and others that aren't any.
+fn odd_values(alloc: Global) -> Result<Vals, NoMemory> {
     let mut odd = records(alloc)?;
     odd.push(number(5))?;
     odd.push(list(alloc, &[1, 2])?)?;
@@ -315,10 +357,17 @@ fn values_without_form_compare_too(rt: HostRuntime) -> Result<(), Fail> {
     for value in lists(alloc)? {
         odd.push(value)?;
     }
+    Ok(odd)
+}
+
+/// A value whose parts stand in the wrong places has no form, and is compared all the same.
+#[test]
+fn values_without_form_compare_too(rt: HostRuntime) -> Result<(), Fail> {
+    let table = table(rt.alloc())?;
+    let odd = odd_values(rt.alloc())?;
     assert!(rt; !fits(&table, TypeId(SEQUENCE), &number(5)));
-    assert!(rt; is_told(alloc, &table, SEQUENCE, &odd)?);
-    assert!(rt; is_told(alloc, &table, SET, &odd)?);
-    assert!(rt; is_told(alloc, &table, CHOICE, &odd)?);
-    assert!(rt; is_told(alloc, &table, LIST, &odd)?);
+    for of in [SEQUENCE, SET, CHOICE, LIST] {
+        assert!(rt; is_told(rt.alloc(), &table, of, &odd)?);
+    }
     Ok(())
 }

@@ -14,6 +14,8 @@ mod packed;
 #[cfg(test)]
 mod packets;
 #[cfg(test)]
+mod parts;
+#[cfg(test)]
 mod session_units;
 #[cfg(test)]
 mod sets_of;

@@ -1,8 +1,7 @@
 //! Spellings from outside: each is read whole and written back, or its first fault is told.
 
-use asn1_types::{
-    Class, Item, Named, Part, Parts, RowRefusal, TextKind, TypeId, TypeRow, TypeTable,
-};
+use crate::parts::{Member, parts};
+use asn1_types::{Class, Item, Named, RowRefusal, TextKind, TypeId, TypeRow, TypeTable};
 use osi_base::{Kind, Name};
 use packed_codec::{PackedFault, Read, packed_len, packed_read, packed_read_within, packed_write};
 use std::alloc::Global;
@@ -57,15 +56,6 @@ const COUNTED: u32 = 17;
 
 const SWITCHED: u32 = 18;
 
-fn part(alloc: Global, name: &str, inner: u32, optional: bool) -> Result<Part, RowRefusal> {
-    Ok(Part {
-        name: Name::from_str(alloc, name)?,
-        inner: TypeId(inner),
-        optional,
-        default: None,
-    })
-}
-
 /// A table with a row for each constant above.
 fn table_of(alloc: Global) -> Result<TypeTable, RowRefusal> {
     let mut table = TypeTable::new(alloc);
@@ -101,19 +91,19 @@ fn add_listed(alloc: Global, table: &mut TypeTable) -> Result<(), RowRefusal> {
     })?;
     table.add(TypeRow::Enumerated(colours))?;
     table.add(TypeRow::SequenceOf(TypeId(BOOLEAN)))?;
-    let flag = part(alloc, "flag", BOOLEAN, false)?;
-    let none = part(alloc, "none", NULL, false)?;
-    table.add(TypeRow::Choice(two(alloc, flag, none)?))?;
+    let either = [("flag", BOOLEAN, false, None), ("none", NULL, false, None)];
+    table.add(TypeRow::Choice(parts(alloc, &either)?))?;
     Ok(())
 }
 
 /// A SEQUENCE, a tagged INTEGER, lists of lists, and a SET.
 fn add_made(alloc: Global, table: &mut TypeTable) -> Result<(), RowRefusal> {
-    let number = part(alloc, "number", INTEGER, true)?;
-    let flags = part(alloc, "flags", FLAGS, false)?;
-    let mut parts = two(alloc, number, flags)?;
-    parts.push(part(alloc, "flag", BOOLEAN, true)?)?;
-    table.add(TypeRow::Sequence(parts))?;
+    let record = [
+        ("number", INTEGER, true, None),
+        ("flags", FLAGS, false, None),
+        ("flag", BOOLEAN, true, None),
+    ];
+    table.add(TypeRow::Sequence(parts(alloc, &record)?))?;
     table.add(TypeRow::Tagged {
         class: Class::Context,
         number: 5,
@@ -121,53 +111,43 @@ fn add_made(alloc: Global, table: &mut TypeTable) -> Result<(), RowRefusal> {
         inner: TypeId(INTEGER),
     })?;
     table.add(TypeRow::SequenceOf(TypeId(FLAGS)))?;
-    let a = part(alloc, "a", INTEGER, false)?;
-    let b = part(alloc, "b", BOOLEAN, false)?;
-    table.add(TypeRow::Set(two(alloc, a, b)?))?;
+    let both = [("a", INTEGER, false, None), ("b", BOOLEAN, false, None)];
+    table.add(TypeRow::Set(parts(alloc, &both)?))?;
     Ok(())
 }
+
+/// The parts of an invocation.
+const INVOCATION: [Member; 4] = [
+    ("invoke", INTEGER, false, None),
+    ("linked", TAGGED, true, None),
+    ("code", CODE, false, None),
+    ("argument", INTEGER, true, None),
+];
 
 /// An APDU whose invocations have a number as their argument, as far as it is a value: its kind is
 /// an alternative's place.
 fn add_apdu(alloc: Global, table: &mut TypeTable) -> Result<(), RowRefusal> {
-    let local = part(alloc, "local", INTEGER, false)?;
-    let global = part(alloc, "global", OBJECT_ID, false)?;
-    table.add(TypeRow::Choice(two(alloc, local, global)?))?;
-    table.add(TypeRow::Sequence(invocation(alloc)?))?;
-    let none = part(alloc, "none", NULL, false)?;
-    let invocation = part(alloc, "invocation", INVOKE, false)?;
-    table.add(TypeRow::Choice(two(alloc, none, invocation)?))?;
+    let code = [
+        ("local", INTEGER, false, None),
+        ("global", OBJECT_ID, false, None),
+    ];
+    table.add(TypeRow::Choice(parts(alloc, &code)?))?;
+    table.add(TypeRow::Sequence(parts(alloc, &INVOCATION)?))?;
+    let apdu = [
+        ("none", NULL, false, None),
+        ("invocation", INVOKE, false, None),
+    ];
+    table.add(TypeRow::Choice(parts(alloc, &apdu)?))?;
     Ok(())
 }
 
 /// SEQUENCE {a INTEGER, b INTEGER DEFAULT 7} and SET {c BOOLEAN DEFAULT TRUE}.
 fn add_defaults(alloc: Global, table: &mut TypeTable) -> Result<(), RowRefusal> {
-    let a = part(alloc, "a", INTEGER, false)?;
-    let mut b = part(alloc, "b", INTEGER, false)?;
-    b.default = Some(7);
-    table.add(TypeRow::Sequence(two(alloc, a, b)?))?;
-    let mut c = part(alloc, "c", BOOLEAN, false)?;
-    c.default = Some(1);
-    let mut parts = Parts::new(alloc);
-    parts.push(c)?;
-    table.add(TypeRow::Set(parts))?;
+    let counted = [("a", INTEGER, false, None), ("b", INTEGER, false, Some(7))];
+    table.add(TypeRow::Sequence(parts(alloc, &counted)?))?;
+    let switched = parts(alloc, &[("c", BOOLEAN, false, Some(1))])?;
+    table.add(TypeRow::Set(switched))?;
     Ok(())
-}
-
-fn invocation(alloc: Global) -> Result<Parts, RowRefusal> {
-    let invoke = part(alloc, "invoke", INTEGER, false)?;
-    let linked = part(alloc, "linked", TAGGED, true)?;
-    let mut parts = two(alloc, invoke, linked)?;
-    parts.push(part(alloc, "code", CODE, false)?)?;
-    parts.push(part(alloc, "argument", INTEGER, true)?)?;
-    Ok(parts)
-}
-
-fn two(alloc: Global, first: Part, second: Part) -> Result<Parts, RowRefusal> {
-    let mut parts = Parts::new(alloc);
-    parts.push(first)?;
-    parts.push(second)?;
-    Ok(parts)
 }
 
 /// Octets of a type and what they are read as. The syntax is the project's own: a number is its

@@ -303,7 +303,7 @@ fn largest_packet(rt: HostRuntime) -> Result<(), Fail> {
 fn cut_into_parts_of_128(rt: HostRuntime) -> Result<(), Fail> {
     let tsdu = vec![in rt.alloc(); 7u8; 130]?;
     let written = write_tsdu(rt.alloc(), &tsdu, 128)?;
-    assert_eq!(rt; written.len(), 144);
+    assert!(rt; written.len() == 144);
     let octets = written.as_slice();
     assert!(rt; octets.starts_with(&[3, 0, 0, 0x84, 2, 0xF0, 0, 7]));
     assert!(rt; octets.ends_with(&[7, 3, 0, 0, 0x0C, 2, 0xF0, 0x80, 7, 7, 7, 7, 7]));

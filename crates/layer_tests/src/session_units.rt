@@ -208,11 +208,11 @@ fn check(rt: &impl Abort, alloc: Global, words: &Spdus, octets: &[u8]) -> Result
     requires { AreWritable words.now }
 {
     let written = write_spdus(alloc, words)?;
-    assert_eq!(rt; written.as_slice(), octets);
+    assert!(rt; written.as_slice() == octets);
     let read = read_spdus(alloc, octets)?;
     let came = format!(in alloc; "{read:?}")?;
     let want = format!(in alloc; "{words:?}")?;
-    assert_eq!(rt; came.as_str(), want.as_str());
+    assert!(rt; came.as_str() == want.as_str());
     Ok(())
 }
 

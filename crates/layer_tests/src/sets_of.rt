@@ -1,10 +1,11 @@
 //! Worked rows of SET OF: read in any order in BER, in rising order in DER and the packed syntax.
 
+use crate::parts::parts;
 use ber_codec::{
-    Node, Part, Parts, ReadFault, RowRefusal, TypeId, TypeRow, TypeTable, Val, ber_octets,
-    ber_read, der_read, fits,
+    Node, ReadFault, RowRefusal, TypeId, TypeRow, TypeTable, Val, ber_octets, ber_read, der_read,
+    fits,
 };
-use osi_base::{Kind, Name, NoMemory, Octets};
+use osi_base::{Kind, NoMemory, Octets};
 use packed_codec::{PackedFault, packed_len, packed_read, packed_write};
 use std::alloc::Global;
 use std::test::*;
@@ -34,16 +35,8 @@ fn table(alloc: Global) -> Result<TypeTable, RowRefusal> {
     table.add(TypeRow::SetOf(TypeId(INTEGER)))?;
     table.add(TypeRow::OctetString { most: 262_144 })?;
     table.add(TypeRow::SetOf(TypeId(TEXT)))?;
-    let mut parts = Parts::new(alloc);
-    for (name, inner) in [("a", INTEGER), ("b", TEXT)] {
-        parts.push(Part {
-            name: Name::from_str(alloc, name)?,
-            inner: TypeId(inner),
-            optional: true,
-            default: None,
-        })?;
-    }
-    table.add(TypeRow::Set(parts))?;
+    let pair = [("a", INTEGER, true, None), ("b", TEXT, true, None)];
+    table.add(TypeRow::Set(parts(alloc, &pair)?))?;
     table.add(TypeRow::SetOf(TypeId(PAIR)))?;
     table.add(TypeRow::SetOf(TypeId(NUMBERS)))?;
     Ok(table)
@@ -122,15 +115,15 @@ fn any_order_is_read_and_rising_order_written(rt: HostRuntime) -> Result<(), Fai
     for (of, octets, form, written) in ROWS {
         assert!(rt; (of as usize) < table.len());
         let read = ber_read(alloc, &table, TypeId(of), octets)?;
-        assert_eq!(rt; read.used, octets.len());
+        assert!(rt; read.used == octets.len());
         assert!(rt; fits(&table, TypeId(of), &read.value));
         let back = ber_octets(alloc, &table, TypeId(of), &read.value)?;
-        assert_eq!(rt; back.as_slice(), written);
+        assert!(rt; back.as_slice() == written);
         match der_read(alloc, &table, TypeId(of), octets) {
             Ok(_) => assert!(rt; form.is_none()),
             Err(ReadFault::NotSpelled { place, kind }) => {
-                assert_eq!(rt; Some(place), form);
-                assert_eq!(rt; kind, Kind::Form);
+                assert!(rt; Some(place) == form);
+                assert!(rt; kind == Kind::Form);
             }
             Err(_) => assert!(rt; false),
         }
@@ -166,30 +159,26 @@ fn the_packed_syntax_has_them_rising(rt: HostRuntime) -> Result<(), Fail> {
     let alloc = rt.alloc();
     let table = table(alloc)?;
     let value = numbers(alloc, &[1, 3])?;
-    assert_eq!(rt; table.len(), 7);
+    assert!(rt; table.len() == 7);
     let mut room = [0xAA; 9];
-    assert_eq!(rt; packed_len(&table, TypeId(NUMBERS), &value), 8);
-    assert_eq!(rt; packed_write(&table, TypeId(NUMBERS), &value, &mut room), 8);
-    assert_eq!(rt; room, [0, 0, 0, 2, 1, 1, 1, 3, 0xAA]);
+    assert!(rt; packed_len(&table, TypeId(NUMBERS), &value) == 8);
+    assert!(rt; packed_write(&table, TypeId(NUMBERS), &value, &mut room) == 8);
+    assert!(rt; room == [0, 0, 0, 2, 1, 1, 1, 3, 0xAA]);
     let read = packed_read(alloc, &table, TypeId(NUMBERS), &room)?;
-    assert_eq!(rt; read.used, 8);
+    assert!(rt; read.used == 8);
     let falling = packed_read(alloc, &table, TypeId(NUMBERS), &[0, 0, 0, 2, 1, 3, 1, 1]);
-    assert_eq!(rt;
-        falling.err(),
-        Some(PackedFault::NotSpelled {
-            place: 6,
-            kind: Kind::Content
-        })
+    assert!(rt;
+        falling.err()
+            == Some(PackedFault::NotSpelled {
+                place: 6,
+                kind: Kind::Content
+            })
     );
     Ok(())
 }
 
-/// Items of many octets, which differ late, in the octets of a long string.
-#[test]
-fn long_items_are_compared_to_their_ends(rt: HostRuntime) -> Result<(), Fail> {
-    let alloc = rt.alloc();
-    let table = table(alloc)?;
-    assert_eq!(rt; table.len(), 7);
+/// Two strings of 300 octets that differ in the last, 7 and 9.
+fn long_texts(alloc: Global) -> Result<Val, NoMemory> {
     let mut items = Vec::new(alloc);
     for last in [7, 9] {
         let mut octets = vec![in alloc; 5; 300]?;
@@ -198,18 +187,27 @@ fn long_items_are_compared_to_their_ends(rt: HostRuntime) -> Result<(), Fail> {
             node: Node::Octets(Octets::from_vec(octets)),
         })?;
     }
-    let value = Val {
+    Ok(Val {
         node: Node::List(items),
-    };
+    })
+}
+
+/// Items of many octets, which differ late, in the octets of a long string.
+#[test]
+fn long_items_are_compared_to_their_ends(rt: HostRuntime) -> Result<(), Fail> {
+    let alloc = rt.alloc();
+    let table = table(alloc)?;
+    assert!(rt; table.len() == 7);
+    let value = long_texts(alloc)?;
     assert!(rt; fits(&table, TypeId(TEXTS), &value));
     let mut written = ber_octets(alloc, &table, TypeId(TEXTS), &value)?.into_vec();
     let end = written.len();
     assert!(rt; end > 0);
-    assert_eq!(rt; written[end - 1], 9);
+    assert!(rt; written[end - 1] == 9);
     written[end - 1] = 6;
     let read = ber_read(alloc, &table, TypeId(TEXTS), &written)?;
     let back = ber_octets(alloc, &table, TypeId(TEXTS), &read.value)?;
-    assert_eq!(rt; back.as_slice().get(end - 1).copied(), Some(7));
+    assert!(rt; back.as_slice().get(end - 1).copied() == Some(7));
     assert!(rt; fits(&table, TypeId(TEXTS), &read.value));
     Ok(())
 }
