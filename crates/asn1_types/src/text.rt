@@ -1,12 +1,13 @@
 //! Octets of strings: which fit.
 
-ghost use Rattle.std.specs.Prelude.{◌≡◌, ◌<◌, ◌^◌};
+ghost use Rattle.std.specs.Prelude.{◌≡◌};
 ghost use Rattle.std.specs.List.{list_all};
 ghost use Rattle.std.specs.Str.{is_utf8};
 ghost use Rattle.asn1_types.specs.Defaults.{is_item};
 ghost use Rattle.asn1_types.specs.Fits.{is_octet, are_bits, is_between, is_printable, is_character, is_text};
 
 use crate::row::{Item, TextKind};
+use osi_base::power_of_2;
 
 /// Whether some item has this number.
 pub fn is_item(items: &[Item], number: i64) -> bool
@@ -25,23 +26,6 @@ pub fn are_octets(octets: &[u8]) -> bool
     ensures { result ≡ list_all is_octet octets.now }
 {
     true
-}
-
-/// The power of 2.
-fn power_of_2(exponent: u8) -> u8
-    requires { exponent < 8 }
-    ensures { result ≡ 2 ^ exponent }
-{
-    match exponent {
-        0 => 1,
-        1 => 2,
-        2 => 4,
-        3 => 8,
-        4 => 16,
-        5 => 32,
-        6 => 64,
-        _ => 128,
-    }
 }
 
 /// Whether 0 to 7 bits of the last octet are unused, none where there is no octet, and they are

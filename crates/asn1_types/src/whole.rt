@@ -1,11 +1,12 @@
-//! One whole value of any type, as octets.
+//! One whole value of any type, as octets, and what stands behind one (X.690 8.1).
 
-ghost use Rattle.std.specs.Prelude.{◌≡◌, ◌≤◌, length, drop, option_map};
+ghost use Rattle.std.specs.Prelude.{◌≡◌, ◌≤◌, length, drop, option_map, IfSome};
 ghost use Rattle.asn1_types.specs.Whole.{number_256, behind_digits, behind_high, behind_identifier, behind_counted, behind_sized, is_constructed, is_marked, is_ended, behind_values, behind_whole, is_whole};
 
 /// What stands behind the digits of a tag number (X.690 8.1.2.4.2).
 fn behind_digits(digits: &[u8]) -> Option<&[u8]>
-    ensures { option_map (λ rest. rest.now) result ≡ behind_digits digits.now }
+    ensures behind { option_map (λ rest. rest.now) result ≡ behind_digits digits.now }
+    ensures within { IfSome result (λ more. length more.now ≤ length digits.now) }
 {
     for (index, digit) in digits.iter().enumerate() {
         if *digit < 128 {
@@ -17,7 +18,8 @@ fn behind_digits(digits: &[u8]) -> Option<&[u8]>
 
 /// What stands behind the digits of a tag number of 31 or more without a leading zero digit.
 fn behind_high(digits: &[u8]) -> Option<&[u8]>
-    ensures { option_map (λ rest. rest.now) result ≡ behind_high digits.now }
+    ensures behind { option_map (λ rest. rest.now) result ≡ behind_high digits.now }
+    ensures within { IfSome result (λ more. length more.now ≤ length digits.now) }
 {
     match digits {
         [] | [0..=30, ..] | [128, ..] => None,
@@ -26,8 +28,9 @@ fn behind_high(digits: &[u8]) -> Option<&[u8]>
 }
 
 /// What stands behind an identifier of any class and number but UNIVERSAL 0 (X.690 8.1.2).
-fn behind_identifier(octets: &[u8]) -> Option<&[u8]>
-    ensures { option_map (λ rest. rest.now) result ≡ behind_identifier octets.now }
+pub fn behind_identifier(octets: &[u8]) -> Option<&[u8]>
+    ensures behind { option_map (λ rest. rest.now) result ≡ behind_identifier octets.now }
+    ensures within { IfSome result (λ more. length more.now ≤ length octets.now) }
 {
     match octets {
         [] | [0, ..] | [32, ..] => None,
@@ -55,7 +58,8 @@ fn number_256(octets: &[u8]) -> u64
 
 /// What stands behind `size` octets of a length, and then that many octets (X.690 8.1.3.5).
 fn behind_counted(size: usize, rest: &[u8]) -> Option<&[u8]>
-    ensures { option_map (λ rest. rest.now) result ≡ behind_counted size rest.now }
+    ensures behind { option_map (λ rest. rest.now) result ≡ behind_counted size rest.now }
+    ensures within { IfSome result (λ more. length more.now ≤ length rest.now) }
 {
     if size < 1 || 8 < size || rest.len() < size {
         return None;
@@ -70,7 +74,8 @@ fn behind_counted(size: usize, rest: &[u8]) -> Option<&[u8]>
 
 /// What stands behind a definite length, and then that many octets (X.690 8.1.3.3).
 fn behind_sized(octets: &[u8]) -> Option<&[u8]>
-    ensures { option_map (λ rest. rest.now) result ≡ behind_sized octets.now }
+    ensures behind { option_map (λ rest. rest.now) result ≡ behind_sized octets.now }
+    ensures within { IfSome result (λ more. length more.now ≤ length octets.now) }
 {
     match octets {
         [] => None,
@@ -109,7 +114,7 @@ fn is_marked(octets: &[u8]) -> bool
 }
 
 /// Whether end-of-contents stand here (X.690 8.1.5).
-fn is_ended(octets: &[u8]) -> bool
+pub fn is_ended(octets: &[u8]) -> bool
     ensures { result ≡ is_ended octets.now }
 {
     match octets {
@@ -121,7 +126,8 @@ fn is_ended(octets: &[u8]) -> bool
 /// What stands behind so many octets.
 fn behind(count: usize, octets: &[u8]) -> &[u8]
     requires { count ≤ length octets.now }
-    ensures { result.now ≡ drop count octets.now }
+    ensures is { result.now ≡ drop count octets.now }
+    ensures within { length result.now ≤ length octets.now }
 {
     &octets[count..]
 }
@@ -129,8 +135,9 @@ fn behind(count: usize, octets: &[u8]) -> &[u8]
 /// What stands behind whole values and end-of-contents.
 #[cycle(wholes)]
 fn behind_values(levels: u32, octets: &[u8]) -> Option<&[u8]>
-    ensures { option_map (λ rest. rest.now) result ≡ behind_values (behind_whole levels)
+    ensures behind { option_map (λ rest. rest.now) result ≡ behind_values (behind_whole levels)
         (length octets.now) octets.now }
+    ensures within { IfSome result (λ more. length more.now ≤ length octets.now) }
 {
     let mut rest = octets;
     for _turn in 0..octets.len() {
@@ -144,8 +151,9 @@ fn behind_values(levels: u32, octets: &[u8]) -> Option<&[u8]>
 
 /// What stands behind one whole value with at most `levels` levels in indefinite contents.
 #[cycle(wholes)]
-fn behind_whole(levels: u32, octets: &[u8]) -> Option<&[u8]>
-    ensures { option_map (λ rest. rest.now) result ≡ behind_whole levels octets.now }
+pub fn behind_whole(levels: u32, octets: &[u8]) -> Option<&[u8]>
+    ensures behind { option_map (λ rest. rest.now) result ≡ behind_whole levels octets.now }
+    ensures within { IfSome result (λ more. length more.now ≤ length octets.now) }
 {
     if levels == 0 {
         return None;

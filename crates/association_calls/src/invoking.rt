@@ -13,11 +13,12 @@ ghost use Rattle.association_calls.specs.Rooms.{HasRoom, IsRoomy};
 
 use crate::texts::is_too_long;
 use asn1_types::Val;
-use association_ground::{is_among, is_direct, is_reliable};
+use association_ground::{is_direct, is_reliable};
 use association_sets::{has_abstract, is_deleted_in, pair_of};
 use association_state::{Body, Ground};
 use dialogue::CallRefusal;
 use osi_base::{Copied, NoMemory};
+use rose_roles::is_linked_to;
 use stub_tables::{Apdu, Operation};
 
 /// How many invocations of one end may be open.
@@ -69,16 +70,6 @@ fn is_on_module(basis: &Ground<'_>, body: &Body, context: u32) -> bool
         pair_of(body.sets.held.as_slice(), context),
         basis.tables.name_oid.arcs(),
     )
-}
-
-/// Whether the operation at this place may be linked to this one.
-fn is_linked_to(operation: Option<&Operation>, place: u32) -> bool
-    ensures { result ≡ is_linked_to (option_copied operation.entry) place }
-{
-    match operation {
-        Some(operation) => is_among(place, operation.linked.as_slice()),
-        None => false,
-    }
 }
 
 /// Why an invocation may not be linked so.

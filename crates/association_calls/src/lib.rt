@@ -21,7 +21,7 @@ pub use rows::check_phase;
 pub use transfers::{can_release, can_resume, can_stop, has_item};
 pub use units::{
     has_activities, has_marks, has_restarts, has_token, has_typed_data, has_units, has_version_two,
-    manages_with, needed_units, proposed_units, selected_with,
+    manages_with, needed_units, selected_with,
 };
 
 /// The answer to a call.

@@ -4,7 +4,7 @@ ghost use Rattle.std.specs.Prelude.{◌≡◌};
 ghost use Rattle.end_rules.specs.Units.{has_units, has_marks, has_restarts, has_activities, has_typed_data, proposed_units, needed_units, selected_with, has_version_two, has_both, manages_with, has_token};
 ghost use Rattle.association_state.specs.Seen.{base_in, seen};
 
-use association_ground::{is_direct, is_reliable};
+use association_ground::{is_direct, is_reliable, proposed_units};
 use association_state::{Body, Ground};
 use dialogue::Mode;
 use osi_base::BitString;
@@ -42,16 +42,6 @@ pub fn has_typed_data(requirements: u16) -> bool
     ensures { result ≡ has_typed_data requirements }
 {
     has_units(1024, requirements)
-}
-
-/// What an initiator proposes.
-pub fn proposed_units(mode: Mode) -> u16
-    ensures { result ≡ proposed_units mode }
-{
-    match mode {
-        Mode::Reliable => 1097,
-        Mode::Direct | Mode::Bare => 1066,
-    }
 }
 
 /// What a mode can't do without.

@@ -1,7 +1,8 @@
-//! Modes.
+//! Modes, and the functional units that each proposes.
 
 ghost use Rattle.std.specs.Prelude.{◌≡◌};
 ghost use Rattle.end_rules.specs.Base.{is_bare, is_direct, is_reliable};
+ghost use Rattle.end_rules.specs.Units.{proposed_units};
 
 use dialogue::Mode;
 
@@ -32,5 +33,15 @@ pub fn is_reliable(mode: Mode) -> bool
     match mode {
         Mode::Reliable => true,
         Mode::Bare | Mode::Direct => false,
+    }
+}
+
+/// The functional units that an initiator proposes.
+pub fn proposed_units(mode: Mode) -> u16
+    ensures { result ≡ proposed_units mode }
+{
+    match mode {
+        Mode::Reliable => 1097,
+        Mode::Direct | Mode::Bare => 1066,
     }
 }

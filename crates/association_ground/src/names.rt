@@ -1,10 +1,12 @@
-//! Names of syntaxes, and numbers among others.
+//! Names of syntaxes and of the application context, and numbers among others.
 
-ghost use Rattle.std.specs.Prelude.{◌≡◌};
-ghost use Rattle.end_rules.specs.Base.{acse_name, rtse_name, ber_name};
+ghost use Rattle.std.specs.Prelude.{◌≡◌, IfOk};
+ghost use Rattle.end_rules.specs.Base.{acse_name, rtse_name, ber_name, application_context};
 ghost use Rattle.end_rules.specs.Sets.{same_name, is_among, syntax_named};
 
-use osi_base::Syntax;
+use dialogue::Mode;
+use osi_base::{NoMemory, Oid, Syntax};
+use std::alloc::Global;
 
 /// Whether two object identifiers are one, or two strings of octets.
 pub fn same_name(a: &[u32], b: &[u32]) -> bool
@@ -55,4 +57,15 @@ pub fn is_ber(name: &[u32]) -> bool
     ensures { result ≡ same_name name.now ber_name }
 {
     same_name(name, &[2, 1, 1])
+}
+
+/// The name of the application context.
+pub fn application_context(alloc: Global, mode: Mode) -> Result<Oid, NoMemory>
+    ensures { IfOk result (λ name. name ≡ application_context mode) }
+{
+    match mode {
+        Mode::Reliable => Oid::from_slice(alloc, &[2, 999, 5, 4]),
+        Mode::Direct => Oid::from_slice(alloc, &[2, 999, 5, 3]),
+        Mode::Bare => Oid::from_slice(alloc, &[2, 999, 5, 3]),
+    }
 }

@@ -11,9 +11,9 @@ ghost use Rattle.open_invocations.specs.Invocations.{is_link_back};
 ghost use Rattle.association_state.specs.Seen.{base_in};
 
 use asn1_types::Val;
-use association_ground::is_among;
 use association_state::Ground;
 use open_invocations::Invocations;
+use rose_roles::{has_links, is_linked_to};
 use stub_tables::{Code, Operation};
 
 /// How many invocations of one end may be open.
@@ -27,26 +27,6 @@ fn is_silent_at(basis: &Ground<'_>, place: Option<u32>) -> bool
     match basis.tables.operation(place) {
         None => false,
         Some(operation) => operation.is_silent(),
-    }
-}
-
-/// Whether any operation may be linked to this one.
-fn has_links(operation: Option<&Operation>) -> bool
-    ensures { result ≡ has_links (option_copied operation.entry) }
-{
-    match operation {
-        None => false,
-        Some(operation) => operation.linked.len() != 0,
-    }
-}
-
-/// Whether the operation at this place may be linked to this one.
-fn is_linked_to(operation: Option<&Operation>, place: u32) -> bool
-    ensures { result ≡ is_linked_to (option_copied operation.entry) place }
-{
-    match operation {
-        None => false,
-        Some(operation) => is_among(place, operation.linked.as_slice()),
     }
 }
 

@@ -16,22 +16,12 @@ use association_calls::carrier_in;
 use association_ground::is_reliable;
 use association_sends::pair_copied;
 use association_state::{Body, Ground, Queued};
-use association_words::{Content, DataWord, Message, Value, Values, Word};
+use association_words::{Content, DataWord, Message, Value, Values, Word, syntax_of};
 use dialogue::Indication;
 use open_invocations::Invocations;
-use osi_base::{ListOf, NoMemory, Pair, Problem, ProblemKind, Syntax};
+use osi_base::{ListOf, NoMemory, Problem, ProblemKind};
 use rose_roles::RoseTaken;
 use stub_tables::Apdu;
-
-/// The syntax of a pair, which is BER where there is none.
-fn syntax_of(pair: &Option<Pair>) -> Syntax
-    ensures { result ≡ syntax_of pair.now }
-{
-    match pair {
-        None => Syntax::Ber,
-        Some(pair) => pair.transfer,
-    }
-}
 
 /// Hears what a value says.
 fn hear_value(

@@ -9,13 +9,11 @@ ghost use Rattle.association_words.specs.Seen.{seen_message, seen_values};
 ghost use Rattle.association_state.specs.Seen.{base_in};
 
 use crate::values::{acse_value, information};
+use association_ground::{application_context, proposed_units};
 use association_state::Ground;
 use association_words::{AssociationWord, Message, TransportUnit, Values, Word};
 use dialogue::Mode;
-use osi_base::{
-    Acse, BitString, ConnectionData, Copied, ListOf, NoMemory, Octets, Oid, PresentationConnect,
-    Rtse, SessionConnect,
-};
+use osi_base::{Acse, BitString, ConnectionData, Copied, ListOf, NoMemory, Octets, PresentationConnect, Rtse, SessionConnect};
 use set_rules::proposals;
 use std::alloc::Global;
 
@@ -58,16 +56,6 @@ pub(crate) fn requirement_bits(alloc: Global, both: bool) -> Result<BitString, N
     }
 }
 
-/// The units that an initiator proposes.
-fn units(mode: Mode) -> u16
-    ensures { result ≡ proposed_units mode }
-{
-    match mode {
-        Mode::Reliable => 1097,
-        Mode::Direct | Mode::Bare => 1066,
-    }
-}
-
 /// The session part of the opening.
 fn session_connect(basis: &Ground<'_>) -> Result<SessionConnect, NoMemory>
     ensures { IfOk result (λ s. s ≡ session_connect (base_in basis.now)) }
@@ -81,7 +69,7 @@ fn session_connect(basis: &Ground<'_>) -> Result<SessionConnect, NoMemory>
         version: Some(2),
         initial: initial_number(config.mode),
         token_setting: None,
-        requirements: Some(units(config.mode)),
+        requirements: Some(proposed_units(config.mode)),
         calling: Some(config.calling.copy(alloc)?),
         called: Some(config.called.copy(alloc)?),
         user: Octets::new(alloc),
@@ -117,17 +105,6 @@ pub fn connection_data(basis: &Ground<'_>, recovers: bool) -> Result<ConnectionD
         })
     } else {
         Ok(ConnectionData::Open(Octets::from_slice(basis.alloc, &[5, 0])?))
-    }
-}
-
-/// The name of the application context.
-fn application_context(alloc: Global, mode: Mode) -> Result<Oid, NoMemory>
-    ensures { IfOk result (λ name. name ≡ application_context mode) }
-{
-    match mode {
-        Mode::Reliable => Oid::from_slice(alloc, &[2, 999, 5, 4]),
-        Mode::Direct => Oid::from_slice(alloc, &[2, 999, 5, 3]),
-        Mode::Bare => Oid::from_slice(alloc, &[2, 999, 5, 3]),
     }
 }
 

@@ -19,7 +19,7 @@ pub fn has_parity(initiator: bool, id: u32) -> bool
 }
 
 /// Whether one of the proposed contexts has this identifier.
-fn is_proposed(id: u32, add: &[Proposal]) -> bool
+pub fn is_proposed(id: u32, add: &[Proposal]) -> bool
     ensures { result ≡ is_among id (proposed_ids add.now) }
 {
     for proposal in add {

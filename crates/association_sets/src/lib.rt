@@ -10,7 +10,9 @@ mod sets;
 
 pub use alteration::Alteration;
 pub use altering::{accepted_set, alter, named_ids, proposed_ids};
-pub use asking::{count_added, has_double, has_parity, is_bad, is_deleted_in, is_named_in};
+pub use asking::{
+    count_added, has_double, has_parity, is_bad, is_deleted_in, is_named_in, is_proposed,
+};
 pub use fitting::{fit_alteration, fit_proposals, is_listed};
 pub use restored::{listed, same_lists};
 pub use sets::{

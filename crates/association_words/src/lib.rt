@@ -6,7 +6,9 @@ mod values;
 mod words;
 
 pub use faults::Fault;
-pub use values::{Arrived, Content, Information, Item, UserInformation, Value, Values};
+pub use values::{
+    Arrived, Content, Information, Item, UserInformation, Value, Values, syntax_of,
+};
 pub use words::{
     AbortData, Accepting, ActivityWord, AssociationWord, DataWord, MarkWord, Message,
     TransportUnit, Word,

@@ -1,6 +1,9 @@
 //! Presentation data values, as they are meant (X.226 8.4.2, X.227 9, X.228 9, X.880 9).
 
-use osi_base::{Acse, ListOf, Octets, Pair, Rtse};
+ghost use Rattle.std.specs.Prelude.{◌≡◌};
+ghost use Rattle.end_rules.specs.Hearing.{syntax_of};
+
+use osi_base::{Acse, ListOf, Octets, Pair, Rtse, Syntax};
 use stub_tables::Apdu;
 
 /// An item of the user information of an APDU of association control (X.227 9, X.228 9).
@@ -63,4 +66,14 @@ pub enum Arrived {
     Whole(Item),
     /// Octets on a context of the module that spell none.
     Raw { id: u32, pair: Pair, octets: Octets },
+}
+
+/// The syntax of a pair, which is BER where there is none.
+pub fn syntax_of(pair: &Option<Pair>) -> Syntax
+    ensures { result ≡ syntax_of pair.now }
+{
+    match pair {
+        None => Syntax::Ber,
+        Some(pair) => pair.transfer,
+    }
 }

@@ -12,11 +12,8 @@ ghost use Rattle.association_writing.specs.Room.{item_pdv};
 ghost use Rattle.association_wire.specs.Values.{external_of, with_user, content_octets, in_form, pdv_of, pdvs_of};
 
 use association_codecs::Codecs;
-use association_words::{Content, Information, Item, Value};
-use osi_base::{
-    Acse, Copied, External, Externals, ListOf, NoMemory, Octets, Pair, Pdv, PdvContent, Pdvs, Rtse,
-    Syntax,
-};
+use association_words::{Content, Information, Item, Value, syntax_of};
+use osi_base::{Acse, Copied, External, Externals, ListOf, NoMemory, Octets, Pdv, PdvContent, Pdvs, Rtse, Syntax};
 use std::alloc::Global;
 use stub_tables::{Apdu, Tables};
 
@@ -139,16 +136,6 @@ pub fn write_content(
             },
         ),
         Content::Part(octets) => part_octets(alloc, codecs, octets),
-    }
-}
-
-/// The syntax in which a value travels.
-fn syntax_of(pair: &Option<Pair>) -> Syntax
-    ensures { result ≡ syntax_of pair.now }
-{
-    match pair {
-        None => Syntax::Ber,
-        Some(pair) => pair.transfer,
     }
 }
 

@@ -9,7 +9,7 @@ ghost use Rattle.bare_end.specs.View.{base, body, Answers, Answered, Died, is_me
 
 use crate::end::End;
 use crate::invoking::Making;
-use crate::phases::{is_dead, is_initiators, is_of_bare_mode, is_phase_for};
+use association_ground::{is_dead, is_initiators, is_of_bare_mode, is_phase_for};
 use dialogue::{Call, CallRefusal, Phase};
 
 /// Whether memory was refused.

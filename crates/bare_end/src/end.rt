@@ -4,11 +4,11 @@ ghost use Rattle.std.specs.Prelude.{◌≡◌, ◌≢◌, ℕ, List, [], ◌∷�
 
 use crate::intake::Intake;
 use crate::invocations::Invocations;
-use crate::phases::{broken, is_up};
-use crate::queue::{OctetQueue, copy_front};
+use crate::phases::broken;
 use apdu_codec::Heads;
+use association_ground::is_up;
 use dialogue::{Config, ConfigRefusal, Phase, check_config};
-use osi_base::{Copied, Pair, Syntax};
+use osi_base::{Copied, OctetQueue, Pair, Syntax, copy_front};
 use std::alloc::Global;
 use std::marker::Model;
 use stub_tables::Tables;

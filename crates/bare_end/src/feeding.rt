@@ -17,7 +17,7 @@ ghost use Rattle.bare_end.specs.First.{IsFirst};
 
 use crate::end::End;
 use crate::order::tell_cuts;
-use crate::phases::passes_over;
+use association_ground::passes_over;
 use dialogue::{Indication, Indications, Phase};
 use osi_base::{Layer, ListOf, NoMemory};
 use stream_front::Front;

@@ -4,7 +4,6 @@ ghost use Rattle.std.specs.Prelude.{◌≡◌, ◌≤◌, ◌++◌, List, [], le
 ghost use Rattle.ber_spelling.specs.Octets.{AreOctets};
 ghost use Rattle.bare_end.specs.First.{IsFirst};
 
-use crate::queue::OctetQueue;
 use osi_base::NoMemory;
 use std::alloc::Global;
 use std::marker::Model;

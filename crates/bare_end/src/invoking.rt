@@ -21,6 +21,7 @@ use crate::sending::Checked;
 use asn1_types::Val;
 use dialogue::CallRefusal;
 use osi_base::{Copied, NoMemory};
+use rose_roles::is_linked_to;
 use stub_tables::{Apdu, Operation};
 
 /// How many invocations of one end may be open.
@@ -35,23 +36,6 @@ pub struct Making {
     pub(crate) context: u32,
     pub(crate) place: u32,
     pub(crate) linked: Option<i64>,
-}
-
-/// Whether the place is one of these.
-fn is_among(place: u32, places: &[u32]) -> bool
-    ensures { result ≡ is_among place places.now }
-{
-    places.iter().any(|other| place == *other)
-}
-
-/// Whether the operation at this place may be linked to this one.
-fn is_linked_to(operation: Option<&Operation>, place: u32) -> bool
-    ensures { result ≡ is_linked_to (option_copied operation.entry) place }
-{
-    match operation {
-        Some(operation) => is_among(place, operation.linked.as_slice()),
-        None => false,
-    }
 }
 
 impl<'t> End<'t> {

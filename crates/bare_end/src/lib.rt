@@ -13,7 +13,6 @@ mod listing;
 mod open_call;
 mod order;
 mod phases;
-mod queue;
 mod sending;
 
 pub use end::End;

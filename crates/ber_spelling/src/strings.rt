@@ -10,7 +10,7 @@ use crate::fields::{contents, extent, look, refusal};
 use crate::spot::{Ahead, Gathered, Opened, Scope, Spot, StringKind, StringRule};
 use crate::tag::expect;
 use asn1_types::{Class, Node, Tag, TextKind, Val, are_bits, is_text};
-use osi_base::{Kind, NoMemory, Octets};
+use osi_base::{Kind, NoMemory, Octets, power_of_2};
 use std::alloc::Global;
 
 /// Segments have the tag of OCTET STRING or BIT STRING.
@@ -181,23 +181,6 @@ fn nothing(alloc: Global) -> Gathered
         octets: Octets::new(alloc),
         unused: 0,
         spoiled: false,
-    }
-}
-
-/// The power of 2.
-fn power_of_2(exponent: u8) -> u8
-    requires { exponent < 8 }
-    ensures { result ≡ 2 ^ exponent }
-{
-    match exponent {
-        0 => 1,
-        1 => 2,
-        2 => 4,
-        3 => 8,
-        4 => 16,
-        5 => 32,
-        6 => 64,
-        _ => 128,
     }
 }
 

@@ -8,6 +8,7 @@ ghost use Rattle.end_config.specs.Connecting.{connection_data, transfer_request,
 ghost use Rattle.end_config.specs.Connecting.{request_pdv, connect_of, connect_octets};
 
 use acse::write_acse;
+use association_ground::application_context;
 use dialogue::{Config, Mode};
 use osi_base::{
     Acse, BitString, ConnectionData, Copied, External, Externals, ListOf, NoMemory, Octets, Oid,
@@ -102,17 +103,6 @@ fn externals(alloc: Global, config: &Config, recovers: bool) -> Result<Externals
         }
         Mode::Direct => Ok(user),
         Mode::Bare => Ok(user),
-    }
-}
-
-/// The name of the application context.
-fn application_context(alloc: Global, mode: Mode) -> Result<Oid, NoMemory>
-    ensures { IfOk result (λ name. name ≡ application_context mode) }
-{
-    match mode {
-        Mode::Reliable => Oid::from_slice(alloc, &[2, 999, 5, 4]),
-        Mode::Direct => Oid::from_slice(alloc, &[2, 999, 5, 3]),
-        Mode::Bare => Oid::from_slice(alloc, &[2, 999, 5, 3]),
     }
 }
 

@@ -1,6 +1,6 @@
 //! Strings of bits.
 
-ghost use Rattle.std.specs.Prelude.{◌≡◌, ◌<◌, IfOk};
+ghost use Rattle.std.specs.Prelude.{◌≡◌, ◌<◌, ◌^◌, IfOk};
 ghost use Rattle.osi_base.specs.Bits.{is_set};
 
 use crate::copied::Copied;
@@ -56,5 +56,22 @@ impl Copied for BitString {
             octets: self.octets.copy(alloc)?,
             unused: self.unused,
         })
+    }
+}
+
+/// The power of 2 with this exponent.
+pub fn power_of_2(exponent: u8) -> u8
+    requires { exponent < 8 }
+    ensures { result ≡ 2 ^ exponent }
+{
+    match exponent {
+        0 => 1,
+        1 => 2,
+        2 => 4,
+        3 => 8,
+        4 => 16,
+        5 => 32,
+        6 => 64,
+        _ => 128,
     }
 }

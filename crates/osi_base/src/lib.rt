@@ -15,9 +15,11 @@ mod mem_calls;
 mod mem_line;
 mod memory;
 mod name;
+mod octet_queue;
 mod octets;
 mod oid;
 mod presentation_word;
+mod printing;
 mod real;
 mod rtse_word;
 mod session_word;
@@ -28,7 +30,7 @@ mod tcp_line;
 mod words;
 
 pub use acse_word::{Acse, Diagnostic, External, Externals};
-pub use bit_string::BitString;
+pub use bit_string::{BitString, power_of_2};
 pub use copied::Copied;
 pub use failing::FailingCalls;
 pub use fault::NoMemory;
@@ -38,12 +40,14 @@ pub use list::ListOf;
 pub use mem_line::MemLine;
 pub use memory::{MemFile, MemFiles, MemSink, SureFiles, SureSink};
 pub use name::{Name, Words};
+pub use octet_queue::{OctetQueue, copy_front};
 pub use octets::Octets;
 pub use oid::{Oid, are_oid};
 pub use presentation_word::{
     Pdv, PdvContent, Pdvs, Ppdu, PresentationAccept, PresentationConnect, PresentationReject,
     PresentationWord,
 };
+pub use printing::{FaultAt, WordWithNumber};
 pub use real::{DiskFiles, StdSink};
 pub use rtse_word::{ConnectionData, Rtse};
 pub use session_word::{SessionConnect, SessionWord, Spdu, Spdus};

@@ -4,9 +4,9 @@ ghost use Rattle.std.specs.Prelude.{◌≡◌, ◌+◌, ◌<◌, ◌≤◌, ◌^
 ghost use Rattle.association_reading.specs.Places as reading;
 ghost use Rattle.pdv_places.specs.Seen.{spot_of, is_done, Fits, AllFit};
 
+use asn1_types::{behind_identifier, behind_whole, is_ended};
 use osi_base::NoMemory;
 use std::alloc::Global;
-use whole_values::{behind_identifier, behind_whole, is_ended};
 
 /// The octets from a place on.
 #[derive(Clone, Copy, Debug)]

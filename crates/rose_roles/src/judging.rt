@@ -38,7 +38,7 @@ pub(crate) fn is_silent_at(tables: &Tables, place: Option<u32>) -> bool
 }
 
 /// Whether any operation may be linked to this one.
-fn has_links(operation: Option<&Operation>) -> bool
+pub fn has_links(operation: Option<&Operation>) -> bool
     ensures { result ≡ has_links (option_copied operation.entry) }
 {
     match operation {
@@ -55,7 +55,7 @@ fn is_among(place: u32, places: &[u32]) -> bool
 }
 
 /// Whether the operation at this place may be linked to this one.
-fn is_linked_to(operation: Option<&Operation>, place: u32) -> bool
+pub fn is_linked_to(operation: Option<&Operation>, place: u32) -> bool
     ensures { result ≡ is_linked_to (option_copied operation.entry) place }
 {
     match operation {

@@ -13,6 +13,7 @@ mod values;
 
 pub use called::Called;
 pub use invoker::Invoker;
+pub use judging::{has_links, is_linked_to};
 pub use laws::{always_carries, stays_within};
 pub use performer::Performer;
 pub use taken::{RoseTaken, refused};

@@ -13,7 +13,7 @@ ghost use Rattle.set_rules.specs.Plain.{plain_base, is_taken_id};
 
 use crate::answering::plain_answers;
 use association_ground::is_reliable;
-use association_sets::{accepted_set, has_name, has_parity, pair_of};
+use association_sets::{accepted_set, has_name, has_parity, is_proposed, pair_of};
 use dialogue::Config;
 use osi_base::{
     AddAnswer, AddAnswers, Copied, ListOf, NoMemory, Oid, Oids, PresentationAccept,
@@ -116,18 +116,6 @@ pub fn set_accepted(
 {
     let _tables = tables;
     accepted_for(alloc, config, presentation.results.as_slice())
-}
-
-/// Whether one of these proposals has the identifier.
-fn is_proposed(id: u32, add: &[Proposal]) -> bool
-    ensures { result ≡ is_among id (proposed_ids add.now) }
-{
-    for proposal in add {
-        if id == proposal.id {
-            return true;
-        }
-    }
-    false
 }
 
 /// Whether some identifier comes twice.

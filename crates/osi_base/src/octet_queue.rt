@@ -2,7 +2,7 @@
 
 ghost use Rattle.std.specs.Prelude.{◌≡◌, ◌≤◌, ◌<◌, ℕ, min, List, [], ◌∷◌, ◌++◌, length, take, drop, vec_len, OnOk, OnErr};
 
-use osi_base::NoMemory;
+use crate::fault::NoMemory;
 use std::alloc::Global;
 use std::marker::Model;
 

@@ -1,6 +1,0 @@
-use Rattle.std.proofs.Common.{◌≡◌, drop}
-use Rattle.end_rules.specs.Sets.{is_among, proposed_ids}
-use Rattle.set_rules.proofs.opening.is_proposed.Given as goal
-
-abbrev pub invariant-loop-proposal : goal.invariant-loop-proposal
-invariant-loop-proposal l = is_among l.id (proposed_ids (drop l.proposal-index l.add)) ≡ is_among l.id (proposed_ids l.add)
