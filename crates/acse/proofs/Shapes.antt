@@ -92,33 +92,33 @@ abbrev pub Whatever : Class → ℕ → Type 0
 Whatever class number = Unit {0}
 
 -- an identifier of this number is read so
-abbrev Reads : ℕ → List known.Field → List over.Passed → Type 0
-Reads which fields passed = (o : Opened) → o.class ≡ Application → o.number ≡ which → (scope : Scope) (s : Spot) → any_apdu_at acse_rows scope o s ≡ apdu_at acse_rows which fields passed scope o s
+abbrev ReadsNumber : ℕ → List known.Field → List over.Passed → Type 0
+ReadsNumber which fields passed = (o : Opened) → o.class ≡ Application → o.number ≡ which → (scope : Scope) (s : Spot) → any_apdu_at acse_rows scope o s ≡ apdu_at acse_rows which fields passed scope o s
 
-apdu_back : (which : ℕ) (fields : List known.Field) (passed : List over.Passed) → are_apart fields passed ≡ true → Reads which fields passed → (scope : Scope) (place : ℕ) (v : Value) (text rest : List ℕ) → FieldsSpelled which fields passed scope.strict scope.levels v text
+apdu_back : (which : ℕ) (fields : List known.Field) (passed : List over.Passed) → are_apart fields passed ≡ true → ReadsNumber which fields passed → (scope : Scope) (place : ℕ) (v : Value) (text rest : List ℕ) → FieldsSpelled which fields passed scope.strict scope.levels v text
     → IsIn scope (place + length text) → ReadBack Whatever (any_apdu_at acse_rows) scope place text rest (chosen which v)
 apdu_back which fields passed apart reads scope place v text rest p here =
     let r = (fields_only acse_rows acse_sound fields passed apart (apdu_tag which) refl).only scope place v text rest p here in
     let way = reads r.opened r.allowed.0 r.allowed.1 scope r.spot in
     record { opened = r.opened; spot = r.spot; first = r.first; others = r.others; begins = r.begins; some = r.some; opens = r.opens; allowed = tt; reads = way ∙ rw (r.reads) refl }
 
-reads_0 : Reads 0 request_fields request_passed
+reads_0 : ReadsNumber 0 request_fields request_passed
 unfolding any_apdu_at
 reads_0 o c n scope s = rw (c, n) refl
 
-reads_1 : Reads 1 response_fields response_passed
+reads_1 : ReadsNumber 1 response_fields response_passed
 unfolding any_apdu_at
 reads_1 o c n scope s = rw (c, n) refl
 
-reads_2 : Reads 2 release_fields release_passed
+reads_2 : ReadsNumber 2 release_fields release_passed
 unfolding any_apdu_at
 reads_2 o c n scope s = rw (c, n) refl
 
-reads_3 : Reads 3 release_fields release_passed
+reads_3 : ReadsNumber 3 release_fields release_passed
 unfolding any_apdu_at
 reads_3 o c n scope s = rw (c, n) refl
 
-reads_4 : Reads 4 abort_fields abort_passed
+reads_4 : ReadsNumber 4 abort_fields abort_passed
 unfolding any_apdu_at
 reads_4 o c n scope s = rw (c, n) refl
 

@@ -7,7 +7,7 @@ use Rattle.agreement.specs.Sets.Role.{Initiator, Responder}
 use Rattle.agreement.specs.Sets.Item.{Addition, Deletion}
 use Rattle.agreement.specs.Messages.{Setup, Message, Act}
 use Rattle.agreement.specs.Messages.Mode.{Direct}
-use Rattle.agreement.specs.Messages.Act.{Connects, Recovers, Says, Queues, Drops, Alters, Marks, Gives, Pleads, Restarts, Starts, Encodes, Sends, Ends, Interrupts, Discards, Resumes, Releases, Aborts, Withdraws, Fails}
+use Rattle.agreement.specs.Messages.Act.{Connects, Recovers, SaysValue, Queues, Drops, Alters, Marks, GivesTurn, Pleads, Restarts, Starts, Encodes, Sends, EndsActivity, Interrupts, Discards, Resumes, Releases, Aborts, Withdraws, TransportFails}
 use Rattle.agreement.specs.Messages.Message.{Data, Alter, AlterAnswer, Mark, Restart, Give, Please, Release, UserAbort}
 use Rattle.agreement.specs.State.{State}
 use Rattle.agreement.specs.State.Phase.{Idle, Up, Releasing, Broken, Over}
@@ -15,7 +15,7 @@ use Rattle.agreement.specs.State.Awaited.{RestartOf, ReleaseOf}
 use Rattle.agreement.specs.Acts.{MayAct, acted, sent_by, used}
 use Rattle.agreement.specs.Takings.{altered_first, later}
 use Rattle.agreement.specs.Worlds.{Sending, Shared, sendings, shared_all}
-use Rattle.agreement.proofs.Flights.{AreSound, Reads, rejections, rejections-fit}
+use Rattle.agreement.proofs.Flights.{AreSound, ReadsFlight, rejections, rejections-fit}
 use Rattle.agreement.proofs.Names.{IsUntouched, AllUntouched}
 use Rattle.agreement.proofs.Flights.Entry.{ARelease, AQuiet}
 use Rattle.agreement.proofs.Normal.{Normal, AreAbsent, AllAbsent, said, sent_plain, asks, marked, gave}
@@ -84,11 +84,11 @@ sound-of_asked role held used (Addition k o ∷ items) m = (m.0, sound-of_asked 
 sound-of_asked role held used (Deletion k ∷ items) m = (m.0.0, sound-of_asked role held used items m.1)
 
 -- a flight to an initiator holds no release
-pub reads-no_release : (from : Role) (held : ContextSet) (own : List (List Item)) (flight : List Sending) (shared : ContextSet) → Reads from held own (entries flight) shared → (from ≡ Initiator → ⊥) → AllAre IsNoRelease flight
+pub reads-no_release : (from : Role) (held : ContextSet) (own : List (List Item)) (flight : List Sending) (shared : ContextSet) → ReadsFlight from held own (entries flight) shared → (from ≡ Initiator → ⊥) → AllAre IsNoRelease flight
 reads-no_release from held own [] shared h n = tt
 reads-no_release from held own (s ∷ flight) shared h n = go (λ held own shared h. reads-no_release from held own flight shared h n) s.message h
   where
-    go : ((held : ContextSet) (own : List (List Item)) (shared : ContextSet) → Reads from held own (entries flight) shared → AllAre IsNoRelease flight) → (m : Message) → Reads from held own (entry s.shared m ∷ entries flight) shared → IsNoRelease m × AllAre IsNoRelease flight
+    go : ((held : ContextSet) (own : List (List Item)) (shared : ContextSet) → ReadsFlight from held own (entries flight) shared → AllAre IsNoRelease flight) → (m : Message) → ReadsFlight from held own (entry s.shared m ∷ entries flight) shared → IsNoRelease m × AllAre IsNoRelease flight
     go ih (Data value) h = (tt, ih held own shared h.2)
     go ih (Alter items) h = (tt, ih (altered items (rejections items) held) own (altered items (rejections items) shared) (h.3 (rejections items) (rejections-fit items)))
     go ih (AlterAnswer results) h = (tt, ih (altered_first own results held) (later own) shared h.1)
@@ -238,9 +238,9 @@ stays base role x y f g shared j (inr e) = not-broken base.most_marks role x y f
 pub acts : (base : Setup) (role : Role) (x y : State) (f g : List Sending) (shared : Shared) (act : Act) → MayAct (direct base) role x act → Joined base.most_marks role x y f g shared.set shared.saved → Joined base.most_marks role (acted (direct base) x act) y f (g ++ sendings shared.set (sent_by (direct base) x act)) (shared_all Direct role (sent_by (direct base) x act) shared).set (shared_all Direct role (sent_by (direct base) x act) shared).saved
 acts base role x y f g shared Connects h j = absurd (not-idle base.most_marks role x y f g shared.set shared.saved j h.is_idle)
 acts base role x y f g shared Recovers h j = absurd (not-broken base.most_marks role x y f g shared.set shared.saved j h.is_broken)
-acts base role x y f g shared (Says value) h j =
+acts base role x y f g shared (SaysValue value) h j =
     let k = free base.most_marks role x y f g shared.set shared.saved j h.is_free.is_up h.is_free.is_calm in
-    sends base.most_marks role x y (acted (direct base) x (Says value)) f g shared.set shared.set shared.saved shared.saved k (record { message = Data value; shared = shared.set }) h.is_free.is_up h.is_free.is_calm tt tt
+    sends base.most_marks role x y (acted (direct base) x (SaysValue value)) f g shared.set shared.set shared.saved shared.saved k (record { message = Data value; shared = shared.set }) h.is_free.is_up h.is_free.is_calm tt tt
     (said base.most_marks role (core x) k.peer (entries k.before_me) (entries k.to_peer) shared.set shared.saved value.identifier value.pair k.normal h.is_there
     (all-untouched_of role x.sets.held x.sets.own value.identifier value.pair k.normal.absent_me h.is_there h.is_kept))
 acts base role x y f g shared (Queues context apdu) h j = absurd (let e = h.by_transfers in cc)
@@ -256,9 +256,9 @@ acts base role x y f g shared Marks h j =
     let k = free base.most_marks role x y f g shared.set shared.saved j h.leads.is_free.is_up h.leads.is_free.is_calm in
     sends base.most_marks role x y (acted (direct base) x Marks) f g shared.set shared.set shared.saved (record { number = next_number x.saved; set = shared.set } ∷ shared.saved) k (record { message = Mark (next_number x.saved); shared = shared.set }) h.leads.is_free.is_up h.leads.is_free.is_calm tt tt
     (marked base.most_marks role (core x) k.peer (entries k.before_me) (entries k.to_peer) shared.set shared.saved k.normal h.leads.has_turn h.leads.is_settled h.in_mode)
-acts base role x y f g shared Gives h j =
+acts base role x y f g shared GivesTurn h j =
     let k = free base.most_marks role x y f g shared.set shared.saved j h.leads.is_free.is_up h.leads.is_free.is_calm in
-    sends base.most_marks role x y (acted (direct base) x Gives) f g shared.set shared.set shared.saved shared.saved k (record { message = Give; shared = shared.set }) h.leads.is_free.is_up h.leads.is_free.is_calm tt tt
+    sends base.most_marks role x y (acted (direct base) x GivesTurn) f g shared.set shared.set shared.saved shared.saved k (record { message = Give; shared = shared.set }) h.leads.is_free.is_up h.leads.is_free.is_calm tt tt
     (gave base.most_marks role (core x) k.peer (entries k.before_me) (entries k.to_peer) shared.set shared.saved k.normal h.leads.has_turn)
 acts base role x y f g shared (Pleads priority) h j =
     let k = free base.most_marks role x y f g shared.set shared.saved j h.is_free.is_up h.is_free.is_calm in
@@ -270,7 +270,7 @@ acts base role x y f g shared (Restarts number) h j =
 acts base role x y f g shared Starts h j = absurd (let e = h.by_transfers in cc)
 acts base role x y f g shared (Encodes context) h j = absurd (let e = h.by_transfers in cc)
 acts base role x y f g shared (Sends octets) h j = absurd (let e = h.by_transfers in cc)
-acts base role x y f g shared Ends h j = absurd (let e = h.by_transfers in cc)
+acts base role x y f g shared EndsActivity h j = absurd (let e = h.by_transfers in cc)
 acts base role x y f g shared Interrupts h j = absurd (let e = h.by_transfers in cc)
 acts base role x y f g shared Discards h j = absurd (let e = h.by_transfers in cc)
 acts base role x y f g shared Resumes h j = absurd (let e = h.by_transfers in cc)
@@ -280,4 +280,4 @@ acts base role x y f g shared Releases h j =
 acts base role x y f g shared Aborts h j =
     aborts base.most_marks role x y (acted (direct base) x Aborts) f g shared.set shared.set shared.saved j refl
 acts base role x y f g shared Withdraws h j = absurd (stays base role x y f g shared j (withdraws-in role x.phase h.in_phase))
-acts base role x y f g shared Fails h j = absurd (stays base role x y f g shared j (withdraws-in role x.phase h.in_phase))
+acts base role x y f g shared TransportFails h j = absurd (stays base role x y f g shared j (withdraws-in role x.phase h.in_phase))

@@ -7,7 +7,7 @@ use Rattle.agreement.specs.Sets.Role.{Initiator, Responder}
 use Rattle.agreement.specs.Messages.{Apdu, Value, Mode, Setup, Message, Act, Choice, Invocation, Calls}
 use Rattle.agreement.specs.Messages.Mode.{Bare, Direct, Reliable}
 use Rattle.agreement.specs.Messages.Apdu.{Invoke, Outcome, Reject}
-use Rattle.agreement.specs.Messages.Act.{Connects, Recovers, Says, Queues, Drops, Alters, Marks, Gives, Pleads, Restarts, Starts, Encodes, Sends, Ends, Interrupts, Discards, Resumes, Releases, Aborts, Withdraws, Fails}
+use Rattle.agreement.specs.Messages.Act.{Connects, Recovers, SaysValue, Queues, Drops, Alters, Marks, GivesTurn, Pleads, Restarts, Starts, Encodes, Sends, EndsActivity, Interrupts, Discards, Resumes, Releases, Aborts, Withdraws, TransportFails}
 use Rattle.agreement.specs.Messages.Choice.{Nothing, Accepting, Refusing, Results}
 use Rattle.agreement.specs.Messages.Message.{Connect, Recover, Accept, Refuse, Data, Alter, AlterAnswer, Mark, MarkAnswer, Restart, RestartAnswer, Start, Resume, Chunk, End, EndAnswer, Interrupt, InterruptAnswer, Discard, DiscardAnswer, Give, GiveAnswer, Please, Release, ReleaseAnswer, UserAbort}
 use Rattle.agreement.specs.State.{Handed, Transfer, State}
@@ -144,7 +144,7 @@ hears-value setup ks x (Some v) ns f k = hears-apdu setup ks x.calls v.identifie
 acts-answers : (setup : Setup) (role : Role) (ks : List ℕ) (x : State) (act : Act) (ns : List ℕ) → MayAct setup role x act → Keeps_answers ks x.calls.peer_open ns → Keeps_answers (answered_after (Acts act) ks) (acted setup x act).calls.peer_open ns
 acts-answers setup role ks x Connects ns h k = k
 acts-answers setup role ks x Recovers ns h k = k
-acts-answers setup role ks x (Says value) ns h k = hands-in setup ks x.calls x.outgoing.queue value.identifier value.apdu ns h.may_hand_in k
+acts-answers setup role ks x (SaysValue value) ns h k = hands-in setup ks x.calls x.outgoing.queue value.identifier value.apdu ns h.may_hand_in k
 acts-answers setup role ks x (Queues context apdu) ns h k = hands-in setup ks x.calls [] context apdu ns h.may_hand_in k
 acts-answers setup role ks x Drops ns h k = k
 acts-answers setup role ks x (Alters items) ns h k = k
@@ -154,7 +154,7 @@ acts-answers setup role ks x Marks ns h k = go setup.mode
     go Bare = k
     go Direct = k
     go Reliable = k
-acts-answers setup role ks x Gives ns h k = go setup.mode
+acts-answers setup role ks x GivesTurn ns h k = go setup.mode
   where
     go : (m : Mode) → Keeps_answers ks (gave_in m x).calls.peer_open ns
     go Bare = k
@@ -165,14 +165,14 @@ acts-answers setup role ks x (Restarts number) ns h k = k
 acts-answers setup role ks x Starts ns h k = k
 acts-answers setup role ks x (Encodes context) ns h k = k
 acts-answers setup role ks x (Sends octets) ns h k = k
-acts-answers setup role ks x Ends ns h k = k
+acts-answers setup role ks x EndsActivity ns h k = k
 acts-answers setup role ks x Interrupts ns h k = k
 acts-answers setup role ks x Discards ns h k = k
 acts-answers setup role ks x Resumes ns h k = k
 acts-answers setup role ks x Releases ns h k = k
 acts-answers setup role ks x Aborts ns h k = cuts ks x.calls.peer_open ns k
 acts-answers setup role ks x Withdraws ns h k = cuts ks x.calls.peer_open ns k
-acts-answers setup role ks x Fails ns h k = k
+acts-answers setup role ks x TransportFails ns h k = k
 
 begins : Keeps_answers [] [] []
 begins = record { distinct = tt; done = tt; up = tt }

@@ -6,7 +6,7 @@ use Rattle.agreement.specs.Sets.{Role, Item}
 use Rattle.agreement.specs.Sets.Role.{Initiator, Responder}
 use Rattle.agreement.specs.Messages.{Value, Mode, Setup, Message, Act, Choice}
 use Rattle.agreement.specs.Messages.Mode.{Bare, Direct, Reliable}
-use Rattle.agreement.specs.Messages.Act.{Marks, Gives}
+use Rattle.agreement.specs.Messages.Act.{Marks, GivesTurn}
 use Rattle.agreement.specs.Messages.Choice.{Nothing, Accepting, Refusing, Results}
 use Rattle.agreement.specs.Messages.Message.{Connect, Recover, Accept, Refuse, Data, Alter, AlterAnswer, Mark, MarkAnswer, Restart, RestartAnswer, Start, Resume, Chunk, End, EndAnswer, Interrupt, InterruptAnswer, Discard, DiscardAnswer, Give, GiveAnswer, Please, Release, ReleaseAnswer, UserAbort}
 use Rattle.agreement.specs.State.{Incoming, State, up_to}
@@ -80,7 +80,7 @@ acts-record setup ns x Marks f = go setup.mode
     go Bare = f
     go Direct = f
     go Reliable = f
-acts-record setup ns x Gives f = go setup.mode
+acts-record setup ns x GivesTurn f = go setup.mode
   where
     go : (m : Mode) → Falls ns (gave_in m x).incoming
     go Bare = f

@@ -5,7 +5,7 @@ use Rattle.agreement.specs.Sets.{Role, other, is_initiator, Context, lookup}
 use Rattle.agreement.specs.Sets.Role.{Initiator, Responder}
 use Rattle.agreement.specs.Messages.{Value, Setup, Message, Act, Choice}
 use Rattle.agreement.specs.Messages.Mode.{Bare}
-use Rattle.agreement.specs.Messages.Act.{Connects, Recovers, Says, Queues, Drops, Alters, Marks, Gives, Pleads, Restarts, Starts, Encodes, Sends, Ends, Interrupts, Discards, Resumes, Releases, Aborts, Withdraws, Fails}
+use Rattle.agreement.specs.Messages.Act.{Connects, Recovers, SaysValue, Queues, Drops, Alters, Marks, GivesTurn, Pleads, Restarts, Starts, Encodes, Sends, EndsActivity, Interrupts, Discards, Resumes, Releases, Aborts, Withdraws, TransportFails}
 use Rattle.agreement.specs.Messages.Message.{Data}
 use Rattle.agreement.specs.State.{State}
 use Rattle.agreement.specs.State.Phase.{Idle, Up, Broken, Over}
@@ -72,7 +72,7 @@ not_broken c role x h e = go h.phase
 bare-acts : (base : Setup) (role : Role) (x y : State) (f g : List Sending) (shared : Shared) (act : Act) → Plainly base.bare_context role x y f g shared → MayAct (bare base) role x act → After base role x y f g shared act
 bare-acts base role x y f g shared Connects n h = absurd (not_idle base.bare_context role x n.me h.is_idle)
 bare-acts base role x y f g shared Recovers n h = absurd (not_broken base.bare_context role x n.me h.is_broken)
-bare-acts base role x y f g shared (Says value) n h =
+bare-acts base role x y f g shared (SaysValue value) n h =
     record {
       me = record { held = n.me.held; calm = n.me.calm; phase = n.me.phase; turn = n.me.turn };
       peer = n.peer;
@@ -87,20 +87,20 @@ bare-acts base role x y f g shared Drops n h =
     record { me = record { held = n.me.held; calm = n.me.calm; phase = n.me.phase; turn = n.me.turn }; peer = n.peer; to_me = n.to_me; to_peer = all-bare_none base.bare_context g n.to_peer; set = n.set }
 bare-acts base role x y f g shared (Alters items) n h = absurd h.in_mode
 bare-acts base role x y f g shared Marks n h = absurd h.in_mode
-bare-acts base role x y f g shared Gives n h = absurd h.in_mode
+bare-acts base role x y f g shared GivesTurn n h = absurd h.in_mode
 bare-acts base role x y f g shared (Pleads priority) n h = absurd h.in_mode
 bare-acts base role x y f g shared (Restarts number) n h = absurd (let e = h.is_direct in cc)
 bare-acts base role x y f g shared Starts n h = absurd (let e = h.by_transfers in cc)
 bare-acts base role x y f g shared (Encodes context) n h = absurd (let e = h.by_transfers in cc)
 bare-acts base role x y f g shared (Sends octets) n h = absurd (let e = h.by_transfers in cc)
-bare-acts base role x y f g shared Ends n h = absurd (let e = h.by_transfers in cc)
+bare-acts base role x y f g shared EndsActivity n h = absurd (let e = h.by_transfers in cc)
 bare-acts base role x y f g shared Interrupts n h = absurd (let e = h.by_transfers in cc)
 bare-acts base role x y f g shared Discards n h = absurd (let e = h.by_transfers in cc)
 bare-acts base role x y f g shared Resumes n h = absurd (let e = h.by_transfers in cc)
 bare-acts base role x y f g shared Releases n h = absurd h.in_mode
 bare-acts base role x y f g shared Aborts n h = absurd h.in_mode
 bare-acts base role x y f g shared Withdraws n h = absurd h.in_mode
-bare-acts base role x y f g shared Fails n h = absurd h.in_mode
+bare-acts base role x y f g shared TransportFails n h = absurd h.in_mode
 
 pub record TookBare (base : Setup) (role : Role) (x y : State) (f g : List Sending) (shared : Shared) (s : Sending) (m : Message) (choice : Choice) : Type 0 where
   pub may : MayTake (bare base) role x m

@@ -5,7 +5,7 @@ use Rattle.agreement.specs.Sets.{Pair, Role, Item, lookup}
 use Rattle.agreement.specs.Sets.Role.{Initiator, Responder}
 use Rattle.agreement.specs.Messages.{Value, Mode, Setup, Codec, Message, Act, Choice}
 use Rattle.agreement.specs.Messages.Mode.{Bare, Direct, Reliable}
-use Rattle.agreement.specs.Messages.Act.{Connects, Recovers, Says, Queues, Drops, Alters, Marks, Gives, Pleads, Restarts, Starts, Encodes, Sends, Ends, Interrupts, Discards, Resumes, Releases, Aborts, Withdraws, Fails}
+use Rattle.agreement.specs.Messages.Act.{Connects, Recovers, SaysValue, Queues, Drops, Alters, Marks, GivesTurn, Pleads, Restarts, Starts, Encodes, Sends, EndsActivity, Interrupts, Discards, Resumes, Releases, Aborts, Withdraws, TransportFails}
 use Rattle.agreement.specs.Messages.Choice.{Nothing, Accepting, Refusing, Results}
 use Rattle.agreement.specs.Messages.Message.{Connect, Recover, Accept, Refuse, Data, Alter, AlterAnswer, Mark, MarkAnswer, Restart, RestartAnswer, Start, Resume, Chunk, End, EndAnswer, Interrupt, InterruptAnswer, Discard, DiscardAnswer, Give, GiveAnswer, Please, Release, ReleaseAnswer, UserAbort}
 use Rattle.agreement.specs.State.{Piece, Handed, Transfer, State, from_mark, up_to, joined}
@@ -74,7 +74,7 @@ begins-none codec value pieces e h = subst (λ v. BeginsIn codec v pieces) e h
 acts-begin : (setup : Setup) (role : Role) (x : State) (t : Option Transfer) (act : Act) → MayAct setup role (with_transfer x t) act → Begins setup.codec t → Begins setup.codec (acted setup (with_transfer x t) act).outgoing.transfer
 acts-begin setup role x t Connects h b = b
 acts-begin setup role x t Recovers h b = b
-acts-begin setup role x t (Says value) h b = b
+acts-begin setup role x t (SaysValue value) h b = b
 acts-begin setup role x t (Queues context apdu) h b = b
 acts-begin setup role x t Drops h b = b
 acts-begin setup role x t (Alters items) h b = b
@@ -85,7 +85,7 @@ acts-begin setup role x t Marks h b = go setup.mode t h.in_mode b
     go Direct t h b = b
     go Reliable None h b = b
     go Reliable (Some t) h b = begins-marked setup.codec t.value t.pieces (λ sent all. Unit {0}) _ refl h.0.1 b
-acts-begin setup role x t Gives h b = go setup.mode
+acts-begin setup role x t GivesTurn h b = go setup.mode
   where
     go : (m : Mode) → Begins setup.codec (gave_in m (with_transfer x t)).outgoing.transfer
     go Bare = b
@@ -103,8 +103,8 @@ acts-begin setup role x (Some t) (Encodes context) h b =
     begins-encoded setup.codec context t.item (lookup x.sets.held context) t.pieces (begins-none setup.codec t.value t.pieces h.is_due.1 b)
 acts-begin setup role x None (Sends octets) h b = b
 acts-begin setup role x (Some t) (Sends octets) h b = begins-sent setup.codec t.value t.pieces octets h.is_next.1
-acts-begin setup role x None Ends h b = b
-acts-begin setup role x (Some t) Ends h b = b
+acts-begin setup role x None EndsActivity h b = b
+acts-begin setup role x (Some t) EndsActivity h b = b
 acts-begin setup role x t Interrupts h b = b
 acts-begin setup role x None Discards h b = b
 acts-begin setup role x (Some t) Discards h b = b
@@ -113,7 +113,7 @@ acts-begin setup role x (Some t) Resumes h b = begins-resumed setup.codec t.conf
 acts-begin setup role x t Releases h b = b
 acts-begin setup role x t Aborts h b = b
 acts-begin setup role x t Withdraws h b = b
-acts-begin setup role x t Fails h b = b
+acts-begin setup role x t TransportFails h b = b
 
 hears-begin : (setup : Setup) (v : Option Value) (x : State) → Begins setup.codec x.outgoing.transfer → Begins setup.codec (hears setup v x).outgoing.transfer
 hears-begin setup None x b = b

@@ -5,7 +5,7 @@ use Rattle.agreement.specs.Sets.{Role, other, Item}
 use Rattle.agreement.specs.Sets.Role.{Initiator, Responder}
 use Rattle.agreement.specs.Messages.{Mode, Setup, Message, Act, Choice, Value}
 use Rattle.agreement.specs.Messages.Mode.{Bare, Direct, Reliable}
-use Rattle.agreement.specs.Messages.Act.{Connects, Recovers, Says, Queues, Drops, Alters, Marks, Gives, Pleads, Restarts, Starts, Encodes, Sends, Ends, Interrupts, Discards, Resumes, Releases, Aborts, Withdraws, Fails}
+use Rattle.agreement.specs.Messages.Act.{Connects, Recovers, SaysValue, Queues, Drops, Alters, Marks, GivesTurn, Pleads, Restarts, Starts, Encodes, Sends, EndsActivity, Interrupts, Discards, Resumes, Releases, Aborts, Withdraws, TransportFails}
 use Rattle.agreement.specs.Messages.Choice.{Nothing, Accepting, Refusing, Results}
 use Rattle.agreement.specs.Messages.Message.{Connect, Recover, Accept, Refuse, Data, Alter, AlterAnswer, Mark, MarkAnswer, Restart, RestartAnswer, Start, Resume, Chunk, End, EndAnswer, Interrupt, InterruptAnswer, Discard, DiscardAnswer, Give, GiveAnswer, Please, Release, ReleaseAnswer, UserAbort}
 use Rattle.agreement.specs.State.{Phase, State, new_end}
@@ -103,10 +103,10 @@ between-leading setup (Some v) x h = h
 not-up : (p : Phase) (A : Type 0) → (p ≡ Up → ⊥) → p ≡ Up → A
 not-up p A n e = absurd (n e)
 
-acts-leading : (setup : Setup) (x : State) (act : Act) → (act ≡ Gives → ⊥) → Leading x → Leading (acted setup x act)
+acts-leading : (setup : Setup) (x : State) (act : Act) → (act ≡ GivesTurn → ⊥) → Leading x → Leading (acted setup x act)
 acts-leading setup x Connects n h = λ e. absurd (cc)
 acts-leading setup x Recovers n h = λ e. absurd (cc)
-acts-leading setup x (Says value) n h = h
+acts-leading setup x (SaysValue value) n h = h
 acts-leading setup x (Queues context apdu) n h = h
 acts-leading setup x Drops n h = h
 acts-leading setup x (Alters items) n h = h
@@ -116,20 +116,20 @@ acts-leading setup x Marks n h = go setup.mode
     go Bare = h
     go Direct = h
     go Reliable = h
-acts-leading setup x Gives n h = absurd (n refl)
+acts-leading setup x GivesTurn n h = absurd (n refl)
 acts-leading setup x (Pleads priority) n h = h
 acts-leading setup x (Restarts number) n h = h
 acts-leading setup x Starts n h = h
 acts-leading setup x (Encodes context) n h = h
 acts-leading setup x (Sends octets) n h = h
-acts-leading setup x Ends n h = h
+acts-leading setup x EndsActivity n h = h
 acts-leading setup x Interrupts n h = h
 acts-leading setup x Discards n h = h
 acts-leading setup x Resumes n h = h
 acts-leading setup x Releases n h = λ e. absurd (cc)
 acts-leading setup x Aborts n h = λ e. absurd (cc)
 acts-leading setup x Withdraws n h = λ e. absurd (cc)
-acts-leading setup x Fails n h = λ e. absurd (cc)
+acts-leading setup x TransportFails n h = λ e. absurd (cc)
 
 refusing-up : (p : Phase) → refusing p ≡ Up → ⊥
 refusing-up Broken e = cc
@@ -198,7 +198,7 @@ broken-up Reliable p e = cc
 pub initiator-leads : (setup : Setup) → InitiatorLeads setup
 initiator-leads setup [] earlier set choice n = λ e. refl
 initiator-leads setup (Break ∷ later) earlier set choice n = λ e. absurd (broken-up setup.mode (state_of setup Initiator (later ++ (By Initiator (Takes (Accept set) choice) ∷ earlier))).phase e)
-initiator-leads setup (By Initiator (Acts Gives) ∷ later) earlier set choice n = absurd n
+initiator-leads setup (By Initiator (Acts GivesTurn) ∷ later) earlier set choice n = absurd n
 initiator-leads setup (By Initiator (Acts act) ∷ later) earlier set choice n =
     acts-leading setup (state_of setup Initiator (later ++ (By Initiator (Takes (Accept set) choice) ∷ earlier))) act (λ e. cc) (initiator-leads setup later earlier set choice n)
 initiator-leads setup (By Initiator (Takes m c) ∷ later) earlier set choice n =

@@ -4,7 +4,7 @@ use Rattle.agreement.specs.Sets.{Role, other, IsRising, AreKnown, IsKnownSet, Co
 use Rattle.agreement.specs.Sets.Role.{Initiator, Responder}
 use Rattle.agreement.specs.Messages.{Value, Mode, Setup, Message, Act, Choice}
 use Rattle.agreement.specs.Messages.Mode.{Bare, Direct, Reliable}
-use Rattle.agreement.specs.Messages.Act.{Connects, Recovers, Says, Queues, Drops, Alters, Marks, Gives, Pleads, Restarts, Starts, Encodes, Sends, Ends, Interrupts, Discards, Resumes, Releases, Aborts, Withdraws, Fails}
+use Rattle.agreement.specs.Messages.Act.{Connects, Recovers, SaysValue, Queues, Drops, Alters, Marks, GivesTurn, Pleads, Restarts, Starts, Encodes, Sends, EndsActivity, Interrupts, Discards, Resumes, Releases, Aborts, Withdraws, TransportFails}
 use Rattle.agreement.specs.Messages.Choice.{Nothing, Accepting, Refusing, Results}
 use Rattle.agreement.specs.Messages.Message.{Connect, Recover, Accept, Data, Alter, AlterAnswer, Mark, Restart, End, Interrupt, Discard, Give, Release}
 use Rattle.agreement.specs.State.{State}
@@ -58,25 +58,25 @@ WasSent setup message = Unit {0}
 acts-sent : (setup : Setup) (x : State) (act : Act) (at : ContextSet) → AllSent (λ s. WasSent setup s.message) (sendings at (sent_by setup x act))
 acts-sent setup x Connects at = (tt, tt)
 acts-sent setup x Recovers at = (tt, tt)
-acts-sent setup x (Says value) at = (tt, tt)
+acts-sent setup x (SaysValue value) at = (tt, tt)
 acts-sent setup x (Queues context apdu) at = tt
 acts-sent setup x Drops at = tt
 acts-sent setup x (Alters items) at = (tt, tt)
 acts-sent setup x Marks at = (tt, tt)
-acts-sent setup x Gives at = (tt, tt)
+acts-sent setup x GivesTurn at = (tt, tt)
 acts-sent setup x (Pleads priority) at = (tt, tt)
 acts-sent setup x (Restarts number) at = (tt, tt)
 acts-sent setup x Starts at = (tt, tt)
 acts-sent setup x (Encodes context) at = tt
 acts-sent setup x (Sends octets) at = (tt, tt)
-acts-sent setup x Ends at = (tt, tt)
+acts-sent setup x EndsActivity at = (tt, tt)
 acts-sent setup x Interrupts at = (tt, tt)
 acts-sent setup x Discards at = (tt, tt)
 acts-sent setup x Resumes at = (tt, tt)
 acts-sent setup x Releases at = (tt, tt)
 acts-sent setup x Aborts at = (tt, tt)
 acts-sent setup x Withdraws at = tt
-acts-sent setup x Fails at = tt
+acts-sent setup x TransportFails at = tt
 
 answers-sent : (setup : Setup) (x : State) (m : Message) (choice : Choice) (at : ContextSet) → IsChoice setup x m choice → AllSent (λ s. WasSent setup s.message) (sendings at (answer_to setup x m choice))
 answers-sent setup x Connect (Accepting set) at c = ((c.is_set, c.is_known), tt)
@@ -126,25 +126,25 @@ IsWritten setup message = Unit {0}
 acts-written : (setup : Setup) (role : Role) (x : State) (act : Act) (at : ContextSet) → MayAct setup role x act → AllSent (λ s. IsWritten setup s.message) (sendings at (sent_by setup x act))
 acts-written setup role x Connects at h = (tt, tt)
 acts-written setup role x Recovers at h = (tt, tt)
-acts-written setup role x (Says value) at h = (h.is_writable, tt)
+acts-written setup role x (SaysValue value) at h = (h.is_writable, tt)
 acts-written setup role x (Queues context apdu) at h = tt
 acts-written setup role x Drops at h = tt
 acts-written setup role x (Alters items) at h = (tt, tt)
 acts-written setup role x Marks at h = (tt, tt)
-acts-written setup role x Gives at h = (tt, tt)
+acts-written setup role x GivesTurn at h = (tt, tt)
 acts-written setup role x (Pleads priority) at h = (tt, tt)
 acts-written setup role x (Restarts number) at h = (tt, tt)
 acts-written setup role x Starts at h = (tt, tt)
 acts-written setup role x (Encodes context) at h = tt
 acts-written setup role x (Sends octets) at h = (tt, tt)
-acts-written setup role x Ends at h = (tt, tt)
+acts-written setup role x EndsActivity at h = (tt, tt)
 acts-written setup role x Interrupts at h = (tt, tt)
 acts-written setup role x Discards at h = (tt, tt)
 acts-written setup role x Resumes at h = (tt, tt)
 acts-written setup role x Releases at h = (tt, tt)
 acts-written setup role x Aborts at h = (tt, tt)
 acts-written setup role x Withdraws at h = tt
-acts-written setup role x Fails at h = tt
+acts-written setup role x TransportFails at h = tt
 
 answers-written : (setup : Setup) (x : State) (m : Message) (choice : Choice) (at : ContextSet) → AllSent (λ s. IsWritten setup s.message) (sendings at (answer_to setup x m choice))
 answers-written setup x Connect (Accepting set) at = (tt, tt)

@@ -4,7 +4,7 @@ use Rattle.agreement.specs.Sets.{Role, other, ContextSet, Saved}
 use Rattle.agreement.specs.Sets.Role.{Initiator, Responder}
 use Rattle.agreement.specs.Messages.{Setup, Message, Act, Choice}
 use Rattle.agreement.specs.Messages.Mode.{Direct}
-use Rattle.agreement.specs.Messages.Act.{Connects, Recovers, Says, Queues, Drops, Alters, Marks, Gives, Pleads, Restarts, Starts, Encodes, Sends, Ends, Interrupts, Discards, Resumes, Releases, Aborts, Withdraws, Fails}
+use Rattle.agreement.specs.Messages.Act.{Connects, Recovers, SaysValue, Queues, Drops, Alters, Marks, GivesTurn, Pleads, Restarts, Starts, Encodes, Sends, EndsActivity, Interrupts, Discards, Resumes, Releases, Aborts, Withdraws, TransportFails}
 use Rattle.agreement.specs.Messages.Choice.{Nothing, Accepting, Refusing, Results}
 use Rattle.agreement.specs.Messages.Message.{Connect, Accept, Refuse, UserAbort}
 use Rattle.agreement.specs.State.{State, joined_with, new_end}
@@ -42,25 +42,25 @@ DirectRelation base Responder x y f g shared = Stage base.most_marks y x g f sha
 pub over-still : (setup : Setup) (role : Role) (x : State) (act : Act) → MayAct setup role x act → x.phase ≡ Over → ⊥
 over-still setup role x Connects h e = let d = h.is_idle in cc
 over-still setup role x Recovers h e = let d = h.is_broken in cc
-over-still setup role x (Says value) h e = let d = h.is_free.is_up in cc
+over-still setup role x (SaysValue value) h e = let d = h.is_free.is_up in cc
 over-still setup role x (Queues context apdu) h e = let d = h.is_up in cc
 over-still setup role x Drops h e = let d = h.is_free.is_up in cc
 over-still setup role x (Alters items) h e = let d = h.is_free.is_up in cc
 over-still setup role x Marks h e = let d = h.leads.is_free.is_up in cc
-over-still setup role x Gives h e = let d = h.leads.is_free.is_up in cc
+over-still setup role x GivesTurn h e = let d = h.leads.is_free.is_up in cc
 over-still setup role x (Pleads priority) h e = let d = h.is_free.is_up in cc
 over-still setup role x (Restarts number) h e = let d = h.is_free.is_up in cc
 over-still setup role x Starts h e = let d = h.leads.is_free.is_up in cc
 over-still setup role x (Encodes context) h e = let d = h.leads.is_free.is_up in cc
 over-still setup role x (Sends octets) h e = let d = h.leads.is_free.is_up in cc
-over-still setup role x Ends h e = let d = h.leads.is_free.is_up in cc
+over-still setup role x EndsActivity h e = let d = h.leads.is_free.is_up in cc
 over-still setup role x Interrupts h e = let d = h.is_free.is_up in cc
 over-still setup role x Discards h e = let d = h.is_free.is_up in cc
 over-still setup role x Resumes h e = let d = h.leads.is_free.is_up in cc
 over-still setup role x Releases h e = let d = h.is_free.is_up in cc
 over-still setup role x Aborts h e = subst MayAbortIn e h.in_phase
 over-still setup role x Withdraws h e = subst (MayWithdrawIn role) e h.in_phase
-over-still setup role x Fails h e = subst (MayWithdrawIn role) e h.in_phase
+over-still setup role x TransportFails h e = subst (MayWithdrawIn role) e h.in_phase
 
 -- the phase of who may act otherwise than by opening, recovering, aborting or withdrawing
 pub data Acting (role : Role) (x : State) : Act → Type 0 where
@@ -68,31 +68,31 @@ pub data Acting (role : Role) (x : State) : Act → Type 0 where
   ByRecovering : role ≡ Initiator → x.phase ≡ Broken → Acting role x Recovers
   ByAborting : MayAbortIn x.phase → Acting role x Aborts
   ByWithdrawing : MayWithdrawIn role x.phase → Acting role x Withdraws
-  ByFailing : MayWithdrawIn role x.phase → Acting role x Fails
+  ByFailing : MayWithdrawIn role x.phase → Acting role x TransportFails
   WhileUp : {act : Act} → x.phase ≡ Up → Acting role x act
 
 pub acting : (setup : Setup) (role : Role) (x : State) (act : Act) → MayAct setup role x act → Acting role x act
 acting setup role x Connects h = ByConnecting h.initiates h.is_idle
 acting setup role x Recovers h = ByRecovering h.initiates h.is_broken
-acting setup role x (Says value) h = WhileUp h.is_free.is_up
+acting setup role x (SaysValue value) h = WhileUp h.is_free.is_up
 acting setup role x (Queues context apdu) h = WhileUp h.is_up
 acting setup role x Drops h = WhileUp h.is_free.is_up
 acting setup role x (Alters items) h = WhileUp h.is_free.is_up
 acting setup role x Marks h = WhileUp h.leads.is_free.is_up
-acting setup role x Gives h = WhileUp h.leads.is_free.is_up
+acting setup role x GivesTurn h = WhileUp h.leads.is_free.is_up
 acting setup role x (Pleads priority) h = WhileUp h.is_free.is_up
 acting setup role x (Restarts number) h = WhileUp h.is_free.is_up
 acting setup role x Starts h = WhileUp h.leads.is_free.is_up
 acting setup role x (Encodes context) h = WhileUp h.leads.is_free.is_up
 acting setup role x (Sends octets) h = WhileUp h.leads.is_free.is_up
-acting setup role x Ends h = WhileUp h.leads.is_free.is_up
+acting setup role x EndsActivity h = WhileUp h.leads.is_free.is_up
 acting setup role x Interrupts h = WhileUp h.is_free.is_up
 acting setup role x Discards h = WhileUp h.is_free.is_up
 acting setup role x Resumes h = WhileUp h.leads.is_free.is_up
 acting setup role x Releases h = WhileUp h.is_free.is_up
 acting setup role x Aborts h = ByAborting h.in_phase
 acting setup role x Withdraws h = ByWithdrawing h.in_phase
-acting setup role x Fails h = ByFailing h.in_phase
+acting setup role x TransportFails h = ByFailing h.in_phase
 
 After : (base : Setup) (role : Role) (x y : State) (f g : List Sending) (shared : Shared) (act : Act) → Type 0
 After base role x y f g shared act = DirectRelation base role (acted (direct base) x act) y f (g ++ sendings shared.set (sent_by (direct base) x act)) (shared_all Direct role (sent_by (direct base) x act) shared)
@@ -108,7 +108,7 @@ initiator-acts base a b f g shared act (Fresh p q e d c k) h = go act (acting (d
     go Recovers (ByRecovering r i) = absurd (cc)
     go Aborts (ByAborting i) = absurd (subst MayAbortIn p i)
     go Withdraws (ByWithdrawing i) = Lost refl q (ap (λ xs. xs ++ []) d)
-    go Fails (ByFailing i) = Lost refl q (ap (λ xs. xs ++ []) d)
+    go TransportFails (ByFailing i) = Lost refl q (ap (λ xs. xs ++ []) d)
     go act (WhileUp i) = absurd (cc)
 initiator-acts base a b f g shared act (Asked s p k q c e d i) h = go act (acting (direct base) Initiator a act h)
   where
@@ -118,7 +118,7 @@ initiator-acts base a b f g shared act (Asked s p k q c e d i) h = go act (actin
     go Aborts (ByAborting j) =
         Dropped s (record { message = UserAbort; shared = shared.set } ∷ []) refl q c e (ap (λ xs. xs ++ (record { message = UserAbort; shared = shared.set } ∷ [])) d) i (tt, tt)
     go Withdraws (ByWithdrawing j) = absurd (subst (MayWithdrawIn Initiator) p j)
-    go Fails (ByFailing j) = absurd (subst (MayWithdrawIn Initiator) p j)
+    go TransportFails (ByFailing j) = absurd (subst (MayWithdrawIn Initiator) p j)
     go act (WhileUp j) = absurd (cc)
 initiator-acts base a b f g shared act (Refused s p k q e i) h = go act (acting (direct base) Initiator a act h)
   where
@@ -127,7 +127,7 @@ initiator-acts base a b f g shared act (Refused s p k q e i) h = go act (acting 
     go Recovers (ByRecovering r j) = absurd (cc)
     go Aborts (ByAborting j) = Dead refl q
     go Withdraws (ByWithdrawing j) = absurd (subst (MayWithdrawIn Initiator) p j)
-    go Fails (ByFailing j) = absurd (subst (MayWithdrawIn Initiator) p j)
+    go TransportFails (ByFailing j) = absurd (subst (MayWithdrawIn Initiator) p j)
     go act (WhileUp j) = absurd (cc)
 initiator-acts base a b f g shared act (Deaf (inl p) c q e) h = go act (acting (direct base) Initiator a act h)
   where
@@ -136,7 +136,7 @@ initiator-acts base a b f g shared act (Deaf (inl p) c q e) h = go act (acting (
     go Recovers (ByRecovering r j) = absurd (cc)
     go Aborts (ByAborting j) = absurd (subst MayAbortIn p j)
     go Withdraws (ByWithdrawing j) = Dead refl q
-    go Fails (ByFailing j) = Dead refl q
+    go TransportFails (ByFailing j) = Dead refl q
     go act (WhileUp j) = absurd (cc)
 initiator-acts base a b f g shared act (Deaf (inr p) c q e) h = go act (acting (direct base) Initiator a act h)
   where
@@ -145,14 +145,14 @@ initiator-acts base a b f g shared act (Deaf (inr p) c q e) h = go act (acting (
     go Recovers (ByRecovering r j) = absurd (cc)
     go Aborts (ByAborting j) = Dead refl q
     go Withdraws (ByWithdrawing j) = absurd (subst (MayWithdrawIn Initiator) p j)
-    go Fails (ByFailing j) = absurd (subst (MayWithdrawIn Initiator) p j)
+    go TransportFails (ByFailing j) = absurd (subst (MayWithdrawIn Initiator) p j)
     go act (WhileUp j) = absurd (cc)
 initiator-acts base a b f g shared act (Dropped s behind p q c e d i l) h = absurd (over-still (direct base) Initiator a act h p)
 initiator-acts base a b f g shared act (Lost p q e) h = absurd (over-still (direct base) Initiator a act h p)
 initiator-acts base a b f g shared act (Dead p q) h = absurd (over-still (direct base) Initiator a act h p)
 
 -- a responder that is idle can only go over
-pub idle-withdraws : (setup : Setup) (x : State) (act : Act) (P : Act → Type 0) → MayAct setup Responder x act → x.phase ≡ Idle → P Withdraws → P Fails → P act
+pub idle-withdraws : (setup : Setup) (x : State) (act : Act) (P : Act → Type 0) → MayAct setup Responder x act → x.phase ≡ Idle → P Withdraws → P TransportFails → P act
 idle-withdraws setup x act P h e p q = go act (acting setup Responder x act h)
   where
     go : (act : Act) → Acting Responder x act → P act
@@ -160,7 +160,7 @@ idle-withdraws setup x act P h e p q = go act (acting setup Responder x act h)
     go Recovers (ByRecovering r j) = absurd (cc)
     go Aborts (ByAborting j) = absurd (subst MayAbortIn e j)
     go Withdraws (ByWithdrawing j) = p
-    go Fails (ByFailing j) = q
+    go TransportFails (ByFailing j) = q
     go act (WhileUp j) = absurd (cc)
 
 responder-acts : (base : Setup) (a b : State) (f g : List Sending) (shared : Shared) (act : Act) → Stage base.most_marks a b f g shared → MayAct (direct base) Responder b act → After base Responder b a g f shared act

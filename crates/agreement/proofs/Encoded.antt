@@ -5,7 +5,7 @@ use Rattle.agreement.specs.Sets.{Role, other, Pair, ContextSet, lookup, Item}
 use Rattle.agreement.specs.Sets.Role.{Initiator, Responder}
 use Rattle.agreement.specs.Messages.{Apdu, Value, Mode, Setup, Message, Act, Choice}
 use Rattle.agreement.specs.Messages.Mode.{Bare, Direct, Reliable}
-use Rattle.agreement.specs.Messages.Act.{Connects, Recovers, Says, Queues, Drops, Alters, Marks, Gives, Pleads, Restarts, Starts, Encodes, Sends, Ends, Interrupts, Discards, Resumes, Releases, Aborts, Withdraws, Fails}
+use Rattle.agreement.specs.Messages.Act.{Connects, Recovers, SaysValue, Queues, Drops, Alters, Marks, GivesTurn, Pleads, Restarts, Starts, Encodes, Sends, EndsActivity, Interrupts, Discards, Resumes, Releases, Aborts, Withdraws, TransportFails}
 use Rattle.agreement.specs.Messages.Choice.{Nothing, Accepting, Refusing, Results}
 use Rattle.agreement.specs.Messages.Message.{Connect, Recover, Accept, Refuse, Data, Alter, AlterAnswer, Mark, MarkAnswer, Restart, RestartAnswer, Start, Resume, Chunk, End, EndAnswer, Interrupt, InterruptAnswer, Discard, DiscardAnswer, Give, GiveAnswer, Please, Release, ReleaseAnswer, UserAbort}
 use Rattle.agreement.specs.State.{Phase, Awaited, Progress, Handed, Transfer, Outgoing, State, new_end}
@@ -188,7 +188,7 @@ resumed-encoded value a (suc n) c es h = h
 acts-encoded : (setup : Setup) (x : State) (shared : ContextSet) (t : Option Transfer) (act : Act) (es : List Encoding) → ((context : ℕ) → act ≡ Encodes context → shared ≡ x.sets.held) → Encoded t x.outgoing.started es → Encoded (acted setup (with_transfer x t) act).outgoing.transfer (acted setup (with_transfer x t) act).outgoing.started (encoded_by (with_transfer x t) shared (Acts act) ++ es)
 acts-encoded setup x shared t Connects es k h = h
 acts-encoded setup x shared t Recovers es k h = h
-acts-encoded setup x shared t (Says value) es k h = h
+acts-encoded setup x shared t (SaysValue value) es k h = h
 acts-encoded setup x shared t (Queues context apdu) es k h = h
 acts-encoded setup x shared t Drops es k h = h
 acts-encoded setup x shared t (Alters items) es k h = h
@@ -199,7 +199,7 @@ acts-encoded setup x shared t Marks es k h = go setup.mode t h
     go Direct t h = h
     go Reliable None h = h
     go Reliable (Some t) h = h
-acts-encoded setup x shared t Gives es k h = go setup.mode
+acts-encoded setup x shared t GivesTurn es k h = go setup.mode
   where
     go : (m : Mode) → Encoded (gave_in m (with_transfer x t)).outgoing.transfer (gave_in m (with_transfer x t)).outgoing.started es
     go Bare = h
@@ -221,8 +221,8 @@ acts-encoded setup x shared (Some t) (Encodes context) es k h = go (lookup x.set
         ((λ i. record { activity = x.outgoing.started; apdu = t.item.apdu; identifier = context; pair = (ap (λ s. lookup s context) (k context refl) ∙ e) i }), refl)
 acts-encoded setup x shared None (Sends octets) es k h = tt
 acts-encoded setup x shared (Some t) (Sends octets) es k h = h
-acts-encoded setup x shared None Ends es k h = tt
-acts-encoded setup x shared (Some t) Ends es k h = h
+acts-encoded setup x shared None EndsActivity es k h = tt
+acts-encoded setup x shared (Some t) EndsActivity es k h = h
 acts-encoded setup x shared t Interrupts es k h = h
 acts-encoded setup x shared None Discards es k h = tt
 acts-encoded setup x shared (Some t) Discards es k h = h
@@ -231,7 +231,7 @@ acts-encoded setup x shared (Some t) Resumes es k h = resumed-encoded t.value t.
 acts-encoded setup x shared t Releases es k h = h
 acts-encoded setup x shared t Aborts es k h = h
 acts-encoded setup x shared t Withdraws es k h = h
-acts-encoded setup x shared t Fails es k h = h
+acts-encoded setup x shared t TransportFails es k h = h
 
 hears-encoded : (setup : Setup) (v : Option Value) (x : State) (es : List Encoding) → Encoded x.outgoing.transfer x.outgoing.started es → Encoded (hears setup v x).outgoing.transfer (hears setup v x).outgoing.started es
 hears-encoded setup None x es h = h

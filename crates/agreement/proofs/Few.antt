@@ -5,7 +5,7 @@ use Rattle.agreement.specs.Sets.{Role, Item, AreDistinct, named, most_alteration
 use Rattle.agreement.specs.Sets.Role.{Initiator, Responder}
 use Rattle.agreement.specs.Messages.{Value, Mode, Setup, Message, Act, Choice}
 use Rattle.agreement.specs.Messages.Mode.{Bare, Direct, Reliable}
-use Rattle.agreement.specs.Messages.Act.{Connects, Recovers, Says, Queues, Drops, Alters, Marks, Gives, Pleads, Restarts, Starts, Encodes, Sends, Ends, Interrupts, Discards, Resumes, Releases, Aborts, Withdraws, Fails}
+use Rattle.agreement.specs.Messages.Act.{Connects, Recovers, SaysValue, Queues, Drops, Alters, Marks, GivesTurn, Pleads, Restarts, Starts, Encodes, Sends, EndsActivity, Interrupts, Discards, Resumes, Releases, Aborts, Withdraws, TransportFails}
 use Rattle.agreement.specs.Messages.Choice.{Nothing, Accepting, Refusing, Results}
 use Rattle.agreement.specs.Messages.Message.{Connect, Recover, Accept, Refuse, Data, Alter, AlterAnswer, Mark, MarkAnswer, Restart, RestartAnswer, Start, Resume, Chunk, End, EndAnswer, Interrupt, InterruptAnswer, Discard, DiscardAnswer, Give, GiveAnswer, Please, Release, ReleaseAnswer, UserAbort}
 use Rattle.agreement.specs.State.{State}
@@ -51,7 +51,7 @@ acts-few setup role x Marks h f = go setup.mode
     go Bare = f
     go Direct = f
     go Reliable = f
-acts-few setup role x Gives h f = go setup.mode
+acts-few setup role x GivesTurn h f = go setup.mode
   where
     go : (m : Mode) → FewOf (gave_in m x)
     go Bare = f
@@ -59,7 +59,7 @@ acts-few setup role x Gives h f = go setup.mode
     go Reliable = f
 acts-few setup role x Connects h f = f
 acts-few setup role x Recovers h f = f
-acts-few setup role x (Says value) h f = f
+acts-few setup role x (SaysValue value) h f = f
 acts-few setup role x (Queues context apdu) h f = f
 acts-few setup role x Drops h f = f
 acts-few setup role x (Pleads priority) h f = f
@@ -67,14 +67,14 @@ acts-few setup role x (Restarts number) h f = f
 acts-few setup role x Starts h f = f
 acts-few setup role x (Encodes context) h f = f
 acts-few setup role x (Sends octets) h f = f
-acts-few setup role x Ends h f = f
+acts-few setup role x EndsActivity h f = f
 acts-few setup role x Interrupts h f = f
 acts-few setup role x Discards h f = f
 acts-few setup role x Resumes h f = f
 acts-few setup role x Releases h f = f
 acts-few setup role x Aborts h f = f
 acts-few setup role x Withdraws h f = f
-acts-few setup role x Fails h f = f
+acts-few setup role x TransportFails h f = f
 
 hears-few : (setup : Setup) (v : Option Value) (x : State) → FewOf x → FewOf (hears setup v x)
 hears-few setup None x f = f

@@ -22,13 +22,13 @@ pub data Entry : Type 0 where
 
 -- the items are sound over a set: additions of what is absent, under the asker's parity, and
 -- deletions of what is there
-abbrev pub IsSound : Role → ContextSet → Item → Type 0
-IsSound role set (Addition k offers) = (k % 2 ≡ parity role) × (lookup set k ≡ None)
-IsSound role set (Deletion k) = is_some (lookup set k) ≡ true
+abbrev pub IsSoundItem : Role → ContextSet → Item → Type 0
+IsSoundItem role set (Addition k offers) = (k % 2 ≡ parity role) × (lookup set k ≡ None)
+IsSoundItem role set (Deletion k) = is_some (lookup set k) ≡ true
 
 abbrev pub AreSound : Role → ContextSet → List Item → Type 0
 AreSound role set [] = Unit {0}
-AreSound role set (item ∷ items) = IsSound role set item × AreSound role set items
+AreSound role set (item ∷ items) = IsSoundItem role set item × AreSound role set items
 
 -- items that commute: an addition is of another context than the other item
 abbrev pub IsApart : Item → Item → Type 0
@@ -51,20 +51,20 @@ AllApart (own ∷ rest) items = AreApart own items × AllApart rest items
 
 -- How a taker with this set and these own alterations reads a flight from the end of this role: each
 -- value under the set, and in the end, however it answers, it holds the shared set.
-abbrev pub Reads : Role → ContextSet → List (List Item) → List Entry → ContextSet → Type 0
-Reads from held own [] shared = held ≡ shared
-Reads from held own (AValue at k p ∷ flight) shared =
-    (lookup held k ≡ Some p) × (lookup at k ≡ Some p) × Reads from held own flight shared
-Reads from held own (AnAsk at items ∷ flight) shared =
+abbrev pub ReadsFlight : Role → ContextSet → List (List Item) → List Entry → ContextSet → Type 0
+ReadsFlight from held own [] shared = held ≡ shared
+ReadsFlight from held own (AValue at k p ∷ flight) shared =
+    (lookup held k ≡ Some p) × (lookup at k ≡ Some p) × ReadsFlight from held own flight shared
+ReadsFlight from held own (AnAsk at items ∷ flight) shared =
     AreSound from held items × AreDistinct (identifiers items) × AllApart own items ×
-    ((results : List Result) → Fits items results → Reads from (altered items results held) own flight (altered items results shared))
-Reads from held own (AnAnswer results ∷ flight) shared =
-    OnFirst (λ items. Fits items results) own × Reads from (altered_first own results held) (later own) flight shared
-Reads from held own (AMark at number ∷ flight) shared = (held ≡ at) × Reads from held own flight shared
-Reads from held own (AGive ∷ flight) shared = Reads from held own flight shared
-Reads from held own (ARelease ∷ flight) shared = (from ≡ Initiator) × Reads from held own flight shared
-Reads from held own (AQuiet ∷ flight) shared = Reads from held own flight shared
-Reads from held own (ABad ∷ flight) shared = ⊥
+    ((results : List Result) → Fits items results → ReadsFlight from (altered items results held) own flight (altered items results shared))
+ReadsFlight from held own (AnAnswer results ∷ flight) shared =
+    OnFirst (λ items. Fits items results) own × ReadsFlight from (altered_first own results held) (later own) flight shared
+ReadsFlight from held own (AMark at number ∷ flight) shared = (held ≡ at) × ReadsFlight from held own flight shared
+ReadsFlight from held own (AGive ∷ flight) shared = ReadsFlight from held own flight shared
+ReadsFlight from held own (ARelease ∷ flight) shared = (from ≡ Initiator) × ReadsFlight from held own flight shared
+ReadsFlight from held own (AQuiet ∷ flight) shared = ReadsFlight from held own flight shared
+ReadsFlight from held own (ABad ∷ flight) shared = ⊥
 
 -- the alterations in a flight, and those of the taker that it doesn't answer
 abbrev pub asked : List Entry → List (List Item)
@@ -163,14 +163,14 @@ rejections-altered (Addition k o ∷ items) set = rejections-altered items set
 rejections-altered (Deletion k ∷ items) set = rejections-altered items set
 
 -- an end with no own alteration holds the shared set, but for alterations that it has yet to answer
-pub reads-settled : (from : Role) (held : ContextSet) (flight : List Entry) (shared : ContextSet) → Reads from held [] flight shared → held ≡ shared
+pub reads-settled : (from : Role) (held : ContextSet) (flight : List Entry) (shared : ContextSet) → ReadsFlight from held [] flight shared → held ≡ shared
 reads-settled from held [] shared h = h
 reads-settled from held (AValue at k p ∷ flight) shared h = reads-settled from held flight shared h.2
 reads-settled from held (AnAsk at items ∷ flight) shared h =
     let rest = h.3 (rejections items) (rejections-fit items) in
     let e = rejections-altered items held in
     let f = rejections-altered items shared in
-    reads-settled from held flight shared (subst (λ s. Reads from held [] flight s) f (subst (λ s. Reads from s [] flight (altered items (rejections items) shared)) e rest))
+    reads-settled from held flight shared (subst (λ s. ReadsFlight from held [] flight s) f (subst (λ s. ReadsFlight from s [] flight (altered items (rejections items) shared)) e rest))
 reads-settled from held (AnAnswer results ∷ flight) shared h = absurd h.0
 reads-settled from held (AMark at number ∷ flight) shared h = reads-settled from held flight shared h.1
 reads-settled from held (AGive ∷ flight) shared h = reads-settled from held flight shared h
@@ -179,14 +179,14 @@ reads-settled from held (AQuiet ∷ flight) shared h = reads-settled from held f
 reads-settled from held (ABad ∷ flight) shared h = absurd h
 
 -- what no own alteration names is in the shared set as in the own
-pub reads-same : (from : Role) (held : ContextSet) (own : List (List Item)) (flight : List Entry) (shared : ContextSet) (k : ℕ) → Reads from held own flight shared → AllUntouched k own → lookup held k ≡ lookup shared k
+pub reads-same : (from : Role) (held : ContextSet) (own : List (List Item)) (flight : List Entry) (shared : ContextSet) (k : ℕ) → ReadsFlight from held own flight shared → AllUntouched k own → lookup held k ≡ lookup shared k
 reads-same from held own [] shared k h u = ap (λ s. lookup s k) h
 reads-same from held own (AValue at j q ∷ flight) shared k h u = reads-same from held own flight shared k h.2 u
 reads-same from held own (AnAsk at items ∷ flight) shared k h u =
     let rest = h.3 (rejections items) (rejections-fit items) in
     let f = rejections-altered items held in
     let g = rejections-altered items shared in
-    reads-same from held own flight shared k (subst (λ s. Reads from held own flight s) g (subst (λ s. Reads from s own flight (altered items (rejections items) shared)) f rest)) u
+    reads-same from held own flight shared k (subst (λ s. ReadsFlight from held own flight s) g (subst (λ s. ReadsFlight from s own flight (altered items (rejections items) shared)) f rest)) u
 reads-same from held [] (AnAnswer results ∷ flight) shared k h u = absurd h.0
 reads-same from held (items ∷ own) (AnAnswer results ∷ flight) shared k h u =
     sym (lookup-altered items results k held u.0) ∙ reads-same from (altered items results held) own flight shared k h.1 u.1
@@ -197,7 +197,7 @@ reads-same from held own (AQuiet ∷ flight) shared k h u = reads-same from held
 reads-same from held own (ABad ∷ flight) shared k h u = absurd h
 
 -- a value joins a flight
-pub push-value : (from : Role) (held : ContextSet) (own : List (List Item)) (flight : List Entry) (shared at : ContextSet) (k : ℕ) (p : Pair) → Reads from held own flight shared → lookup at k ≡ Some p → lookup shared k ≡ Some p → AllUntouched k (asked flight) → Reads from held own (flight ++ (AValue at k p ∷ [])) shared
+pub push-value : (from : Role) (held : ContextSet) (own : List (List Item)) (flight : List Entry) (shared at : ContextSet) (k : ℕ) (p : Pair) → ReadsFlight from held own flight shared → lookup at k ≡ Some p → lookup shared k ≡ Some p → AllUntouched k (asked flight) → ReadsFlight from held own (flight ++ (AValue at k p ∷ [])) shared
 push-value from held own [] shared at k p h a e u = (subst (λ s. lookup s k ≡ Some p) (sym h) e, a, h)
 push-value from held own (AValue bt j q ∷ flight) shared at k p h a e u = (h.0, h.1, push-value from held own flight shared at k p h.2 a e u)
 push-value from held own (AnAsk bt items ∷ flight) shared at k p h a e u =
@@ -245,7 +245,7 @@ answer-ends : (own : List (List Item)) (held shared : ContextSet) (items : List 
 answer-ends own held shared items more results e h fits =
     subst (λ (o : List (List Item)). OnFirst (λ is. Fits is results) o × (altered_first o results held ≡ altered items results shared)) (sym e) (fits, ap (altered items results) h)
 
-pub push-answer : (from : Role) (held : ContextSet) (own : List (List Item)) (flight : List Entry) (shared : ContextSet) (items : List Item) (more : List (List Item)) (results : List Result) → Reads from held own flight shared → IsRising shared → unanswered flight own ≡ items ∷ more → Fits items results → Reads from held own (flight ++ (AnAnswer results ∷ [])) (altered items results shared)
+pub push-answer : (from : Role) (held : ContextSet) (own : List (List Item)) (flight : List Entry) (shared : ContextSet) (items : List Item) (more : List (List Item)) (results : List Result) → ReadsFlight from held own flight shared → IsRising shared → unanswered flight own ≡ items ∷ more → Fits items results → ReadsFlight from held own (flight ++ (AnAnswer results ∷ [])) (altered items results shared)
 push-answer from held own [] shared items more results h r e fits = answer-ends own held shared items more results e h fits
 push-answer from held own (AValue bt j q ∷ flight) shared items more results h r e fits = (h.0, h.1, push-answer from held own flight shared items more results h.2 r e fits)
 push-answer from held own (AnAsk bt asks ∷ flight) shared items more results h r e fits = (
@@ -253,7 +253,7 @@ push-answer from held own (AnAsk bt asks ∷ flight) shared items more results h
   h.1,
   h.2,
   λ qs fit.
-      subst (λ s. Reads from (altered asks qs held) own (flight ++ (AnAnswer results ∷ [])) s)
+      subst (λ s. ReadsFlight from (altered asks qs held) own (flight ++ (AnAnswer results ∷ [])) s)
       (altered-altered items results asks qs shared (subst (λ (o : List (List Item)). AllApart o asks) e (unanswered-apart flight own asks h.2)).0 r)
       (push-answer from (altered asks qs held) own flight (altered asks qs shared) items more results (h.3 qs fit) (rising-altered asks qs shared r) e fits),
 )
@@ -265,7 +265,7 @@ push-answer from held own (AQuiet ∷ flight) shared items more results h r e fi
 push-answer from held own (ABad ∷ flight) shared items more results h r e fits = absurd h
 
 -- sound items of one end are apart from those of the other, over one set
-sound-apart_item : (role : Role) (set : ContextSet) (i j : Item) → IsSound role set i → IsSound (other role) set j → IsApart i j
+sound-apart_item : (role : Role) (set : ContextSet) (i j : Item) → IsSoundItem role set i → IsSoundItem (other role) set j → IsApart i j
 sound-apart_item role set (Addition i o) (Addition j u) h g = λ e. parities role (sym h.0 ∙ ap (λ k. k % 2) e ∙ g.0)
   where
     parities : (r : Role) → parity r ≡ parity (other r) → ⊥
@@ -275,7 +275,7 @@ sound-apart_item role set (Addition i o) (Deletion j) h g = λ e. true≢false (
 sound-apart_item role set (Deletion i) (Addition j u) h g = λ e. true≢false (sym h ∙ ap (λ k. is_some (lookup set k)) e ∙ ap is_some g.1)
 sound-apart_item role set (Deletion i) (Deletion j) h g = tt
 
-sound-apart_from : (role : Role) (set : ContextSet) (i : Item) (js : List Item) → IsSound role set i → AreSound (other role) set js → IsApartFrom i js
+sound-apart_from : (role : Role) (set : ContextSet) (i : Item) (js : List Item) → IsSoundItem role set i → AreSound (other role) set js → IsApartFrom i js
 sound-apart_from role set i [] h g = tt
 sound-apart_from role set i (j ∷ js) h g = (sound-apart_item role set i j h g.0, sound-apart_from role set i js h g.1)
 
@@ -300,7 +300,7 @@ same-altered set asks results (i ∷ is) rest u = (sym (lookup-altered asks resu
 pub sound-altered : (role : Role) (set : ContextSet) (asks : List Item) (results : List Result) (items : List Item) (rest : List (List Item)) → AreUntouched items (asks ∷ rest) → AreSound role set items → AreSound role (altered asks results set) items
 sound-altered role set asks results items rest u s = sound-same role set (altered asks results set) items s (same-altered set asks results items rest u)
 
-pub sound-shared : (from role : Role) (held : ContextSet) (own : List (List Item)) (flight : List Entry) (shared : ContextSet) (items : List Item) → Reads from held own flight shared → AreUntouched items own → AreSound role held items → AreSound role shared items
+pub sound-shared : (from role : Role) (held : ContextSet) (own : List (List Item)) (flight : List Entry) (shared : ContextSet) (items : List Item) → ReadsFlight from held own flight shared → AreUntouched items own → AreSound role held items → AreSound role shared items
 sound-shared from role held own flight shared items h u s = sound-same role held shared items s (same items u)
   where
     same : (is : List Item) → AreUntouched is own → AreSame held shared is
@@ -308,7 +308,7 @@ sound-shared from role held own flight shared items h u s = sound-same role held
     same (i ∷ is) u = (reads-same from held own flight shared (identifier_of i) h u.0, same is u.1)
 
 -- an alteration joins a flight
-pub push-ask : (from : Role) (held : ContextSet) (own : List (List Item)) (flight : List Entry) (shared at : ContextSet) (items : List Item) → Reads from held own flight shared → AreUntouched items (asked flight) → AreSound from shared items → AreDistinct (identifiers items) → AllApart (unanswered flight own) items → Reads from held own (flight ++ (AnAsk at items ∷ [])) shared
+pub push-ask : (from : Role) (held : ContextSet) (own : List (List Item)) (flight : List Entry) (shared at : ContextSet) (items : List Item) → ReadsFlight from held own flight shared → AreUntouched items (asked flight) → AreSound from shared items → AreDistinct (identifiers items) → AllApart (unanswered flight own) items → ReadsFlight from held own (flight ++ (AnAsk at items ∷ [])) shared
 push-ask from held own [] shared at items h n s d u =
     (subst (λ x. AreSound from x items) (sym h) s, d, u, λ results fits. ap (altered items results) h)
 push-ask from held own (AValue bt j q ∷ flight) shared at items h n s d u = (h.0, h.1, push-ask from held own flight shared at items h.2 n s d u)
@@ -326,7 +326,7 @@ push-ask from held own (AQuiet ∷ flight) shared at items h n s d u = push-ask 
 push-ask from held own (ABad ∷ flight) shared at items h n s d u = absurd h
 
 -- a mark joins a flight
-pub push-mark : (from : Role) (held : ContextSet) (own : List (List Item)) (flight : List Entry) (shared at : ContextSet) (number : ℕ) → Reads from held own flight shared → asked flight ≡ [] → shared ≡ at → Reads from held own (flight ++ (AMark at number ∷ [])) shared
+pub push-mark : (from : Role) (held : ContextSet) (own : List (List Item)) (flight : List Entry) (shared at : ContextSet) (number : ℕ) → ReadsFlight from held own flight shared → asked flight ≡ [] → shared ≡ at → ReadsFlight from held own (flight ++ (AMark at number ∷ [])) shared
 push-mark from held own [] shared at number h n a = (h ∙ a, h)
 push-mark from held own (AValue bt j q ∷ flight) shared at number h n a = (h.0, h.1, push-mark from held own flight shared at number h.2 n a)
 push-mark from held own (AnAsk bt asks ∷ flight) shared at number h n a = absurd (cc)
@@ -344,7 +344,7 @@ IsPlain from AQuiet = Unit {0}
 IsPlain from ARelease = from ≡ Initiator
 IsPlain from entry = ⊥
 
-plain-end : (from : Role) (held : ContextSet) (own : List (List Item)) (shared : ContextSet) (e : Entry) → IsPlain from e → held ≡ shared → Reads from held own (e ∷ []) shared
+plain-end : (from : Role) (held : ContextSet) (own : List (List Item)) (shared : ContextSet) (e : Entry) → IsPlain from e → held ≡ shared → ReadsFlight from held own (e ∷ []) shared
 plain-end from held own shared AGive p h = h
 plain-end from held own shared AQuiet p h = h
 plain-end from held own shared ARelease p h = (p, h)
@@ -354,7 +354,7 @@ plain-end from held own shared (AnAnswer results) p h = absurd p
 plain-end from held own shared (AMark bt m) p h = absurd p
 plain-end from held own shared ABad p h = absurd p
 
-pub push-plain : (from : Role) (held : ContextSet) (own : List (List Item)) (flight : List Entry) (shared : ContextSet) (e : Entry) → Reads from held own flight shared → IsPlain from e → Reads from held own (flight ++ (e ∷ [])) shared
+pub push-plain : (from : Role) (held : ContextSet) (own : List (List Item)) (flight : List Entry) (shared : ContextSet) (e : Entry) → ReadsFlight from held own flight shared → IsPlain from e → ReadsFlight from held own (flight ++ (e ∷ [])) shared
 push-plain from held own [] shared e h p = plain-end from held own shared e p h
 push-plain from held own (AValue bt j q ∷ flight) shared e h p = (h.0, h.1, push-plain from held own flight shared e h.2 p)
 push-plain from held own (AnAsk bt asks ∷ flight) shared e h p =
@@ -371,14 +371,14 @@ abbrev pub ApartFromAll : List Item → List (List Item) → Type 0
 ApartFromAll items [] = Unit {0}
 ApartFromAll items (asks ∷ rest) = AreApart items asks × ApartFromAll items rest
 
-pub asks-apart : (role : Role) (held : ContextSet) (own : List (List Item)) (flight : List Entry) (shared : ContextSet) (items : List Item) → Reads (other role) held own flight shared → AreUntouched items own → AreSound role held items → ApartFromAll items (asked flight) × AllApart (asked flight) items
+pub asks-apart : (role : Role) (held : ContextSet) (own : List (List Item)) (flight : List Entry) (shared : ContextSet) (items : List Item) → ReadsFlight (other role) held own flight shared → AreUntouched items own → AreSound role held items → ApartFromAll items (asked flight) × AllApart (asked flight) items
 asks-apart role held own [] shared items h u s = (tt, tt)
 asks-apart role held own (AValue bt j q ∷ flight) shared items h u s = asks-apart role held own flight shared items h.2 u s
 asks-apart role held own (AnAsk bt asks ∷ flight) shared items h u s =
     let rest = h.3 (rejections asks) (rejections-fit asks) in
     let f = rejections-altered asks held in
     let g = rejections-altered asks shared in
-    let ih = asks-apart role held own flight shared items (subst (λ x. Reads (other role) held own flight x) g (subst (λ x. Reads (other role) x own flight (altered asks (rejections asks) shared)) f rest)) u s in
+    let ih = asks-apart role held own flight shared items (subst (λ x. ReadsFlight (other role) held own flight x) g (subst (λ x. ReadsFlight (other role) x own flight (altered asks (rejections asks) shared)) f rest)) u s in
     ((sound-apart role held items asks s h.0, ih.0), (backwards role s h.0, ih.1))
   where
     backwards : (r : Role) → AreSound r held items → AreSound (other r) held asks → AreApart asks items
@@ -398,7 +398,7 @@ all-apart_more : (own : List (List Item)) (items asks : List Item) → AllApart 
 all-apart_more [] items asks a b = (b, tt)
 all-apart_more (o ∷ own) items asks a b = (a.0, all-apart_more own items asks a.1 b)
 
-pub ask-more : (from : Role) (held : ContextSet) (own : List (List Item)) (items : List Item) (flight : List Entry) (shared : ContextSet) → Reads from held own flight shared → ApartFromAll items (asked flight) → Reads from held (own ++ (items ∷ [])) flight shared
+pub ask-more : (from : Role) (held : ContextSet) (own : List (List Item)) (items : List Item) (flight : List Entry) (shared : ContextSet) → ReadsFlight from held own flight shared → ApartFromAll items (asked flight) → ReadsFlight from held (own ++ (items ∷ [])) flight shared
 ask-more from held own items [] shared h a = h
 ask-more from held own items (AValue bt j q ∷ flight) shared h a = (h.0, h.1, ask-more from held own items flight shared h.2 a)
 ask-more from held own items (AnAsk bt asks ∷ flight) shared h a =
@@ -412,7 +412,7 @@ ask-more from held own items (AQuiet ∷ flight) shared h a = ask-more from held
 ask-more from held own items (ABad ∷ flight) shared h a = absurd h
 
 -- an alteration that joins the own ones isn't answered
-pub unanswered-more : (from : Role) (held : ContextSet) (own : List (List Item)) (items : List Item) (flight : List Entry) (shared : ContextSet) → Reads from held own flight shared → unanswered flight (own ++ (items ∷ [])) ≡ unanswered flight own ++ (items ∷ [])
+pub unanswered-more : (from : Role) (held : ContextSet) (own : List (List Item)) (items : List Item) (flight : List Entry) (shared : ContextSet) → ReadsFlight from held own flight shared → unanswered flight (own ++ (items ∷ [])) ≡ unanswered flight own ++ (items ∷ [])
 unanswered-more from held own items [] shared h = refl
 unanswered-more from held own items (AValue bt j q ∷ flight) shared h = unanswered-more from held own items flight shared h.2
 unanswered-more from held own items (AnAsk bt asks ∷ flight) shared h =
@@ -426,7 +426,7 @@ unanswered-more from held own items (AQuiet ∷ flight) shared h = unanswered-mo
 unanswered-more from held own items (ABad ∷ flight) shared h = absurd h
 
 -- no answer is in a flight to an end with no own alteration
-pub no-answers : (from : Role) (held : ContextSet) (flight : List Entry) (shared : ContextSet) (own : List (List Item)) → Reads from held [] flight shared → unanswered flight own ≡ own
+pub no-answers : (from : Role) (held : ContextSet) (flight : List Entry) (shared : ContextSet) (own : List (List Item)) → ReadsFlight from held [] flight shared → unanswered flight own ≡ own
 no-answers from held [] shared own h = refl
 no-answers from held (AValue bt j q ∷ flight) shared own h = no-answers from held flight shared own h.2
 no-answers from held (AnAsk bt asks ∷ flight) shared own h =

@@ -6,7 +6,7 @@ use Rattle.agreement.specs.Sets.Role.{Initiator, Responder}
 use Rattle.agreement.specs.Messages.{Apdu, Value, Mode, Setup, Message, Act, Choice, Calls}
 use Rattle.agreement.specs.Messages.Mode.{Bare, Direct, Reliable}
 use Rattle.agreement.specs.Messages.Apdu.{Invoke, Outcome, Reject}
-use Rattle.agreement.specs.Messages.Act.{Connects, Recovers, Says, Queues, Drops, Alters, Marks, Gives, Pleads, Restarts, Starts, Encodes, Sends, Ends, Interrupts, Discards, Resumes, Releases, Aborts, Withdraws, Fails}
+use Rattle.agreement.specs.Messages.Act.{Connects, Recovers, SaysValue, Queues, Drops, Alters, Marks, GivesTurn, Pleads, Restarts, Starts, Encodes, Sends, EndsActivity, Interrupts, Discards, Resumes, Releases, Aborts, Withdraws, TransportFails}
 use Rattle.agreement.specs.Messages.Choice.{Nothing, Accepting, Refusing, Results}
 use Rattle.agreement.specs.Messages.Message.{Connect, Recover, Accept, Refuse, Data, Alter, AlterAnswer, Mark, MarkAnswer, Restart, RestartAnswer, Start, Resume, Chunk, End, EndAnswer, Interrupt, InterruptAnswer, Discard, DiscardAnswer, Give, GiveAnswer, Please, Release, ReleaseAnswer, UserAbort}
 use Rattle.agreement.specs.State.{Handed, Transfer, Outgoing, State}
@@ -101,7 +101,7 @@ due-items hs (Reject number problem) due h = after-items hs due h
 acts-items : (setup : Setup) (x : State) (t : Option Transfer) (act : Act) (hs : List Apdu) → Items hs (record x.outgoing { transfer = t }) → Items (handed_by (Acts act) ++ hs) (acted setup (with_transfer x t) act).outgoing
 acts-items setup x t Connects hs i = i
 acts-items setup x t Recovers hs i = i
-acts-items setup x t (Says value) hs i =
+acts-items setup x t (SaysValue value) hs i =
     let m = items-more hs (value.apdu ∷ []) (record x.outgoing { transfer = t }) i in
     record { queued = due-items (value.apdu ∷ hs) value.apdu x.outgoing.queue m.queued; current = m.current }
 acts-items setup x t (Queues context apdu) hs i =
@@ -116,7 +116,7 @@ acts-items setup x t Marks hs i = go setup.mode t i
     go Direct t i = i
     go Reliable None i = record { queued = i.queued; current = tt }
     go Reliable (Some t) i = record { queued = i.queued; current = i.current }
-acts-items setup x t Gives hs i = go setup.mode
+acts-items setup x t GivesTurn hs i = go setup.mode
   where
     go : (m : Mode) → Items hs (gave_in m (with_transfer x t)).outgoing
     go Bare = i
@@ -129,8 +129,8 @@ acts-items setup x None (Encodes context) hs i = record { queued = i.queued; cur
 acts-items setup x (Some t) (Encodes context) hs i = record { queued = i.queued; current = i.current }
 acts-items setup x None (Sends octets) hs i = record { queued = i.queued; current = tt }
 acts-items setup x (Some t) (Sends octets) hs i = record { queued = i.queued; current = i.current }
-acts-items setup x None Ends hs i = record { queued = i.queued; current = tt }
-acts-items setup x (Some t) Ends hs i = record { queued = i.queued; current = i.current }
+acts-items setup x None EndsActivity hs i = record { queued = i.queued; current = tt }
+acts-items setup x (Some t) EndsActivity hs i = record { queued = i.queued; current = i.current }
 acts-items setup x t Interrupts hs i = i
 acts-items setup x None Discards hs i = record { queued = i.queued; current = tt }
 acts-items setup x (Some t) Discards hs i = record { queued = i.queued; current = i.current }
@@ -139,7 +139,7 @@ acts-items setup x (Some t) Resumes hs i = record { queued = i.queued; current =
 acts-items setup x t Releases hs i = i
 acts-items setup x t Aborts hs i = i
 acts-items setup x t Withdraws hs i = i
-acts-items setup x t Fails hs i = i
+acts-items setup x t TransportFails hs i = i
 
 hears-items : (setup : Setup) (v : Option Value) (x : State) (hs : List Apdu) → Items hs x.outgoing → Items hs (hears setup v x).outgoing
 hears-items setup None x hs i = i
@@ -233,25 +233,25 @@ all-said hs new (s ∷ flight) h = (said-more hs new s.message h.0, all-said hs 
 acts-said : (setup : Setup) (x : State) (act : Act) (hs : List Apdu) (at : ContextSet) → AllAre (SaidIn (handed_by (Acts act) ++ hs)) (sendings at (sent_by setup x act))
 acts-said setup x Connects hs at = (tt, tt)
 acts-said setup x Recovers hs at = (tt, tt)
-acts-said setup x (Says value) hs at = (just-handed hs value.apdu, tt)
+acts-said setup x (SaysValue value) hs at = (just-handed hs value.apdu, tt)
 acts-said setup x (Queues context apdu) hs at = tt
 acts-said setup x Drops hs at = tt
 acts-said setup x (Alters items) hs at = (tt, tt)
 acts-said setup x Marks hs at = (tt, tt)
-acts-said setup x Gives hs at = (tt, tt)
+acts-said setup x GivesTurn hs at = (tt, tt)
 acts-said setup x (Pleads priority) hs at = (tt, tt)
 acts-said setup x (Restarts number) hs at = (tt, tt)
 acts-said setup x Starts hs at = (tt, tt)
 acts-said setup x (Encodes context) hs at = tt
 acts-said setup x (Sends octets) hs at = (tt, tt)
-acts-said setup x Ends hs at = (tt, tt)
+acts-said setup x EndsActivity hs at = (tt, tt)
 acts-said setup x Interrupts hs at = (tt, tt)
 acts-said setup x Discards hs at = (tt, tt)
 acts-said setup x Resumes hs at = (tt, tt)
 acts-said setup x Releases hs at = (tt, tt)
 acts-said setup x Aborts hs at = (tt, tt)
 acts-said setup x Withdraws hs at = tt
-acts-said setup x Fails hs at = tt
+acts-said setup x TransportFails hs at = tt
 
 answer-said : (setup : Setup) (x : State) (m : Message) (choice : Choice) (hs : List Apdu) (at : ContextSet) → AllAre (SaidIn hs) (sendings at (answer_to setup x m choice))
 answer-said setup x Connect (Accepting set) hs at = (tt, tt)

@@ -6,7 +6,7 @@ use Rattle.agreement.specs.Sets.{Role, ContextSet, Item}
 use Rattle.agreement.specs.Sets.Role.{Initiator, Responder}
 use Rattle.agreement.specs.Messages.{Apdu, Value, Mode, Setup, Message, Act, Choice}
 use Rattle.agreement.specs.Messages.Mode.{Bare, Direct, Reliable}
-use Rattle.agreement.specs.Messages.Act.{Connects, Recovers, Says, Queues, Drops, Alters, Marks, Gives, Pleads, Restarts, Starts, Encodes, Sends, Ends, Interrupts, Discards, Resumes, Releases, Aborts, Withdraws, Fails}
+use Rattle.agreement.specs.Messages.Act.{Connects, Recovers, SaysValue, Queues, Drops, Alters, Marks, GivesTurn, Pleads, Restarts, Starts, Encodes, Sends, EndsActivity, Interrupts, Discards, Resumes, Releases, Aborts, Withdraws, TransportFails}
 use Rattle.agreement.specs.Messages.Choice.{Nothing, Accepting, Refusing, Results}
 use Rattle.agreement.specs.Messages.Message.{Connect, Recover, Accept, Refuse, Data, Alter, AlterAnswer, Mark, MarkAnswer, Restart, RestartAnswer, Start, Resume, Chunk, End, EndAnswer, Interrupt, InterruptAnswer, Discard, DiscardAnswer, Give, GiveAnswer, Please, Release, ReleaseAnswer, UserAbort}
 use Rattle.agreement.specs.State.{Handed, Transfer, State}
@@ -126,7 +126,7 @@ some-kept es items c t u e k = record { count = k.count; current = k.current ∙
 acts-kept : (setup : Setup) (role : Role) (x : State) (shared : ContextSet) (t : Option Transfer) (act : Act) (es : List Encoding) (items : List Handed) → MayAct setup role (with_transfer x t) act → ItemsKept es items x.outgoing.started t → KeptOf (encoded_by (with_transfer x t) shared (Acts act) ++ es) (started_after (with_transfer x t) (Acts act) items) (acted setup (with_transfer x t) act)
 acts-kept setup role x shared t Connects es items h k = k
 acts-kept setup role x shared t Recovers es items h k = k
-acts-kept setup role x shared t (Says value) es items h k = k
+acts-kept setup role x shared t (SaysValue value) es items h k = k
 acts-kept setup role x shared t (Queues context apdu) es items h k = k
 acts-kept setup role x shared t Drops es items h k = k
 acts-kept setup role x shared t (Alters alterations) es items h k = k
@@ -137,7 +137,7 @@ acts-kept setup role x shared t Marks es items h k = go setup.mode t k
     go Direct t k = k
     go Reliable None k = k
     go Reliable (Some t) k = some-kept es items x.outgoing.started t _ refl k
-acts-kept setup role x shared t Gives es items h k = go setup.mode
+acts-kept setup role x shared t GivesTurn es items h k = go setup.mode
   where
     go : (m : Mode) → KeptOf es items (gave_in m (with_transfer x t))
     go Bare = k
@@ -151,8 +151,8 @@ acts-kept setup role x shared (Some t) (Encodes context) es items h k =
     some-kept (encoding_of (Some t) x.outgoing.started shared context ++ es) items x.outgoing.started t _ refl (encodes-kept es items x.outgoing.started t context shared k)
 acts-kept setup role x shared None (Sends octets) es items h k = k
 acts-kept setup role x shared (Some t) (Sends octets) es items h k = some-kept es items x.outgoing.started t _ refl k
-acts-kept setup role x shared None Ends es items h k = k
-acts-kept setup role x shared (Some t) Ends es items h k = some-kept es items x.outgoing.started t _ refl k
+acts-kept setup role x shared None EndsActivity es items h k = k
+acts-kept setup role x shared (Some t) EndsActivity es items h k = some-kept es items x.outgoing.started t _ refl k
 acts-kept setup role x shared t Interrupts es items h k = k
 acts-kept setup role x shared None Discards es items h k = k
 acts-kept setup role x shared (Some t) Discards es items h k = some-kept es items x.outgoing.started t _ refl k
@@ -161,7 +161,7 @@ acts-kept setup role x shared (Some t) Resumes es items h k = some-kept es items
 acts-kept setup role x shared t Releases es items h k = k
 acts-kept setup role x shared t Aborts es items h k = k
 acts-kept setup role x shared t Withdraws es items h k = k
-acts-kept setup role x shared t Fails es items h k = k
+acts-kept setup role x shared t TransportFails es items h k = k
 
 hears-kept : (setup : Setup) (v : Option Value) (x : State) (es : List Encoding) (items : List Handed) → KeptOf es items x → KeptOf es items (hears setup v x)
 hears-kept setup None x es items k = k

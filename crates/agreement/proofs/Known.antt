@@ -7,7 +7,7 @@ use Rattle.agreement.specs.Sets.Item.{Addition, Deletion}
 use Rattle.agreement.specs.Sets.Result.{Rejected, AcceptedAs, Accepted, Kept}
 use Rattle.agreement.specs.Messages.{Value, Mode, Setup, Message, Act, Choice}
 use Rattle.agreement.specs.Messages.Mode.{Bare, Direct, Reliable}
-use Rattle.agreement.specs.Messages.Act.{Connects, Recovers, Says, Queues, Drops, Alters, Marks, Gives, Pleads, Restarts, Starts, Encodes, Sends, Ends, Interrupts, Discards, Resumes, Releases, Aborts, Withdraws, Fails}
+use Rattle.agreement.specs.Messages.Act.{Connects, Recovers, SaysValue, Queues, Drops, Alters, Marks, GivesTurn, Pleads, Restarts, Starts, Encodes, Sends, EndsActivity, Interrupts, Discards, Resumes, Releases, Aborts, Withdraws, TransportFails}
 use Rattle.agreement.specs.Messages.Choice.{Nothing, Accepting, Refusing, Results}
 use Rattle.agreement.specs.Messages.Message.{Connect, Recover, Accept, Refuse, Data, Alter, AlterAnswer, Mark, MarkAnswer, Restart, RestartAnswer, Start, Resume, Chunk, End, EndAnswer, Interrupt, InterruptAnswer, Discard, DiscardAnswer, Give, GiveAnswer, Please, Release, ReleaseAnswer, UserAbort}
 use Rattle.agreement.specs.State.{Piece, Handed, Transfer, Outgoing, Incoming, State, joined_with, first_set, from_mark, up_to, newest_set, inter_with, saved_with}
@@ -114,7 +114,7 @@ acts-known setup x Marks k = go setup.mode
     go Bare = k
     go Direct = record { held = k.held; inter = k.inter; saved = (k.held, k.saved); sent = k.sent; came = k.came }
     go Reliable = record { held = k.held; inter = k.inter; saved = k.saved; sent = on-known setup.knows _ x.outgoing (λ t h. (k.held, h)) k.sent; came = k.came }
-acts-known setup x Gives k = go setup.mode
+acts-known setup x GivesTurn k = go setup.mode
   where
     go : (m : Mode) → AllKnown setup.knows (gave_in m x)
     go Bare = k
@@ -123,7 +123,7 @@ acts-known setup x Gives k = go setup.mode
 acts-known setup x Starts k = record { held = k.held; inter = k.held; saved = k.saved; sent = started-known setup.knows x.outgoing; came = k.came }
 acts-known setup x (Encodes context) k = record { held = k.held; inter = k.inter; saved = k.saved; sent = on-known setup.knows _ x.outgoing (λ t h. h) k.sent; came = k.came }
 acts-known setup x (Sends octets) k = record { held = k.held; inter = k.inter; saved = k.saved; sent = on-known setup.knows _ x.outgoing (λ t h. h) k.sent; came = k.came }
-acts-known setup x Ends k = record { held = k.held; inter = k.inter; saved = k.saved; sent = on-known setup.knows _ x.outgoing (λ t h. h) k.sent; came = k.came }
+acts-known setup x EndsActivity k = record { held = k.held; inter = k.inter; saved = k.saved; sent = on-known setup.knows _ x.outgoing (λ t h. h) k.sent; came = k.came }
 acts-known setup x Discards k = record { held = k.held; inter = k.inter; saved = k.saved; sent = on-known setup.knows _ x.outgoing (λ t h. h) k.sent; came = k.came }
 acts-known setup x Resumes k =
     record {
@@ -135,7 +135,7 @@ acts-known setup x Resumes k =
     }
 acts-known setup x Connects k = record { held = k.held; inter = k.inter; saved = k.saved; sent = k.sent; came = k.came }
 acts-known setup x Recovers k = record { held = k.held; inter = k.inter; saved = k.saved; sent = k.sent; came = k.came }
-acts-known setup x (Says value) k = record { held = k.held; inter = k.inter; saved = k.saved; sent = k.sent; came = k.came }
+acts-known setup x (SaysValue value) k = record { held = k.held; inter = k.inter; saved = k.saved; sent = k.sent; came = k.came }
 acts-known setup x (Queues context apdu) k = record { held = k.held; inter = k.inter; saved = k.saved; sent = k.sent; came = k.came }
 acts-known setup x Drops k = record { held = k.held; inter = k.inter; saved = k.saved; sent = k.sent; came = k.came }
 acts-known setup x (Alters items) k = record { held = k.held; inter = k.inter; saved = k.saved; sent = k.sent; came = k.came }
@@ -145,7 +145,7 @@ acts-known setup x Interrupts k = record { held = k.held; inter = k.inter; saved
 acts-known setup x Releases k = record { held = k.held; inter = k.inter; saved = k.saved; sent = k.sent; came = k.came }
 acts-known setup x Aborts k = record { held = k.held; inter = k.inter; saved = k.saved; sent = k.sent; came = k.came }
 acts-known setup x Withdraws k = record { held = k.held; inter = k.inter; saved = k.saved; sent = k.sent; came = k.came }
-acts-known setup x Fails k = record { held = k.held; inter = k.inter; saved = k.saved; sent = k.sent; came = k.came }
+acts-known setup x TransportFails k = record { held = k.held; inter = k.inter; saved = k.saved; sent = k.sent; came = k.came }
 
 inter-known : (knows : List ℕ → Bool) (mode : Mode) (set inter : ContextSet) → IsKnownSet knows set → IsKnownSet knows inter → IsKnownSet knows (inter_with mode set inter)
 inter-known knows Bare set inter h k = k

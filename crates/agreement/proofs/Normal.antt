@@ -8,7 +8,7 @@ use Rattle.agreement.specs.Sets.Item.{Addition, Deletion}
 use Rattle.agreement.specs.Sets.Result.{Rejected, AcceptedAs, Accepted, Kept}
 use Rattle.agreement.specs.Takings.{altered_first, later}
 use Rattle.agreement.proofs.Order.{lookup-put_other, by_test}
-use Rattle.agreement.proofs.Flights.{Entry, IsSound, AreSound, AllApart, Reads, asked, unanswered, Paced, turn_after, saved_after, IsStill, rising-altered, reads-settled, reads-same, sound-shared, push-value, push-answer, push-ask, push-mark, push-plain, asks-apart, ask-more, unanswered-more, unanswered-untouched, unanswered-all_untouched, no-answers, asked-append, unanswered-append, paced-holder, paced-append, turn-append, saved-append, below-after, next-after}
+use Rattle.agreement.proofs.Flights.{Entry, IsSoundItem, AreSound, AllApart, ReadsFlight, asked, unanswered, Paced, turn_after, saved_after, IsStill, rising-altered, reads-settled, reads-same, sound-shared, push-value, push-answer, push-ask, push-mark, push-plain, asks-apart, ask-more, unanswered-more, unanswered-untouched, unanswered-all_untouched, no-answers, asked-append, unanswered-append, paced-holder, paced-append, turn-append, saved-append, below-after, next-after}
 use Rattle.agreement.proofs.Names.{IsUntouched, AllUntouched, AreUntouched, lookup-altered, once-distinct, once-untouched, first-untouched, later-distinct, among-named, among-later, among-item, among-items}
 use Rattle.agreement.proofs.Flights.Entry.{AValue, AnAsk, AnAnswer, AMark, AGive, ARelease, AQuiet}
 
@@ -37,8 +37,8 @@ AllRising [] = Unit {0}
 AllRising (mark ∷ marks) = IsRising mark.set × AllRising marks
 
 pub record Normal (most : ℕ) (role : Role) (me peer : Core) (to_me to_peer : List Entry) (shared : ContextSet) (saved : List Saved) : Type 0 where
-  pub reads_me : Reads (other role) me.held me.own to_me shared
-  pub reads_peer : Reads role peer.held peer.own to_peer shared
+  pub reads_me : ReadsFlight (other role) me.held me.own to_me shared
+  pub reads_peer : ReadsFlight role peer.held peer.own to_peer shared
   pub asks_me : asked to_me ≡ unanswered to_peer peer.own
   pub asks_peer : asked to_peer ≡ unanswered to_me me.own
   pub once_me : AreDistinct (named me.own)
@@ -120,7 +120,7 @@ append-nil_of : (xs : List (List Item)) → xs ++ [] ≡ xs
 append-nil_of [] = refl
 append-nil_of (x ∷ xs) = ap (λ ys. x ∷ ys) (append-nil_of xs)
 
-more : (most : ℕ) (role : Role) (me peer : Core) (f g : List Entry) (s : ContextSet) (v : List Saved) (e : Entry) → Normal most role me peer f g s v → plain-more most peer.turn peer.saved e → Reads role peer.held peer.own (g ++ (e ∷ [])) s → Normal most role me peer f (g ++ (e ∷ [])) s v
+more : (most : ℕ) (role : Role) (me peer : Core) (f g : List Entry) (s : ContextSet) (v : List Saved) (e : Entry) → Normal most role me peer f g s v → plain-more most peer.turn peer.saved e → ReadsFlight role peer.held peer.own (g ++ (e ∷ [])) s → Normal most role me peer f (g ++ (e ∷ [])) s v
 unfolding plain-more
 more most role me peer f g s v e n q r =
     record {
@@ -163,10 +163,10 @@ sent_plain most role me peer f g s v e n (inr q) =
 -- nothing of an end with no own alteration is on its way to be answered
 none-asked : (most : ℕ) (role : Role) (me peer : Core) (f g : List Entry) (s : ContextSet) (v : List Saved) → Normal most role me peer f g s v → me.own ≡ [] → asked g ≡ []
 none-asked most role me peer f g s v n e =
-    n.asks_peer ∙ no-answers (other role) me.held f s me.own (subst (λ o. Reads (other role) me.held o f s) e n.reads_me) ∙ e
+    n.asks_peer ∙ no-answers (other role) me.held f s me.own (subst (λ o. ReadsFlight (other role) me.held o f s) e n.reads_me) ∙ e
 
 holds-shared : (most : ℕ) (role : Role) (me peer : Core) (f g : List Entry) (s : ContextSet) (v : List Saved) → Normal most role me peer f g s v → me.own ≡ [] → me.held ≡ s
-holds-shared most role me peer f g s v n e = reads-settled (other role) me.held f s (subst (λ o. Reads (other role) me.held o f s) e n.reads_me)
+holds-shared most role me peer f g s v n e = reads-settled (other role) me.held f s (subst (λ o. ReadsFlight (other role) me.held o f s) e n.reads_me)
 
 absent-sound : (role : Role) (held : ContextSet) (items : List Item) → AreSound role held items → AreAbsent role held items
 absent-sound role held [] s = tt
@@ -212,7 +212,7 @@ absent-removed : (k j : ℕ) (held : ContextSet) → lookup held k ≡ None → 
 absent-removed k j [] n = refl
 absent-removed k j (c ∷ cs) n = let ih = absent-removed k j cs in grind (arith, nat_tests)
 
-absent-changed : (role : Role) (set : ContextSet) (k : ℕ) (i : Item) (r : Result) (held : ContextSet) → k % 2 ≡ parity role → IsSound (other role) set i → lookup held k ≡ None → lookup (changed i r held) k ≡ None
+absent-changed : (role : Role) (set : ContextSet) (k : ℕ) (i : Item) (r : Result) (held : ContextSet) → k % 2 ≡ parity role → IsSoundItem (other role) set i → lookup held k ≡ None → lookup (changed i r held) k ≡ None
 absent-changed role set k (Addition j o) (AcceptedAs p) held e h n =
     lookup-put_other k j p held (λ x. parities role (sym e ∙ ap (λ y. y % 2) x ∙ h.0)) ∙ n
 absent-changed role set k (Addition j o) Rejected held e h n = n

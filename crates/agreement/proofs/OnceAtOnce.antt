@@ -6,7 +6,7 @@ use Rattle.agreement.specs.Sets.Role.{Initiator, Responder}
 use Rattle.agreement.specs.Messages.{Apdu, Value, Mode, Setup, Message, Act, Choice, Calls}
 use Rattle.agreement.specs.Messages.Mode.{Bare, Direct, Reliable}
 use Rattle.agreement.specs.Messages.Apdu.{Invoke, Outcome, Reject}
-use Rattle.agreement.specs.Messages.Act.{Connects, Recovers, Says, Queues, Drops, Alters, Marks, Gives, Pleads, Restarts, Starts, Encodes, Sends, Ends, Interrupts, Discards, Resumes, Releases, Aborts, Withdraws, Fails}
+use Rattle.agreement.specs.Messages.Act.{Connects, Recovers, SaysValue, Queues, Drops, Alters, Marks, GivesTurn, Pleads, Restarts, Starts, Encodes, Sends, EndsActivity, Interrupts, Discards, Resumes, Releases, Aborts, Withdraws, TransportFails}
 use Rattle.agreement.specs.Messages.Choice.{Nothing, Accepting, Refusing, Results}
 use Rattle.agreement.specs.Messages.Message.{Connect, Recover, Accept, Refuse, Data, Alter, AlterAnswer, Mark, MarkAnswer, Restart, RestartAnswer, Start, Resume, Chunk, End, EndAnswer, Interrupt, InterruptAnswer, Discard, DiscardAnswer, Give, GiveAnswer, Please, Release, ReleaseAnswer, UserAbort}
 use Rattle.agreement.specs.State.{Phase, Transfer, State}
@@ -129,7 +129,7 @@ up-not x A u j = absurd (subst IsUnjoined u j)
 acts-unmade : (setup : Setup) (role : Role) (x : State) (act : Act) → MayAct setup role x act → Unmade x → Unmade (acted setup x act)
 acts-unmade setup role x Connects h u = λ j. absurd j
 acts-unmade setup role x Recovers h u = λ j. absurd j
-acts-unmade setup role x (Says value) h u = up-not x _ h.is_free.is_up
+acts-unmade setup role x (SaysValue value) h u = up-not x _ h.is_free.is_up
 acts-unmade setup role x (Queues context apdu) h u = up-not x _ h.is_up
 acts-unmade setup role x Drops h u = u
 acts-unmade setup role x (Alters items) h u = u
@@ -139,7 +139,7 @@ acts-unmade setup role x Marks h u = go setup.mode
     go Bare = u
     go Direct = u
     go Reliable = u
-acts-unmade setup role x Gives h u = go setup.mode
+acts-unmade setup role x GivesTurn h u = go setup.mode
   where
     go : (m : Mode) → Unmade (gave_in m x)
     go Bare = u
@@ -150,14 +150,14 @@ acts-unmade setup role x (Restarts number) h u = u
 acts-unmade setup role x Starts h u = u
 acts-unmade setup role x (Encodes context) h u = u
 acts-unmade setup role x (Sends octets) h u = u
-acts-unmade setup role x Ends h u = u
+acts-unmade setup role x EndsActivity h u = u
 acts-unmade setup role x Interrupts h u = u
 acts-unmade setup role x Discards h u = u
 acts-unmade setup role x Resumes h u = u
 acts-unmade setup role x Releases h u = λ j. absurd j
 acts-unmade setup role x Aborts h u = λ j. absurd j
 acts-unmade setup role x Withdraws h u = λ j. absurd j
-acts-unmade setup role x Fails h u = λ j. absurd j
+acts-unmade setup role x TransportFails h u = λ j. absurd j
 
 refusing-unjoined : (p : Phase) → IsUnjoined (refusing p) → IsUnjoined p
 refusing-unjoined Broken j = tt
@@ -278,7 +278,7 @@ same-adds ns flight new made more e f o =
     adds ns flight new made more [] e (subst₂ (λ xs k. Once ns xs k) (sym (nil-numbers (numbers_in flight))) (sym f) o)
 
 act-adds : (setup : Setup) (role : Role) (x : State) (act : Act) (at : ContextSet) (flight : List Sending) (ns : List ℕ) → MayAct setup role x act → (setup.mode ≡ Reliable → ⊥) → Once ns (numbers_in flight) x.calls.made → Once ns (numbers_in (flight ++ sendings at (sent_by setup x act))) (acted setup x act).calls.made
-act-adds setup role x (Says value) at flight ns h a o =
+act-adds setup role x (SaysValue value) at flight ns h a o =
     adds ns flight (sendings at (Data value ∷ [])) x.calls.made (handed_in setup x.calls value.identifier value.apdu).made (invocation_in value.apdu) (nil-numbers (invocation_in value.apdu))
     (once-handed setup x.calls x.outgoing.queue value.identifier value.apdu ns (numbers_in flight) h.may_hand_in o)
 act-adds setup role x (Queues context apdu) at flight ns h a o = absurd (a h.by_transfers)
@@ -288,7 +288,7 @@ act-adds setup role x Marks at flight ns h a o = same-adds ns flight (sendings a
     go Bare = refl
     go Direct = refl
     go Reliable = refl
-act-adds setup role x Gives at flight ns h a o = same-adds ns flight (sendings at (sent_by setup x Gives)) x.calls.made (acted setup x Gives).calls.made refl (go setup.mode) o
+act-adds setup role x GivesTurn at flight ns h a o = same-adds ns flight (sendings at (sent_by setup x GivesTurn)) x.calls.made (acted setup x GivesTurn).calls.made refl (go setup.mode) o
   where
     go : (m : Mode) → (gave_in m x).calls.made ≡ x.calls.made
     go Bare = refl

@@ -4,7 +4,7 @@ use Rattle.std.specs.Prelude.{Option, Some, None}
 use Rattle.agreement.specs.Sets.{Role, other, Item}
 use Rattle.agreement.specs.Sets.Role.{Initiator, Responder}
 use Rattle.agreement.specs.Messages.{Apdu, Value, Setup, Message, Act, Choice, Calls}
-use Rattle.agreement.specs.Messages.Act.{Says, Queues, Drops, Marks, Starts, Encodes, Sends, Ends, Discards, Resumes}
+use Rattle.agreement.specs.Messages.Act.{SaysValue, Queues, Drops, Marks, Starts, Encodes, Sends, EndsActivity, Discards, Resumes}
 use Rattle.agreement.specs.Messages.Choice.{Nothing, Accepting, Refusing, Results}
 use Rattle.agreement.specs.Messages.Message.{Connect, Recover, Data, Alter, MarkAnswer, Restart, RestartAnswer, End, EndAnswer, InterruptAnswer, DiscardAnswer}
 use Rattle.agreement.specs.State.{Phase, Handed, Transfer, Outgoing, Incoming, State, new_end}
@@ -92,7 +92,7 @@ starts ns came o made k = go o.queue k.later
 
 -- the sender acts
 acts-turned : (base : Setup) (role : Role) (x : State) (act : Act) (ns came : List ℕ) → MayAct (reliable base) role x act → Turned ns came x.outgoing x.calls.made → Turned ns came (acted (reliable base) x act).outgoing (acted (reliable base) x act).calls.made
-acts-turned base role x (Says value) ns came h k = absurd (h.at_once refl)
+acts-turned base role x (SaysValue value) ns came h k = absurd (h.at_once refl)
 acts-turned base role x (Queues context apdu) ns came h k =
     queued ns came (reliable base) x.outgoing x.calls context apdu (handed_in (reliable base) x.calls context apdu).made (λ pending o. once-handed (reliable base) x.calls [] context apdu ns pending h.may_hand_in o) k
 acts-turned base role x Drops ns came h k = absurd (h.at_once refl)
@@ -100,7 +100,7 @@ acts-turned base role x Marks ns came h k = same-turned ns came x.outgoing (acte
 acts-turned base role x Starts ns came h k = starts ns came x.outgoing x.calls.made k
 acts-turned base role x (Encodes context) ns came h k = same-turned ns came x.outgoing (acted (reliable base) x (Encodes context)).outgoing x.calls.made x.calls.made refl (on-number _ (λ t. refl) x.outgoing) refl refl k
 acts-turned base role x (Sends octets) ns came h k = same-turned ns came x.outgoing (acted (reliable base) x (Sends octets)).outgoing x.calls.made x.calls.made refl (on-number _ (λ t. refl) x.outgoing) refl refl k
-acts-turned base role x Ends ns came h k = same-turned ns came x.outgoing (acted (reliable base) x Ends).outgoing x.calls.made x.calls.made refl (on-number _ (λ t. refl) x.outgoing) refl refl k
+acts-turned base role x EndsActivity ns came h k = same-turned ns came x.outgoing (acted (reliable base) x EndsActivity).outgoing x.calls.made x.calls.made refl (on-number _ (λ t. refl) x.outgoing) refl refl k
 acts-turned base role x Discards ns came h k = same-turned ns came x.outgoing (acted (reliable base) x Discards).outgoing x.calls.made x.calls.made refl (on-number _ (λ t. refl) x.outgoing) refl refl k
 acts-turned base role x Resumes ns came h k = same-turned ns came x.outgoing (acted (reliable base) x Resumes).outgoing x.calls.made x.calls.made refl (on-number _ (λ t. refl) x.outgoing) refl refl k
 acts-turned base role x act ns came h k = k

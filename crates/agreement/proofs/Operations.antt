@@ -6,7 +6,7 @@ use Rattle.agreement.specs.Sets.Role.{Initiator, Responder}
 use Rattle.agreement.specs.Messages.{Apdu, Invocation, Calls, Value, Mode, Setup, Message, Act, Choice}
 use Rattle.agreement.specs.Messages.Mode.{Bare, Direct, Reliable}
 use Rattle.agreement.specs.Messages.Apdu.{Invoke, Outcome, Reject}
-use Rattle.agreement.specs.Messages.Act.{Connects, Recovers, Says, Queues, Drops, Alters, Marks, Gives, Pleads, Restarts, Starts, Encodes, Sends, Ends, Interrupts, Discards, Resumes, Releases, Aborts, Withdraws, Fails}
+use Rattle.agreement.specs.Messages.Act.{Connects, Recovers, SaysValue, Queues, Drops, Alters, Marks, GivesTurn, Pleads, Restarts, Starts, Encodes, Sends, EndsActivity, Interrupts, Discards, Resumes, Releases, Aborts, Withdraws, TransportFails}
 use Rattle.agreement.specs.Messages.Choice.{Nothing, Accepting, Refusing, Results}
 use Rattle.agreement.specs.Messages.Message.{Connect, Recover, Accept, Refuse, Data, Alter, AlterAnswer, Mark, MarkAnswer, Restart, RestartAnswer, Start, Resume, Chunk, End, EndAnswer, Interrupt, InterruptAnswer, Discard, DiscardAnswer, Give, GiveAnswer, Please, Release, ReleaseAnswer, UserAbort}
 use Rattle.agreement.specs.State.{Handed, Transfer, State}
@@ -145,7 +145,7 @@ cuts-from hs ks calls c = record { falls = c.falls; own = tt; peer = tt }
 acts-from : (setup : Setup) (role : Role) (x : State) (act : Act) (hs ks : List Apdu) → MayAct setup role x act → CallsFrom hs ks x.calls → CallsFrom (handed_by (Acts act) ++ hs) ks (acted setup x act).calls
 acts-from setup role x Connects hs ks h c = c
 acts-from setup role x Recovers hs ks h c = c
-acts-from setup role x (Says value) hs ks h c = hands-from setup hs ks x.calls x.outgoing.queue value.identifier value.apdu h.may_hand_in c
+acts-from setup role x (SaysValue value) hs ks h c = hands-from setup hs ks x.calls x.outgoing.queue value.identifier value.apdu h.may_hand_in c
 acts-from setup role x (Queues context apdu) hs ks h c = hands-from setup hs ks x.calls [] context apdu h.may_hand_in c
 acts-from setup role x Drops hs ks h c = c
 acts-from setup role x (Alters items) hs ks h c = c
@@ -155,7 +155,7 @@ acts-from setup role x Marks hs ks h c = go setup.mode
     go Bare = c
     go Direct = c
     go Reliable = c
-acts-from setup role x Gives hs ks h c = go setup.mode
+acts-from setup role x GivesTurn hs ks h c = go setup.mode
   where
     go : (m : Mode) → CallsFrom hs ks (gave_in m x).calls
     go Bare = c
@@ -166,14 +166,14 @@ acts-from setup role x (Restarts number) hs ks h c = c
 acts-from setup role x Starts hs ks h c = c
 acts-from setup role x (Encodes context) hs ks h c = c
 acts-from setup role x (Sends octets) hs ks h c = c
-acts-from setup role x Ends hs ks h c = c
+acts-from setup role x EndsActivity hs ks h c = c
 acts-from setup role x Interrupts hs ks h c = c
 acts-from setup role x Discards hs ks h c = c
 acts-from setup role x Resumes hs ks h c = c
 acts-from setup role x Releases hs ks h c = c
 acts-from setup role x Aborts hs ks h c = cuts-from hs ks x.calls c
 acts-from setup role x Withdraws hs ks h c = cuts-from hs ks x.calls c
-acts-from setup role x Fails hs ks h c = c
+acts-from setup role x TransportFails hs ks h c = c
 
 opens-from : (setup : Setup) (role : Role) (x : State) (choice : Choice) (hs ks : List Apdu) → x.calls.made ≡ 0 → CallsFrom hs ks x.calls → CallsFrom hs ks (taken setup role x Connect choice).calls
 opens-from setup role x (Accepting set) hs ks z c = record { falls = subst (Falls hs) z c.falls; own = tt; peer = tt }
@@ -285,7 +285,7 @@ answer-from setup x due (Outcome number content) ks ans m p h =
 answer-from setup x due (Reject number problem) ks ans m p h = h
 
 act-answers : (setup : Setup) (role : Role) (x : State) (act : Act) (ks : List Apdu) (ans : List Answer) → MayAct setup role x act → AllFrom ks x.calls.peer_open → AllAnswers setup ks ans → AllAnswers setup ks (answers_by x (Acts act) ++ ans)
-act-answers setup role x (Says value) ks ans h p a = answer-from setup x x.outgoing.queue value.apdu ks ans h.may_hand_in p a
+act-answers setup role x (SaysValue value) ks ans h p a = answer-from setup x x.outgoing.queue value.apdu ks ans h.may_hand_in p a
 act-answers setup role x (Queues context apdu) ks ans h p a = answer-from setup x [] apdu ks ans h.may_hand_in p a
 act-answers setup role x act ks ans h p a = a
 
@@ -318,8 +318,8 @@ found-with x number content apdu ans e =
     subst (λ a. Found number content (answer_with x a ++ ans)) (sym e) (record { operation = operation_of number x.calls.peer_open; among = inl refl })
 
 among-step : (x : State) (number : ℕ) (content : List ℕ) (step : Step) (hs : List Apdu) (ans : List Answer) → IsAmong (Outcome number content) (handed_by step ++ hs) → (IsAmong (Outcome number content) hs → Found number content ans) → Found number content (answers_by x step ++ ans)
-among-step x number content (Acts (Says value)) hs ans (inl e) ih = found-with x number content value.apdu ans e
-among-step x number content (Acts (Says value)) hs ans (inr h) ih = found-later number content (answer_with x value.apdu) ans (ih h)
+among-step x number content (Acts (SaysValue value)) hs ans (inl e) ih = found-with x number content value.apdu ans e
+among-step x number content (Acts (SaysValue value)) hs ans (inr h) ih = found-later number content (answer_with x value.apdu) ans (ih h)
 among-step x number content (Acts (Queues context apdu)) hs ans (inl e) ih = found-with x number content apdu ans e
 among-step x number content (Acts (Queues context apdu)) hs ans (inr h) ih = found-later number content (answer_with x apdu) ans (ih h)
 among-step x number content (Acts act) hs ans h ih = ih h

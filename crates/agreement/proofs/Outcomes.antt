@@ -7,7 +7,7 @@ use Rattle.agreement.specs.Sets.Role.{Initiator, Responder}
 use Rattle.agreement.specs.Messages.{Apdu, Value, Mode, Setup, Message, Act, Choice, Invocation, Calls, is_of_invocation}
 use Rattle.agreement.specs.Messages.Mode.{Bare, Direct, Reliable}
 use Rattle.agreement.specs.Messages.Apdu.{Invoke, Outcome, Reject}
-use Rattle.agreement.specs.Messages.Act.{Connects, Recovers, Says, Queues, Drops, Alters, Marks, Gives, Pleads, Restarts, Starts, Encodes, Sends, Ends, Interrupts, Discards, Resumes, Releases, Aborts, Withdraws, Fails}
+use Rattle.agreement.specs.Messages.Act.{Connects, Recovers, SaysValue, Queues, Drops, Alters, Marks, GivesTurn, Pleads, Restarts, Starts, Encodes, Sends, EndsActivity, Interrupts, Discards, Resumes, Releases, Aborts, Withdraws, TransportFails}
 use Rattle.agreement.specs.Messages.Choice.{Nothing, Accepting, Refusing, Results}
 use Rattle.agreement.specs.Messages.Message.{Connect, Recover, Accept, Refuse, Data, Alter, AlterAnswer, Mark, MarkAnswer, Restart, RestartAnswer, Start, Resume, Chunk, End, EndAnswer, Interrupt, InterruptAnswer, Discard, DiscardAnswer, Give, GiveAnswer, Please, Release, ReleaseAnswer, UserAbort}
 use Rattle.agreement.specs.State.{Handed, Transfer, State, no_calls}
@@ -150,7 +150,7 @@ hears-value setup ts x (Some v) k = hears-apdu setup ts x.calls v.identifier v.a
 acts-calls : (setup : Setup) (role : Role) (ts : List ℕ) (x : State) (act : Act) → MayAct setup role x act → Keeps_calls ts x.calls → Keeps_calls ts (acted setup x act).calls
 acts-calls setup role ts x Connects h k = k
 acts-calls setup role ts x Recovers h k = k
-acts-calls setup role ts x (Says value) h k = hands-in setup ts x.calls x.outgoing.queue value.identifier value.apdu h.may_hand_in k
+acts-calls setup role ts x (SaysValue value) h k = hands-in setup ts x.calls x.outgoing.queue value.identifier value.apdu h.may_hand_in k
 acts-calls setup role ts x (Queues context apdu) h k = hands-in setup ts x.calls [] context apdu h.may_hand_in k
 acts-calls setup role ts x Drops h k = k
 acts-calls setup role ts x (Alters items) h k = k
@@ -160,7 +160,7 @@ acts-calls setup role ts x Marks h k = go setup.mode
     go Bare = k
     go Direct = k
     go Reliable = k
-acts-calls setup role ts x Gives h k = go setup.mode
+acts-calls setup role ts x GivesTurn h k = go setup.mode
   where
     go : (m : Mode) → Keeps_calls ts (gave_in m x).calls
     go Bare = k
@@ -171,14 +171,14 @@ acts-calls setup role ts x (Restarts number) h k = k
 acts-calls setup role ts x Starts h k = k
 acts-calls setup role ts x (Encodes context) h k = k
 acts-calls setup role ts x (Sends octets) h k = k
-acts-calls setup role ts x Ends h k = k
+acts-calls setup role ts x EndsActivity h k = k
 acts-calls setup role ts x Interrupts h k = k
 acts-calls setup role ts x Discards h k = k
 acts-calls setup role ts x Resumes h k = k
 acts-calls setup role ts x Releases h k = k
 acts-calls setup role ts x Aborts h k = cuts ts x.calls k
 acts-calls setup role ts x Withdraws h k = cuts ts x.calls k
-acts-calls setup role ts x Fails h k = k
+acts-calls setup role ts x TransportFails h k = k
 
 cuts-item : (ts : List ℕ) (t : Option Transfer) (calls : Calls) → Keeps_calls ts calls → Keeps_calls ts (cut_item t calls)
 cuts-item ts None calls k = k

@@ -5,7 +5,7 @@ use Rattle.agreement.specs.Sets.{Role, other, ContextSet, Saved}
 use Rattle.agreement.specs.Sets.Role.{Initiator, Responder}
 use Rattle.agreement.specs.Messages.{Setup, Message, Act, Choice}
 use Rattle.agreement.specs.Messages.Mode.{Reliable}
-use Rattle.agreement.specs.Messages.Act.{Connects, Recovers, Aborts, Withdraws, Fails}
+use Rattle.agreement.specs.Messages.Act.{Connects, Recovers, Aborts, Withdraws, TransportFails}
 use Rattle.agreement.specs.Messages.Choice.{Nothing, Accepting, Refusing, Results}
 use Rattle.agreement.specs.Messages.Message.{Connect, Recover, Accept, Refuse, Please, UserAbort}
 use Rattle.agreement.specs.State.{Phase, Transfer, Outgoing, Incoming, State, joined_with, new_end}
@@ -80,7 +80,7 @@ initiator-acts base a b f g shared act (Fresh p q e d) h = go act (acting (relia
     go Aborts (ByAborting i) = absurd (subst MayAbortIn idle i)
     go Withdraws (ByWithdrawing i) =
         Lost refl (phase-of b (new_end (reliable base) Responder) Idle q refl) (ap (λ (x : State). x.awaits) q) (ap (λ xs. xs ++ []) d)
-    go Fails (ByFailing i) =
+    go TransportFails (ByFailing i) =
         Lost refl (phase-of b (new_end (reliable base) Responder) Idle q refl) (ap (λ (x : State). x.awaits) q) (ap (λ xs. xs ++ []) d)
     go act (WhileUp i) = absurd (let z = idle in cc)
 initiator-acts base a b f g shared act (Asked s p q e d m) h = go act (acting (reliable base) Initiator a act h)
@@ -94,7 +94,7 @@ initiator-acts base a b f g shared act (Asked s p q e d m) h = go act (acting (r
     go Aborts (ByAborting j) =
         Dropped s (record { message = UserAbort; shared = shared.set } ∷ []) (refl, ap (λ (x : State). x.outgoing) p) q e (ap (λ xs. xs ++ (record { message = UserAbort; shared = shared.set } ∷ [])) d) m (tt, tt)
     go Withdraws (ByWithdrawing j) = absurd (subst (MayWithdrawIn Initiator) opening j)
-    go Fails (ByFailing j) = absurd (subst (MayWithdrawIn Initiator) opening j)
+    go TransportFails (ByFailing j) = absurd (subst (MayWithdrawIn Initiator) opening j)
     go act (WhileUp j) = absurd (let z = opening in cc)
 initiator-acts base a b f g shared act (Refused s p k q e i) h = go act (acting (reliable base) Initiator a act h)
   where
@@ -103,7 +103,7 @@ initiator-acts base a b f g shared act (Refused s p k q e i) h = go act (acting 
     go Recovers (ByRecovering r j) = absurd (cc)
     go Aborts (ByAborting j) = Dead refl q
     go Withdraws (ByWithdrawing j) = absurd (subst (MayWithdrawIn Initiator) p j)
-    go Fails (ByFailing j) = absurd (subst (MayWithdrawIn Initiator) p j)
+    go TransportFails (ByFailing j) = absurd (subst (MayWithdrawIn Initiator) p j)
     go act (WhileUp j) = absurd (cc)
 initiator-acts base a b f g shared act (Apart p q w v r e d) h = go act (acting (reliable base) Initiator a act h)
   where
@@ -115,7 +115,7 @@ initiator-acts base a b f g shared act (Apart p q w v r e d) h = go act (acting 
         e (ap (λ xs. xs ++ (record { message = Recover; shared = shared.set } ∷ [])) d) refl
     go Aborts (ByAborting j) = absurd (subst MayAbortIn p j)
     go Withdraws (ByWithdrawing j) = LeftB refl q v (subst (λ xs. AllAre IsAbort (xs ++ [])) (sym d) tt)
-    go Fails (ByFailing j) = LeftB refl q v (subst (λ xs. AllAre IsAbort (xs ++ [])) (sym d) tt)
+    go TransportFails (ByFailing j) = LeftB refl q v (subst (λ xs. AllAre IsAbort (xs ++ [])) (sym d) tt)
     go act (WhileUp j) = absurd (cc)
 initiator-acts base a b f g shared act (Recalling s p q w v r e d m) h = go act (acting (reliable base) Initiator a act h)
   where
@@ -125,7 +125,7 @@ initiator-acts base a b f g shared act (Recalling s p q w v r e d m) h = go act 
     go Aborts (ByAborting j) =
         Hanging s (record { message = UserAbort; shared = shared.set } ∷ []) a (refl, refl) q v r e (ap (λ xs. xs ++ (record { message = UserAbort; shared = shared.set } ∷ [])) d) m (tt, tt)
     go Withdraws (ByWithdrawing j) = absurd (subst (MayWithdrawIn Initiator) p j)
-    go Fails (ByFailing j) = absurd (subst (MayWithdrawIn Initiator) p j)
+    go TransportFails (ByFailing j) = absurd (subst (MayWithdrawIn Initiator) p j)
     go act (WhileUp j) = absurd (cc)
 initiator-acts base a b f g shared act (Denied s p q w v r e m d) h = go act (acting (reliable base) Initiator a act h)
   where
@@ -134,7 +134,7 @@ initiator-acts base a b f g shared act (Denied s p q w v r e m d) h = go act (ac
     go Recovers (ByRecovering i j) = absurd (cc)
     go Aborts (ByAborting j) = LeftB refl q v (subst (λ xs. AllAre IsAbort (xs ++ (record { message = UserAbort; shared = shared.set } ∷ []))) (sym d) (tt, tt))
     go Withdraws (ByWithdrawing j) = absurd (subst (MayWithdrawIn Initiator) p j)
-    go Fails (ByFailing j) = absurd (subst (MayWithdrawIn Initiator) p j)
+    go TransportFails (ByFailing j) = absurd (subst (MayWithdrawIn Initiator) p j)
     go act (WhileUp j) = absurd (cc)
 initiator-acts base a b f g shared act (LeftA p w q e) h = go act (acting (reliable base) Initiator a act h)
   where
@@ -150,7 +150,7 @@ initiator-acts base a b f g shared act (LeftA p w q e) h = go act (acting (relia
     go Recovers (ByRecovering i j) = LeftA (inr refl) w q e
     go Aborts (ByAborting j) = Dead refl q
     go Withdraws (ByWithdrawing j) = Dead refl q
-    go Fails (ByFailing j) = Dead refl q
+    go TransportFails (ByFailing j) = Dead refl q
     go act (WhileUp j) = absurd (not-phase Up j (λ x. cc) (λ x. cc))
 initiator-acts base a b f g shared act (Deaf (inl p) w q e) h = go act (acting (reliable base) Initiator a act h)
   where
@@ -159,7 +159,7 @@ initiator-acts base a b f g shared act (Deaf (inl p) w q e) h = go act (acting (
     go Recovers (ByRecovering r j) = absurd (cc)
     go Aborts (ByAborting j) = absurd (subst MayAbortIn p j)
     go Withdraws (ByWithdrawing j) = Dead refl q
-    go Fails (ByFailing j) = Dead refl q
+    go TransportFails (ByFailing j) = Dead refl q
     go act (WhileUp j) = absurd (cc)
 initiator-acts base a b f g shared act (Deaf (inr p) w q e) h = go act (acting (reliable base) Initiator a act h)
   where
@@ -168,7 +168,7 @@ initiator-acts base a b f g shared act (Deaf (inr p) w q e) h = go act (acting (
     go Recovers (ByRecovering r j) = absurd (cc)
     go Aborts (ByAborting j) = Dead refl q
     go Withdraws (ByWithdrawing j) = absurd (subst (MayWithdrawIn Initiator) p j)
-    go Fails (ByFailing j) = absurd (subst (MayWithdrawIn Initiator) p j)
+    go TransportFails (ByFailing j) = absurd (subst (MayWithdrawIn Initiator) p j)
     go act (WhileUp j) = absurd (cc)
 initiator-acts base a b f g shared act (Dropped s behind p q e d m l) h = absurd (over-still (reliable base) Initiator a act h p.0)
 initiator-acts base a b f g shared act (Hanging s behind was p q v r e d m l) h = absurd (over-still (reliable base) Initiator a act h p.0)
@@ -184,7 +184,7 @@ broken-still setup x act h e = go act (acting setup Responder x act h)
     go Recovers (ByRecovering r j) = cc
     go Aborts (ByAborting j) = subst MayAbortIn e j
     go Withdraws (ByWithdrawing j) = let r = subst (MayWithdrawIn Responder) e j in cc
-    go Fails (ByFailing j) = let r = subst (MayWithdrawIn Responder) e j in cc
+    go TransportFails (ByFailing j) = let r = subst (MayWithdrawIn Responder) e j in cc
     go act (WhileUp j) = cc
 
 responder-acts : (base : Setup) (a b : State) (f g : List Sending) (shared : Shared) (act : Act) → Stage (reliable base) a b f g shared → MayAct (reliable base) Responder b act → After base Responder b a g f shared act

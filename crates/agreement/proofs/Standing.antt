@@ -7,7 +7,7 @@ use Rattle.agreement.specs.Sets.Item.{Addition, Deletion}
 use Rattle.std.proofs.lemmas.Bool.{eqb-false}
 use Rattle.agreement.specs.Messages.{Value, Setup, Message, Act}
 use Rattle.agreement.specs.Messages.Mode.{Reliable}
-use Rattle.agreement.specs.Messages.Act.{Connects, Recovers, Says, Queues, Drops, Alters, Marks, Gives, Pleads, Restarts, Starts, Encodes, Sends, Ends, Interrupts, Discards, Resumes, Releases, Aborts, Withdraws, Fails}
+use Rattle.agreement.specs.Messages.Act.{Connects, Recovers, SaysValue, Queues, Drops, Alters, Marks, GivesTurn, Pleads, Restarts, Starts, Encodes, Sends, EndsActivity, Interrupts, Discards, Resumes, Releases, Aborts, Withdraws, TransportFails}
 use Rattle.agreement.specs.Messages.Message.{Accept, Alter, Give, GiveAnswer, Please, Release, UserAbort}
 use Rattle.agreement.specs.State.{Awaited, Progress, Handed, Transfer, Incoming, State, up_to, highest, joined, joined_with}
 use Rattle.agreement.specs.State.Phase.{Up, Releasing, Over}
@@ -269,7 +269,7 @@ alters-act base role x y own t items down up shared o p h n =
 pub lead-acts : (base : Setup) (role : Role) (x y : State) (t : Option Transfer) (down up : List Message) (shared : Shared) (act : Act) → LeadOk x → FollowOk y → MayAct (reliable base) role (state_with x NoAnswer [] t) act → FlowOf (reliable base) role (state_with x NoAnswer [] t) y down up shared → (act ≡ Releases → ⊥) → (act ≡ Aborts → ⊥) → After base role (state_with x NoAnswer [] t) y down up shared act
 lead-acts base role x y t down up shared Connects o p h n r a = absurd (let e = h.is_idle in let f = o.up in cc)
 lead-acts base role x y t down up shared Recovers o p h n r a = absurd (let e = h.is_broken in let f = o.up in cc)
-lead-acts base role x y t down up shared (Says value) o p h n r a = absurd (h.at_once refl)
+lead-acts base role x y t down up shared (SaysValue value) o p h n r a = absurd (h.at_once refl)
 lead-acts base role x y t down up shared (Queues context apdu) o p h n r a =
     Leads (record { up = o.up; turn = o.turn; gave = o.gave }) p (subst (λ d. FlowOf (reliable base) role (state_with x NoAnswer [] t) y d up shared) (sym (nil-messages down)) n)
 lead-acts base role x y t down up shared Drops o p h n r a = absurd (h.at_once refl)
@@ -286,7 +286,7 @@ lead-acts base role x y (Some t) down up shared Marks o p h n r a = by_value t.v
     by_value : (value : Option Value) → OnEncoded (λ sent all. Unit {0}) base.codec t.pieces value → FlowOf (reliable base) role (state_with x NoAnswer [] (put t value t.progress)) y down up shared → After base role (state_with x NoAnswer [] (put t value t.progress)) y down up shared Marks
     by_value None b n = absurd b
     by_value (Some v) b n = subst (λ q. FlowOf (reliable base) role (state_with x NoAnswer [] (put t (Some v) q)) y down up shared → After base role (state_with x NoAnswer [] (put t (Some v) q)) y down up shared Marks) (sym h.in_mode.0.0) (runs v) n
-lead-acts base role x y t down up shared Gives o p h n r a = Gives_away (gives-away base role x y t down up shared o p h.in_mode n)
+lead-acts base role x y t down up shared GivesTurn o p h n r a = Gives_away (gives-away base role x y t down up shared o p h.in_mode n)
 lead-acts base role x y t down up shared (Pleads priority) o p h n r a = absurd (true≢false (sym o.turn ∙ h.lacks_turn))
 lead-acts base role x y t down up shared (Restarts number) o p h n r a = absurd (let e = h.is_direct in cc)
 lead-acts base role x y None down up shared Starts o p h n r a = starts-act base role x y x.outgoing.queue down up shared o p h.has_item n
@@ -306,17 +306,17 @@ lead-acts base role x y (Some t) down up shared (Sends octets) o p h n r a = by_
     by_value : (value : Option Value) → OnEncoded (λ sent all. (rest : List ℕ) × ((sent ++ octets) ++ rest ≡ all)) base.codec t.pieces value → FlowOf (reliable base) role (state_with x NoAnswer [] (put t value t.progress)) y down up shared → After base role (state_with x NoAnswer [] (put t value t.progress)) y down up shared (Sends octets)
     by_value None b n = absurd b
     by_value (Some v) b n = subst (λ q. FlowOf (reliable base) role (state_with x NoAnswer [] (put t (Some v) q)) y down up shared → After base role (state_with x NoAnswer [] (put t (Some v) q)) y down up shared (Sends octets)) (sym h.is_next.0) (runs v) n
-lead-acts base role x y None down up shared Ends o p h n r a = absurd h.is_whole
-lead-acts base role x y (Some t) down up shared Ends o p h n r a = by_value t.value h.is_whole.1 n
+lead-acts base role x y None down up shared EndsActivity o p h n r a = absurd h.is_whole
+lead-acts base role x y (Some t) down up shared EndsActivity o p h n r a = by_value t.value h.is_whole.1 n
   where
-    runs : (v : Value) → joined t.pieces ≡ base.codec.written v → FlowOf (reliable base) role (state_with x NoAnswer [] (put t (Some v) Running)) y down up shared → After base role (state_with x NoAnswer [] (put t (Some v) Running)) y down up shared Ends
+    runs : (v : Value) → joined t.pieces ≡ base.codec.written v → FlowOf (reliable base) role (state_with x NoAnswer [] (put t (Some v) Running)) y down up shared → After base role (state_with x NoAnswer [] (put t (Some v) Running)) y down up shared EndsActivity
     runs v w n =
         Leads (record { up = o.up; turn = o.turn; gave = o.gave }) p
         (sends_end (reliable base) role x.sets.held x.sets.inter x.outgoing.started t v x.incoming (follower_of y) y.outgoing.started y.outgoing.transfer down up shared.set shared.inter (saved_of role shared) (saved_of (other role) shared) w n)
 
-    by_value : (value : Option Value) → OnEncoded (λ sent all. sent ≡ all) base.codec t.pieces value → FlowOf (reliable base) role (state_with x NoAnswer [] (put t value t.progress)) y down up shared → After base role (state_with x NoAnswer [] (put t value t.progress)) y down up shared Ends
+    by_value : (value : Option Value) → OnEncoded (λ sent all. sent ≡ all) base.codec t.pieces value → FlowOf (reliable base) role (state_with x NoAnswer [] (put t value t.progress)) y down up shared → After base role (state_with x NoAnswer [] (put t value t.progress)) y down up shared EndsActivity
     by_value None b n = absurd b
-    by_value (Some v) b n = subst (λ q. FlowOf (reliable base) role (state_with x NoAnswer [] (put t (Some v) q)) y down up shared → After base role (state_with x NoAnswer [] (put t (Some v) q)) y down up shared Ends) (sym h.is_whole.0) (runs v b) n
+    by_value (Some v) b n = subst (λ q. FlowOf (reliable base) role (state_with x NoAnswer [] (put t (Some v) q)) y down up shared → After base role (state_with x NoAnswer [] (put t (Some v) q)) y down up shared EndsActivity) (sym h.is_whole.0) (runs v b) n
 lead-acts base role x y None down up shared Interrupts o p h n r a = absurd h.runs
 lead-acts base role x y (Some t) down up shared Interrupts o p h n r a = interrupts-act base role x y [] t down up shared o p h.runs n
 lead-acts base role x y None down up shared Discards o p h n r a = absurd h.runs
@@ -328,4 +328,4 @@ lead-acts base role x y (Some t) down up shared Resumes o p h n r a =
 lead-acts base role x y t down up shared Releases o p h n r a = absurd (r refl)
 lead-acts base role x y t down up shared Aborts o p h n r a = absurd (a refl)
 lead-acts base role x y t down up shared Withdraws o p h n r a = absurd (subst (MayWithdrawIn role) o.up h.in_phase)
-lead-acts base role x y t down up shared Fails o p h n r a = absurd (subst (MayWithdrawIn role) o.up h.in_phase)
+lead-acts base role x y t down up shared TransportFails o p h n r a = absurd (subst (MayWithdrawIn role) o.up h.in_phase)

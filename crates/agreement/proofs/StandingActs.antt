@@ -5,7 +5,7 @@ use Rattle.agreement.specs.Sets.{Role, other, ContextSet}
 use Rattle.agreement.specs.Sets.Role.{Initiator, Responder}
 use Rattle.agreement.specs.Messages.{Setup, Message, Act, Apdu}
 use Rattle.agreement.specs.Messages.Mode.{Reliable}
-use Rattle.agreement.specs.Messages.Act.{Connects, Recovers, Says, Queues, Drops, Alters, Marks, Gives, Pleads, Restarts, Starts, Encodes, Sends, Ends, Interrupts, Discards, Resumes, Releases, Aborts, Withdraws, Fails}
+use Rattle.agreement.specs.Messages.Act.{Connects, Recovers, SaysValue, Queues, Drops, Alters, Marks, GivesTurn, Pleads, Restarts, Starts, Encodes, Sends, EndsActivity, Interrupts, Discards, Resumes, Releases, Aborts, Withdraws, TransportFails}
 use Rattle.agreement.specs.Messages.Message.{Give, Please, Release, UserAbort}
 use Rattle.agreement.specs.State.{Transfer, State}
 use Rattle.agreement.specs.State.Phase.{Idle, Up, Broken, Over}
@@ -67,25 +67,25 @@ seen-outgoing role x f g seen coming (Gone p o) = o
 sent-live : (setup : Setup) (x : State) (act : Act) (s : ContextSet) → (act ≡ Releases → ⊥) → (act ≡ Aborts → ⊥) → AllAre IsLive (sendings s (sent_by setup x act))
 sent-live setup x Connects s r a = (tt, tt)
 sent-live setup x Recovers s r a = (tt, tt)
-sent-live setup x (Says value) s r a = (tt, tt)
+sent-live setup x (SaysValue value) s r a = (tt, tt)
 sent-live setup x (Queues context apdu) s r a = tt
 sent-live setup x Drops s r a = tt
 sent-live setup x (Alters items) s r a = (tt, tt)
 sent-live setup x Marks s r a = (tt, tt)
-sent-live setup x Gives s r a = (tt, tt)
+sent-live setup x GivesTurn s r a = (tt, tt)
 sent-live setup x (Pleads priority) s r a = (tt, tt)
 sent-live setup x (Restarts number) s r a = (tt, tt)
 sent-live setup x Starts s r a = (tt, tt)
 sent-live setup x (Encodes context) s r a = tt
 sent-live setup x (Sends octets) s r a = (tt, tt)
-sent-live setup x Ends s r a = (tt, tt)
+sent-live setup x EndsActivity s r a = (tt, tt)
 sent-live setup x Interrupts s r a = (tt, tt)
 sent-live setup x Discards s r a = (tt, tt)
 sent-live setup x Resumes s r a = (tt, tt)
 sent-live setup x Releases s r a = absurd (r refl)
 sent-live setup x Aborts s r a = absurd (a refl)
 sent-live setup x Withdraws s r a = tt
-sent-live setup x Fails s r a = tt
+sent-live setup x TransportFails s r a = tt
 
 -- an end that is up is as it is seen
 pub record IsSeen (role : Role) (x : State) (f g : List Sending) (seen : State) (coming : List Message) : Type 0 where
@@ -116,7 +116,7 @@ discarding base role x y (Some t) down up shared o p h n = discards-act base rol
 leader-acts : (base : Setup) (role : Role) (x y : State) (down up : List Message) (shared : Shared) (act : Act) → LeadOk x → FollowOk y → MayAct (reliable base) role x act → FlowOf (reliable base) role x y down up shared → (act ≡ Releases → ⊥) → (act ≡ Aborts → ⊥) → After base role x y down up shared act
 leader-acts base role x y down up shared Connects o p h n r a = absurd (let e = h.is_idle in let f = o.up in cc)
 leader-acts base role x y down up shared Recovers o p h n r a = absurd (let e = h.is_broken in let f = o.up in cc)
-leader-acts base role x y down up shared (Says value) o p h n r a = absurd (h.at_once refl)
+leader-acts base role x y down up shared (SaysValue value) o p h n r a = absurd (h.at_once refl)
 leader-acts base role x y down up shared (Queues context apdu) o p h n r a =
     Leads (record { up = o.up; turn = o.turn; gave = o.gave }) p (subst (λ d. FlowOf (reliable base) role x y d up shared) (sym (nil-messages down)) n)
 leader-acts base role x y down up shared Drops o p h n r a = absurd (h.at_once refl)
@@ -124,13 +124,13 @@ leader-acts base role x y down up shared (Alters items) o p h n r a =
     subst (λ w. MayAct (reliable base) role (state_with x w x.sets.own x.outgoing.transfer) (Alters items) → FlowOf (reliable base) role (state_with x w x.sets.own x.outgoing.transfer) y down up shared → After base role (state_with x w x.sets.own x.outgoing.transfer) y down up shared (Alters items)) (sym h.is_free.is_calm)
     (λ h n. alters-act base role x y x.sets.own x.outgoing.transfer items down up shared o p h n) h n
 leader-acts base role x y down up shared Marks o p h n r a = by-settled base role x y down up shared Marks o p h n r a h.leads.is_free.is_calm h.leads.is_settled
-leader-acts base role x y down up shared Gives o p h n r a = by-settled base role x y down up shared Gives o p h n r a h.leads.is_free.is_calm h.leads.is_settled
+leader-acts base role x y down up shared GivesTurn o p h n r a = by-settled base role x y down up shared GivesTurn o p h n r a h.leads.is_free.is_calm h.leads.is_settled
 leader-acts base role x y down up shared (Pleads priority) o p h n r a = absurd (true≢false (sym o.turn ∙ h.lacks_turn))
 leader-acts base role x y down up shared (Restarts number) o p h n r a = absurd (let e = h.is_direct in cc)
 leader-acts base role x y down up shared Starts o p h n r a = by-settled base role x y down up shared Starts o p h n r a h.leads.is_free.is_calm h.leads.is_settled
 leader-acts base role x y down up shared (Encodes context) o p h n r a = by-settled base role x y down up shared (Encodes context) o p h n r a h.leads.is_free.is_calm h.leads.is_settled
 leader-acts base role x y down up shared (Sends octets) o p h n r a = by-settled base role x y down up shared (Sends octets) o p h n r a h.leads.is_free.is_calm h.leads.is_settled
-leader-acts base role x y down up shared Ends o p h n r a = by-settled base role x y down up shared Ends o p h n r a h.leads.is_free.is_calm h.leads.is_settled
+leader-acts base role x y down up shared EndsActivity o p h n r a = by-settled base role x y down up shared EndsActivity o p h n r a h.leads.is_free.is_calm h.leads.is_settled
 leader-acts base role x y down up shared Interrupts o p h n r a =
     subst (λ w. FlowOf (reliable base) role (state_with x w x.sets.own x.outgoing.transfer) y down up shared → After base role (state_with x w x.sets.own x.outgoing.transfer) y down up shared Interrupts) (sym h.is_free.is_calm)
     (interrupting base role x y x.outgoing.transfer down up shared o p h.runs) n
@@ -141,7 +141,7 @@ leader-acts base role x y down up shared Resumes o p h n r a = by-settled base r
 leader-acts base role x y down up shared Releases o p h n r a = absurd (r refl)
 leader-acts base role x y down up shared Aborts o p h n r a = absurd (a refl)
 leader-acts base role x y down up shared Withdraws o p h n r a = absurd (subst (MayWithdrawIn role) o.up h.in_phase)
-leader-acts base role x y down up shared Fails o p h n r a = absurd (subst (MayWithdrawIn role) o.up h.in_phase)
+leader-acts base role x y down up shared TransportFails o p h n r a = absurd (subst (MayWithdrawIn role) o.up h.in_phase)
 
 -- an end without the turn only pleads and queues
 pub data Waiting : Act → Type 0 where
@@ -158,25 +158,25 @@ resting-runs (Some t) r h = clash (sym h ∙ r)
 waiting : (base : Setup) (role : Role) (x : State) (act : Act) → FollowOk x → MayAct (reliable base) role x act → (act ≡ Aborts → ⊥) → Waiting act
 waiting base role x Connects o h a = absurd (let e = h.is_idle in let f = o.up in cc)
 waiting base role x Recovers o h a = absurd (let e = h.is_broken in let f = o.up in cc)
-waiting base role x (Says value) o h a = absurd (h.at_once refl)
+waiting base role x (SaysValue value) o h a = absurd (h.at_once refl)
 waiting base role x (Queues context apdu) o h a = Queueing context apdu
 waiting base role x Drops o h a = absurd (h.at_once refl)
 waiting base role x (Alters items) o h a = absurd (true≢false (sym h.in_mode.0 ∙ o.turn))
 waiting base role x Marks o h a = absurd (true≢false (sym h.leads.has_turn ∙ o.turn))
-waiting base role x Gives o h a = absurd (true≢false (sym h.leads.has_turn ∙ o.turn))
+waiting base role x GivesTurn o h a = absurd (true≢false (sym h.leads.has_turn ∙ o.turn))
 waiting base role x (Pleads priority) o h a = Pleading priority
 waiting base role x (Restarts number) o h a = absurd (let e = h.is_direct in cc)
 waiting base role x Starts o h a = absurd (true≢false (sym h.leads.has_turn ∙ o.turn))
 waiting base role x (Encodes context) o h a = absurd (true≢false (sym h.leads.has_turn ∙ o.turn))
 waiting base role x (Sends octets) o h a = absurd (true≢false (sym h.leads.has_turn ∙ o.turn))
-waiting base role x Ends o h a = absurd (true≢false (sym h.leads.has_turn ∙ o.turn))
+waiting base role x EndsActivity o h a = absurd (true≢false (sym h.leads.has_turn ∙ o.turn))
 waiting base role x Interrupts o h a = absurd (resting-runs x.outgoing.transfer o.rests h.runs)
 waiting base role x Discards o h a = absurd (resting-runs x.outgoing.transfer o.rests h.runs)
 waiting base role x Resumes o h a = absurd (true≢false (sym h.leads.has_turn ∙ o.turn))
 waiting base role x Releases o h a = absurd (true≢false (sym h.in_mode.0 ∙ o.turn))
 waiting base role x Aborts o h a = absurd (a refl)
 waiting base role x Withdraws o h a = absurd (subst (MayWithdrawIn role) o.up h.in_phase)
-waiting base role x Fails o h a = absurd (subst (MayWithdrawIn role) o.up h.in_phase)
+waiting base role x TransportFails o h a = absurd (subst (MayWithdrawIn role) o.up h.in_phase)
 
 follow-same : (x : State) → FollowOk x → FollowOk x
 follow-same x o = o
@@ -399,22 +399,22 @@ stays-up base role x y f g shared j (inr e) = not-broken_of role x f g j.me j.up
 pub stands-acts : (base : Setup) (role : Role) (x y : State) (f g : List Sending) (shared : Shared) (act : Act) → MayAct (reliable base) role x act → Standing (reliable base) role x y f g shared → Standing (reliable base) role (acted (reliable base) x act) y f (g ++ sendings shared.set (sent_by (reliable base) x act)) (shared_all Reliable role (sent_by (reliable base) x act) shared)
 stands-acts base role x y f g shared Connects h j = absurd (not-idle_of role x f g j.me j.up (up-me (reliable base) role j.me j.peer j.down j.up shared j.flow).0 j.sees_me h.is_idle)
 stands-acts base role x y f g shared Recovers h j = absurd (not-broken_of role x f g j.me j.up (up-me (reliable base) role j.me j.peer j.down j.up shared j.flow).0 j.sees_me h.is_broken)
-stands-acts base role x y f g shared (Says value) h j = absurd (h.at_once refl)
+stands-acts base role x y f g shared (SaysValue value) h j = absurd (h.at_once refl)
 stands-acts base role x y f g shared (Queues context apdu) h j = stands-up base role x y f g shared (Queues context apdu) h (λ e. cc) (λ e. cc) h.is_up j
 stands-acts base role x y f g shared Drops h j = absurd (h.at_once refl)
 stands-acts base role x y f g shared (Alters items) h j = stands-up base role x y f g shared (Alters items) h (λ e. cc) (λ e. cc) h.is_free.is_up j
 stands-acts base role x y f g shared Marks h j = stands-up base role x y f g shared Marks h (λ e. cc) (λ e. cc) h.leads.is_free.is_up j
-stands-acts base role x y f g shared Gives h j = stands-up base role x y f g shared Gives h (λ e. cc) (λ e. cc) h.leads.is_free.is_up j
+stands-acts base role x y f g shared GivesTurn h j = stands-up base role x y f g shared GivesTurn h (λ e. cc) (λ e. cc) h.leads.is_free.is_up j
 stands-acts base role x y f g shared (Pleads priority) h j = stands-up base role x y f g shared (Pleads priority) h (λ e. cc) (λ e. cc) h.is_free.is_up j
 stands-acts base role x y f g shared (Restarts number) h j = absurd (let e = h.is_direct in cc)
 stands-acts base role x y f g shared Starts h j = stands-up base role x y f g shared Starts h (λ e. cc) (λ e. cc) h.leads.is_free.is_up j
 stands-acts base role x y f g shared (Encodes context) h j = stands-up base role x y f g shared (Encodes context) h (λ e. cc) (λ e. cc) h.leads.is_free.is_up j
 stands-acts base role x y f g shared (Sends octets) h j = stands-up base role x y f g shared (Sends octets) h (λ e. cc) (λ e. cc) h.leads.is_free.is_up j
-stands-acts base role x y f g shared Ends h j = stands-up base role x y f g shared Ends h (λ e. cc) (λ e. cc) h.leads.is_free.is_up j
+stands-acts base role x y f g shared EndsActivity h j = stands-up base role x y f g shared EndsActivity h (λ e. cc) (λ e. cc) h.leads.is_free.is_up j
 stands-acts base role x y f g shared Interrupts h j = stands-up base role x y f g shared Interrupts h (λ e. cc) (λ e. cc) h.is_free.is_up j
 stands-acts base role x y f g shared Discards h j = stands-up base role x y f g shared Discards h (λ e. cc) (λ e. cc) h.is_free.is_up j
 stands-acts base role x y f g shared Resumes h j = stands-up base role x y f g shared Resumes h (λ e. cc) (λ e. cc) h.leads.is_free.is_up j
 stands-acts base role x y f g shared Releases h j = stands-releases base role x y f g shared h j
 stands-acts base role x y f g shared Aborts h j = stands-aborts base role x y (acted (reliable base) x Aborts) f g shared refl refl j
 stands-acts base role x y f g shared Withdraws h j = absurd (stays-up base role x y f g shared j (withdraws-in role x.phase h.in_phase))
-stands-acts base role x y f g shared Fails h j = absurd (stays-up base role x y f g shared j (withdraws-in role x.phase h.in_phase))
+stands-acts base role x y f g shared TransportFails h j = absurd (stays-up base role x y f g shared j (withdraws-in role x.phase h.in_phase))

@@ -8,7 +8,7 @@ use Rattle.agreement.specs.Sets.Item.{Addition, Deletion}
 use Rattle.agreement.specs.Sets.Result.{Rejected, AcceptedAs, Accepted, Kept}
 use Rattle.agreement.specs.Messages.{Value, Mode, Setup, Message, Act, Choice}
 use Rattle.agreement.specs.Messages.Mode.{Bare, Direct, Reliable}
-use Rattle.agreement.specs.Messages.Act.{Connects, Recovers, Says, Queues, Drops, Alters, Marks, Gives, Pleads, Restarts, Starts, Encodes, Sends, Ends, Interrupts, Discards, Resumes, Releases, Aborts, Withdraws, Fails}
+use Rattle.agreement.specs.Messages.Act.{Connects, Recovers, SaysValue, Queues, Drops, Alters, Marks, GivesTurn, Pleads, Restarts, Starts, Encodes, Sends, EndsActivity, Interrupts, Discards, Resumes, Releases, Aborts, Withdraws, TransportFails}
 use Rattle.agreement.specs.Messages.Choice.{Nothing, Accepting, Refusing, Results}
 use Rattle.agreement.specs.Messages.Message.{Connect, Recover, Accept, Refuse, Data, Alter, AlterAnswer, Mark, MarkAnswer, Restart, RestartAnswer, Start, Resume, Chunk, End, EndAnswer, Interrupt, InterruptAnswer, Discard, DiscardAnswer, Give, GiveAnswer, Please, Release, ReleaseAnswer, UserAbort}
 use Rattle.agreement.specs.State.{joined_with, inter_with, saved_with, Phase, Awaited, Sets, Piece, Handed, Transfer, Outgoing, Incoming, State, up_to, newest_set, highest}
@@ -143,7 +143,7 @@ is-joined p e = subst IsJoined (sym e) tt
 pub acts-stay : (v : Value) (setup : Setup) (role : Role) (x : State) (act : Act) → MayAct setup role x act → LeavesAlone v.identifier v.pair (Acts act) → (act ≡ Resumes → HasItsMark x.outgoing.transfer) → StayOf v setup.mode x → StayOf v setup.mode (acted setup x act)
 acts-stay v setup role x Connects h l m k = record { sets = λ j. absurd j; own = k.own; asked = k.asked; sent = k.sent; came = k.came }
 acts-stay v setup role x Recovers h l m k = record { sets = λ j. absurd j; own = k.own; asked = k.asked; sent = k.sent; came = k.came }
-acts-stay v setup role x (Says value) h l m k = k
+acts-stay v setup role x (SaysValue value) h l m k = k
 acts-stay v setup role x (Queues context apdu) h l m k = k
 acts-stay v setup role x Drops h l m k = k
 acts-stay v setup role x (Alters items) h l m k = record { sets = k.sets; own = unnamed-append v x.sets.own items k.own l; asked = k.asked; sent = k.sent; came = k.came }
@@ -153,7 +153,7 @@ acts-stay v setup role x Marks h l m k = go setup.mode k
     go Bare k = k
     go Direct k = let at = k.sets (is-joined x.phase h.leads.is_free.is_up) in record { sets = λ j. (at.0, at.1, λ e. (at.0, inr (at.2 e))); own = k.own; asked = k.asked; sent = k.sent; came = k.came }
     go Reliable k = let at = k.sets (is-joined x.phase h.leads.is_free.is_up) in record { sets = k.sets; own = k.own; asked = k.asked; sent = carries-on v _ x.outgoing (λ t c. (at.0, c)) k.sent; came = k.came }
-acts-stay v setup role x Gives h l m k = go setup.mode k
+acts-stay v setup role x GivesTurn h l m k = go setup.mode k
   where
     go : (q : Mode) → StayOf v q x → StayOf v q (gave_in q x)
     go Bare k = k
@@ -165,7 +165,7 @@ acts-stay v setup role x Starts h l m k =
     record { sets = λ j. let a = k.sets j in (a.0, λ e. a.0, a.2); own = k.own; asked = k.asked; sent = carries-started v x.outgoing; came = k.came }
 acts-stay v setup role x (Encodes context) h l m k = record { sets = k.sets; own = k.own; asked = k.asked; sent = carries-on v _ x.outgoing (λ t c. c) k.sent; came = k.came }
 acts-stay v setup role x (Sends octets) h l m k = record { sets = k.sets; own = k.own; asked = k.asked; sent = carries-on v _ x.outgoing (λ t c. c) k.sent; came = k.came }
-acts-stay v setup role x Ends h l m k = record { sets = k.sets; own = k.own; asked = k.asked; sent = carries-on v _ x.outgoing (λ t c. c) k.sent; came = k.came }
+acts-stay v setup role x EndsActivity h l m k = record { sets = k.sets; own = k.own; asked = k.asked; sent = carries-on v _ x.outgoing (λ t c. c) k.sent; came = k.came }
 acts-stay v setup role x Interrupts h l m k = record { sets = k.sets; own = k.own; asked = tt; sent = k.sent; came = k.came }
 acts-stay v setup role x Discards h l m k = record { sets = k.sets; own = k.own; asked = tt; sent = carries-on v _ x.outgoing (λ t c. c) k.sent; came = k.came }
 acts-stay v setup role x Resumes h l m k =
@@ -179,7 +179,7 @@ acts-stay v setup role x Resumes h l m k =
 acts-stay v setup role x Releases h l m k = record { sets = λ j. k.sets (is-joined x.phase h.is_free.is_up); own = k.own; asked = tt; sent = k.sent; came = k.came }
 acts-stay v setup role x Aborts h l m k = record { sets = λ j. absurd j; own = k.own; asked = k.asked; sent = k.sent; came = k.came }
 acts-stay v setup role x Withdraws h l m k = record { sets = λ j. absurd j; own = k.own; asked = k.asked; sent = k.sent; came = k.came }
-acts-stay v setup role x Fails h l m k = record { sets = λ j. absurd j; own = k.own; asked = k.asked; sent = k.sent; came = k.came }
+acts-stay v setup role x TransportFails h l m k = record { sets = λ j. absurd j; own = k.own; asked = k.asked; sent = k.sent; came = k.came }
 
 -- what is on its way: an acceptance gives the pair, an alteration doesn't name the context
 abbrev pub Sound : Value → Message → Type 0

@@ -7,7 +7,7 @@ use Rattle.agreement.specs.Messages.{Value, Mode, Setup, Message, Act, Choice}
 use Rattle.agreement.specs.Messages.Problem.{General}
 use Rattle.agreement.specs.Messages.Apdu.{Reject}
 use Rattle.agreement.specs.Messages.Mode.{Bare, Direct, Reliable}
-use Rattle.agreement.specs.Messages.Act.{Connects, Recovers, Says, Queues, Drops, Alters, Marks, Gives, Pleads, Restarts, Starts, Encodes, Sends, Ends, Interrupts, Discards, Resumes, Releases, Aborts, Withdraws, Fails}
+use Rattle.agreement.specs.Messages.Act.{Connects, Recovers, SaysValue, Queues, Drops, Alters, Marks, GivesTurn, Pleads, Restarts, Starts, Encodes, Sends, EndsActivity, Interrupts, Discards, Resumes, Releases, Aborts, Withdraws, TransportFails}
 use Rattle.agreement.specs.Messages.Choice.{Nothing, Accepting, Refusing, Results}
 use Rattle.agreement.specs.Messages.Message.{Connect, Recover, Accept, Refuse, Data, Alter, AlterAnswer, Mark, MarkAnswer, Restart, RestartAnswer, Start, Resume, Chunk, End, EndAnswer, Interrupt, InterruptAnswer, Discard, DiscardAnswer, Give, GiveAnswer, Please, Release, ReleaseAnswer, UserAbort}
 use Rattle.agreement.specs.State.{Phase, Transfer, State, new_end, first_phase, up_to, newest_set, highest}
@@ -53,7 +53,7 @@ whole-resumed v role (suc n) shared g w =
 whole-acts : (v : Value) (setup : Setup) (role : Role) (x : State) (act : Act) (shared : Shared) → (act ≡ Resumes → (n : ℕ) → confirmed_of x.outgoing.transfer ≡ suc n → Gives_pair v (newest (below (suc (suc n)) (saved_of role shared)))) → Whole v shared → Whole v (shared_all setup.mode role (sent_by setup x act) shared)
 whole-acts v setup role x Connects shared g w = w
 whole-acts v setup role x Recovers shared g w = w
-whole-acts v setup role x (Says value) shared g w = w
+whole-acts v setup role x (SaysValue value) shared g w = w
 whole-acts v setup role x (Queues context apdu) shared g w = w
 whole-acts v setup role x Drops shared g w = w
 whole-acts v setup role x (Alters items) shared g w = w
@@ -66,20 +66,20 @@ whole-acts v setup role x Marks shared g w = go setup.mode
 
     go : (m : Mode) → Whole v (shared_all m role (sent_by (record setup { mode = m }) x Marks) shared)
     go m = marked m _
-whole-acts v setup role x Gives shared g w = w
+whole-acts v setup role x GivesTurn shared g w = w
 whole-acts v setup role x (Pleads priority) shared g w = w
 whole-acts v setup role x (Restarts number) shared g w = w
 whole-acts v setup role x Starts shared g w = whole-saving v role [] (record shared { inter = shared.set }) (record { set = w.set; inter = w.set; saved = w.saved })
 whole-acts v setup role x (Encodes context) shared g w = w
 whole-acts v setup role x (Sends octets) shared g w = w
-whole-acts v setup role x Ends shared g w = w
+whole-acts v setup role x EndsActivity shared g w = w
 whole-acts v setup role x Interrupts shared g w = w
 whole-acts v setup role x Discards shared g w = w
 whole-acts v setup role x Resumes shared g w = whole-resumed v role (confirmed_of x.outgoing.transfer) shared (g refl) w
 whole-acts v setup role x Releases shared g w = w
 whole-acts v setup role x Aborts shared g w = w
 whole-acts v setup role x Withdraws shared g w = w
-whole-acts v setup role x Fails shared g w = w
+whole-acts v setup role x TransportFails shared g w = w
 
 -- an acceptance, of an opening or a recovery
 abbrev AcceptsIn : Step → Type 0
@@ -168,25 +168,25 @@ none-plain v = (tt, λ h. h)
 acts-plain : (v : Value) (setup : Setup) (x : State) (act : Act) (at : ContextSet) → LeavesAlone v.identifier v.pair (Acts act) → Plain_flight v (sendings at (sent_by setup x act))
 acts-plain v setup x Connects at l = ((tt, tt), neither)
 acts-plain v setup x Recovers at l = ((tt, tt), neither)
-acts-plain v setup x (Says value) at l = ((tt, tt), neither)
+acts-plain v setup x (SaysValue value) at l = ((tt, tt), neither)
 acts-plain v setup x (Queues context apdu) at l = none-plain v
 acts-plain v setup x Drops at l = none-plain v
 acts-plain v setup x (Alters items) at l = ((l, tt), neither)
 acts-plain v setup x Marks at l = ((tt, tt), neither)
-acts-plain v setup x Gives at l = ((tt, tt), neither)
+acts-plain v setup x GivesTurn at l = ((tt, tt), neither)
 acts-plain v setup x (Pleads priority) at l = ((tt, tt), neither)
 acts-plain v setup x (Restarts number) at l = ((tt, tt), neither)
 acts-plain v setup x Starts at l = ((tt, tt), neither)
 acts-plain v setup x (Encodes context) at l = none-plain v
 acts-plain v setup x (Sends octets) at l = ((tt, tt), neither)
-acts-plain v setup x Ends at l = ((tt, tt), neither)
+acts-plain v setup x EndsActivity at l = ((tt, tt), neither)
 acts-plain v setup x Interrupts at l = ((tt, tt), neither)
 acts-plain v setup x Discards at l = ((tt, tt), neither)
 acts-plain v setup x Resumes at l = ((tt, tt), neither)
 acts-plain v setup x Releases at l = ((tt, tt), neither)
 acts-plain v setup x Aborts at l = ((tt, tt), neither)
 acts-plain v setup x Withdraws at l = none-plain v
-acts-plain v setup x Fails at l = none-plain v
+acts-plain v setup x TransportFails at l = none-plain v
 
 abbrev Sends_soundly : Value → Step → List Sending → Type 0
 Sends_soundly v step flight = AllSound v flight × (HasAcceptance flight → AcceptsIn step)
@@ -242,7 +242,7 @@ joins-acting setup role x Marks h j = go setup.mode j
     go Bare j = j
     go Direct j = j
     go Reliable j = j
-joins-acting setup role x Gives h j = go setup.mode j
+joins-acting setup role x GivesTurn h j = go setup.mode j
   where
     go : (m : Mode) → IsJoined (gave_in m x).phase → IsJoined x.phase
     go Bare j = j
@@ -251,8 +251,8 @@ joins-acting setup role x Gives h j = go setup.mode j
 joins-acting setup role x Releases h j = subst IsJoined (sym h.is_free.is_up) tt
 joins-acting setup role x Aborts h j = absurd j
 joins-acting setup role x Withdraws h j = absurd j
-joins-acting setup role x Fails h j = absurd j
-joins-acting setup role x (Says value) h j = j
+joins-acting setup role x TransportFails h j = absurd j
+joins-acting setup role x (SaysValue value) h j = j
 joins-acting setup role x (Queues context apdu) h j = j
 joins-acting setup role x Drops h j = j
 joins-acting setup role x (Alters items) h j = j
@@ -261,7 +261,7 @@ joins-acting setup role x (Restarts number) h j = j
 joins-acting setup role x Starts h j = j
 joins-acting setup role x (Encodes context) h j = j
 joins-acting setup role x (Sends octets) h j = j
-joins-acting setup role x Ends h j = j
+joins-acting setup role x EndsActivity h j = j
 joins-acting setup role x Interrupts h j = j
 joins-acting setup role x Discards h j = j
 joins-acting setup role x Resumes h j = j

@@ -12,7 +12,7 @@ use Rattle.agreement.specs.State.Awaited.{NoAnswer, RestartOf}
 use Rattle.agreement.specs.Takings.{is_purged, MayTake, IsChoice, answer_to, taken, additions, altered_first, later}
 use Rattle.agreement.specs.Worlds.{Sending, Shared, sendings, shared_answered, pair_under}
 use Rattle.agreement.proofs.Carried.{WasSent}
-use Rattle.agreement.proofs.Flights.{Entry, AreSound, Reads, rejections, rejections-fit}
+use Rattle.agreement.proofs.Flights.{Entry, AreSound, ReadsFlight, rejections, rejections-fit}
 use Rattle.agreement.proofs.Flights.Entry.{AQuiet}
 use Rattle.agreement.proofs.Normal.{Core, Normal, back, swapped, takes_ask, takes_answer, takes_mark, takes_give, takes_value, takes_quiet, below-me, below-peer, restarted, sent_plain}
 use Rattle.agreement.proofs.Views.{direct, entry, entries, entries-append, nil-append, IsLive, IsNoRelease, AllAre, all-append, IsAbort, core, Ask, View, Shaped, Joined, extended, shortened, keeps}
@@ -216,11 +216,11 @@ IsGood from (Please priority) = Unit {0}
 IsGood from UserAbort = Unit {0}
 IsGood from message = ⊥
 
-pub reads-good : (from : Role) (held : ContextSet) (own : List (List Item)) (flight : List Sending) (shared : ContextSet) → Reads from held own (entries flight) shared → AllAre (IsGood from) flight
+pub reads-good : (from : Role) (held : ContextSet) (own : List (List Item)) (flight : List Sending) (shared : ContextSet) → ReadsFlight from held own (entries flight) shared → AllAre (IsGood from) flight
 reads-good from held own [] shared h = tt
 reads-good from held own (s ∷ flight) shared h = go (λ held own shared h. reads-good from held own flight shared h) s.message h
   where
-    go : ((held : ContextSet) (own : List (List Item)) (shared : ContextSet) → Reads from held own (entries flight) shared → AllAre (IsGood from) flight) → (m : Message) → Reads from held own (entry s.shared m ∷ entries flight) shared → IsGood from m × AllAre (IsGood from) flight
+    go : ((held : ContextSet) (own : List (List Item)) (shared : ContextSet) → ReadsFlight from held own (entries flight) shared → AllAre (IsGood from) flight) → (m : Message) → ReadsFlight from held own (entry s.shared m ∷ entries flight) shared → IsGood from m × AllAre (IsGood from) flight
     go ih (Data value) h = (tt, ih held own shared h.2)
     go ih (Alter items) h = (tt, ih (altered items (rejections items) held) own (altered items (rejections items) shared) (h.3 (rejections items) (rejections-fit items)))
     go ih (AlterAnswer results) h = (tt, ih (altered_first own results held) (later own) shared h.1)

@@ -5,7 +5,7 @@ use Rattle.agreement.specs.Sets.Role.{Initiator}
 use Rattle.agreement.specs.Messages.{Value, Mode, Setup, Codec, Message, Act}
 use Rattle.agreement.specs.Messages.Mode.{Bare, Direct, Reliable}
 use Rattle.agreement.specs.Messages.Message.{Connect, Recover, Data, Alter, Mark, Give, Please, Restart, Start, Chunk, End, Interrupt, Discard, Resume, Release, UserAbort}
-use Rattle.agreement.specs.Messages.Act.{Connects, Recovers, Says, Queues, Drops, Alters, Marks, Gives, Pleads, Restarts, Starts, Encodes, Sends, Ends, Interrupts, Discards, Resumes, Releases, Aborts, Withdraws, Fails}
+use Rattle.agreement.specs.Messages.Act.{Connects, Recovers, SaysValue, Queues, Drops, Alters, Marks, GivesTurn, Pleads, Restarts, Starts, Encodes, Sends, EndsActivity, Interrupts, Discards, Resumes, Releases, Aborts, Withdraws, TransportFails}
 use Rattle.agreement.specs.State.{Phase, Piece, Progress, Handed, Transfer, Outgoing, State, up_to, newest_set, highest, joined, cut_calls}
 use Rattle.agreement.specs.State.Phase.{Idle, Opening, Up, Releasing, Broken, Recovering, Over}
 use Rattle.agreement.specs.State.Awaited.{NoAnswer, RestartOf, InterruptOf, DiscardOf, ReleaseOf}
@@ -141,7 +141,7 @@ MayWithdrawIn role phase = ⊥
 abbrev pub MayAct : Setup → Role → State → Act → Type 0
 MayAct setup role state Connects = record { initiates : role ≡ Initiator; is_idle : state.phase ≡ Idle }
 MayAct setup role state Recovers = record { initiates : role ≡ Initiator; is_broken : state.phase ≡ Broken }
-MayAct setup role state (Says value) =
+MayAct setup role state (SaysValue value) =
     record {
       at_once : (setup.mode ≡ Reliable) → ⊥;
       is_free : IsFree state;
@@ -167,7 +167,7 @@ MayAct setup role state (Alters items) =
       may_ask : AllMayAsk role state.sets.held (used setup.mode state) items;
     }
 MayAct setup role state Marks = record { leads : Leads state; in_mode : MayMarkIn setup setup.mode state }
-MayAct setup role state Gives = record { leads : Leads state; in_mode : MayGiveIn setup.mode state }
+MayAct setup role state GivesTurn = record { leads : Leads state; in_mode : MayGiveIn setup.mode state }
 MayAct setup role state (Pleads priority) =
     record { is_free : IsFree state; lacks_turn : state.turn ≡ false; in_mode : IsNotBare setup.mode }
 MayAct setup role state (Restarts number) =
@@ -198,7 +198,7 @@ MayAct setup role state (Sends octets) =
       is_next : OnRunning (λ sent all. (rest : List ℕ) × ((sent ++ octets) ++ rest ≡ all)) setup.codec state.outgoing.transfer;
       is_within : length (joined (pieces_of state.outgoing.transfer) ++ octets) ≤ setup.most_octets;
     }
-MayAct setup role state Ends =
+MayAct setup role state EndsActivity =
     record {
       by_transfers : setup.mode ≡ Reliable;
       leads : Leads state;
@@ -220,7 +220,7 @@ MayAct setup role state Releases =
     }
 MayAct setup role state Aborts = record { in_phase : MayAbortIn state.phase; in_mode : IsNotBare setup.mode }
 MayAct setup role state Withdraws = record { in_phase : MayWithdrawIn role state.phase; in_mode : IsNotBare setup.mode }
-MayAct setup role state Fails = record { in_phase : MayWithdrawIn role state.phase; in_mode : IsNotBare setup.mode }
+MayAct setup role state TransportFails = record { in_phase : MayWithdrawIn role state.phase; in_mode : IsNotBare setup.mode }
 
 abbrev pub confirmed_of : Option Transfer → ℕ
 confirmed_of None = 0
@@ -236,25 +236,25 @@ next_mark Reliable state = suc (highest (pieces_of state.outgoing.transfer))
 abbrev pub sent_by : Setup → State → Act → List Message
 sent_by setup state Connects = Connect ∷ []
 sent_by setup state Recovers = Recover ∷ []
-sent_by setup state (Says value) = Data value ∷ []
+sent_by setup state (SaysValue value) = Data value ∷ []
 sent_by setup state (Queues context apdu) = []
 sent_by setup state Drops = []
 sent_by setup state (Alters items) = Alter items ∷ []
 sent_by setup state Marks = Mark (next_mark setup.mode state) ∷ []
-sent_by setup state Gives = Give ∷ []
+sent_by setup state GivesTurn = Give ∷ []
 sent_by setup state (Pleads priority) = Please priority ∷ []
 sent_by setup state (Restarts number) = Restart number (listed (newest (below number state.saved))) ∷ []
 sent_by setup state Starts = Start (suc state.outgoing.started) ∷ []
 sent_by setup state (Encodes context) = []
 sent_by setup state (Sends octets) = Chunk octets ∷ []
-sent_by setup state Ends = End (suc (highest (pieces_of state.outgoing.transfer))) ∷ []
+sent_by setup state EndsActivity = End (suc (highest (pieces_of state.outgoing.transfer))) ∷ []
 sent_by setup state Interrupts = Interrupt ∷ []
 sent_by setup state Discards = Discard ∷ []
 sent_by setup state Resumes = Resume state.outgoing.started (confirmed_of state.outgoing.transfer) ∷ []
 sent_by setup state Releases = Release ∷ []
 sent_by setup state Aborts = UserAbort ∷ []
 sent_by setup state Withdraws = []
-sent_by setup state Fails = []
+sent_by setup state TransportFails = []
 
 abbrev pub on_transfer : (Transfer → Transfer) → Outgoing → Outgoing
 on_transfer change outgoing = record outgoing { transfer = on_some outgoing.transfer }
@@ -312,7 +312,7 @@ gave_in Reliable state = record state { turn = false; gave = true }
 abbrev pub acted : Setup → State → Act → State
 acted setup state Connects = record state { phase = Opening }
 acted setup state Recovers = record state { phase = Recovering }
-acted setup state (Says value) =
+acted setup state (SaysValue value) =
     record state {
       calls = handed_in setup state.calls value.identifier value.apdu;
       outgoing = record state.outgoing { queue = due_after value.apdu state.outgoing.queue };
@@ -325,7 +325,7 @@ acted setup state (Queues context apdu) =
 acted setup state Drops = record state { outgoing = record state.outgoing { queue = after_due state.outgoing.queue } }
 acted setup state (Alters items) = record state { sets = record state.sets { own = state.sets.own ++ (items ∷ []) } }
 acted setup state Marks = marked_in setup.mode state
-acted setup state Gives = gave_in setup.mode state
+acted setup state GivesTurn = gave_in setup.mode state
 acted setup state (Pleads priority) = state
 acted setup state (Restarts number) = record state { awaits = RestartOf number }
 acted setup state Starts =
@@ -336,7 +336,7 @@ acted setup state (Encodes context) =
     }
 acted setup state (Sends octets) =
     record state { outgoing = on_transfer (λ transfer. record transfer { pieces = Octets octets ∷ transfer.pieces }) state.outgoing }
-acted setup state Ends = record state { outgoing = on_transfer (λ transfer. record transfer { progress = Ending }) state.outgoing }
+acted setup state EndsActivity = record state { outgoing = on_transfer (λ transfer. record transfer { progress = Ending }) state.outgoing }
 acted setup state Interrupts = record state { awaits = InterruptOf }
 acted setup state Discards =
     record state { awaits = DiscardOf; outgoing = on_transfer (λ transfer. record transfer { confirmed = 0 }) state.outgoing }
@@ -352,4 +352,4 @@ acted setup state Resumes =
 acted setup state Releases = record state { phase = Releasing; awaits = ReleaseOf }
 acted setup state Aborts = record state { phase = Over; calls = cut_calls state.calls }
 acted setup state Withdraws = record state { phase = Over; calls = cut_calls state.calls }
-acted setup state Fails = record state { phase = Over }
+acted setup state TransportFails = record state { phase = Over }

@@ -7,7 +7,7 @@ use Rattle.agreement.specs.Sets.Result.{AcceptedAs, Accepted, Kept}
 use Rattle.agreement.specs.Messages.{Apdu, Problem, Calls, Value, Mode, Setup, Message, Act, Choice}
 use Rattle.agreement.specs.Messages.Problem.{General, OfInvocation, OfResult, OfError}
 use Rattle.agreement.specs.Messages.Apdu.{Invoke, Outcome, Reject}
-use Rattle.agreement.specs.Messages.Act.{Connects, Recovers, Says, Queues, Alters, Marks, Gives, Restarts, Starts, Encodes, Sends, Ends, Interrupts, Discards, Resumes, Withdraws, Fails}
+use Rattle.agreement.specs.Messages.Act.{Connects, Recovers, SaysValue, Queues, Alters, Marks, GivesTurn, Restarts, Starts, Encodes, Sends, EndsActivity, Interrupts, Discards, Resumes, Withdraws, TransportFails}
 use Rattle.agreement.specs.Messages.Choice.{Nothing, Accepting, Results}
 use Rattle.agreement.specs.State.{Phase, Handed, State}
 use Rattle.agreement.specs.State.Phase.{Over}
@@ -167,7 +167,7 @@ collision =
 -- the initiator deletes context 5, on which the responder has an invocation on its way: rejected
 abbrev pub use_rejected : List Event
 use_rejected =
-    opening ++ Does Responder (Says (invocation 1 in_ber)) ∷ Does Initiator (Alters (Deletion 5 ∷ [])) ∷
+    opening ++ Does Responder (SaysValue (invocation 1 in_ber)) ∷ Does Initiator (Alters (Deletion 5 ∷ [])) ∷
     Gets Responder (Results (Kept ∷ [])) ∷ Gets Initiator Nothing ∷ Gets Initiator Nothing ∷ []
 
 abbrev pub marked_once : List Event
@@ -197,7 +197,7 @@ abbrev pub read_by_mark : List Event
 read_by_mark =
     marked_once ++ Does Initiator (Alters (Deletion 5 ∷ [])) ∷ Gets Responder (Results (Accepted ∷ [])) ∷ Gets Initiator Nothing ∷
     Does Initiator (Alters (Addition 5 (in_packed ∷ []) ∷ [])) ∷ Gets Responder (Results (AcceptedAs in_packed ∷ [])) ∷ Gets Initiator Nothing ∷
-    Does Responder (Restarts 2) ∷ Gets Initiator Nothing ∷ Gets Responder Nothing ∷ Does Initiator (Says (invocation 1 in_ber)) ∷ Gets Responder Nothing ∷ []
+    Does Responder (Restarts 2) ∷ Gets Initiator Nothing ∷ Gets Responder Nothing ∷ Does Initiator (SaysValue (invocation 1 in_ber)) ∷ Gets Responder Nothing ∷ []
 
 -- the initiator's first transfer, in three parts with two marks
 abbrev pub first_part : List ℕ
@@ -227,40 +227,40 @@ recovered = Cut ∷ Does Initiator Recovers ∷ Gets Responder (Accepting (with_
 -- mark 1 is confirmed, the rest is lost with the connection; the transfer is resumed from mark 1
 abbrev pub resumed_from_mark : List Event
 resumed_from_mark =
-    begun ++ Gets Initiator Nothing ∷ Does Initiator (Sends second_part) ∷ Does Initiator Marks ∷ Does Initiator (Sends third_part) ∷ Does Initiator Ends ∷
-    (recovered ++ Does Initiator Resumes ∷ Does Initiator (Sends second_part) ∷ Does Initiator Marks ∷ Does Initiator (Sends third_part) ∷ Does Initiator Ends ∷
+    begun ++ Gets Initiator Nothing ∷ Does Initiator (Sends second_part) ∷ Does Initiator Marks ∷ Does Initiator (Sends third_part) ∷ Does Initiator EndsActivity ∷
+    (recovered ++ Does Initiator Resumes ∷ Does Initiator (Sends second_part) ∷ Does Initiator Marks ∷ Does Initiator (Sends third_part) ∷ Does Initiator EndsActivity ∷
     Gets Responder Nothing ∷ Gets Responder Nothing ∷ Gets Responder Nothing ∷ Gets Responder Nothing ∷ Gets Responder Nothing ∷
     Gets Initiator Nothing ∷ Gets Initiator Nothing ∷ [])
 
 -- nothing is confirmed: the transfer is encoded anew
 abbrev pub resumed_from_nothing : List Event
 resumed_from_nothing =
-    begun ++ (recovered ++ Does Initiator Resumes ∷ Does Initiator (Encodes 5) ∷ Does Initiator (Sends (first_part ++ second_part ++ third_part)) ∷ Does Initiator Ends ∷
+    begun ++ (recovered ++ Does Initiator Resumes ∷ Does Initiator (Encodes 5) ∷ Does Initiator (Sends (first_part ++ second_part ++ third_part)) ∷ Does Initiator EndsActivity ∷
     Gets Responder Nothing ∷ Gets Responder Nothing ∷ Gets Responder Nothing ∷ Gets Initiator Nothing ∷ [])
 
 -- all has come, and the confirmation of the end is lost with the connection
 abbrev pub unconfirmed : List Event
 unconfirmed =
-    begun ++ Gets Initiator Nothing ∷ Does Initiator (Sends second_part) ∷ Does Initiator (Sends third_part) ∷ Does Initiator Ends ∷
+    begun ++ Gets Initiator Nothing ∷ Does Initiator (Sends second_part) ∷ Does Initiator (Sends third_part) ∷ Does Initiator EndsActivity ∷
     Gets Responder Nothing ∷ Gets Responder Nothing ∷ Gets Responder Nothing ∷ (recovered ++ Does Initiator Resumes ∷ [])
 
 -- what is resumed then isn't handed up again
 abbrev pub completed_resumed : List Event
 completed_resumed =
-    unconfirmed ++ Does Initiator (Sends (second_part ++ third_part)) ∷ Does Initiator Ends ∷
+    unconfirmed ++ Does Initiator (Sends (second_part ++ third_part)) ∷ Does Initiator EndsActivity ∷
     Gets Responder Nothing ∷ Gets Responder Nothing ∷ Gets Responder Nothing ∷ Gets Initiator Nothing ∷ []
 
 -- the initiator discards it, which cuts its invocation, and gives the turn
 abbrev pub cut_but_arrived : List Event
 cut_but_arrived =
     unconfirmed ++ Gets Responder Nothing ∷ Does Initiator Discards ∷ Gets Responder Nothing ∷ Gets Initiator Nothing ∷
-    Does Initiator Gives ∷ Gets Responder Nothing ∷ Gets Initiator Nothing ∷ []
+    Does Initiator GivesTurn ∷ Gets Responder Nothing ∷ Gets Initiator Nothing ∷ []
 
 -- the responder answers all the same, with this outcome of operation 1
 abbrev pub answered_late : List ℕ → List Event
 answered_late content =
     cut_but_arrived ++ Does Responder (Queues 5 (Outcome 1 content)) ∷ Does Responder Starts ∷ Does Responder (Encodes 5) ∷
-    Does Responder (Sends (5 ∷ 1 ∷ 1 ∷ content)) ∷ Does Responder Ends ∷ Gets Initiator Nothing ∷ Gets Initiator Nothing ∷ Gets Initiator Nothing ∷ []
+    Does Responder (Sends (5 ∷ 1 ∷ 1 ∷ content)) ∷ Does Responder EndsActivity ∷ Gets Initiator Nothing ∷ Gets Initiator Nothing ∷ Gets Initiator Nothing ∷ []
 
 abbrev pub late_result : List Event
 late_result = answered_late (1 ∷ 0 ∷ [])
@@ -270,10 +270,10 @@ late_error = answered_late (1 ∷ 1 ∷ [])
 
 -- a giving that a break cuts, before it is taken or after
 abbrev pub giving_lost : List Event
-giving_lost = opening ++ Does Initiator Gives ∷ recovered
+giving_lost = opening ++ Does Initiator GivesTurn ∷ recovered
 
 abbrev pub giving_taken : List Event
-giving_taken = opening ++ Does Initiator Gives ∷ Gets Responder Nothing ∷ recovered
+giving_taken = opening ++ Does Initiator GivesTurn ∷ Gets Responder Nothing ∷ recovered
 
 -- a recovery whose acceptance is lost, and another one
 abbrev pub recovery_broken : List Event
@@ -284,10 +284,10 @@ abbrev pub outcome : List ℕ → Value
 outcome content = record { identifier = 5; pair = in_ber; apdu = Outcome 1 content }
 
 abbrev pub invoked_once : List Event
-invoked_once = opening ++ Does Initiator (Says (invocation 1 in_ber)) ∷ Gets Responder Nothing ∷ []
+invoked_once = opening ++ Does Initiator (SaysValue (invocation 1 in_ber)) ∷ Gets Responder Nothing ∷ []
 
 abbrev pub answered_once : List Event
-answered_once = invoked_once ++ Does Responder (Says (outcome (1 ∷ 0 ∷ []))) ∷ Gets Initiator Nothing ∷ []
+answered_once = invoked_once ++ Does Responder (SaysValue (outcome (1 ∷ 0 ∷ []))) ∷ Gets Initiator Nothing ∷ []
 
 -- an opening with a context whose identifier no octets can have
 abbrev pub with_wide : ContextSet
@@ -332,7 +332,7 @@ abbrev pub withdrawn : List Event
 withdrawn = begun ++ Cut ∷ Does Initiator Withdraws ∷ []
 
 abbrev pub refused_transport : List Event
-refused_transport = begun ++ Cut ∷ Does Initiator Fails ∷ []
+refused_transport = begun ++ Cut ∷ Does Initiator TransportFails ∷ []
 
 -- the state of an end after these events
 abbrev pub end_of : Mode → IsFaithful → Role → List Event → State

@@ -4,7 +4,7 @@ use Rattle.agreement.specs.Sets.{Pair, Role, ContextSet, IsKnownSet, other, look
 use Rattle.agreement.specs.Sets.Role.{Initiator, Responder}
 use Rattle.agreement.specs.Messages.{Apdu, Invocation, Calls, Value, Setup, Message, Choice}
 use Rattle.agreement.specs.Messages.Message.{Accept, Connect, End}
-use Rattle.agreement.specs.Messages.Act.{Alters, Gives, Says, Queues, Starts, Encodes}
+use Rattle.agreement.specs.Messages.Act.{Alters, GivesTurn, SaysValue, Queues, Starts, Encodes}
 use Rattle.agreement.specs.Messages.Choice.{Accepting}
 use Rattle.agreement.specs.Messages.Apdu.{Invoke, Outcome, Reject}
 use Rattle.agreement.specs.State.{Phase, Awaited, Handed, Transfer, State}
@@ -105,7 +105,7 @@ OneHolder setup =
 -- since its acceptance an end has given the turn to nobody
 abbrev pub HasNotGiven : World → Type 0
 HasNotGiven [] = Unit {0}
-HasNotGiven (By Initiator (Acts Gives) ∷ later) = ⊥
+HasNotGiven (By Initiator (Acts GivesTurn) ∷ later) = ⊥
 HasNotGiven (moment ∷ later) = HasNotGiven later
 
 -- after an acceptance that the initiator took, of an opening or of a recovery, it has the turn
@@ -146,7 +146,7 @@ OneOutcome setup = (world : World) → IsRun setup world → (role : Role) → A
 
 -- what was handed in at an end, the newest first
 abbrev pub handed_by : Step → List Apdu
-handed_by (Acts (Says value)) = value.apdu ∷ []
+handed_by (Acts (SaysValue value)) = value.apdu ∷ []
 handed_by (Acts (Queues context apdu)) = apdu ∷ []
 handed_by step = []
 
@@ -178,7 +178,7 @@ answer_in (Outcome number content) = number ∷ []
 answer_in apdu = []
 
 abbrev pub answered_after : Step → List ℕ → List ℕ
-answered_after (Acts (Says value)) answered = answer_in value.apdu ++ answered
+answered_after (Acts (SaysValue value)) answered = answer_in value.apdu ++ answered
 answered_after (Acts (Queues context apdu)) answered = answer_in apdu ++ answered
 answered_after (Takes Connect (Accepting set)) answered = []
 answered_after step answered = answered
@@ -210,7 +210,7 @@ answer_with state (Outcome number content) =
 answer_with state apdu = []
 
 abbrev pub answers_by : State → Step → List Answer
-answers_by state (Acts (Says value)) = answer_with state value.apdu
+answers_by state (Acts (SaysValue value)) = answer_with state value.apdu
 answers_by state (Acts (Queues context apdu)) = answer_with state apdu
 answers_by state step = []
 

@@ -101,25 +101,25 @@ pub data Message : Type 0 where
 pub data Act : Type 0 where
   Connects : Act
   Recovers : Act
-  Says : (value : Value) → Act
+  SaysValue : (value : Value) → Act
   Queues : (context : ℕ) → (apdu : Apdu) → Act  -- reliable mode: hands an APDU in
   Drops : Act  -- else: drops the reject that is due, where no context may carry it
   Alters : (items : List Item) → Act
   Marks : Act
-  Gives : Act
+  GivesTurn : Act
   Pleads : (priority : ℕ) → Act
   Restarts : (number : ℕ) → Act
   Starts : Act
   Encodes : (context : ℕ) → Act  -- encodes the item of the current transfer
   Sends : (octets : List ℕ) → Act
-  Ends : Act
+  EndsActivity : Act
   Interrupts : Act
   Discards : Act
   Resumes : Act
   Releases : Act
   Aborts : Act
   Withdraws : Act  -- goes over before it sent or took a CN on this connection, with nothing sent
-  Fails : Act  -- so too, as the transport connection is refused (DR, X.224); what is open stays open
+  TransportFails : Act  -- so too, as the transport connection is refused (DR, X.224); what is open stays open
 
 -- what the taker of a message decides: the contexts that it accepts, that it refuses, or the results
 pub data Choice : Type 0 where

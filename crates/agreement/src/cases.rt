@@ -8,7 +8,7 @@ ghost use Rattle.agreement.specs.Sets.Result.{AcceptedAs};
 ghost use Rattle.agreement.specs.Messages.Problem.{OfResult, OfError};
 ghost use Rattle.agreement.specs.Messages.Apdu.{Invoke, Reject};
 ghost use Rattle.agreement.specs.Messages.Message.{Alter};
-ghost use Rattle.agreement.specs.Messages.Act.{Says, Alters};
+ghost use Rattle.agreement.specs.Messages.Act.{SaysValue, Alters};
 ghost use Rattle.agreement.specs.Messages.Choice.{Results};
 ghost use Rattle.agreement.specs.Messages.Mode.{Bare, Direct, Reliable};
 ghost use Rattle.agreement.specs.State.{highest};
@@ -168,14 +168,14 @@ pub fn outcome_of_its_operation()
     ensures run { Happens Direct answered_once }
     ensures outcome { Leaves Direct answered_once
         (λ a b. (a.calls.own_open ≡ []) × (b.calls.peer_open ≡ [])) }
-    ensures refused { Refuses Direct invoked_once Responder (Says (outcome (2 ∷ 0 ∷ []))) }
+    ensures refused { Refuses Direct invoked_once Responder (SaysValue (outcome (2 ∷ 0 ∷ []))) }
 {}
 
 /// A value that the codec may not write is not said.
 pub fn unwritable_value_refused()
     ensures run { Happens Direct wide_opening }
     ensures refused { Refuses Direct wide_opening Initiator
-        (Says (record { identifier = 40001; pair = in_ber; apdu = Invoke 1 1 None [] })) }
+        (SaysValue (record { identifier = 40001; pair = in_ber; apdu = Invoke 1 1 None [] })) }
 {}
 
 /// A late result and a late error are rejected, each with its own problem.

@@ -7,7 +7,7 @@ use Rattle.asn1_types.specs.declared.row.TypeRow.{TypeRow}
 use Rattle.asn1_types.specs.Value.{Value}
 use Rattle.ber_spelling.specs.declared.fault.ReadFault as bers
 use Rattle.ber_spelling.specs.declared.fault.ReadFault.TheVariants as ber_faults
-use Rattle.ber_spelling.specs.Reading.{Fails}
+use Rattle.ber_spelling.specs.Reading.{FailsWith}
 use Rattle.ber_spelling.specs.Rules.{read_at}
 use Rattle.ber_spelling.specs.Spelling as ber
 use Rattle.ber_spelling.proofs.WholeValues.{spelled_is_read}
@@ -160,7 +160,7 @@ module _ (rows : List TypeRow) (same : rows ≡ head_rows) (text : List ℕ) whe
     faulty : (fault : bers.ReadFault) → read_at rows apdu_row strict 262144 text ≡ failed fault → (n : ℕ) → n ≡ number_of_ber (failed fault) → ((h : Head) → SpellsBer strict text h → ⊥) × (n ≡ number_of_ber fixed)
     faulty fault e n is = let f = on_fixed (failed fault) e in (ber_faulty strict text fault f, is ∙ ap number_of_ber (sym f))
 
-    pub told : (fault : bers.ReadFault) → Fails fault (read_at rows apdu_row strict 262144 text) → (n : ℕ) → Some n ≡ ber_told fault → ((h : Head) → SpellsBer strict text h → ⊥) × (n ≡ number_of_ber fixed)
+    pub told : (fault : bers.ReadFault) → FailsWith fault (read_at rows apdu_row strict 262144 text) → (n : ℕ) → Some n ≡ ber_told fault → ((h : Head) → SpellsBer strict text h → ⊥) × (n ≡ number_of_ber fixed)
     told (ber_faults.NotSpelled place kind) e n is = faulty (ber_faults.NotSpelled place kind) e n cc
     told ber_faults.Short e n is = faulty ber_faults.Short e n cc
     told (ber_faults.TooDeep place) e n is = faulty (ber_faults.TooDeep place) e n cc
@@ -189,7 +189,7 @@ module _ (rows : List TypeRow) (same : rows ≡ head_rows) (text : List ℕ) whe
   faulty_packed : (fault : packeds.PackedFault) → packed_rules.read_at rows packed_apdu_row 262144 text ≡ packed_failed fault → (n : ℕ) → n ≡ number_of_packed (packed_failed fault) → HasNone syntax.Packed text × (n ≡ number_of_packed packed_fixed)
   faulty_packed fault e n is = let f = on_packed (packed_failed fault) e in (packed_faulty text fault f, is ∙ ap number_of_packed (sym f))
 
-  pub told_packed : (fault : packeds.PackedFault) → packed_reading.Fails fault (packed_rules.read_at rows packed_apdu_row 262144 text) → (n : ℕ) → Some n ≡ packed_told fault → HasNone syntax.Packed text × (n ≡ number_of_packed packed_fixed)
+  pub told_packed : (fault : packeds.PackedFault) → packed_reading.FailsWith fault (packed_rules.read_at rows packed_apdu_row 262144 text) → (n : ℕ) → Some n ≡ packed_told fault → HasNone syntax.Packed text × (n ≡ number_of_packed packed_fixed)
   told_packed (packed_faults.NotSpelled place kind) e n is = faulty_packed (packed_faults.NotSpelled place kind) e n cc
   told_packed packed_faults.Short e n is = faulty_packed packed_faults.Short e n cc
   told_packed (packed_faults.TooLong place) e n is = faulty_packed (packed_faults.TooLong place) e n cc

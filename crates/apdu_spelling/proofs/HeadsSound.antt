@@ -4,7 +4,7 @@ use Rattle.std.specs.List.{AllByRecursion}
 use Rattle.std.proofs.lemmas.List.{append-nil}
 use Rattle.asn1_types.specs.declared.row.TypeRow.{TypeRow}
 use Rattle.asn1_types.specs.Rows.{nesting, openings}
-use Rattle.asn1_types.specs.Table.{HasShortTag, IsSound, refusal}
+use Rattle.asn1_types.specs.Table.{HasShortTag, AreSoundRows, refusal}
 use Rattle.apdu_spelling.specs.Rows.{head_rows}
 
 -- each row can be added behind those before it
@@ -34,5 +34,5 @@ short_at (r ∷ rows) h (suc n) row e = short_at rows h.1 n row e
 heads_short : AllByRecursion HasShortTag head_rows
 heads_short = search arith
 
-pub heads_sound : IsSound head_rows
+pub heads_sound : AreSoundRows head_rows
 heads_sound = record { each = added [] head_rows heads_added; short = short_at head_rows heads_short }

@@ -9,7 +9,7 @@ use Rattle.osi_base.specs.declared.words.ProblemKind.TheVariants as kinds
 use Rattle.asn1_types.specs.declared.value.Val.{Val}
 use Rattle.asn1_types.specs.declared.row.TypeId.{TypeId}
 use Rattle.asn1_types.specs.Value.{Value, present}
-use Rattle.asn1_types.specs.Table.{IsSound}
+use Rattle.asn1_types.specs.Table.{AreSoundRows}
 use Rattle.ber_spelling.proofs.WholeValues as ber
 use Rattle.packed_codec.proofs.WholeValues as packed
 use Rattle.stub_tables.specs.declared.tables.Tables.{Tables}
@@ -195,7 +195,7 @@ one_head syntax.Packed h k text p q =
 
 -- ---- values
 
-one_spelled : (s : Syntax) (t : Tables) (limit of : ℕ) (v w : Val) (os : List ℕ) → IsSound t.types → limit ≤ 262144 → SpelledAs s t.types limit of v os → SpelledAs s t.types limit of w os → v ≡ w
+one_spelled : (s : Syntax) (t : Tables) (limit of : ℕ) (v w : Val) (os : List ℕ) → AreSoundRows t.types → limit ≤ 262144 → SpelledAs s t.types limit of v os → SpelledAs s t.types limit of w os → v ≡ w
 one_spelled syntax.Ber t limit of v w os sound le p q = (ber.none_begins t.types of false limit v w os os [] [] sound p q refl).1
 one_spelled syntax.Der t limit of v w os sound le p q = (ber.none_begins t.types of true limit v w os os [] [] sound p q refl).1
 one_spelled syntax.Packed t limit of v w os sound le p q = (packed.none_begins t.types of limit v w os os [] [] (omega arith) p q refl).1
@@ -205,7 +205,7 @@ room_le syntax.Ber h = omega arith
 room_le syntax.Der h = omega arith
 room_le syntax.Packed h = omega arith
 
-module _ (s : Syntax) (t : Tables) (sound : IsSound t.types) (limit : ℕ) (le : limit ≤ 262144) where
+module _ (s : Syntax) (t : Tables) (sound : AreSoundRows t.types) (limit : ℕ) (le : limit ≤ 262144) where
   one_typed : (of : Option TypeId) (v w : Val) (os : List ℕ) → TypedAs s t.types limit of v os → TypedAs s t.types limit of w os → v ≡ w
   one_typed None v w os p q = absurd p
   one_typed (Some of) v w os p q = one_spelled s t limit of.0 v w os sound le p q
@@ -239,7 +239,7 @@ module _ (s : Syntax) (t : Tables) (sound : IsSound t.types) (limit : ℕ) (le :
 
 -- ---- APDUs
 
-module _ (s : Syntax) (t : Tables) (sound : IsSound t.types) where
+module _ (s : Syntax) (t : Tables) (sound : AreSoundRows t.types) where
   one_invoke : (i j : ℤ) (k l : Option ℤ) (c d : Code) (v w : Option Val) (h : Head) → SaysInvoke t s i k c v h → SaysInvoke t s j l d w h → apdus.Invoke i k c v ≡ apdus.Invoke j l d w
   one_invoke i j k l c d v w h p q =
       let e : invoke i k c p.octets ≡ invoke j l d q.octets = sym p.head_is ∙ q.head_is in

@@ -13,7 +13,7 @@ use Rattle.asn1_types.specs.declared.row.Class.TheVariants.{Universal, Context}
 use Rattle.asn1_types.specs.declared.row.Part.{Part}
 use Rattle.asn1_types.specs.declared.row.TypeId.{TypeId}
 use Rattle.asn1_types.specs.Rows.{along}
-use Rattle.asn1_types.specs.Table.{IsSound}
+use Rattle.asn1_types.specs.Table.{AreSoundRows}
 use Rattle.asn1_types.specs.Value.{Value, integer, parts, any, MaybeValues, no_parts, absent, present}
 use Rattle.asn1_types.specs.Whole.{is_whole}
 use Rattle.asn1_types.specs.declared.row.Tag as tags
@@ -182,14 +182,14 @@ WholeIn syntax.Packed os = Unit {0}
 le_of : (n m : ℕ) → nat_le n m ≡ true → n ≤ m
 le_of n m e = grind (arith, nat_tests)
 
-value_is : (s : Syntax) (types : TypeTable) (of : ℕ) (v : Val) (limit : ℕ) → IsSound types → limit ≤ 262144 → is_writable s types of v ≡ true → length (written_value s types of v) ≤ limit → SpelledAs s types limit of v (written_value s types of v)
+value_is : (s : Syntax) (types : TypeTable) (of : ℕ) (v : Val) (limit : ℕ) → AreSoundRows types → limit ≤ 262144 → is_writable s types of v ≡ true → length (written_value s types of v) ≤ limit → SpelledAs s types limit of v (written_value s types of v)
 value_is syntax.Ber types of v limit sound most e le = value_spelled whole_is types sound of v (fits_has_form types of v e) false limit (omega arith) le
 value_is syntax.Der types of v limit sound most e le = value_spelled whole_is types sound of v (fits_has_form types of v e) true limit (omega arith) le
 value_is syntax.Packed types of v limit sound most e le =
     let t = and_parts (packs types of v) (nat_le (items v) most_items) e in
     record { fit = t.0; are = refl; within = le; few = le_of (items v) most_items t.1 }
 
-value_wholly : (s : Syntax) (types : TypeTable) (of : ℕ) (v : Val) → IsSound types → is_writable s types of v ≡ true → length (written_value s types of v) ≤ 262144 → WholeIn s (written_value s types of v)
+value_wholly : (s : Syntax) (types : TypeTable) (of : ℕ) (v : Val) → AreSoundRows types → is_writable s types of v ≡ true → length (written_value s types of v) ≤ 262144 → WholeIn s (written_value s types of v)
 value_wholly syntax.Ber types of v sound e le = value_whole types sound of v (fits_has_form types of v e) (omega arith)
 value_wholly syntax.Der types of v sound e le = value_whole types sound of v (fits_has_form types of v e) (omega arith)
 value_wholly syntax.Packed types of v sound e le = tt

@@ -6,7 +6,7 @@ use Rattle.std.specs.List.{AllByRecursion}
 use Rattle.std.proofs.lemmas.List.{take-append-le, take_at}
 use Rattle.asn1_types.specs.declared.row.TypeRow.{TypeRow}
 use Rattle.asn1_types.specs.Rows.{names_of, nesting, nesting_by}
-use Rattle.asn1_types.specs.Table.{first_from, refusal, HasShortTag, IsSound}
+use Rattle.asn1_types.specs.Table.{first_from, refusal, HasShortTag, AreSoundRows}
 use Rattle.asn1_types.specs.Inside.{IsKept}
 use Rattle.asn1_types.proofs.Along.{SameTo, agree}
 use Rattle.asn1_types.proofs.Sound.{names_below, nesting_cong, nesting_at, is_down, taken}
@@ -40,7 +40,7 @@ push_cases (x ∷ rows) row r (suc n) e =
       | inr t ↦ inr (ap (λ (k : ℕ). suc k) t.0, t.1)
     ]
 
-pub sound_push : (rows : List TypeRow) (row : TypeRow) → IsSound rows → refusal rows row ≡ None → HasShortTag row → IsSound (rows ++ row ∷ [])
+pub sound_push : (rows : List TypeRow) (row : TypeRow) → AreSoundRows rows → refusal rows row ≡ None → HasShortTag row → AreSoundRows (rows ++ row ∷ [])
 sound_push rows row s e short = record {
   each = λ n r g.
       elim (push_cases rows row r n g) [
@@ -53,16 +53,16 @@ sound_push rows row s e short = record {
 same_push : (rows : List TypeRow) (row : TypeRow) (n : ℕ) → n < length rows → SameTo (rows ++ row ∷ []) rows n
 same_push rows row n lt = record { same = λ m le. slice_get-push rows row m (omega arith) }
 
-nesting_push : (rows : List TypeRow) (row : TypeRow) → IsSound (rows ++ row ∷ []) → (n : ℕ) → n < length rows → nesting (rows ++ row ∷ []) n ≡ nesting rows n
+nesting_push : (rows : List TypeRow) (row : TypeRow) → AreSoundRows (rows ++ row ∷ []) → (n : ℕ) → n < length rows → nesting (rows ++ row ∷ []) n ≡ nesting rows n
 unfolding nesting
 nesting_push rows row s n lt =
     agree 0 nesting_by nesting_cong (rows ++ row ∷ []) rows (is_down (rows ++ row ∷ []) s) n (length (rows ++ row ∷ [])) (length rows) (omega (arith, length-append rows (row ∷ []))) lt (same_push rows row n lt)
 
-alike_push : (rows : List TypeRow) (row : TypeRow) → IsSound (rows ++ row ∷ []) → (ns : List ℕ) → AllByRecursion (λ m. m < length rows) ns → AllByRecursion (λ m. nesting (rows ++ row ∷ []) m ≡ nesting rows m) ns
+alike_push : (rows : List TypeRow) (row : TypeRow) → AreSoundRows (rows ++ row ∷ []) → (ns : List ℕ) → AllByRecursion (λ m. m < length rows) ns → AllByRecursion (λ m. nesting (rows ++ row ∷ []) m ≡ nesting rows m) ns
 alike_push rows row s [] h = tt
 alike_push rows row s (n ∷ ns) h = (nesting_push rows row s n h.0, alike_push rows row s ns h.1)
 
-nesting_last : (rows : List TypeRow) (row : TypeRow) → IsSound (rows ++ row ∷ []) → AllByRecursion (λ m. m < length rows) (names_of row) → nesting (rows ++ row ∷ []) (length rows) ≡ nesting_by (nesting rows) row
+nesting_last : (rows : List TypeRow) (row : TypeRow) → AreSoundRows (rows ++ row ∷ []) → AllByRecursion (λ m. m < length rows) (names_of row) → nesting (rows ++ row ∷ []) (length rows) ≡ nesting_by (nesting rows) row
 nesting_last rows row s h =
     whole ∙ nesting_cong row (nesting (rows ++ row ∷ [])) (nesting rows) (alike_push rows row s (names_of row) h)
   where

@@ -10,7 +10,7 @@ use Rattle.asn1_types.specs.declared.row.TypeRow.{TypeRow}
 use Rattle.asn1_types.specs.declared.row.TypeRow.TheVariants.{Boolean, Integer, Enumerated, Null, OctetString, BitString, ObjectId, Text, Sequence, Set, SequenceOf, SetOf, Choice, Tagged, Any}
 use Rattle.asn1_types.specs.Rows.{along, names_of, rows_of_parts}
 use Rattle.asn1_types.specs.Defaults.{may_be_absent, is_default}
-use Rattle.asn1_types.specs.Table.{IsSound}
+use Rattle.asn1_types.specs.Table.{AreSoundRows}
 use Rattle.asn1_types.specs.Value.{Value, MaybeValues, no_parts, absent, present}
 use Rattle.asn1_types.specs.ValueView.{parts_of}
 use Rattle.asn1_types.specs.Fits.{has_32_bits, is_octet, part_fits, parts_fit, sequence_fits, list_fits, alternative_fits, choice_fits, form_by, nothing_fits, has_form, is_short, fits}
@@ -52,7 +52,7 @@ form_cong spell (Tagged class number explicit inner) f g h = h.0
 form_cong spell Any f g h = refl
 
 -- which values have the form of a row, by the row
-pub form_at : (rows : List TypeRow) → IsSound rows → (n : ℕ) (row : TypeRow) → slice_get rows n ≡ Some row → has_form rows n ≡ form_by (written rows) (has_form rows) row
+pub form_at : (rows : List TypeRow) → AreSoundRows rows → (n : ℕ) (row : TypeRow) → slice_get rows n ≡ Some row → has_form rows n ≡ form_by (written rows) (has_form rows) row
 unfolding has_form
 form_at rows sound n row e = settled nothing_fits (form_by (written rows)) (form_cong (written rows)) rows (is_down rows sound) n row e
 

@@ -12,7 +12,7 @@ use Rattle.asn1_types.specs.declared.refusal.RowRefusal.{RowRefusal}
 use Rattle.asn1_types.specs.Rows.{names_of, rows_of_parts, greatest, nesting_by, nesting, Opening, every, meets, openings_by, openings}
 use Rattle.asn1_types.specs.Limits.{most_levels}
 use Rattle.asn1_types.specs.Defaults.{default_by, no_default, takes_default, has_bad_default}
-use Rattle.asn1_types.specs.Table.{first_from, is_bad_range, is_double_name, clash, clashes_in_run, clashes_in_sequence, agrees_later, has_clash, refusal_after, refusal, IsSound}
+use Rattle.asn1_types.specs.Table.{first_from, is_bad_range, is_double_name, clash, clashes_in_run, clashes_in_sequence, agrees_later, has_clash, refusal_after, refusal, AreSoundRows}
 use Rattle.asn1_types.proofs.Along.{IsDown, SameTo, agree, settled}
 
 pub record IsTaken (rows : List TypeRow) (row : TypeRow) : Type 0 where
@@ -49,7 +49,7 @@ names_below count n (m ∷ ns) le e =
     named true o m e = (refl, e)
     named false o m e = absurd cc
 
-pub is_down : (rows : List TypeRow) → IsSound rows → IsDown rows
+pub is_down : (rows : List TypeRow) → AreSoundRows rows → IsDown rows
 is_down rows sound = record {
   lower = λ n row e.
       names_below (length (take n rows)) n (names_of row) (omega (arith, length-take n rows)) (taken (take n rows) row (sound.each n row e)).names;
@@ -86,7 +86,7 @@ pub nesting_cong : (row : TypeRow) (f g : ℕ → ℕ) → AllByRecursion (λ m.
 nesting_cong row f g h = ap (λ n. 1 + n) (greatest_cong (names_of row) f g h)
 
 -- what a value of a row begins with, by the row
-pub openings_at : (rows : List TypeRow) → IsSound rows → (n : ℕ) (row : TypeRow) → slice_get rows n ≡ Some row → openings rows n ≡ openings_by (openings rows) row
+pub openings_at : (rows : List TypeRow) → AreSoundRows rows → (n : ℕ) (row : TypeRow) → slice_get rows n ≡ Some row → openings rows n ≡ openings_by (openings rows) row
 unfolding openings
 openings_at rows sound n row e = settled [] openings_by openings_cong rows (is_down rows sound) n row e ∙ refl
 
@@ -101,13 +101,13 @@ slice_get-take (row ∷ rows) (suc n) (suc m) lt = slice_get-take rows n m (omeg
 same_before : (rows : List TypeRow) (n m : ℕ) → m < n → SameTo rows (take n rows) m
 same_before rows n m lt = record { same = λ i le. sym (slice_get-take rows n i (omega arith)) }
 
-pub openings_before : (rows : List TypeRow) → IsSound rows → (n m : ℕ) → n ≤ length rows → m < n → openings rows m ≡ openings (take n rows) m
+pub openings_before : (rows : List TypeRow) → AreSoundRows rows → (n m : ℕ) → n ≤ length rows → m < n → openings rows m ≡ openings (take n rows) m
 unfolding openings
 openings_before rows sound n m le lt =
     let len : length (take n rows) ≡ n = omega (arith, length-take n rows) in
     agree [] openings_by openings_cong rows (take n rows) (is_down rows sound) m (length rows) (length (take n rows)) (omega arith) (omega arith) (same_before rows n m lt)
 
-pub nesting_before : (rows : List TypeRow) → IsSound rows → (n m : ℕ) → n ≤ length rows → m < n → nesting rows m ≡ nesting (take n rows) m
+pub nesting_before : (rows : List TypeRow) → AreSoundRows rows → (n m : ℕ) → n ≤ length rows → m < n → nesting rows m ≡ nesting (take n rows) m
 unfolding nesting
 nesting_before rows sound n m le lt =
     let len : length (take n rows) ≡ n = omega (arith, length-take n rows) in
@@ -152,7 +152,7 @@ clash_by_cong (Choice parts) f g h = later_cong f g parts h
 clash_by_cong (Tagged class number explicit inner) f g h = refl
 clash_by_cong Any f g h = refl
 
-each_before : (rows : List TypeRow) → IsSound rows → (n : ℕ) (ns : List ℕ) → n ≤ length rows → AllByRecursion (λ m. m < n) ns → AllByRecursion (λ m. openings rows m ≡ openings (take n rows) m) ns
+each_before : (rows : List TypeRow) → AreSoundRows rows → (n : ℕ) (ns : List ℕ) → n ≤ length rows → AllByRecursion (λ m. m < n) ns → AllByRecursion (λ m. openings rows m ≡ openings (take n rows) m) ns
 each_before rows sound n [] le h = tt
 each_before rows sound n (m ∷ ns) le h = (openings_before rows sound n m le h.0, each_before rows sound n ns le h.1)
 
@@ -163,7 +163,7 @@ pub record IsSoundRow (rows : List TypeRow) (n : ℕ) (row : TypeRow) : Type 0 w
   pub apart : has_clash (openings rows) row ≡ false
   pub opens : openings rows n ≡ openings_by (openings rows) row
 
-pub sound_row : (rows : List TypeRow) → IsSound rows → (n : ℕ) (row : TypeRow) → slice_get rows n ≡ Some row → IsSoundRow rows n row
+pub sound_row : (rows : List TypeRow) → AreSoundRows rows → (n : ℕ) (row : TypeRow) → slice_get rows n ≡ Some row → IsSoundRow rows n row
 sound_row rows sound n row e =
     let t = taken (take n rows) row (sound.each n row e) in
     let lt : n < length rows = slice_get_within rows n row e in
@@ -181,18 +181,18 @@ each_part P [] i p h lt e = absurd (omega arith)
 each_part P (q ∷ qs) zero p h lt e = subst (λ (x : Part). P x.inner.0) (sym e) h.0
 each_part P (q ∷ qs) (suc i) p h lt e = each_part P qs i p h.1 (omega arith) e
 
-pub choice_down : (rows : List TypeRow) (n : ℕ) (row : TypeRow) (parts : List Part) → IsSound rows → slice_get rows n ≡ Some row → row ≡ Choice parts → AllByRecursion (λ m. m < n) (rows_of_parts parts)
+pub choice_down : (rows : List TypeRow) (n : ℕ) (row : TypeRow) (parts : List Part) → AreSoundRows rows → slice_get rows n ≡ Some row → row ≡ Choice parts → AllByRecursion (λ m. m < n) (rows_of_parts parts)
 choice_down rows n row parts sound e c = subst (λ (r : TypeRow). AllByRecursion (λ m. m < n) (names_of r)) c ((sound_row rows sound n row e).down)
 
 -- the rows that a row names lie below it, with the row's form known
-pub down_as : (rows : List TypeRow) (n : ℕ) (row form : TypeRow) → IsSound rows → slice_get rows n ≡ Some row → row ≡ form → AllByRecursion (λ m. m < n) (names_of form)
+pub down_as : (rows : List TypeRow) (n : ℕ) (row form : TypeRow) → AreSoundRows rows → slice_get rows n ≡ Some row → row ≡ form → AllByRecursion (λ m. m < n) (names_of form)
 down_as rows n row form sound e c = subst (λ (r : TypeRow). AllByRecursion (λ m. m < n) (names_of r)) c ((sound_row rows sound n row e).down)
 
 few_tests : (a b : Bool) → (a || b) ≡ false → b ≡ false
 few_tests true b e = absurd cc
 few_tests false b e = e
 
-pub choice_few : (rows : List TypeRow) (n : ℕ) (row : TypeRow) (parts : List Part) → IsSound rows → slice_get rows n ≡ Some row → row ≡ Choice parts → length parts ≤ 256
+pub choice_few : (rows : List TypeRow) (n : ℕ) (row : TypeRow) (parts : List Part) → AreSoundRows rows → slice_get rows n ≡ Some row → row ≡ Choice parts → length parts ≤ 256
 choice_few rows n row parts sound e c =
     let range : is_bad_range (Choice parts) ≡ false = rw c at ((sound_row rows sound n row e).range) in
     ltb-false 256 (length parts) (few_tests (nat_eq (length parts) 0) (nat_lt 256 (length parts)) range)
@@ -232,14 +232,14 @@ row_at [] n lt = absurd (omega arith)
 row_at (row ∷ rows) zero lt = (row, refl)
 row_at (row ∷ rows) (suc n) lt = row_at rows n (omega arith)
 
-opens_by : (rows : List TypeRow) → IsSound rows → (bound n : ℕ) → n < bound → n < length rows → list_any (meets every) (openings rows n) ≡ true
+opens_by : (rows : List TypeRow) → AreSoundRows rows → (bound n : ℕ) → n < bound → n < length rows → list_any (meets every) (openings rows n) ≡ true
 opens_by rows sound zero n lt le = absurd (omega arith)
 opens_by rows sound (suc bound) n lt le =
     let r = row_at rows n le in
     let s = sound_row rows sound n r.0 r.1 in
     ap (list_any (meets every)) s.opens ∙ row_opens (openings rows) r.0 s.range (each_lower (λ m. list_any (meets every) (openings rows m) ≡ true) (names_of r.0) n s.down (λ m l. opens_by rows sound bound m (omega arith) (omega arith)))
 
-pub opens_some : (rows : List TypeRow) → IsSound rows → (n : ℕ) → n < length rows → (list_any (meets every) (openings rows n) || false) ≡ true
+pub opens_some : (rows : List TypeRow) → AreSoundRows rows → (n : ℕ) → n < length rows → (list_any (meets every) (openings rows n) || false) ≡ true
 opens_some rows sound n le = or_first _ false (opens_by rows sound (suc n) n (omega arith) le)
 
 pub later_parts : (P : ℕ → Type 0) (ps : List Part) (n k : ℕ) → AllByRecursion P (rows_of_parts ps) → AllByRecursion P (rows_of_parts (take n (drop k ps)))
@@ -249,7 +249,7 @@ later_parts P [] (suc n) (suc k) h = tt
 later_parts P (p ∷ ps) (suc n) zero h = (h.0, later_parts P ps n zero h.1)
 later_parts P (p ∷ ps) (suc n) (suc k) h = later_parts P ps (suc n) k h.1
 
-pub nesting_at : (rows : List TypeRow) → IsSound rows → (n : ℕ) (row : TypeRow) → slice_get rows n ≡ Some row → nesting rows n ≡ nesting_by (nesting rows) row
+pub nesting_at : (rows : List TypeRow) → AreSoundRows rows → (n : ℕ) (row : TypeRow) → slice_get rows n ≡ Some row → nesting rows n ≡ nesting_by (nesting rows) row
 unfolding nesting
 nesting_at rows sound n row e = settled 0 nesting_by nesting_cong rows (is_down rows sound) n row e
 
@@ -274,6 +274,6 @@ default_cong (Tagged class number explicit inner) f g h = h.0
 default_cong Any f g h = refl
 
 -- which defaults fit a row, by the row
-pub takes_at : (rows : List TypeRow) → IsSound rows → (n : ℕ) (row : TypeRow) → slice_get rows n ≡ Some row → takes_default rows n ≡ default_by (takes_default rows) row
+pub takes_at : (rows : List TypeRow) → AreSoundRows rows → (n : ℕ) (row : TypeRow) → slice_get rows n ≡ Some row → takes_default rows n ≡ default_by (takes_default rows) row
 unfolding takes_default
 takes_at rows sound n row e = settled no_default default_by default_cong rows (is_down rows sound) n row e

@@ -88,7 +88,7 @@ HasShortTag (Tagged class number explicit inner) = number < 2 ^ 32
 HasShortTag row = Unit {0}
 
 -- Each row could be added behind those before it.
-pub record IsSound (rows : List TypeRow) : Type 0 where
+pub record AreSoundRows (rows : List TypeRow) : Type 0 where
   pub each : (n : ℕ) (row : TypeRow) → slice_get rows n ≡ Some row → refusal (take n rows) row ≡ None
   pub short : (n : ℕ) (row : TypeRow) → slice_get rows n ≡ Some row → HasShortTag row
 

@@ -3,7 +3,7 @@
 ghost use Rattle.std.specs.Prelude.{◌≡◌, ◌<◌, ◌≤◌, Some, length, slice_get};
 ghost use Rattle.std.specs.List.{list_any, AllByRecursion};
 ghost use Rattle.asn1_types.specs.Rows.{names_of, rows_of_parts};
-ghost use Rattle.asn1_types.specs.Table.{IsSound};
+ghost use Rattle.asn1_types.specs.Table.{AreSoundRows};
 ghost use Rattle.asn1_types.specs.Defaults.{may_be_absent, is_named, is_default, default_by, takes_default, is_bad_part, is_bad_alternative, has_bad_default};
 
 use crate::row::{Part, TypeId, TypeRow};
@@ -54,7 +54,7 @@ fn takes_default(table: &TypeTable, of: TypeId, default: i64) -> bool
 #[cycle(defaults)]
 fn row_takes_default(table: &TypeTable, of: TypeId, row: &TypeRow, default: i64) -> bool
     requires row { slice_get table.now of.0 ≡ Some row.now }
-    requires sound { IsSound table.now }
+    requires sound { AreSoundRows table.now }
     ensures { result ≡ default_by (takes_default table.now) row.now default }
 {
     match row {

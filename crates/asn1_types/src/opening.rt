@@ -3,7 +3,7 @@
 ghost use Rattle.std.specs.Prelude.{◌≡◌, ◌<◌, ◌≤◌, Some, length, slice_get};
 ghost use Rattle.std.specs.List.{list_any, flat_map, AllByRecursion};
 ghost use Rattle.asn1_types.specs.Rows.{allows, meets, tag, openings, openings_by, begins, same_class, rows_of_parts, text_number, is_no_tag};
-ghost use Rattle.asn1_types.specs.Table.{IsSound};
+ghost use Rattle.asn1_types.specs.Table.{AreSoundRows};
 
 use crate::row::{Class, Part, TextKind, TypeId, TypeRow};
 use crate::table::TypeTable;
@@ -60,7 +60,7 @@ fn opens(table: &TypeTable, of: TypeId, class: Class, number: u64) -> bool
 #[cycle(opening)]
 fn opens_row(table: &TypeTable, of: TypeId, row: &TypeRow, class: Class, number: u64) -> bool
     requires row { slice_get table.now of.0 ≡ Some row.now }
-    requires sound { IsSound table.now }
+    requires sound { AreSoundRows table.now }
     ensures { result ≡ list_any (allows class number) (openings_by (openings table.now) row.now) }
 {
     let own = match row {
@@ -116,7 +116,7 @@ pub(crate) fn meet(table: &TypeTable, a: TypeId, b: TypeId) -> bool
 #[cycle(meeting)]
 fn meets_row(table: &TypeTable, a: TypeId, row: &TypeRow, b: TypeId) -> bool
     requires row { slice_get table.now a.0 ≡ Some row.now }
-    requires sound { IsSound table.now }
+    requires sound { AreSoundRows table.now }
     requires b { b.0 < length table.now }
     ensures { result ≡ list_any (λ o. list_any (meets o) (openings table.now b.0))
         (openings_by (openings table.now) row.now) }

@@ -3,7 +3,7 @@
 ghost use Rattle.std.specs.Prelude.{◌≡◌, ◌<◌, ◌↔◌, ◌++◌, ◌∷◌, [], length, Some, None, slice_get, IsTrue, IfOk, IfErr, OnErr, MatchResult};
 ghost use Rattle.std.specs.List.{AllByRecursion};
 ghost use Rattle.asn1_types.specs.Rows.{names_of, nesting_by, nesting};
-ghost use Rattle.asn1_types.specs.Table.{HasShortTag, IsSound, first_from, refusal_after, refusal, IsRefused};
+ghost use Rattle.asn1_types.specs.Table.{HasShortTag, AreSoundRows, first_from, refusal_after, refusal, IsRefused};
 
 use crate::check::{is_bad_range, is_double_name};
 use crate::clash::has_clash;
@@ -50,7 +50,7 @@ impl TypeTable {
     /// How many rows there are.
     pub fn len(&self) -> usize
         ensures value { result ≡ length self.now }
-        ensures sound { IsSound self.now }
+        ensures sound { AreSoundRows self.now }
     {
         self.rows.len()
     }
@@ -59,7 +59,7 @@ impl TypeTable {
     pub fn row(&self, of: TypeId) -> &TypeRow
         requires { of.0 < length self.now }
         ensures value { slice_get self.now of.0 ≡ Some result.now }
-        ensures sound { IsSound self.now }
+        ensures sound { AreSoundRows self.now }
     {
         &self.rows[of.0 as usize]
     }

@@ -1,9 +1,8 @@
 //! Invocations (X.880 8; the rows and their order are this project's own).
 
 ghost use Rattle.std.specs.Prelude.{◌≡◌, Some, None, true, IfOk, IfSome, length, ◌≤◌, ◌<◌};
-ghost use Rattle.std.specs.Option.{option_copied, option_map};
+ghost use Rattle.std.specs.Option.{option_map};
 ghost use Rattle.end_rules.specs.Invoking.{is_stopped, is_queue_full, next_id, is_on_module, is_linked_to, linking_refusal, invoke_apdu, can_send_invoke, can_invoke_operation, can_invoke};
-ghost use Rattle.end_rules.specs.Sets.{is_among};
 ghost use Rattle.stub_tables.specs.Lookup.{operation_at};
 ghost use Rattle.stub_tables.specs.Codes.{is_silent};
 ghost use Rattle.open_invocations.specs.Invocations.{is_link};

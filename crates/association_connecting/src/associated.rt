@@ -9,7 +9,7 @@ ghost use Rattle.association_connecting.specs.Associated.{only_one, first_fault}
 
 use association_sets::{has_abstract, pair_of};
 use association_state::Ground;
-use association_words::{Content, Fault, Information, Value};
+use association_words::{Fault, Information, Value, ValueContent};
 use osi_base::{Acse, Copied, Layer, NoMemory, Oid, Rtse, SetItem};
 
 /// The one value, where there is one.
@@ -31,7 +31,7 @@ pub(crate) fn is_request(values: &[Value]) -> bool
         return false;
     };
     match &value.content {
-        Content::Association {
+        ValueContent::Association {
             apdu: Acse::AssociateRequest { .. },
             ..
         } => true,
@@ -48,7 +48,7 @@ pub(crate) fn is_accepting(values: &[Value]) -> bool
         return false;
     };
     match &value.content {
-        Content::Association {
+        ValueContent::Association {
             apdu: Acse::AssociateResponse { result: 0, .. },
             ..
         } => true,
@@ -65,7 +65,7 @@ pub(crate) fn is_release_request(values: &[Value]) -> bool
         return false;
     };
     match &value.content {
-        Content::Association {
+        ValueContent::Association {
             apdu: Acse::ReleaseRequest { .. },
             ..
         } => true,
@@ -82,7 +82,7 @@ pub(crate) fn is_release_response(values: &[Value]) -> bool
         return false;
     };
     match &value.content {
-        Content::Association {
+        ValueContent::Association {
             apdu: Acse::ReleaseResponse { .. },
             ..
         } => true,
@@ -100,7 +100,7 @@ pub(crate) fn context_named(basis: &Ground<'_>, values: &[Value]) -> Result<Oid,
         return Err(NoMemory);
     };
     match &value.content {
-        Content::Association {
+        ValueContent::Association {
             apdu: Acse::AssociateRequest { context, .. },
             ..
         } => context.copy(basis.alloc),
@@ -117,7 +117,7 @@ pub(crate) fn user_of(values: &[Value]) -> &[Information]
         return &[];
     };
     match &value.content {
-        Content::Association { user, .. } => user.as_slice(),
+        ValueContent::Association { user, .. } => user.as_slice(),
         _ => &[],
     }
 }

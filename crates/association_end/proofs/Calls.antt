@@ -40,7 +40,7 @@ use Rattle.association_requests.specs.Called.{sent_by, CalledAs}
 use Rattle.association_end.specs.View.{EndView, base, Stepped}
 use Rattle.association_end.specs.Called.{is_memory, Answered, nothing_made, made, BeganCall, DiedCalled}
 use Rattle.association_end.specs.Doing.{Keeps, DidOwn, BeganOwn, Answers}
-use Rattle.association_end.specs.Sound.{IsSound}
+use Rattle.association_end.specs.Sound.{IsSoundEnd}
 use Rattle.association_end.specs.Changed.{AcceptedSo, RefusedSo, wants_memory, ChangedBy}
 use Rattle.association_end.specs.Reacted.{AllMayStand, with_body, sending}
 use Rattle.association_end.proofs.Histories.{body_after, same_base, stands_on, stepped_on, after_all-append}
@@ -307,7 +307,7 @@ changed_so e body call (Ok c) a = record { answer = a.answer; due = a.due; new_i
 changed_so e body call (Err refusals.NoMemory) a = record { tables = refl; config = refl; waiting = refl }
 changed_so e body call (Err refusal) a = record { answer = a.answer; same = ap (λ (x : Body). with_body x e) a.body }
 
-pub changed_sound : (e : EndView) (body : Body) (call : Call) (r : Result calleds.Called CallRefusal) → IsSound e → wants_memory r ≡ false → CalledAs (base e) e.end.body body call r → IsSound (with_body body e)
+pub changed_sound : (e : EndView) (body : Body) (call : Call) (r : Result calleds.Called CallRefusal) → IsSoundEnd e → wants_memory r ≡ false → CalledAs (base e) e.end.body body call r → IsSoundEnd (with_body body e)
 changed_sound e body call (Ok c) s w a = sound_body e body s (up_some e s (accepted_up (base e) e.end.body call c.answer a.answer))
 changed_sound e body call (Err refusals.NoMemory) s w a = absurd cc
 changed_sound e body call (Err refusal) s w a = sound_same e body s (ap (λ (x : Body). x.link.phase) a.body)

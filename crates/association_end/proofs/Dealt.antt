@@ -3,7 +3,7 @@ use Rattle.std.proofs.Common.{◌≡◌, ℕ, ◌<◌, Bool, true, false, if◌t
 use Rattle.std.proofs.lemmas.List.{append-nil}
 use Rattle.std.specs.Prelude.{option_map, Result, Ok, Err}
 use Rattle.tpkt.specs.declared.packet.TFault.{TFault}
-use Rattle.tpkt.specs.declared.held.Held.{Held}
+use Rattle.tpkt.specs.declared.reader_state.Held.{Held}
 use Rattle.dialogue.specs.declared.indication.Indication.{Indication}
 use Rattle.end_rules.specs.Base.{Base, Fault}
 use Rattle.end_rules.specs.Messages.{Message, Transport, Session, Word}

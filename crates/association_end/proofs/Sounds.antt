@@ -12,7 +12,7 @@ use Rattle.osi_base.specs.declared.session_word.SessionWord.TheVariants as units
 use Rattle.std.specs.Prelude.{Result, Ok, Err}
 use Rattle.association_reading.specs.Front.{Front, OfSession, Intake, leading, start_of, fronts_of_units, fronts_of, all_fronts, with_octets, without_first, behind_first}
 use Rattle.association_end.specs.View.{EndView}
-use Rattle.association_end.specs.Sound.{AreMessages, HasMessages, Listens, IsSound}
+use Rattle.association_end.specs.Sound.{AreMessages, HasMessages, Listens, IsSoundEnd}
 use Rattle.dialogue.specs.declared.config.Phase.{Phase}
 use Rattle.dialogue.specs.declared.config.Phase.TheVariants.{Dead}
 use Rattle.end_rules.specs.State.{Body, passes_over}
@@ -73,10 +73,10 @@ listens_over k came e = subst (λ (j : Bool). Listens j came) (sym e) tt
 
 -- ---- what holds of an end, with one of its parts changed
 
-pub up_some : (e : EndView) → IsSound e → passes_over e.end.body.link.phase ≡ false → IsSome e.end.line.came
+pub up_some : (e : EndView) → IsSoundEnd e → passes_over e.end.body.link.phase ≡ false → IsSome e.end.line.came
 up_some e s up = is_listening (passes_over e.end.body.link.phase) e.end.line.came up s.listens
 
-sound_in : (e : EndView) (body : Body) → IsSound e → Listens (passes_over body.link.phase) e.end.line.came → IsSound (with_body body e)
+sound_in : (e : EndView) (body : Body) → IsSoundEnd e → Listens (passes_over body.link.phase) e.end.line.came → IsSoundEnd (with_body body e)
 sound_in e body s l = record {
   associated = s.associated;
   accepted = s.accepted;
@@ -86,22 +86,22 @@ sound_in e body s l = record {
   listens = l;
 }
 
-pub sound_body : (e : EndView) (body : Body) → IsSound e → IsSome e.end.line.came → IsSound (with_body body e)
+pub sound_body : (e : EndView) (body : Body) → IsSoundEnd e → IsSome e.end.line.came → IsSoundEnd (with_body body e)
 sound_body e body s some = sound_in e body s (listens_some (passes_over body.link.phase) e.end.line.came some)
 
-pub sound_over : (e : EndView) (body : Body) → IsSound e → passes_over body.link.phase ≡ true → IsSound (with_body body e)
+pub sound_over : (e : EndView) (body : Body) → IsSoundEnd e → passes_over body.link.phase ≡ true → IsSoundEnd (with_body body e)
 sound_over e body s over = sound_in e body s (listens_over (passes_over body.link.phase) e.end.line.came over)
 
 -- in the same phase
-pub sound_same : (e : EndView) (body : Body) → IsSound e → body.link.phase ≡ e.end.body.link.phase → IsSound (with_body body e)
+pub sound_same : (e : EndView) (body : Body) → IsSoundEnd e → body.link.phase ≡ e.end.body.link.phase → IsSoundEnd (with_body body e)
 sound_same e body s same = sound_in e body s (subst (λ (p : Phase). Listens (passes_over p) e.end.line.came) (sym same) s.listens)
 
 -- a dead end
-pub sound_dead : (e : EndView) → IsSound e → IsSound (with_body (record e.end.body { link = record e.end.body.link { phase = Dead } }) e)
+pub sound_dead : (e : EndView) → IsSoundEnd e → IsSoundEnd (with_body (record e.end.body { link = record e.end.body.link { phase = Dead } }) e)
 sound_dead e s = sound_over e (record e.end.body { link = record e.end.body.link { phase = Dead } }) s refl
 
 -- with other octets that wait
-pub sound_waiting : (e : EndView) (waiting : List ℕ) → IsSound e → IsSound (with_line (record e.end.line { waiting = waiting }) e)
+pub sound_waiting : (e : EndView) (waiting : List ℕ) → IsSoundEnd e → IsSoundEnd (with_line (record e.end.line { waiting = waiting }) e)
 sound_waiting e waiting s = record {
   associated = s.associated;
   accepted = s.accepted;
@@ -111,7 +111,7 @@ sound_waiting e waiting s = record {
   listens = s.listens;
 }
 
-pub sound_size : (e : EndView) (size : ℕ) → IsSound e → 128 ≤ size → size ≤ 65531 → IsSound (with_line (record e.end.line { size = size }) e)
+pub sound_size : (e : EndView) (size : ℕ) → IsSoundEnd e → 128 ≤ size → size ≤ 65531 → IsSoundEnd (with_line (record e.end.line { size = size }) e)
 sound_size e size s least most = record {
   associated = s.associated;
   accepted = s.accepted;
@@ -122,7 +122,7 @@ sound_size e size s least most = record {
 }
 
 -- with another line, which looks at what comes
-pub sound_line : (e : EndView) (body : Body) (line : Line) → IsSound e → 128 ≤ line.size → line.size ≤ 65531 → HasMessages line.came → IsSome line.came → IsSound (with_line line (with_body body e))
+pub sound_line : (e : EndView) (body : Body) (line : Line) → IsSoundEnd e → 128 ≤ line.size → line.size ≤ 65531 → HasMessages line.came → IsSome line.came → IsSoundEnd (with_line line (with_body body e))
 sound_line e body line s least most messages some = record {
   associated = s.associated;
   accepted = s.accepted;
@@ -132,11 +132,11 @@ sound_line e body line s least most messages some = record {
   listens = listens_some (passes_over body.link.phase) line.came some;
 }
 
-pub sound_came : (e : EndView) (came : Option Intake) → IsSound e → HasMessages came → IsSome came → IsSound (with_came came e)
+pub sound_came : (e : EndView) (came : Option Intake) → IsSoundEnd e → HasMessages came → IsSome came → IsSoundEnd (with_came came e)
 sound_came e came s messages some = sound_line e e.end.body (record e.end.line { came = came }) s s.least s.most messages some
 
 -- an end that is over looks at nothing
-pub sound_deaf : (e : EndView) → IsSound e → passes_over e.end.body.link.phase ≡ true → IsSound (with_came None e)
+pub sound_deaf : (e : EndView) → IsSoundEnd e → passes_over e.end.body.link.phase ≡ true → IsSoundEnd (with_came None e)
 sound_deaf e s over = record {
   associated = s.associated;
   accepted = s.accepted;
@@ -160,7 +160,7 @@ left_sound : (old : Option Intake) (front : fronts.Front) (new : Option Intake) 
 left_sound None front new m some t = absurd cc
 left_sound (Some intake) front new m some t = (subst HasMessages (sym t.1) (messages_behind intake m), ap is_some t.1)
 
-pub sound_took : (e : EndView) (front : fronts.Front) (new : Option Intake) → IsSound e → passes_over e.end.body.link.phase ≡ false → TakesFirst e.end.line.came front new → IsSound (with_came new e)
+pub sound_took : (e : EndView) (front : fronts.Front) (new : Option Intake) → IsSoundEnd e → passes_over e.end.body.link.phase ≡ false → TakesFirst e.end.line.came front new → IsSoundEnd (with_came new e)
 sound_took e front new s up t =
     let left = left_sound e.end.line.came front new s.messages (up_some e s up) t in
     sound_came e new s left.0 left.1
@@ -172,7 +172,7 @@ fed_some octets None some = some
 fed_some octets (Some intake) some = refl
 
 -- what came is lost where the end is dead
-pub sound_lost : (e : EndView) (came : Option Intake) → IsSound e → HasMessages came → IsSound (with_came came (with_body (record e.end.body { link = record e.end.body.link { phase = Dead } }) e))
+pub sound_lost : (e : EndView) (came : Option Intake) → IsSoundEnd e → HasMessages came → IsSoundEnd (with_came came (with_body (record e.end.body { link = record e.end.body.link { phase = Dead } }) e))
 sound_lost e came s messages = record {
   associated = s.associated;
   accepted = s.accepted;
@@ -182,6 +182,6 @@ sound_lost e came s messages = record {
   listens = tt;
 }
 
-pub sound_fed : (e : EndView) (octets : List ℕ) (new : Option Intake) → IsSound e → passes_over e.end.body.link.phase ≡ false → new ≡ option_map (with_octets octets) e.end.line.came → IsSound (with_came new e)
+pub sound_fed : (e : EndView) (octets : List ℕ) (new : Option Intake) → IsSoundEnd e → passes_over e.end.body.link.phase ≡ false → new ≡ option_map (with_octets octets) e.end.line.came → IsSoundEnd (with_came new e)
 sound_fed e octets new s up n =
     sound_came e new s (subst HasMessages (sym n) (messages_more octets e.end.line.came s.messages)) (ap is_some n ∙ fed_some octets e.end.line.came (up_some e s up))

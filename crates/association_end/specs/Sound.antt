@@ -25,7 +25,7 @@ abbrev pub Listens : Bool → Option Intake → Type 0
 Listens true came = Unit {0}
 Listens false came = IsSome came
 
-pub record IsSound (e : EndView) : Type 0 where
+pub record IsSoundEnd (e : EndView) : Type 0 where
   pub associated : is_bare e.config.mode ≡ false
   pub accepted : config_refusal e.config ≡ None
   pub least : 128 ≤ e.end.line.size

@@ -3,7 +3,6 @@
 ghost use Rattle.std.specs.Prelude.{◌≡◌, ◌≢◌, ℕ, List, [], ◌∷◌, ◌++◌, length, min, take, drop, IfOk, IfErr, OnOk, false, Some, None};
 ghost use Rattle.end_rules.specs.Base.{is_bare};
 
-use crate::queue::{OctetQueue, copy_front};
 use crate::sizes::first_size;
 use apdu_codec::Heads;
 use association_codecs::Codecs;
@@ -13,7 +12,7 @@ use association_requests::broke;
 use association_state::{Body, Ground};
 use dialogue::{Config, ConfigRefusal, Phase};
 use end_config::check_config;
-use osi_base::NoMemory;
+use osi_base::{NoMemory, OctetQueue, copy_front};
 use std::alloc::Global;
 use std::marker::Model;
 use stub_tables::Tables;
@@ -41,12 +40,12 @@ impl<'t> Model for End<'t> {
 
     ghost coded = { Prim.hlevel (codes, coded_value) };
 
-    ghost use Rattle.association_end.specs.Sound.{IsSound};
+    ghost use Rattle.association_end.specs.Sound.{IsSoundEnd};
     ghost use Rattle.association_end.specs.Seen.{view_of};
 
     ghost view = { λ e. view_of e.basis e.body e.waiting e.intake e.size };
 
-    ghost invariant = { λ e. IsSound (view_of e.basis e.body e.waiting e.intake e.size) };
+    ghost invariant = { λ e. IsSoundEnd (view_of e.basis e.body e.waiting e.intake e.size) };
 }
 
 impl<'t> End<'t> {

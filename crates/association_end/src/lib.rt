@@ -6,7 +6,6 @@ mod calling;
 mod end;
 mod feeding;
 mod pumping;
-mod queue;
 mod reacting;
 mod reading;
 mod sending;

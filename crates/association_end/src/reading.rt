@@ -30,7 +30,7 @@ use association_place::{is_unit_in_place, is_unit_purged};
 use association_reacting::{fails_on_accepted, has_connection, react, react_to_end};
 use association_sets::copy_set;
 use association_state::{Body, Ground};
-use association_words::{ActivityWord, Arrived, Content, Fault, Message, Value, Word};
+use association_words::{ActivityWord, Arrived, Fault, Message, Value, ValueContent, Word};
 use osi_base::{Layer, NoMemory, PresentationWord, SessionWord, SetList};
 use presentation_pdus::{PpduFault, PpduPlace};
 use set_rules::set_for;
@@ -56,12 +56,12 @@ fn arrived_value(arrived: Arrived) -> Value
         Arrived::Whole(item) => Value {
             id: item.id,
             pair: Some(item.pair),
-            content: Content::Remote(item.apdu),
+            content: ValueContent::Remote(item.apdu),
         },
         Arrived::Raw { id, pair, octets } => Value {
             id,
             pair: Some(pair),
-            content: Content::Unread(octets),
+            content: ValueContent::Unread(octets),
         },
     }
 }

@@ -1,10 +1,8 @@
 //! The first problem of an APDU, over the open invocations.
 
 ghost use Rattle.std.specs.Prelude.{◌≡◌, ◌+◌, Some, None, is_some, true, false};
-ghost use Rattle.std.specs.Option.{option_copied};
 ghost use Rattle.stub_tables.specs.Lookup.{operation_at, error_at};
 ghost use Rattle.end_rules.specs.State.{opened_with};
-ghost use Rattle.end_rules.specs.Sets.{is_among};
 ghost use Rattle.end_rules.specs.Invoking.{is_linked_to, operation_of};
 ghost use Rattle.end_rules.specs.Hearing.{carried_in, is_silent_at, has_links, link_problem, argument_problem, operation_problem, invoke_problem, is_right_result, result_problem, is_place, known_error_problem, error_problem};
 ghost use Rattle.open_invocations.specs.Invocations.{is_link_back};

@@ -9,20 +9,20 @@ ghost use Rattle.association_state.specs.Seen.{seen};
 
 use association_sets::copy_set;
 use association_state::{Body, Pieces, Progress};
-use association_words::Content;
+use association_words::ValueContent;
 use osi_base::{NoMemory, SetItem, SetList};
 use std::alloc::Global;
 
 /// The octets of a part of a transfer; none of another value.
-pub fn part_in(content: &Content) -> &[u8]
+pub fn part_in(content: &ValueContent) -> &[u8]
     ensures { result.now ≡ part_in (seen_content content.now) }
 {
     match content {
-        Content::Part(octets) => octets.as_slice(),
-        Content::Remote(_) => &[],
-        Content::Unread(_) => &[],
-        Content::Association { .. } => &[],
-        Content::Plea { .. } => &[],
+        ValueContent::Part(octets) => octets.as_slice(),
+        ValueContent::Remote(_) => &[],
+        ValueContent::Unread(_) => &[],
+        ValueContent::Association { .. } => &[],
+        ValueContent::Plea { .. } => &[],
     }
 }
 

@@ -16,7 +16,7 @@ use association_calls::carrier_in;
 use association_ground::is_reliable;
 use association_sends::pair_copied;
 use association_state::{Body, Ground, Queued};
-use association_words::{Content, DataWord, Message, Value, Values, Word, syntax_of};
+use association_words::{DataWord, Message, Value, ValueContent, Values, Word, syntax_of};
 use dialogue::Indication;
 use open_invocations::Invocations;
 use osi_base::{ListOf, NoMemory, Problem, ProblemKind};
@@ -35,11 +35,15 @@ fn hear_value(
     let Value { id, pair, content } = value;
     let syntax = syntax_of(&pair);
     match content {
-        Content::Remote(apdu) => hear_apdu(basis, calls, id, apdu),
-        Content::Unread(octets) => hear_unread(basis, calls, id, syntax, &octets),
-        Content::Association { apdu: _, user: _ } => Ok(rejected(None, ProblemKind::General, 0)),
-        Content::Plea { priority: _ } => Ok(rejected(None, ProblemKind::General, 0)),
-        Content::Part(_) => Ok(rejected(None, ProblemKind::General, 0)),
+        ValueContent::Remote(apdu) => hear_apdu(basis, calls, id, apdu),
+        ValueContent::Unread(octets) => hear_unread(basis, calls, id, syntax, &octets),
+        ValueContent::Association { apdu: _, user: _ } => Ok(rejected(
+            None,
+            ProblemKind::General,
+            0,
+        )),
+        ValueContent::Plea { priority: _ } => Ok(rejected(None, ProblemKind::General, 0)),
+        ValueContent::Part(_) => Ok(rejected(None, ProblemKind::General, 0)),
     }
 }
 
@@ -51,7 +55,7 @@ pub fn data_on(basis: &Ground<'_>, body: &Body, id: u32, apdu: Apdu) -> Result<M
     values.push(Value {
         id,
         pair: pair_copied(basis.alloc, body.sets.held.as_slice(), id)?,
-        content: Content::Remote(apdu),
+        content: ValueContent::Remote(apdu),
     })?;
     Ok(Message::Session(Word::OfData(DataWord::Values(values))))
 }

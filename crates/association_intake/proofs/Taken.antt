@@ -3,7 +3,7 @@ use Rattle.std.proofs.Common.{◌≡◌, List, [], ◌∷◌, Option, Some, None
 use Rattle.std.specs.Prelude.{IsSome}
 use Rattle.osi_base.specs.declared.words.Layer.TheVariants.{Transport}
 use Rattle.tpkt.specs.declared.packet.TFault.{TFault}
-use Rattle.tpkt.specs.declared.held.Held.{Held}
+use Rattle.tpkt.specs.declared.reader_state.Held.{Held}
 use Rattle.association_reading.specs.Front as reading
 use Rattle.association_intake.specs.declared.front.Front.{Front}
 use Rattle.association_intake.specs.declared.front.Front.TheVariants.{Short, Faulty}

@@ -1,7 +1,7 @@
 -- The parts of what came, as one. No public clause cites this module.
 use Rattle.std.specs.Prelude.{◌≡◌, List, Option, Some, None, IsSome}
 use Rattle.tpkt.specs.declared.packet.TFault.{TFault}
-use Rattle.tpkt.specs.declared.held.Held.{Held}
+use Rattle.tpkt.specs.declared.reader_state.Held.{Held}
 use Rattle.association_reading.specs.Front as reading
 use Rattle.association_intake.specs.declared.front.Front.{Front}
 use Rattle.association_intake.specs.declared.intake.Parts.{Parts}
@@ -33,7 +33,7 @@ abbrev pub IsReading : Option Parts → Type 0
 IsReading None = Unit {0}
 IsReading (Some parts) = IsSome parts.reader
 
-pub record IsSound (parts : Option Parts) : Type 0 where
+pub record IsSoundIntake (parts : Option Parts) : Type 0 where
   pub fault : KnowsFault parts
   pub placed : HasPlaced parts
   pub reading : IsReading parts

@@ -3,7 +3,7 @@
 ghost use Rattle.std.specs.Prelude.{◌≡◌, Some, None, option_map, IsSome, IfOk, OnOk, OnErr};
 ghost use Rattle.association_reading.specs.Front as reading;
 ghost use Rattle.association_intake.specs.Seen.{seen_front, IsPlaced, TakesFirst};
-ghost use Rattle.association_intake.specs.View.{view_of, IsSound};
+ghost use Rattle.association_intake.specs.View.{view_of, IsSoundIntake};
 
 use crate::front::Front;
 use crate::packets::push_packets;
@@ -39,21 +39,21 @@ impl Model for Intake {
 
     ghost Value = { Option reading.Intake };
 
-    ghost use Rattle.association_intake.specs.View.{view_of, IsSound};
+    ghost use Rattle.association_intake.specs.View.{view_of, IsSoundIntake};
 
     ghost view = { λ intake. view_of intake.parts };
 
-    ghost invariant = { λ intake. IsSound intake.parts };
+    ghost invariant = { λ intake. IsSoundIntake intake.parts };
 }
 
 impl Parts {
     /// Takes octets that came.
     fn feed(self, alloc: Global, bytes: &[u8]) -> Result<Parts, NoMemory>
-        requires { IsSound (Some self) }
+        requires { IsSoundIntake (Some self) }
         ensures is { IfOk result (λ parts. view_of (Some parts)
             ≡ option_map (reading.with_octets bytes.now) (view_of (Some self))) }
         ensures up { IfOk result (λ parts. IsSome (view_of (Some parts))) }
-        ensures sound { IfOk result (λ parts. IsSound (Some parts)) }
+        ensures sound { IfOk result (λ parts. IsSoundIntake (Some parts)) }
     {
         let Parts {
             mut reader,
@@ -71,10 +71,10 @@ impl Parts {
 
     /// Takes off what stands first. A fault of the transport stands behind all that was whole.
     fn take(&mut self) -> Front
-        requires { IsSound (Some self.old) }
+        requires { IsSoundIntake (Some self.old) }
         ensures takes { TakesFirst (view_of (Some self.old)) result (view_of (Some self.new)) }
         ensures placed { IsPlaced result }
-        ensures sound { IsSound (Some self.new) }
+        ensures sound { IsSoundIntake (Some self.new) }
     {
         if let Some(front) = self.fronts.pop_front() {
             return front;

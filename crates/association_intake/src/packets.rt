@@ -15,7 +15,7 @@ use osi_base::{Copied, Layer, NoMemory, Octets, SessionWord, Spdus};
 use spdu_codec::{SFault, UserPlaces, read_spdus, user_places};
 use std::alloc::Global;
 use std::collections::VecDeque;
-use tpkt::{Ends, Packet};
+use tpkt::{ConnectionFields, Packet};
 
 /// Puts a front behind the others.
 #[tactic(auto, using(crate::proofs::Placed::placed_on))]
@@ -123,7 +123,7 @@ fn push_tsdu(alloc: Global, fronts: &mut VecDeque<Front>, octets: &Octets) -> Re
 }
 
 /// CR.
-fn request(alloc: Global, ends: &Ends) -> Result<TransportUnit, NoMemory>
+fn request(alloc: Global, ends: &ConnectionFields) -> Result<TransportUnit, NoMemory>
     ensures { IfOk result (λ unit. seen_transport unit ≡ meant.ConnectionRequest ends.now.source
         ends.now.size ends.now.calling ends.now.called) }
 {

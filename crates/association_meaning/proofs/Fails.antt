@@ -12,7 +12,7 @@ use Rattle.osi_base.specs.declared.presentation_word.PresentationReject.{Present
 use Rattle.osi_base.specs.declared.presentation_word.PresentationWord.{PresentationWord}
 use Rattle.stub_tables.specs.declared.tables.Tables.{Tables}
 use Rattle.end_rules.specs.Base.{Base, Fault}
-use Rattle.end_rules.specs.Messages.{Value, Content, Information, Accepting, AbortData, Word}
+use Rattle.end_rules.specs.Messages.{Value, ValueContent, Information, Accepting, AbortData, Word}
 use Rattle.association_reading.specs.declared.carried.Carriage.{Carriage}
 use Rattle.association_reading.specs.Places.{PdvPlaces}
 use Rattle.association_reading.specs.Values.{with_content, with_user, and_informed}
@@ -87,7 +87,7 @@ under_fails NoMemory tables held carried places r h = tt
 
 -- ---- values and user information
 
-pub content_fails : (e : Halt) (id : ℕ) (pair : Option Pair) (r : Result Content Fault) → FailsAs e r → FailsAs e (with_content id pair r)
+pub content_fails : (e : Halt) (id : ℕ) (pair : Option Pair) (r : Result ValueContent Fault) → FailsAs e r → FailsAs e (with_content id pair r)
 content_fails (Faulty f) id pair r h = ap (with_content id pair) h
 content_fails NoMemory id pair r h = tt
 
@@ -103,6 +103,6 @@ pub informed_fails : (e : Halt) (base : Base) (accepted : List SetItem) (is_kind
 informed_fails (Faulty f) base accepted is_kind r h = ap (and_informed base accepted is_kind) h
 informed_fails NoMemory base accepted is_kind r h = tt
 
-pub arrived_fails : (e : Halt) (at : PdvPlaces) (id : ℕ) (pair : Pair) (r : Result Content Fault) → FailsAs e r → FailsAs e (arrived_as at id pair r)
+pub arrived_fails : (e : Halt) (at : PdvPlaces) (id : ℕ) (pair : Pair) (r : Result ValueContent Fault) → FailsAs e r → FailsAs e (arrived_as at id pair r)
 arrived_fails (Faulty f) at id pair r h = ap (arrived_as at id pair) h
 arrived_fails NoMemory at id pair r h = tt

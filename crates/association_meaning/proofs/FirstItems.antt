@@ -12,8 +12,8 @@ use Rattle.end_rules.specs.Connecting.{is_on_rtse}
 use Rattle.association_reading.specs.Values as reading
 use Rattle.association_words.specs.declared.values.Information.{Information}
 use Rattle.association_words.specs.declared.values.Information.TheVariants.{Transferring, Other}
-use Rattle.association_words.specs.declared.values.Content.{Content}
-use Rattle.association_words.specs.declared.values.Content.TheVariants.{Association}
+use Rattle.association_words.specs.declared.values.ValueContent.{ValueContent}
+use Rattle.association_words.specs.declared.values.ValueContent.TheVariants.{Association}
 use Rattle.association_words.specs.declared.values.Value.{Value}
 use Rattle.association_words.specs.Seen.{seen_information, seen_content, seen_value, seen_fault}
 use Rattle.association_meaning.specs.declared.basis.Halt.{Halt}
@@ -76,5 +76,5 @@ module _ (accepted : List SetItem) (is_kind : Acse → Bool) (value : Value) (ap
     (is : value.content ≡ Association apdu user) (kind : is_kind apdu ≡ true) where
   pub value_fails : (e : Halt) → FailsAs e (reading.first_informed accepted (seen_items user)) → FailsAs e (reading.informed_value accepted is_kind (seen_value value) (seen_value value).content)
   value_fails e h =
-      subst (λ (c : Content). FailsAs e (reading.informed_value accepted is_kind (seen_value value) (seen_content c))) (sym is)
+      subst (λ (c : ValueContent). FailsAs e (reading.informed_value accepted is_kind (seen_value value) (seen_content c))) (sym is)
       (rw kind (user_fails e (seen_value value) apdu (reading.first_informed accepted (seen_items user)) h))

@@ -22,7 +22,7 @@ use acse::AcseFault;
 use association_ground::{is_reliable, same_name};
 use association_reading::Carriage;
 use association_sets::{fit_proposals, pair_of};
-use association_words::{Content, Value, Values};
+use association_words::{Value, ValueContent, Values};
 use osi_base::{
     Acse, ListOf, NoMemory, Octets, Oid, Pair, Pdv, PresentationAccept, PresentationConnect,
     PresentationReject, Proposal, SetItem, SetList, Syntax,
@@ -60,14 +60,14 @@ fn first_wrong_unless_left(definitions: &[Proposal], set: &[SetItem], pdvs: &[Pd
 
 /// What a value is of which nothing is asked: the APDU of association control that its octets
 /// spell, or its octets.
-fn left_content(basis: &Ground<'_>, octets: &[u8]) -> Result<Content, NoMemory>
+fn left_content(basis: &Ground<'_>, octets: &[u8]) -> Result<ValueContent, NoMemory>
     ensures { IfOk result (λ content. seen_content content ≡ reading.left_content octets.now
         (acse_at octets.now)) }
 {
     match basis.codecs.acse.read(basis.alloc, octets) {
         Ok(apdu) => associated(basis.alloc, apdu),
         Err(AcseFault::At { .. }) => {
-            Ok(Content::Unread(Octets::from_slice(basis.alloc, octets)?))
+            Ok(ValueContent::Unread(Octets::from_slice(basis.alloc, octets)?))
         }
         Err(AcseFault::NoMemory) => Err(NoMemory),
     }

@@ -15,7 +15,7 @@ use crate::basis::{Ground, Halt, fault_at};
 use crate::names::rtse_name;
 use association_ground::is_reliable;
 use association_sets::{has_abstract, pair_of};
-use association_words::{Content, Information, UserInformation, Value, Values};
+use association_words::{Information, UserInformation, Value, ValueContent, Values};
 use fixed_tables::PduFault;
 use osi_base::{Acse, Layer, ListOf, Octets, Pair, SetItem};
 
@@ -174,7 +174,12 @@ fn first_informed(
 }
 
 /// One value.
-fn one(basis: &Ground<'_>, id: u32, pair: Option<Pair>, content: Content) -> Result<Values, Halt>
+fn one(
+    basis: &Ground<'_>,
+    id: u32,
+    pair: Option<Pair>,
+    content: ValueContent,
+) -> Result<Values, Halt>
     ensures { GivesAs seen_values result (Ok (seen_value (record {
       id = id;
       pair = pair;
@@ -198,18 +203,18 @@ fn informed_value(
 {
     let Value { id, pair, content } = value;
     match content {
-        Content::Association { apdu, user } => {
+        ValueContent::Association { apdu, user } => {
             if is_of(kind, &apdu) {
                 let user = first_informed(basis, accepted, user)?;
-                one(basis, id, pair, Content::Association { apdu, user })
+                one(basis, id, pair, ValueContent::Association { apdu, user })
             } else {
-                one(basis, id, pair, Content::Association { apdu, user })
+                one(basis, id, pair, ValueContent::Association { apdu, user })
             }
         }
-        Content::Remote(apdu) => one(basis, id, pair, Content::Remote(apdu)),
-        Content::Unread(octets) => one(basis, id, pair, Content::Unread(octets)),
-        Content::Plea { priority } => one(basis, id, pair, Content::Plea { priority }),
-        Content::Part(octets) => one(basis, id, pair, Content::Part(octets)),
+        ValueContent::Remote(apdu) => one(basis, id, pair, ValueContent::Remote(apdu)),
+        ValueContent::Unread(octets) => one(basis, id, pair, ValueContent::Unread(octets)),
+        ValueContent::Plea { priority } => one(basis, id, pair, ValueContent::Plea { priority }),
+        ValueContent::Part(octets) => one(basis, id, pair, ValueContent::Part(octets)),
     }
 }
 

@@ -14,7 +14,7 @@ use crate::names::rtse_name;
 use acse::AcseFault;
 use association_ground::same_name;
 use association_reading::Carriage;
-use association_words::{Content, Information, UserInformation};
+use association_words::{Information, UserInformation, ValueContent};
 use fixed_tables::PduFault;
 use module_contents::content_at;
 use osi_base::{Acse, Copied, External, Layer, ListOf, NoMemory, Octets, Pair, Rtse};
@@ -82,18 +82,18 @@ fn without_user(alloc: Global, apdu: Acse) -> Acse
 }
 
 /// An APDU of association control, with its user information beside it.
-pub(crate) fn associated(alloc: Global, apdu: Acse) -> Result<Content, NoMemory>
+pub(crate) fn associated(alloc: Global, apdu: Acse) -> Result<ValueContent, NoMemory>
     ensures { IfOk result (λ content. seen_content content ≡ reading.associated apdu) }
 {
     let user = others(alloc, externals_of(&apdu))?;
-    Ok(Content::Association {
+    Ok(ValueContent::Association {
         apdu: without_user(alloc, apdu),
         user,
     })
 }
 
 /// What octets are as an APDU of association control.
-pub(crate) fn acse_content(basis: &Ground<'_>, octets: &[u8]) -> Result<Content, Halt>
+pub(crate) fn acse_content(basis: &Ground<'_>, octets: &[u8]) -> Result<ValueContent, Halt>
     ensures { GivesAs seen_content result (reading.acse_content (acse_fields.acse_at octets.now)) }
 {
     match basis.codecs.acse.read(basis.alloc, octets) {
@@ -104,12 +104,12 @@ pub(crate) fn acse_content(basis: &Ground<'_>, octets: &[u8]) -> Result<Content,
 }
 
 /// What octets are as an APDU of reliable transfer: among values a plea or a part of a transfer.
-fn rtse_content(basis: &Ground<'_>, octets: &[u8]) -> Result<Content, Halt>
+fn rtse_content(basis: &Ground<'_>, octets: &[u8]) -> Result<ValueContent, Halt>
     ensures { GivesAs seen_content result (reading.rtse_content (rtse_reading.rtse_at octets.now)) }
 {
     match basis.codecs.rtse.read(basis.alloc, octets) {
-        Ok(Rtse::TurnPlease { priority }) => Ok(Content::Plea { priority }),
-        Ok(Rtse::Transfer { octets }) => Ok(Content::Part(octets)),
+        Ok(Rtse::TurnPlease { priority }) => Ok(ValueContent::Plea { priority }),
+        Ok(Rtse::Transfer { octets }) => Ok(ValueContent::Part(octets)),
         Ok(Rtse::OpenRequest { .. }) => fault_at(basis.alloc, Layer::Rtse, 0, 4),
         Ok(Rtse::OpenAccept { .. }) => fault_at(basis.alloc, Layer::Rtse, 0, 4),
         Ok(Rtse::OpenReject { .. }) => fault_at(basis.alloc, Layer::Rtse, 0, 4),
@@ -120,7 +120,7 @@ fn rtse_content(basis: &Ground<'_>, octets: &[u8]) -> Result<Content, Halt>
 }
 
 /// What octets are under a pair in a message of reliable transfer.
-fn transfer_content(basis: &Ground<'_>, pair: &Pair, octets: &[u8]) -> Result<Content, Halt>
+fn transfer_content(basis: &Ground<'_>, pair: &Pair, octets: &[u8]) -> Result<ValueContent, Halt>
     ensures { GivesAs seen_content result (reading.content_under basis.now.tables.now
         carriages.Transfer pair.now octets.now) }
 {
@@ -132,7 +132,7 @@ fn transfer_content(basis: &Ground<'_>, pair: &Pair, octets: &[u8]) -> Result<Co
 }
 
 /// What octets are under a pair in a message of the module.
-fn module_content(basis: &Ground<'_>, pair: &Pair, octets: &[u8]) -> Result<Content, Halt>
+fn module_content(basis: &Ground<'_>, pair: &Pair, octets: &[u8]) -> Result<ValueContent, Halt>
     ensures { GivesAs seen_content result (reading.content_under basis.now.tables.now
         carriages.Module pair.now octets.now) }
 {
@@ -155,7 +155,7 @@ pub(crate) fn content_under(
     carried: Carriage,
     pair: &Pair,
     octets: &[u8],
-) -> Result<Content, Halt>
+) -> Result<ValueContent, Halt>
     ensures { GivesAs seen_content result (reading.content_under basis.now.tables.now carried
         pair.now octets.now) }
 {
@@ -172,12 +172,12 @@ pub(crate) fn content_by(
     carried: Carriage,
     pair: Option<&Pair>,
     octets: &[u8],
-) -> Result<Content, Halt>
+) -> Result<ValueContent, Halt>
     ensures { GivesAs seen_content result (reading.content_by basis.now.tables.now carried
         (option_copied pair.entry) octets.now) }
 {
     match pair {
-        None => Ok(Content::Unread(Octets::from_slice(basis.alloc, octets)?)),
+        None => Ok(ValueContent::Unread(Octets::from_slice(basis.alloc, octets)?)),
         Some(pair) => content_under(basis, carried, pair, octets),
     }
 }

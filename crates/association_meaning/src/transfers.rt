@@ -15,7 +15,7 @@ use crate::contexts::pdv_wrong;
 use crate::layers::content_under;
 use association_reading::Carriage;
 use association_sets::pair_of;
-use association_words::{Arrived, Content, Item};
+use association_words::{Arrived, Item, ValueContent};
 use fixed_tables::PduFault;
 use osi_base::{Copied, Layer, Pair, Pdv, SetItem};
 use pdv_places::{PdvField, transfer_place};
@@ -35,25 +35,25 @@ fn arrived_as(
     octets: &[u8],
     id: u32,
     pair: &Pair,
-    content: Content,
+    content: ValueContent,
 ) -> Result<Arrived, Halt>
     ensures { GivesAs seen_arrived result (reading.arrived_as (places_of (spot_at 0 octets.now)) id
         pair.now (Ok (seen_content content))) }
 {
     match content {
-        Content::Remote(apdu) => Ok(Arrived::Whole(Item {
+        ValueContent::Remote(apdu) => Ok(Arrived::Whole(Item {
             id,
             pair: pair.copy(basis.alloc)?,
             apdu,
         })),
-        Content::Unread(octets) => Ok(Arrived::Raw {
+        ValueContent::Unread(octets) => Ok(Arrived::Raw {
             id,
             pair: pair.copy(basis.alloc)?,
             octets,
         }),
-        Content::Association { .. } => fault_at(basis.alloc, Layer::Acse, 0, 0),
-        Content::Plea { .. } => invalid_at(basis, octets, PdvField::Identifier),
-        Content::Part(_) => invalid_at(basis, octets, PdvField::Identifier),
+        ValueContent::Association { .. } => fault_at(basis.alloc, Layer::Acse, 0, 0),
+        ValueContent::Plea { .. } => invalid_at(basis, octets, PdvField::Identifier),
+        ValueContent::Part(_) => invalid_at(basis, octets, PdvField::Identifier),
     }
 }
 

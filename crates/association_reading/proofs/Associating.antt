@@ -28,7 +28,7 @@ use Rattle.end_rules.specs.Base.{Base, Fault, acse_name, is_reliable}
 use Rattle.end_rules.specs.Sets.{pair_of}
 use Rattle.end_rules.specs.State.{Body}
 use Rattle.end_rules.specs.Faults.{or_fault}
-use Rattle.end_rules.specs.Messages.{Information, Transferring, Other, Content, Association, Value, Accepting, UserValues, ProviderReason, Word, OfAssociation, Connect, Accept, Refuse, Abort}
+use Rattle.end_rules.specs.Messages.{Information, Transferring, Other, ValueContent, Association, Value, Accepting, UserValues, ProviderReason, Word, OfAssociation, Connect, Accept, Refuse, Abort}
 use Rattle.end_rules.specs.Writing.{acse_pair}
 use Rattle.end_rules.specs.Connecting.{set_for, set_accepted, has_acse}
 use Rattle.end_rules.specs.Policy.{is_faulty_proposal}
@@ -114,7 +114,7 @@ keeps-abort (acse.ReleaseRequest reason) user e = absurd cc
 keeps-abort (acse.ReleaseResponse reason) user e = absurd cc
 keeps-abort (acse.Abort source before) user e = refl
 
-abbrev the_content : Content → Result Content Fault
+abbrev the_content : ValueContent → Result ValueContent Fault
 the_content c = Ok c
 
 abbrev the_values : List Value → Result (List Value) Fault
@@ -147,7 +147,7 @@ module _ (base : Base) (accepted : List SetItem) (is_kind : Acse → Bool) (keep
   unasked-back : (tables : Tables) (places : List PdvPlaces) (values : List Value) (one : CarriesOne base accepted is_kind values)
       → and_informed base accepted is_kind (unasked_values places (pdvs_of tables (value_so one.id one.apdu one.user ∷ []))) ≡ the_values (value_so one.id one.apdu one.user ∷ [])
   unasked-back tables places values one =
-      ap (λ (r : Result Content Fault). and_informed base accepted is_kind (before_values (with_content one.id (Some acse_pair) r) (the_values []))) (content-back values one)
+      ap (λ (r : Result ValueContent Fault). and_informed base accepted is_kind (before_values (with_content one.id (Some acse_pair) r) (the_values []))) (content-back values one)
       ∙ informed-back values one
 
   -- on its context
@@ -157,7 +157,7 @@ module _ (base : Base) (accepted : List SetItem) (is_kind : Acse → Bool) (keep
       ap (λ (p : Option Pair). and_informed base accepted is_kind
       (unless_fault (or_fault (pdv_fault acse_name (first_place places) (pdv_of tables (value_so one.id one.apdu one.user)) p) None) (before_values (value_by tables carriage.Association p (pdv_of tables (value_so one.id one.apdu one.user))) (the_values []))))
       on_it
-      ∙ ap (λ (r : Result Content Fault). and_informed base accepted is_kind (before_values (with_content one.id (Some acse_pair) r) (the_values []))) (content-back values one)
+      ∙ ap (λ (r : Result ValueContent Fault). and_informed base accepted is_kind (before_values (with_content one.id (Some acse_pair) r) (the_values []))) (content-back values one)
       ∙ informed-back values one
 
 -- ---- units of the presentation that are read

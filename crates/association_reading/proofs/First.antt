@@ -11,9 +11,9 @@ use Rattle.std.proofs.lemmas.List.{append-nil}
 use Rattle.osi_base.specs.declared.session_word.SessionWord.{SessionWord}
 use Rattle.osi_base.specs.declared.session_word.SessionWord.TheVariants as units
 use Rattle.tpkt.specs.declared.packet.Packet.{Packet}
-use Rattle.tpkt.specs.declared.held.Held.{Held}
+use Rattle.tpkt.specs.declared.reader_state.Held.{Held}
 use Rattle.tpkt.specs.Stream.{IsOctets}
-use Rattle.tpkt.specs.Reader.{Fed, nothing, reading}
+use Rattle.tpkt.specs.Reader.{ReaderProgress, nothing, reading}
 use Rattle.tpkt.specs.Written.{written_tsdu}
 use Rattle.tpkt.proofs.UnitLaws.{short_yet}
 use Rattle.tpkt.proofs.ReaderLaws.{short_empty}
@@ -52,13 +52,13 @@ stands_first tables size word more least most sendable =
     let tsdu : List ℕ = tsdu_of tables word in
     let unit : SessionWord = with_user (user_octets tables word) (unit_of word) in
     let octets : List ℕ = written_tsdu size tsdu in
-    let a : Fed = reading nothing octets in
-    let b : Fed = reading a.held more in
+    let a : ReaderProgress = reading nothing octets in
+    let b : ReaderProgress = reading a.held more in
     let one : a.packets ≡ Tsdu tsdu ∷ [] = handed_up size tsdu least most sendable.within sendable.octets in
     let read : units_at tsdu ≡ Ok (session_units tables word) = all_again tsdu (session_units tables word) (written_are (session_units tables word) sendable.units) in
     let p = placed_first (user_places tsdu) unit b.held (all_fronts b.packets) in (
       p.0,
-      ap (λ (f : Fed). first_of f.held f.packets) (any_cut nothing octets more)
+      ap (λ (f : ReaderProgress). first_of f.held f.packets) (any_cut nothing octets more)
           ∙ ap (λ (ps : List Packet). first_of b.held (ps ++ b.packets)) one
           ∙ ap (λ (r : Result (List SessionWord) Fault). first_front b.held (fronts_of_units (user_places tsdu) r ++ all_fronts b.packets)) read
           ∙ p.1,
@@ -71,9 +71,9 @@ one_is_read p unit is fits = (split_read (packet unit) (Whole p ∷ []) [] fits 
 
 whole_first : (p : Packet) (unit : List ℕ) (front : Front) (more : List ℕ) → IsUnit [] (Whole p) unit → IsOctets (packet unit) → fronts_of p ≡ front ∷ [] → first_in (with_octets (packet unit ++ more) nothing_came) ≡ front
 whole_first p unit front more is fits brings =
-    let a : Fed = reading nothing (packet unit) in
-    let b : Fed = reading a.held more in
-    ap (λ (f : Fed). first_of f.held f.packets) (any_cut nothing (packet unit) more)
+    let a : ReaderProgress = reading nothing (packet unit) in
+    let b : ReaderProgress = reading a.held more in
+    ap (λ (f : ReaderProgress). first_of f.held f.packets) (any_cut nothing (packet unit) more)
     ∙ ap (λ (ps : List Packet). first_of b.held (ps ++ b.packets)) (one_is_read p unit is fits)
     ∙ ap (λ (fs : List Front). first_front b.held (fs ++ all_fronts b.packets)) brings
 

@@ -6,7 +6,7 @@ use Rattle.acse.specs.Fields.{acse_at}
 use Rattle.acse.specs.Written.{written_acse}
 use Rattle.acse.proofs.PlainLaws.{written_acse_is_read}
 use Rattle.rtse_apdus.proofs.RtseLaws.{written_rtse_is_read}
-use Rattle.end_rules.specs.Messages.{Association, Content, Value, NoData, ProviderReason, UserValues, Word, OfAssociation, Connect, Accept, Refuse, Finish, Disconnect, Abort, AbortAccept, OfData, Values, AlterContext, AlterContextAck, OfMarks, Mark, MarkAck, Restart, RestartAck, Give, Please, GiveConfirm, GiveAck, OfActivities, Start, Resume, End, EndAck, Interrupt, InterruptAck, Discard, DiscardAck}
+use Rattle.end_rules.specs.Messages.{Association, ValueContent, Value, NoData, ProviderReason, UserValues, Word, OfAssociation, Connect, Accept, Refuse, Finish, Disconnect, Abort, AbortAccept, OfData, Values, AlterContext, AlterContextAck, OfMarks, Mark, MarkAck, Restart, RestartAck, Give, Please, GiveConfirm, GiveAck, OfActivities, Start, Resume, End, EndAck, Interrupt, InterruptAck, Discard, DiscardAck}
 use Rattle.association_wire.specs.Values.{with_user as user_put, content_octets, in_form, pdv_of, pdvs_of}
 use Rattle.association_reading.specs.Values.{without_user, associated, acse_content, rtse_content, content_under, with_content, value_by, value_in, before_values, all_values, unless_fault, values_under}
 use Rattle.association_reading.specs.Laws.{AssociationIsReadBack, TransferWordsAreReadBack, SessionWordsAreReadBack, IsWrittenIn, AlterationsAreReadBack, IsMeant, AreMeantIn, DataAreReadBack, RemoteIsReadBack}
@@ -108,7 +108,7 @@ octets_are Packed octets = refl
 
 module _ (tables : Tables) (set : List SetItem) (carried : Carriage) where
   -- a value as it was written under this pair
-  abbrev written_as : ℕ → Pair → Content → Pdv
+  abbrev written_as : ℕ → Pair → ValueContent → Pdv
   written_as id pair content = record { transfer = None; id = id; content = in_form pair.transfer (content_octets tables pair.transfer content) }
 
   same_pdv : (v : Value) (h : IsMeant tables set carried v) → pdv_of tables v ≡ written_as v.id h.pair v.content
@@ -128,7 +128,7 @@ module _ (tables : Tables) (set : List SetItem) (carried : Carriage) where
       ap (λ (pdv : Pdv). value_in tables carried set pdv) (same_pdv v h)
       ∙ ap (λ (p : Option Pair). value_by tables carried p (written_as v.id h.pair v.content)) h.in_set
       ∙ ap (λ (os : List ℕ). with_content v.id (Some h.pair) (content_under tables carried h.pair os)) (octets_are h.pair.transfer (content_octets tables h.pair.transfer v.content))
-      ∙ ap (λ (r : Result Content Fault). with_content v.id (Some h.pair) r) h.content
+      ∙ ap (λ (r : Result ValueContent Fault). with_content v.id (Some h.pair) r) h.content
       ∙ ap (λ (p : Option Pair). let x : Result Value Fault = Ok (record { id = v.id; pair = p; content = v.content }) in x) (sym h.has_pair)
 
   no_faults : (vs : List Value) (places : List PdvPlaces) → AreMeantIn tables set carried vs → first_fault fault_at_place places (pdvs_of tables vs) ≡ None
@@ -169,7 +169,7 @@ remote_content tables pair apdu readable writable of_module =
     let octets : List ℕ = written_apdu tables pair.transfer apdu in
     let s = written_spelled tables readable pair.transfer apdu writable in
     let found = ap (λ (h : Head). content_of octets (apdu_of tables h)) (spelled_said tables pair.transfer readable apdu octets s) ∙ ap (content_of octets) (said_is tables pair.transfer readable apdu s.head s.says) in
-    rw of_module (ap (λ (c : Content). let x : Result Content Fault = Ok c in x) found)
+    rw of_module (ap (λ (c : ValueContent). let x : Result ValueContent Fault = Ok c in x) found)
 
 without_none : (apdu : Acse) → user_put [] (without_user apdu) ≡ without_user apdu
 without_none (acse.AssociateRequest version context user) = refl
@@ -189,7 +189,7 @@ pub association_content : AssociationIsReadBack
 association_content tables pair apdu writable =
     let read : acse_at (written_acse (user_put [] (without_user apdu))) ≡ Ok (without_user apdu) =
     ap (λ (a : Acse). acse_at (written_acse a)) (without_none apdu) ∙ (written_acse_is_read (without_user apdu) writable).1 in
-    ap acse_content read ∙ ap (λ (c : Content). let x : Result Content Fault = Ok c in x) (alone_said apdu)
+    ap acse_content read ∙ ap (λ (c : ValueContent). let x : Result ValueContent Fault = Ok c in x) (alone_said apdu)
 
 pub transfer_contents : TransferWordsAreReadBack
 transfer_contents = record {

@@ -15,7 +15,7 @@ use Rattle.fixed_tables.specs.declared.pdu.PduFault.{PduFault}
 use Rattle.acse.specs.Fields.{acse_at}
 use Rattle.end_rules.specs.Base.{Base, Fault, acse_name, is_reliable}
 use Rattle.end_rules.specs.Sets.{same_name, pair_of, accepted_set, fit_proposals}
-use Rattle.end_rules.specs.Messages.{Content, Unread, Value}
+use Rattle.end_rules.specs.Messages.{ValueContent, Unread, Value}
 use Rattle.end_rules.specs.Policy.{is_faulty_proposal}
 use Rattle.end_rules.specs.Writing.{proposals, acse_pair}
 use Rattle.end_rules.specs.Connecting.{Associated, is_request, is_accepting, set_for, set_accepted, has_acse, has_rtse}
@@ -50,7 +50,7 @@ is_abort _ = false
 abbrev pub is_left : List Proposal → Pdv → Bool
 is_left definitions pdv = list_any (λ (p : Proposal). nat_eq p.id pdv.id && same_name p.abstract_name acse_name) definitions
 
-abbrev pub left_content : List ℕ → Result Acse PduFault → Content
+abbrev pub left_content : List ℕ → Result Acse PduFault → ValueContent
 left_content octets (Ok apdu) = associated apdu
 left_content octets (Err fault) = Unread octets
 

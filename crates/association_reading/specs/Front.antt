@@ -8,7 +8,7 @@ use Rattle.osi_base.specs.declared.session_word.SessionWord.TheVariants as units
 use Rattle.tpkt.specs.declared.packet.Packet.{Packet}
 use Rattle.tpkt.specs.declared.packet.Packet.TheVariants as packets
 use Rattle.tpkt.specs.declared.packet.TFault.{TFault}
-use Rattle.tpkt.specs.declared.held.Held.{Held}
+use Rattle.tpkt.specs.declared.reader_state.Held.{Held}
 use Rattle.tpkt.specs.Reader.{nothing, reading}
 use Rattle.spdu_codec.specs.declared.places.UserPlaces.{UserPlaces}
 use Rattle.spdu_codec.specs.Reading.{Fault, units_at}

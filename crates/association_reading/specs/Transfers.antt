@@ -10,7 +10,7 @@ use Rattle.rtse_apdus.specs.Transfer.{transfer_at, written_transfer}
 use Rattle.stub_tables.specs.declared.tables.Tables.{Tables}
 use Rattle.end_rules.specs.Base.{Item, Fault, Arrived, Whole, Raw, Spellings}
 use Rattle.end_rules.specs.Sets.{pair_of}
-use Rattle.end_rules.specs.Messages.{Content, Remote, Unread, Association, Plea, Part, Value}
+use Rattle.end_rules.specs.Messages.{ValueContent, Remote, Unread, Association, Plea, Part, Value}
 use Rattle.end_rules.specs.Faults.{acse_fault, rtse_fault}
 use Rattle.end_wire.specs.Values.{spellings_with}
 use Rattle.association_wire.specs.Values.{pdv_of}
@@ -20,7 +20,7 @@ use Rattle.association_reading.specs.Contexts.{invalid_at, pdv_fault}
 use Rattle.association_reading.specs.Values.{content_under}
 
 -- a transfer carries one value of the module
-abbrev pub arrived_as : PdvPlaces → ℕ → Pair → Result Content Fault → Result Arrived Fault
+abbrev pub arrived_as : PdvPlaces → ℕ → Pair → Result ValueContent Fault → Result Arrived Fault
 arrived_as at id pair (Ok (Remote apdu)) = Ok (Whole (record { id = id; pair = pair; apdu = apdu }))
 arrived_as at id pair (Ok (Unread octets)) = Ok (Raw id pair octets)
 arrived_as at id pair (Ok (Association apdu user)) = Err acse_fault

@@ -17,7 +17,7 @@ use Rattle.rtse_apdus.specs.Reading.{rtse_at}
 use Rattle.stub_tables.specs.declared.tables.Tables.{Tables}
 use Rattle.end_rules.specs.Base.{Base, Fault, rtse_name, is_reliable}
 use Rattle.end_rules.specs.Sets.{same_name, pair_of}
-use Rattle.end_rules.specs.Messages.{Information, Transferring, Other, Content, Unread, Association, Plea, Part, Value}
+use Rattle.end_rules.specs.Messages.{Information, Transferring, Other, ValueContent, Unread, Association, Plea, Part, Value}
 use Rattle.end_rules.specs.Connecting.{is_on_rtse}
 use Rattle.end_rules.specs.Faults.{fault_at, acse_fault, rtse_fault}
 use Rattle.end_wire.specs.Values.{content_at}
@@ -45,11 +45,11 @@ externals_of (acse.Abort source user) = user
 abbrev pub other : External → Information
 other e = Other e.id e.value
 
-abbrev pub associated : Acse → Content
+abbrev pub associated : Acse → ValueContent
 associated apdu = Association (without_user apdu) (map other (externals_of apdu))
 
 -- what the octets of an APDU are not, with the place of the field in the APDU
-abbrev pub acse_content : Result Acse PduFault → Result Content Fault
+abbrev pub acse_content : Result Acse PduFault → Result ValueContent Fault
 acse_content (Ok apdu) = Ok (associated apdu)
 acse_content (Err (why.At place kind)) = Err (fault_at layers.Acse place 0)
 acse_content (Err why.NoMemory) = Err acse_fault
@@ -60,7 +60,7 @@ abbrev pub unreadable_rtse : PduFault → Fault
 unreadable_rtse (why.At place kind) = fault_at layers.Rtse place 4
 unreadable_rtse why.NoMemory = rtse_fault
 
-abbrev pub rtse_content : Result Rtse PduFault → Result Content Fault
+abbrev pub rtse_content : Result Rtse PduFault → Result ValueContent Fault
 rtse_content (Ok (rtse.TurnPlease priority)) = Ok (Plea priority)
 rtse_content (Ok (rtse.Transfer octets)) = Ok (Part octets)
 rtse_content (Ok apdu) = Err rtse_fault
@@ -70,18 +70,18 @@ rtse_content (Err fault) = Err (unreadable_rtse fault)
 
 -- The message says how its values are read, so that a module whose name is that of association control or of reliable transfer
 -- is as any other. A value on another context is one of association control.
-abbrev pub content_under : Tables → Carriage → Pair → List ℕ → Result Content Fault
+abbrev pub content_under : Tables → Carriage → Pair → List ℕ → Result ValueContent Fault
 content_under tables carriage.Association pair octets = acse_content (acse_at octets)
 content_under tables carriage.Transfer pair octets =
     if same_name pair.abstract_name rtse_name then rtse_content (rtse_at octets) else acse_content (acse_at octets)
 content_under tables carriage.Module pair octets =
     if same_name pair.abstract_name tables.name_oid then Ok (content_at tables pair.transfer octets) else acse_content (acse_at octets)
 
-abbrev pub content_by : Tables → Carriage → Option Pair → List ℕ → Result Content Fault
+abbrev pub content_by : Tables → Carriage → Option Pair → List ℕ → Result ValueContent Fault
 content_by tables carried None octets = Ok (Unread octets)
 content_by tables carried (Some pair) octets = content_under tables carried pair octets
 
-abbrev pub with_content : ℕ → Option Pair → Result Content Fault → Result Value Fault
+abbrev pub with_content : ℕ → Option Pair → Result ValueContent Fault → Result Value Fault
 with_content id pair (Ok content) = Ok (record { id = id; pair = pair; content = content })
 with_content id pair (Err fault) = Err fault
 
@@ -129,7 +129,7 @@ abbrev pub with_user : Value → Acse → Result (List Information) Fault → Re
 with_user value apdu (Ok user) = Ok (record value { content = Association apdu user } ∷ [])
 with_user value apdu (Err fault) = Err fault
 
-abbrev pub informed_value : List SetItem → (Acse → Bool) → Value → Content → Result (List Value) Fault
+abbrev pub informed_value : List SetItem → (Acse → Bool) → Value → ValueContent → Result (List Value) Fault
 informed_value accepted is_kind value (Association apdu user) =
     if is_kind apdu then with_user value apdu (first_informed accepted user) else Ok (value ∷ [])
 informed_value accepted is_kind value content = Ok (value ∷ [])

@@ -15,7 +15,7 @@ use Rattle.end_rules.specs.Requesting.{due_of}
 use Rattle.end_rules.specs.ByItself.{OwnAct, SendsNow, EncodesOn, next_own}
 use Rattle.end_rules.specs.History.{Step, called, sent, encoded, answered, feed_end, after_step, step_of, call_steps, ByItself, rests, goes}
 use Rattle.end_rules.specs.World.{World, Shared, shared_after, shared_at}
-use Rattle.tpkt.specs.Reader.{Fed, nothing}
+use Rattle.tpkt.specs.Reader.{ReaderProgress, nothing}
 use Rattle.tpkt.proofs.StreamLaws.{nothing_read}
 use Rattle.agreement.specs.Sets.{Role, other}
 use Rattle.agreement.specs.Sets.Role.{Initiator, Responder}
@@ -71,8 +71,8 @@ new-way common = record {
   taken = tt;
   sent = tt;
   octets = refl;
-  held = sym (ap (λ (f : Fed). f.held) nothing_read);
-  fronts = ap (λ (f : Fed). all_fronts f.packets) nothing_read;
+  held = sym (ap (λ (f : ReaderProgress). f.held) nothing_read);
+  fronts = ap (λ (f : ReaderProgress). all_fronts f.packets) nothing_read;
 }
 
 pub record Joined (common : Common) (Extra : World → Two → Ledger → Dealings → Type 0) (w : World) : Type 0 where

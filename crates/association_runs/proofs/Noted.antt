@@ -22,7 +22,7 @@ use Rattle.dialogue.specs.declared.indication.Indication.{Indication}
 use Rattle.dialogue.specs.declared.indication.Indication.TheVariants as indications
 use Rattle.end_rules.specs.Base.{Base, Head, is_reliable}
 use Rattle.end_rules.specs.Sets.{Alteration}
-use Rattle.end_rules.specs.Messages.{Content, Remote, Value, Message, Transport, Session, Word, OfAssociation, OfData, OfMarks, OfActivities, TransportUnit, ConnectionRequest, ConnectionConfirm, DisconnectRequest, TransportError}
+use Rattle.end_rules.specs.Messages.{ValueContent, Remote, Value, Message, Transport, Session, Word, OfAssociation, OfData, OfMarks, OfActivities, TransportUnit, ConnectionRequest, ConnectionConfirm, DisconnectRequest, TransportError}
 use Rattle.end_rules.specs.Messages.{AssociationWord, Connect, Accept, Refuse, Finish, Disconnect, Abort, AbortAccept, Values, AlterContext, AlterContextAck}
 use Rattle.end_rules.specs.Messages.{MarkWord, Mark, MarkAck, Restart, RestartAck, Give, Please, GiveConfirm, GiveAck, ActivityWord, Start, Resume, End, EndAck, Interrupt, InterruptAck, Discard, DiscardAck}
 use Rattle.end_rules.specs.State.{Body, OpenCall, Calls, is_empty, is_broken, opened_with, close, post_order}
@@ -78,7 +78,7 @@ ours-on tables made more given later (apdus.Result id value) h = in-front given 
 ours-on tables made more given later (apdus.Error id code parameter) h = record { place = h.place; is_its = h.is_its; is_given = in-front given later _ h.is_given }
 ours-on tables made more given later (apdus.Reject id problem) h = tt
 
-pub record HoldsOurs (tables : Tables) (made : List Invocation) (given : List Outcome) (content : Content) : Type 0 where
+pub record HoldsOurs (tables : Tables) (made : List Invocation) (given : List Outcome) (content : ValueContent) : Type 0 where
   pub apdu : Apdu
   pub is_it : content ≡ Remote apdu
   pub is_ours : IsOurs tables made given apdu
@@ -429,7 +429,7 @@ module _ (base : Base) (own made : List Invocation) (given : List Outcome) where
 
   value-noted : (asked : List Asked) (body : Body) (value : Value) (before : List Indication) → AreMade base.tables own asked → Once base.tables asked body.calls before → HoldsOurs base.tables made given value.content → AreNoted base.tables own made given (take_head base body value.id (head_of base value)).shown
   value-noted asked body value before m once h =
-      let says_so : head_of base value ≡ head_of_apdu h.apdu = ap (λ (c : Content). head_of base (record { id = value.id; pair = value.pair; content = c })) h.is_it in
+      let says_so : head_of base value ≡ head_of_apdu h.apdu = ap (λ (c : ValueContent). head_of base (record { id = value.id; pair = value.pair; content = c })) h.is_it in
       subst (λ (head : Head). AreNoted base.tables own made given (take_head base body value.id head).shown) (sym says_so)
       (let heard = hear base body.calls value.id (head_of_apdu h.apdu) in
       let with_it = with_reject base (record body { calls = heard.calls }) value.id heard.reject in

@@ -35,7 +35,7 @@ EachArrivesWhole ends (m ∷ w) = ArrivesThen ends m.side w m.step × EachArrive
 
 -- so it is of the messages
 abbrev pub TransfersAreWhole : Common → Type 0
-TransfersAreWhole common = (two : Two) (ledger : Ledger) → Goes common two ledger → (role : Role) → transfers.Ends common two role → ArrivesWhole common two ledger role
+TransfersAreWhole common = (two : Two) (ledger : Ledger) → Goes common two ledger → (role : Role) → transfers.TakesTransferEnd common two role → ArrivesWhole common two ledger role
 
 abbrev pub ItemsAreKept : Common → Type 0
 ItemsAreKept common =

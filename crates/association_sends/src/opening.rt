@@ -13,7 +13,10 @@ use association_ground::{application_context, proposed_units};
 use association_state::Ground;
 use association_words::{AssociationWord, Message, TransportUnit, Values, Word};
 use dialogue::Mode;
-use osi_base::{Acse, BitString, ConnectionData, Copied, ListOf, NoMemory, Octets, PresentationConnect, Rtse, SessionConnect};
+use osi_base::{
+    Acse, BitString, ConnectionData, Copied, ListOf, NoMemory, Octets, PresentationConnect, Rtse,
+    SessionConnect,
+};
 use set_rules::proposals;
 use std::alloc::Global;
 

@@ -10,7 +10,7 @@ ghost use Rattle.association_state.specs.Seen.{seen};
 use crate::values::rtse_context;
 use association_sets::pair_of;
 use association_state::Body;
-use association_words::{Content, DataWord, MarkWord, Message, Value, Values, Word};
+use association_words::{DataWord, MarkWord, Message, Value, ValueContent, Values, Word};
 use dialogue::Mode;
 use osi_base::{Copied, ListOf, NoMemory, Octets, Pair, SetItem};
 use std::alloc::Global;
@@ -37,7 +37,7 @@ pub fn pair_copied(alloc: Global, set: &[SetItem], id: u32) -> Result<Option<Pai
 }
 
 /// A value of reliable transfer.
-fn rtse_value(alloc: Global, body: &Body, content: Content) -> Result<Value, NoMemory>
+fn rtse_value(alloc: Global, body: &Body, content: ValueContent) -> Result<Value, NoMemory>
     ensures { IfOk result (λ value. seen_value value ≡ rtse_value (seen body.now)
         (seen_content content)) }
 {
@@ -61,7 +61,7 @@ pub fn please_message(
     let mut values: Values = ListOf::new(alloc);
     match mode {
         Mode::Reliable => {
-            values.push(rtse_value(alloc, body, Content::Plea { priority })?)?;
+            values.push(rtse_value(alloc, body, ValueContent::Plea { priority })?)?;
             Ok(Message::Session(Word::OfMarks(MarkWord::Please {
                 tokens: Some(21),
                 values,
@@ -83,6 +83,6 @@ pub fn part_message(alloc: Global, body: &Body, octets: Octets) -> Result<Messag
     ensures { IfOk result (λ m. seen_message m ≡ part_message (seen body.now) octets) }
 {
     let mut values: Values = ListOf::new(alloc);
-    values.push(rtse_value(alloc, body, Content::Part(octets))?)?;
+    values.push(rtse_value(alloc, body, ValueContent::Part(octets))?)?;
     Ok(Message::Session(Word::OfData(DataWord::Values(values))))
 }

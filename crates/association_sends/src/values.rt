@@ -6,7 +6,7 @@ ghost use Rattle.end_rules.specs.Writing.{acse_context, rtse_context, acse_pair,
 ghost use Rattle.association_words.specs.Seen.{seen_information, seen_value};
 
 use association_sets::lowest_with;
-use association_words::{Content, Information, UserInformation, Value};
+use association_words::{Information, UserInformation, Value, ValueContent};
 use dialogue::Mode;
 use osi_base::{Acse, ListOf, NoMemory, Oid, Pair, Rtse, SetItem, Syntax};
 use std::alloc::Global;
@@ -49,7 +49,7 @@ pub fn acse_value(
     Ok(Value {
         id: acse_context(accepted),
         pair: Some(acse_pair(alloc)?),
-        content: Content::Association { apdu, user },
+        content: ValueContent::Association { apdu, user },
     })
 }
 

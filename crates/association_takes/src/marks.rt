@@ -15,7 +15,7 @@ use crate::parts::has_associated;
 use association_answers::{Taken, answered, push_cuts, push_losses, quiet, told};
 use association_sets::{copy_set, listed, same_lists};
 use association_state::{Awaited, Body, Ground};
-use association_words::{Content, Fault, MarkWord, Message, Value, Word};
+use association_words::{Fault, MarkWord, Message, Value, ValueContent, Word};
 use dialogue::{Indication, Indications, Mode};
 use osi_base::{Copied, Layer, ListOf, NoMemory, RestoredList, SetItem, SetList};
 use std::alloc::Global;
@@ -127,11 +127,11 @@ fn priority_in(values: &[Value]) -> Option<u32>
     }
 }
 
-fn plea_in(content: &Content) -> Option<u32>
+fn plea_in(content: &ValueContent) -> Option<u32>
     ensures { result ≡ plea_of (seen_content content.now) }
 {
     match content {
-        Content::Plea { priority } => Some(*priority),
+        ValueContent::Plea { priority } => Some(*priority),
         _ => None,
     }
 }

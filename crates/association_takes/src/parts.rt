@@ -12,7 +12,7 @@ ghost use Rattle.association_state.specs.Seen.{base_in, seen};
 use association_ground::is_reliable;
 use association_hearing::part_in;
 use association_state::{Body, Ground};
-use association_words::{Content, Fault, Value};
+use association_words::{Fault, Value, ValueContent};
 use osi_base::{Layer, NoMemory, Octets};
 use std::alloc::Global;
 
@@ -20,41 +20,41 @@ use std::alloc::Global;
 const MOST_TRANSFERRED: usize = 262_400;
 
 /// Whether a value is a part of a transfer.
-fn is_part(content: &Content) -> bool
+fn is_part(content: &ValueContent) -> bool
     ensures { result ≡ is_part (seen_content content.now) }
 {
     match content {
-        Content::Part(_) => true,
-        Content::Remote(_) => false,
-        Content::Unread(_) => false,
-        Content::Association { .. } => false,
-        Content::Plea { .. } => false,
+        ValueContent::Part(_) => true,
+        ValueContent::Remote(_) => false,
+        ValueContent::Unread(_) => false,
+        ValueContent::Association { .. } => false,
+        ValueContent::Plea { .. } => false,
     }
 }
 
 /// Whether a value is one of association control.
-fn is_associated(content: &Content) -> bool
+fn is_associated(content: &ValueContent) -> bool
     ensures { result ≡ is_associated (seen_content content.now) }
 {
     match content {
-        Content::Association { .. } => true,
-        Content::Part(_) => false,
-        Content::Remote(_) => false,
-        Content::Unread(_) => false,
-        Content::Plea { .. } => false,
+        ValueContent::Association { .. } => true,
+        ValueContent::Part(_) => false,
+        ValueContent::Remote(_) => false,
+        ValueContent::Unread(_) => false,
+        ValueContent::Plea { .. } => false,
     }
 }
 
 /// Whether a value is one of remote operations.
-fn is_remote(content: &Content) -> bool
+fn is_remote(content: &ValueContent) -> bool
     ensures { result ≡ is_remote (seen_content content.now) }
 {
     match content {
-        Content::Remote(_) => true,
-        Content::Unread(_) => true,
-        Content::Association { .. } => false,
-        Content::Part(_) => false,
-        Content::Plea { .. } => false,
+        ValueContent::Remote(_) => true,
+        ValueContent::Unread(_) => true,
+        ValueContent::Association { .. } => false,
+        ValueContent::Part(_) => false,
+        ValueContent::Plea { .. } => false,
     }
 }
 
@@ -151,7 +151,7 @@ pub(crate) fn values_fault(basis: &Ground<'_>, body: &Body, values: &[Value]) ->
 }
 
 /// Puts a part behind the pieces of the peer's activity.
-fn push_part(alloc: Global, body: &mut Body, content: &Content) -> Result<(), NoMemory>
+fn push_part(alloc: Global, body: &mut Body, content: &ValueContent) -> Result<(), NoMemory>
     ensures { OnOk result (seen body.new ≡ record (seen body.old) {
       receiving = record (seen body.old).receiving {
         pieces = octets_piece (part_in (seen_content content.now))

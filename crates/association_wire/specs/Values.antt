@@ -13,7 +13,7 @@ use Rattle.stub_tables.specs.declared.tables.Tables.{Tables}
 use Rattle.apdu_spelling.specs.Writing.{written_apdu}
 use Rattle.acse.specs.Written.{written_acse}
 use Rattle.rtse_apdus.specs.Written.{written_rtse}
-use Rattle.end_rules.specs.Messages.{Information, Transferring, Other, Content, Remote, Unread, Association, Plea, Part, Value}
+use Rattle.end_rules.specs.Messages.{Information, Transferring, Other, ValueContent, Remote, Unread, Association, Plea, Part, Value}
 use Rattle.end_rules.specs.Hearing.{syntax_of}
 
 -- user information of an APDU of association control
@@ -29,7 +29,7 @@ with_user user (acse.ReleaseResponse reason) = acse.ReleaseResponse reason
 with_user user (acse.Abort source before) = acse.Abort source (map external_of user)
 
 -- the one spelling in which a value is written; octets that spell no APDU are their own
-abbrev pub content_octets : Tables → Syntax → Content → List ℕ
+abbrev pub content_octets : Tables → Syntax → ValueContent → List ℕ
 content_octets tables syntax (Remote apdu) = written_apdu tables syntax apdu
 content_octets tables syntax (Unread octets) = octets
 content_octets tables syntax (Association apdu user) = written_acse (with_user user apdu)

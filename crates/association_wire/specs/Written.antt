@@ -5,7 +5,7 @@ use Rattle.osi_base.specs.declared.session_word.SessionWord.{SessionWord}
 use Rattle.osi_base.specs.declared.session_word.SessionWord.TheVariants as units
 use Rattle.stub_tables.specs.declared.tables.Tables.{Tables}
 use Rattle.spdu_codec.specs.Written.{units_written, stands_alone}
-use Rattle.tpkt.specs.declared.packet.Ends.{Ends}
+use Rattle.tpkt.specs.declared.packet.ConnectionFields.{ConnectionFields}
 use Rattle.tpkt.specs.Wire.{two}
 use Rattle.tpkt.specs.Written.{written_tsdu, control_packet, connection_fields}
 use Rattle.end_rules.specs.Messages.{TransportUnit, ConnectionRequest, ConnectionConfirm, DisconnectRequest, TransportError, Word, unit_of, Message, Transport, Session}
@@ -45,10 +45,10 @@ tsdu_of tables word = units_written (session_units tables word)
 -- ---- the transport
 
 -- a responder has the reference 2; class 0
-abbrev pub request_ends : ℕ → Option ℕ → List ℕ → List ℕ → Ends
+abbrev pub request_ends : ℕ → Option ℕ → List ℕ → List ℕ → ConnectionFields
 request_ends source size calling called = record { destination = 0; source = source; size = size; calling = calling; called = called }
 
-abbrev pub confirm_ends : ℕ → Option ℕ → Ends
+abbrev pub confirm_ends : ℕ → Option ℕ → ConnectionFields
 confirm_ends destination size = record { destination = destination; source = 2; size = size; calling = []; called = [] }
 
 -- CR, CC, DR with the reason 0, and ER, which is never written

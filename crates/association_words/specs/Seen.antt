@@ -5,8 +5,8 @@ use Rattle.end_rules.specs.Messages as meant
 use Rattle.association_words.specs.declared.faults.Fault.{Fault}
 use Rattle.association_words.specs.declared.values.Information.{Information}
 use Rattle.association_words.specs.declared.values.Information.TheVariants.{Transferring, Other}
-use Rattle.association_words.specs.declared.values.Content.{Content}
-use Rattle.association_words.specs.declared.values.Content.TheVariants.{Remote, Unread, Association, Plea, Part}
+use Rattle.association_words.specs.declared.values.ValueContent.{ValueContent}
+use Rattle.association_words.specs.declared.values.ValueContent.TheVariants.{Remote, Unread, Association, Plea, Part}
 use Rattle.association_words.specs.declared.values.Value.{Value}
 use Rattle.association_words.specs.declared.values.Item.{Item}
 use Rattle.association_words.specs.declared.values.Arrived.{Arrived}
@@ -35,7 +35,7 @@ abbrev pub seen_information : Information → meant.Information
 seen_information (Transferring id apdu) = meant.Transferring id apdu
 seen_information (Other id octets) = meant.Other id octets
 
-abbrev pub seen_content : Content → meant.Content
+abbrev pub seen_content : ValueContent → meant.ValueContent
 seen_content (Remote apdu) = meant.Remote apdu
 seen_content (Unread octets) = meant.Unread octets
 seen_content (Association apdu user) = meant.Association apdu (map seen_information user)

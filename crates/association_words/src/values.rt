@@ -20,7 +20,7 @@ pub type UserInformation = ListOf<Information>;
 
 /// What a presentation data value is.
 #[derive(Debug, Drop)]
-pub enum Content {
+pub enum ValueContent {
     /// An APDU of remote operations.
     Remote(Apdu),
     /// Octets of the module's abstract syntax that spell no APDU.
@@ -42,7 +42,7 @@ pub struct Value {
     /// The pair that the identifier stands for; `None` on a context that isn't there.
     pub pair: Option<Pair>,
     /// What it is.
-    pub content: Content,
+    pub content: ValueContent,
 }
 
 /// Presentation data values in their order.

@@ -7,8 +7,8 @@ use Rattle.stub_tables.specs.declared.tables.Tables.{Tables}
 use Rattle.dialogue.specs.declared.call.Call.{Call}
 use Rattle.tpkt.specs.declared.packet.Packet.{Packet}
 use Rattle.tpkt.specs.declared.packet.TFault.{TFault}
-use Rattle.tpkt.specs.declared.held.Held.{Held}
-use Rattle.tpkt.specs.Reader.{Fed, reading, nothing}
+use Rattle.tpkt.specs.declared.reader_state.Held.{Held}
+use Rattle.tpkt.specs.Reader.{ReaderProgress, reading, nothing}
 use Rattle.tpkt.proofs.ReaderLaws.{after_fault}
 use Rattle.tpkt.proofs.StreamLaws.{fed, any_cut, nothing_read}
 use Rattle.end_rules.specs.Base.{Base}
@@ -29,7 +29,7 @@ use Rattle.association_reading.specs.Front.{Front, Short, Intake, front_held, fi
 use Rattle.association_reading.specs.Reacting.{react_to}
 use Rattle.said_words.specs.Calls.{IsCall, Speaks}
 use Rattle.association_worlds.specs.Lines.{End, IsSize, written_all, more_came}
-use Rattle.association_worlds.specs.Worlds.{Ends, ends_new, end_at, with_end, sending, carried, both_cut, Spoken}
+use Rattle.association_worlds.specs.Worlds.{LineEnds, ends_new, end_at, with_end, sending, carried, both_cut, Spoken}
 use Rattle.association_worlds.specs.Worlds as spoken
 use Rattle.association_worlds.specs.Ways.{AreCarried, front_of, Sent, text_of, texts, messages_of, fronts_of_sent, AreWritten, IsWay, Way}
 use Rattle.association_worlds.specs.Laws.{IsHeard, IsSpelled, OctetsAreMessages, WholeWaitsForNothing}
@@ -112,9 +112,9 @@ way-moved tables (Some intake) waiting coming n w =
       taken = w.taken;
       sent = w.sent;
       octets = append_assoc w.got (take n waiting) (drop n waiting) ∙ ap (λ (os : List ℕ). w.got ++ os) (take-append-drop n waiting) ∙ w.octets;
-      held = ap (λ (h : Held). (reading h (take n waiting)).held) w.held ∙ sym (ap (λ (f : Fed). f.held) cut);
+      held = ap (λ (h : Held). (reading h (take n waiting)).held) w.held ∙ sym (ap (λ (f : ReaderProgress). f.held) cut);
       fronts =
-          ap (λ (f : Fed). all_fronts f.packets) cut
+          ap (λ (f : ReaderProgress). all_fronts f.packets) cut
           ∙ fronts-append (reading nothing w.got).packets (reading (reading nothing w.got).held (take n waiting)).packets
           ∙ ap (λ (fs : List Front). fs ++ all_fronts (reading (reading nothing w.got).held (take n waiting)).packets) w.fronts
           ∙ ap (λ (h : Held). (fronts_of_sent tables w.done ++ intake.fronts) ++ all_fronts (reading h (take n waiting)).packets) (sym w.held)
@@ -128,7 +128,7 @@ none-fault held xs e = go held.fault refl
   where
     go : (o : Option TFault) → held.fault ≡ o → held.fault ≡ None
     go None k = k
-    go (Some fault) k = let there : (reading held xs).held.fault ≡ held.fault = ap (λ (f : Fed). f.held.fault) (after_fault (fed [] held) fault xs k) in absurd cc
+    go (Some fault) k = let there : (reading held xs).held.fault ≡ held.fault = ap (λ (f : ReaderProgress). f.held.fault) (after_fault (fed [] held) fault xs k) in absurd cc
 
 -- what the end has stands in front of what else is ahead, and no fault
 record Ahead (tables : Tables) (intake : Intake) (ahead : List Sent) : Type 0 where
@@ -145,12 +145,12 @@ what-is-ahead tables intake waiting coming w =
     sym (map-append (λ (s : Sent). front_of tables s.message) w.done w.ahead)
     ∙ sym r.fronts
     ∙ ap (λ (os : List ℕ). all_fronts (reading nothing os).packets) (sym w.octets)
-    ∙ ap (λ (f : Fed). all_fronts f.packets) cut
+    ∙ ap (λ (f : ReaderProgress). all_fronts f.packets) cut
     ∙ fronts-append (reading nothing w.got).packets (reading (reading nothing w.got).held waiting).packets
     ∙ ap (λ (fs : List Front). fs ++ x) w.fronts
     ∙ append_assoc (fronts_of_sent tables w.done) intake.fronts x in
     let end : (reading (reading nothing w.got).held waiting).held.fault ≡ None =
-    sym (ap (λ (f : Fed). f.held.fault) cut) ∙ ap (λ (os : List ℕ). (reading nothing os).held.fault) w.octets ∙ r.faultless in record {
+    sym (ap (λ (f : ReaderProgress). f.held.fault) cut) ∙ ap (λ (os : List ℕ). (reading nothing os).held.fault) w.octets ∙ r.faultless in record {
       more = x;
       fronts = cancel (fronts_of_sent tables w.done) (fronts_of_sent tables w.ahead) (intake.fronts ++ x) all;
       faultless = ap (λ (h : Held). h.fault) w.held ∙ none-fault (reading nothing w.got).held waiting end;
@@ -207,7 +207,7 @@ module _ (common : Common) (h : IsHeard common) where
   at_role : Role → Base
   at_role role = base_at role common
 
-  abbrev WayTo : Role → Ends → List Message → Type 0
+  abbrev WayTo : Role → LineEnds → List Message → Type 0
   WayTo role ends coming = Way common.tables (end_at role ends).line.came (end_at (other role) ends).line.waiting coming
 
   sends-carried : (role : Role) (two : Two) (body : Body) (left more : List Message) (ledger : Ledger) → Speaks common (stepped role body left more two) ledger → AreCarried common.tables (coming_to (other role) two ++ more)
@@ -215,7 +215,7 @@ module _ (common : Common) (h : IsHeard common) where
   sends-carried Responder two body left more ledger g = h.carried _ ledger g Initiator
 
   -- an end moved: what is left of what came to it, and what it sent
-  moved-on : (role : Role) (ends : Ends) (two : Two) (ledger : Ledger) (end : End) (left more : List Message) → Speaks common (stepped role end.body left more two) ledger
+  moved-on : (role : Role) (ends : LineEnds) (two : Two) (ledger : Ledger) (end : End) (left more : List Message) → Speaks common (stepped role end.body left more two) ledger
       → ((r : Role) → (end_at r ends).body ≡ body_at r two) → Way common.tables end.line.came (end_at (other role) ends).line.waiting left
       → Way common.tables (end_at (other role) ends).line.came end.line.waiting (coming_to (other role) two ++ more) → IsSpelled common (with_end role end ends)
   moved-on role ends two ledger end left more g bodies own peer =
@@ -234,7 +234,7 @@ module _ (common : Common) (h : IsHeard common) where
       ways-so Responder own peer Initiator = peer
       ways-so Responder own peer Responder = own
 
-  way-other : (role : Role) (ends : Ends) (two : Two) → ((r : Role) → WayTo r ends (coming_to r two)) → Way common.tables (end_at (other role) ends).line.came (end_at role ends).line.waiting (coming_to (other role) two)
+  way-other : (role : Role) (ends : LineEnds) (two : Two) → ((r : Role) → WayTo r ends (coming_to r two)) → Way common.tables (end_at (other role) ends).line.came (end_at role ends).line.waiting (coming_to (other role) two)
   way-other Initiator ends two w = w Responder
   way-other Responder ends two w = w Initiator
 
@@ -262,26 +262,26 @@ module _ (common : Common) (h : IsHeard common) where
       one : (x y : Reaction) → Some x ≡ Some y → x ≡ y
       one x y e = cc
 
-  some-way : (role : Role) (ends : Ends) (coming : List Message) (intake : Intake) → (end_at role ends).line.came ≡ Some intake → WayTo role ends coming → IsWay common.tables intake (end_at (other role) ends).line.waiting coming
+  some-way : (role : Role) (ends : LineEnds) (coming : List Message) (intake : Intake) → (end_at role ends).line.came ≡ Some intake → WayTo role ends coming → IsWay common.tables intake (end_at (other role) ends).line.waiting coming
   some-way role ends coming intake e w = subst (λ (c : Option Intake). Way common.tables c (end_at (other role) ends).line.waiting coming) e w
 
-  abbrev pub next-at : (role : Role) (ends : Ends) (two : Two) (intake : Intake) → Type 0
+  abbrev pub next-at : (role : Role) (ends : LineEnds) (two : Two) (intake : Intake) → Type 0
   next-at role ends two intake = FirstOf common.tables intake (end_at (other role) ends).line.waiting (coming_to role two)
 
-  pub next-so : (role : Role) (ends : Ends) (intake : Intake) (r : Reaction) → (s : IsSpelled common ends) → (end_at role ends).line.came ≡ Some intake
+  pub next-so : (role : Role) (ends : LineEnds) (intake : Intake) (r : Reaction) → (s : IsSpelled common ends) → (end_at role ends).line.came ≡ Some intake
       → react_to (base_at role common) (end_at role ends).body (first_in intake) ≡ Some r → next-at role ends s.two intake
   next-so role ends intake r s e t =
       first-of common.tables (base_at role common) (end_at role ends).body intake (end_at (other role) ends).line.waiting (coming_to role s.two) r (some-way role ends (coming_to role s.two) intake e (s.ways role)) t
 
   -- the end of this role sent these messages in a step to which this is left
-  sent-so : (role : Role) (ends : Ends) (size : ℕ) (body : Body) (left more : List Message) (came : Option Intake) (ledger : Ledger) (s : IsSpelled common ends) → IsSize size
+  sent-so : (role : Role) (ends : LineEnds) (size : ℕ) (body : Body) (left more : List Message) (came : Option Intake) (ledger : Ledger) (s : IsSpelled common ends) → IsSize size
       → Speaks common (stepped role body left more s.two) ledger → Way common.tables came (end_at (other role) ends).line.waiting left
       → IsSpelled common (with_end role (sending common.tables size (end_at role ends) body more came) ends)
   sent-so role ends size body left more came ledger s z g own =
       moved-on role ends s.two ledger (sending common.tables size (end_at role ends) body more came) left more g s.bodies own
       (way-sent common.tables (end_at (other role) ends).line.came (end_at role ends).line.waiting (coming_to (other role) s.two) more size z (sends-carried role s.two body left more ledger g) (way-other role ends s.two s.ways))
 
-  closed-so : (role : Role) (ends : Ends) → IsSpelled common ends → IsSpelled common (with_end role (sending common.tables 128 (end_at role ends) (end_at role ends).body [] None) ends)
+  closed-so : (role : Role) (ends : LineEnds) → IsSpelled common ends → IsSpelled common (with_end role (sending common.tables 128 (end_at role ends) (end_at role ends).body [] None) ends)
   closed-so role ends s = record { two = s.two; ledger = s.ledger; speaks = s.speaks; bodies = bodies-so role; ways = ways-so role }
     where
       plus-none : (came : Option Intake) (waiting : List ℕ) (coming : List Message) → Way common.tables came waiting coming → Way common.tables came (waiting ++ []) coming
@@ -299,7 +299,7 @@ module _ (common : Common) (h : IsHeard common) where
       ways-so Responder Initiator = plus-none _ _ _ (s.ways Initiator)
       ways-so Responder Responder = tt
 
-  carried-so : (role : Role) (n : ℕ) (ends : Ends) → IsSpelled common ends → IsSpelled common (carried role n ends)
+  carried-so : (role : Role) (n : ℕ) (ends : LineEnds) → IsSpelled common ends → IsSpelled common (carried role n ends)
   carried-so role n ends s = record { two = s.two; ledger = s.ledger; speaks = s.speaks; bodies = bodies-so role; ways = ways-so role }
     where
       bodies-so : (role r : Role) → (end_at r (carried role n ends)).body ≡ body_at r s.two
@@ -323,8 +323,8 @@ module _ (common : Common) (h : IsHeard common) where
     taken = tt;
     sent = tt;
     octets = refl;
-    held = sym (ap (λ (f : Fed). f.held) nothing_read);
-    fronts = ap (λ (f : Fed). all_fronts f.packets) nothing_read;
+    held = sym (ap (λ (f : ReaderProgress). f.held) nothing_read);
+    fronts = ap (λ (f : ReaderProgress). all_fronts f.packets) nothing_read;
   }
 
   begun-so : IsSpelled common (ends_new common)
@@ -338,7 +338,7 @@ module _ (common : Common) (h : IsHeard common) where
       w Initiator = new-way
       w Responder = new-way
 
-  broken-so : (ends : Ends) → IsSpelled common ends → IsSpelled common (both_cut common ends)
+  broken-so : (ends : LineEnds) → IsSpelled common ends → IsSpelled common (both_cut common ends)
   broken-so ends s = record { two = both_broke common s.two; ledger = s.ledger; speaks = record { goes = goes.breaks s.two s.ledger s.speaks.goes; calls = s.speaks.calls }; bodies = b; ways = w }
     where
       b : (r : Role) → (end_at r (both_cut common ends)).body ≡ body_at r (both_broke common s.two)
@@ -349,7 +349,7 @@ module _ (common : Common) (h : IsHeard common) where
       w Initiator = new-way
       w Responder = new-way
 
-  pub spelled-so : (ends : Ends) → Spoken common ends → IsSpelled common ends
+  pub spelled-so : (ends : LineEnds) → Spoken common ends → IsSpelled common ends
   spelled-so ends spoken.begins = begun-so
   spelled-so ends (spoken.calls before role call answer size z typed so c) =
       let s = spelled-so before so in
@@ -424,7 +424,7 @@ whole-waits common intake waiting coming way next later k short =
         let all : fronts_of_sent tables way.done ++ intake.fronts ≡ fronts_of_sent tables way.done ++ (front_of tables next.message ∷ x) =
         sym way.fronts
         ∙ ap (λ (os : List ℕ). all_fronts (reading nothing os).packets) b.front
-        ∙ ap (λ (f : Fed). all_fronts f.packets) cut
+        ∙ ap (λ (f : ReaderProgress). all_fronts f.packets) cut
         ∙ fronts-append (reading nothing (texts tables upto)).packets (reading (reading nothing (texts tables upto)).held b.more).packets
         ∙ ap (λ (fs : List Front). fs ++ x) (r.fronts ∙ map-append (λ (s : Sent). front_of tables s.message) way.done (next ∷ []))
         ∙ append_assoc (fronts_of_sent tables way.done) (front_of tables next.message ∷ []) x in

@@ -116,11 +116,11 @@ all-adds tables (s ∷ sents) h =
     let o = adds tables s (texts tables sents) r.parts h.0 h.1 r.splits in
     record { parts = o.parts; splits = o.splits; hands = o.hands ∙ ap (λ (fs : List Front). front_of tables s.message ∷ fs) r.hands }
 
-pub record Reads (tables : Tables) (sents : List Sent) : Type 0 where
+pub record ReadsAllSent (tables : Tables) (sents : List Sent) : Type 0 where
   pub fronts : all_fronts (reading nothing (texts tables sents)).packets ≡ fronts_of_sent tables sents
   pub faultless : (reading nothing (texts tables sents)).held.fault ≡ None
 
-pub reads-all : (tables : Tables) (sents : List Sent) → AreWritten tables sents → Reads tables sents
+pub reads-all : (tables : Tables) (sents : List Sent) → AreWritten tables sents → ReadsAllSent tables sents
 reads-all tables sents h =
     let a = all-adds tables sents h in
     let r = split_read (texts tables sents) a.parts [] (texts-octets tables sents h) a.splits (short_yet (begun_by [] a.parts) [] (short_empty _)) in

@@ -15,7 +15,7 @@ use Rattle.reliable_model.specs.Goes.{Ledger, Goes}
 use Rattle.association_reading.specs.Front.{Intake, Short, first_in}
 use Rattle.association_reading.specs.Reacting.{react_to}
 use Rattle.said_words.specs.Calls.{Speaks}
-use Rattle.association_worlds.specs.Worlds.{Ends, end_at, Spoken}
+use Rattle.association_worlds.specs.Worlds.{LineEnds, end_at, Spoken}
 use Rattle.association_worlds.specs.Ways.{AreCarried, front_of, Sent, texts, IsWay, Way}
 
 -- Whatever is on its way may be written, and what comes next to an end is heard as itself: its octets mean it to the end as it
@@ -57,7 +57,7 @@ abbrev pub MeantIsHeard : Type 0
 MeantIsHeard = (common : Common) → IsMeant common → IsHeard common
 
 -- What two ends with octets reach is what two ends with messages reach.
-pub record IsSpelled (common : Common) (ends : Ends) : Type 0 where
+pub record IsSpelled (common : Common) (ends : LineEnds) : Type 0 where
   pub two : Two
   pub ledger : Ledger
   pub speaks : Speaks common two ledger
@@ -65,7 +65,7 @@ pub record IsSpelled (common : Common) (ends : Ends) : Type 0 where
   pub ways : (role : Role) → Way common.tables (end_at role ends).line.came (end_at (other role) ends).line.waiting (coming_to role two)
 
 abbrev pub OctetsAreMessages : Type 0
-OctetsAreMessages = (common : Common) (ends : Ends) → IsHeard common → Spoken common ends → IsSpelled common ends
+OctetsAreMessages = (common : Common) (ends : LineEnds) → IsHeard common → Spoken common ends → IsSpelled common ends
 
 -- Where nothing whole stands first at the taker, some octets of the next message wait at the sender: more octets wait there than
 -- those behind the message have.
@@ -77,6 +77,6 @@ WholeWaitsForNothing =
 -- Neither end finds a fault in what came, whatever stands first in it.
 abbrev pub NothingFails : Type 0
 NothingFails =
-    (common : Common) (ends : Ends) → IsMeant common → Spoken common ends →
+    (common : Common) (ends : LineEnds) → IsMeant common → Spoken common ends →
     (role : Role) (intake : Intake) (fault : Fault) (body : Body) (aborts : List Message) (shown : List Indication) →
     (end_at role ends).line.came ≡ Some intake → react_to (base_at role common) (end_at role ends).body (first_in intake) ≡ Some (Fails fault body aborts shown) → ⊥

@@ -9,7 +9,7 @@ ghost use Rattle.association_writing.specs.Room.{HasRoomFor};
 use association_words::TransportUnit;
 use osi_base::{Copied, NoMemory, Octets};
 use std::alloc::Global;
-use tpkt::{Ends, write_confirm, write_connect, write_disconnect};
+use tpkt::{ConnectionFields, write_confirm, write_connect, write_disconnect};
 
 /// CR.
 fn request(
@@ -24,7 +24,7 @@ fn request(
         ≡ control_packet (connection_fields 224
         (request_ends source size calling.now called.now))) }
 {
-    let ends = Ends {
+    let ends = ConnectionFields {
         destination: 0,
         source,
         size,
@@ -39,7 +39,7 @@ fn confirm(alloc: Global, destination: u16, size: Option<u8>) -> Result<Octets, 
     ensures { IfOk result (λ octets. octets
         ≡ control_packet (connection_fields 208 (confirm_ends destination size))) }
 {
-    let ends = Ends {
+    let ends = ConnectionFields {
         destination,
         source: 2,
         size,

@@ -12,8 +12,11 @@ ghost use Rattle.association_writing.specs.Room.{item_pdv};
 ghost use Rattle.association_wire.specs.Values.{external_of, with_user, content_octets, in_form, pdv_of, pdvs_of};
 
 use association_codecs::Codecs;
-use association_words::{Content, Information, Item, Value, syntax_of};
-use osi_base::{Acse, Copied, External, Externals, ListOf, NoMemory, Octets, Pdv, PdvContent, Pdvs, Rtse, Syntax};
+use association_words::{Information, Item, Value, ValueContent, syntax_of};
+use osi_base::{
+    Acse, Copied, External, Externals, ListOf, NoMemory, Octets, Pdv, PdvContent, Pdvs, Rtse,
+    Syntax,
+};
 use std::alloc::Global;
 use stub_tables::{Apdu, Tables};
 
@@ -118,24 +121,24 @@ pub fn write_content(
     codecs: &Codecs,
     tables: &Tables,
     syntax: Syntax,
-    content: &Content,
+    content: &ValueContent,
 ) -> Result<Octets, NoMemory>
     ensures { IfOk result (λ octets. octets ≡ content_octets tables.now syntax
         (seen_content content.now)) }
 {
     match content {
-        Content::Remote(apdu) => codecs.heads.write(alloc, syntax, tables, apdu),
-        Content::Unread(octets) => octets.copy(alloc),
-        Content::Association { apdu, user } => {
+        ValueContent::Remote(apdu) => codecs.heads.write(alloc, syntax, tables, apdu),
+        ValueContent::Unread(octets) => octets.copy(alloc),
+        ValueContent::Association { apdu, user } => {
             association_octets(alloc, codecs, apdu, user.as_slice())
         }
-        Content::Plea { priority } => codecs.rtse.write(
+        ValueContent::Plea { priority } => codecs.rtse.write(
             alloc,
             &Rtse::TurnPlease {
                 priority: *priority,
             },
         ),
-        Content::Part(octets) => part_octets(alloc, codecs, octets),
+        ValueContent::Part(octets) => part_octets(alloc, codecs, octets),
     }
 }
 

@@ -163,7 +163,7 @@ module _ (t : Tables) (ca cb : Config) (free : Free) (readable : IsReadable t) (
   -- ---- calls
 
   -- what a call asks for and answers
-  record Says (role : Role) (body : Body) (call : Call) : Type 0 where
+  record AsksAndAnswers (role : Role) (body : Body) (call : Call) : Type 0 where
     asks : asked t (due_of (base role) body call (can_call (base role) body call)) ≡ invoked_by call (can_call (base role) body call)
     gives : answered_in t (due_of (base role) body call (can_call (base role) body call)) ≡ answered_by call (can_call (base role) body call)
 
@@ -176,10 +176,10 @@ module _ (t : Tables) (ca cb : Config) (free : Free) (readable : IsReadable t) (
   none_answered (the_calls.Refuse id place parameter) refusal = refl
   none_answered _ refusal = refl
 
-  says : (role : Role) (v : View) (call : Call) → HoldsAt role v → Says role v.own.body call
+  says : (role : Role) (v : View) (call : Call) → HoldsAt role v → AsksAndAnswers role v.own.body call
   says role v call h = go (can_call (base role) v.own.body call) refl
     where
-      go : (reply : Reply) → can_call (base role) v.own.body call ≡ reply → Says role v.own.body call
+      go : (reply : Reply) → can_call (base role) v.own.body call ≡ reply → AsksAndAnswers role v.own.body call
       go (Ok answer) e =
           let so = called_so t ca cb role v.own.body call answer (bare_set_at t ca cb free readable writes modelled first_law one_content back role v h) e in
           record {

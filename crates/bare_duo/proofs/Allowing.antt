@@ -202,14 +202,14 @@ error-known base operation place parameter (Some row) e h =
     two-true (is_error_of operation place) (takes_parameter base.tables (error_at base.tables place) parameter) (not-none (is_error_of operation place) 3 both.0)
     (ap (λ (x : Option ErrorRow). takes_parameter base.tables x parameter) e ∙ sym (right-is base row.parameter parameter) ∙ not-none (is_right base row.parameter (carried_in parameter)) 4 both.1)
 
-pub record Fails (base : Base) (o : Option Operation) (place : Option ℕ) (parameter : Option Val) : Type 0 where
+pub record HasError (base : Base) (o : Option Operation) (place : Option ℕ) (parameter : Option Val) : Type 0 where
   pub operation : Operation
   pub at : ℕ
   pub is_there : o ≡ Some operation
   pub is_at : place ≡ Some at
   pub has_it : has_error base.tables operation at parameter ≡ true
 
-fails-so : (base : Base) (o : Option Operation) (place : Option ℕ) (parameter : Option Val) → error_problem base o place (carried_in parameter) ≡ None → Fails base o place parameter
+fails-so : (base : Base) (o : Option Operation) (place : Option ℕ) (parameter : Option Val) → error_problem base o place (carried_in parameter) ≡ None → HasError base o place parameter
 fails-so base None place parameter h = absurd cc
 fails-so base (Some operation) None parameter h =
     let a = first-none (problem_if (is_empty operation.errors) 1) (Some 2) h in

@@ -5,7 +5,7 @@ use Rattle.agreement.specs.Messages.{Apdu, Value, Setup, Message, Act, Choice}
 use Rattle.agreement.specs.Messages.Mode.{Bare}
 use Rattle.agreement.specs.Messages.Apdu.{Invoke, Outcome, Reject}
 use Rattle.agreement.specs.Messages.Message.{Data}
-use Rattle.agreement.specs.Messages.Act.{Connects, Recovers, Says, Queues, Drops, Alters, Marks, Gives, Pleads, Restarts, Starts, Encodes, Sends, Ends, Interrupts, Discards, Resumes, Releases, Aborts, Withdraws, Fails}
+use Rattle.agreement.specs.Messages.Act.{Connects, Recovers, SaysValue, Queues, Drops, Alters, Marks, GivesTurn, Pleads, Restarts, Starts, Encodes, Sends, EndsActivity, Interrupts, Discards, Resumes, Releases, Aborts, Withdraws, TransportFails}
 use Rattle.agreement.specs.State.{State}
 use Rattle.agreement.specs.State.Phase.{Idle, Up, Broken, Over}
 use Rattle.agreement.specs.Calls.{MayHandIn, due_after, accepted, is_accepted, reject_of}
@@ -75,14 +75,14 @@ none-due (Invoke number operation link argument) = refl
 none-due (Outcome number content) = refl
 none-due (Reject number problem) = refl
 
-said : (base : Setup) (role : Role) (x y : State) (f g : List Sending) (shared : Shared) (value : Value) → MayAct (bare base) role x (Says value) → Together (bare base) x y f g → Together (bare base) (acted (bare base) x (Says value)) y f (g ++ sendings shared.set (sent_by (bare base) x (Says value)))
+said : (base : Setup) (role : Role) (x y : State) (f g : List Sending) (shared : Shared) (value : Value) → MayAct (bare base) role x (SaysValue value) → Together (bare base) x y f g → Together (bare base) (acted (bare base) x (SaysValue value)) y f (g ++ sendings shared.set (sent_by (bare base) x (SaysValue value)))
 said base role x y f g shared value h (Ended p q) = absurd (let e = h.is_free.is_up in cc)
 said base role x y f g shared value h (Lives p q r s l) =
     let s0 : Sending = record { message = Data value; shared = shared.set } in
     let may : MayHandIn (bare base) x.calls [] value.apdu = subst (λ due. MayHandIn (bare base) x.calls due value.apdu) r h.may_hand_in in
     let k = live-said (bare base) x.calls y.calls value (values_in f) (values_in g) l may in
     Lives p q (ap (due_after value.apdu) r ∙ none-due value.apdu) s
-    (subst (Live (bare base) (acted (bare base) x (Says value)).calls y.calls (values_in f)) (sym (values-append g (s0 ∷ []))) k)
+    (subst (Live (bare base) (acted (bare base) x (SaysValue value)).calls y.calls (values_in f)) (sym (values-append g (s0 ∷ []))) k)
 
 dropped : (base : Setup) (role : Role) (x y : State) (f g : List Sending) (shared : Shared) → MayAct (bare base) role x Drops → Together (bare base) x y f g → Together (bare base) (acted (bare base) x Drops) y f (g ++ sendings shared.set (sent_by (bare base) x Drops))
 dropped base role x y f g shared h (Ended p q) = absurd (let e = h.is_free.is_up in cc)
@@ -91,25 +91,25 @@ dropped base role x y f g shared h (Lives p q r s l) = absurd (h.has_due r)
 acts-live : (base : Setup) (role : Role) (x y : State) (f g : List Sending) (shared : Shared) (act : Act) → Together (bare base) x y f g → MayAct (bare base) role x act → Together (bare base) (acted (bare base) x act) y f (g ++ sendings shared.set (sent_by (bare base) x act))
 acts-live base role x y f g shared Connects t h = absurd (not-idle x (up-only (bare base) x y f g t) h.is_idle)
 acts-live base role x y f g shared Recovers t h = absurd (not-broken x (up-only (bare base) x y f g t) h.is_broken)
-acts-live base role x y f g shared (Says value) t h = said base role x y f g shared value h t
+acts-live base role x y f g shared (SaysValue value) t h = said base role x y f g shared value h t
 acts-live base role x y f g shared (Queues context apdu) t h = absurd (let e = h.by_transfers in cc)
 acts-live base role x y f g shared Drops t h = dropped base role x y f g shared h t
 acts-live base role x y f g shared (Alters items) t h = absurd h.in_mode
 acts-live base role x y f g shared Marks t h = absurd h.in_mode
-acts-live base role x y f g shared Gives t h = absurd h.in_mode
+acts-live base role x y f g shared GivesTurn t h = absurd h.in_mode
 acts-live base role x y f g shared (Pleads priority) t h = absurd h.in_mode
 acts-live base role x y f g shared (Restarts number) t h = absurd (let e = h.is_direct in cc)
 acts-live base role x y f g shared Starts t h = absurd (let e = h.by_transfers in cc)
 acts-live base role x y f g shared (Encodes context) t h = absurd (let e = h.by_transfers in cc)
 acts-live base role x y f g shared (Sends octets) t h = absurd (let e = h.by_transfers in cc)
-acts-live base role x y f g shared Ends t h = absurd (let e = h.by_transfers in cc)
+acts-live base role x y f g shared EndsActivity t h = absurd (let e = h.by_transfers in cc)
 acts-live base role x y f g shared Interrupts t h = absurd (let e = h.by_transfers in cc)
 acts-live base role x y f g shared Discards t h = absurd (let e = h.by_transfers in cc)
 acts-live base role x y f g shared Resumes t h = absurd (let e = h.by_transfers in cc)
 acts-live base role x y f g shared Releases t h = absurd h.in_mode
 acts-live base role x y f g shared Aborts t h = absurd h.in_mode
 acts-live base role x y f g shared Withdraws t h = absurd h.in_mode
-acts-live base role x y f g shared Fails t h = absurd h.in_mode
+acts-live base role x y f g shared TransportFails t h = absurd h.in_mode
 
 -- ---- takings
 

@@ -17,7 +17,7 @@ use Rattle.dialogue.specs.declared.config.Config.{Config}
 use Rattle.dialogue.specs.declared.indication.Indication.{Indication}
 use Rattle.end_rules.specs.Base.{Base}
 use Rattle.end_rules.specs.Faults.{fault_at, shown_at_fault}
-use Rattle.end_rules.specs.Messages.{Message, Content, Value as PresentationValue}
+use Rattle.end_rules.specs.Messages.{Message, ValueContent, Value as PresentationValue}
 use Rattle.end_rules.specs.State.{Body, Link, passes_over}
 use Rattle.end_rules.specs.Invoking.{carrier_in}
 use Rattle.end_rules.specs.Hearing.{Rejecting, Heard, hear, head_of, with_reject, sent_on, syntax_of}
@@ -86,7 +86,7 @@ module _ (t : Tables) (config : Config) (readable : IsReadable t) (one_content :
       go None = refl
       go (Some id) = refl
 
-  took-link : (body : Body) (content : Content) → (after_taken b body (bare_message body.sets.held content)).link ≡ body.link
+  took-link : (body : Body) (content : ValueContent) → (after_taken b body (bare_message body.sets.held content)).link ≡ body.link
   took-link body content =
       let v : PresentationValue = bare_value body.sets.held content in
       let heard : Heard = hear b body.calls v.id (head_of b v) in reject-link (record body { calls = heard.calls }) v.id heard.reject
@@ -95,7 +95,7 @@ module _ (t : Tables) (config : Config) (readable : IsReadable t) (one_content :
   answers-body e m [] = refl
   answers-body e m (a ∷ answers) = answers-body (after b e (answered m a)) m answers
 
-  took-up : (e : End) (content : Content) (answers : List Message) → passes_over e.body.link.phase ≡ false → passes_over (after_all b e (taking (bare_message e.body.sets.held content) answers)).body.link.phase ≡ false
+  took-up : (e : End) (content : ValueContent) (answers : List Message) → passes_over e.body.link.phase ≡ false → passes_over (after_all b e (taking (bare_message e.body.sets.held content) answers)).body.link.phase ≡ false
   took-up e content answers up =
       let m : Message = bare_message e.body.sets.held content in
       ap (λ (x : Body). passes_over x.link.phase) (answers-body (after b e (took m)) m answers) ∙ ap (λ (x : Link). passes_over x.phase) (took-link e.body content) ∙ up

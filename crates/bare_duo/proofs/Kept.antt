@@ -19,7 +19,7 @@ use Rattle.dialogue.specs.declared.call.CallRefusal.{CallRefusal}
 use Rattle.dialogue.specs.declared.indication.Indication.{Indication}
 use Rattle.end_rules.specs.Base.{Base, is_bare}
 use Rattle.end_rules.specs.Sets.{pair_of}
-use Rattle.end_rules.specs.Messages.{Message, Word, OfData, Values, Content, Remote}
+use Rattle.end_rules.specs.Messages.{Message, Word, OfData, Values, ValueContent, Remote}
 use Rattle.end_rules.specs.State.{Body, bare_set, passes_over}
 use Rattle.dialogue.specs.declared.call.Call.TheVariants as the_calls
 use Rattle.end_rules.specs.Invoking.{Reply}
@@ -439,7 +439,7 @@ module _ (t : Tables) (ca cb : Config) (free : Free) (readable : IsReadable t) (
     allowed : may_take t v.own.body.calls (apdu_in m) ≡ true
     phase_is : (after_taken (at_role role) v.own.body m).link.phase ≡ v.own.body.link.phase
 
-  took_one : (back : ReadsBack (at_role Initiator)) (role : Role) (v : View) (used : ℕ) (content : Content) (body : Body) (answers : List Message) (told : List Indication) → Holds role v
+  took_one : (back : ReadsBack (at_role Initiator)) (role : Role) (v : View) (used : ℕ) (content : ValueContent) (body : Body) (answers : List Message) (told : List Indication) → Holds role v
       → passes_over v.own.body.link.phase ≡ false → first_at v.own.line.rest ≡ Whole used
       → IsContent t (syntax_of (pair_of v.own.body.sets.held 0)) (front (Whole used) v.own.line.rest) content
       → react (at_role role) v.own.body (bare_message v.own.body.sets.held content) ≡ Takes body answers told

@@ -8,7 +8,7 @@ use Rattle.stub_tables.specs.declared.apdu.Returned.{Returned}
 use Rattle.stub_tables.specs.Lookup.{operation_with, error_with}
 use Rattle.dialogue.specs.declared.indication.Indication.{Indication}
 use Rattle.dialogue.specs.declared.indication.Indication.TheVariants as indications
-use Rattle.end_rules.specs.Messages.{Message, Session, Word, OfData, DataWord, Values, Value, Content, Remote}
+use Rattle.end_rules.specs.Messages.{Message, Session, Word, OfData, DataWord, Values, Value, ValueContent, Remote}
 
 abbrev pub value_of : Option Returned → Option Val
 value_of None = None
@@ -29,7 +29,7 @@ shown_of tables (apdus.Error id code parameter) = shown_error (error_with tables
 shown_of tables (apdus.Reject id problem) = []
 
 -- the APDU of a message of bare mode
-abbrev pub apdu_in_content : Content → Option Apdu
+abbrev pub apdu_in_content : ValueContent → Option Apdu
 apdu_in_content (Remote apdu) = Some apdu
 apdu_in_content _ = None
 

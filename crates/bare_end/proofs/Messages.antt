@@ -8,7 +8,7 @@ use Rattle.asn1_types.specs.Value.{Value}
 use Rattle.asn1_types.specs.declared.value.Val.{Val}
 use Rattle.asn1_types.specs.declared.table.TypeTable.{TypeTable}
 use Rattle.asn1_types.specs.declared.row.TypeId.{TypeId}
-use Rattle.asn1_types.specs.Table.{IsSound}
+use Rattle.asn1_types.specs.Table.{AreSoundRows}
 use Rattle.stub_tables.specs.declared.tables.Tables.{Tables}
 use Rattle.stub_tables.specs.declared.operation.Use.{Use}
 use Rattle.stub_tables.specs.Readable.{IsReadable}
@@ -47,7 +47,7 @@ never_absent types n os e = of_whole (length os) (read_at types n false 262144 o
 
 -- ---- what octets carry
 
-module _ (types : TypeTable) (sound : IsSound types) (room : ℕ) (used : Option Use) (os : List ℕ) (are : AreOctets os) where
+module _ (types : TypeTable) (sound : AreSoundRows types) (room : ℕ) (used : Option Use) (os : List ℕ) (are : AreOctets os) where
   unspelled : carried_at Ber types 262144 used (Some os) ≡ Unspelled → (v : Val) → CarriedAs Ber types 262144 used (Some v) (Some os) → ⊥
   unspelled e v p =
       let x : Spelled v ≡ Unspelled = sym (carried_is Ber types sound 262144 (omega arith) used v os p) ∙ e in cc
@@ -73,7 +73,7 @@ module _ (types : TypeTable) (sound : IsSound types) (room : ℕ) (used : Option
   carries_by Unspelled e = unspelled e
 
 -- octets, where there are some
-pub carries_at : (types : TypeTable) → IsSound types → (room : ℕ) (used : Option Use) (os : Option (List ℕ)) → HoldsOctets os → Carries Ber types room used os (carried_at Ber types 262144 used os)
+pub carries_at : (types : TypeTable) → AreSoundRows types → (room : ℕ) (used : Option Use) (os : Option (List ℕ)) → HoldsOctets os → Carries Ber types room used os (carried_at Ber types 262144 used os)
 carries_at types sound room None None are = tt
 carries_at types sound room (Some u) None are = tt
 carries_at types sound room used (Some os) are = carries_by types sound room used os are (carried_at Ber types 262144 used (Some os)) refl
@@ -81,13 +81,13 @@ carries_at types sound room used (Some os) are = carries_by types sound room use
 -- ---- what a head says
 
 -- what the head carries, so that it says this
-pub record Says (tables : Tables) (fields : ApduHead) (head : Head) : Type 0 where
+pub record HeadSays (tables : Tables) (fields : ApduHead) (head : Head) : Type 0 where
   pub carried : Carried
   pub carries : HeadCarries tables Ber fields carried
   pub says : said_by fields carried ≡ head
 
 module _ (tables : Tables) (readable : IsReadable tables) where
-  says_so : (h : heads.Head) → HoldsOctets (fields_in Ber h).rest → Says tables (fields_in Ber h) (said tables Ber h)
+  says_so : (h : heads.Head) → HoldsOctets (fields_in Ber h).rest → HeadSays tables (fields_in Ber h) (said tables Ber h)
   says_so (heads.invoke id linked code octets) are =
       let used : Option Use = option_map argument_of (operation_coded tables code) in
       record { carried = carried_at Ber tables.types 262144 used octets; carries = carries_at tables.types readable.types 262144 used octets are; says = refl }
@@ -118,10 +118,10 @@ module _ (tables : Tables) (readable : IsReadable tables) (text : List ℕ) wher
     unfolding head_at
     head_is = sym (ap (said_or_refused tables Ber text) (head_read Ber text p.head p.spells))
 
-    pub fields_say : Says tables fields (head_at tables Ber text)
+    pub fields_say : HeadSays tables fields (head_at tables Ber text)
     fields_say =
-        subst (λ (f : ApduHead). Says tables f (head_at tables Ber text)) (sym p.are)
-        (subst (λ (h : Head). Says tables (fields_in Ber p.head) h) head_is (says_so tables readable p.head at_fields))
+        subst (λ (f : ApduHead). HeadSays tables f (head_at tables Ber text)) (sym p.are)
+        (subst (λ (h : Head). HeadSays tables (fields_in Ber p.head) h) head_is (says_so tables readable p.head at_fields))
 
     pub fields_carry : SomeCarried tables fields
     fields_carry = let s = fields_say in record { carried = s.carried; carries = s.carries }

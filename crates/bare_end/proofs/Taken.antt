@@ -6,7 +6,7 @@ use Rattle.stub_tables.specs.Readable.{IsReadable}
 use Rattle.dialogue.specs.declared.indication.Indication.{Indication}
 use Rattle.end_rules.specs.Base.{Head}
 use Rattle.end_rules.specs.State.{Body, Calls, bare_set, passes_over}
-use Rattle.end_rules.specs.Messages.{Content, Remote, Unread, Association, Plea, Part, Message}
+use Rattle.end_rules.specs.Messages.{ValueContent, Remote, Unread, Association, Plea, Part, Message}
 use Rattle.end_rules.specs.Hearing.{Heard, Taken, hear, on_heard, take_head, head_of, reject_apdu}
 use Rattle.end_rules.specs.Reacting.{Reaction, Passes, Takes, Fails, react, react_alive}
 use Rattle.end_rules.specs.History.{Step, took as took_step, answered, after_taken}
@@ -31,14 +31,14 @@ abbrev takes_as : Taken → Reaction
 takes_as t = Takes t.body (t.answers ++ []) (t.shown ++ [])
 
 module _ (e : EndView) where
-  alive_remote : (c : Content) (octets : List ℕ) → IsContent e.tables Ber octets c → react_alive (base e) (body e) (bare_message (bare_set e.tables) c) ≡ takes_as (take_head (base e) (body e) 0 (head_of (base e) (bare_value (bare_set e.tables) c)))
+  alive_remote : (c : ValueContent) (octets : List ℕ) → IsContent e.tables Ber octets c → react_alive (base e) (body e) (bare_message (bare_set e.tables) c) ≡ takes_as (take_head (base e) (body e) 0 (head_of (base e) (bare_value (bare_set e.tables) c)))
   alive_remote (Remote a) octets p = refl
   alive_remote (Unread kept) octets p = refl
   alive_remote (Association apdu user) octets p = absurd p
   alive_remote (Plea priority) octets p = absurd p
   alive_remote (Part part) octets p = absurd p
 
-  pub reacts : (c : Content) (octets : List ℕ) → IsReadable e.tables → passes_over e.phase ≡ false → IsContent e.tables Ber octets c
+  pub reacts : (c : ValueContent) (octets : List ℕ) → IsReadable e.tables → passes_over e.phase ≡ false → IsContent e.tables Ber octets c
       → react (base e) (body e) (bare_message (bare_set e.tables) c) ≡ takes_as (take_head (base e) (body e) 0 (head_at e.tables Ber octets))
   reacts c octets readable up p =
       ap (λ (b : Bool). if b then Passes else react_alive (base e) (body e) (bare_message (bare_set e.tables) c)) up
@@ -63,7 +63,7 @@ taken_body d (Fails f b aborts shown) = d
 
 module _ (e : EndView) where
   -- the body after a taking is that of the reaction
-  alive_body : (c : Content) (octets : List ℕ) → IsContent e.tables Ber octets c
+  alive_body : (c : ValueContent) (octets : List ℕ) → IsContent e.tables Ber octets c
       → taken_body (body e) (react_alive (base e) (body e) (bare_message (bare_set e.tables) c)) ≡ after_taken (base e) (body e) (bare_message (bare_set e.tables) c)
   alive_body (Remote a) octets p = refl
   alive_body (Unread kept) octets p = refl
@@ -71,13 +71,13 @@ module _ (e : EndView) where
   alive_body (Plea priority) octets p = absurd p
   alive_body (Part part) octets p = absurd p
 
-  body_after : (c : Content) (octets : List ℕ) (b : Body) (answers : List Message) (shown : List Indication) → passes_over e.phase ≡ false → IsContent e.tables Ber octets c
+  body_after : (c : ValueContent) (octets : List ℕ) (b : Body) (answers : List Message) (shown : List Indication) → passes_over e.phase ≡ false → IsContent e.tables Ber octets c
       → react (base e) (body e) (bare_message (bare_set e.tables) c) ≡ Takes b answers shown → after_taken (base e) (body e) (bare_message (bare_set e.tables) c) ≡ b
   body_after c octets b answers shown up p r =
       sym (alive_body c octets p)
       ∙ ap (taken_body (body e)) (sym (ap (λ (x : Bool). if x then Passes else react_alive (base e) (body e) (bare_message (bare_set e.tables) c)) up) ∙ r)
 
-module _ (e : EndView) (c : Content) (octets : List ℕ) (calls_after : Calls) (t : takens.Taken) (used : ℕ) where
+module _ (e : EndView) (c : ValueContent) (octets : List ℕ) (calls_after : Calls) (t : takens.Taken) (used : ℕ) where
   abbrev told : List Step
   told = taking (bare_message (bare_set e.tables) c) (answers_by e t)
 
@@ -113,7 +113,7 @@ module _ (old : EndView) (used : ℕ) (readable : IsReadable old.tables) (up : p
   abbrev octets : List ℕ
   octets = take used old.rest
 
-  abbrev content : Content
+  abbrev content : ValueContent
   content = content_at old.tables Ber octets
 
   abbrev heard : Heard

@@ -7,7 +7,7 @@ use Rattle.end_rules.specs.Base.{Base}
 use Rattle.end_rules.specs.State.{Body, bare_set, passes_over}
 use Rattle.end_rules.specs.Sets.{pair_of}
 use Rattle.end_rules.specs.Hearing.{syntax_of}
-use Rattle.end_rules.specs.Messages.{Message, Content}
+use Rattle.end_rules.specs.Messages.{Message, ValueContent}
 use Rattle.end_rules.specs.Reacting.{react, Takes}
 use Rattle.end_rules.specs.History.{Step, History, fed}
 use Rattle.end_wire.specs.Values.{IsContent}
@@ -19,7 +19,7 @@ use Rattle.bare_end.specs.View.{EndView, base, body, seen, Stepped, StandsFor}
 -- one message was taken
 pub record TookOne (old new : EndView) (before after : List Indication) : Type 0 where
   pub used : ℕ
-  pub content : Content
+  pub content : ValueContent
   pub left : Body
   pub answers : List Message
   pub told : List Indication
@@ -63,7 +63,7 @@ pub record Fed (old new : EndView) (octets : List ℕ) (shown : List Indication)
 -- each with what is answered to it.
 pub data Begins (base : Base) : End → List Step → List Indication → Type 0 where
   nothing_taken : {end : End} → Begins base end [] []
-  one_taken : {end : End} {steps : List Step} {shown : List Indication} (used : ℕ) (content : Content) (body : Body) (answers : List Message) (told : List Indication)
+  one_taken : {end : End} {steps : List Step} {shown : List Indication} (used : ℕ) (content : ValueContent) (body : Body) (answers : List Message) (told : List Indication)
       → passes_over end.body.link.phase ≡ false → first_at end.line.rest ≡ Whole used
       → IsContent base.tables (syntax_of (pair_of end.body.sets.held 0)) (front (Whole used) end.line.rest) content
       → react base end.body (bare_message end.body.sets.held content) ≡ Takes body answers told

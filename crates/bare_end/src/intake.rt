@@ -4,7 +4,7 @@ ghost use Rattle.std.specs.Prelude.{◌≡◌, ◌≤◌, ◌++◌, List, [], le
 ghost use Rattle.ber_spelling.specs.Octets.{AreOctets};
 ghost use Rattle.bare_end.specs.First.{IsFirst};
 
-use osi_base::NoMemory;
+use osi_base::{NoMemory, OctetQueue};
 use std::alloc::Global;
 use std::marker::Model;
 use stream_front::{Front, Scanner};

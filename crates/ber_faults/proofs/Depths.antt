@@ -12,7 +12,7 @@ use Rattle.asn1_types.specs.declared.row.TypeRow.TheVariants as row
 use Rattle.asn1_types.specs.declared.row.Tag as tags
 use Rattle.asn1_types.specs.Limits.{most_levels}
 use Rattle.asn1_types.specs.Rows.{begins, text_number}
-use Rattle.asn1_types.specs.Table.{IsSound, is_bad_range}
+use Rattle.asn1_types.specs.Table.{AreSoundRows, is_bad_range}
 use Rattle.asn1_types.specs.Tags.{tag_or}
 use Rattle.asn1_types.specs.Value.{Value}
 use Rattle.asn1_types.specs.Writing.{written}
@@ -537,7 +537,7 @@ module _ (rows : List TypeRow) (rel : ℕ → Spelled) (W : ℕ → WrongAs) (wh
   row_deep (row.Tagged class number false of) any good t ok = each of.0 (under (Some (tag_or t.tag class number)) t.default) (tag_ok t.tag class number ok good)
   row_deep row.Any any good t ok = or_deep (HasAny rows) (λ strict. AnyIs) (WholeFault most_levels) t.tag (λ strict levels v s p. any_value levels v s p) (any_deep (HasAny rows) (any refl))
 
-module _ (rows : List TypeRow) (sound : IsSound rows) where
+module _ (rows : List TypeRow) (sound : AreSoundRows rows) where
   all_deep : (turns n : ℕ) (t : Guise) → OkTag t.tag → Deep (HasAny rows) (FaultBy rows turns n t)
   all_deep zero n t ok = record { deep = λ scope b o s at opens w. other_fault at o.start.place _ w }
   all_deep (suc turns) n t ok = by_row (slice_get rows n) refl (λ m u y. all_deep turns m u y)

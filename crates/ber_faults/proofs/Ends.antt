@@ -13,7 +13,7 @@ use Rattle.ber_spelling.proofs.Growing.{short_not_ok}
 use Rattle.ber_spelling.proofs.Identifiers.{IsIn, in_before, bind_ok, chosen_ok, done}
 use Rattle.ber_spelling.proofs.Ends as reading
 use Rattle.ber_spelling.proofs.Ends.{ClosesBy, Closes, EndFound, BeginFound, end_here, not_end, look_found, look_closed}
-use Rattle.ber_faults.specs.Fields.{IsWithin, IdentifierFault, SecondFault, MarkFault, AheadFault, IsNoMark, Begins, Ends, closing}
+use Rattle.ber_faults.specs.Fields.{IsWithin, IdentifierFault, SecondFault, MarkFault, AheadFault, IsNoMark, Begins, ContentsEnd, closing}
 use Rattle.ber_faults.proofs.Steps.{bind_err, bind_fails, bind_goes, cond_err, cond_yes, cond_no, err_is, not_err, within_err, crosses_err, within_ok, within_goes, in_within, within_in, cut_err, cut_fails}
 use Rattle.ber_faults.proofs.Identifiers.{identifier_err, identifier_fails, opens_found, opens_read}
 
@@ -209,7 +209,7 @@ closing_same false = refl
 is_end_at : (end : Option ℕ) (place : ℕ) → end ≡ Some place → is_end end place ≡ true
 is_end_at end place e = rw e (le-leb place place (omega arith))
 
-pub ends_found : (scope : Scope) (at : Spot) (p : ℕ) (b : Spot) → IsIn scope at.place → look_at scope at.place at.rest ≡ Ok (ended p b) → (p ≡ at.place) × Ends scope at b
+pub ends_found : (scope : Scope) (at : Spot) (p : ℕ) (b : Spot) → IsIn scope at.place → look_at scope at.place at.rest ≡ Ok (ended p b) → (p ≡ at.place) × ContentsEnd scope at b
 ends_found scope at p b here e =
     let f : EndFound scope at.place at.rest p b = look_found scope at.place at.rest (ended p b) here e in (
       f.place_is,
@@ -230,14 +230,14 @@ closes_by false scope place b onward here due =
 abbrev ended_so : ℕ → ℕ → List ℕ → Reading Ahead
 ended_so place onward rest = Ok (ended place (record { place = onward; rest = rest }))
 
-pub ends_read : (scope : Scope) (at b : Spot) → Ends scope at b → look_at scope at.place at.rest ≡ Ok (ended at.place b)
+pub ends_read : (scope : Scope) (at b : Spot) → ContentsEnd scope at b → look_at scope at.place at.rest ≡ Ok (ended at.place b)
 ends_read scope at b h =
     let closes : Closes scope at.place = record { by = closes_by scope.marked scope at.place b h.onward h.within h.due } in
     let onward : at.place + length (reading.closing scope.marked) ≡ b.place = ap (λ (c : List ℕ). at.place + length c) (sym (closing_same scope.marked)) ∙ sym h.onward in
     ap (look_at scope at.place) (h.parts ∙ ap (λ (c : List ℕ). c ++ b.rest) (closing_same scope.marked)) ∙ look_closed scope at.place b.rest closes ∙ ap (λ (n : ℕ). ended_so at.place n b.rest) onward
 
 -- contents that end behind a place, as readers of contents tell it
-pub ends_of : (scope : Scope) (place : ℕ) (b : Spot) → Closes scope place → b.place ≡ place + length (reading.closing scope.marked) → IsIn scope b.place → Ends scope (record { place = place; rest = reading.closing scope.marked ++ b.rest }) b
+pub ends_of : (scope : Scope) (place : ℕ) (b : Spot) → Closes scope place → b.place ≡ place + length (reading.closing scope.marked) → IsIn scope b.place → ContentsEnd scope (record { place = place; rest = reading.closing scope.marked ++ b.rest }) b
 ends_of scope place b closes onward here = record {
   parts = ap (λ (c : List ℕ). c ++ b.rest) (sym (closing_same scope.marked));
   onward = onward ∙ ap (λ (c : List ℕ). place + length c) (sym (closing_same scope.marked));
@@ -245,8 +245,8 @@ ends_of scope place b closes onward here = record {
   due = λ m. is_end_at scope.end place (subst (λ (k : Bool). ClosesBy k scope place) m closes.by);
 }
 
-pub closes_of : (scope : Scope) (at b : Spot) → Ends scope at b → Closes scope at.place
+pub closes_of : (scope : Scope) (at b : Spot) → ContentsEnd scope at b → Closes scope at.place
 closes_of scope at b h = record { by = closes_by scope.marked scope at.place b h.onward h.within h.due }
 
-pub closing_of : (scope : Scope) (at b : Spot) → Ends scope at b → at.rest ≡ reading.closing scope.marked ++ b.rest
+pub closing_of : (scope : Scope) (at b : Spot) → ContentsEnd scope at b → at.rest ≡ reading.closing scope.marked ++ b.rest
 closing_of scope at b h = h.parts ∙ ap (λ (c : List ℕ). c ++ b.rest) (closing_same scope.marked)

@@ -11,7 +11,7 @@ use Rattle.asn1_types.specs.declared.row.TypeRow.TheVariants as row
 use Rattle.asn1_types.specs.declared.row.Tag as tags
 use Rattle.asn1_types.specs.Defaults.{is_default}
 use Rattle.asn1_types.specs.Rows.{along, begins, of_row, openings, text_number}
-use Rattle.asn1_types.specs.Table.{IsSound}
+use Rattle.asn1_types.specs.Table.{AreSoundRows}
 use Rattle.asn1_types.specs.Tags.{tag_or}
 use Rattle.asn1_types.specs.Value.{Value}
 use Rattle.asn1_types.specs.Writing.{written}
@@ -210,7 +210,7 @@ module _ (rows : List TypeRow) where
   row_fault_found zero n t = dead_finds t
   row_fault_found (suc turns) n t = of_finds turns (λ m u. row_fault_found turns m u) (slice_get rows n) t
 
-module _ (rows : List TypeRow) (sound : IsSound rows) where
+module _ (rows : List TypeRow) (sound : AreSoundRows rows) where
   of_tells : (turns : ℕ) → ((m : ℕ) (u : Guise) → Tells (along dead (read_by (begins rows) (written rows)) rows turns m u) (FaultBy rows turns m u)) → (n : ℕ) (o : Option TypeRow) → slice_get rows n ≡ o → (t : Guise)
       → Tells (of_row dead (read_by (begins rows) (written rows) (along dead (read_by (begins rows) (written rows)) rows turns)) o t) (RowFaultOr (RowFault (begins rows) (written rows) (SpelledBy rows turns) (FaultBy rows turns)) o t)
   of_tells turns h n None e t = dead_tells t

@@ -154,7 +154,7 @@ closing true = 0 ∷ 0 ∷ []
 closing false = []
 
 -- contents end here
-pub record Ends (scope : Scope) (at behind : Spot) : Type 0 where
+pub record ContentsEnd (scope : Scope) (at behind : Spot) : Type 0 where
   pub parts : at.rest ≡ closing scope.marked ++ behind.rest
   pub onward : behind.place ≡ at.place + length (closing scope.marked)
   pub within : IsWithin scope behind.place

@@ -1,7 +1,7 @@
 -- The laws of first faults.
 use Rattle.std.specs.Prelude.{◌≡◌, ◌≢◌, ℕ, ◌⊎◌, ◌↔◌, Bool, List, Err}
 use Rattle.asn1_types.specs.declared.row.TypeRow.{TypeRow}
-use Rattle.asn1_types.specs.Table.{IsSound}
+use Rattle.asn1_types.specs.Table.{AreSoundRows}
 use Rattle.ber_spelling.specs.declared.fault.ReadFault.{ReadFault}
 use Rattle.ber_spelling.specs.declared.fault.ReadFault.TheVariants.{Short, TooDeep}
 use Rattle.ber_spelling.specs.Octets.{AreOctets}
@@ -17,12 +17,12 @@ GivenIsFirst = (rows : List TypeRow) (n : ℕ) (strict : Bool) (limit : ℕ) (by
 
 -- a first fault is what reading gives
 abbrev pub FirstIsGiven : Type 0
-FirstIsGiven = (rows : List TypeRow) (n : ℕ) (strict : Bool) (limit : ℕ) (bytes : List ℕ) (f : ReadFault) → IsSound rows → AreOctets bytes
+FirstIsGiven = (rows : List TypeRow) (n : ℕ) (strict : Bool) (limit : ℕ) (bytes : List ℕ) (f : ReadFault) → AreSoundRows rows → AreOctets bytes
     → FirstFault rows n strict limit bytes f → read_at rows n strict limit bytes ≡ Err f
 
 -- octets have one first fault at most
 abbrev pub OneFirst : Type 0
-OneFirst = (rows : List TypeRow) (n : ℕ) (strict : Bool) (limit : ℕ) (bytes : List ℕ) (f g : ReadFault) → IsSound rows → AreOctets bytes
+OneFirst = (rows : List TypeRow) (n : ℕ) (strict : Bool) (limit : ℕ) (bytes : List ℕ) (f g : ReadFault) → AreSoundRows rows → AreOctets bytes
     → FirstFault rows n strict limit bytes f → FirstFault rows n strict limit bytes g → f ≡ g
 
 abbrev pub HasFirst : List TypeRow → ℕ → Bool → ℕ → List ℕ → Type 0
@@ -34,17 +34,17 @@ AreShort rows n strict limit bytes = (BeginsSpelled rows n strict limit bytes �
 
 -- Octets that a spelling begins have no first fault; those that no spelling begins have one, or are too short as reading says.
 abbrev pub ThreeCases : Type 0
-ThreeCases = (rows : List TypeRow) (n : ℕ) (strict : Bool) (limit : ℕ) (bytes : List ℕ) → IsSound rows → AreOctets bytes
+ThreeCases = (rows : List TypeRow) (n : ℕ) (strict : Bool) (limit : ℕ) (bytes : List ℕ) → AreSoundRows rows → AreOctets bytes
     → (BeginsSpelled rows n strict limit bytes × (HasFirst rows n strict limit bytes → ⊥))
     ⊎ (((BeginsSpelled rows n strict limit bytes → ⊥) × HasFirst rows n strict limit bytes)
     ⊎ (AreShort rows n strict limit bytes × (read_at rows n strict limit bytes ≡ Err Short)))
 
 -- Octets are too short exactly where no spelling begins them and they have no first fault.
 abbrev pub ShortExactly : Type 0
-ShortExactly = (rows : List TypeRow) (n : ℕ) (strict : Bool) (limit : ℕ) (bytes : List ℕ) → IsSound rows → AreOctets bytes
+ShortExactly = (rows : List TypeRow) (n : ℕ) (strict : Bool) (limit : ℕ) (bytes : List ℕ) → AreSoundRows rows → AreOctets bytes
     → (read_at rows n strict limit bytes ≡ Err Short) ↔ AreShort rows n strict limit bytes
 
 -- Octets are too deep only at an identifier around which as many values stand open as may be.
 abbrev pub TooDeepIsFull : Type 0
-TooDeepIsFull = (rows : List TypeRow) (n : ℕ) (strict : Bool) (limit : ℕ) (bytes : List ℕ) (place : ℕ) → IsSound rows
+TooDeepIsFull = (rows : List TypeRow) (n : ℕ) (strict : Bool) (limit : ℕ) (bytes : List ℕ) (place : ℕ) → AreSoundRows rows
     → FirstFault rows n strict limit bytes (TooDeep place) → IsFull rows bytes place

@@ -26,7 +26,7 @@ use Rattle.ber_spelling.specs.Reading.{Spot, Opened}
 use Rattle.ber_spelling.specs.Order.{Filled}
 use Rattle.ber_spelling.specs.Rules.{Guise, bare, plain, under, always, segment_tag, nothing, segment_rule, string_rule, whole_octets, whole_text, whole_bits, has_zero_bits, list_done, set_of_done, nothing_filled, set_done, is_free, anew}
 use Rattle.ber_spelling.specs.Spelling.{Spelled, SegmentIs, ItemsAre, BooleanIs, IntegerIs, EnumeratedIs, NullIs, ObjectIdIs, IsOther, ListStep, SetItemStep, SetStep, IsWhole, ChoiceIs, AnyIs}
-use Rattle.ber_faults.specs.Fields.{LengthFault, ExtentFault, AheadFault, Begins, Ends, Extends, Holds, Stands, IsWithin}
+use Rattle.ber_faults.specs.Fields.{LengthFault, ExtentFault, AheadFault, Begins, ContentsEnd, Extends, Holds, Stands, IsWithin}
 
 -- what is wrong behind an identifier, which was opened
 abbrev pub Wrong : Type 1
@@ -88,7 +88,7 @@ ConstructedFault tag Inside scope o s f =
 -- the end; or the end stands where something lacks; or the next value has the fault; or it is right, and the fault is behind.
 pub data ItemsFault {S T : Type 0} (P : S → Bool → ℕ → S → List ℕ → Type 0) (done : S → Option T) (W : S → Wrong) (scope : Scope) : S → Spot → ReadFault → Type 0 where
   item_ahead : (state : S) (at : Spot) (f : ReadFault) → AheadFault scope at.place at.rest f → ItemsFault P done W scope state at f
-  item_lacks : (state : S) (at behind : Spot) (f : ReadFault) → Ends scope at behind → done state ≡ None → IsAt at.place Missing f → ItemsFault P done W scope state at f
+  item_lacks : (state : S) (at behind : Spot) (f : ReadFault) → ContentsEnd scope at behind → done state ≡ None → IsAt at.place Missing f → ItemsFault P done W scope state at f
   item_inside : (state : S) (at : Spot) (o : Opened) (s : Spot) (f : ReadFault) → Begins scope at o s → W state scope o s f → ItemsFault P done W scope state at f
   item_behind : (state next : S) (at to : Spot) (f : ReadFault) → Stands (P state) scope at next to → ItemsFault P done W scope next to f → ItemsFault P done W scope state at f
 
@@ -101,7 +101,7 @@ pub record Fills {A : Type 0} (P : Bool → ℕ → A → List ℕ → Type 0) (
   pub onward : end.place ≡ at.place + length contents
   pub spelled : P scope.strict scope.levels v contents
   pub within : IsWithin scope end.place
-  pub ends : Ends scope end behind
+  pub ends : ContentsEnd scope end behind
 
 -- ---- strings (X.690 8.6, 8.7, 8.23)
 
@@ -163,7 +163,7 @@ CloseFault x to f = AheadFault x to.place to.rest f ⊎ ((o : Opened) × (s : Sp
 abbrev pub OneFault : (Bool → ℕ → Value → List ℕ → Type 0) → Wrong → WrongIn
 OneFault P W x b f =
     AheadFault x b.place b.rest f
-    ⊎ (((behind : Spot) × Ends x b behind × IsAt b.place Missing f)
+    ⊎ (((behind : Spot) × ContentsEnd x b behind × IsAt b.place Missing f)
     ⊎ (((o : Opened) × (s : Spot) × Begins x b o s × W x o s f)
     ⊎ ((v : Value) × (to : Spot) × Stands P x b v to × CloseFault x to f)))
 
@@ -175,7 +175,7 @@ ExplicitFault tag P W = ConstructedFault tag (OneFault P W)
 -- contents end here, or go on with a value that isn't of this part
 abbrev pub IsNoPart : (ℕ → Class → ℕ → Bool) → Part → Scope → Spot → Type 0
 IsNoPart begins p scope at =
-    ((behind : Spot) × Ends scope at behind)
+    ((behind : Spot) × ContentsEnd scope at behind)
     ⊎ ((o : Opened) × (s : Spot) × Begins scope at o s × (begins p.inner.0 o.class o.number ≡ false))
 
 -- The parts in the order of the notation: each is right or may be absent, up to the field that has the fault.

@@ -8,7 +8,7 @@ use Rattle.asn1_types.specs.declared.row.TypeRow.{TypeRow}
 use Rattle.asn1_types.specs.declared.row.TypeRow.TheVariants as row
 use Rattle.asn1_types.specs.declared.row.Tag as tags
 use Rattle.asn1_types.specs.Rows.{is_no_tag, text_number}
-use Rattle.asn1_types.specs.Table.{IsSound, is_bad_range}
+use Rattle.asn1_types.specs.Table.{AreSoundRows, is_bad_range}
 use Rattle.asn1_types.specs.Tags.{tag_or}
 use Rattle.asn1_types.specs.Limits.{most_levels}
 use Rattle.asn1_types.specs.Value.{Value, boolean, integer, null, octets, bits, object_id, text, parts, list, chosen, any, MaybeValues, no_parts, absent, present}
@@ -254,7 +254,7 @@ module _ (spell : ℕ → Value → List ℕ) (rel : ℕ → Spelled) (each : (m
   row_value (row.Tagged class number false of) good t strict levels v s ok p = (each of.0).is (under (Some (tag_or t.tag class number)) t.default) strict levels v s (tag_ok t.tag class number ok good) p
   row_value row.Any good t strict levels v s ok p = or_value (λ b. AnyIs) strict any_value t.tag levels v s ok p
 
-module _ (rows : List TypeRow) (sound : IsSound rows) where
+module _ (rows : List TypeRow) (sound : AreSoundRows rows) where
   pub all_whole : (turns n : ℕ) → AreWhole (SpelledBy rows turns n)
   all_whole zero n = record { is = λ t strict levels v s ok p. absurd p }
   all_whole (suc turns) n = record { is = by_row (slice_get rows n) refl (λ m. all_whole turns m) }

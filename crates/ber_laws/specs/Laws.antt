@@ -2,7 +2,7 @@
 use Rattle.std.specs.Prelude.{◌≡◌, ℕ, ◌-◌, ◌<◌, Bool, true, false, List, length, slice_index}
 use Rattle.asn1_types.specs.declared.row.TypeRow.{TypeRow}
 use Rattle.asn1_types.specs.Fits.{are_bits}
-use Rattle.asn1_types.specs.Table.{IsSound}
+use Rattle.asn1_types.specs.Table.{AreSoundRows}
 use Rattle.asn1_types.specs.Value.{Value}
 use Rattle.ber_spelling.specs.Laws.{HoldsUnused}
 use Rattle.ber_spelling.specs.Spelling.{Spells}
@@ -10,7 +10,7 @@ use Rattle.ber_laws.specs.Values.{IsValue, HasBits}
 
 -- what spells a value is one whole value of any type
 abbrev pub SpelledIsValue : Type 0
-SpelledIsValue = (rows : List TypeRow) (n : ℕ) (strict : Bool) (limit : ℕ) (v : Value) (spelled : List ℕ) → IsSound rows
+SpelledIsValue = (rows : List TypeRow) (n : ℕ) (strict : Bool) (limit : ℕ) (v : Value) (spelled : List ℕ) → AreSoundRows rows
     → Spells rows n strict limit v spelled → IsValue spelled
 
 -- In BER the unused bits of a BIT STRING that stands anywhere in a value may have any values, and the octets spell the value

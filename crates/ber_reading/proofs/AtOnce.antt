@@ -10,7 +10,7 @@ use Rattle.asn1_types.specs.declared.row.Part.{Part}
 use Rattle.asn1_types.specs.declared.row.TypeRow.{TypeRow}
 use Rattle.asn1_types.specs.declared.row.TypeRow.TheVariants.{Integer, Choice}
 use Rattle.asn1_types.specs.Rows.{rows_of_parts, begins, Opening, openings, openings_by, allows, tag, is_no_tag}
-use Rattle.asn1_types.specs.Table.{IsSound}
+use Rattle.asn1_types.specs.Table.{AreSoundRows}
 use Rattle.asn1_types.specs.Value.{Value, integer, chosen}
 use Rattle.asn1_types.proofs.Sound.{openings_at}
 use Rattle.asn1_types.specs.Defaults.{may_be_absent, is_default, kept}
@@ -28,7 +28,7 @@ use Rattle.ber_reading.specs.Parts.{part_from}
 use Rattle.ber_reading.proofs.Rows.{reads_at}
 
 -- what values of a row begin with, by its rule
-pub begins_by : (rows : List TypeRow) → IsSound rows → (n : ℕ) (row : TypeRow) → slice_get rows n ≡ Some row → (class : Class) (number : ℕ)
+pub begins_by : (rows : List TypeRow) → AreSoundRows rows → (n : ℕ) (row : TypeRow) → slice_get rows n ≡ Some row → (class : Class) (number : ℕ)
     → begins rows n class number ≡ (not (is_no_tag class number) && list_any (allows class number) (openings_by (openings rows) row))
 begins_by rows sound n row at class number = ap (λ os. not (is_no_tag class number) && list_any (allows class number) os) (openings_at rows sound n row at)
 
@@ -116,7 +116,7 @@ pub no_choice : (default : Option ℤ) (which : ℕ) (v : Value) → is_default 
 no_choice None which v = refl
 no_choice (Some d) which v = refl
 
-module _ (rows : List TypeRow) (sound : IsSound rows) (n : ℕ) (low high z : ℤ) (at : slice_get rows n ≡ Some (Integer low high)) (scope : Scope) (s next : Spot)
+module _ (rows : List TypeRow) (sound : AreSoundRows rows) (n : ℕ) (low high z : ℤ) (at : slice_get rows n ≡ Some (Integer low high)) (scope : Scope) (s next : Spot)
     (looked : look_at scope s.place s.rest ≡ Ok (begun (integer_opened s) (behind s))) (gives : primitive_at (integer_rule low high) always integer_tag scope (integer_opened s) (behind s) ≡ Ok (integer z, next)) where
   opens : openings rows n ≡ tag Universal 2 ∷ []
   opens = openings_at rows sound n (Integer low high) at
@@ -150,7 +150,7 @@ pub lower : (ps : List Part) (n k : ℕ) → n ≤ k → AllByRecursion (λ m. m
 lower [] n k le h = tt
 lower (p ∷ ps) n k le h = let lt : p.inner.0 < n = h.0 in (omega arith, lower ps n k le h.1)
 
-module _ (rows : List TypeRow) (sound : IsSound rows) (low high : ℤ) (alternatives : List Part) (first : Part) (some : 1 ≤ length alternatives) (is_first : first ≡ get_or alternatives 0 first)
+module _ (rows : List TypeRow) (sound : AreSoundRows rows) (low high : ℤ) (alternatives : List Part) (first : Part) (some : 1 ≤ length alternatives) (is_first : first ≡ get_or alternatives 0 first)
     (at : slice_get rows first.inner.0 ≡ Some (Integer low high)) (scope : Scope) (s : Spot) where
   chosen_by : (ps : List Part) → 1 ≤ length ps → first ≡ get_or ps 0 first → (z : ℤ) (next : Spot) → look_at scope s.place s.rest ≡ Ok (begun (integer_opened s) (behind s))
       → primitive_at (integer_rule low high) always integer_tag scope (integer_opened s) (behind s) ≡ Ok (integer z, next)
@@ -184,7 +184,7 @@ first_allows rows (p ∷ ps) scope o s v next which e = by_test (begins rows p.i
   by_test false is more e = list_any-append allowed (openings rows p.inner.0) (flat_map (λ (p : Part). openings rows p.inner.0) ps) ∙ rw (more e) (or_always (list_any allowed (openings rows p.inner.0)))
 
 -- a part that is a CHOICE
-pub choice_part : (rows : List TypeRow) → IsSound rows → (p : Part) (ps : List Part) → slice_get rows p.inner.0 ≡ Some (Choice ps) → (scope : Scope) (s : Spot) (v : Value) (next : Spot)
+pub choice_part : (rows : List TypeRow) → AreSoundRows rows → (p : Part) (ps : List Part) → slice_get rows p.inner.0 ≡ Some (Choice ps) → (scope : Scope) (s : Spot) (v : Value) (next : Spot)
     → look_at scope s.place s.rest ≡ Ok (begun (integer_opened s) (behind s)) → choice_at (begins rows) (reads rows) 0 ps scope (integer_opened s) (behind s) ≡ Ok (v, next)
     → is_default p.default v ≡ false → part_from (begins rows) (reads rows p.inner.0) p scope s ≡ Ok (Some v, next)
 unfolding part_from

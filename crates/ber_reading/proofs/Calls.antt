@@ -2,7 +2,7 @@
 use Rattle.std.proofs.Common.{◌≡◌, ℕ, ◌≤◌, Bool, List, length, take, drop, Result, Ok, Err, refl, sym, ap, ◌∙◌, subst, arith, IfOk}
 use Rattle.std.proofs.lemmas.List.{take-append-drop, length-take}
 use Rattle.asn1_types.specs.declared.row.TypeRow.{TypeRow}
-use Rattle.asn1_types.specs.Table.{IsSound}
+use Rattle.asn1_types.specs.Table.{AreSoundRows}
 use Rattle.asn1_types.specs.Value.{Value}
 use Rattle.ber_spelling.specs.declared.fault.ReadFault.{ReadFault}
 use Rattle.ber_spelling.specs.declared.fault.ReadFault.TheVariants as faults
@@ -31,7 +31,7 @@ is_read v used (Err (faults.TooDeep place)) e = absurd cc
 is_read v used (Err (faults.TooLong place)) e = absurd cc
 is_read v used (Err faults.NoMemory) e = refl
 
-pub is_only : (rows : List TypeRow) (n : ℕ) (strict : Bool) (limit : ℕ) (bytes : List ℕ) (result : Result Read ReadFault) → IsSound rows
+pub is_only : (rows : List TypeRow) (n : ℕ) (strict : Bool) (limit : ℕ) (bytes : List ℕ) (result : Result Read ReadFault) → AreSoundRows rows
     → Gives (λ r. (r.value, r.used)) result (read_at rows n strict limit bytes) → (v : Value) (k : ℕ) → k ≤ length bytes → Spells rows n strict limit v (take k bytes) → IsRead result v k
 is_only rows n strict limit bytes result sound e v k le p =
     let read = spelled_is_read rows n strict limit v (take k bytes) (drop k bytes) sound p in

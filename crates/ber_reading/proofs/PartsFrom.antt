@@ -11,10 +11,10 @@ use Rattle.asn1_types.specs.Defaults.{may_be_absent, kept}
 use Rattle.ber_spelling.specs.declared.fault.ReadFault.{ReadFault}
 use Rattle.ber_spelling.specs.declared.spot.Scope.{Scope}
 use Rattle.asn1_types.specs.declared.row.Tag as tags
-use Rattle.ber_spelling.specs.Reading.{Spot, Opened, Ahead, ended, begun, Reading, ◌>>=◌, Fails, refuse}
+use Rattle.ber_spelling.specs.Reading.{Spot, Opened, Ahead, ended, begun, Reading, ◌>>=◌, FailsWith, refuse}
 use Rattle.ber_spelling.specs.Fields.{look_at, extent_at}
 use Rattle.ber_spelling.specs.Rules.{Reader, part_at, parts_at, present_at, last_of, close_at, expect_at, sequence_at, bare}
-use Rattle.ber_spelling.proofs.Steps.{Fails-bind, Fails-same}
+use Rattle.ber_spelling.proofs.Steps.{FailsWith-bind, FailsWith-same}
 use Rattle.ber_reading.specs.Parts.{taken_at, absent_at, found_at, part_from, parts_from, parts_behind}
 
 abbrev Parts : Type 0
@@ -81,8 +81,8 @@ module _ (begins : ℕ → Class → ℕ → Bool) (inner : ℕ → Reader) (sco
   unfolding parts_from part_from
   part_goes p ps s = looks_goes p ps s (look_at scope s.place s.rest) refl
 
-behind_fails : (e : ReadFault) (front : List (Option Value)) (read : Parts) → Fails e read → Fails e (parts_behind front read)
-behind_fails e front read h = Fails-bind e read _ h
+behind_fails : (e : ReadFault) (front : List (Option Value)) (read : Parts) → FailsWith e read → FailsWith e (parts_behind front read)
+behind_fails e front read h = FailsWith-bind e read _ h
 
 regroup : (front : List (Option Value)) (o : Option Value) (read : Parts) → parts_behind front (read >>= cons o) ≡ parts_behind (front ++ o ∷ []) read
 regroup front o (Ok x) = ap (λ (os : List (Option Value)). Ok (os, x.1)) (simp append_assoc)
@@ -92,10 +92,10 @@ module _ (begins : ℕ → Class → ℕ → Bool) (inner : ℕ → Reader) (sco
   cell : drop i ps ≡ p ∷ drop (i + 1) ps
   cell = rw (add-one, drop-cons ps i p lt, ← at) refl
 
-  pub part_fails : (e : ReadFault) → Fails e (part_from begins (inner p.inner.0) p scope s) → Fails e total
+  pub part_fails : (e : ReadFault) → FailsWith e (part_from begins (inner p.inner.0) p scope s) → FailsWith e total
   part_fails e h =
-      let now : Fails e (parts_from begins inner scope s (drop i ps)) = rw (cell, part_goes begins inner scope p (drop (i + 1) ps) s) (Fails-bind e (part_from begins (inner p.inner.0) p scope s) _ h) in
-      Fails-same e _ total so_far (behind_fails e front _ now)
+      let now : FailsWith e (parts_from begins inner scope s (drop i ps)) = rw (cell, part_goes begins inner scope p (drop (i + 1) ps) s) (FailsWith-bind e (part_from begins (inner p.inner.0) p scope s) _ h) in
+      FailsWith-same e _ total so_far (behind_fails e front _ now)
 
   pub part_goes_on : (o : Option Value) (next : Spot) → part_from begins (inner p.inner.0) p scope s ≡ Ok (o, next)
       → parts_behind (front ++ o ∷ []) (parts_from begins inner scope next (drop (i + 1) ps)) ≡ total
@@ -117,10 +117,10 @@ module _ (begins : ℕ → Class → ℕ → Bool) (inner : ℕ → Reader) (sco
   unfolding parts_from parts_at close_at
   parts_end = rw (drop_all i ps past) (closes (look_at scope s.place s.rest))
 
-  pub end_fails : (e : ReadFault) → Fails e (close_at scope s) → Fails e total
+  pub end_fails : (e : ReadFault) → FailsWith e (close_at scope s) → FailsWith e total
   end_fails e h =
-      let now : Fails e (parts_from begins inner scope s (drop i ps)) = rw parts_end (Fails-bind e (close_at scope s) _ h) in
-      Fails-same e _ total so_far (behind_fails e front _ now)
+      let now : FailsWith e (parts_from begins inner scope s (drop i ps)) = rw parts_end (FailsWith-bind e (close_at scope s) _ h) in
+      FailsWith-same e _ total so_far (behind_fails e front _ now)
 
   pub end_gives : (after : Spot) → close_at scope s ≡ Ok after → total ≡ Ok (front, after)
   end_gives after closed =
@@ -139,8 +139,8 @@ module _ (begins : ℕ → Class → ℕ → Bool) (inner : ℕ → Reader) (ps 
   unfolding sequence_at parts_from
   sequence_from = rw (expected, extent) (looked_first (look_at inside m.place m.rest))
 
-  pub sequence_fails : (e : ReadFault) → Fails e (parts_from begins inner inside m ps) → Fails e (sequence_at begins inner ps tag scope o s)
-  sequence_fails e h = rw sequence_from (Fails-bind e (parts_from begins inner inside m ps) _ h)
+  pub sequence_fails : (e : ReadFault) → FailsWith e (parts_from begins inner inside m ps) → FailsWith e (sequence_at begins inner ps tag scope o s)
+  sequence_fails e h = rw sequence_from (FailsWith-bind e (parts_from begins inner inside m ps) _ h)
 
   pub sequence_gives : (found : List (Option Value)) (after : Spot) → parts_from begins inner inside m ps ≡ Ok (found, after) → sequence_at begins inner ps tag scope o s ≡ Ok (parts (parts_of found), after)
   sequence_gives found after h = sequence_from ∙ rw h refl

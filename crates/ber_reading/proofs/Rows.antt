@@ -7,7 +7,7 @@ use Rattle.asn1_types.specs.declared.row.Part.{Part}
 use Rattle.asn1_types.specs.declared.row.TypeRow.{TypeRow}
 use Rattle.asn1_types.specs.declared.row.TypeRow.TheVariants.{Boolean, Integer, Enumerated, Null, OctetString, BitString, ObjectId, Text, Sequence, Set, SequenceOf, SetOf, Choice, Tagged, Any}
 use Rattle.asn1_types.specs.Rows.{names_of, rows_of_parts, begins}
-use Rattle.asn1_types.specs.Table.{IsSound}
+use Rattle.asn1_types.specs.Table.{AreSoundRows}
 use Rattle.asn1_types.proofs.Along.{settled}
 use Rattle.asn1_types.proofs.Sound.{is_down}
 use Rattle.ber_spelling.specs.declared.spot.Scope.{Scope}
@@ -61,6 +61,6 @@ module _ (begins : ℕ → Class → ℕ → Bool) (f g : ℕ → Reader) where
   read_cong spell Any h = refl
 
 -- what a row is read as, by its rule
-pub reads_at : (rows : List TypeRow) → IsSound rows → (n : ℕ) (row : TypeRow) → slice_get rows n ≡ Some row → reads rows n ≡ read_by (begins rows) (written rows) (reads rows) row
+pub reads_at : (rows : List TypeRow) → AreSoundRows rows → (n : ℕ) (row : TypeRow) → slice_get rows n ≡ Some row → reads rows n ≡ read_by (begins rows) (written rows) (reads rows) row
 unfolding reads
 reads_at rows sound n row e = settled dead (read_by (begins rows) (written rows)) (λ r f g h. read_cong (begins rows) f g (written rows) r h) rows (is_down rows sound) n row e

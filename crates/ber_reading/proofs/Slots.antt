@@ -12,11 +12,11 @@ use Rattle.asn1_types.specs.ValueView.{parts_of}
 use Rattle.ber_spelling.specs.declared.fault.ReadFault.{ReadFault}
 use Rattle.ber_spelling.specs.declared.fault.ReadFault.TheVariants as faults
 use Rattle.ber_spelling.specs.declared.spot.Scope.{Scope}
-use Rattle.ber_spelling.specs.Reading.{Spot, Opened, Reading, ◌>>=◌, ended, refuse, Fails}
+use Rattle.ber_spelling.specs.Reading.{Spot, Opened, Reading, ◌>>=◌, ended, refuse, FailsWith}
 use Rattle.ber_spelling.specs.Fields.{look_at}
 use Rattle.ber_spelling.specs.Order.{Filled}
 use Rattle.ber_spelling.specs.Rules.{Reader, items_at, no_parts_of, stands, is_filled, set_done, is_free, ordered_at, filled_by, fill_at, slot_at, bare, kept_of, settled, late_at, late_kind, alone, cut_behind}
-use Rattle.ber_spelling.proofs.Steps.{Fails-bind, Fails-same}
+use Rattle.ber_spelling.proofs.Steps.{FailsWith-bind, FailsWith-same}
 use Rattle.ber_spelling.proofs.Turns.{turn_is}
 
 none_next : (ps : List Part) (i : ℕ) → i < length ps → no_parts_of (drop i ps) ≡ None ∷ no_parts_of (drop (suc i) ps)
@@ -97,11 +97,11 @@ module _ (begins : ℕ → Class → ℕ → Bool) (inner : ℕ → Reader) wher
 
   pub slot_fails : (f : ReadFault) (ps : List Part) (which : ℕ) (p : Part) (w : Option Value) (before : Filled) (scope : Scope) (o : Opened) (s : Spot) (total : Reading (Filled × Spot)) → which < length ps → p ≡ get_or ps which p → begins p.inner.0 o.class o.number ≡ true
       → which < length before.found → w ≡ get_or before.found which w → is_free (Some w) ≡ true
-      → slot_at begins inner which (drop which ps) before scope o s ≡ total → Fails f (ordered_at (inner p.inner.0 (bare p.default)) before.least scope o s) → Fails f total
+      → slot_at begins inner which (drop which ps) before scope o s ≡ total → FailsWith f (ordered_at (inner p.inner.0 (bare p.default)) before.least scope o s) → FailsWith f total
   slot_fails f ps which p w before scope o s total lt e b more d free so_far h =
       let slot : slice_get before.found which ≡ Some w = slot_is before.found which w more d in
       let one : (ordered_at (inner p.inner.0 (bare p.default)) before.least scope o s >>= λ v. Ok (filled_by which o before v.0, v.1)) ≡ total = rw (← so_far) (sym (at_slot ps which which p before scope o s lt e b ∙ rw (slot, free) refl)) in
-      Fails-same f _ total one (Fails-bind f (ordered_at (inner p.inner.0 (bare p.default)) before.least scope o s) _ h)
+      FailsWith-same f _ total one (FailsWith-bind f (ordered_at (inner p.inner.0 (bare p.default)) before.least scope o s) _ h)
 
   pub slot_gives : (ps : List Part) (which : ℕ) (p : Part) (w : Option Value) (before : Filled) (scope : Scope) (o : Opened) (s : Spot) (v : Value) (to : Spot) (total : Reading (Filled × Spot)) → which < length ps → p ≡ get_or ps which p → begins p.inner.0 o.class o.number ≡ true
       → which < length before.found → w ≡ get_or before.found which w → is_free (Some w) ≡ true
@@ -141,7 +141,7 @@ pub settle_end : (ps : List Part) (vs : List (Option Value)) (i : ℕ) (total : 
 settle_end ps vs i total past same h = sym (rw (drop_all i ps past, take_all i vs (omega arith), append-nil vs) refl) ∙ h
 
 -- a part that comes twice fails as its identifier alone does
-pub late_fails : (e : ReadFault) (run : Scope → Opened → Spot → Reading (Value × Spot)) (kind : Kind) (scope : Scope) (o : Opened) (s : Spot) (total : Reading (Filled × Spot)) → total ≡ late_at kind run scope o s → Fails e (late_at {A = Unit {0}} kind run scope o s) → Fails e total
+pub late_fails : (e : ReadFault) (run : Scope → Opened → Spot → Reading (Value × Spot)) (kind : Kind) (scope : Scope) (o : Opened) (s : Spot) (total : Reading (Filled × Spot)) → total ≡ late_at kind run scope o s → FailsWith e (late_at {A = Unit {0}} kind run scope o s) → FailsWith e total
 late_fails (faults.NotSpelled place k) run kind scope o s total same h = same ∙ moved h
   where
     moved : late_at {A = Unit {0}} kind run scope o s ≡ Err (faults.NotSpelled place k) → late_at {A = Filled × Spot} kind run scope o s ≡ Err (faults.NotSpelled place k)

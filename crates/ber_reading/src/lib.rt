@@ -1,11 +1,11 @@
 //! Reading values of the types of `asn1_types` from BER and DER (X.690).
 #![tactic(auto)]
 
-mod at_once;
 mod contents;
 mod parts;
 mod public;
 mod read;
+mod short_parts;
 
 pub use ber_spelling::ReadFault;
 pub use public::{LIMIT, Read, ber_read, ber_read_within, der_read};

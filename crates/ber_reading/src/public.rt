@@ -10,8 +10,8 @@ ghost use Rattle.ber_spelling.specs.Rules.{plain, outermost, reads, sequence_at,
 ghost use Rattle.ber_spelling.specs.Spelling.{Spells};
 ghost use Rattle.ber_reading.specs.Calls.{IsRead, GivesRead};
 
-use crate::at_once::first_identifier;
 use crate::read::{sequence, value};
+use crate::short_parts::first_identifier;
 use asn1_types::{Class, Parts, TypeId, TypeRow, TypeTable, Val};
 use ber_spelling::{Opened, ReadFault, Scope, Spot, Tag, identifier};
 use std::alloc::Global;

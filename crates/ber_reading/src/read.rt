@@ -4,19 +4,19 @@ ghost use Rattle.std.specs.Prelude.{◌≡◌, false, true, ◌++◌, ◌∷◌,
 ghost use Rattle.std.specs.List.{AllByRecursion};
 ghost use Rattle.asn1_types.specs.Rows.{begins, rows_of_parts};
 ghost use Rattle.asn1_types.specs.Defaults.{kept};
-ghost use Rattle.asn1_types.specs.Table.{IsSound};
+ghost use Rattle.asn1_types.specs.Table.{AreSoundRows};
 ghost use Rattle.asn1_types.specs.Value as tree;
 ghost use Rattle.asn1_types.specs.Writing.{written};
 ghost use Rattle.asn1_types.specs.Rising.{sorted};
 ghost use Rattle.asn1_types.specs.ValueView.{values_of, parts_of};
 ghost use Rattle.asn1_types.specs.Tags.{rank};
-ghost use Rattle.ber_spelling.specs.Reading.{begun, Opens, Gives, Fails, spot_of, opened_of, GoesOn};
+ghost use Rattle.ber_spelling.specs.Reading.{begun, Opens, Gives, FailsWith, spot_of, opened_of, GoesOn};
 ghost use Rattle.ber_spelling.specs.Rules.{all_items_at, list_item_at, list_done, list_at, set_item_at, set_of_done, set_of_at, sequence_at, choice_at, explicit_at, read_by, reads, no_parts_of, nothing_filled, is_free, is_filled, set_done, bare, under, late_at, ordered_at, slot_at, set_at};
 ghost use Rattle.ber_reading.specs.Parts.{found_at, part_from, parts_from};
 
-use crate::at_once::{integer_ahead, parts_at_once, reach};
 use crate::contents::{any, close, open, tagged_any};
 use crate::parts::{absent, is_filled, is_free, kept, none_of, settle};
+use crate::short_parts::{integer_ahead, parts_at_once, reach};
 use asn1_types::{
     Class, MaybeVals, Node, Part, Parts, TypeId, TypeRow, TypeTable, Val, Vals, begins, text_number,
 };
@@ -67,7 +67,7 @@ fn value_as<'a>(
     spot: Spot<'a>,
 ) -> Result<(Val, Spot<'a>), ReadFault>
     requires row { slice_get table.now of.0 ≡ Some row.now }
-    requires sound { IsSound table.now }
+    requires sound { AreSoundRows table.now }
     requires whole { spot.place + length spot.rest.now < 2 ^ 63 }
     requires start { GoesOn opened.now.start.place (length opened.now.start.rest.now) spot }
     ensures gives { Gives (λ x. (x.0, spot_of x.1)) result
@@ -731,7 +731,7 @@ fn late<'a>(
     requires below { part.now.inner.0 < of.0 }
     requires row { of.0 ≤ length table.now }
     requires whole { spot.place + length spot.rest.now < 2 ^ 63 }
-    ensures { Fails result (late_at {A = Unit {0}} kind
+    ensures { FailsWith result (late_at {A = Unit {0}} kind
         (reads table.now part.now.inner.0 (bare part.now.default)) scope.now (opened_of opened.now)
         (spot_of spot.entry)) }
 {

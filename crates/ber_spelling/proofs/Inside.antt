@@ -10,8 +10,8 @@ use Rattle.ber_spelling.specs.Fields.{digits_at, is_lax, high_at, identifier_at,
 use Rattle.asn1_types.specs.Tags.{capped}
 
 -- the octets from a spot on end here
-abbrev pub Ends : ℕ → Spot → Type 0
-Ends end s = s.place + length s.rest ≡ end
+abbrev pub EndsAt : ℕ → Spot → Type 0
+EndsAt end s = s.place + length s.rest ≡ end
 
 -- A fault has a place inside the octets, or they are too short; no other comes.
 abbrev pub Inside : {A : Type 0} → (A → Type 0) → ℕ → Reading A → Type 0
@@ -38,7 +38,7 @@ abbrev pub nowhere : Unit {0} → Type 0
 nowhere u = Unit {0}
 
 abbrev pub second : {A : Type 0} → ℕ → A × Spot → Type 0
-second end x = Ends end x.1
+second end x = EndsAt end x.1
 
 pub within_inside : (scope : Scope) (place until end : ℕ) → place ≤ end → Inside nowhere end (within scope place until)
 unfolding within
@@ -65,7 +65,7 @@ digits_inside scope place number from (d ∷ ds) end le e =
     (Inside-cond (second end) end (nat_lt d 128) _ _ (λ t. omega arith) (λ t. digits_inside scope place (capped (128 * number + (d - 128))) (from + 1) ds end le (omega arith)))
 
 abbrev pub Begun : ℕ → Opened × Spot → Type 0
-Begun end x = (x.0.start.place ≤ end) × Ends end x.1
+Begun end x = (x.0.start.place ≤ end) × EndsAt end x.1
 
 high_inside : (scope : Scope) (place first : ℕ) (rest : List ℕ) (end : ℕ) → place + 1 + length rest ≡ end → Inside (Begun end) end (high_at scope place first rest)
 unfolding high_at
@@ -119,7 +119,7 @@ extent_inside scope place (first ∷ rest) end e =
     (λ t. Inside-bind (second end) (second end) end (definite_at scope place (first ∷ rest)) _ (definite_inside scope place (first ∷ rest) end e) (λ x k. k))
 
 abbrev pub Contained : ℕ → ℕ × List ℕ × Spot → Type 0
-Contained end x = (x.0 ≤ end) × Ends end x.2
+Contained end x = (x.0 ≤ end) × EndsAt end x.2
 
 pub contents_inside : (scope : Scope) (place : ℕ) (rest : List ℕ) (end : ℕ) → place + length rest ≡ end → Inside (Contained end) end (contents_at scope place rest)
 unfolding contents_at
@@ -132,7 +132,7 @@ contents_inside scope place rest end e =
 -- ---- the ends of contents
 
 abbrev pub Looked : ℕ → Ahead → Type 0
-Looked end (ended place after) = (place ≤ end) × Ends end after
+Looked end (ended place after) = (place ≤ end) × EndsAt end after
 Looked end (begun o s) = Begun end (o, s)
 
 begin_inside : (scope : Scope) (place : ℕ) (rest : List ℕ) (end : ℕ) → place + length rest ≡ end → Inside (Looked end) end (begin_at scope place rest)

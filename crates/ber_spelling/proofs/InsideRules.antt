@@ -23,14 +23,14 @@ use Rattle.ber_spelling.specs.Fields.{extent_at, contents_at, look_at}
 use Rattle.ber_spelling.specs.Rules.{Reader, is_opened, expect_at, judge, form_at, primitive_at, always, boolean_rule, is_strict_boolean, integer_rule, enumerated_rule, null_rule, object_id_rule, constructed_at, finish, item_at, items_at, all_items_at, segment_tag, nothing, segment_rule, segment_at, segmented_at, string_rule, string_at, whole_octets, whole_text, whole_bits, has_zero_bits, list_item_at, list_done, list_at, first_of, last_of, open_at, close_at, explicit_at, present_at, part_at, parts_at, sequence_at, nothing_filled, set_done, ordered_at, is_free, fill_at, slot_at, choice_at, anew, sized_at, marked_at, whole_at, any_at, dead, or_explicit, read_by, Guise, bare, plain, under, is_other, set_item_at, set_of_done, set_of_at}
 use Rattle.ber_spelling.proofs.Steady.{Run, RunOf}
 use Rattle.ber_spelling.proofs.Constructed.{BodyOf}
-use Rattle.ber_spelling.proofs.Inside.{Ends, Inside, Inside-bind, Inside-cond, nowhere, second, Begun, Contained, Looked, extent_inside, contents_inside, look_inside}
+use Rattle.ber_spelling.proofs.Inside.{EndsAt, Inside, Inside-bind, Inside-cond, nowhere, second, Begun, Contained, Looked, extent_inside, contents_inside, look_inside}
 use Rattle.asn1_types.specs.Writing.{written}
 
 pub record InsideRun {A : Type 0} (run : RunOf A) : Type 0 where
-  pub each : (end : ℕ) (scope : Scope) (o : Opened) (s : Spot) → o.start.place ≤ end → Ends end s → Inside (second end) end (run scope o s)
+  pub each : (end : ℕ) (scope : Scope) (o : Opened) (s : Spot) → o.start.place ≤ end → EndsAt end s → Inside (second end) end (run scope o s)
 
 pub record InsideBody {A : Type 0} (body : BodyOf A) : Type 0 where
-  pub each : (end : ℕ) (scope : Scope) (s : Spot) → Ends end s → Inside (second end) end (body scope s)
+  pub each : (end : ℕ) (scope : Scope) (s : Spot) → EndsAt end s → Inside (second end) end (body scope s)
 
 expect_inside : (tag : tags.Tag) (constructed : Bool) (o : Opened) (end : ℕ) → o.start.place ≤ end → Inside nowhere end (expect_at tag constructed o)
 expect_inside tag constructed o end le = Inside-cond nowhere end (is_opened tag constructed o) _ _ (λ t. tt) (λ t. le)
@@ -74,13 +74,13 @@ module _ {S T : Type 0} (step : S → Scope → Opened → Spot → Reading (S �
   finish_inside place None end le = le
   finish_inside place (Some x) end le = tt
 
-  item_inside : (end : ℕ) (more : S → Spot → Reading (T × Spot)) → ((next : S) (s : Spot) → Ends end s → Inside (second end) end (more next s)) → (first : S) (scope : Scope) (a : Ahead) → Looked end a → Inside (second end) end (item_at step done more first scope a)
+  item_inside : (end : ℕ) (more : S → Spot → Reading (T × Spot)) → ((next : S) (s : Spot) → EndsAt end s → Inside (second end) end (more next s)) → (first : S) (scope : Scope) (a : Ahead) → Looked end a → Inside (second end) end (item_at step done more first scope a)
   item_inside end more ih first scope (ended place after) k =
       Inside-bind anything (second end) end (finish place (done first)) _ (finish_inside place (done first) end k.0) (λ x u. k.1)
   item_inside end more ih first scope (begun o t) k =
       Inside-bind (second end) (second end) end (step first scope o t) _ ((h first).each end scope o t k.0 k.1) (λ x l. ih x.0 x.1 l)
 
-  items_inside : (turns : ℕ) (first : S) (end : ℕ) (scope : Scope) (s : Spot) → Ends end s → Inside (second end) end (items_at step done turns first scope s)
+  items_inside : (turns : ℕ) (first : S) (end : ℕ) (scope : Scope) (s : Spot) → EndsAt end s → Inside (second end) end (items_at step done turns first scope s)
   unfolding items_at
   items_inside zero first end scope s e = tt
   items_inside (suc turns) first end scope s e =
@@ -144,17 +144,17 @@ set_of_inside spell inner tag h = constructed_inside (all_items_at (set_item_at 
 -- ---- explicit tags
 
 abbrev Open : ℕ → Scope × Opened × Spot → Type 0
-Open end x = (x.1.start.place ≤ end) × Ends end x.2
+Open end x = (x.1.start.place ≤ end) × EndsAt end x.2
 
 first_inside : (a : Ahead) (end : ℕ) → Looked end a → Inside (Begun end) end (first_of a)
 first_inside (ended place after) end k = k.0
 first_inside (begun o s) end k = k
 
-last_inside : (a : Ahead) (end : ℕ) → Looked end a → Inside (Ends end) end (last_of a)
+last_inside : (a : Ahead) (end : ℕ) → Looked end a → Inside (EndsAt end) end (last_of a)
 last_inside (ended place after) end k = k.1
 last_inside (begun o s) end k = k.0
 
-open_inside : (tag : tags.Tag) (scope : Scope) (o : Opened) (s : Spot) (end : ℕ) → o.start.place ≤ end → Ends end s → Inside (Open end) end (open_at tag scope o s)
+open_inside : (tag : tags.Tag) (scope : Scope) (o : Opened) (s : Spot) (end : ℕ) → o.start.place ≤ end → EndsAt end s → Inside (Open end) end (open_at tag scope o s)
 unfolding open_at
 open_inside tag scope o s end le e =
     expected (Open end) tag true o end _ le
@@ -162,9 +162,9 @@ open_inside tag scope o s end le e =
     Inside-bind (Looked end) (Open end) end (look_at x.0 x.1.place x.1.rest) _ (look_inside x.0 x.1.place x.1.rest end k) (λ a l.
     Inside-bind (Begun end) (Open end) end (first_of a) _ (first_inside a end l) (λ f m. m))))
 
-close_inside : (scope : Scope) (s : Spot) (end : ℕ) → Ends end s → Inside (Ends end) end (close_at scope s)
+close_inside : (scope : Scope) (s : Spot) (end : ℕ) → EndsAt end s → Inside (EndsAt end) end (close_at scope s)
 unfolding close_at
-close_inside scope s end e = Inside-bind (Looked end) (Ends end) end (look_at scope s.place s.rest) last_of (look_inside scope s.place s.rest end e) (λ a k. last_inside a end k)
+close_inside scope s end e = Inside-bind (Looked end) (EndsAt end) end (look_at scope s.place s.rest) last_of (look_inside scope s.place s.rest end e) (λ a k. last_inside a end k)
 
 explicit_inside : (run : Run) (tag : tags.Tag) → InsideRun run → InsideRun (explicit_at run tag)
 unfolding explicit_at
@@ -172,7 +172,7 @@ explicit_inside run tag h = record {
   each = λ end scope o s le e.
       Inside-bind (Open end) (second end) end (open_at tag scope o s) _ (open_inside tag scope o s end le e) (λ x k.
       Inside-bind (second end) (second end) end (run x.0 x.1 x.2) _ (h.each end x.0 x.1 x.2 k.0 k.1) (λ v l.
-      Inside-bind (Ends end) (second end) end (close_at x.0 v.1) _ (close_inside x.0 v.1 end l) (λ t m. m)));
+      Inside-bind (EndsAt end) (second end) end (close_at x.0 v.1) _ (close_inside x.0 v.1 end l) (λ t m. m)));
 }
 
 or_inside : (run : Run) (t : Option tags.Tag) → InsideRun run → InsideRun (or_explicit run t)
@@ -200,7 +200,7 @@ module _ (begins : ℕ → Class → ℕ → Bool) (inner : ℕ → Reader) (h :
 
   parts_inside : (ps : List Part) (scope : Scope) (a : Ahead) (end : ℕ) → Looked end a → Inside (second end) end (parts_at begins inner scope a ps)
   unfolding parts_at
-  parts_inside [] scope a end k = Inside-bind (Ends end) (second end) end (last_of a) _ (last_inside a end k) (λ t m. m)
+  parts_inside [] scope a end k = Inside-bind (EndsAt end) (second end) end (last_of a) _ (last_inside a end k) (λ t m. m)
   parts_inside (p ∷ ps) scope a end k =
       Inside-bind (ahead_of end) (second end) end (part_at begins (inner p.inner.0) p scope a) _ (part_inside p scope a end k) (λ x l.
       Inside-bind (second end) (second end) end (parts_at begins inner scope x.1 ps) _ (parts_inside ps scope x.1 end l) (λ y m. m))
@@ -253,10 +253,10 @@ module _ (begins : ℕ → Class → ℕ → Bool) (inner : ℕ → Reader) (h :
 
 -- ---- one whole value of any type
 
-sized_inside : (scope : Scope) (s : Spot) (end : ℕ) → Ends end s → Inside (second end) end (sized_at scope s)
+sized_inside : (scope : Scope) (s : Spot) (end : ℕ) → EndsAt end s → Inside (second end) end (sized_at scope s)
 sized_inside scope s end e = Inside-bind (Contained end) (second end) end (contents_at scope s.place s.rest) _ (contents_inside scope s.place s.rest end e) (λ c k. k.1)
 
-marked_inside : (body : Scope → Spot → Reading (Unit {0} × Spot)) → InsideBody body → (scope : Scope) (s : Spot) (end : ℕ) → Ends end s → Inside (second end) end (marked_at body scope s)
+marked_inside : (body : Scope → Spot → Reading (Unit {0} × Spot)) → InsideBody body → (scope : Scope) (s : Spot) (end : ℕ) → EndsAt end s → Inside (second end) end (marked_at body scope s)
 marked_inside body h scope s end e = Inside-bind (second end) (second end) end (extent_at scope s.place s.rest) _ (extent_inside scope s.place s.rest end e) (λ x k. h.each end x.0 x.1 k)
 
 whole_inside : (depth : ℕ) (before : Unit {0}) → InsideRun (whole_at depth before)

@@ -8,7 +8,7 @@ use Rattle.asn1_types.specs.declared.row.Class.{Class}
 use Rattle.asn1_types.specs.declared.row.TypeRow.{TypeRow}
 use Rattle.asn1_types.specs.declared.row.TypeRow.TheVariants.{Boolean, Integer, Enumerated, Null, OctetString, BitString, ObjectId, Text, Sequence, Set, SequenceOf, SetOf, Choice, Tagged, Any}
 use Rattle.asn1_types.specs.Rows.{names_of}
-use Rattle.asn1_types.specs.Table.{IsSound}
+use Rattle.asn1_types.specs.Table.{AreSoundRows}
 use Rattle.asn1_types.specs.Value.{Value}
 use Rattle.asn1_types.proofs.Sound.{down_as, sound_row}
 use Rattle.asn1_types.specs.declared.row.Tag as tags
@@ -48,14 +48,14 @@ row_at [] n lt = absurd (omega arith)
 row_at (row ∷ rows) zero lt = (row, refl)
 row_at (row ∷ rows) (suc n) lt = row_at rows n (omega arith)
 
-under_by : (rows : List TypeRow) → IsSound rows → (bound n : ℕ) → n < bound → n < length rows → UnderTag (writes rows n)
+under_by : (rows : List TypeRow) → AreSoundRows rows → (bound n : ℕ) → n < bound → n < length rows → UnderTag (writes rows n)
 under_by rows sound zero n lt le = absurd (omega arith)
 under_by rows sound (suc bound) n lt le =
     let r = row_at rows n le in
     let s = sound_row rows sound n r.0 r.1 in
     subst UnderTag (sym (writes_at rows sound n r.0 r.1)) (row_under (writes rows) r.0 (each_lower (λ m. UnderTag (writes rows m)) (names_of r.0) n s.down (λ m l. under_by rows sound bound m (omega arith) (omega arith))))
 
-pub tagged_rank : (rows : List TypeRow) → IsSound rows → (n : ℕ) (row : TypeRow) (class : Class) (number : ℕ) (explicit : Bool) (of : TypeId) (v : Value) → slice_get rows n ≡ Some row → row ≡ Tagged class number explicit of
+pub tagged_rank : (rows : List TypeRow) → AreSoundRows rows → (n : ℕ) (row : TypeRow) (class : Class) (number : ℕ) (explicit : Bool) (of : TypeId) (v : Value) → slice_get rows n ≡ Some row → row ≡ Tagged class number explicit of
     → front_rank (write_by (writes rows) row None v) ≡ rank class number
 tagged_rank rows sound n row class number explicit of v e is =
     let lt = slice_get_within rows n row e in

@@ -14,7 +14,7 @@ use Rattle.asn1_types.specs.declared.row.TypeRow.TheVariants as row
 use Rattle.asn1_types.specs.Rows.{tag, every, of_row, along, begins, openings, is_no_tag, allows, text_number}
 use Rattle.asn1_types.specs.Defaults.{is_default}
 use Rattle.asn1_types.specs.Value.{Value}
-use Rattle.asn1_types.specs.Table.{IsSound}
+use Rattle.asn1_types.specs.Table.{AreSoundRows}
 use Rattle.asn1_types.proofs.Sound.{IsSoundRow, sound_row}
 use Rattle.asn1_types.specs.declared.row.Tag as tags
 use Rattle.asn1_types.specs.Tags.{tag_or}
@@ -194,11 +194,11 @@ module _ (rows : List TypeRow) (n : ℕ) where
       own class number s.opens s.range t.tag _ _ (h of.0 (under (Some (tag_or t.tag class number)) t.default) (tag_ok t.tag class number ok s.range))
   row_only inner rel h heads row.Any s t ok = or_only IsTagged any_at (λ strict. AnyIs) t.tag ok (λ c k a. any_begins s.opens c k a) any_only
 
-  of_only : IsSound rows → (inner : ℕ → Reader) (rel : ℕ → Spelled) → ((m : ℕ) (t : Guise) → OkTag t.tag → Only (Allowed rows m t.tag) (inner m t) (rel m t)) → ((m : ℕ) → AreHeaded (rel m))
+  of_only : AreSoundRows rows → (inner : ℕ → Reader) (rel : ℕ → Spelled) → ((m : ℕ) (t : Guise) → OkTag t.tag → Only (Allowed rows m t.tag) (inner m t) (rel m t)) → ((m : ℕ) → AreHeaded (rel m))
       → (o : Option TypeRow) → slice_get rows n ≡ o → (t : Guise) → OkTag t.tag → Only (Allowed rows n t.tag) (of_row dead (read_by (begins rows) (written rows) inner) o t) (λ strict levels v text. RowOr (RowIs (written rows) rel) o t strict levels v text)
   of_only sound inner rel h heads None e t ok = nothing (Allowed rows n t.tag) (dead t)
   of_only sound inner rel h heads (Some r) e t ok = row_only inner rel h heads r (sound_row rows sound n r e) t ok
 
-pub along_only : (rows : List TypeRow) → IsSound rows → (turns n : ℕ) (t : Guise) → OkTag t.tag → Only (Allowed rows n t.tag) (along dead (read_by (begins rows) (written rows)) rows turns n t) (λ strict levels v text. SpelledBy rows turns n t strict levels v text)
+pub along_only : (rows : List TypeRow) → AreSoundRows rows → (turns n : ℕ) (t : Guise) → OkTag t.tag → Only (Allowed rows n t.tag) (along dead (read_by (begins rows) (written rows)) rows turns n t) (λ strict levels v text. SpelledBy rows turns n t strict levels v text)
 along_only rows sound zero n t ok = nothing (Allowed rows n t.tag) (dead t)
 along_only rows sound (suc turns) n t ok = of_only rows n sound (along dead (read_by (begins rows) (written rows)) rows turns) (SpelledBy rows turns) (λ m u k. along_only rows sound turns m u k) (λ m. along_headed rows turns m) (slice_get rows n) refl t ok

@@ -10,10 +10,10 @@ use Rattle.ber_spelling.specs.declared.spot.Scope.{Scope}
 use Rattle.asn1_types.specs.declared.row.Tag as tags
 use Rattle.ber_spelling.specs.declared.spot.StringKind.{StringKind}
 use Rattle.ber_spelling.specs.declared.spot.Gathered.{Gathered}
-use Rattle.ber_spelling.specs.Reading.{Spot, Opened, ended, begun, Reading, ◌>>=◌, Fails, refuse}
+use Rattle.ber_spelling.specs.Reading.{Spot, Opened, ended, begun, Reading, ◌>>=◌, FailsWith, refuse}
 use Rattle.ber_spelling.specs.Fields.{extent_at, look_at}
 use Rattle.ber_spelling.specs.Rules.{expect_at, judge, form_at, item_at, items_at, all_items_at, constructed_at, primitive_at, always, segment_tag, nothing, segment_rule, segment_at, segmented_at, anew, sized_at, marked_at, whole_at}
-use Rattle.ber_spelling.proofs.Steps.{Fails-bind, Fails-same}
+use Rattle.ber_spelling.proofs.Steps.{FailsWith-bind, FailsWith-same}
 use Rattle.ber_spelling.proofs.Steady.{form_passes}
 
 module _ {S T : Type 0} (step : S → Scope → Opened → Spot → Reading (S × Spot)) (done : S → Option T) where
@@ -24,14 +24,14 @@ module _ {S T : Type 0} (step : S → Scope → Opened → Spot → Reading (S �
   turn_is (suc k) first scope s lt = let less : suc k - 1 ≡ k = omega arith in rw less refl
 
   -- the invariant so far, and what is looked at fails
-  pub look_fails : (e : ReadFault) (k : ℕ) (first : S) (scope : Scope) (s : Spot) (total : Reading (T × Spot)) → 0 < k → items_at step done k first scope s ≡ total → Fails e (look_at scope s.place s.rest) → Fails e total
-  look_fails e k first scope s total lt so_far h = Fails-same e _ total (sym (turn_is k first scope s lt) ∙ so_far) (Fails-bind e (look_at scope s.place s.rest) _ h)
+  pub look_fails : (e : ReadFault) (k : ℕ) (first : S) (scope : Scope) (s : Spot) (total : Reading (T × Spot)) → 0 < k → items_at step done k first scope s ≡ total → FailsWith e (look_at scope s.place s.rest) → FailsWith e total
+  look_fails e k first scope s total lt so_far h = FailsWith-same e _ total (sym (turn_is k first scope s lt) ∙ so_far) (FailsWith-bind e (look_at scope s.place s.rest) _ h)
 
   pub step_fails : (e : ReadFault) (k : ℕ) (first : S) (scope : Scope) (s : Spot) (o : Opened) (t : Spot) (total : Reading (T × Spot)) → 0 < k → items_at step done k first scope s ≡ total → look_at scope s.place s.rest ≡ Ok (begun o t)
-      → Fails e (step first scope o t) → Fails e total
+      → FailsWith e (step first scope o t) → FailsWith e total
   step_fails e k first scope s o t total lt so_far look h =
       let one : items_at step done k first scope s ≡ (step first scope o t >>= λ x. items_at step done (k - 1) x.0 scope x.1) = turn_is k first scope s lt ∙ rw look refl in
-      Fails-same e _ total (sym one ∙ so_far) (Fails-bind e (step first scope o t) _ h)
+      FailsWith-same e _ total (sym one ∙ so_far) (FailsWith-bind e (step first scope o t) _ h)
 
   pub step_goes : (k : ℕ) (first next : S) (scope : Scope) (s : Spot) (o : Opened) (t after : Spot) (total : Reading (T × Spot)) → 0 < k → items_at step done k first scope s ≡ total → look_at scope s.place s.rest ≡ Ok (begun o t)
       → step first scope o t ≡ Ok (next, after) → items_at step done (k - 1) next scope after ≡ total

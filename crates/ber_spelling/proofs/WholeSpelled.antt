@@ -9,7 +9,7 @@ use Rattle.asn1_types.specs.declared.row.Part.{Part}
 use Rattle.asn1_types.specs.declared.row.TypeRow.{TypeRow}
 use Rattle.asn1_types.specs.declared.row.TypeRow.TheVariants as row
 use Rattle.asn1_types.specs.Rows.{is_no_tag, text_number}
-use Rattle.asn1_types.specs.Table.{IsSound, is_bad_range}
+use Rattle.asn1_types.specs.Table.{AreSoundRows, is_bad_range}
 use Rattle.asn1_types.specs.Value.{Value, boolean, integer, null, octets, bits, object_id, text, parts, list, chosen, any}
 use Rattle.asn1_types.specs.Whole.{number_256, behind_digits, behind_high, behind_identifier, behind_octets, behind_counted, behind_sized, is_constructed as is_formed, is_ended, behind_values, behind_whole, is_nothing, is_whole}
 use Rattle.asn1_types.specs.Fits.{has_form}
@@ -263,7 +263,7 @@ module _ (spell : ℕ → Value → List ℕ) (rel : ℕ → Spelled) (each : (m
   row_whole (row.Tagged class number false of) good t levels v s ok p = (each of.0).is (under (Some (tag_or t.tag class number)) t.default) levels v s (tag_ok t.tag class number ok good) p
   row_whole row.Any good t levels v s ok p = explicit_whole (λ strict. AnyIs) any_whole t.tag levels v s ok p
 
-module _ (rows : List TypeRow) (sound : IsSound rows) where
+module _ (rows : List TypeRow) (sound : AreSoundRows rows) where
   all_whole : (turns n : ℕ) → AreWhole (SpelledBy rows turns n)
   all_whole zero n = record { is = λ t levels v s ok p. absurd p }
   all_whole (suc turns) n = record { is = by_row (slice_get rows n) refl (λ m. all_whole turns m) }

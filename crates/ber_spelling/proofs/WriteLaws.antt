@@ -9,7 +9,7 @@ use Rattle.asn1_types.specs.declared.row.Part.{Part}
 use Rattle.asn1_types.specs.declared.row.TypeRow.{TypeRow}
 use Rattle.asn1_types.specs.declared.row.TypeRow.TheVariants.{Boolean, Integer, Enumerated, Null, OctetString, BitString, ObjectId, Text, Sequence, Set, SequenceOf, SetOf, Choice, Tagged, Any}
 use Rattle.asn1_types.specs.Rows.{along, names_of, rows_of_parts}
-use Rattle.asn1_types.specs.Table.{IsSound}
+use Rattle.asn1_types.specs.Table.{AreSoundRows}
 use Rattle.asn1_types.specs.Value.{Value, MaybeValues, no_parts, absent, present}
 use Rattle.asn1_types.specs.ValueView.{parts_of, values_of}
 use Rattle.asn1_types.proofs.Along.{settled}
@@ -63,7 +63,7 @@ write_cong (Tagged class number true inner) f g h = λ i. tagged_written true (h
 write_cong (Tagged class number false inner) f g h = λ i. tagged_written false (h.0 i) class number
 write_cong Any f g h = refl
 
-pub writes_at : (rows : List TypeRow) → IsSound rows → (n : ℕ) (row : TypeRow) → slice_get rows n ≡ Some row → writes rows n ≡ write_by (writes rows) row
+pub writes_at : (rows : List TypeRow) → AreSoundRows rows → (n : ℕ) (row : TypeRow) → slice_get rows n ≡ Some row → writes rows n ≡ write_by (writes rows) row
 unfolding writes
 writes_at rows sound n row e = settled nothing_written write_by write_cong rows (is_down rows sound) n row e
 

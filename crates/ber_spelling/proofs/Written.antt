@@ -16,7 +16,7 @@ use Rattle.asn1_types.specs.declared.row.TextKind.TheVariants.{Utf8, Ia5, Visibl
 use Rattle.asn1_types.specs.declared.row.TypeRow.{TypeRow}
 use Rattle.asn1_types.specs.declared.row.TypeRow.TheVariants as row
 use Rattle.asn1_types.specs.Rows.{of_row, along, names_of, rows_of_parts, greatest, nesting, nesting_by, text_number, Opening, openings}
-use Rattle.asn1_types.specs.Table.{HasShortTag, IsSound, clash, agrees_later, has_clash}
+use Rattle.asn1_types.specs.Table.{HasShortTag, AreSoundRows, clash, agrees_later, has_clash}
 use Rattle.asn1_types.specs.Value.{Value, boolean, integer, null, octets, bits, object_id, text, parts, list, chosen, any, MaybeValues, no_parts, absent, present, Values, no_values, value}
 use Rattle.asn1_types.specs.Whole.{is_whole}
 use Rattle.asn1_types.specs.Defaults.{is_item, may_be_absent, is_default}
@@ -401,15 +401,15 @@ lower : (k levels : ℕ) → 1 + k ≤ levels → (l : ℕ) × (levels ≡ suc l
 lower k zero le = absurd (omega arith)
 lower k (suc l) le = (l, refl, omega arith)
 
-nesting_at : (rows : List TypeRow) → IsSound rows → (n : ℕ) (r : TypeRow) → slice_get rows n ≡ Some r → nesting rows n ≡ nesting_by (nesting rows) r
+nesting_at : (rows : List TypeRow) → AreSoundRows rows → (n : ℕ) (r : TypeRow) → slice_get rows n ≡ Some r → nesting rows n ≡ nesting_by (nesting rows) r
 unfolding nesting
 nesting_at rows sound n r e = settled 0 nesting_by nesting_cong rows (is_down rows sound) n r e
 
-each_nest : (rows : List TypeRow) → IsSound rows → (n : ℕ) (ns : List ℕ) → n ≤ length rows → AllByRecursion (λ m. m < n) ns → AllByRecursion (λ m. nesting rows m ≡ nesting (take n rows) m) ns
+each_nest : (rows : List TypeRow) → AreSoundRows rows → (n : ℕ) (ns : List ℕ) → n ≤ length rows → AllByRecursion (λ m. m < n) ns → AllByRecursion (λ m. nesting rows m ≡ nesting (take n rows) m) ns
 each_nest rows sound n [] le h = tt
 each_nest rows sound n (m ∷ ns) le h = (nesting_before rows sound n m le h.0, each_nest rows sound n ns le h.1)
 
-nests : (rows : List TypeRow) → IsSound rows → (n : ℕ) (r : TypeRow) → slice_get rows n ≡ Some r → nesting rows n ≤ 32
+nests : (rows : List TypeRow) → AreSoundRows rows → (n : ℕ) (r : TypeRow) → slice_get rows n ≡ Some r → nesting rows n ≤ 32
 nests rows sound n r e =
     let lt : n < length rows = slice_get_within rows n r e in
     let t = taken (take n rows) r (sound.each n r e) in
@@ -418,7 +418,7 @@ nests rows sound n r e =
     subst (λ (k : ℕ). k ≤ 32) (sym (nesting_at rows sound n r e ∙ same)) few
 
 -- a spelling begins with a tag that its row allows
-told_of : (rows : List TypeRow) → IsSound rows → (turns m : ℕ) (d : Option ℤ) (strict : Bool) (levels : ℕ) (v : Value) (s : List ℕ) → SpelledBy rows turns m (bare d) strict levels v s → Told (openings rows) m s
+told_of : (rows : List TypeRow) → AreSoundRows rows → (turns m : ℕ) (d : Option ℤ) (strict : Bool) (levels : ℕ) (v : Value) (s : List ℕ) → SpelledBy rows turns m (bare d) strict levels v s → Told (openings rows) m s
 told_of rows sound turns m d strict levels v s p =
     let scope : Scope = record { levels = levels; limit = length s; end = None; marked = false; strict = strict } in
     let r = (along_only rows sound turns m (bare d) tt).only scope 0 v s [] p (record { limit = omega arith; end = refl }) in
@@ -503,7 +503,7 @@ module _ (whole : (os : List ℕ) → is_whole os ≡ true → IsWhole 32 os) wh
           (each of.0).is (Some (tag_or t class number)) d strict levels v (tag_ok t class number ok small) (omega (arith, some_level t (greatest nest (of.0 ∷ [])) levels le)) e other short
       row_is row.Any apart small t d strict levels v ok le e other short = any_is t strict levels v ok le e short
 
-  module _ (rows : List TypeRow) (sound : IsSound rows) where
+  module _ (rows : List TypeRow) (sound : AreSoundRows rows) where
     of_written : (turns n : ℕ) → ((m : ℕ) → RowWritten (along nothing_fits (form_by (written rows)) rows turns m) (along nothing_written write_by rows turns m) (SpelledBy rows turns m) (nesting rows m)) → (o : Option TypeRow) → slice_get rows n ≡ o
         → (t : Option tags.Tag) (d : Option ℤ) (strict : Bool) (levels : ℕ) (v : Value) → OkTag t → need t (nesting rows n) ≤ levels
         → of_row nothing_fits (form_by (written rows) (along nothing_fits (form_by (written rows)) rows turns)) o v ≡ true → IsOther d strict v → length (of_row nothing_written (write_by (along nothing_written write_by rows turns)) o t v) < Most

@@ -3,7 +3,7 @@ use Rattle.std.specs.Prelude.{◌≡◌, ◌≢◌, ℕ, ◌<◌, ◌≤◌, ◌
 use Rattle.osi_base.specs.declared.words.Kind.TheVariants.{Form}
 use Rattle.asn1_types.specs.declared.row.TypeRow.{TypeRow}
 use Rattle.asn1_types.specs.declared.row.TypeRow.TheVariants.{BitString}
-use Rattle.asn1_types.specs.Table.{IsSound}
+use Rattle.asn1_types.specs.Table.{AreSoundRows}
 use Rattle.asn1_types.specs.Value.{Value, bits}
 use Rattle.asn1_types.specs.Fits.{are_bits, has_form}
 use Rattle.asn1_types.specs.Whole.{is_whole}
@@ -22,12 +22,12 @@ ReadIsSpelled = (rows : List TypeRow) (n : ℕ) (strict : Bool) (limit : ℕ) (b
 
 -- what is spelled is read, whatever follows
 abbrev pub SpelledIsRead : Type 0
-SpelledIsRead = (rows : List TypeRow) (n : ℕ) (strict : Bool) (limit : ℕ) (v : Value) (spelled rest : List ℕ) → IsSound rows
+SpelledIsRead = (rows : List TypeRow) (n : ℕ) (strict : Bool) (limit : ℕ) (v : Value) (spelled rest : List ℕ) → AreSoundRows rows
     → Spells rows n strict limit v spelled → read_at rows n strict limit (spelled ++ rest) ≡ Ok (v, length spelled)
 
 -- no spelling of a row's values begins another, and each spells one value
 abbrev pub NoneBegins : Type 0
-NoneBegins = (rows : List TypeRow) (n : ℕ) (strict : Bool) (limit : ℕ) (v w : Value) (a b x y : List ℕ) → IsSound rows
+NoneBegins = (rows : List TypeRow) (n : ℕ) (strict : Bool) (limit : ℕ) (v w : Value) (a b x y : List ℕ) → AreSoundRows rows
     → Spells rows n strict limit v a → Spells rows n strict limit w b → a ++ x ≡ b ++ y → (a ≡ b) × (v ≡ w)
 
 -- what was read stays so, whatever follows
@@ -71,17 +71,17 @@ WiderIsLong = (rows : List TypeRow) (n : ℕ) (strict : Bool) (limit more : ℕ)
 
 -- a proper beginning of a spelling is too short
 abbrev pub BeginningIsShort : Type 0
-BeginningIsShort = (rows : List TypeRow) (n : ℕ) (strict : Bool) (limit : ℕ) (v : Value) (front back : List ℕ) → IsSound rows → AreOctets (front ++ back)
+BeginningIsShort = (rows : List TypeRow) (n : ℕ) (strict : Bool) (limit : ℕ) (v : Value) (front back : List ℕ) → AreSoundRows rows → AreOctets (front ++ back)
     → Spells rows n strict limit v (front ++ back) → 0 < length back → read_at rows n strict limit front ≡ Err Short
 
 -- What is written of a value that has its form is spelled so, as far as lengths have 8 octets.
 abbrev pub WrittenIsSpelled : Type 0
-WrittenIsSpelled = (rows : List TypeRow) (n : ℕ) (v : Value) → IsSound rows → has_form rows n v ≡ true
+WrittenIsSpelled = (rows : List TypeRow) (n : ℕ) (v : Value) → AreSoundRows rows → has_form rows n v ≡ true
     → (strict : Bool) (limit : ℕ) → limit < 2 ^ 64 → length (written rows n v) ≤ limit → Spells rows n strict limit v (written rows n v)
 
 -- what is written of a value that has its form is read back, whatever follows
 abbrev pub WrittenIsRead : Type 0
-WrittenIsRead = (rows : List TypeRow) (n : ℕ) (v : Value) → IsSound rows → has_form rows n v ≡ true
+WrittenIsRead = (rows : List TypeRow) (n : ℕ) (v : Value) → AreSoundRows rows → has_form rows n v ≡ true
     → (strict : Bool) (limit : ℕ) (rest : List ℕ) → limit < 2 ^ 64 → length (written rows n v) ≤ limit → read_at rows n strict limit (written rows n v ++ rest) ≡ Ok (v, length (written rows n v))
 
 -- what is spelled in DER is spelled so in BER
@@ -131,11 +131,11 @@ OneHolds rows n strict limit bytes =
 
 -- Of all octets one holds and no other: a first part is a spelling, there is a first fault, or they are too short.
 abbrev pub OneOfThree : Type 0
-OneOfThree = (rows : List TypeRow) (n : ℕ) (strict : Bool) (limit : ℕ) (bytes : List ℕ) → IsSound rows → AreOctets bytes → OneHolds rows n strict limit bytes
+OneOfThree = (rows : List TypeRow) (n : ℕ) (strict : Bool) (limit : ℕ) (bytes : List ℕ) → AreSoundRows rows → AreOctets bytes → OneHolds rows n strict limit bytes
 
 -- A DER spelling is one whole value of any type: each length is definite, and no tag is UNIVERSAL 0.
 abbrev pub DerIsWhole : Type 0
-DerIsWhole = (rows : List TypeRow) (n : ℕ) (limit : ℕ) (v : Value) (spelled : List ℕ) → IsSound rows → Spells rows n true limit v spelled → is_whole spelled ≡ true
+DerIsWhole = (rows : List TypeRow) (n : ℕ) (limit : ℕ) (v : Value) (spelled : List ℕ) → AreSoundRows rows → Spells rows n true limit v spelled → is_whole spelled ≡ true
 
 -- A value has one DER spelling: the one that is written.
 abbrev pub DerIsWritten : Type 0

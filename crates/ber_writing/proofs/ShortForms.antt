@@ -12,7 +12,7 @@ use Rattle.asn1_types.specs.declared.row.TypeRow.TheVariants as row
 use Rattle.asn1_types.specs.declared.row.Tag as tags
 use Rattle.asn1_types.specs.Rows.{along, of_row, names_of, rows_of_parts}
 use Rattle.asn1_types.specs.Defaults.{may_be_absent, is_default}
-use Rattle.asn1_types.specs.Table.{IsSound}
+use Rattle.asn1_types.specs.Table.{AreSoundRows}
 use Rattle.asn1_types.specs.Tags.{tag_or}
 use Rattle.asn1_types.specs.Value.{Value, boolean, integer, null, octets, bits, object_id, text, parts, list, chosen, any, MaybeValues, no_parts, absent, present, Values, no_values, value}
 use Rattle.asn1_types.specs.Fits.{parts_fit, sequence_fits, values_fit, list_fits, alternative_fits, choice_fits, form_by, nothing_fits, has_form, is_short, fits}
@@ -45,7 +45,7 @@ short_cong spell (row.Choice ps) f g h = form_cong spell (row.Choice ps) f g h
 short_cong spell (row.Tagged class number explicit inner) f g h = form_cong spell (row.Tagged class number explicit inner) f g h
 short_cong spell row.Any f g h = refl
 
-pub short_at : (rows : List TypeRow) → IsSound rows → (n : ℕ) (r : TypeRow) → slice_get rows n ≡ Some r → has_short_form rows n ≡ short_by (written rows) (has_short_form rows) r
+pub short_at : (rows : List TypeRow) → AreSoundRows rows → (n : ℕ) (r : TypeRow) → slice_get rows n ≡ Some r → has_short_form rows n ≡ short_by (written rows) (has_short_form rows) r
 unfolding has_short_form
 short_at rows sound n r e = settled nothing_fits (short_by (written rows)) (short_cong (written rows)) rows (is_down rows sound) n r e
 
@@ -227,7 +227,7 @@ module _ (rows : List TypeRow) where
   each_below [] n h each = tt
   each_below (m ∷ ns) n h each = (each m h.0, each_below ns n h.1 each)
 
-  module _ (sound : IsSound rows) where
+  module _ (sound : AreSoundRows rows) where
     agree : (bound n : ℕ) → n < bound → Agree n
     agree zero n lt tag v short = absurd (omega arith)
     agree (suc bound) n lt tag v short = by_row (slice_get rows n) refl (λ m less. agree bound m (omega arith))
@@ -251,7 +251,7 @@ and_turns false true = refl
 and_turns false false = refl
 
 -- what the code tells is whether a value fits
-pub fits_told : (rows : List TypeRow) → IsSound rows → (n : ℕ) (v : Value) (a b : Bool) → a ≡ is_short (length (written rows n v)) → b ≡ is_short (packed_size rows n v) → ((a && b) && has_short_form rows n v) ≡ fits rows n v
+pub fits_told : (rows : List TypeRow) → AreSoundRows rows → (n : ℕ) (v : Value) (a b : Bool) → a ≡ is_short (length (written rows n v)) → b ≡ is_short (packed_size rows n v) → ((a && b) && has_short_form rows n v) ≡ fits rows n v
 unfolding fits written
 fits_told rows sound n v false b e f = and_no (has_form rows n v) (is_short (length (writes rows n None v))) (is_short (packed_size rows n v)) e
 fits_told rows sound n v true b e f =
@@ -260,7 +260,7 @@ fits_told rows sound n v true b e f =
     ap (λ (x : Bool). b && x) same ∙ and_turns b (has_form rows n v) ∙ (λ i. has_form rows n v && (e i && f i))
 
 -- as the code has it: short spellings and short forms
-pub fits_so : (rows : List TypeRow) → IsSound rows → (n : ℕ) (v : Value) (s : Bool) → s ≡ (is_short (length (written rows n v)) && is_short (packed_size rows n v)) → (s && has_short_form rows n v) ≡ fits rows n v
+pub fits_so : (rows : List TypeRow) → AreSoundRows rows → (n : ℕ) (v : Value) (s : Bool) → s ≡ (is_short (length (written rows n v)) && is_short (packed_size rows n v)) → (s && has_short_form rows n v) ≡ fits rows n v
 fits_so rows sound n v s e = ap (λ (x : Bool). x && has_short_form rows n v) e ∙ fits_told rows sound n v (is_short (length (written rows n v))) (is_short (packed_size rows n v)) refl refl
 
 pub fits_past : (rows : List TypeRow) (n : ℕ) (v : Value) → length rows ≤ n → false ≡ fits rows n v

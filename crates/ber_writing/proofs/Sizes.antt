@@ -7,7 +7,7 @@ use Rattle.asn1_types.specs.declared.row.Part.{Part}
 use Rattle.asn1_types.specs.declared.row.TypeRow.{TypeRow}
 use Rattle.asn1_types.specs.declared.row.TypeRow.TheVariants as row
 use Rattle.asn1_types.specs.Rows.{along, names_of, rows_of_parts}
-use Rattle.asn1_types.specs.Table.{IsSound}
+use Rattle.asn1_types.specs.Table.{AreSoundRows}
 use Rattle.asn1_types.specs.Value.{Value, MaybeValues, no_parts, absent, present}
 use Rattle.asn1_types.specs.ValueView.{parts_of, values_of}
 use Rattle.asn1_types.specs.PackedSize.{mark_size, part_size, parts_size, sequence_size, values_size, list_size, alternative_size, choice_size, nothing_size, size_by, packed_size}
@@ -43,7 +43,7 @@ size_cong (row.Choice ps) f g h = λ i. choice_size (λ which. alternative_same 
 size_cong (row.Tagged class number explicit inner) f g h = h.0
 size_cong row.Any f g h = refl
 
-pub size_at : (rows : List TypeRow) → IsSound rows → (n : ℕ) (r : TypeRow) → slice_get rows n ≡ Some r → packed_size rows n ≡ size_by (packed_size rows) r
+pub size_at : (rows : List TypeRow) → AreSoundRows rows → (n : ℕ) (r : TypeRow) → slice_get rows n ≡ Some r → packed_size rows n ≡ size_by (packed_size rows) r
 unfolding packed_size
 size_at rows sound n r e = settled nothing_size size_by size_cong rows (is_down rows sound) n r e
 

@@ -9,7 +9,7 @@
 ghost use Rattle.std.specs.Prelude.{◌≡◌, ◌<◌, ◌≤◌, ℕ, List, [], ◌++◌, Some, None, false, true, length, slice_get, IfSome};
 ghost use Rattle.std.specs.List.{AllByRecursion};
 ghost use Rattle.asn1_types.specs.Rows.{rows_of_parts};
-ghost use Rattle.asn1_types.specs.Table.{IsSound};
+ghost use Rattle.asn1_types.specs.Table.{AreSoundRows};
 ghost use Rattle.asn1_types.specs.ValueView.{parts_of, values_of};
 ghost use Rattle.asn1_types.specs.Writing.{definite, values_contents, list_contents, part_contents, parts_contents, of_rank, sequence_contents, set_parts, alternative_written, choice_written, under, write_by, writes};
 ghost use Rattle.ber_writing.specs.Comparing.{IsCompared, IsApart, IsRest};
@@ -56,7 +56,7 @@ fn row_compared(
     b: &Val,
 ) -> Option<Compared>
     requires row { slice_get table.now of.0 ≡ Some row.now }
-    requires sound { IsSound table.now }
+    requires sound { AreSoundRows table.now }
     ensures { IfSome result (λ c. IsApart c (write_by (writes table.now) row.now tag a.now)
         (write_by (writes table.now) row.now tag b.now)) }
 {

@@ -4,7 +4,7 @@ ghost use Rattle.std.specs.Prelude.{◌≡◌, ◌&&◌, ◌<◌, ◌≤◌, Som
 ghost use Rattle.std.specs.List.{list_all, AllByRecursion};
 ghost use Rattle.osi_base.specs.Oid.{is_oid};
 ghost use Rattle.asn1_types.specs.Rows.{rows_of_parts};
-ghost use Rattle.asn1_types.specs.Table.{IsSound};
+ghost use Rattle.asn1_types.specs.Table.{AreSoundRows};
 ghost use Rattle.asn1_types.specs.ValueView.{parts_of, values_of};
 ghost use Rattle.asn1_types.specs.Writing.{written};
 ghost use Rattle.asn1_types.specs.Fits.{has_32_bits, boolean_fits, integer_fits, enumerated_fits, null_fits, object_id_fits, octets_fit, bits_fit, text_fits, part_fits, parts_fit, sequence_fits, values_fit, list_fits, alternative_fits, choice_fits, any_fits, is_short, fits};
@@ -147,7 +147,7 @@ fn has_form(table: &TypeTable, of: TypeId, value: &Val) -> bool
 #[cycle(fitting)]
 fn fits_row(table: &TypeTable, of: TypeId, row: &TypeRow, value: &Val) -> bool
     requires row { slice_get table.now of.0 ≡ Some row.now }
-    requires sound { IsSound table.now }
+    requires sound { AreSoundRows table.now }
     ensures { result ≡ short_by (written table.now) (has_short_form table.now) row.now value.now }
 {
     match row {

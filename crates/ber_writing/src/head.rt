@@ -3,7 +3,7 @@
 ghost use Rattle.std.specs.Prelude.{◌≡◌, ◌<◌, ◌++◌, ℕ, Bool, List, Some, None, true, false, slice_get, IfSome};
 ghost use Rattle.std.specs.List.{AllByRecursion};
 ghost use Rattle.asn1_types.specs.Rows.{rows_of_parts};
-ghost use Rattle.asn1_types.specs.Table.{IsSound};
+ghost use Rattle.asn1_types.specs.Table.{AreSoundRows};
 ghost use Rattle.asn1_types.specs.Writing.{definite, alternative_written, choice_written, under, write_by, writes};
 ghost use Rattle.asn1_types.specs.declared.row.Class.TheVariants.{Universal};
 ghost use Rattle.asn1_types.specs.Tags.{tag_or};
@@ -62,7 +62,7 @@ fn row_head(
     value: &Val,
 ) -> Option<Head>
     requires row { slice_get table.now of.0 ≡ Some row.now }
-    requires sound { IsSound table.now }
+    requires sound { AreSoundRows table.now }
     ensures { IfSome result (λ head. Leads head
         (write_by (writes table.now) row.now tag value.now)) }
 {

@@ -4,7 +4,7 @@
 ghost use Rattle.std.specs.Prelude.{◌≡◌, ℕ, ◌++◌, ◌+◌, ◌-◌, ◌<◌, ◌≤◌, [], Some, None, true, length, drop, slice_get, IfOk};
 ghost use Rattle.std.specs.List.{AllByRecursion};
 ghost use Rattle.asn1_types.specs.Rows.{rows_of_parts};
-ghost use Rattle.asn1_types.specs.Table.{IsSound};
+ghost use Rattle.asn1_types.specs.Table.{AreSoundRows};
 ghost use Rattle.asn1_types.specs.ValueView.{parts_of, values_of};
 ghost use Rattle.asn1_types.specs.Writing.{definite, values_contents, list_contents, part_contents, parts_contents, sequence_contents, alternative_written, choice_written, under, write_by, writes, written, of_rank, set_parts};
 
@@ -52,7 +52,7 @@ fn put_row(
     end: usize,
 ) -> usize
     requires row { slice_get table.now of.0 ≡ Some row.now }
-    requires sound { IsSound table.now }
+    requires sound { AreSoundRows table.now }
     requires room { length (write_by (writes table.now) row.now tag value.now) ≤ end }
     requires end { end ≤ length room.old }
     ensures start { result + length (write_by (writes table.now) row.now tag value.now) ≡ end }

@@ -6,7 +6,7 @@ use Rattle.context_sets.specs.Sets.{ContextSet, IsRising}
 use Rattle.context_restore.specs.declared.node.VersionNode.{VersionNode}
 use Rattle.context_restore.specs.Versions.{Version, root, version, applied, missing, ids, set_of, below}
 use Rattle.context_restore.specs.SavedSets.{Mark, marks_of}
-use Rattle.context_restore.specs.Chain.{Nodes, parent_of, version_of, back_of, set_back, keys_from, versions_at, version_at, versions, root_node, IsLinked, AreSame, LeadsBack, IsCut, IsSound}
+use Rattle.context_restore.specs.Chain.{Nodes, parent_of, version_of, back_of, set_back, keys_from, versions_at, version_at, versions, root_node, IsLinked, AreSame, LeadsBack, IsCut, IsSoundChain}
 use Rattle.context_restore.proofs.Changes.{applied-version, applied-root, rising-set_of}
 use Rattle.context_restore.proofs.Links.{linked_keys, vacant_apart, linked_more, versions_more, length-versions_at, below-versions_at, linked_same, versions_same, same_still, same_versions, same_all, same_back, back-drop}
 
@@ -16,11 +16,11 @@ keys-of_linked nodes head keys l e = subst (λ n. keys_from nodes n head ≡ key
 pub versions-of_linked : (nodes : Nodes) (head : Option ℕ) (keys : List ℕ) → IsLinked nodes head keys → length keys ≡ slab_len nodes → versions nodes head ≡ versions_at nodes keys
 versions-of_linked nodes head keys l e = ap (versions_at nodes) (keys-of_linked nodes head keys l e)
 
-pub length-versions : (nodes : Nodes) (head : Option ℕ) (newest : ContextSet) (active : Bool) → IsSound nodes head newest active → length (versions nodes head) ≡ slab_len nodes
+pub length-versions : (nodes : Nodes) (head : Option ℕ) (newest : ContextSet) (active : Bool) → IsSoundChain nodes head newest active → length (versions nodes head) ≡ slab_len nodes
 length-versions nodes head newest active s =
     ap length (versions-of_linked nodes head s.keys s.linked s.all) ∙ length-versions_at nodes s.keys ∙ s.all
 
-pub newest_set : (nodes : Nodes) (head : Option ℕ) (newest : ContextSet) (active : Bool) → IsSound nodes head newest active → newest ≡ set_of (versions nodes head)
+pub newest_set : (nodes : Nodes) (head : Option ℕ) (newest : ContextSet) (active : Bool) → IsSoundChain nodes head newest active → newest ≡ set_of (versions nodes head)
 newest_set nodes head newest active s = s.is_newest ∙ ap set_of (sym (versions-of_linked nodes head s.keys s.linked s.all))
 
 -- a version that leads to a set saves it under the next number
@@ -51,7 +51,7 @@ back-more old new newest key node set (next ∷ keys) same leads there is now a 
 )
 
 -- a chain with one node more
-pub sound_more : (old new : Nodes) (newest : ContextSet) (active : Bool) (key : ℕ) (node : VersionNode) (set : ContextSet) → (s : IsSound old node.parent newest active) → slab_len old ≤ 65536 → get old key ≡ None → Updates old new key (Some node) → slab_len new ≡ slab_len old + 1 → node.added ≡ missing newest set → node.lost ≡ missing set newest → IsRising set → IsSound new (Some key) set active
+pub sound_more : (old new : Nodes) (newest : ContextSet) (active : Bool) (key : ℕ) (node : VersionNode) (set : ContextSet) → (s : IsSoundChain old node.parent newest active) → slab_len old ≤ 65536 → get old key ≡ None → Updates old new key (Some node) → slab_len new ≡ slab_len old + 1 → node.added ≡ missing newest set → node.lost ≡ missing set newest → IsRising set → IsSoundChain new (Some key) set active
 sound_more old new newest active key node set s few v u len a b r =
     let apart = vacant_apart old key v node.parent s.keys s.linked in
     let newest_now =
@@ -68,7 +68,7 @@ sound_more old new newest active key node set s few v u len a b r =
       rooted = λ _. omega arith;
     }
 
-pub versions-more : (old new : Nodes) (newest : ContextSet) (active : Bool) (key : ℕ) (node : VersionNode) (set : ContextSet) → (s : IsSound old node.parent newest active) → get old key ≡ None → Updates old new key (Some node) → slab_len new ≡ slab_len old + 1 → node.added ≡ missing newest set → node.lost ≡ missing set newest → versions new (Some key) ≡ version (set_of (versions old node.parent)) set ∷ versions old node.parent
+pub versions-more : (old new : Nodes) (newest : ContextSet) (active : Bool) (key : ℕ) (node : VersionNode) (set : ContextSet) → (s : IsSoundChain old node.parent newest active) → get old key ≡ None → Updates old new key (Some node) → slab_len new ≡ slab_len old + 1 → node.added ≡ missing newest set → node.lost ≡ missing set newest → versions new (Some key) ≡ version (set_of (versions old node.parent)) set ∷ versions old node.parent
 versions-more old new newest active key node set s v u len a b =
     versions-of_linked new (Some key) (key ∷ s.keys) (linked_more old new key node s.keys s.linked v u) (let e = s.all in omega arith)
     ∙ versions_more old new key node s.keys s.linked v u
@@ -76,10 +76,10 @@ versions-more old new newest active key node set s v u len a b =
     (ap (λ (x : Version). x ∷ versions old node.parent) (made newest _ set node (newest_set old node.parent newest active s) a b))
 
 -- the newest set rises
-pub rising_newest : (nodes : Nodes) (head : Option ℕ) (newest : ContextSet) (active : Bool) → IsSound nodes head newest active → IsRising newest
+pub rising_newest : (nodes : Nodes) (head : Option ℕ) (newest : ContextSet) (active : Bool) → IsSoundChain nodes head newest active → IsRising newest
 rising_newest nodes head newest active s = subst IsRising (sym s.is_newest) (rising-set_of (versions_at nodes s.keys))
 
-pub sound_same : (old new : Nodes) (head : Option ℕ) (newest : ContextSet) (active : Bool) → new.slots ≡ old.slots → IsSound old head newest active → IsSound new head newest active
+pub sound_same : (old new : Nodes) (head : Option ℕ) (newest : ContextSet) (active : Bool) → new.slots ≡ old.slots → IsSoundChain old head newest active → IsSoundChain new head newest active
 sound_same old new head newest active e s =
     let at : (key : ℕ) → get new key ≡ get old key = λ key. ap (λ (x : List (Option VersionNode)). slice_index_or x key None) e in
     let len : slab_len new ≡ slab_len old = ap (λ (x : List (Option VersionNode)). count_by is_some x) e in
@@ -93,7 +93,7 @@ sound_same old new head newest active e s =
       rooted = s.rooted;
     }
 
-pub sound_root : (nodes : Nodes) (added set : ContextSet) (active : Bool) → slab_len nodes ≡ 1 → get nodes 0 ≡ Some (root_node added) → added ≡ set → IsRising set → IsSound nodes (Some 0) set active
+pub sound_root : (nodes : Nodes) (added set : ContextSet) (active : Bool) → slab_len nodes ≡ 1 → get nodes 0 ≡ Some (root_node added) → added ≡ set → IsRising set → IsSoundChain nodes (Some 0) set active
 sound_root nodes added set active len h e r =
     record {
       keys = 0 ∷ [];
@@ -122,7 +122,7 @@ back_to nodes (suc count) at (key ∷ next ∷ keys) set l b (inr h) is =
     (rising-set_of (versions_at nodes (key ∷ next ∷ keys))) (rising-set_of (versions_at nodes (next ∷ keys))))
 
 -- the oldest versions are under the last keys
-below-versions : (nodes : Nodes) (head : Option ℕ) (newest : ContextSet) (active : Bool) (count dropped : ℕ) → (s : IsSound nodes head newest active)
+below-versions : (nodes : Nodes) (head : Option ℕ) (newest : ContextSet) (active : Bool) (count dropped : ℕ) → (s : IsSoundChain nodes head newest active)
     → dropped ≡ slab_len nodes - count → below count (versions nodes head) ≡ versions_at nodes (drop dropped s.keys)
 below-versions nodes head newest active count dropped s f =
     ap (below count) (versions-of_linked nodes head s.keys s.linked s.all) ∙ below-versions_at nodes count s.keys
@@ -133,7 +133,7 @@ fewer n keys count zero all f pos some = absurd (some refl)
 fewer n keys count (suc dropped) all f pos some = omega (arith, all, f, pos)
 
 -- the set to which the oldest versions lead
-pub set-below : (nodes : Nodes) (head : Option ℕ) (newest : ContextSet) (active : Bool) (count dropped : ℕ) → IsSound nodes head newest active
+pub set-below : (nodes : Nodes) (head : Option ℕ) (newest : ContextSet) (active : Bool) (count dropped : ℕ) → IsSoundChain nodes head newest active
     → dropped ≡ slab_len nodes - count → 0 < count → set_back nodes dropped head newest ≡ set_of (below count (versions nodes head))
 set-below nodes head newest active count dropped s f pos =
     back_to nodes dropped head s.keys newest s.linked s.leads_back (few_dropped (nat_eq dropped 0) refl) s.is_newest
@@ -144,7 +144,7 @@ set-below nodes head newest active count dropped s f pos =
     few_dropped false e = inr (fewer (slab_len nodes) (length s.keys) count dropped s.all f pos (eqb-false dropped 0 e))
 
 -- what a cut leaves, and that it is a chain again
-module _ (old new : Nodes) (head head' : Option ℕ) (newest newest' : ContextSet) (active : Bool) (count dropped : ℕ) (s : IsSound old head newest active)
+module _ (old new : Nodes) (head head' : Option ℕ) (newest newest' : ContextSet) (active : Bool) (count dropped : ℕ) (s : IsSoundChain old head newest active)
     (f : dropped ≡ slab_len old - count) (pos : 0 < count)
     (cut : (keys : List ℕ) → IsLinked old head keys → dropped ≤ length keys → IsCut old new head' (drop dropped keys) dropped) where
   its_cut : IsCut old new head' (drop dropped s.keys) dropped
@@ -158,7 +158,7 @@ module _ (old new : Nodes) (head head' : Option ℕ) (newest newest' : ContextSe
       versions-of_linked new head' (drop dropped s.keys) its_cut.linked (omega (arith, all, left, len))
       ∙ same_versions old new (drop dropped s.keys) its_cut.same ∙ sym (below-versions old head newest active count dropped s f)
 
-  pub sound_cut : newest' ≡ set_of (below count (versions old head)) → IsSound new head' newest' active
+  pub sound_cut : newest' ≡ set_of (below count (versions old head)) → IsSoundChain new head' newest' active
   sound_cut is =
       let all = s.all in
       let few = s.few in
@@ -174,7 +174,7 @@ module _ (old new : Nodes) (head head' : Option ℕ) (newest newest' : ContextSe
         rooted = λ a. let r = s.rooted a in omega (arith, r, left, all, f, pos);
       }
 
-pub sound_active : (nodes : Nodes) (head : Option ℕ) (newest : ContextSet) (active : Bool) → IsSound nodes head newest active → 0 < length (versions nodes head) → IsSound nodes head newest true
+pub sound_active : (nodes : Nodes) (head : Option ℕ) (newest : ContextSet) (active : Bool) → IsSoundChain nodes head newest active → 0 < length (versions nodes head) → IsSoundChain nodes head newest true
 sound_active nodes head newest active s h =
     let len = length-versions nodes head newest active s in
     let all = s.all in

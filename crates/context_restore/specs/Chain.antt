@@ -96,7 +96,7 @@ pub record IsCut (old new : Nodes) (at : Option ℕ) (keys : List ℕ) (count : 
   pub len : slab_len new + count ≡ slab_len old
 
 -- all nodes are linked and lead back, at most 65,537, the newest set is theirs, and an activity has a root
-pub record IsSound (nodes : Nodes) (head : Option ℕ) (newest : ContextSet) (active : Bool) : Type 0 where
+pub record IsSoundChain (nodes : Nodes) (head : Option ℕ) (newest : ContextSet) (active : Bool) : Type 0 where
   pub keys : List ℕ
   pub linked : IsLinked nodes head keys
   pub all : length keys ≡ slab_len nodes
@@ -107,5 +107,5 @@ pub record IsSound (nodes : Nodes) (head : Option ℕ) (newest : ContextSet) (ac
 
 -- the nodes are sound, and the set from before the activity rises
 pub record IsKept (nodes : Nodes) (head : Option ℕ) (newest inter : ContextSet) (active : Bool) : Type 0 where
-  pub sound : IsSound nodes head newest active
+  pub sound : IsSoundChain nodes head newest active
   pub inter_rises : IsRising inter

@@ -5,7 +5,7 @@ use Rattle.osi_base.specs.declared.words.Answers.{Answers}
 use Rattle.context_sets.specs.declared.alteration.Alteration.{Alteration}
 use Rattle.context_sets.specs.Sets.{ContextSet, IsRising}
 use Rattle.context_sets.specs.Alterations.{additions, altered}
-use Rattle.context_sets.specs.Held.{IsSound, oldest, later}
+use Rattle.context_sets.specs.Held.{IsSoundHeldSet, oldest, later}
 use Rattle.context_sets.specs.declared.fault.SetRefusal.{SetRefusal}
 use Rattle.context_sets.specs.declared.fault.SetFault.{SetFault}
 use Rattle.context_sets.specs.Asking.{refusal}
@@ -13,7 +13,7 @@ use Rattle.context_sets.specs.Results.{acceptances, mismatch}
 use Rattle.context_sets.proofs.Rising.{rising-altered}
 use Rattle.context_sets.proofs.Bounds.{additions-push, IsAllowed, is_allowed, as_many, acceptances_few}
 
-pub sound_asked : (set : ContextSet) (own : List Alteration) (asked : Alteration) (before room : ℕ) → IsSound set own before → IsAllowed set own asked → additions own + length asked.added ≤ room → IsSound set (own ++ asked ∷ []) room
+pub sound_asked : (set : ContextSet) (own : List Alteration) (asked : Alteration) (before room : ℕ) → IsSoundHeldSet set own before → IsAllowed set own asked → additions own + length asked.added ≤ room → IsSoundHeldSet set (own ++ asked ∷ []) room
 sound_asked set own asked before room s a h =
     let e = additions-push own asked in
     let few = a.few in
@@ -21,11 +21,11 @@ sound_asked set own asked before room s a h =
     let len : length (own ++ asked ∷ []) ≡ length own + 1 = length-append own (asked ∷ []) in
     record { rises = s.rises; few = omega arith; within = omega arith; has_room = omega arith }
 
-pub sound_at : (set set' : ContextSet) (own own' : List Alteration) (room : ℕ) → set' ≡ set → own' ≡ own → IsSound set own room → IsSound set' own' room
+pub sound_at : (set set' : ContextSet) (own own' : List Alteration) (room : ℕ) → set' ≡ set → own' ≡ own → IsSoundHeldSet set own room → IsSoundHeldSet set' own' room
 sound_at set set' own own' room e f s =
-    subst (λ (x : ContextSet). IsSound x own' room) (sym e) (subst (λ (x : List Alteration). IsSound set x room) (sym f) s)
+    subst (λ (x : ContextSet). IsSoundHeldSet x own' room) (sym e) (subst (λ (x : List Alteration). IsSoundHeldSet set x room) (sym f) s)
 
-pub sound_answered : (set set' : ContextSet) (own : List Alteration) (alteration : Alteration) (answers : Answers) (more before room : ℕ) → IsSound set own before → set' ≡ altered alteration answers set → length set' ≤ length set + more → length set + additions own + more ≤ 64 → additions own ≤ room → IsSound set' own room
+pub sound_answered : (set set' : ContextSet) (own : List Alteration) (alteration : Alteration) (answers : Answers) (more before room : ℕ) → IsSoundHeldSet set own before → set' ≡ altered alteration answers set → length set' ≤ length set + more → length set + additions own + more ≤ 64 → additions own ≤ room → IsSoundHeldSet set' own room
 sound_answered set set' own alteration answers more before room s e len within h =
     record {
       rises = subst IsRising (sym e) (rising-altered alteration answers set s.rises);
@@ -34,7 +34,7 @@ sound_answered set set' own alteration answers more before room s e len within h
       has_room = h;
     }
 
-pub sound_confirmed : (set set' : ContextSet) (own : List Alteration) (alteration : Alteration) (answers : Answers) (before room : ℕ) → IsSound set (alteration ∷ own) before → set' ≡ altered alteration answers set → length set' ≤ length set + length alteration.added → additions own ≤ room → IsSound set' own room
+pub sound_confirmed : (set set' : ContextSet) (own : List Alteration) (alteration : Alteration) (answers : Answers) (before room : ℕ) → IsSoundHeldSet set (alteration ∷ own) before → set' ≡ altered alteration answers set → length set' ≤ length set + length alteration.added → additions own ≤ room → IsSoundHeldSet set' own room
 sound_confirmed set set' own alteration answers before room s e len h =
     let within = s.within in
     let few = s.few in

@@ -15,7 +15,7 @@ pub record Held : Type 0 where
   pub room : ℕ
 
 -- the set rises, at most four alterations wait, and set and own additions are at most 64 together and have their room
-pub record IsSound (set : ContextSet) (own : List Alteration) (room : ℕ) : Type 0 where
+pub record IsSoundHeldSet (set : ContextSet) (own : List Alteration) (room : ℕ) : Type 0 where
   pub rises : IsRising set
   pub few : length own ≤ 4
   pub within : length set + additions own ≤ 64

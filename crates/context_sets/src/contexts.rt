@@ -10,9 +10,9 @@ ghost use Rattle.context_sets.specs.Policy.{policy, peer_fault, IsFault};
 ghost use Rattle.context_sets.specs.Results.{mismatch};
 
 use crate::alteration::Alteration;
+use crate::alteration_answers::{added_answers, deletion_answers, peer_fault};
 use crate::asking::{Ground, additions, is_deleted, refusal};
 use crate::fault::{SetFault, SetRefusal};
-use crate::judging::{added_answers, deletion_answers, peer_fault};
 use crate::results::mismatch;
 use crate::rules::Rules;
 use crate::sets::pair_of;
@@ -34,7 +34,7 @@ pub struct Contexts {
 
 impl Model for Contexts {
     ghost use Rattle.std.specs.Prelude.{◌-◌, vec_len, vec_capacity};
-    ghost use Rattle.context_sets.specs.Held.{Held, IsSound};
+    ghost use Rattle.context_sets.specs.Held.{Held, IsSoundHeldSet};
 
     ghost Value = { Held };
 
@@ -46,7 +46,7 @@ impl Model for Contexts {
     } };
 
     ghost invariant = { λ contexts.
-        IsSound contexts.items.items contexts.own.items
+        IsSoundHeldSet contexts.items.items contexts.own.items
         (vec_capacity contexts.items - vec_len contexts.items) };
 }
 

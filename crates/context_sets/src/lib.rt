@@ -3,10 +3,10 @@
 #![tactic(auto)]
 
 mod alteration;
+mod alteration_answers;
 mod asking;
 mod contexts;
 mod fault;
-mod judging;
 mod laws;
 mod results;
 mod rules;

@@ -4,8 +4,8 @@ use Rattle.std.proofs.Common.{◌≡◌, refl, sym, ap, subst, ◌∙◌, ℕ, �
 use Rattle.std.specs.Prelude.{Bool, Option, Some, option_map, if◌then◌else◌}
 use Rattle.std.proofs.lemmas.List.{append-nil, take-append-drop}
 use Rattle.stub_tables.specs.declared.tables.Tables.{Tables}
-use Rattle.tpkt.specs.declared.held.Held.{Held}
-use Rattle.tpkt.specs.Reader.{Fed, reading, nothing}
+use Rattle.tpkt.specs.declared.reader_state.Held.{Held}
+use Rattle.tpkt.specs.Reader.{ReaderProgress, reading, nothing}
 use Rattle.tpkt.proofs.StreamLaws.{any_cut, nothing_read}
 use Rattle.end_rules.specs.Base.{Base}
 use Rattle.end_rules.specs.Messages.{Message}
@@ -45,7 +45,7 @@ no-flow tables =
       got = [];
       octets = refl;
       counts = refl;
-      holds = record { held = sym (ap (λ (f : Fed). f.held) nothing_read); taken = []; many = refl; fronts = ap (λ (f : Fed). all_fronts f.packets) nothing_read };
+      holds = record { held = sym (ap (λ (f : ReaderProgress). f.held) nothing_read); taken = []; many = refl; fronts = ap (λ (f : ReaderProgress). all_fronts f.packets) nothing_read };
     }
 
 -- ---- a step of the end that sends
@@ -167,11 +167,11 @@ holds-fed got os read false None h = tt
 holds-fed got os read false (Some intake) h =
     let cut = any_cut nothing got os in
     record {
-      held = ap (λ (held : Held). (reading held os).held) h.held ∙ sym (ap (λ (f : Fed). f.held) cut);
+      held = ap (λ (held : Held). (reading held os).held) h.held ∙ sym (ap (λ (f : ReaderProgress). f.held) cut);
       taken = h.taken;
       many = h.many;
       fronts =
-          ap (λ (f : Fed). all_fronts f.packets) cut
+          ap (λ (f : ReaderProgress). all_fronts f.packets) cut
           ∙ fronts-append (reading nothing got).packets (reading (reading nothing got).held os).packets
           ∙ ap (λ (fs : List Front). fs ++ all_fronts (reading (reading nothing got).held os).packets) h.fronts
           ∙ ap (λ (held : Held). (h.taken ++ intake.fronts) ++ all_fronts (reading held os).packets) (sym h.held)

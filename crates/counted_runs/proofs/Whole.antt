@@ -4,7 +4,7 @@ use Rattle.std.specs.Prelude.{Option, Some}
 use Rattle.std.proofs.lemmas.List.{append-nil}
 use Rattle.osi_base.specs.declared.words.Side.TheVariants.{A, B}
 use Rattle.stub_tables.specs.declared.tables.Tables.{Tables}
-use Rattle.tpkt.specs.Reader.{Fed, reading, nothing}
+use Rattle.tpkt.specs.Reader.{ReaderProgress, reading, nothing}
 use Rattle.tpkt.proofs.StreamLaws.{any_cut}
 use Rattle.agreement.specs.Sets.Role.{Initiator, Responder}
 use Rattle.association_reading.specs.Front.{Front, Short, Intake, first_front, all_fronts}
@@ -50,7 +50,7 @@ so-many law tables sents waiting so_far read (Some intake) written f short =
     all =
         ap (λ (fs : List Front). fs ++ all_fronts (reading (reading nothing f.got).held waiting).packets) (sym h.fronts)
         ∙ sym (fronts-append (reading nothing f.got).packets (reading (reading nothing f.got).held waiting).packets)
-        ∙ sym (ap (λ (x : Fed). all_fronts x.packets) (any_cut nothing f.got waiting))
+        ∙ sym (ap (λ (x : ReaderProgress). all_fronts x.packets) (any_cut nothing f.got waiting))
         ∙ ap (λ (os : List ℕ). all_fronts (reading nothing os).packets) f.octets
         ∙ (reads-all tables sents written).fronts
 

@@ -8,7 +8,7 @@ use Rattle.stub_tables.specs.declared.apdu.Apdu.TheVariants as apdus
 use Rattle.stub_tables.specs.Codes.{is_silent}
 use Rattle.stub_tables.specs.Lookup.{operation_at, operation_with, error_with}
 use Rattle.dialogue.specs.declared.opened.Opened.{Opened}
-use Rattle.dialogue.specs.Message.{Message, Content, apdu, unread}
+use Rattle.dialogue.specs.Message.{Message, BareContent, apdu, unread}
 use Rattle.dialogue.specs.State.{is_key, opened_with, without}
 use Rattle.dialogue.specs.Calls.{opened_by}
 use Rattle.dialogue.specs.Taking.{may_return, may_error, opens_after, opens_after_invoke}
@@ -28,7 +28,7 @@ module _ (t : Tables) where
   key_placed id None = []
   key_placed id (Some place) = key_by id place (operation_at t place)
 
-  abbrev pub keys_in_content : Content → Keys
+  abbrev pub keys_in_content : BareContent → Keys
   keys_in_content (apdu (apdus.Invoke id linked code argument)) = key_placed id (operation_with t code)
   keys_in_content _ = []
 
@@ -42,7 +42,7 @@ module _ (t : Tables) where
 
   -- ---- what a message closes at its taker
 
-  abbrev pub closing : Content → Keys → Keys
+  abbrev pub closing : BareContent → Keys → Keys
   closing (apdu (apdus.Result id returned)) ks = drop_key id ks
   closing (apdu (apdus.Error id code parameter)) ks = drop_key id ks
   closing _ ks = ks
@@ -52,7 +52,7 @@ module _ (t : Tables) where
   closing_all (m ∷ f) ks = closing_all f (closing m.content ks)
 
   -- an outcome is of an invocation that is open, and allowed to its operation
-  abbrev pub CloseMay : Content → Keys → Type 0
+  abbrev pub CloseMay : BareContent → Keys → Type 0
   CloseMay (apdu (apdus.Result id returned)) ks = (op : ℕ) × (find id ks ≡ Some op) × (may_return t op (operation_at t op) returned ≡ true)
   CloseMay (apdu (apdus.Error id code parameter)) ks = (op : ℕ) × (find id ks ≡ Some op) × (may_error (operation_at t op) (error_with t code) ≡ true)
   CloseMay _ ks = Unit {0}
@@ -70,14 +70,14 @@ module _ (t : Tables) where
   CloseAll-push (n ∷ f) m ks h g = (h.0, CloseAll-push f m (closing n.content ks) h.1 g)
 
   -- more open invocations change nothing of what is closed
-  closing-more : (c : Content) (ks more : Keys) → CloseMay c ks → closing c (ks ++ more) ≡ closing c ks ++ more
+  closing-more : (c : BareContent) (ks more : Keys) → CloseMay c ks → closing c (ks ++ more) ≡ closing c ks ++ more
   closing-more (apdu (apdus.Result id returned)) ks more h = drop_key-append id ks more h.0 h.1
   closing-more (apdu (apdus.Error id code parameter)) ks more h = drop_key-append id ks more h.0 h.1
   closing-more (apdu (apdus.Invoke id linked code argument)) ks more h = refl
   closing-more (apdu (apdus.Reject id problem)) ks more h = refl
   closing-more (unread octets) ks more h = refl
 
-  CloseMay-more : (c : Content) (ks more : Keys) → CloseMay c ks → CloseMay c (ks ++ more)
+  CloseMay-more : (c : BareContent) (ks more : Keys) → CloseMay c ks → CloseMay c (ks ++ more)
   CloseMay-more (apdu (apdus.Result id returned)) ks more h = (h.0, find-append id ks more h.0 h.1, h.2)
   CloseMay-more (apdu (apdus.Error id code parameter)) ks more h = (h.0, find-append id ks more h.0 h.1, h.2)
   CloseMay-more (apdu (apdus.Invoke id linked code argument)) ks more h = tt
@@ -93,7 +93,7 @@ module _ (t : Tables) where
   closing_all-more [] ks more h = refl
   closing_all-more (m ∷ f) ks more h = ap (closing_all f) (closing-more m.content ks more h.0) ∙ closing_all-more f (closing m.content ks) more h.1
 
-  pub closing-shorter : (c : Content) (ks : Keys) → length (closing c ks) ≤ length ks
+  pub closing-shorter : (c : BareContent) (ks : Keys) → length (closing c ks) ≤ length ks
   closing-shorter (apdu (apdus.Result id returned)) ks = drop_key-shorter id ks
   closing-shorter (apdu (apdus.Error id code parameter)) ks = drop_key-shorter id ks
   closing-shorter (apdu (apdus.Invoke id linked code argument)) ks = omega arith
@@ -104,7 +104,7 @@ module _ (t : Tables) where
   closing_all-shorter [] ks = omega arith
   closing_all-shorter (m ∷ f) ks = omega (arith, closing_all-shorter f (closing m.content ks), closing-shorter m.content ks)
 
-  pub closing-none : (c : Content) (id : ℤ) (ks : Keys) → find id ks ≡ None → find id (closing c ks) ≡ None
+  pub closing-none : (c : BareContent) (id : ℤ) (ks : Keys) → find id ks ≡ None → find id (closing c ks) ≡ None
   closing-none (apdu (apdus.Result j returned)) id ks h = find-drop_none id j ks h
   closing-none (apdu (apdus.Error j code parameter)) id ks h = find-drop_none id j ks h
   closing-none (apdu (apdus.Invoke j linked code argument)) id ks h = h
@@ -136,7 +136,7 @@ module _ (t : Tables) where
   no_keys_placed id (Some place) = no_keys_by false id place 0 (operation_at t place)
 
   -- the peer's invocations after a taking
-  pub peer_after : (os : List Opened) (c : Content) → keys_of false (opens_after t os c) ≡ keys_of false os ++ keys_in_content c
+  pub peer_after : (os : List Opened) (c : BareContent) → keys_of false (opens_after t os c) ≡ keys_of false os ++ keys_in_content c
   peer_after os (apdu (apdus.Invoke id linked code argument)) = keys_of-append false os (opens_after_invoke t (operation_with t code) id) ∙ ap (λ (ks : Keys). keys_of false os ++ ks) (keys_placed id (operation_with t code))
   peer_after os (apdu (apdus.Result id returned)) = keys_of-without_other false id os ∙ sym (append-nil (keys_of false os))
   peer_after os (apdu (apdus.Error id code parameter)) = keys_of-without_other false id os ∙ sym (append-nil (keys_of false os))
@@ -144,7 +144,7 @@ module _ (t : Tables) where
   peer_after os (unread octets) = sym (append-nil (keys_of false os))
 
   -- the own invocations after a taking
-  pub own_after : (os : List Opened) (c : Content) → keys_of true (opens_after t os c) ≡ closing c (keys_of true os)
+  pub own_after : (os : List Opened) (c : BareContent) → keys_of true (opens_after t os c) ≡ closing c (keys_of true os)
   own_after os (apdu (apdus.Invoke id linked code argument)) =
       keys_of-append true os (opens_after_invoke t (operation_with t code) id) ∙ ap (λ (ks : Keys). keys_of true os ++ ks) (no_keys_placed id (operation_with t code)) ∙ append-nil (keys_of true os)
   own_after os (apdu (apdus.Result id returned)) = keys_of-without true id os
@@ -184,7 +184,7 @@ module _ (t : Tables) where
   zero_placed id None = tt
   zero_placed id (Some place) = AreZero-opened (operation_at t place) (record { own = false; id = id; operation = place; context = 0 }) refl
 
-  pub zero_after : (os : List Opened) (c : Content) → AreZero os → AreZero (opens_after t os c)
+  pub zero_after : (os : List Opened) (c : BareContent) → AreZero os → AreZero (opens_after t os c)
   zero_after os (apdu (apdus.Invoke id linked code argument)) h = AreZero-append os (opens_after_invoke t (operation_with t code) id) h (zero_placed id (operation_with t code))
   zero_after os (apdu (apdus.Result id returned)) h = AreZero-without true id os h
   zero_after os (apdu (apdus.Error id code parameter)) h = AreZero-without true id os h

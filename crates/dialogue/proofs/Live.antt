@@ -8,7 +8,7 @@ use Rattle.dialogue.specs.declared.config.Phase.TheVariants.{Up}
 use Rattle.asn1_types.specs.declared.value.Val.{Val}
 use Rattle.stub_tables.specs.declared.apdu.Apdu.TheVariants as apdus
 use Rattle.stub_tables.specs.Lookup.{error_with}
-use Rattle.dialogue.specs.Message.{Message, Content, apdu, unread, pair_of, bare_set}
+use Rattle.dialogue.specs.Message.{Message, BareContent, apdu, unread, pair_of, bare_set}
 use Rattle.dialogue.specs.State.{passes_over, bare_start}
 use Rattle.dialogue.specs.Taking.{written, opens_after, value_of}
 use Rattle.dialogue.specs.History.{fed, took, gave}
@@ -169,7 +169,7 @@ module _ (t : Tables) where
   error_more n own os id None parameter place distinct below found h = none_more n own (drop_key id own) os (λ i g. find-drop_none i id own g) h
   error_more n own os id (Some e) parameter place distinct below found h = one_more n own os (error id e parameter) place distinct below found h
 
-  outcome_more : (n : ℕ) (own : Keys) (os : List Outcome) (c : Content) → Distinct own → Below n own → CloseMay t c own → AreOutcomes n own os
+  outcome_more : (n : ℕ) (own : Keys) (os : List Outcome) (c : BareContent) → Distinct own → Below n own → CloseMay t c own → AreOutcomes n own os
       → AreOutcomes n (closing t c own) (os ++ outcome_in t c)
   outcome_more n own os (apdu (apdus.Result id returned)) distinct below may h = one_more n own os (result id (value_of returned)) may.0 distinct below may.1 h
   outcome_more n own os (apdu (apdus.Error id code parameter)) distinct below may h = error_more n own os id (error_with t code) parameter may.0 distinct below may.1 h

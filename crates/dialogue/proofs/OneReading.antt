@@ -12,7 +12,7 @@ use Rattle.stub_tables.specs.declared.tables.Tables.{Tables}
 use Rattle.stub_tables.specs.Heads.{head_rows, any_row}
 use Rattle.stub_tables.specs.Apdus.{IsWhole, IsShort, IsFaulty, place_of}
 use Rattle.dialogue.specs.declared.indication.Indication.{Indication}
-use Rattle.dialogue.specs.Message.{Content, apdu, unread}
+use Rattle.dialogue.specs.Message.{BareContent, apdu, unread}
 use Rattle.dialogue.specs.State.{State, passes_over}
 use Rattle.dialogue.specs.Taking.{transfer_of, Wire, StandsFirst, bare_pair, may_take, shown_of, shown_abort}
 use Rattle.dialogue.specs.History.{Step, fed, took, fault, feed_end, after, after_all, ended}
@@ -62,7 +62,7 @@ pub record SameRead (xs ys : List Step) (is js : List Indication) : Type 0 where
   pub steps : xs ≡ ys
   pub shown : is ≡ js
 
-pub record SameFirst (c d : Content) (m n : ℕ) : Type 0 where
+pub record SameFirst (c d : BareContent) (m n : ℕ) : Type 0 where
   pub content : c ≡ d
   pub used : m ≡ n
 
@@ -70,17 +70,17 @@ clash : {X : Type 0} (b : Bool) → b ≡ true → b ≡ false → X
 clash b h k = absurd (let r : true ≡ false = sym h ∙ k in cc)
 
 module _ (t : Tables) (laws : ReadingLaws t) where
-  wire_whole : (pair : Option Pair) (c : Content) (text : List ℕ) → Wire t pair c text → IsWhole text
+  wire_whole : (pair : Option Pair) (c : BareContent) (text : List ℕ) → Wire t pair c text → IsWhole text
   wire_whole pair (apdu a) text h = h.0
   wire_whole pair (unread o) text h = h.0
 
-  same_wire : (pair : Option Pair) (c d : Content) (text : List ℕ) → Wire t pair c text → Wire t pair d text → c ≡ d
+  same_wire : (pair : Option Pair) (c d : BareContent) (text : List ℕ) → Wire t pair c text → Wire t pair d text → c ≡ d
   same_wire pair (apdu a) (apdu b) text h k = ap apdu (laws.one_apdu (transfer_of pair) a b text h.1 k.1)
   same_wire pair (apdu a) (unread o) text h k = absurd (k.2 a h.1)
   same_wire pair (unread o) (apdu b) text h k = absurd (h.2 b k.1)
   same_wire pair (unread o) (unread p) text h k = ap unread (h.1 ∙ sym k.1)
 
-  same_first : (pair : Option Pair) (c d : Content) (m n : ℕ) (octets : List ℕ) → StandsFirst t pair c m octets → StandsFirst t pair d n octets → SameFirst c d m n
+  same_first : (pair : Option Pair) (c d : BareContent) (m n : ℕ) (octets : List ℕ) → StandsFirst t pair c m octets → StandsFirst t pair d n octets → SameFirst c d m n
   same_first pair c d m n octets h k =
       let front : take m octets ≡ take n octets =
       laws.one_whole (take m octets) (take n octets) (drop m octets) (drop n octets) (wire_whole pair c (take m octets) h.wire) (wire_whole pair d (take n octets) k.wire)
@@ -90,15 +90,15 @@ module _ (t : Tables) (laws : ReadingLaws t) where
         used = (let e : length (take m octets) ≡ length (take n octets) = ap length front in omega (arith, e, length-take m octets, length-take n octets, h.within, k.within));
       }
 
-  not_waiting : (s : State) (c : Content) (used : ℕ) → IsShort s.rest → StandsFirst t (bare_pair s) c used s.rest → ⊥
+  not_waiting : (s : State) (c : BareContent) (used : ℕ) → IsShort s.rest → StandsFirst t (bare_pair s) c used s.rest → ⊥
   not_waiting s c used short h =
       laws.not_short s.rest (take used s.rest) (drop used s.rest) short (wire_whole (bare_pair s) c (take used s.rest) h.wire) (sym (take-append-drop used s.rest))
 
-  not_faulty : (s : State) (c : Content) (used place : ℕ) → IsFaulty s.rest place → StandsFirst t (bare_pair s) c used s.rest → ⊥
+  not_faulty : (s : State) (c : BareContent) (used place : ℕ) → IsFaulty s.rest place → StandsFirst t (bare_pair s) c used s.rest → ⊥
   not_faulty s c used place bad h =
       laws.no_fault s.rest [] (take used s.rest) (drop used s.rest) place bad (wire_whole (bare_pair s) c (take used s.rest) h.wire) (append-nil s.rest ∙ sym (take-append-drop used s.rest))
 
-  may_clash : {X : Type 0} (s : State) (c d : Content) (m n : ℕ) → StandsFirst t (bare_pair s) c m s.rest → StandsFirst t (bare_pair s) d n s.rest
+  may_clash : {X : Type 0} (s : State) (c d : BareContent) (m n : ℕ) → StandsFirst t (bare_pair s) c m s.rest → StandsFirst t (bare_pair s) d n s.rest
       → may_take t s.opens c ≡ true → may_take t s.opens d ≡ false → X
   may_clash s c d m n h k may refused = clash (may_take t s.opens c) may (ap (may_take t s.opens) (same_first (bare_pair s) c d m n s.rest h k).content ∙ refused)
 
@@ -118,7 +118,7 @@ module _ (t : Tables) (laws : ReadingLaws t) where
   same_reads s xs ys is js (takes {steps = later} {shown = told} c m up first may next) (takes {steps = later'} {shown = told'} d n up' first' may' next') =
       let e = same_first (bare_pair s) c d m n s.rest first first' in
       let here : Reads t (after t s (took (read_message s c) m)) later' told' =
-      subst (λ (x : Content). Reads t (after t s (took (read_message s x) m)) later' told') (sym e.content)
+      subst (λ (x : BareContent). Reads t (after t s (took (read_message s x) m)) later' told') (sym e.content)
       (subst (λ (k : ℕ). Reads t (after t s (took (read_message s d) k)) later' told') (sym e.used) next') in
       let r = same_reads (after t s (took (read_message s c) m)) later later' told told' next here in
       record {
@@ -179,7 +179,7 @@ module _ (t : Tables) (laws : ReadingLaws t) where
         ap (after_all t s) (f.all ∙ ap (λ (l : List Step). fed ys ∷ l) r.steps) ∙ over_after s ys over,
       )
 
-  stands_on : (s : State) (ys : List ℕ) (c : Content) (used : ℕ) → StandsFirst t (bare_pair s) c used s.rest → StandsFirst t (bare_pair s) c used (s.rest ++ ys)
+  stands_on : (s : State) (ys : List ℕ) (c : BareContent) (used : ℕ) → StandsFirst t (bare_pair s) c used s.rest → StandsFirst t (bare_pair s) c used (s.rest ++ ys)
   stands_on s ys c used h = record {
     within = omega (arith, h.within, length-append s.rest ys);
     wire = subst (Wire t (bare_pair s) c) (sym (take-append-le used s.rest ys h.within)) h.wire;

@@ -9,7 +9,7 @@ use Rattle.stub_tables.specs.declared.apdu.Apdu.{Apdu}
 use Rattle.stub_tables.specs.declared.apdu.Apdu.TheVariants as apdus
 use Rattle.stub_tables.specs.Lookup.{operation_with}
 use Rattle.stub_tables.specs.Apdus.{IsWritable}
-use Rattle.dialogue.specs.Message.{Message, Content, apdu, unread, pair_of, bare_set}
+use Rattle.dialogue.specs.Message.{Message, BareContent, apdu, unread, pair_of, bare_set}
 use Rattle.dialogue.specs.Taking.{written}
 use Rattle.dialogue.proofs.Lists.{push_all}
 use Rattle.dialogue.proofs.Keys.{Keys, find, drop_key, find-append, drop_key-append, find-none, Distinct, Distinct-drop, Distinct-push, Below, Below-more, Below-push, Below-drop, Below-fresh, IsNumber, IsNumber-more, fresh_id, other_id}
@@ -34,7 +34,7 @@ module _ (t : Tables) where
     pub writable : IsWritable t a
 
   -- an invocation in flight has one of the identifiers given so far; a silent one isn't open
-  abbrev pub IsGiven : ℕ → Keys → Content → Type 0
+  abbrev pub IsGiven : ℕ → Keys → BareContent → Type 0
   IsGiven n ks (apdu (apdus.Invoke id linked code argument)) = IsNumber n id × (key_placed t id (operation_with t code) ≡ [] → find id ks ≡ None)
   IsGiven n ks _ = Unit {0}
 
@@ -43,7 +43,7 @@ module _ (t : Tables) where
   AreGiven n ks (m ∷ f) = IsGiven n ks m.content × AreGiven n ks f
 
   -- more were invoked
-  IsGiven-more : (n : ℕ) (ks more : Keys) (c : Content) → ((id : ℤ) → IsNumber n id → find id more ≡ None) → IsGiven n ks c → IsGiven (n + 1) (ks ++ more) c
+  IsGiven-more : (n : ℕ) (ks more : Keys) (c : BareContent) → ((id : ℤ) → IsNumber n id → find id more ≡ None) → IsGiven n ks c → IsGiven (n + 1) (ks ++ more) c
   IsGiven-more n ks more (apdu (apdus.Invoke id linked code argument)) free h =
       (IsNumber-more n (n + 1) id (omega arith) h.0, λ silent. find-none id ks more (h.1 silent) (free id h.0))
   IsGiven-more n ks more (apdu (apdus.Result id returned)) free h = tt
@@ -60,7 +60,7 @@ module _ (t : Tables) where
   AreGiven-push n ks (x ∷ f) m h g = (h.0, AreGiven-push n ks f m h.1 g)
 
   -- some were closed
-  IsGiven-less : (n : ℕ) (ks less : Keys) (c : Content) → ((id : ℤ) → find id ks ≡ None → find id less ≡ None) → IsGiven n ks c → IsGiven n less c
+  IsGiven-less : (n : ℕ) (ks less : Keys) (c : BareContent) → ((id : ℤ) → find id ks ≡ None → find id less ≡ None) → IsGiven n ks c → IsGiven n less c
   IsGiven-less n ks less (apdu (apdus.Invoke id linked code argument)) free h = (h.0, λ silent. free id (h.1 silent))
   IsGiven-less n ks less (apdu (apdus.Result id returned)) free h = tt
   IsGiven-less n ks less (apdu (apdus.Error id code parameter)) free h = tt
@@ -223,7 +223,7 @@ module _ (t : Tables) where
         given = p.given.1;
       }
 
-  closing-distinct : (c : Content) (ks : Keys) → Distinct ks → Distinct (closing t c ks)
+  closing-distinct : (c : BareContent) (ks : Keys) → Distinct ks → Distinct (closing t c ks)
   closing-distinct (apdu (apdus.Result id returned)) ks h = Distinct-drop id ks h
   closing-distinct (apdu (apdus.Error id code parameter)) ks h = Distinct-drop id ks h
   closing-distinct (apdu (apdus.Invoke id linked code argument)) ks h = h
@@ -234,7 +234,7 @@ module _ (t : Tables) where
   closing_all-distinct [] ks h = h
   closing_all-distinct (m ∷ f) ks h = closing_all-distinct f (closing t m.content ks) (closing-distinct m.content ks h)
 
-  closing-below : (n : ℕ) (c : Content) (ks : Keys) → Below n ks → Below n (closing t c ks)
+  closing-below : (n : ℕ) (c : BareContent) (ks : Keys) → Below n ks → Below n (closing t c ks)
   closing-below n (apdu (apdus.Result id returned)) ks h = Below-drop n id ks h
   closing-below n (apdu (apdus.Error id code parameter)) ks h = Below-drop n id ks h
   closing-below n (apdu (apdus.Invoke id linked code argument)) ks h = h

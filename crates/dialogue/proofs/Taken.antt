@@ -8,7 +8,7 @@ use Rattle.stub_tables.specs.declared.tables.Tables.{Tables}
 use Rattle.stub_tables.specs.Apdus.{Spells, written_apdu, IsWhole, IsShort, IsFaulty}
 use Rattle.dialogue.specs.declared.config.Phase.TheVariants.{Up}
 use Rattle.dialogue.specs.declared.indication.Indication.{Indication}
-use Rattle.dialogue.specs.Message.{Message, Content, apdu, unread, pair_of, bare_set}
+use Rattle.dialogue.specs.Message.{Message, BareContent, apdu, unread, pair_of, bare_set}
 use Rattle.dialogue.specs.State.{State, passes_over}
 use Rattle.dialogue.specs.Taking.{transfer_of, written, Wire, bare_pair, StandsFirst, may_take}
 use Rattle.dialogue.specs.History.{Step, fed, took, fault, after}
@@ -43,13 +43,13 @@ module _ (t : Tables) (laws : ReadingLaws t) where
       subst IsWhole (sym (is_written m s)) (laws.written_whole s.a s.writable)
     where
       is_written : (m : Message) (s : Sendable t m) → written t m ≡ written_apdu t Ber s.a
-      is_written m s = ap (λ (c : Content). written t (record { context = m.context; pair = m.pair; content = c })) s.content ∙ ap (λ (p : Option Pair). written_apdu t (transfer_of p) s.a) s.pair
+      is_written m s = ap (λ (c : BareContent). written t (record { context = m.context; pair = m.pair; content = c })) s.content ∙ ap (λ (p : Option Pair). written_apdu t (transfer_of p) s.a) s.pair
 
   pub sendable_spelled : (m : Message) (s : Sendable t m) → Spells t Ber s.a (written t m)
   sendable_spelled m s =
-      subst (Spells t Ber s.a) (sym (ap (λ (c : Content). written t (record { context = m.context; pair = m.pair; content = c })) s.content ∙ ap (λ (p : Option Pair). written_apdu t (transfer_of p) s.a) s.pair)) (laws.written_spelled s.a s.writable)
+      subst (Spells t Ber s.a) (sym (ap (λ (c : BareContent). written t (record { context = m.context; pair = m.pair; content = c })) s.content ∙ ap (λ (p : Option Pair). written_apdu t (transfer_of p) s.a) s.pair)) (laws.written_spelled s.a s.writable)
 
-  wire_whole : (pair : Option Pair) (c : Content) (text : List ℕ) → Wire t pair c text → IsWhole text
+  wire_whole : (pair : Option Pair) (c : BareContent) (text : List ℕ) → Wire t pair c text → IsWhole text
   wire_whole pair (apdu a) text h = h.0
   wire_whole pair (unread o) text h = h.0
 
@@ -57,22 +57,22 @@ module _ (t : Tables) (laws : ReadingLaws t) where
   bare_ber s h = ap (λ (l : List SetItem). transfer_of (pair_of l 0)) h
 
   -- what stands first is the oldest message in flight
-  pub record IsFirst (m : Message) (s : State) (content : Content) (used : ℕ) : Type 0 where
+  pub record IsFirst (m : Message) (s : State) (content : BareContent) (used : ℕ) : Type 0 where
     pub same : content ≡ m.content
     pub message : read_message s content ≡ m
     pub used_is : used ≡ length (written t m)
     pub rest : s.rest ≡ written t m ++ drop used s.rest
 
-  same_content : (m : Message) (sd : Sendable t m) (pair : Option Pair) (c : Content) (text : List ℕ) → transfer_of pair ≡ Ber → Wire t pair c text → text ≡ written t m → c ≡ m.content
+  same_content : (m : Message) (sd : Sendable t m) (pair : Option Pair) (c : BareContent) (text : List ℕ) → transfer_of pair ≡ Ber → Wire t pair c text → text ≡ written t m → c ≡ m.content
   same_content m sd pair (apdu a) text ber h e =
       ap apdu (laws.one_apdu Ber a sd.a (written t m) (subst (λ (o : List ℕ). Spells t Ber a o) e (subst (λ s. Spells t s a text) ber h.1)) (sendable_spelled m sd)) ∙ sym sd.content
   same_content m sd pair (unread o) text ber h e =
       absurd (h.2 sd.a (subst (λ s. Spells t s sd.a text) (sym ber) (subst (Spells t Ber sd.a) (sym e) (sendable_spelled m sd))))
 
-  whole_message : (m : Message) (context : ℕ) (pair : Option Pair) (c : Content) → c ≡ m.content → m.context ≡ context → m.pair ≡ pair → record { context = context; pair = pair; content = c } ≡ m
+  whole_message : (m : Message) (context : ℕ) (pair : Option Pair) (c : BareContent) → c ≡ m.content → m.context ≡ context → m.pair ≡ pair → record { context = context; pair = pair; content = c } ≡ m
   whole_message m context pair c e f g = λ i. record { context = sym f i; pair = sym g i; content = e i }
 
-  first_is : (m : Message) (s : State) (waiting more : List ℕ) (content : Content) (used : ℕ) → Sendable t m → s.held ≡ bare_set t
+  first_is : (m : Message) (s : State) (waiting more : List ℕ) (content : BareContent) (used : ℕ) → Sendable t m → s.held ≡ bare_set t
       → s.rest ++ waiting ≡ written t m ++ more → StandsFirst t (bare_pair s) content used s.rest → IsFirst m s content used
   first_is m s waiting more content used sd held e h =
       let cut : take used s.rest ++ (drop used s.rest ++ waiting) ≡ written t m ++ more =
@@ -87,7 +87,7 @@ module _ (t : Tables) (laws : ReadingLaws t) where
         rest = sym (take-append-drop used s.rest) ∙ ap (λ (r : List ℕ). r ++ drop used s.rest) front;
       }
 
-  nothing_first : (s : State) (waiting : List ℕ) (content : Content) (used : ℕ) → s.rest ++ waiting ≡ [] → StandsFirst t (bare_pair s) content used s.rest → ⊥
+  nothing_first : (s : State) (waiting : List ℕ) (content : BareContent) (used : ℕ) → s.rest ++ waiting ≡ [] → StandsFirst t (bare_pair s) content used s.rest → ⊥
   nothing_first s waiting content used e h =
       let empty : s.rest ≡ [] = front_empty s.rest waiting e in
       let gone : take used s.rest ≡ [] = ap (take used) empty ∙ take_nil used in
@@ -103,7 +103,7 @@ module _ (t : Tables) (laws : ReadingLaws t) where
 
   -- ---- what may be taken is taken
 
-  taken_step : (x y : Tally) (m : Message) (f g : Flight) (content : Content) (used : ℕ) → Live t x y (m ∷ f) g → IsFirst m y.state content used
+  taken_step : (x y : Tally) (m : Message) (f g : Flight) (content : BareContent) (used : ℕ) → Live t x y (m ∷ f) g → IsFirst m y.state content used
       → Live t x (adds t y (took (read_message y.state content) used)) f g
   taken_step x y m f g content used h first =
       subst (λ (n : Message). Live t x (adds t y (took n used)) f g) (sym first.message) (Live-takes t x y m f g (drop used y.state.rest) used h first.rest first.used_is)
@@ -112,14 +112,14 @@ module _ (t : Tables) (laws : ReadingLaws t) where
   head_may x y m f g h =
       let s : Sendable t m = h.there.pipe.sendable.0 in
       let p = h.there.pipe in
-      subst (λ (c : Content). may_take t y.state.opens c ≡ true) (sym s.content)
+      subst (λ (c : BareContent). may_take t y.state.opens c ≡ true) (sym s.content)
       (accepts t y.state.opens (keys_of true x.state.opens) (keys_in t f) x.state.invoked g s.a s.writable
-      (subst (λ (c : Content). closing_all t g (keys_of true x.state.opens) ≡ keys_of false y.state.opens ++ (keys_in_content t c ++ keys_in t f)) s.content p.same)
+      (subst (λ (c : BareContent). closing_all t g (keys_of true x.state.opens) ≡ keys_of false y.state.opens ++ (keys_in_content t c ++ keys_in t f)) s.content p.same)
       p.distinct p.few
       (subst (IsGiven t x.state.invoked (keys_of true x.state.opens)) s.content p.given.0)
-      (subst (λ (c : Content). CloseMay t c (keys_of true y.state.opens)) s.content h.back.pipe.close.0))
+      (subst (λ (c : BareContent). CloseMay t c (keys_of true y.state.opens)) s.content h.back.pipe.close.0))
 
-  first_message : (x y : Tally) (f g : Flight) (content : Content) (used : ℕ) → Live t x y f g → StandsFirst t (bare_pair y.state) content used y.state.rest
+  first_message : (x y : Tally) (f g : Flight) (content : BareContent) (used : ℕ) → Live t x y f g → StandsFirst t (bare_pair y.state) content used y.state.rest
       → (m : Message) × (more : Flight) × (f ≡ m ∷ more) × IsFirst m y.state content used
   first_message x y [] g content used h first = absurd (nothing_first y.state x.state.waiting content used h.there.pipe.octets first)
   first_message x y (m ∷ f) g content used h first =

@@ -19,7 +19,7 @@ use Rattle.dialogue.specs.declared.event.Carried.{Carried}
 use Rattle.dialogue.specs.declared.event.Entry.{Entry}
 use Rattle.dialogue.specs.declared.event.Entry.TheVariants as entries
 use Rattle.dialogue.specs.declared.indication.Indication.{Indication}
-use Rattle.dialogue.specs.Message.{Message, Content, apdu, pair_of, bare_set}
+use Rattle.dialogue.specs.Message.{Message, BareContent, apdu, pair_of, bare_set}
 use Rattle.dialogue.specs.State.{passes_over}
 use Rattle.dialogue.specs.Calls.{Reply}
 use Rattle.dialogue.specs.Taking.{written, may_take, value_of, shown_of}
@@ -101,7 +101,7 @@ abbrev pub invocation_placed : Option ℕ → ℤ → Option Val → List Invoca
 invocation_placed None id argument = []
 invocation_placed (Some place) id argument = record { id = id; operation = place; argument = argument } ∷ []
 
-abbrev pub invocation_in : Tables → Content → List Invocation
+abbrev pub invocation_in : Tables → BareContent → List Invocation
 invocation_in tables (apdu (apdus.Invoke id linked code argument)) = invocation_placed (operation_with tables code) id argument
 invocation_in tables _ = []
 
@@ -109,7 +109,7 @@ abbrev pub error_placed : Option ℕ → ℤ → Option Val → List Outcome
 error_placed None id parameter = []
 error_placed (Some place) id parameter = error id place parameter ∷ []
 
-abbrev pub outcome_in : Tables → Content → List Outcome
+abbrev pub outcome_in : Tables → BareContent → List Outcome
 outcome_in tables (apdu (apdus.Result id returned)) = result id (value_of returned) ∷ []
 outcome_in tables (apdu (apdus.Error id code parameter)) = error_placed (error_with tables code) id parameter
 outcome_in tables _ = []

@@ -7,16 +7,16 @@ use Rattle.stub_tables.specs.declared.apdu.Apdu.{Apdu}
 use Rattle.stub_tables.specs.declared.tables.Tables.{Tables}
 
 -- what a value is, as it is read: an APDU, or octets that spell none
-pub data Content : Type 0 where
-  apdu : Apdu → Content
-  unread : List ℕ → Content
+pub data BareContent : Type 0 where
+  apdu : Apdu → BareContent
+  unread : List ℕ → BareContent
 
 -- A presentation data value: its context's identifier, the pair that the identifier stood for, and
 -- what it is (X.226 8.4).
 pub record Message : Type 0 where
   pub context : ℕ
   pub pair : Option Pair
-  pub content : Content
+  pub content : BareContent
 
 -- the pair that a set gives an identifier (X.216 3.3.15)
 abbrev pub pair_of : List SetItem → ℕ → Option Pair

@@ -18,7 +18,7 @@ use Rattle.stub_tables.specs.Apdus.{Spells, written_apdu, IsWhole, operation_cod
 use Rattle.dialogue.specs.declared.opened.Opened.{Opened}
 use Rattle.dialogue.specs.declared.indication.Indication.{Indication}
 use Rattle.dialogue.specs.declared.indication.Indication.TheVariants as indications
-use Rattle.dialogue.specs.Message.{Message, Content, apdu, unread, pair_of}
+use Rattle.dialogue.specs.Message.{Message, BareContent, apdu, unread, pair_of}
 use Rattle.dialogue.specs.State.{State, opened_with, without, opens_of}
 use Rattle.dialogue.specs.Calls.{opened_by, operation_of}
 
@@ -28,7 +28,7 @@ transfer_of None = Ber
 transfer_of (Some pair) = pair.transfer
 
 -- the one spelling in which a message is written
-abbrev pub written_content : Tables → Option Pair → Content → List ℕ
+abbrev pub written_content : Tables → Option Pair → BareContent → List ℕ
 written_content tables pair (apdu a) = written_apdu tables (transfer_of pair) a
 written_content tables pair (unread octets) = octets
 
@@ -36,7 +36,7 @@ abbrev pub written : Tables → Message → List ℕ
 written tables m = written_content tables m.pair m.content
 
 -- The octets are one whole value, which spells the APDU, or spells none.
-abbrev pub Wire : Tables → Option Pair → Content → List ℕ → Type 0
+abbrev pub Wire : Tables → Option Pair → BareContent → List ℕ → Type 0
 Wire tables pair (apdu a) octets = IsWhole octets × Spells tables (transfer_of pair) a octets
 Wire tables pair (unread text) octets = IsWhole octets × (text ≡ octets) × ((a : Apdu) → Spells tables (transfer_of pair) a octets → ⊥)
 
@@ -45,7 +45,7 @@ abbrev pub bare_pair : State → Option Pair
 bare_pair state = pair_of state.held 0
 
 -- the message stands first in the octets, and has so many of them
-pub record StandsFirst (tables : Tables) (pair : Option Pair) (content : Content) (used : ℕ) (octets : List ℕ) : Type 0 where
+pub record StandsFirst (tables : Tables) (pair : Option Pair) (content : BareContent) (used : ℕ) (octets : List ℕ) : Type 0 where
   pub within : used ≤ length octets
   pub wire : Wire tables pair content (take used octets)
 
@@ -83,7 +83,7 @@ may_take_apdu tables opens (apdus.Error id code parameter) = may_error (operatio
 may_take_apdu tables opens (apdus.Reject id problem) = false
 
 -- What may be taken while these invocations are open. All else ends the association, as yet.
-abbrev pub may_take : Tables → List Opened → Content → Bool
+abbrev pub may_take : Tables → List Opened → BareContent → Bool
 may_take tables opens (apdu a) = may_take_apdu tables opens a
 may_take tables opens (unread octets) = false
 
@@ -93,7 +93,7 @@ abbrev pub opens_after_invoke : Tables → Option ℕ → ℤ → List Opened
 opens_after_invoke tables None id = []
 opens_after_invoke tables (Some place) id = opened_by (operation_at tables place) (record { own = false; id = id; operation = place; context = 0 })
 
-abbrev pub opens_after : Tables → List Opened → Content → List Opened
+abbrev pub opens_after : Tables → List Opened → BareContent → List Opened
 opens_after tables opens (apdu (apdus.Invoke id linked code argument)) = opens ++ opens_after_invoke tables (operation_with tables code) id
 opens_after tables opens (apdu (apdus.Result id returned)) = without true id opens
 opens_after tables opens (apdu (apdus.Error id code parameter)) = without true id opens
@@ -113,7 +113,7 @@ abbrev pub shown_error : Option ℕ → ℤ → Option Val → List Indication
 shown_error None id parameter = []
 shown_error (Some place) id parameter = indications.Error id place parameter ∷ []
 
-abbrev pub shown_of : Tables → Content → List Indication
+abbrev pub shown_of : Tables → BareContent → List Indication
 shown_of tables (apdu (apdus.Invoke id linked code argument)) = shown_invoke (operation_with tables code) id linked argument
 shown_of tables (apdu (apdus.Result id returned)) = indications.Result id (value_of returned) ∷ []
 shown_of tables (apdu (apdus.Error id code parameter)) = shown_error (error_with tables code) id parameter

@@ -21,7 +21,7 @@ use Rattle.dialogue.specs.declared.call.CallRefusal.TheVariants as refusals
 use Rattle.dialogue.specs.declared.indication.Indication.{Indication}
 use Rattle.end_rules.specs.Base.{Base, Spellings, Item}
 use Rattle.end_rules.specs.Sets.{Alteration}
-use Rattle.end_rules.specs.Messages.{Content, Remote, Value, Message, Transport, Session, Word, OfAssociation, OfData, OfMarks, OfActivities, TransportUnit, ConnectionRequest, ConnectionConfirm, DisconnectRequest, TransportError, unit_of}
+use Rattle.end_rules.specs.Messages.{ValueContent, Remote, Value, Message, Transport, Session, Word, OfAssociation, OfData, OfMarks, OfActivities, TransportUnit, ConnectionRequest, ConnectionConfirm, DisconnectRequest, TransportError, unit_of}
 use Rattle.end_rules.specs.Messages.{Connect, Accept, Refuse, Finish, Disconnect, Abort, AbortAccept, Values, AlterContext, AlterContextAck, Mark, MarkAck, Restart, RestartAck, Give, Please, GiveConfirm, GiveAck}
 use Rattle.end_rules.specs.State.{Body, OpenCall, is_up, is_unused, is_broken, is_carrying, opened_with}
 use Rattle.end_rules.specs.Writing.{provider_refusal, refuse_message, user_abort}
@@ -89,7 +89,7 @@ hold-append tables made given (x ∷ xs) ys h k = (h.0, hold-append tables made 
 
 -- ---- rejects alone
 
-abbrev IsRejectAlone : Content → Type 0
+abbrev IsRejectAlone : ValueContent → Type 0
 IsRejectAlone (Remote (apdus.Reject id problem)) = Unit {0}
 IsRejectAlone content = ⊥
 
@@ -108,7 +108,7 @@ AllRejects (m ∷ ms) = Rejects m × AllRejects ms
 
 -- ---- numbers of invocations
 
-abbrev content_invokes : Content → List ℤ
+abbrev content_invokes : ValueContent → List ℤ
 content_invokes (Remote apdu) = apdu_invokes apdu
 content_invokes content = []
 
@@ -132,7 +132,7 @@ rejects-none : (values : List Value) → AreRejects values → values_invoke val
 rejects-none [] h = refl
 rejects-none (value ∷ values) h = ap (λ (l : List ℤ). l ++ values_invoke values) (one-none value.content h.0) ∙ rejects-none values h.1
   where
-    one-none : (c : Content) → IsRejectAlone c → content_invokes c ≡ []
+    one-none : (c : ValueContent) → IsRejectAlone c → content_invokes c ≡ []
     one-none (Remote (apdus.Reject id problem)) h = refl
     one-none c h = absurd h
 
@@ -153,7 +153,7 @@ rejects-hold : (tables : Tables) (made : List Invocation) (given : List Outcome)
 rejects-hold tables made given [] h = tt
 rejects-hold tables made given (value ∷ values) h = (one value.content h.0, rejects-hold tables made given values h.1)
   where
-    one : (c : Content) → IsRejectAlone c → HoldsOurs tables made given c
+    one : (c : ValueContent) → IsRejectAlone c → HoldsOurs tables made given c
     one (Remote (apdus.Reject id problem)) h = record { apdu = apdus.Reject id problem; is_it = refl; is_ours = tt }
     one c h = absurd h
 

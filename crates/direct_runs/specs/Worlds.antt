@@ -11,16 +11,16 @@ use Rattle.agreement.specs.Sets.{Role}
 use Rattle.end_model.specs.Pairs.{Common, base_at}
 use Rattle.association_reading.specs.Front.{Intake, first_in}
 use Rattle.association_reading.specs.Reacting.{react_to}
-use Rattle.association_worlds.specs.Worlds.{Ends, end_at, Spoken}
+use Rattle.association_worlds.specs.Worlds.{LineEnds, end_at, Spoken}
 use Rattle.association_worlds.specs.Laws.{IsSpelled}
 use Rattle.end_laws.specs.Codecs.{Transfers, direct_ends}
 use Rattle.said_worlds.specs.Laws.{AreEnds}
 
 -- of every module and every two configurations that may be ends of direct mode
-abbrev pub EverInWorlds : (Common → Ends → Type 0) → Type 0
+abbrev pub EverInWorlds : (Common → LineEnds → Type 0) → Type 0
 EverInWorlds Law =
     (tables : Tables) (transfers : Transfers) (a b : Config) → AreEnds tables a b →
-    (ends : Ends) → Spoken (direct_ends tables transfers a b) ends → Law (direct_ends tables transfers a b) ends
+    (ends : LineEnds) → Spoken (direct_ends tables transfers a b) ends → Law (direct_ends tables transfers a b) ends
 
 abbrev pub DirectWorldsAreSpelled : Type 0
 DirectWorldsAreSpelled = EverInWorlds IsSpelled

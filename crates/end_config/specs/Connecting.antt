@@ -16,7 +16,7 @@ use Rattle.dialogue.specs.declared.config.Config.{Config}
 use Rattle.dialogue.specs.declared.config.Mode.{Mode}
 use Rattle.dialogue.specs.declared.config.Mode.TheVariants.{Bare, Direct, Reliable}
 use Rattle.end_rules.specs.Base.{Base, application_context}
-use Rattle.end_rules.specs.Messages.{Information, Transferring, Other, Content, Remote, Unread, Association, Plea, Part, Value}
+use Rattle.end_rules.specs.Messages.{Information, Transferring, Other, ValueContent, Remote, Unread, Association, Plea, Part, Value}
 use Rattle.end_rules.specs.Writing.{own_proposals, requirement_bits, presentation_connect, connect_values}
 
 -- ---- what the rules send as CP, with its user data as octets
@@ -26,7 +26,7 @@ external_of (Transferring id apdu) = record { id = id; value = written_rtse apdu
 external_of (Other id octets) = record { id = id; value = octets }
 
 -- the octets of an APDU of association control with its user information
-abbrev pub associated : Content → List ℕ
+abbrev pub associated : ValueContent → List ℕ
 associated (Association (acse.AssociateRequest version context none) user) = written_acse (acse.AssociateRequest version context (map external_of user))
 associated (Association apdu user) = written_acse apdu
 associated (Remote apdu) = []

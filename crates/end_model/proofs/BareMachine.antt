@@ -17,10 +17,10 @@ use Rattle.end_rules.specs.Requesting.{after_call, after_sent, due_of}
 use Rattle.agreement.specs.Sets.{Role, ContextSet, other, is_initiator}
 use Rattle.agreement.specs.Sets.Role.{Initiator, Responder}
 use Rattle.agreement.specs.Messages as model
-use Rattle.agreement.specs.Messages.Act.{Says, Queues, Drops, Connects, Recovers, Alters, Marks}
-use Rattle.agreement.specs.Messages.Act.{Gives, Pleads, Restarts, Starts, Encodes, Sends, Ends}
+use Rattle.agreement.specs.Messages.Act.{SaysValue, Queues, Drops, Connects, Recovers, Alters, Marks}
+use Rattle.agreement.specs.Messages.Act.{GivesTurn, Pleads, Restarts, Starts, Encodes, Sends, EndsActivity}
 use Rattle.agreement.specs.Messages.Act.{Interrupts, Discards, Resumes, Releases, Aborts, Withdraws}
-use Rattle.agreement.specs.Messages.Act.{Fails as model_fails}
+use Rattle.agreement.specs.Messages.Act.{TransportFails as model_fails}
 use Rattle.agreement.specs.Laws.{handed_by}
 use Rattle.agreement.specs.Messages.Apdu.{Invoke, Outcome, Reject}
 use Rattle.agreement.specs.Messages.Message.{Data}
@@ -38,7 +38,7 @@ use Rattle.end_model.specs.Seen.{Free, role_seen, phase_seen, apdu_seen, seen}
 use Rattle.end_model.specs.Rows.{at}
 use Rattle.end_model.specs.Opens.{IsProper}
 use Rattle.end_model.specs.Words.{IsOurs, AreOurs}
-use Rattle.end_model.specs.Acting.{HandsIn, IsSound, ReadsBack}
+use Rattle.end_model.specs.Acting.{HandsIn, IsSoundBody, ReadsBack}
 use Rattle.end_model.specs.Requests.{sent_all, after_called}
 use Rattle.end_model.specs.Pairs.{Common, base_at, Two, body_at, coming_to, stepped, setup_of}
 use Rattle.end_model.specs.Pairs.{AreComing, SideOf, ModelOf, bare_pair, WritesAll}
@@ -127,7 +127,7 @@ from-sides free common Responder two world body left sent s = record { world = w
 
 -- ---- an act of one end
 
-pub acting : (free : Free) (tables : Tables) (spellings : Spellings) (a b : Config) (world : World) (role : Role) (body later : Body) (coming : List Message) (peer : Body) (to_peer sent : List Message) (act : model.Act) → Sides free (bare_pair tables spellings a b) world role body coming peer to_peer → MayAct (setup_of free (bare_pair tables spellings a b)) role (seen (base_at role (bare_pair tables spellings a b)) body) act → seen (base_at role (bare_pair tables spellings a b)) later ≡ acted (setup_of free (bare_pair tables spellings a b)) (seen (base_at role (bare_pair tables spellings a b)) body) act → AreOurs (base_at role (bare_pair tables spellings a b)) sent (sent_by (setup_of free (bare_pair tables spellings a b)) (seen (base_at role (bare_pair tables spellings a b)) body) act) → IsSound Bare (base_at role (bare_pair tables spellings a b)) later → (later.link.phase ≡ Up) ⊎ (later.link.phase ≡ Over) → Sides free (bare_pair tables spellings a b) (By role (Acts act) ∷ world) role later coming peer (to_peer ++ sent)
+pub acting : (free : Free) (tables : Tables) (spellings : Spellings) (a b : Config) (world : World) (role : Role) (body later : Body) (coming : List Message) (peer : Body) (to_peer sent : List Message) (act : model.Act) → Sides free (bare_pair tables spellings a b) world role body coming peer to_peer → MayAct (setup_of free (bare_pair tables spellings a b)) role (seen (base_at role (bare_pair tables spellings a b)) body) act → seen (base_at role (bare_pair tables spellings a b)) later ≡ acted (setup_of free (bare_pair tables spellings a b)) (seen (base_at role (bare_pair tables spellings a b)) body) act → AreOurs (base_at role (bare_pair tables spellings a b)) sent (sent_by (setup_of free (bare_pair tables spellings a b)) (seen (base_at role (bare_pair tables spellings a b)) body) act) → IsSoundBody Bare (base_at role (bare_pair tables spellings a b)) later → (later.link.phase ≡ Up) ⊎ (later.link.phase ≡ Over) → Sides free (bare_pair tables spellings a b) (By role (Acts act) ∷ world) role later coming peer (to_peer ++ sent)
 acting free tables spellings a b world role body later coming peer to_peer sent act s may is ours sound phase =
     let common : Common = bare_pair tables spellings a b in
     let setup : model.Setup = setup_of free common in
@@ -160,7 +160,7 @@ no-call : (b : Bool) → not b ≡ false → b ≡ true
 no-call true h = refl
 no-call false h = cc
 
-handed : (free : Free) (base : Base) (body : Body) (call : Call) (answer : Option ℤ) → WritesAll free → ReadsBack (at Bare base) → IsSound Bare base body → is_of_bare_mode call ≡ true → can_call (at Bare base) body call ≡ Ok answer → HandsIn free Bare base [] body call answer
+handed : (free : Free) (base : Base) (body : Body) (call : Call) (answer : Option ℤ) → WritesAll free → ReadsBack (at Bare base) → IsSoundBody Bare base body → is_of_bare_mode call ≡ true → can_call (at Bare base) body call ≡ Ok answer → HandsIn free Bare base [] body call answer
 handed free base body (the_calls.Invoke context operation argument linked) answer writes back sound k h = invoke-in Bare context operation argument linked free base [] body answer writes back sound h
 handed free base body (the_calls.Answer id result) answer writes back sound k h = answer-in Bare id result free base [] body answer writes back sound h
 handed free base body (the_calls.Refuse id error parameter) answer writes back sound k h = refuse-in Bare id error parameter free base [] body answer writes back sound h
@@ -205,20 +205,20 @@ phase-of the_calls.Abort body h k = cc
 
 -- what is handed in leaves the phase
 same-phase : (setup : model.Setup) (state : states.State) (act : model.Act) (apdu : model.Apdu) → handed_by (Acts act) ≡ apdu ∷ [] → (acted setup state act).phase ≡ state.phase
-same-phase setup state (Says value) apdu h = refl
+same-phase setup state (SaysValue value) apdu h = refl
 same-phase setup state (Queues context item) apdu h = refl
 same-phase setup state Connects apdu h = cc
 same-phase setup state Recovers apdu h = cc
 same-phase setup state Drops apdu h = refl
 same-phase setup state (Alters items) apdu h = refl
 same-phase setup state Marks apdu h = cc
-same-phase setup state Gives apdu h = cc
+same-phase setup state GivesTurn apdu h = cc
 same-phase setup state (Pleads priority) apdu h = refl
 same-phase setup state (Restarts number) apdu h = refl
 same-phase setup state Starts apdu h = refl
 same-phase setup state (Encodes context) apdu h = refl
 same-phase setup state (Sends octets) apdu h = refl
-same-phase setup state Ends apdu h = refl
+same-phase setup state EndsActivity apdu h = refl
 same-phase setup state Interrupts apdu h = refl
 same-phase setup state Discards apdu h = refl
 same-phase setup state Resumes apdu h = refl

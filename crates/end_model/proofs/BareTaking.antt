@@ -38,7 +38,7 @@ use Rattle.agreement.specs.Worlds.Moment.{By, Break}
 use Rattle.agreement.proofs.Interface.{acts, takes, passes, laws}
 use Rattle.end_model.specs.Seen.{Free, phase_seen, awaited_seen, item_seen, seen}
 use Rattle.end_model.specs.Words.{data_word, AreOurs}
-use Rattle.end_model.specs.Acting.{IsSound, ReadsBack}
+use Rattle.end_model.specs.Acting.{IsSoundBody, ReadsBack}
 use Rattle.end_model.specs.Heard.{IsExpected, MayThen, then_acted, sent_then}
 use Rattle.end_model.specs.Pairs.{Common, base_at, Two, body_at, coming_to, stepped, Reached}
 use Rattle.end_model.specs.Pairs.{begins, calls, takes as reached_takes, passes as reached_passes}
@@ -103,7 +103,7 @@ record Half (free : Free) (common : Common) (world : World) (role : Role) (state
   flight : AreComing (base_at Initiator common) coming (flight_to (setup_of free common) role world)
   others : SideOf free common world (other role) peer to_peer
 
-then-none : (free : Free) (tables : Tables) (spellings : Spellings) (a b : Config) (world : World) (role : Role) (state : states.State) (later : Body) (left : List Message) (peer : Body) (to_peer sent : List Message) (act : Option model.Act) → Half free (bare_pair tables spellings a b) world role state left peer to_peer → MayThen (setup_of free (bare_pair tables spellings a b)) role state act → seen (base_at role (bare_pair tables spellings a b)) later ≡ then_acted (setup_of free (bare_pair tables spellings a b)) state act → AreOurs (base_at role (bare_pair tables spellings a b)) sent (sent_then (setup_of free (bare_pair tables spellings a b)) state act) → IsSound Bare (base_at role (bare_pair tables spellings a b)) later → (later.link.phase ≡ Up) ⊎ (later.link.phase ≡ Over) → (world' : World) × Sides free (bare_pair tables spellings a b) world' role later left peer (to_peer ++ sent)
+then-none : (free : Free) (tables : Tables) (spellings : Spellings) (a b : Config) (world : World) (role : Role) (state : states.State) (later : Body) (left : List Message) (peer : Body) (to_peer sent : List Message) (act : Option model.Act) → Half free (bare_pair tables spellings a b) world role state left peer to_peer → MayThen (setup_of free (bare_pair tables spellings a b)) role state act → seen (base_at role (bare_pair tables spellings a b)) later ≡ then_acted (setup_of free (bare_pair tables spellings a b)) state act → AreOurs (base_at role (bare_pair tables spellings a b)) sent (sent_then (setup_of free (bare_pair tables spellings a b)) state act) → IsSoundBody Bare (base_at role (bare_pair tables spellings a b)) later → (later.link.phase ≡ Up) ⊎ (later.link.phase ≡ Over) → (world' : World) × Sides free (bare_pair tables spellings a b) world' role later left peer (to_peer ++ sent)
 then-none free tables spellings a b world role state later left peer to_peer [] None h may is ours sound phase = (
   world,
   record {

@@ -19,7 +19,7 @@ use Rattle.end_rules.specs.TakesTransport.{is_size, may_respond, transport_unit_
 use Rattle.end_rules.specs.TakesTransport.{after_transport, answers_to_transport}
 use Rattle.agreement.specs.Sets.{Role}
 use Rattle.agreement.specs.Sets.Role.{Initiator}
-use Rattle.agreement.specs.Messages.Act.{Connects, Recovers, Fails, Aborts, Withdraws}
+use Rattle.agreement.specs.Messages.Act.{Connects, Recovers, TransportFails, Aborts, Withdraws}
 use Rattle.agreement.specs.Messages.Message.{Connect as model_connect, Recover as model_recover}
 use Rattle.agreement.specs.Messages.Message.{UserAbort as model_user_abort}
 use Rattle.agreement.specs.State.Phase.{Idle as model_idle, Broken as model_broken}
@@ -106,7 +106,7 @@ recovers-act destination size free base proposed body phase fine =
 
 -- ---- DR
 
-fails-act : (mode : Mode) (destination : ℕ) (free : Free) (base : Base) (proposed : List Proposal) (body : Body) → IsAssociated mode → body.link.phase ≡ phases.Opening → transport_unit_fault (at mode base) body (DisconnectRequest destination) ≡ None → ActsAs free mode base proposed body (after_transport (at mode base) body (DisconnectRequest destination)) (answers_to_transport (at mode base) body (DisconnectRequest destination)) Fails
+fails-act : (mode : Mode) (destination : ℕ) (free : Free) (base : Base) (proposed : List Proposal) (body : Body) → IsAssociated mode → body.link.phase ≡ phases.Opening → transport_unit_fault (at mode base) body (DisconnectRequest destination) ≡ None → ActsAs free mode base proposed body (after_transport (at mode base) body (DisconnectRequest destination)) (answers_to_transport (at mode base) body (DisconnectRequest destination)) TransportFails
 fails-act mode destination free base proposed body associated phase fine =
     let k : (base.initiator && is_asked body.link.stage) ≡ true = no-fault (may_respond (at mode base) body) transport_fault fine in
     let idle : phase_seen body.link.stage body.link.phase ≡ model_idle = ap (phase_seen body.link.stage) phase ∙ asked-idle body.link.stage (and-right base.initiator (is_asked body.link.stage) k) in
@@ -116,7 +116,7 @@ fails-act mode destination free base proposed body associated phase fine =
       means = tt;
     }
 
-recovery-fails : (mode : Mode) (destination : ℕ) (free : Free) (base : Base) (proposed : List Proposal) (body : Body) → IsAssociated mode → body.link.phase ≡ phases.Recovering → transport_unit_fault (at mode base) body (DisconnectRequest destination) ≡ None → ActsAs free mode base proposed body (after_transport (at mode base) body (DisconnectRequest destination)) (answers_to_transport (at mode base) body (DisconnectRequest destination)) Fails
+recovery-fails : (mode : Mode) (destination : ℕ) (free : Free) (base : Base) (proposed : List Proposal) (body : Body) → IsAssociated mode → body.link.phase ≡ phases.Recovering → transport_unit_fault (at mode base) body (DisconnectRequest destination) ≡ None → ActsAs free mode base proposed body (after_transport (at mode base) body (DisconnectRequest destination)) (answers_to_transport (at mode base) body (DisconnectRequest destination)) TransportFails
 recovery-fails mode destination free base proposed body associated phase fine =
     let k : (base.initiator && is_asked body.link.stage) ≡ true = no-fault (may_respond (at mode base) body) transport_fault fine in
     let broken : phase_seen body.link.stage body.link.phase ≡ model_broken = ap (phase_seen body.link.stage) phase ∙ asked-broken body.link.stage (and-right base.initiator (is_asked body.link.stage) k) in

@@ -36,7 +36,7 @@ use Rattle.agreement.specs.Worlds.Moment.{By}
 use Rattle.agreement.proofs.Interface.{laws}
 use Rattle.end_model.specs.Seen.{Free, seen}
 use Rattle.end_model.specs.Opens.{IsProper, Numbered}
-use Rattle.end_model.specs.Acting.{HandsIn, ActsAs, IsSound, ReadsBack}
+use Rattle.end_model.specs.Acting.{HandsIn, ActsAs, IsSoundBody, ReadsBack}
 use Rattle.end_model.specs.Requests.{sent_all, after_called}
 use Rattle.end_model.specs.Pairs.{WritesAll}
 use Rattle.end_model.specs.Sharing.{side_of, shared_all_sent, before}
@@ -80,8 +80,8 @@ module _ (free : Free) (tables : Tables) (spellings : Spellings) (a b : Config) 
   abbrev setup : model.Setup
   setup = taking.setup free tables spellings a b
 
-  abbrev Ends : World → Role → Body → List Message → Body → List Message → List (List SetItem) → List (List SetItem) → Shared → Type 0
-  Ends = taking.Ends free tables spellings a b
+  abbrev AreJoint : World → Role → Body → List Message → Body → List Message → List (List SetItem) → List (List SetItem) → Shared → Type 0
+  AreJoint = taking.AreJoint free tables spellings a b
 
   -- spellings read back at one end do so at the other
   pub reads-at : (role : Role) → ReadsBack (base Initiator) → ReadsBack (base role)
@@ -93,12 +93,12 @@ module _ (free : Free) (tables : Tables) (spellings : Spellings) (a b : Config) 
 
   pub record CalledTo (role : Role) (later : Body) (sent coming : List Message) (peer : Body) (to_peer : List Message) (fs gs : List (List SetItem)) (shared : Shared) : Type 0 where
     pub world : World
-    pub ends : Ends world role later coming peer (to_peer ++ sent) fs (gs ++ before shared sent) (shared_all_sent Direct (side_of role) sent shared)
-    pub sound : IsSound Direct (base role) later
+    pub ends : AreJoint world role later coming peer (to_peer ++ sent) fs (gs ++ before shared sent) (shared_all_sent Direct (side_of role) sent shared)
+    pub sound : IsSoundBody Direct (base role) later
     pub side : Live later ⊎ (later.link.phase ≡ Over)
     pub own : AreOwn (base Initiator) sent
 
-  handing : (world : World) (role : Role) (body : Body) (call : Call) (answer : Option ℤ) (coming : List Message) (peer : Body) (to_peer : List Message) (fs gs : List (List SetItem)) (shared : Shared) → Ends world role body coming peer to_peer fs gs shared → Live body → (after_call (base role) body call (Ok answer)).link ≡ body.link → HandsIn free Direct (base role) proposed body call answer → CalledTo role (after_called Direct (base role) body call answer) (due_of (base role) body call (Ok answer)) coming peer to_peer fs gs shared
+  handing : (world : World) (role : Role) (body : Body) (call : Call) (answer : Option ℤ) (coming : List Message) (peer : Body) (to_peer : List Message) (fs gs : List (List SetItem)) (shared : Shared) → AreJoint world role body coming peer to_peer fs gs shared → Live body → (after_call (base role) body call (Ok answer)).link ≡ body.link → HandsIn free Direct (base role) proposed body call answer → CalledTo role (after_called Direct (base role) body call answer) (due_of (base role) body call (Ok answer)) coming peer to_peer fs gs shared
   handing world role body call answer coming peer to_peer fs gs shared j live kept x =
       let later : Body = after_call (base role) body call (Ok answer) in
       let due : List Message = due_of (base role) body call (Ok answer) in
@@ -111,7 +111,7 @@ module _ (free : Free) (tables : Tables) (spellings : Spellings) (a b : Config) 
         own = taking.own-for free tables spellings a b role due (ours-own (base role) due _ x.acts.ours);
       })
 
-  acting : (world : World) (role : Role) (body later : Body) (sent coming : List Message) (peer : Body) (to_peer : List Message) (act : model.Act) (fs gs : List (List SetItem)) (shared : Shared) → Ends world role body coming peer to_peer fs gs shared → ActsAs free Direct (base role) proposed body later sent act → IsSound Direct (base role) later → Live later ⊎ (later.link.phase ≡ Over) → AreOwn (base Initiator) sent → CalledTo role later sent coming peer to_peer fs gs shared
+  acting : (world : World) (role : Role) (body later : Body) (sent coming : List Message) (peer : Body) (to_peer : List Message) (act : model.Act) (fs gs : List (List SetItem)) (shared : Shared) → AreJoint world role body coming peer to_peer fs gs shared → ActsAs free Direct (base role) proposed body later sent act → IsSoundBody Direct (base role) later → Live later ⊎ (later.link.phase ≡ Over) → AreOwn (base Initiator) sent → CalledTo role later sent coming peer to_peer fs gs shared
   acting world role body later sent coming peer to_peer act fs gs shared j x sound side own =
       record {
         world = By role (Acts act) ∷ world;
@@ -148,21 +148,21 @@ module _ (free : Free) (tables : Tables) (spellings : Spellings) (a b : Config) 
       go (inr e) = releasing (sym (ap is_broken e) ∙ h)
 
   -- an abort sends an AB and leaves the end over
-  pub aborting : (world : World) (role : Role) (body : Body) (answer : Option ℤ) (coming : List Message) (peer : Body) (to_peer : List Message) (fs gs : List (List SetItem)) (shared : Shared) → Ends world role body coming peer to_peer fs gs shared → IsSound Direct (base role) body → body.link.stage ≡ Carrying → can_call (base role) body the_calls.Abort ≡ Ok answer → CalledTo role (after_called Direct (base role) body the_calls.Abort answer) (due_of (base role) body the_calls.Abort (Ok answer)) coming peer to_peer fs gs shared
+  pub aborting : (world : World) (role : Role) (body : Body) (answer : Option ℤ) (coming : List Message) (peer : Body) (to_peer : List Message) (fs gs : List (List SetItem)) (shared : Shared) → AreJoint world role body coming peer to_peer fs gs shared → IsSoundBody Direct (base role) body → body.link.stage ≡ Carrying → can_call (base role) body the_calls.Abort ≡ Ok answer → CalledTo role (after_called Direct (base role) body the_calls.Abort answer) (due_of (base role) body the_calls.Abort (Ok answer)) coming peer to_peer fs gs shared
   aborting world role body answer coming peer to_peer fs gs shared j sound stage h =
       let ab : Message = user_abort body.link.accepted 0 [] in
       let due : (if is_carrying body.link.stage then ab ∷ [] else []) ≡ ab ∷ [] = ap (λ s. if is_carrying s then ab ∷ [] else []) stage in
       let later : sent_all Direct (over body) (if is_carrying body.link.stage then ab ∷ [] else []) ≡ over body = ap (sent_all Direct (over body)) due in
       acting world role body (after_called Direct (base role) body the_calls.Abort answer) (due_of (base role) body the_calls.Abort (Ok answer)) coming peer to_peer model_aborts fs gs shared j
       (connections-act.aborts Direct free (base role) proposed body answer tt stage h)
-      (subst (IsSound Direct (base role)) (sym later) (record { numbered = tt; calm = tt; sets = tt; queues = sound.queues }))
+      (subst (IsSoundBody Direct (base role)) (sym later) (record { numbered = tt; calm = tt; sets = tt; queues = sound.queues }))
       (inr (ap (λ (y : Body). y.link.phase) later))
       (subst (AreOwn (base Initiator)) (sym due) (tt, tt))
 
-  same-numbered : (role : Role) (body later : Body) → IsSound Direct (base role) body → later.calls ≡ body.calls → later.sending.queue ≡ body.sending.queue → IsSound Direct (base role) later
+  same-numbered : (role : Role) (body later : Body) → IsSoundBody Direct (base role) body → later.calls ≡ body.calls → later.sending.queue ≡ body.sending.queue → IsSoundBody Direct (base role) later
   same-numbered role body later sound c q = record { numbered = subst Numbered (sym c) sound.numbered; calm = tt; sets = tt; queues = q ∙ sound.queues }
 
-  pub called-so : (world : World) (role : Role) (body : Body) (call : Call) (answer : Option ℤ) (coming : List Message) (peer : Body) (to_peer : List Message) (fs gs : List (List SetItem)) (shared : Shared) → WritesAll free → ReadsBack (base Initiator) → Ends world role body coming peer to_peer fs gs shared → IsSound Direct (base role) body → Live body → can_call (base role) body call ≡ Ok answer → CalledTo role (after_called Direct (base role) body call answer) (due_of (base role) body call (Ok answer)) coming peer to_peer fs gs shared
+  pub called-so : (world : World) (role : Role) (body : Body) (call : Call) (answer : Option ℤ) (coming : List Message) (peer : Body) (to_peer : List Message) (fs gs : List (List SetItem)) (shared : Shared) → WritesAll free → ReadsBack (base Initiator) → AreJoint world role body coming peer to_peer fs gs shared → IsSoundBody Direct (base role) body → Live body → can_call (base role) body call ≡ Ok answer → CalledTo role (after_called Direct (base role) body call answer) (due_of (base role) body call (Ok answer)) coming peer to_peer fs gs shared
   called-so world role body (the_calls.Invoke context operation argument linked) answer coming peer to_peer fs gs shared writes back j sound live h =
       handing world role body (the_calls.Invoke context operation argument linked) answer coming peer to_peer fs gs shared j live (kept answer)
       (invoke-in Direct context operation argument linked free (base role) proposed body answer writes (reads-at role back) sound h)

@@ -220,7 +220,7 @@ module _ (free : Free) (tables : Tables) (spellings : Spellings) (a b : Config) 
       go (Standing s (IsOver q)) = over q
 
   -- what the model says of it
-  value-as_sent : (world : World) (role : Role) (body : Body) (value : Value) (left : List Message) (peer : Body) (to_peer : List Message) (set : List SetItem) (rest gs : List (List SetItem)) (shared : Shared) (later : Body) (answers : List Message) (shown : List Indication) → taking.Ends free tables spellings a b world role body (Session (OfData (Values (value ∷ []))) ∷ left) peer to_peer (set ∷ rest) gs shared → IsStanding body (value ∷ []) → react (base role) body (Session (OfData (Values (value ∷ [])))) ≡ Takes later answers shown → (pair_of body.sets.held value.id ≡ value.pair) × (pair_of set value.id ≡ value.pair)
+  value-as_sent : (world : World) (role : Role) (body : Body) (value : Value) (left : List Message) (peer : Body) (to_peer : List Message) (set : List SetItem) (rest gs : List (List SetItem)) (shared : Shared) (later : Body) (answers : List Message) (shown : List Indication) → taking.AreJoint free tables spellings a b world role body (Session (OfData (Values (value ∷ []))) ∷ left) peer to_peer (set ∷ rest) gs shared → IsStanding body (value ∷ []) → react (base role) body (Session (OfData (Values (value ∷ [])))) ≡ Takes later answers shown → (pair_of body.sets.held value.id ≡ value.pair) × (pair_of set value.id ≡ value.pair)
   value-as_sent world role body value left peer to_peer set rest gs shared later answers shown j stands h = go (is_purged (is_initiator role) body.link.awaits (unit_of (OfData (Values (value ∷ []))))) refl
     where
       head : List Value → Value

@@ -35,7 +35,7 @@ use Rattle.agreement.specs.Worlds.{World}
 use Rattle.agreement.specs.Worlds.Step.{Acts, Passes as model_passes}
 use Rattle.agreement.specs.Worlds.Moment.{By, Break}
 use Rattle.end_model.specs.Seen.{Free, role_seen, phase_seen, seen}
-use Rattle.end_model.specs.Acting.{ActsAs, IsSound, ReadsBack}
+use Rattle.end_model.specs.Acting.{ActsAs, IsSoundBody, ReadsBack}
 use Rattle.end_model.specs.Requests.{sent_all, after_called}
 use Rattle.end_model.specs.Pairs.{Common, Two, two_new, body_at, coming_to, stepped, both_broke}
 use Rattle.end_model.specs.Pairs.{WritesAll}
@@ -131,8 +131,8 @@ module _ (free : Free) (tables : Tables) (spellings : Spellings) (a b : Config) 
   abbrev setup : model.Setup
   setup = taking.setup free tables spellings a b
 
-  abbrev pub Ends : World → Role → Body → List Message → Body → List Message → List (List SetItem) → List (List SetItem) → Shared → Type 0
-  Ends = taking.Ends free tables spellings a b
+  abbrev pub AreJoint : World → Role → Body → List Message → Body → List Message → List (List SetItem) → List (List SetItem) → Shared → Type 0
+  AreJoint = taking.AreJoint free tables spellings a b
 
   abbrev pub cr : Message
   cr = opening.cr free tables spellings a b
@@ -170,33 +170,33 @@ module _ (free : Free) (tables : Tables) (spellings : Spellings) (a b : Config) 
   -- what two ends have reached, with what they share: a run of the model, and how far the association is
   pub record Kept (two : Two) (shared : Shared) (sets : SetsSent) : Type 0 where
     pub world : World
-    pub joint : Ends world Initiator two.a two.to_a two.b two.to_b sets.to_a sets.to_b shared
-    pub sound_a : IsSound Direct (base Initiator) two.a
-    pub sound_b : IsSound Direct (base Responder) two.b
+    pub joint : AreJoint world Initiator two.a two.to_a two.b two.to_b sets.to_a sets.to_b shared
+    pub sound_a : IsSoundBody Direct (base Initiator) two.a
+    pub sound_b : IsSoundBody Direct (base Responder) two.b
     pub opened : Opened two.a two.b two.to_a two.to_b
 
-  flip : {world : World} {x y : Body} {f g : List Message} {fs gs : List (List SetItem)} {shared : Shared} → Ends world Initiator x f y g fs gs shared → Ends world Responder y g x f gs fs shared
+  flip : {world : World} {x y : Body} {f g : List Message} {fs gs : List (List SetItem)} {shared : Shared} → AreJoint world Initiator x f y g fs gs shared → AreJoint world Responder y g x f gs fs shared
   flip j =
       record { ends = record { run = j.ends.run; own = j.ends.others; others = j.ends.own }; same = j.same; own_sets = j.peer_sets; peer_sets = j.own_sets }
 
-  flop : {world : World} {x y : Body} {f g : List Message} {fs gs : List (List SetItem)} {shared : Shared} → Ends world Responder y g x f gs fs shared → Ends world Initiator x f y g fs gs shared
+  flop : {world : World} {x y : Body} {f g : List Message} {fs gs : List (List SetItem)} {shared : Shared} → AreJoint world Responder y g x f gs fs shared → AreJoint world Initiator x f y g fs gs shared
   flop j =
       record { ends = record { run = j.ends.run; own = j.ends.others; others = j.ends.own }; same = j.same; own_sets = j.peer_sets; peer_sets = j.own_sets }
 
   -- of the end of a role, with what is left, what it sent, and the shared set then
-  keep-a : (two : Two) (shared : Shared) (sets : SetsSent) (world : World) (later : Body) (left sent : List Message) (rest : List (List SetItem)) (new : Shared) → Ends world Initiator later left two.b (two.to_b ++ sent) rest (sets.to_b ++ before shared sent) new → IsSound Direct (base Initiator) later → IsSound Direct (base Responder) two.b → Opened later two.b left (two.to_b ++ sent) → Kept (stepped Initiator later left sent two) new (sets_stepped Initiator rest (before shared sent) sets)
+  keep-a : (two : Two) (shared : Shared) (sets : SetsSent) (world : World) (later : Body) (left sent : List Message) (rest : List (List SetItem)) (new : Shared) → AreJoint world Initiator later left two.b (two.to_b ++ sent) rest (sets.to_b ++ before shared sent) new → IsSoundBody Direct (base Initiator) later → IsSoundBody Direct (base Responder) two.b → Opened later two.b left (two.to_b ++ sent) → Kept (stepped Initiator later left sent two) new (sets_stepped Initiator rest (before shared sent) sets)
   keep-a two shared sets world later left sent rest new joint sound_a sound_b opened = record { world = world; joint = joint; sound_a = sound_a; sound_b = sound_b; opened = opened }
 
-  keep-b : (two : Two) (shared : Shared) (sets : SetsSent) (world : World) (later : Body) (left sent : List Message) (rest : List (List SetItem)) (new : Shared) → Ends world Responder later left two.a (two.to_a ++ sent) rest (sets.to_a ++ before shared sent) new → IsSound Direct (base Responder) later → IsSound Direct (base Initiator) two.a → Opened two.a later (two.to_a ++ sent) left → Kept (stepped Responder later left sent two) new (sets_stepped Responder rest (before shared sent) sets)
+  keep-b : (two : Two) (shared : Shared) (sets : SetsSent) (world : World) (later : Body) (left sent : List Message) (rest : List (List SetItem)) (new : Shared) → AreJoint world Responder later left two.a (two.to_a ++ sent) rest (sets.to_a ++ before shared sent) new → IsSoundBody Direct (base Responder) later → IsSoundBody Direct (base Initiator) two.a → Opened two.a later (two.to_a ++ sent) left → Kept (stepped Responder later left sent two) new (sets_stepped Responder rest (before shared sent) sets)
   keep-b two shared sets world later left sent rest new joint sound_b sound_a opened = record { world = world; joint = flop joint; sound_a = sound_a; sound_b = sound_b; opened = opened }
 
-  pub coming-a : (two : Two) (shared : Shared) (sets : SetsSent) (k : Kept two shared sets) (ms : List Message) (fs : List (List SetItem)) → two.to_a ≡ ms → sets.to_a ≡ fs → Ends k.world Initiator two.a ms two.b two.to_b fs sets.to_b shared
+  pub coming-a : (two : Two) (shared : Shared) (sets : SetsSent) (k : Kept two shared sets) (ms : List Message) (fs : List (List SetItem)) → two.to_a ≡ ms → sets.to_a ≡ fs → AreJoint k.world Initiator two.a ms two.b two.to_b fs sets.to_b shared
   coming-a two shared sets k ms fs e d =
-      subst (λ xs. Ends k.world Initiator two.a ms two.b two.to_b xs sets.to_b shared) d (subst (λ f. Ends k.world Initiator two.a f two.b two.to_b sets.to_a sets.to_b shared) e k.joint)
+      subst (λ xs. AreJoint k.world Initiator two.a ms two.b two.to_b xs sets.to_b shared) d (subst (λ f. AreJoint k.world Initiator two.a f two.b two.to_b sets.to_a sets.to_b shared) e k.joint)
 
-  pub coming-b : (two : Two) (shared : Shared) (sets : SetsSent) (k : Kept two shared sets) (ms : List Message) (fs : List (List SetItem)) → two.to_b ≡ ms → sets.to_b ≡ fs → Ends k.world Responder two.b ms two.a two.to_a fs sets.to_a shared
+  pub coming-b : (two : Two) (shared : Shared) (sets : SetsSent) (k : Kept two shared sets) (ms : List Message) (fs : List (List SetItem)) → two.to_b ≡ ms → sets.to_b ≡ fs → AreJoint k.world Responder two.b ms two.a two.to_a fs sets.to_a shared
   coming-b two shared sets k ms fs e d =
-      subst (λ xs. Ends k.world Responder two.b ms two.a two.to_a xs sets.to_a shared) d (subst (λ g. Ends k.world Responder two.b g two.a two.to_a sets.to_b sets.to_a shared) e (flip k.joint))
+      subst (λ xs. AreJoint k.world Responder two.b ms two.a two.to_a xs sets.to_a shared) d (subst (λ g. AreJoint k.world Responder two.b g two.a two.to_a sets.to_b sets.to_a shared) e (flip k.joint))
 
   -- more on its way to an end
   side-more : (body : Body) (coming sent : List Message) → AreOurs sent → SideOf body coming → SideOf body (coming ++ sent)
@@ -211,9 +211,9 @@ module _ (free : Free) (tables : Tables) (spellings : Spellings) (a b : Config) 
   side-none body coming s = subst (SideOf body) (sym (append-nil coming)) s
 
   -- nothing is sent
-  sends-none : {world : World} {role : Role} {body peer : Body} {coming : List Message} {rest : List (List SetItem)} {shared : Shared} (to_peer : List Message) (gs : List (List SetItem)) → Ends world role body coming peer to_peer rest gs shared → Ends world role body coming peer (to_peer ++ []) rest (gs ++ []) shared
+  sends-none : {world : World} {role : Role} {body peer : Body} {coming : List Message} {rest : List (List SetItem)} {shared : Shared} (to_peer : List Message) (gs : List (List SetItem)) → AreJoint world role body coming peer to_peer rest gs shared → AreJoint world role body coming peer (to_peer ++ []) rest (gs ++ []) shared
   sends-none {world} {role} {body} {peer} {coming} {rest} {shared} to_peer gs j =
-      subst (λ g. Ends world role body coming peer g rest (gs ++ []) shared) (sym (append-nil to_peer)) (subst (λ xs. Ends world role body coming peer to_peer rest xs shared) (sym (append-nil gs)) j)
+      subst (λ g. AreJoint world role body coming peer g rest (gs ++ []) shared) (sym (append-nil to_peer)) (subst (λ xs. AreJoint world role body coming peer to_peer rest xs shared) (sym (append-nil gs)) j)
 
   -- ---- what becomes of the message that comes next
 
@@ -233,7 +233,7 @@ module _ (free : Free) (tables : Tables) (spellings : Spellings) (a b : Config) 
   seen-over : (role : Role) (body : Body) → body.link.phase ≡ Over → (seen (base role) body).phase ≡ model_over
   seen-over role body e = ap (phase_seen body.link.stage) e
 
-  pass : (world : World) (role : Role) (body : Body) (message : Message) (left : List Message) (peer : Body) (to_peer : List Message) (f : List SetItem) (rest gs : List (List SetItem)) (shared : Shared) → Ends world role body (message ∷ left) peer to_peer (f ∷ rest) gs shared → body.link.phase ≡ Over → (world' : World) × Ends world' role body left peer (to_peer ++ []) rest (gs ++ []) shared
+  pass : (world : World) (role : Role) (body : Body) (message : Message) (left : List Message) (peer : Body) (to_peer : List Message) (f : List SetItem) (rest gs : List (List SetItem)) (shared : Shared) → AreJoint world role body (message ∷ left) peer to_peer (f ∷ rest) gs shared → body.link.phase ≡ Over → (world' : World) × AreJoint world' role body left peer (to_peer ++ []) rest (gs ++ []) shared
   pass world role body (Transport unit) left peer to_peer f rest gs shared j e =
       (world, sends-none to_peer gs (units-joint free tables spellings a b world role body unit left peer to_peer f rest gs shared j))
   pass world role body (Session word) left peer to_peer f rest gs shared j e =
@@ -420,19 +420,19 @@ module _ (free : Free) (tables : Tables) (spellings : Spellings) (a b : Config) 
   -- an abort, with an AB or before a CN
   record Ended (role : Role) (later : Body) (sent coming : List Message) (peer : Body) (to_peer : List Message) (fs gs : List (List SetItem)) (shared : Shared) : Type 0 where
     world : World
-    joint : Ends world role later coming peer (to_peer ++ sent) fs (gs ++ before shared sent) (shared_all_sent Direct (side_of role) sent shared)
-    sound : IsSound Direct (base role) later
+    joint : AreJoint world role later coming peer (to_peer ++ sent) fs (gs ++ before shared sent) (shared_all_sent Direct (side_of role) sent shared)
+    sound : IsSoundBody Direct (base role) later
     is_over : later.link.phase ≡ Over
     own : AreOurs sent
 
-  withdrawing : (world : World) (role : Role) (body : Body) (answer : Option ℤ) (coming : List Message) (peer : Body) (to_peer : List Message) (fs gs : List (List SetItem)) (shared : Shared) → Ends world role body coming peer to_peer fs gs shared → IsSound Direct (base role) body → is_carrying body.link.stage ≡ false → body.link.phase ≡ Opening → can_call (base role) body the_calls.Abort ≡ Ok answer → Ended role (after_called Direct (base role) body the_calls.Abort answer) (due_of (base role) body the_calls.Abort (Ok answer)) coming peer to_peer fs gs shared
+  withdrawing : (world : World) (role : Role) (body : Body) (answer : Option ℤ) (coming : List Message) (peer : Body) (to_peer : List Message) (fs gs : List (List SetItem)) (shared : Shared) → AreJoint world role body coming peer to_peer fs gs shared → IsSoundBody Direct (base role) body → is_carrying body.link.stage ≡ false → body.link.phase ≡ Opening → can_call (base role) body the_calls.Abort ≡ Ok answer → Ended role (after_called Direct (base role) body the_calls.Abort answer) (due_of (base role) body the_calls.Abort (Ok answer)) coming peer to_peer fs gs shared
   withdrawing world role body answer coming peer to_peer fs gs shared j sound stage phase h =
       let none : due_of (base role) body the_calls.Abort (Ok answer) ≡ [] = ap (λ c. if c then user_abort body.link.accepted 0 [] ∷ [] else []) stage in
       let later : after_called Direct (base role) body the_calls.Abort answer ≡ over body = ap (sent_all Direct (over body)) none in
       record {
         world = By role (Acts Withdraws) ∷ world;
         joint = acts-joint free tables spellings a b world role body (after_called Direct (base role) body the_calls.Abort answer) coming peer to_peer (due_of (base role) body the_calls.Abort (Ok answer)) Withdraws fs gs shared j (connections-act.withdraws Direct free (base role) proposed body answer tt stage phase h) (subst AreDirect (sym none) tt);
-        sound = subst (IsSound Direct (base role)) (sym later) (record { numbered = tt; calm = tt; sets = tt; queues = sound.queues });
+        sound = subst (IsSoundBody Direct (base role)) (sym later) (record { numbered = tt; calm = tt; sets = tt; queues = sound.queues });
         is_over = ap (λ (y : Body). y.link.phase) later;
         own = subst AreOurs (sym none) tt;
       }
@@ -440,7 +440,7 @@ module _ (free : Free) (tables : Tables) (spellings : Spellings) (a b : Config) 
   no-due : (role : Role) (body : Body) (answer : Option ℤ) → is_carrying body.link.stage ≡ false → due_of (base role) body the_calls.Abort (Ok answer) ≡ []
   no-due role body answer stage = ap (λ c. if c then user_abort body.link.accepted 0 [] ∷ [] else []) stage
 
-  sending-abort : (world : World) (role : Role) (body : Body) (answer : Option ℤ) (coming : List Message) (peer : Body) (to_peer : List Message) (fs gs : List (List SetItem)) (shared : Shared) → Ends world role body coming peer to_peer fs gs shared → IsSound Direct (base role) body → body.link.stage ≡ Carrying → can_call (base role) body the_calls.Abort ≡ Ok answer → Ended role (after_called Direct (base role) body the_calls.Abort answer) (due_of (base role) body the_calls.Abort (Ok answer)) coming peer to_peer fs gs shared
+  sending-abort : (world : World) (role : Role) (body : Body) (answer : Option ℤ) (coming : List Message) (peer : Body) (to_peer : List Message) (fs gs : List (List SetItem)) (shared : Shared) → AreJoint world role body coming peer to_peer fs gs shared → IsSoundBody Direct (base role) body → body.link.stage ≡ Carrying → can_call (base role) body the_calls.Abort ≡ Ok answer → Ended role (after_called Direct (base role) body the_calls.Abort answer) (due_of (base role) body the_calls.Abort (Ok answer)) coming peer to_peer fs gs shared
   sending-abort world role body answer coming peer to_peer fs gs shared j sound stage h =
       let c = calling.aborting free tables spellings a b world role body answer coming peer to_peer fs gs shared j sound stage h in
       record { world = c.world; joint = c.ends; sound = c.sound; is_over = aborted-over body (is_carrying body.link.stage); own = c.own }
@@ -536,7 +536,7 @@ module _ (free : Free) (tables : Tables) (spellings : Spellings) (a b : Config) 
   record Settled (role : Role) (body : Body) (coming : List Message) (peer : Body) (to_peer : List Message) (fs gs : List (List SetItem)) (shared : Shared) : Type 0 where
     world : World
     later : Body
-    joint : Ends world role later coming peer to_peer fs gs shared
+    joint : AreJoint world role later coming peer to_peer fs gs shared
     breaks_so : BreaksSo common later
     same : after_broke (base role) later ≡ after_broke (base role) body
 
@@ -556,7 +556,7 @@ module _ (free : Free) (tables : Tables) (spellings : Spellings) (a b : Config) 
       }) in
       ap put (sym (ap (broken_phase Direct) e))
 
-  settle : (world : World) (role : Role) (body : Body) (coming : List Message) (peer : Body) (to_peer : List Message) (fs gs : List (List SetItem)) (shared : Shared) → Ends world role body coming peer to_peer fs gs shared → Breakable body → Settled role body coming peer to_peer fs gs shared
+  settle : (world : World) (role : Role) (body : Body) (coming : List Message) (peer : Body) (to_peer : List Message) (fs gs : List (List SetItem)) (shared : Shared) → AreJoint world role body coming peer to_peer fs gs shared → Breakable body → Settled role body coming peer to_peer fs gs shared
   settle world role body coming peer to_peer fs gs shared j (AsModel h) = record { world = world; later = body; joint = j; breaks_so = h; same = refl }
   settle world role body coming peer to_peer fs gs shared j (BeforeCn phase stage) =
       let act : ActsAs free Direct (base role) proposed body (over body) [] Withdraws =
@@ -569,8 +569,8 @@ module _ (free : Free) (tables : Tables) (spellings : Spellings) (a b : Config) 
         world = By role (Acts Withdraws) ∷ world;
         later = over body;
         joint =
-            subst (λ g. Ends (By role (Acts Withdraws) ∷ world) role (over body) coming peer g fs gs shared) (append-nil to_peer)
-            (subst (λ xs. Ends (By role (Acts Withdraws) ∷ world) role (over body) coming peer (to_peer ++ []) fs xs shared) (append-nil gs)
+            subst (λ g. AreJoint (By role (Acts Withdraws) ∷ world) role (over body) coming peer g fs gs shared) (append-nil to_peer)
+            (subst (λ xs. AreJoint (By role (Acts Withdraws) ∷ world) role (over body) coming peer (to_peer ++ []) fs xs shared) (append-nil gs)
             (acts-joint free tables spellings a b world role body (over body) coming peer to_peer [] Withdraws fs gs shared j act tt));
         breaks_so = over-breaks (over body) refl;
         same = broken-over role body phase;
@@ -596,7 +596,7 @@ module _ (free : Free) (tables : Tables) (spellings : Spellings) (a b : Config) 
       let e = breaks-joint free tables spellings a b t.world Initiator s.later two.to_a t.later two.to_b sets.to_a sets.to_b shared (flop t.joint) s.breaks_so t.breaks_so in
       record {
         world = Break ∷ t.world;
-        joint = subst (λ v. Ends (Break ∷ t.world) Initiator v [] (after_broke (base Responder) two.b) [] [] [] shared) s.same (subst (λ v. Ends (Break ∷ t.world) Initiator (after_broke (base Initiator) s.later) [] v [] [] [] shared) t.same e);
+        joint = subst (λ v. AreJoint (Break ∷ t.world) Initiator v [] (after_broke (base Responder) two.b) [] [] [] shared) s.same (subst (λ v. AreJoint (Break ∷ t.world) Initiator (after_broke (base Initiator) s.later) [] v [] [] [] shared) t.same e);
         sound_a = record { numbered = tt; calm = tt; sets = tt; queues = k.sound_a.queues };
         sound_b = record { numbered = tt; calm = tt; sets = tt; queues = k.sound_b.queues };
         opened = opened;

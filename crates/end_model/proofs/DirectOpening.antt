@@ -60,7 +60,7 @@ use Rattle.agreement.specs.Messages.Act.{Connects}
 use Rattle.agreement.proofs.Flights.{rising-altered}
 use Rattle.end_model.specs.Seen.{Free, phase_seen, awaited_seen, set_seen, addition_seen, seen}
 use Rattle.end_model.specs.Words.{added_seen}
-use Rattle.end_model.specs.Acting.{IsSound, TakenAs}
+use Rattle.end_model.specs.Acting.{IsSoundBody, TakenAs}
 use Rattle.end_model.specs.DirectPairs.{ProposesRightly}
 use Rattle.end_model.specs.Sharing.{side_of, shared_all_sent, shared_all_answered, before}
 use Rattle.end_model.proofs.Takes.{fine}
@@ -140,8 +140,8 @@ module _ (free : Free) (tables : Tables) (spellings : Spellings) (a b : Config) 
   abbrev setup : model.Setup
   setup = taking.setup free tables spellings a b
 
-  abbrev Ends : World → Role → Body → List Message → Body → List Message → List (List SetItem) → List (List SetItem) → Shared → Type 0
-  Ends = taking.Ends free tables spellings a b
+  abbrev AreJoint : World → Role → Body → List Message → Body → List Message → List (List SetItem) → List (List SetItem) → Shared → Type 0
+  AreJoint = taking.AreJoint free tables spellings a b
 
   -- ---- CR and CC
 
@@ -163,11 +163,11 @@ module _ (free : Free) (tables : Tables) (spellings : Spellings) (a b : Config) 
   pub record Asks (world : World) (body : Body) (left : List Message) (peer : Body) (to_peer : List Message) (rest gs : List (List SetItem)) (shared : Shared) : Type 0 where
     pub later : Body
     pub reacts : react (base Responder) body cr ≡ Takes later (Transport confirm ∷ []) []
-    pub ends : Ends world Responder later left peer (to_peer ++ Transport confirm ∷ []) rest (gs ++ before shared (Transport confirm ∷ [])) shared
-    pub sound : IsSound Direct (base Responder) later
+    pub ends : AreJoint world Responder later left peer (to_peer ++ Transport confirm ∷ []) rest (gs ++ before shared (Transport confirm ∷ [])) shared
+    pub sound : IsSoundBody Direct (base Responder) later
     pub at : At Opening Joined later
 
-  pub asked : (world : World) (body : Body) (left : List Message) (peer : Body) (to_peer : List Message) (f : List SetItem) (rest gs : List (List SetItem)) (shared : Shared) → Ends world Responder body (cr ∷ left) peer to_peer (f ∷ rest) gs shared → IsSound Direct (base Responder) body → At Idle Unused body → Asks world body left peer to_peer rest gs shared
+  pub asked : (world : World) (body : Body) (left : List Message) (peer : Body) (to_peer : List Message) (f : List SetItem) (rest gs : List (List SetItem)) (shared : Shared) → AreJoint world Responder body (cr ∷ left) peer to_peer (f ∷ rest) gs shared → IsSoundBody Direct (base Responder) body → At Idle Unused body → Asks world body left peer to_peer rest gs shared
   asked world body left peer to_peer f rest gs shared j sound at =
       let later : Body = after_transport (base Responder) body request in
       let put : states.Phase → states.State = λ p. record (seen (base Responder) body) { phase = p } in
@@ -191,11 +191,11 @@ module _ (free : Free) (tables : Tables) (spellings : Spellings) (a b : Config) 
   pub record Connecting (world : World) (body : Body) (left : List Message) (peer : Body) (to_peer : List Message) (rest gs : List (List SetItem)) (shared : Shared) : Type 0 where
     pub later : Body
     pub reacts : react (base Initiator) body (Transport confirm) ≡ Takes later (cn ∷ []) []
-    pub ends : Ends (By Initiator (Acts Connects) ∷ world) Initiator later left peer (to_peer ++ cn ∷ []) rest (gs ++ before shared (cn ∷ [])) shared
-    pub sound : IsSound Direct (base Initiator) later
+    pub ends : AreJoint (By Initiator (Acts Connects) ∷ world) Initiator later left peer (to_peer ++ cn ∷ []) rest (gs ++ before shared (cn ∷ [])) shared
+    pub sound : IsSoundBody Direct (base Initiator) later
     pub at : At Opening Carrying later
 
-  pub confirmed : (world : World) (body : Body) (left : List Message) (peer : Body) (to_peer : List Message) (f : List SetItem) (rest gs : List (List SetItem)) (shared : Shared) → Ends world Initiator body (Transport confirm ∷ left) peer to_peer (f ∷ rest) gs shared → IsSound Direct (base Initiator) body → At Opening Asked body → Connecting world body left peer to_peer rest gs shared
+  pub confirmed : (world : World) (body : Body) (left : List Message) (peer : Body) (to_peer : List Message) (f : List SetItem) (rest gs : List (List SetItem)) (shared : Shared) → AreJoint world Initiator body (Transport confirm ∷ left) peer to_peer (f ∷ rest) gs shared → IsSoundBody Direct (base Initiator) body → At Opening Asked body → Connecting world body left peer to_peer rest gs shared
   confirmed world body left peer to_peer f rest gs shared j sound at =
       let later : Body = after_transport (base Initiator) body confirm in
       let none : transport_unit_fault (base Initiator) body confirm ≡ None = ap (λ s. fault_if (not (is_asked s && true)) transport_fault) at.stage_is in
@@ -208,7 +208,7 @@ module _ (free : Free) (tables : Tables) (spellings : Spellings) (a b : Config) 
             ap (on_transport (base Initiator) body confirm) none ∙
             ap (λ m. Takes later (m ∷ []) []) due;
         ends =
-            subst (λ m. Ends (By Initiator (Acts Connects) ∷ world) Initiator later left peer (to_peer ++ m ∷ []) rest (gs ++ before shared (m ∷ [])) (shared_all_sent Direct (side_of Initiator) (m ∷ []) shared)) due
+            subst (λ m. AreJoint (By Initiator (Acts Connects) ∷ world) Initiator later left peer (to_peer ++ m ∷ []) rest (gs ++ before shared (m ∷ [])) (shared_all_sent Direct (side_of Initiator) (m ∷ []) shared)) due
             (acts-joint free tables spellings a b world Initiator body later left peer to_peer (connect_message (base Initiator) (is_recovering body.link.phase) ∷ []) Connects rest gs shared
             (units-joint free tables spellings a b world Initiator body confirm left peer to_peer f rest gs shared j)
             (connections-act.connects Direct 1 (Some 10) free (base Initiator) proposed body tt at.phase_is none) (tt, tt));
@@ -258,10 +258,10 @@ module _ (free : Free) (tables : Tables) (spellings : Spellings) (a b : Config) 
 
   pub data Connected (body : Body) (left : List Message) (peer : Body) (to_peer : List Message) (rest gs : List (List SetItem)) (shared : Shared) : Type 0 where
     Accepts : (world' : World) (later : Body) (answer : Word) (shown : List Indication) → react (base Responder) body cn ≡ Takes later (Session answer ∷ []) shown
-        → Ends world' Responder later left peer (to_peer ++ Session answer ∷ []) rest (gs ++ before shared (Session answer ∷ [])) (shared_all_answered (base Responder) cn (Session answer ∷ []) shared) → IsSound Direct (base Responder) later → Live later → IsAccept answer
+        → AreJoint world' Responder later left peer (to_peer ++ Session answer ∷ []) rest (gs ++ before shared (Session answer ∷ [])) (shared_all_answered (base Responder) cn (Session answer ∷ []) shared) → IsSoundBody Direct (base Responder) later → Live later → IsAccept answer
         → Connected body left peer to_peer rest gs shared
     Refuses : (world' : World) (later : Body) (answer : Word) (shown : List Indication) → react (base Responder) body cn ≡ Takes later (Session answer ∷ []) shown
-        → Ends world' Responder later left peer (to_peer ++ Session answer ∷ []) rest (gs ++ before shared (Session answer ∷ [])) (shared_all_answered (base Responder) cn (Session answer ∷ []) shared) → IsSound Direct (base Responder) later → later.link.phase ≡ Over → IsRefusal answer
+        → AreJoint world' Responder later left peer (to_peer ++ Session answer ∷ []) rest (gs ++ before shared (Session answer ∷ [])) (shared_all_answered (base Responder) cn (Session answer ∷ []) shared) → IsSoundBody Direct (base Responder) later → later.link.phase ≡ Over → IsRefusal answer
         → Connected body left peer to_peer rest gs shared
 
   -- where nothing refuses, association control is accepted
@@ -306,7 +306,7 @@ module _ (free : Free) (tables : Tables) (spellings : Spellings) (a b : Config) 
       go : model_idle ≡ model_over → ⊥
       go h = cc
 
-  pub connected : (world : World) (body : Body) (left : List Message) (peer : Body) (to_peer : List Message) (f : List SetItem) (rest gs : List (List SetItem)) (shared : Shared) → ProposesRightly (taking.common free tables spellings a b) → Ends world Responder body (cn ∷ left) peer to_peer (f ∷ rest) gs shared → IsSound Direct (base Responder) body → At Opening Joined body → Connected body left peer to_peer rest gs shared
+  pub connected : (world : World) (body : Body) (left : List Message) (peer : Body) (to_peer : List Message) (f : List SetItem) (rest gs : List (List SetItem)) (shared : Shared) → ProposesRightly (taking.common free tables spellings a b) → AreJoint world Responder body (cn ∷ left) peer to_peer (f ∷ rest) gs shared → IsSoundBody Direct (base Responder) body → At Opening Joined body → Connected body left peer to_peer rest gs shared
   connected world body left peer to_peer f rest gs shared right j sound at = go (is_refused (base Responder) body session presentation values) refl
     where
       fine_now : word_fault (base Responder) body cn_word ≡ None
@@ -339,9 +339,9 @@ module _ (free : Free) (tables : Tables) (spellings : Spellings) (a b : Config) 
           ap (λ p. if p then refused_connect body else accepted_connect (base Responder) body session presentation values) e in
           Accepts (By Responder (model_takes t.message choice) ∷ world) (after_word (base Responder) body cn_word) x.0 (shown_of_word (base Responder) body cn_word)
           (reacts ∙ ap (λ ms. Takes (after_word (base Responder) body cn_word) ms (shown_of_word (base Responder) body cn_word)) answers)
-          (subst (λ ms. Ends (By Responder (model_takes t.message choice) ∷ world) Responder (after_word (base Responder) body cn_word) left peer (to_peer ++ ms) rest (gs ++ before shared ms) (shared_all_answered (base Responder) cn ms shared)) answers
+          (subst (λ ms. AreJoint (By Responder (model_takes t.message choice) ∷ world) Responder (after_word (base Responder) body cn_word) left peer (to_peer ++ ms) rest (gs ++ before shared ms) (shared_all_answered (base Responder) cn ms shared)) answers
           (takes-joint free tables spellings a b world Responder body cn_word left peer to_peer choice f rest gs shared (shared_all_answered (base Responder) cn (answers_to_word (base Responder) body cn_word) shared) j t same))
-          (subst (IsSound Direct (base Responder)) (sym after) (record { numbered = tt; calm = tt; sets = tt; queues = refl }))
+          (subst (IsSoundBody Direct (base Responder)) (sym after) (record { numbered = tt; calm = tt; sets = tt; queues = refl }))
           (subst Live (sym after) (record { joined = record { stage = refl; selected = refl; manages = refl }; phase = inl refl }))
           x.2
       go true e =
@@ -362,9 +362,9 @@ module _ (free : Free) (tables : Tables) (spellings : Spellings) (a b : Config) 
           ap (λ p. if p then refused_connect body else accepted_connect (base Responder) body session presentation values) e in
           Refuses (By Responder (model_takes t.message Refusing) ∷ world) (after_word (base Responder) body cn_word) x.0 (shown_of_word (base Responder) body cn_word)
           (reacts ∙ ap (λ ms. Takes (after_word (base Responder) body cn_word) ms (shown_of_word (base Responder) body cn_word)) answers)
-          (subst (λ ms. Ends (By Responder (model_takes t.message Refusing) ∷ world) Responder (after_word (base Responder) body cn_word) left peer (to_peer ++ ms) rest (gs ++ before shared ms) (shared_all_answered (base Responder) cn ms shared)) answers
+          (subst (λ ms. AreJoint (By Responder (model_takes t.message Refusing) ∷ world) Responder (after_word (base Responder) body cn_word) left peer (to_peer ++ ms) rest (gs ++ before shared ms) (shared_all_answered (base Responder) cn ms shared)) answers
           (takes-joint free tables spellings a b world Responder body cn_word left peer to_peer Refusing f rest gs shared (shared_all_answered (base Responder) cn (answers_to_word (base Responder) body cn_word) shared) j t same))
-          (subst (IsSound Direct (base Responder)) (sym after) (record { numbered = sound.numbered; calm = tt; sets = tt; queues = sound.queues }))
+          (subst (IsSoundBody Direct (base Responder)) (sym after) (record { numbered = sound.numbered; calm = tt; sets = tt; queues = sound.queues }))
           (ap (λ (y : Body). y.link.phase) after ∙ ap (λ p. if is_broken p then Broken else Over) at.phase_is)
           x.2
 
@@ -386,11 +386,11 @@ module _ (free : Free) (tables : Tables) (spellings : Spellings) (a b : Config) 
     pub later : Body
     pub shown : List Indication
     pub reacts : react (base Initiator) body (Session word) ≡ Takes later [] shown
-    pub ends : Ends world' Initiator later left peer (to_peer ++ []) rest (gs ++ []) shared
-    pub sound : IsSound Direct (base Initiator) later
+    pub ends : AreJoint world' Initiator later left peer (to_peer ++ []) rest (gs ++ []) shared
+    pub sound : IsSoundBody Direct (base Initiator) later
     pub side : Live later ⊎ (later.link.phase ≡ Over)
 
-  accept-so : (world : World) (body : Body) (s : Accepting) (p : PresentationAccept) (v : List Value) (left : List Message) (peer : Body) (to_peer : List Message) (f : List SetItem) (rest gs : List (List SetItem)) (shared : Shared) → Ends world Initiator body (Session (OfAssociation (Accept s p v)) ∷ left) peer to_peer (f ∷ rest) gs shared → IsSound Direct (base Initiator) body → At Opening Carrying body → has_version_two s.version ≡ true → has_units (needed_units Direct) (selected_with Direct s.requirements) ≡ true → selected_with Direct s.requirements ≡ proposed_units Direct → manages_with p.requirements (selected_with Direct s.requirements) ≡ true → accept_fault (base Initiator) p v ≡ None → Answered body (OfAssociation (Accept s p v)) left peer to_peer rest gs shared
+  accept-so : (world : World) (body : Body) (s : Accepting) (p : PresentationAccept) (v : List Value) (left : List Message) (peer : Body) (to_peer : List Message) (f : List SetItem) (rest gs : List (List SetItem)) (shared : Shared) → AreJoint world Initiator body (Session (OfAssociation (Accept s p v)) ∷ left) peer to_peer (f ∷ rest) gs shared → IsSoundBody Direct (base Initiator) body → At Opening Carrying body → has_version_two s.version ≡ true → has_units (needed_units Direct) (selected_with Direct s.requirements) ≡ true → selected_with Direct s.requirements ≡ proposed_units Direct → manages_with p.requirements (selected_with Direct s.requirements) ≡ true → accept_fault (base Initiator) p v ≡ None → Answered body (OfAssociation (Accept s p v)) left peer to_peer rest gs shared
   accept-so world body s p v left peer to_peer f rest gs shared j sound at version units selected manages none =
       let word : Word = OfAssociation (Accept s p v) in
       let fine_now : word_fault (base Initiator) body word ≡ None = fine (base Initiator) body word (rw (asked-so body at, version, units) refl) none in
@@ -410,12 +410,12 @@ module _ (free : Free) (tables : Tables) (spellings : Spellings) (a b : Config) 
         side = inl (record { joined = record { stage = refl; selected = selected; manages = manages }; phase = inl refl });
       }
 
-  pub accepted : (world : World) (body : Body) (word : Word) (left : List Message) (peer : Body) (to_peer : List Message) (f : List SetItem) (rest gs : List (List SetItem)) (shared : Shared) → Ends world Initiator body (Session word ∷ left) peer to_peer (f ∷ rest) gs shared → IsSound Direct (base Initiator) body → At Opening Carrying body → IsAccept word → Answered body word left peer to_peer rest gs shared
+  pub accepted : (world : World) (body : Body) (word : Word) (left : List Message) (peer : Body) (to_peer : List Message) (f : List SetItem) (rest gs : List (List SetItem)) (shared : Shared) → AreJoint world Initiator body (Session word ∷ left) peer to_peer (f ∷ rest) gs shared → IsSoundBody Direct (base Initiator) body → At Opening Carrying body → IsAccept word → Answered body word left peer to_peer rest gs shared
   accepted world body word left peer to_peer f rest gs shared j sound at x =
       subst (λ w. Answered body w left peer to_peer rest gs shared) (sym x.is_it)
-      (accept-so world body x.session x.presentation x.values left peer to_peer f rest gs shared (subst (λ w. Ends world Initiator body (Session w ∷ left) peer to_peer (f ∷ rest) gs shared) x.is_it j) sound at x.version x.units x.selected x.manages x.no_fault)
+      (accept-so world body x.session x.presentation x.values left peer to_peer f rest gs shared (subst (λ w. AreJoint world Initiator body (Session w ∷ left) peer to_peer (f ∷ rest) gs shared) x.is_it j) sound at x.version x.units x.selected x.manages x.no_fault)
 
-  refuse-so : (world : World) (body : Body) (transport reason : Option ℕ) (p : Option PresentationReject) (v : List Value) (left : List Message) (peer : Body) (to_peer : List Message) (f : List SetItem) (rest gs : List (List SetItem)) (shared : Shared) → Ends world Initiator body (Session (OfAssociation (Refuse transport reason p v)) ∷ left) peer to_peer (f ∷ rest) gs shared → IsSound Direct (base Initiator) body → At Opening Carrying body → Answered body (OfAssociation (Refuse transport reason p v)) left peer to_peer rest gs shared
+  refuse-so : (world : World) (body : Body) (transport reason : Option ℕ) (p : Option PresentationReject) (v : List Value) (left : List Message) (peer : Body) (to_peer : List Message) (f : List SetItem) (rest gs : List (List SetItem)) (shared : Shared) → AreJoint world Initiator body (Session (OfAssociation (Refuse transport reason p v)) ∷ left) peer to_peer (f ∷ rest) gs shared → IsSoundBody Direct (base Initiator) body → At Opening Carrying body → Answered body (OfAssociation (Refuse transport reason p v)) left peer to_peer rest gs shared
   refuse-so world body transport reason p v left peer to_peer f rest gs shared j sound at =
       let word : Word = OfAssociation (Refuse transport reason p v) in
       let fine_now : word_fault (base Initiator) body word ≡ None = fine (base Initiator) body word (asked-so body at) refl in
@@ -434,7 +434,7 @@ module _ (free : Free) (tables : Tables) (spellings : Spellings) (a b : Config) 
         side = inr refl;
       }
 
-  pub refused-by : (world : World) (body : Body) (word : Word) (left : List Message) (peer : Body) (to_peer : List Message) (f : List SetItem) (rest gs : List (List SetItem)) (shared : Shared) → Ends world Initiator body (Session word ∷ left) peer to_peer (f ∷ rest) gs shared → IsSound Direct (base Initiator) body → At Opening Carrying body → IsRefusal word → Answered body word left peer to_peer rest gs shared
+  pub refused-by : (world : World) (body : Body) (word : Word) (left : List Message) (peer : Body) (to_peer : List Message) (f : List SetItem) (rest gs : List (List SetItem)) (shared : Shared) → AreJoint world Initiator body (Session word ∷ left) peer to_peer (f ∷ rest) gs shared → IsSoundBody Direct (base Initiator) body → At Opening Carrying body → IsRefusal word → Answered body word left peer to_peer rest gs shared
   refused-by world body word left peer to_peer f rest gs shared j sound at x =
       subst (λ w. Answered body w left peer to_peer rest gs shared) (sym x.is_it)
-      (refuse-so world body x.transport x.reason x.presentation x.values left peer to_peer f rest gs shared (subst (λ w. Ends world Initiator body (Session w ∷ left) peer to_peer (f ∷ rest) gs shared) x.is_it j) sound at)
+      (refuse-so world body x.transport x.reason x.presentation x.values left peer to_peer f rest gs shared (subst (λ w. AreJoint world Initiator body (Session w ∷ left) peer to_peer (f ∷ rest) gs shared) x.is_it j) sound at)

@@ -58,7 +58,7 @@ use Rattle.end_model.specs.Rows.{at}
 use Rattle.end_model.specs.Meant.{list_meant}
 use Rattle.end_model.specs.Opens.{IsProper, IsReadBack}
 use Rattle.end_model.specs.Words.{Means, AreMeant, results_seen, data_word, AreOurs}
-use Rattle.end_model.specs.Acting.{IsSound, TakenAs}
+use Rattle.end_model.specs.Acting.{IsSoundBody, TakenAs}
 use Rattle.end_model.specs.Heard.{MayThen, then_acted, sent_then}
 use Rattle.end_model.specs.Takings.{IsJoined, TakenWhere, nothing}
 use Rattle.end_model.specs.Pairs.{Common, base_at, setup_of, WritesAll}
@@ -148,8 +148,8 @@ module _ (free : Free) (tables : Tables) (spellings : Spellings) (a b : Config) 
   abbrev pub setup : model.Setup
   setup = setup_of free common
 
-  abbrev pub Ends : World → Role → Body → List Message → Body → List Message → List (List SetItem) → List (List SetItem) → Shared → Type 0
-  Ends world role body coming peer to_peer fs gs shared = Joint free tables spellings a b world role body coming peer to_peer fs gs shared
+  abbrev pub AreJoint : World → Role → Body → List Message → Body → List Message → List (List SetItem) → List (List SetItem) → Shared → Type 0
+  AreJoint world role body coming peer to_peer fs gs shared = Joint free tables spellings a b world role body coming peer to_peer fs gs shared
 
   -- the shared set after the answers to a word
   abbrev pub shared_after : Role → Body → Word → Shared → Shared
@@ -166,7 +166,7 @@ module _ (free : Free) (tables : Tables) (spellings : Spellings) (a b : Config) 
   by-role : (role : Role) (body : Body) (message : model.Message) → MayTake setup role (seen (base role) body) message → MayTake (setup_seen free Direct (base role)) (role_seen (is_initiator role)) (seen (base role) body) message
   by-role role body message may = subst (λ r. MayTake setup r (seen (base role) body) message) (sym (role-back role)) may
 
-  plain : (role : Role) (body : Body) (word : Word) (m : model.Message) → ((message : model.Message) → Means proposed (base Initiator) word message → message ≡ m) → IsChoice setup (seen (base role) body) m Nothing → TakenWhere Direct word m nothing → ((shared : Shared) (theirs : worlds.Shared) → Same shared theirs → Same (shared_after role body word shared) (worlds.shared_answered m Nothing theirs)) → IsSound Direct (base role) body → IsJoined Direct body → OwnTaking role body word
+  plain : (role : Role) (body : Body) (word : Word) (m : model.Message) → ((message : model.Message) → Means proposed (base Initiator) word message → message ≡ m) → IsChoice setup (seen (base role) body) m Nothing → TakenWhere Direct word m nothing → ((shared : Shared) (theirs : worlds.Shared) → Same shared theirs → Same (shared_after role body word shared) (worlds.shared_answered m Nothing theirs)) → IsSoundBody Direct (base role) body → IsJoined Direct body → OwnTaking role body word
   plain role body word m is free_choice row shares sound joined =
       record {
         choice = Nothing;
@@ -177,7 +177,7 @@ module _ (free : Free) (tables : Tables) (spellings : Spellings) (a b : Config) 
         shares = λ shared theirs message means s. subst (λ x. Same (shared_after role body word shared) (worlds.shared_answered x Nothing theirs)) (sym (is message means)) (shares shared theirs s);
       }
 
-  altering : (role : Role) (body : Body) (add : List Proposal) (delete : List ℕ) → IsSound Direct (base role) body → IsJoined Direct body → OwnTaking role body (OfData (AlterContext add delete))
+  altering : (role : Role) (body : Body) (add : List Proposal) (delete : List ℕ) → IsSoundBody Direct (base role) body → IsJoined Direct body → OwnTaking role body (OfData (AlterContext add delete))
   altering role body add delete sound joined =
       let x : Alteration = alteration add delete in
       let results : List Result = results_seen x (policy (base role) body x) in
@@ -223,7 +223,7 @@ module _ (free : Free) (tables : Tables) (spellings : Spellings) (a b : Config) 
 
   record AfterOwn (role : Role) (body : Body) (word : Word) : Type 0 where
     taken_so : OwnTaking role body word
-    sound : IsSound Direct (base role) (after_word (base role) body word)
+    sound : IsSoundBody Direct (base role) (after_word (base role) body word)
     side : Live (after_word (base role) body word) ⊎ ((after_word (base role) body word).link.phase ≡ Over)
     own : AreOwn (base Initiator) (answers_to_word (base role) body word)
 
@@ -231,7 +231,7 @@ module _ (free : Free) (tables : Tables) (spellings : Spellings) (a b : Config) 
   IsNoData (OfData (Values values)) = ⊥
   IsNoData word = Unit {0}
 
-  settled-sound : (role : Role) (body : Body) (own : List Alteration) (answers : Answers) → IsSound Direct (base role) body → IsSound Direct (base role) (settled own answers body)
+  settled-sound : (role : Role) (body : Body) (own : List Alteration) (answers : Answers) → IsSoundBody Direct (base role) body → IsSoundBody Direct (base role) (settled own answers body)
   settled-sound role body [] answers sound = sound
   settled-sound role body (x ∷ own) answers sound = record { numbered = sound.numbered; calm = tt; sets = tt; queues = sound.queues }
 
@@ -251,7 +251,7 @@ module _ (free : Free) (tables : Tables) (spellings : Spellings) (a b : Config) 
       go (inl e) = inl (p ∙ e)
       go (inr e) = inr (p ∙ e)
 
-  after-own : (role : Role) (body : Body) (word : Word) → IsSound Direct (base role) body → Live body → OwnWord (base Initiator) word → IsNoData word → AfterOwn role body word
+  after-own : (role : Role) (body : Body) (word : Word) → IsSoundBody Direct (base role) body → Live body → OwnWord (base Initiator) word → IsNoData word → AfterOwn role body word
   after-own role body (OfData (Values values)) sound live own nd = absurd nd
   after-own role body (OfData (AlterContext add delete)) sound live own nd =
       record {
@@ -355,7 +355,7 @@ module _ (free : Free) (tables : Tables) (spellings : Spellings) (a b : Config) 
     own_sets : SetsOnWay left rest (flight_to setup role world)
     peer_sets : SetsOnWay to_peer gs (flight_to setup (other role) world)
 
-  then-acts : (world : World) (role : Role) (state : states.State) (later : Body) (left : List Message) (peer : Body) (to_peer sent : List Message) (act : Option model.Act) (rest gs : List (List SetItem)) (shared : Shared) → Half world role state left peer to_peer rest gs shared → MayThen setup role state act → seen (base role) later ≡ then_acted setup state act → AreOurs (base role) sent (sent_then setup state act) → (world' : World) × Ends world' role later left peer (to_peer ++ sent) rest (gs ++ before shared sent) shared
+  then-acts : (world : World) (role : Role) (state : states.State) (later : Body) (left : List Message) (peer : Body) (to_peer sent : List Message) (act : Option model.Act) (rest gs : List (List SetItem)) (shared : Shared) → Half world role state left peer to_peer rest gs shared → MayThen setup role state act → seen (base role) later ≡ then_acted setup state act → AreOurs (base role) sent (sent_then setup state act) → (world' : World) × AreJoint world' role later left peer (to_peer ++ sent) rest (gs ++ before shared sent) shared
   then-acts world role state later left peer to_peer [] None rest gs shared h may is ours = (
     world,
     record {
@@ -413,13 +413,13 @@ module _ (free : Free) (tables : Tables) (spellings : Spellings) (a b : Config) 
   -- ---- the whole
 
   pub data Reacted (role : Role) (body : Body) (word : Word) (left : List Message) (peer : Body) (to_peer : List Message) (rest gs : List (List SetItem)) (shared : Shared) : Type 0 where
-    Passed : (world : World) → react (base role) body (Session word) ≡ Passes → Ends world role body left peer to_peer rest gs shared → Reacted role body word left peer to_peer rest gs shared
+    Passed : (world : World) → react (base role) body (Session word) ≡ Passes → AreJoint world role body left peer to_peer rest gs shared → Reacted role body word left peer to_peer rest gs shared
     Took : (world : World) (later : Body) (answers : List Message) (shown : List Indication) → react (base role) body (Session word) ≡ Takes later answers shown
-        → Ends world role later left peer (to_peer ++ answers) rest (gs ++ before shared answers) (shared_all_answered (base role) (Session word) answers shared)
-        → IsSound Direct (base role) later → Live later ⊎ (later.link.phase ≡ Over) → AreOwn (base Initiator) answers
+        → AreJoint world role later left peer (to_peer ++ answers) rest (gs ++ before shared answers) (shared_all_answered (base role) (Session word) answers shared)
+        → IsSoundBody Direct (base role) later → Live later ⊎ (later.link.phase ≡ Over) → AreOwn (base Initiator) answers
         → Reacted role body word left peer to_peer rest gs shared
 
-  heard-so : (world : World) (role : Role) (body : Body) (item : Item) (first : Sending) (others : List Sending) (left : List Message) (peer : Body) (to_peer : List Message) (rest gs : List (List SetItem)) (shared : Shared) → WritesAll free → IsRun setup world → state_of setup role world ≡ seen (base role) body → flight_to setup role world ≡ first ∷ others → first.message ≡ model_data (item_seen (base role) item) → AreOnWay proposed (base Initiator) left others → EndOf free common proposed world (other role) peer to_peer → Same shared (shared_at setup world) → SetsOnWay left rest (without_first (flight_to setup role world)) → SetsOnWay to_peer gs (flight_to setup (other role) world) → IsSound Direct (base role) body → Live body → IsProper (base role) item.apdu → IsReadBack (base role) item.apdu → is_purged (is_initiator role) body.link.awaits (unit_of (data_word item)) ≡ false → model_purged role (seen (base role) body).awaits (model_data (item_seen (base role) item)) ≡ false → Reacted role body (data_word item) left peer to_peer rest gs shared
+  heard-so : (world : World) (role : Role) (body : Body) (item : Item) (first : Sending) (others : List Sending) (left : List Message) (peer : Body) (to_peer : List Message) (rest gs : List (List SetItem)) (shared : Shared) → WritesAll free → IsRun setup world → state_of setup role world ≡ seen (base role) body → flight_to setup role world ≡ first ∷ others → first.message ≡ model_data (item_seen (base role) item) → AreOnWay proposed (base Initiator) left others → EndOf free common proposed world (other role) peer to_peer → Same shared (shared_at setup world) → SetsOnWay left rest (without_first (flight_to setup role world)) → SetsOnWay to_peer gs (flight_to setup (other role) world) → IsSoundBody Direct (base role) body → Live body → IsProper (base role) item.apdu → IsReadBack (base role) item.apdu → is_purged (is_initiator role) body.link.awaits (unit_of (data_word item)) ≡ false → model_purged role (seen (base role) body).awaits (model_data (item_seen (base role) item)) ≡ false → Reacted role body (data_word item) left peer to_peer rest gs shared
   heard-so world role body item first others left peer to_peer rest gs shared writes run now is_it meant later peers same own_sets peer_sets sound live proper back here kept =
       let value : model.Value = item_seen (base role) item in
       let step : Step = model_takes (model_data value) Nothing in
@@ -448,12 +448,12 @@ module _ (free : Free) (tables : Tables) (spellings : Spellings) (a b : Config) 
       (reacts-so (base role) body word live ∙
       ap (λ p. if p then Passes else on_word (base role) body word (word_fault (base role) body word)) here ∙
       ap (on_word (base role) body word) h.no_fault)
-      (subst (λ x. Ends end.0 role after left peer (to_peer ++ answers) rest (gs ++ before shared answers) x) (sym (data-answered (base role) (base role) item answers (sent_then setup after_it h.then_act) shared h.means)) end.1)
+      (subst (λ x. AreJoint end.0 role after left peer (to_peer ++ answers) rest (gs ++ before shared answers) x) (sym (data-answered (base role) (base role) item answers (sent_then setup after_it h.then_act) shared h.means)) end.1)
       h.sound
       (inl (same_live body after live (ap (λ (l : Link). l.stage) h.link) (ap (λ (l : Link). l.selected) h.link) (ap (λ (l : Link). l.manages) h.link) (ap (λ (l : Link). l.phase) h.link)))
       (own-for role answers (ours-own (base role) answers (sent_then setup after_it h.then_act) h.means))
 
-  plain-so : (world : World) (role : Role) (body : Body) (word : Word) (left : List Message) (peer : Body) (to_peer : List Message) (f : List SetItem) (rest gs : List (List SetItem)) (shared : Shared) → Ends world role body (Session word ∷ left) peer to_peer (f ∷ rest) gs shared → Live body → is_purged (is_initiator role) body.link.awaits (unit_of word) ≡ false → OwnWord (base Initiator) word → AfterOwn role body word → Reacted role body word left peer to_peer rest gs shared
+  plain-so : (world : World) (role : Role) (body : Body) (word : Word) (left : List Message) (peer : Body) (to_peer : List Message) (f : List SetItem) (rest gs : List (List SetItem)) (shared : Shared) → AreJoint world role body (Session word ∷ left) peer to_peer (f ∷ rest) gs shared → Live body → is_purged (is_initiator role) body.link.awaits (unit_of word) ≡ false → OwnWord (base Initiator) word → AfterOwn role body word → Reacted role body word left peer to_peer rest gs shared
   plain-so world role body word left peer to_peer f rest gs shared j live here own x =
       let t = takes-kept free common proposed world role body word left peer to_peer x.taken_so.choice j.ends (alive role body live) (λ message means. sym (kept-as role body word message own means) ∙ here) x.taken_so.chosen x.taken_so.taking in
       Took (By role (model_takes t.message x.taken_so.choice) ∷ world) (after_word (base role) body word) (answers_to_word (base role) body word) (shown_of_word (base role) body word)
@@ -463,7 +463,7 @@ module _ (free : Free) (tables : Tables) (spellings : Spellings) (a b : Config) 
       (takes-joint free tables spellings a b world role body word left peer to_peer x.taken_so.choice f rest gs shared (shared_after role body word shared) j t (x.taken_so.shares shared (shared_at setup world) t.message t.means j.same))
       x.sound x.side x.own
 
-  values-so : (world : World) (role : Role) (body : Body) (values : List Value) (left : List Message) (peer : Body) (to_peer : List Message) (f : List SetItem) (rest gs : List (List SetItem)) (shared : Shared) → WritesAll free → Ends world role body (Session (OfData (Values values)) ∷ left) peer to_peer (f ∷ rest) gs shared → IsSound Direct (base role) body → Live body → is_purged (is_initiator role) body.link.awaits (unit_of (OfData (Values values))) ≡ false → OwnValues (base Initiator) values → Reacted role body (OfData (Values values)) left peer to_peer rest gs shared
+  values-so : (world : World) (role : Role) (body : Body) (values : List Value) (left : List Message) (peer : Body) (to_peer : List Message) (f : List SetItem) (rest gs : List (List SetItem)) (shared : Shared) → WritesAll free → AreJoint world role body (Session (OfData (Values values)) ∷ left) peer to_peer (f ∷ rest) gs shared → IsSoundBody Direct (base role) body → Live body → is_purged (is_initiator role) body.link.awaits (unit_of (OfData (Values values))) ≡ false → OwnValues (base Initiator) values → Reacted role body (OfData (Values values)) left peer to_peer rest gs shared
   values-so world role body values left peer to_peer f rest gs shared writes j sound live here own =
       let n = next-word proposed (base Initiator) (OfData (Values values)) left (flight_to setup role world) j.ends.own.flight in
       let item : Item = n.means.item in
@@ -474,10 +474,10 @@ module _ (free : Free) (tables : Tables) (spellings : Spellings) (a b : Config) 
       (subst (IsProper (base role)) same own.is_proper) (subst (IsReadBack (base role)) same own.is_read_back) here
       (sym (kept-as role body (OfData (Values values)) (model_data (item_seen (base Initiator) item)) own (record { item = item; is_one = n.means.is_one; is_its = refl })) ∙ here))
 
-  pub reacted : (world : World) (role : Role) (body : Body) (word : Word) (left : List Message) (peer : Body) (to_peer : List Message) (f : List SetItem) (rest gs : List (List SetItem)) (shared : Shared) → WritesAll free → Ends world role body (Session word ∷ left) peer to_peer (f ∷ rest) gs shared → IsSound Direct (base role) body → Live body → OwnWord (base Initiator) word → Reacted role body word left peer to_peer rest gs shared
+  pub reacted : (world : World) (role : Role) (body : Body) (word : Word) (left : List Message) (peer : Body) (to_peer : List Message) (f : List SetItem) (rest gs : List (List SetItem)) (shared : Shared) → WritesAll free → AreJoint world role body (Session word ∷ left) peer to_peer (f ∷ rest) gs shared → IsSoundBody Direct (base role) body → Live body → OwnWord (base Initiator) word → Reacted role body word left peer to_peer rest gs shared
   reacted world role body word left peer to_peer f rest gs shared writes j sound live own = go (is_purged (is_initiator role) body.link.awaits (unit_of word)) refl
     where
-      kind : (w : Word) → OwnWord (base Initiator) w → Ends world role body (Session w ∷ left) peer to_peer (f ∷ rest) gs shared → is_purged (is_initiator role) body.link.awaits (unit_of w) ≡ false → Reacted role body w left peer to_peer rest gs shared
+      kind : (w : Word) → OwnWord (base Initiator) w → AreJoint world role body (Session w ∷ left) peer to_peer (f ∷ rest) gs shared → is_purged (is_initiator role) body.link.awaits (unit_of w) ≡ false → Reacted role body w left peer to_peer rest gs shared
       kind (OfData (Values values)) own j here = values-so world role body values left peer to_peer f rest gs shared writes j sound live here own
       kind w own j here = plain-so world role body w left peer to_peer f rest gs shared j live here own (after-own role body w sound live own tt)
 

@@ -24,7 +24,7 @@ use Rattle.end_model.specs.Seen.{calls_seen, incoming_seen, seen, setup_seen}
 use Rattle.end_model.specs.Rows.{at}
 use Rattle.end_model.specs.Opens.{IsProper, IsReadBack}
 use Rattle.end_model.specs.Words.{value_of_item}
-use Rattle.end_model.specs.Acting.{IsSound, TakenAs}
+use Rattle.end_model.specs.Acting.{IsSoundBody, TakenAs}
 use Rattle.end_model.specs.Heard.{IsExpected}
 use Rattle.end_model.specs.Takings.{EndsTaken}
 use Rattle.end_model.proofs.Marks.{map-snoc}
@@ -80,7 +80,7 @@ again-taken number free base proposed body handed may =
       means = (refl, tt);
     }
 
-whole-taken : (number : ℕ) (item : Item) (free : Free) (base : Base) (proposed : List Proposal) (body : Body) → IsSound Reliable base body → body.receiving.was_handed ≡ false → base.spellings.arrived body.sets.held (joined body.receiving.pieces) ≡ Ok (Whole item) → free.codec.read (set_seen body.sets.held) (joined body.receiving.pieces) ≡ Some (item_seen (at Reliable base) item) → IsProper (at Reliable base) item.apdu → IsReadBack (at Reliable base) item.apdu → IsExpected (setup_seen free Reliable base) (calls_seen body.calls) (apdu_seen (at Reliable base) item.apdu) → MayTake (setup_seen free Reliable base) (role_seen base.initiator) (seen (at Reliable base) body) (model_end number) → TakenAs free Reliable base proposed body (OfActivities (End number)) (model_end number) Nothing
+whole-taken : (number : ℕ) (item : Item) (free : Free) (base : Base) (proposed : List Proposal) (body : Body) → IsSoundBody Reliable base body → body.receiving.was_handed ≡ false → base.spellings.arrived body.sets.held (joined body.receiving.pieces) ≡ Ok (Whole item) → free.codec.read (set_seen body.sets.held) (joined body.receiving.pieces) ≡ Some (item_seen (at Reliable base) item) → IsProper (at Reliable base) item.apdu → IsReadBack (at Reliable base) item.apdu → IsExpected (setup_seen free Reliable base) (calls_seen body.calls) (apdu_seen (at Reliable base) item.apdu) → MayTake (setup_seen free Reliable base) (role_seen base.initiator) (seen (at Reliable base) body) (model_end number) → TakenAs free Reliable base proposed body (OfActivities (End number)) (model_end number) Nothing
 whole-taken number item free base proposed body sound handed arrived read proper back expected may =
     let up : is_up body.link.phase ≡ true = up-now (at Reliable base) body may.is_up in
     let next : nat_eq number (suc (highest body.receiving.pieces)) ≡ true = eq-true number (suc (highest body.receiving.pieces)) (may.is_next ∙ sym (ap suc (highest-seen body.receiving.pieces))) in

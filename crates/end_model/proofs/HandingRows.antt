@@ -23,7 +23,7 @@ use Rattle.end_rules.specs.Hearing.{is_silent_at, head_of_apdu, value_on, data_o
 use Rattle.end_rules.specs.Requesting.{after_call, due_of, after_invoke, due_invoke, invoking}
 use Rattle.end_rules.specs.Requesting.{queueing}
 use Rattle.agreement.specs.Messages as model
-use Rattle.agreement.specs.Messages.Act.{Says, Queues}
+use Rattle.agreement.specs.Messages.Act.{SaysValue, Queues}
 use Rattle.agreement.specs.Messages.Message.{Data as model_data}
 use Rattle.agreement.specs.Messages.Apdu.{Outcome as model_outcome}
 use Rattle.agreement.specs.State as states
@@ -35,7 +35,7 @@ use Rattle.end_model.specs.Rows.{at}
 use Rattle.end_model.specs.Opens.{IsNumber, IsProper, IsReadBack, AreNumbered, Numbered}
 use Rattle.end_model.specs.Opens.{fits_argument, operation_of_code}
 use Rattle.end_model.specs.Words.{IsData, AreOurs}
-use Rattle.end_model.specs.Acting.{ActsAs, HandsActs, SetsIn, IsSound, HandingIn, apdus_of}
+use Rattle.end_model.specs.Acting.{ActsAs, HandsActs, SetsIn, IsSoundBody, HandingIn, apdus_of}
 use Rattle.end_model.specs.Acting.{invoked_as}
 use Rattle.end_model.proofs.Marks.{map-snoc}
 use Rattle.end_model.proofs.Facts.{up-seen, free-seen}
@@ -58,7 +58,7 @@ pub data-meant : (base : Base) (body : Body) (item : Item) → pair_of body.sets
 data-meant base body item e =
     record { item = item; is_one = ap (λ p. record { id = item.id; pair = p; content = Remote item.apdu } ∷ []) e; is_its = refl }
 
-pub said : (free : Free) (mode : Mode) (base : Base) (proposed : List Proposal) (body later : Body) (item : Item) → AtOnce mode → is_up body.link.phase ≡ true → is_free body.link.awaits ≡ true → pair_of body.sets.held item.id ≡ Some item.pair → is_deleted_in body.sets.own item.id ≡ false → free.codec.may_write (item_seen (at mode base) item) ≡ true → MayHandIn (setup_seen free mode base) (calls_seen body.calls) (map (queued_seen (at mode base)) body.sending.queue) (apdu_seen (at mode base) item.apdu) → seen (at mode base) later ≡ acted (setup_seen free mode base) (seen (at mode base) body) (Says (item_seen (at mode base) item)) → ActsAs free mode base proposed body later (data_on body item.id item.apdu ∷ []) (Says (item_seen (at mode base) item))
+pub said : (free : Free) (mode : Mode) (base : Base) (proposed : List Proposal) (body later : Body) (item : Item) → AtOnce mode → is_up body.link.phase ≡ true → is_free body.link.awaits ≡ true → pair_of body.sets.held item.id ≡ Some item.pair → is_deleted_in body.sets.own item.id ≡ false → free.codec.may_write (item_seen (at mode base) item) ≡ true → MayHandIn (setup_seen free mode base) (calls_seen body.calls) (map (queued_seen (at mode base)) body.sending.queue) (apdu_seen (at mode base) item.apdu) → seen (at mode base) later ≡ acted (setup_seen free mode base) (seen (at mode base) body) (SaysValue (item_seen (at mode base) item)) → ActsAs free mode base proposed body later (data_on body item.id item.apdu ∷ []) (SaysValue (item_seen (at mode base) item))
 said free Reliable base proposed body later item o up calm there kept writes may after = absurd o
 said free Bare base proposed body later item o up calm there kept writes may after =
     record {
@@ -148,7 +148,7 @@ invoke-steps free mode base proposed body context place argument linked operatio
 pub next-is : (body : Body) → nat_le last_invocation body.calls.made ≡ false → next_id body ≡ pos (suc body.calls.made)
 next-is body h = ap pos (number-next body h)
 
-invoked-sound : (mode : Mode) (base : Base) (body : Body) (context place : ℕ) (linked : Option ℤ) → nat_le last_invocation body.calls.made ≡ false → IsSound mode base body → Numbered (invoking (at mode base) context place (next_id body) linked body).calls
+invoked-sound : (mode : Mode) (base : Base) (body : Body) (context place : ℕ) (linked : Option ℤ) → nat_le last_invocation body.calls.made ≡ false → IsSoundBody mode base body → Numbered (invoking (at mode base) context place (next_id body) linked body).calls
 invoked-sound mode base body context place linked room sound =
     let o : OpenCall = record { own = true; id = next_id body; operation = place; context = context; parent = linked } in
     let more : AreNumbered (suc body.calls.made) body.calls.opens = more-made body.calls.made (suc body.calls.made) body.calls.opens (omega arith) sound.numbered in
@@ -177,9 +177,9 @@ invoke-in Bare context place argument linked free base proposed body answer writ
           ap (λ o. (after_invoke (at Bare base) body context place (next_id body) linked o argument).sending) i.is_it;
       is_proper = r.proper;
       is_short = i.sends.short;
-      act = Says (item_seen (at Bare base) item);
+      act = SaysValue (item_seen (at Bare base) item);
       hands = refl;
-      acts = invoke-steps free Bare base proposed body context place argument linked i.operation answer (Says (item_seen (at Bare base) item)) i.is_it i.sends.next
+      acts = invoke-steps free Bare base proposed body context place argument linked i.operation answer (SaysValue (item_seen (at Bare base) item)) i.is_it i.sends.next
           (record {
             acts = said free Bare base proposed body (invoking (at Bare base) context place (next_id body) linked body) item tt c.in_phase calm p.1 i.kept (writes (item_seen (at Bare base) item)) (r.may (map (queued_seen (at Bare base)) body.sending.queue))
                 (ap (λ (calls : model.Calls). record (seen (at Bare base) body) { calls = calls }) (opened-as (at Bare base) place context (next_id body) linked body (unwrap_or (operation_with base.tables i.operation.code) 0) r.same_place));
@@ -203,9 +203,9 @@ invoke-in Direct context place argument linked free base proposed body answer wr
           ap (λ o. (after_invoke (at Direct base) body context place (next_id body) linked o argument).sending) i.is_it;
       is_proper = r.proper;
       is_short = i.sends.short;
-      act = Says (item_seen (at Direct base) item);
+      act = SaysValue (item_seen (at Direct base) item);
       hands = refl;
-      acts = invoke-steps free Direct base proposed body context place argument linked i.operation answer (Says (item_seen (at Direct base) item)) i.is_it i.sends.next
+      acts = invoke-steps free Direct base proposed body context place argument linked i.operation answer (SaysValue (item_seen (at Direct base) item)) i.is_it i.sends.next
           (record {
             acts = said free Direct base proposed body (invoking (at Direct base) context place (next_id body) linked body) item tt c.in_phase (calm-at base body s.holds) p.1 i.kept (writes (item_seen (at Direct base) item)) (r.may (map (queued_seen (at Direct base)) body.sending.queue))
                 (ap (λ (calls : model.Calls). record (seen (at Direct base) body) { calls = calls }) (opened-as (at Direct base) place context (next_id body) linked body (unwrap_or (operation_with base.tables i.operation.code) 0) r.same_place));

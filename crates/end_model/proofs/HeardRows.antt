@@ -15,7 +15,7 @@ use Rattle.end_rules.specs.Hearing.{Heard, Taken, Rejecting, reject_apdu, hear, 
 use Rattle.end_rules.specs.Hearing.{on_heard, sent_on}
 use Rattle.agreement.specs.Sets.{Role}
 use Rattle.agreement.specs.Messages as model
-use Rattle.agreement.specs.Messages.Act.{Says, Drops}
+use Rattle.agreement.specs.Messages.Act.{SaysValue, Drops}
 use Rattle.agreement.specs.Messages.Mode.{Reliable as model_reliable}
 use Rattle.agreement.specs.Messages.Message.{Data as model_data}
 use Rattle.agreement.specs.Messages.Choice.{Nothing}
@@ -27,7 +27,7 @@ use Rattle.end_model.specs.Seen.{Free, mode_seen, role_seen, awaited_seen, apdu_
 use Rattle.end_model.specs.Seen.{queued_seen, calls_seen, seen, setup_seen}
 use Rattle.end_model.specs.Rows.{at}
 use Rattle.end_model.specs.Words.{AreOurs}
-use Rattle.end_model.specs.Acting.{IsSound, QueuesIn}
+use Rattle.end_model.specs.Acting.{IsSoundBody, QueuesIn}
 use Rattle.end_model.specs.Opens.{Numbered, IsProper}
 use Rattle.end_model.specs.Heard.{MayThen, then_acted, sent_then, HearsIn}
 use Rattle.end_model.proofs.Facts.{up-seen, up-there}
@@ -75,7 +75,7 @@ record HeardWith (free : Free) (mode : Mode) (base : Base) (link : Link) (state 
   then_act : Option model.Act
   may : MayThen (setup_seen free mode base) (role_seen base.initiator) state then_act
   after : seen (at mode base) t.body ≡ then_acted (setup_seen free mode base) state then_act
-  sound : IsSound mode base t.body
+  sound : IsSoundBody mode base t.body
   same_link : t.body.link ≡ link
   means : AreOurs (at mode base) t.answers (sent_then (setup_seen free mode base) state then_act)
 
@@ -87,10 +87,10 @@ no-queue-after mode base body calls o q =
 is-free-there : (base : Base) (body : Body) → is_up body.link.phase ≡ true → body.link.awaits ≡ NoAnswer → IsFree (seen base body)
 is-free-there base body up e = record { is_up = up-seen body.link.stage body.link.phase up; is_calm = ap awaited_seen e }
 
-with-calls : (mode : Mode) (base : Base) (body : Body) (calls : Calls) → IsSound mode base body → Numbered calls → IsSound mode base (record body { calls = calls })
+with-calls : (mode : Mode) (base : Base) (body : Body) (calls : Calls) → IsSoundBody mode base body → Numbered calls → IsSoundBody mode base (record body { calls = calls })
 with-calls mode base body calls sound numbered = record { numbered = numbered; calm = sound.calm; sets = same-sets mode base body (record body { calls = calls }) refl sound.sets; queues = sound.queues }
 
-with-carrier : (free : Free) (mode : Mode) (base : Base) (body : Body) (context : ℕ) (calls : Calls) (r : Rejecting) (c : Option ℕ) → AtOnce mode → IsSound mode base body → Numbered calls → ((value : model.Value) → free.codec.may_write value ≡ true) → is_up body.link.phase ≡ true → body.link.awaits ≡ NoAnswer → IsProper (at mode base) (reject_apdu r) → carrier_in (at mode base) body context ≡ c → HeardWith free mode base body.link (heard_state (at mode base) body calls context (Some r)) (sent_on (record body { calls = calls }) r c)
+with-carrier : (free : Free) (mode : Mode) (base : Base) (body : Body) (context : ℕ) (calls : Calls) (r : Rejecting) (c : Option ℕ) → AtOnce mode → IsSoundBody mode base body → Numbered calls → ((value : model.Value) → free.codec.may_write value ≡ true) → is_up body.link.phase ≡ true → body.link.awaits ≡ NoAnswer → IsProper (at mode base) (reject_apdu r) → carrier_in (at mode base) body context ≡ c → HeardWith free mode base body.link (heard_state (at mode base) body calls context (Some r)) (sent_on (record body { calls = calls }) r c)
 with-carrier free mode base body context calls r None o sound numbered writes up e proper at_c =
     record {
       then_act = Some Drops;
@@ -104,7 +104,7 @@ with-carrier free mode base body context calls r (Some k) o sound numbered write
     let m = carrier-sends base.tables.name_oid body.sets.held body.sets.own context k at_c in
     let item : Item = record { id = k; pair = m.pair; apdu = reject_apdu r } in
     record {
-      then_act = Some (Says (item_seen (at mode base) item));
+      then_act = Some (SaysValue (item_seen (at mode base) item));
       may =
           record {
             at_once = at-once mode o;
@@ -120,7 +120,7 @@ with-carrier free mode base body context calls r (Some k) o sound numbered write
       means = our-data (at mode base) body item m.there proper tt;
     }
 
-heard-with : (free : Free) (mode : Mode) (base : Base) (body : Body) (context : ℕ) (calls : Calls) (shown : List Indication) (r : Option Rejecting) → AtOnce mode → IsSound mode base body → Numbered calls → ((value : model.Value) → free.codec.may_write value ≡ true) → is_up body.link.phase ≡ true → body.link.awaits ≡ NoAnswer → IsProperReject (at mode base) r → HeardWith free mode base body.link (heard_state (at mode base) body calls context r) (on_heard (at mode base) body context (record { calls = calls; shown = shown; reject = r }))
+heard-with : (free : Free) (mode : Mode) (base : Base) (body : Body) (context : ℕ) (calls : Calls) (shown : List Indication) (r : Option Rejecting) → AtOnce mode → IsSoundBody mode base body → Numbered calls → ((value : model.Value) → free.codec.may_write value ≡ true) → is_up body.link.phase ≡ true → body.link.awaits ≡ NoAnswer → IsProperReject (at mode base) r → HeardWith free mode base body.link (heard_state (at mode base) body calls context r) (on_heard (at mode base) body context (record { calls = calls; shown = shown; reject = r }))
 heard-with free mode base body context calls shown None o sound numbered writes up e proper =
     record { then_act = None; may = tt; after = no-queue-after mode (at mode base) body calls o sound.queues; sound = with-calls mode base body calls sound numbered; same_link = refl; means = tt }
 heard-with free Reliable base body context calls shown (Some r) o sound numbered writes up e proper = absurd o
@@ -135,7 +135,7 @@ append-nil : {X : Type 0} (xs : List X) → xs ++ [] ≡ xs
 append-nil [] = refl
 append-nil (x ∷ xs) = ap (λ ys. x ∷ ys) (append-nil xs)
 
-data-heard : (free : Free) (mode : Mode) (base : Base) (body : Body) (item : Item) (h : Heard) → AtOnce mode → IsSound mode base body → ((value : model.Value) → free.codec.may_write value ≡ true) → is_up body.link.phase ≡ true → body.link.awaits ≡ NoAnswer → Hears free mode base body.calls item.id item.apdu h → HeardWith free mode base body.link (taken (setup_seen free mode base) (role_seen base.initiator) (seen (at mode base) body) (model_data (item_seen (at mode base) item)) Nothing) (on_heard (at mode base) body item.id h)
+data-heard : (free : Free) (mode : Mode) (base : Base) (body : Body) (item : Item) (h : Heard) → AtOnce mode → IsSoundBody mode base body → ((value : model.Value) → free.codec.may_write value ≡ true) → is_up body.link.phase ≡ true → body.link.awaits ≡ NoAnswer → Hears free mode base body.calls item.id item.apdu h → HeardWith free mode base body.link (taken (setup_seen free mode base) (role_seen base.initiator) (seen (at mode base) body) (model_data (item_seen (at mode base) item)) Nothing) (on_heard (at mode base) body item.id h)
 data-heard free mode base body item h o sound writes up e is =
     subst (λ s. HeardWith free mode base body.link s (on_heard (at mode base) body item.id h)) (sym (heard-state free mode base (role_seen base.initiator) body item h o sound.queues is))
     (heard-with free mode base body item.id h.calls h.shown h.reject o sound is.numbered writes up e is.proper)

@@ -29,7 +29,7 @@ use Rattle.end_rules.specs.Hearing.{head_of_apdu, carried_in, is_right}
 use Rattle.end_rules.specs.Requesting.{after_outcome, due_outcome, answering, result_for, error_for}
 use Rattle.end_rules.specs.Requesting.{operation_opened, sent_at_once, queueing}
 use Rattle.agreement.specs.Messages as model
-use Rattle.agreement.specs.Messages.Act.{Says, Queues}
+use Rattle.agreement.specs.Messages.Act.{SaysValue, Queues}
 use Rattle.agreement.specs.Messages.Apdu.{Outcome as model_outcome}
 use Rattle.agreement.specs.State as states
 use Rattle.agreement.specs.Calls.{handed_in, due_after, close as model_close}
@@ -41,7 +41,7 @@ use Rattle.end_model.specs.Seen.{is_outcome, seen, setup_seen}
 use Rattle.end_model.specs.Rows.{at}
 use Rattle.end_model.specs.Opens.{IsNumber, IsProper, IsReadBack, AreNumbered, fits_result}
 use Rattle.end_model.specs.Opens.{fits_parameter, operation_of_code, error_of_code}
-use Rattle.end_model.specs.Acting.{HandsActs, IsSound, HasBareSet, HandingIn, WritesIn, as_list}
+use Rattle.end_model.specs.Acting.{HandsActs, IsSoundBody, HasBareSet, HandingIn, WritesIn, as_list}
 use Rattle.end_model.specs.Acting.{handing}
 use Rattle.end_model.proofs.Ladder.{passed, called}
 use Rattle.end_model.proofs.InvokeRungs.{answerable, refusable, Outgoing}
@@ -100,7 +100,7 @@ answered-calls : (id : ℤ) (calls : Calls) → IsNumber id → AreNumbered call
 answered-calls (negsuc n) calls i h = absurd i
 answered-calls (pos n) calls i h = peers-closed n calls h
 
-at-once-after : (free : Free) (mode : Mode) (base : Base) (body : Body) (id : ℤ) (o : OpenCall) (item : Item) → AreNumbered body.calls.made body.calls.opens → IsNumber id → IsOutcome (at mode base) body id o item.apdu → seen (at mode base) (answering id body) ≡ acted (setup_seen free mode base) (seen (at mode base) body) (Says (item_seen (at mode base) item))
+at-once-after : (free : Free) (mode : Mode) (base : Base) (body : Body) (id : ℤ) (o : OpenCall) (item : Item) → AreNumbered body.calls.made body.calls.opens → IsNumber id → IsOutcome (at mode base) body id o item.apdu → seen (at mode base) (answering id body) ≡ acted (setup_seen free mode base) (seen (at mode base) body) (SaysValue (item_seen (at mode base) item))
 at-once-after free mode base body id o item numbered i h =
     subst (λ a. seen (at mode base) (answering id body) ≡ record (seen (at mode base) body) { calls = handed_in (setup_seen free mode base) (calls_seen body.calls) item.id a; outgoing = record (seen (at mode base) body).outgoing { queue = due_after a (map (queued_seen (at mode base)) body.sending.queue) } }) (sym h.seen_so)
     (ap (λ (calls : model.Calls). record (seen (at mode base) body) { calls = calls }) (answered-calls id body.calls i numbered))
@@ -119,14 +119,14 @@ pub record OutcomeActs (free : Free) (mode : Mode) (base : Base) (proposed : Lis
   pub hands : handed_by (Acts act) ≡ apdu_seen (at mode base) apdu ∷ []
   pub acts : HandsActs free mode base proposed body (after_outcome (at mode base) body id (Some o) (Some apdu)) (due_outcome (at mode base) body (Some o) (Some apdu)) act
 
-on-bare : (free : Free) (base : Base) (proposed : List Proposal) (body : Body) (id : ℤ) (o : OpenCall) (apdu : Apdu) (k : ℕ) → ((value : model.Value) → free.codec.may_write value ≡ true) → base.spellings.head Der (base.spellings.apdu Der apdu) ≡ head_of_apdu apdu → AreNumbered body.calls.made body.calls.opens → is_up body.link.phase ≡ true → is_free body.link.awaits ≡ true → IsNumber id → IsOutcome (at Bare base) body id o apdu → IsProper (at Bare base) apdu → IsReadBack (at Bare base) apdu → IsSound Bare base body → carrier_in (at Bare base) body o.context ≡ Some k → OutcomeActs free Bare base proposed body id o apdu
+on-bare : (free : Free) (base : Base) (proposed : List Proposal) (body : Body) (id : ℤ) (o : OpenCall) (apdu : Apdu) (k : ℕ) → ((value : model.Value) → free.codec.may_write value ≡ true) → base.spellings.head Der (base.spellings.apdu Der apdu) ≡ head_of_apdu apdu → AreNumbered body.calls.made body.calls.opens → is_up body.link.phase ≡ true → is_free body.link.awaits ≡ true → IsNumber id → IsOutcome (at Bare base) body id o apdu → IsProper (at Bare base) apdu → IsReadBack (at Bare base) apdu → IsSoundBody Bare base body → carrier_in (at Bare base) body o.context ≡ Some k → OutcomeActs free Bare base proposed body id o apdu
 on-bare free base proposed body id o apdu k writes back numbered up calm i h proper read sound e =
     let m = carrier-sends base.tables.name_oid body.sets.held body.sets.own o.context k e in
     let item : Item = record { id = k; pair = m.pair; apdu = apdu } in
     record {
-      act = Says (item_seen (at Bare base) item);
+      act = SaysValue (item_seen (at Bare base) item);
       hands = refl;
-      acts = subst (λ c. HandsActs free Bare base proposed body (answering id body) (sent_at_once Bare body c apdu) (Says (item_seen (at Bare base) item))) (sym e)
+      acts = subst (λ c. HandsActs free Bare base proposed body (answering id body) (sent_at_once Bare body c apdu) (SaysValue (item_seen (at Bare base) item))) (sym e)
           (record {
             acts = said free Bare base proposed body (answering id body) item tt up calm m.there m.kept (writes (item_seen (at Bare base) item)) (handed-outcome free Bare base body id o apdu numbered i h back (map (queued_seen (at Bare base)) body.sending.queue)) (at-once-after free Bare base body id o item numbered i h);
             ours = our-data (at Bare base) body item m.there proper read;
@@ -134,14 +134,14 @@ on-bare free base proposed body id o apdu k writes back numbered up calm i h pro
           });
     }
 
-on-direct : (free : Free) (base : Base) (proposed : List Proposal) (body : Body) (id : ℤ) (o : OpenCall) (apdu : Apdu) (k : ℕ) → ((value : model.Value) → free.codec.may_write value ≡ true) → base.spellings.head Der (base.spellings.apdu Der apdu) ≡ head_of_apdu apdu → AreNumbered body.calls.made body.calls.opens → is_up body.link.phase ≡ true → is_free body.link.awaits ≡ true → IsNumber id → IsOutcome (at Direct base) body id o apdu → IsProper (at Direct base) apdu → IsReadBack (at Direct base) apdu → IsSound Direct base body → carrier_in (at Direct base) body o.context ≡ Some k → OutcomeActs free Direct base proposed body id o apdu
+on-direct : (free : Free) (base : Base) (proposed : List Proposal) (body : Body) (id : ℤ) (o : OpenCall) (apdu : Apdu) (k : ℕ) → ((value : model.Value) → free.codec.may_write value ≡ true) → base.spellings.head Der (base.spellings.apdu Der apdu) ≡ head_of_apdu apdu → AreNumbered body.calls.made body.calls.opens → is_up body.link.phase ≡ true → is_free body.link.awaits ≡ true → IsNumber id → IsOutcome (at Direct base) body id o apdu → IsProper (at Direct base) apdu → IsReadBack (at Direct base) apdu → IsSoundBody Direct base body → carrier_in (at Direct base) body o.context ≡ Some k → OutcomeActs free Direct base proposed body id o apdu
 on-direct free base proposed body id o apdu k writes back numbered up calm i h proper read sound e =
     let m = carrier-sends base.tables.name_oid body.sets.held body.sets.own o.context k e in
     let item : Item = record { id = k; pair = m.pair; apdu = apdu } in
     record {
-      act = Says (item_seen (at Direct base) item);
+      act = SaysValue (item_seen (at Direct base) item);
       hands = refl;
-      acts = subst (λ c. HandsActs free Direct base proposed body (answering id body) (sent_at_once Direct body c apdu) (Says (item_seen (at Direct base) item))) (sym e)
+      acts = subst (λ c. HandsActs free Direct base proposed body (answering id body) (sent_at_once Direct body c apdu) (SaysValue (item_seen (at Direct base) item))) (sym e)
           (record {
             acts = said free Direct base proposed body (answering id body) item tt up calm m.there m.kept (writes (item_seen (at Direct base) item)) (handed-outcome free Direct base body id o apdu numbered i h back (map (queued_seen (at Direct base)) body.sending.queue)) (at-once-after free Direct base body id o item numbered i h);
             ours = our-data (at Direct base) body item m.there proper read;
@@ -153,7 +153,7 @@ has-carrier : (c : Option ℕ) → is_none c ≡ false → (k : ℕ) × (c ≡ S
 has-carrier None h = cc
 has-carrier (Some k) h = (k, refl)
 
-pub outcome-acts : (free : Free) (mode : Mode) (base : Base) (proposed : List Proposal) (body : Body) (id : ℤ) (o : OpenCall) (apdu : Apdu) (answer : Option ℤ) → WritesIn mode free → base.spellings.head Der (base.spellings.apdu Der apdu) ≡ head_of_apdu apdu → IsSound mode base body → is_up body.link.phase ≡ true → is_stopped (at mode base) body ≡ false → IsNumber id → IsOutcome (at mode base) body id o apdu → IsProper (at mode base) apdu → IsReadBack (at mode base) apdu → Outgoing (at mode base) body o apdu answer → OutcomeActs free mode base proposed body id o apdu
+pub outcome-acts : (free : Free) (mode : Mode) (base : Base) (proposed : List Proposal) (body : Body) (id : ℤ) (o : OpenCall) (apdu : Apdu) (answer : Option ℤ) → WritesIn mode free → base.spellings.head Der (base.spellings.apdu Der apdu) ≡ head_of_apdu apdu → IsSoundBody mode base body → is_up body.link.phase ≡ true → is_stopped (at mode base) body ≡ false → IsNumber id → IsOutcome (at mode base) body id o apdu → IsProper (at mode base) apdu → IsReadBack (at mode base) apdu → Outgoing (at mode base) body o apdu answer → OutcomeActs free mode base proposed body id o apdu
 outcome-acts free Bare base proposed body id o apdu answer writes back sound up goes i h proper read out =
     let k = bare-carrier base body o.context sound.sets in
     on-bare free base proposed body id o apdu k.0 writes back sound.numbered up (ap is_free sound.calm) i h proper read sound k.1

@@ -18,7 +18,7 @@ use Rattle.end_rules.specs.Units.{has_token, has_marks, has_restarts}
 use Rattle.end_rules.specs.Calling.{can_stop, can_release, has_activity, is_idle}
 use Rattle.agreement.specs.Sets.Role.{Initiator}
 use Rattle.agreement.specs.Messages as model
-use Rattle.agreement.specs.Messages.Act.{Marks, Gives, Pleads, Restarts, Interrupts, Discards}
+use Rattle.agreement.specs.Messages.Act.{Marks, GivesTurn, Pleads, Restarts, Interrupts, Discards}
 use Rattle.agreement.specs.Messages.Act.{Resumes, Releases}
 use Rattle.agreement.specs.Messages.Message.{Mark as model_mark, Restart as model_restart}
 use Rattle.agreement.specs.Messages.Message.{Resume as model_resume}
@@ -88,7 +88,7 @@ or-right : (a b : Bool) → (a || b) ≡ false → b ≡ false
 or-right false b h = h
 or-right true b h = cc
 
-pub give-acts : CallActs Direct the_calls.Give (λ body. Gives)
+pub give-acts : CallActs Direct the_calls.Give (λ body. GivesTurn)
 give-acts free base proposed body answer sound h =
     let c = called (at Direct base) body the_calls.Give answer h in
     let a = passed (not (has_token (at Direct base) body)) refusals.NotNegotiated _ answer c.rows in
@@ -105,7 +105,7 @@ give-acts free base proposed body answer sound h =
       means = (refl, tt);
     }
 
-pub give_all-acts : CallActs Reliable the_calls.Give (λ body. Gives)
+pub give_all-acts : CallActs Reliable the_calls.Give (λ body. GivesTurn)
 give_all-acts free base proposed body answer sound h =
     let c = called (at Reliable base) body the_calls.Give answer h in
     let a = passed (not (has_token (at Reliable base) body)) refusals.NotNegotiated _ answer c.rows in

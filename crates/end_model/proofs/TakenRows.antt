@@ -18,7 +18,7 @@ use Rattle.end_rules.specs.Connecting.{the_one}
 use Rattle.end_rules.specs.TakesAssociation.{is_release_request, is_release_response}
 use Rattle.end_rules.specs.TakesData.{alteration, settled, is_associated}
 use Rattle.end_rules.specs.TakesMarks.{priority_in}
-use Rattle.end_rules.specs.Messages.{Content, Remote, Unread, Association, Plea, Part}
+use Rattle.end_rules.specs.Messages.{ValueContent, Remote, Unread, Association, Plea, Part}
 use Rattle.end_rules.specs.Messages.{AbortData, Value, OfAssociation, OfData, OfMarks, OfActivities}
 use Rattle.end_rules.specs.Messages.{Finish, Disconnect, Abort, AlterContext, AlterContextAck, Mark}
 use Rattle.end_rules.specs.Messages.{Restart, RestartAck, Give, Please, GiveConfirm, GiveAck, Start}
@@ -101,7 +101,7 @@ please-direct tokens free base proposed body sound joined may =
     record { no_fault = fine (at Direct base) body (OfMarks (Please (Some tokens) [])) (rw (up, joined.selected) refl) refl; chosen = tt; after = refl; means = tt }
 
 -- a plea is no value of association control
-no-plea : (v : Value) (priority : ℕ) (c : Content) → priority_in (record v { content = c } ∷ []) ≡ Some priority → is_associated c ≡ false
+no-plea : (v : Value) (priority : ℕ) (c : ValueContent) → priority_in (record v { content = c } ∷ []) ≡ Some priority → is_associated c ≡ false
 no-plea v priority (Remote apdu) h = cc
 no-plea v priority (Unread octets) h = cc
 no-plea v priority (Association apdu user) h = cc

@@ -35,7 +35,7 @@ use Rattle.end_model.specs.Seen.{Free, role_seen, set_seen, piece_seen, progress
 use Rattle.end_model.specs.Seen.{transfer_seen, incoming_seen, calls_seen, seen, setup_seen}
 use Rattle.end_model.specs.Rows.{at}
 use Rattle.end_model.specs.Opens.{IsProper, AreNumbered}
-use Rattle.end_model.specs.Acting.{IsSound, TakenAs}
+use Rattle.end_model.specs.Acting.{IsSoundBody, TakenAs}
 use Rattle.end_model.specs.Takings.{IsJoined, TakenWhere, nothing, IsProperCurrent}
 use Rattle.end_model.proofs.Transfers.{highest-seen, mark-confirmed}
 use Rattle.end_model.proofs.Resuming.{resumption-taken}
@@ -175,7 +175,7 @@ cut-seen : (base : Base) (t : Option Transfer) (calls : Calls) → IsProperCurre
 cut-seen base None calls proper numbered = refl
 cut-seen base (Some t) calls proper numbered = cut-apdu base t.item.apdu t calls refl proper numbered
 
-pub discard_ack-taken : (free : Free) (base : Base) (proposed : List Proposal) (body : Body) → IsSound Reliable base body → IsJoined Reliable body → IsProperCurrent (at Reliable base) body.sending.current → MayTake (setup_seen free Reliable base) (role_seen base.initiator) (seen (at Reliable base) body) model_discard_answer → TakenAs free Reliable base proposed body (OfActivities DiscardAck) model_discard_answer Nothing
+pub discard_ack-taken : (free : Free) (base : Base) (proposed : List Proposal) (body : Body) → IsSoundBody Reliable base body → IsJoined Reliable body → IsProperCurrent (at Reliable base) body.sending.current → MayTake (setup_seen free Reliable base) (role_seen base.initiator) (seen (at Reliable base) body) model_discard_answer → TakenAs free Reliable base proposed body (OfActivities DiscardAck) model_discard_answer Nothing
 discard_ack-taken free base proposed body sound joined_ proper may =
     let put : model.Calls → states.State = λ calls. record (seen (at Reliable base) body) { awaits = model_no_answer; sets = record { held = set_seen body.sets.inter; inter = set_seen body.sets.inter; own = [] }; calls = calls; outgoing = record (seen (at Reliable base) body).outgoing { transfer = None } } in
     record {

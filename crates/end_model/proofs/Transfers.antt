@@ -8,7 +8,7 @@ use Rattle.end_rules.specs.State.{Piece, Octets, Marked, Ending, Suspended, Tran
 use Rattle.end_rules.specs.Messages.{Session, OfData, OfMarks, OfActivities, Value, Values, Mark, MarkAck, Start, End, Discard, InterruptAck}
 use Rattle.end_rules.specs.Requesting.{begun}
 use Rattle.end_rules.specs.TakesData.{parts_in}
-use Rattle.agreement.specs.Messages.Act.{Sends, Marks, Ends, Starts, Discards}
+use Rattle.agreement.specs.Messages.Act.{Sends, Marks, EndsActivity, Starts, Discards}
 use Rattle.agreement.specs.Messages.Choice.{Nothing}
 use Rattle.agreement.specs.Messages.Message.{MarkAnswer, InterruptAnswer}
 use Rattle.agreement.specs.State as model
@@ -36,7 +36,7 @@ part-sent values free base body =
     ap (λ o. record (seen (at Reliable base) body) { outgoing = o })
     (on-current (at Reliable base) (λ t. record t { pieces = Octets (parts_in values) ∷ t.pieces }) (λ t. record t { pieces = model_octets (parts_in values) ∷ t.pieces }) (λ t. refl) body.sending.started body.sending.queue body.sending.current)
 
-pub end-sent : SendsAs Reliable (λ body. Session (OfActivities (End (suc (highest (pieces_of body.sending.current)))))) (λ body. Ends)
+pub end-sent : SendsAs Reliable (λ body. Session (OfActivities (End (suc (highest (pieces_of body.sending.current)))))) (λ body. EndsActivity)
 end-sent free base body =
     ap (λ o. record (seen (at Reliable base) body) { outgoing = o })
     (on-current (at Reliable base) (λ t. record t { progress = Ending }) (λ t. record t { progress = model_ending }) (λ t. refl) body.sending.started body.sending.queue body.sending.current)

@@ -66,7 +66,7 @@ SetsIn Bare base body = HasBareSet base body
 SetsIn Direct base body = Unit {0}
 SetsIn Reliable base body = Unit {0}
 
-pub record IsSound (mode : Mode) (base : Base) (body : Body) : Type 0 where
+pub record IsSoundBody (mode : Mode) (base : Base) (body : Body) : Type 0 where
   pub numbered : Numbered body.calls
   pub calm : CalmIn mode body.link.awaits
   pub sets : SetsIn mode base body
@@ -122,7 +122,7 @@ handing Reliable context apdu sending = record sending { queue = sending.queue +
 pub record HandsActs (free : Free) (mode : Mode) (base : Base) (proposed : List Proposal) (body later : Body) (sent : List Message) (act : Act) : Type 0 where
   pub acts : ActsAs free mode base proposed body later sent act
   pub ours : AreOurs (at mode base) sent (sent_by (setup_seen free mode base) (seen (at mode base) body) act)
-  pub sound : IsSound mode base later
+  pub sound : IsSoundBody mode base later
 
 -- An accepted call hands this APDU in: out of reliable mode it goes at once, in reliable mode it is queued.
 pub record HandsIn (free : Free) (mode : Mode) (base : Base) (proposed : List Proposal) (body : Body) (call : Call) (answer : Option ℤ) : Type 0 where
@@ -140,7 +140,7 @@ pub record HandsIn (free : Free) (mode : Mode) (base : Base) (proposed : List Pr
 abbrev pub HandingIn : Mode → Call → Type 0
 HandingIn mode call =
     (free : Free) (base : Base) (proposed : List Proposal) (body : Body) (answer : Option ℤ) →
-    WritesIn mode free → ReadsBack (at mode base) → IsSound mode base body →
+    WritesIn mode free → ReadsBack (at mode base) → IsSoundBody mode base body →
     can_call (at mode base) body call ≡ Ok answer → HandsIn free mode base proposed body call answer
 
 pub record HandedIn : Type 0 where

@@ -12,7 +12,7 @@ use Rattle.end_rules.specs.Calling.{can_call}
 use Rattle.end_rules.specs.Requesting.{due_of}
 use Rattle.end_rules.specs.TakesTransport.{transport_unit_fault, after_transport}
 use Rattle.end_rules.specs.TakesTransport.{answers_to_transport}
-use Rattle.agreement.specs.Messages.Act.{Connects, Recovers, Fails, Aborts, Withdraws}
+use Rattle.agreement.specs.Messages.Act.{Connects, Recovers, TransportFails, Aborts, Withdraws}
 use Rattle.end_model.specs.Seen.{Free}
 use Rattle.end_model.specs.Rows.{at}
 use Rattle.end_model.specs.Acting.{ActsAs}
@@ -35,10 +35,10 @@ pub record ConnectionsAct : Type 0 where
   -- a DR refuses the connection
   pub fails : (mode : Mode) (destination : ℕ) (free : Free) (base : Base) (proposed : List Proposal) (body : Body) → IsAssociated mode →
       body.link.phase ≡ Opening → transport_unit_fault (at mode base) body (DisconnectRequest destination) ≡ None →
-      ActsAs free mode base proposed body (after_transport (at mode base) body (DisconnectRequest destination)) (answers_to_transport (at mode base) body (DisconnectRequest destination)) Fails
+      ActsAs free mode base proposed body (after_transport (at mode base) body (DisconnectRequest destination)) (answers_to_transport (at mode base) body (DisconnectRequest destination)) TransportFails
   pub recovery_fails : (mode : Mode) (destination : ℕ) (free : Free) (base : Base) (proposed : List Proposal) (body : Body) → IsAssociated mode →
       body.link.phase ≡ Recovering → transport_unit_fault (at mode base) body (DisconnectRequest destination) ≡ None →
-      ActsAs free mode base proposed body (after_transport (at mode base) body (DisconnectRequest destination)) (answers_to_transport (at mode base) body (DisconnectRequest destination)) Fails
+      ActsAs free mode base proposed body (after_transport (at mode base) body (DisconnectRequest destination)) (answers_to_transport (at mode base) body (DisconnectRequest destination)) TransportFails
   -- an own abort, with an AB once a CN was sent or taken
   pub aborts : (mode : Mode) (free : Free) (base : Base) (proposed : List Proposal) (body : Body) (answer : Option ℤ) → IsAssociated mode →
       body.link.stage ≡ Carrying → can_call (at mode base) body the_calls.Abort ≡ Ok answer →

@@ -22,7 +22,7 @@ use Rattle.end_model.specs.Seen.{setup_seen}
 use Rattle.end_model.specs.Rows.{at}
 use Rattle.end_model.specs.Opens.{IsProper, IsReadBack}
 use Rattle.end_model.specs.Words.{data_word, AreOurs}
-use Rattle.end_model.specs.Acting.{IsSound}
+use Rattle.end_model.specs.Acting.{IsSoundBody}
 
 -- at most one act follows
 abbrev pub MayThen : Setup → Role → State → Option Act → Type 0
@@ -48,7 +48,7 @@ pub record HeardAs (free : Free) (mode : Mode) (base : Base) (body : Body) (item
   pub then_act : Option Act
   pub may : MayThen (setup_seen free mode base) (role_seen base.initiator)
       (taken (setup_seen free mode base) (role_seen base.initiator) (seen (at mode base) body) (Data (item_seen (at mode base) item)) Nothing) then_act
-  pub sound : IsSound mode base (after_word (at mode base) body (data_word item))
+  pub sound : IsSoundBody mode base (after_word (at mode base) body (data_word item))
   pub link : (after_word (at mode base) body (data_word item)).link ≡ body.link
   pub after : seen (at mode base) (after_word (at mode base) body (data_word item)) ≡
       then_acted (setup_seen free mode base)
@@ -61,7 +61,7 @@ pub record HeardAs (free : Free) (mode : Mode) (base : Base) (body : Body) (item
 abbrev pub HearsIn : Mode → Type 0
 HearsIn mode =
     (free : Free) (base : Base) (body : Body) (item : Item) →
-    ((value : ModelValue) → free.codec.may_write value ≡ true) → IsSound mode base body →
+    ((value : ModelValue) → free.codec.may_write value ≡ true) → IsSoundBody mode base body →
     IsProper (at mode base) item.apdu → IsReadBack (at mode base) item.apdu →
     IsExpected (setup_seen free mode base) (calls_seen body.calls) (apdu_seen (at mode base) item.apdu) →
     is_purged base.initiator body.link.awaits (unit_of (data_word item)) ≡ false →

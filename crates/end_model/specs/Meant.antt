@@ -11,7 +11,7 @@ use Rattle.end_rules.specs.TakesMarks.{priority_in, restored_set}
 use Rattle.end_rules.specs.Reacting.{answers_to_word}
 use Rattle.agreement.specs.Sets.{Listed}
 use Rattle.agreement.specs.Messages.{Act, Message as ModelMessage}
-use Rattle.agreement.specs.Messages.Act.{Marks, Gives, Restarts, Starts, Ends, Interrupts, Discards, Resumes, Releases}
+use Rattle.agreement.specs.Messages.Act.{Marks, GivesTurn, Restarts, Starts, EndsActivity, Interrupts, Discards, Resumes, Releases}
 use Rattle.agreement.specs.Acts.{sent_by}
 use Rattle.agreement.specs.Messages.Choice.{Nothing}
 use Rattle.agreement.specs.Messages.Message.{Mark as model_mark, MarkAnswer as model_mark_answer, Restart as model_restart, RestartAnswer as model_restart_answer, Give as model_give, Please as model_please, GiveAnswer as model_give_answer, Start as model_start, Resume as model_resume, End as model_end, EndAnswer as model_end_answer, Interrupt as model_interrupt, InterruptAnswer as model_interrupt_answer, Discard as model_discard, DiscardAnswer as model_discard_answer, Refuse as model_refuse, Release as model_release, ReleaseAnswer as model_release_answer, UserAbort as model_user_abort}
@@ -94,11 +94,11 @@ MeansWhat mode message act =
 pub record Sent : Type 0 where
   pub mark : MeansWhat Direct (λ body. Session (OfMarks (Mark (next_number body.saved)))) (λ body. Marks)
   pub mark_in_activity : MeansWhat Reliable (λ body. Session (OfMarks (Mark (suc (highest (pieces_of body.sending.current)))))) (λ body. Marks)
-  pub give : (mode : Mode) (tokens : Option ℕ) → MeansWhat mode (λ body. Session (OfMarks (Give tokens))) (λ body. Gives)
-  pub give_all : MeansWhat Reliable (λ body. Session (OfMarks GiveConfirm)) (λ body. Gives)
+  pub give : (mode : Mode) (tokens : Option ℕ) → MeansWhat mode (λ body. Session (OfMarks (Give tokens))) (λ body. GivesTurn)
+  pub give_all : MeansWhat Reliable (λ body. Session (OfMarks GiveConfirm)) (λ body. GivesTurn)
   pub restart : (number : ℕ) → MeansWhat Direct (λ body. Session (OfMarks (Restart number (Some (listed (restored_set body number)))))) (λ body. Restarts number)
   pub start : MeansWhat Reliable (λ body. Session (OfActivities (Start (suc body.sending.started)))) (λ body. Starts)
-  pub end : MeansWhat Reliable (λ body. Session (OfActivities (End (suc (highest (pieces_of body.sending.current)))))) (λ body. Ends)
+  pub end : MeansWhat Reliable (λ body. Session (OfActivities (End (suc (highest (pieces_of body.sending.current)))))) (λ body. EndsActivity)
   pub interrupt : (reason : Option ℕ) → MeansWhat Reliable (λ body. Session (OfActivities (Interrupt reason))) (λ body. Interrupts)
   pub discard : (reason : Option ℕ) → MeansWhat Reliable (λ body. Session (OfActivities (Discard reason))) (λ body. Discards)
   pub resume : MeansWhat Reliable (λ body. Session (OfActivities (Resume body.sending.started (confirmed_of body.sending.current)))) (λ body. Resumes)

@@ -21,7 +21,7 @@ use Rattle.agreement.specs.Messages.{Setup, Value}
 use Rattle.agreement.specs.Worlds.{Sending, World, IsRun, state_of, flight_to}
 use Rattle.end_model.specs.Seen.{Free, seen, setup_seen}
 use Rattle.end_model.specs.Words.{IsOurs}
-use Rattle.end_model.specs.Acting.{IsSound, ReadsBack}
+use Rattle.end_model.specs.Acting.{IsSoundBody, ReadsBack}
 use Rattle.end_model.specs.Requests.{after_called}
 
 -- what two ends have in common, and the configuration of each
@@ -101,7 +101,7 @@ AreComing base (message ∷ messages) (s ∷ ss) = IsOurs base message s.message
 -- the state of the model is what it sees of the body
 pub record SideOf (free : Free) (common : Common) (world : World) (role : Role) (body : Body) (coming : List Message) : Type 0 where
   pub state : state_of (setup_of free common) role world ≡ seen (base_at role common) body
-  pub sound : IsSound common.mode (base_at role common) body
+  pub sound : IsSoundBody common.mode (base_at role common) body
   pub phase : (body.link.phase ≡ Up) ⊎ (body.link.phase ≡ Over)
   pub flight : AreComing (base_at Initiator common) coming (flight_to (setup_of free common) role world)
 

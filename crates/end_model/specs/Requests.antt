@@ -11,14 +11,14 @@ use Rattle.end_rules.specs.Messages.{Message}
 use Rattle.end_rules.specs.Calling.{can_call}
 use Rattle.end_rules.specs.Requesting.{after_call, after_sent, due_of}
 use Rattle.agreement.specs.Messages.{Act}
-use Rattle.agreement.specs.Messages.Act.{Alters, Marks, Gives, Pleads, Restarts, Interrupts}
+use Rattle.agreement.specs.Messages.Act.{Alters, Marks, GivesTurn, Pleads, Restarts, Interrupts}
 use Rattle.agreement.specs.Messages.Act.{Discards, Resumes, Releases}
 use Rattle.agreement.specs.Sets.{AreDistinct, named}
 use Rattle.end_rules.specs.TakesData.{alteration}
 use Rattle.end_model.specs.Seen.{Free, items_seen, seen}
 use Rattle.end_model.specs.Rows.{at}
 use Rattle.end_model.specs.Words.{AreMeant}
-use Rattle.end_model.specs.Acting.{ActsAs, IsSound}
+use Rattle.end_model.specs.Acting.{ActsAs, IsSoundBody}
 
 abbrev pub sent_all : Mode → Body → List Message → Body
 sent_all mode body [] = body
@@ -33,13 +33,13 @@ after_called mode base body call answer =
 abbrev pub CallActs : Mode → Call → (Body → Act) → Type 0
 CallActs mode call act =
     (free : Free) (base : Base) (proposed : List Proposal) (body : Body) (answer : Option ℤ) →
-    IsSound mode base body → can_call (at mode base) body call ≡ Ok answer →
+    IsSoundBody mode base body → can_call (at mode base) body call ≡ Ok answer →
     ActsAs free mode base proposed body (after_called mode base body call answer) (due_of (at mode base) body call (Ok answer)) (act body)
 
 pub record CallsAct : Type 0 where
   pub mark : CallActs Direct the_calls.Mark (λ body. Marks)
-  pub give : CallActs Direct the_calls.Give (λ body. Gives)
-  pub give_all : CallActs Reliable the_calls.Give (λ body. Gives)
+  pub give : CallActs Direct the_calls.Give (λ body. GivesTurn)
+  pub give_all : CallActs Reliable the_calls.Give (λ body. GivesTurn)
   pub please : (priority : ℕ) → CallActs Direct (the_calls.Please priority) (λ body. Pleads 0)
   pub please_with : (priority : ℕ) → CallActs Reliable (the_calls.Please priority) (λ body. Pleads priority)
   pub restart : (n : ℕ) → CallActs Direct (the_calls.Resync n) (λ body. Restarts n)
@@ -65,7 +65,7 @@ pub record CallsUnseen : Type 0 where
 abbrev pub AlterActs : Mode → List Proposal → List ℕ → Type 0
 AlterActs mode add delete =
     (free : Free) (base : Base) (proposed : List Proposal) (body : Body) (answer : Option ℤ) →
-    IsSound mode base body → AreDistinct (named (seen (at mode base) body).sets.own) → can_call (at mode base) body (the_calls.Alter add delete) ≡ Ok answer →
+    IsSoundBody mode base body → AreDistinct (named (seen (at mode base) body).sets.own) → can_call (at mode base) body (the_calls.Alter add delete) ≡ Ok answer →
     ActsAs free mode base proposed body (after_called mode base body (the_calls.Alter add delete) answer) (due_of (at mode base) body (the_calls.Alter add delete) (Ok answer))
     (Alters (items_seen (alteration add delete)))
 

@@ -12,7 +12,7 @@ use Rattle.dialogue.specs.declared.config.Phase.TheVariants.{Opening, Recovering
 use Rattle.end_rules.specs.TakesTransport.{after_transport}
 use Rattle.end_rules.specs.Faults.{over}
 use Rattle.end_rules.specs.Messages.{ConnectionConfirm, DisconnectRequest}
-use Rattle.agreement.specs.Messages.Act.{Connects, Recovers, Fails, Aborts, Withdraws}
+use Rattle.agreement.specs.Messages.Act.{Connects, Recovers, TransportFails, Aborts, Withdraws}
 use Rattle.osi_base.specs.declared.words.RestoredItem.{RestoredItem}
 use Rattle.osi_base.specs.declared.words.Answers.{Answers}
 use Rattle.osi_base.specs.declared.session_word.SessionConnect.{SessionConnect}
@@ -37,8 +37,8 @@ use Rattle.end_rules.specs.Messages.{GiveAck, Start, EndAck, Interrupt, Discard}
 use Rattle.end_rules.specs.Requesting.{after_sent}
 use Rattle.end_rules.specs.Reacting.{after_word}
 use Rattle.agreement.specs.Messages.{Act, Choice, Message as ModelMessage}
-use Rattle.agreement.specs.Messages.Act.{Marks, Gives, Pleads, Restarts, Interrupts, Releases}
-use Rattle.agreement.specs.Messages.Act.{Sends, Ends, Starts, Discards, Alters}
+use Rattle.agreement.specs.Messages.Act.{Marks, GivesTurn, Pleads, Restarts, Interrupts, Releases}
+use Rattle.agreement.specs.Messages.Act.{Sends, EndsActivity, Starts, Discards, Alters}
 use Rattle.agreement.specs.Messages.Choice.{Nothing}
 use Rattle.agreement.specs.Messages.Message.{Mark as model_mark, Give as model_give}
 use Rattle.agreement.specs.Messages.Message.{GiveAnswer as model_give_answer}
@@ -84,8 +84,8 @@ TakesAs mode word message choice =
 
 pub record MarksSent : Type 0 where
   pub mark : SendsAs Direct (λ body. Session (OfMarks (Mark (next_number body.saved)))) (λ body. Marks)
-  pub give : SendsAs Direct (λ body. Session (OfMarks (Give (Some 4)))) (λ body. Gives)
-  pub give_all : SendsAs Reliable (λ body. Session (OfMarks GiveConfirm)) (λ body. Gives)
+  pub give : SendsAs Direct (λ body. Session (OfMarks (Give (Some 4)))) (λ body. GivesTurn)
+  pub give_all : SendsAs Reliable (λ body. Session (OfMarks GiveConfirm)) (λ body. GivesTurn)
   pub please : (mode : Mode) (tokens : Option ℕ) (values : List Value) (priority : ℕ) →
       SendsAs mode (λ body. Session (OfMarks (Please tokens values))) (λ body. Pleads priority)
   pub restart : (number : ℕ) (list : Option (List RestoredItem)) →
@@ -124,7 +124,7 @@ pub record AssociationTaken : Type 0 where
 pub record TransfersSent : Type 0 where
   pub part : (values : List Value) → SendsAs Reliable (λ body. Session (OfData (Values values))) (λ body. Sends (parts_in values))
   pub mark : SendsAs Reliable (λ body. Session (OfMarks (Mark (suc (highest (pieces_of body.sending.current)))))) (λ body. Marks)
-  pub end : SendsAs Reliable (λ body. Session (OfActivities (End (suc (highest (pieces_of body.sending.current)))))) (λ body. Ends)
+  pub end : SendsAs Reliable (λ body. Session (OfActivities (End (suc (highest (pieces_of body.sending.current)))))) (λ body. EndsActivity)
   pub start : SendsAs Reliable (λ body. Session (OfActivities (Start (suc body.sending.started)))) (λ body. Starts)
   pub discard : SendsAs Reliable (λ body. Session (OfActivities (Discard (Some 0)))) (λ body. Discards)
 
@@ -202,7 +202,7 @@ pub record Connections : Type 0 where
   pub recovers : (mode : Mode) (destination : ℕ) (size : Option ℕ) (free : Free) (base : Base) (body : Body) → body.link.phase ≡ Recovering →
       seen (at mode base) (after_transport (at mode base) body (ConnectionConfirm destination size)) ≡ acted (setup_seen free mode base) (seen (at mode base) body) Recovers
   pub fails : (mode : Mode) (destination : ℕ) (free : Free) (base : Base) (body : Body) →
-      seen (at mode base) (after_transport (at mode base) body (DisconnectRequest destination)) ≡ acted (setup_seen free mode base) (seen (at mode base) body) Fails
+      seen (at mode base) (after_transport (at mode base) body (DisconnectRequest destination)) ≡ acted (setup_seen free mode base) (seen (at mode base) body) TransportFails
   pub aborts : (mode : Mode) (free : Free) (base : Base) (body : Body) →
       seen (at mode base) (over body) ≡ acted (setup_seen free mode base) (seen (at mode base) body) Aborts
   pub withdraws : (mode : Mode) (free : Free) (base : Base) (body : Body) →

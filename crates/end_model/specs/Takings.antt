@@ -46,7 +46,7 @@ use Rattle.end_model.specs.Meant.{list_meant}
 use Rattle.end_model.specs.Opens.{IsProper, IsReadBack}
 use Rattle.end_model.specs.Heard.{IsExpected}
 use Rattle.end_model.specs.Words.{results_seen}
-use Rattle.end_model.specs.Acting.{IsSound, TakenAs}
+use Rattle.end_model.specs.Acting.{IsSoundBody, TakenAs}
 
 -- what holds of an end of this product once its association stands with another of this product
 pub record IsJoined (mode : Mode) (body : Body) : Type 0 where
@@ -56,7 +56,7 @@ pub record IsJoined (mode : Mode) (body : Body) : Type 0 where
 
 abbrev pub TakenWhere : Mode → Word → ModelMessage → (Base → Body → Choice) → Type 0
 TakenWhere mode word message choice =
-    (free : Free) (base : Base) (proposed : List Proposal) (body : Body) → IsSound mode base body → IsJoined mode body →
+    (free : Free) (base : Base) (proposed : List Proposal) (body : Body) → IsSoundBody mode base body → IsJoined mode body →
     MayTake (setup_seen free mode base) (role_seen base.initiator) (seen (at mode base) body) message →
     TakenAs free mode base proposed body word message (choice base body)
 
@@ -117,7 +117,7 @@ IsProperCurrent base None = Unit {0}
 IsProperCurrent base (Some transfer) = IsProper base transfer.item.apdu
 
 pub record DiscardsTaken : Type 0 where
-  pub discard_ack : (free : Free) (base : Base) (proposed : List Proposal) (body : Body) → IsSound Reliable base body → IsJoined Reliable body →
+  pub discard_ack : (free : Free) (base : Base) (proposed : List Proposal) (body : Body) → IsSoundBody Reliable base body → IsJoined Reliable body →
       IsProperCurrent (at Reliable base) body.sending.current →
       MayTake (setup_seen free Reliable base) (role_seen base.initiator) (seen (at Reliable base) body) model_discard_answer →
       TakenAs free Reliable base proposed body (OfActivities DiscardAck) model_discard_answer Nothing
@@ -127,7 +127,7 @@ pub record EndsTaken : Type 0 where
   pub again : (number : ℕ) (free : Free) (base : Base) (proposed : List Proposal) (body : Body) → body.receiving.was_handed ≡ true →
       MayTake (setup_seen free Reliable base) (role_seen base.initiator) (seen (at Reliable base) body) (model_end number) →
       TakenAs free Reliable base proposed body (OfActivities (End number)) (model_end number) Nothing
-  pub whole : (number : ℕ) (item : Item) (free : Free) (base : Base) (proposed : List Proposal) (body : Body) → IsSound Reliable base body →
+  pub whole : (number : ℕ) (item : Item) (free : Free) (base : Base) (proposed : List Proposal) (body : Body) → IsSoundBody Reliable base body →
       body.receiving.was_handed ≡ false → base.spellings.arrived body.sets.held (joined body.receiving.pieces) ≡ Ok (Whole item) →
       free.codec.read (set_seen body.sets.held) (joined body.receiving.pieces) ≡ Some (item_seen (at Reliable base) item) →
       IsProper (at Reliable base) item.apdu → IsReadBack (at Reliable base) item.apdu →

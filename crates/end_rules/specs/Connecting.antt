@@ -20,7 +20,7 @@ use Rattle.dialogue.specs.declared.indication.Indication.{Indication}
 use Rattle.dialogue.specs.declared.indication.Indication.TheVariants as indications
 use Rattle.end_rules.specs.Base.{Base, Fault, is_reliable, acse_name, rtse_name}
 use Rattle.end_rules.specs.Sets.{same_name, has_abstract, pair_of, lowest_with, accepted_set, fit_proposals, Saved}
-use Rattle.end_rules.specs.Messages.{Information, Transferring, Other, Content, Association, Value, Accepting, Message}
+use Rattle.end_rules.specs.Messages.{Information, Transferring, Other, ValueContent, Association, Value, Accepting, Message}
 use Rattle.end_rules.specs.State.{Body, Carrying, NoAnswer, new_body, is_broken, is_none}
 use Rattle.end_rules.specs.Units.{has_units, needed_units, selected_with, has_version_two, manages_with}
 use Rattle.end_rules.specs.Policy.{opening_policy, is_faulty_proposal}
@@ -34,7 +34,7 @@ pub record Associated : Type 0 where
   pub apdu : Acse
   pub user : List Information
 
-abbrev pub associated_in : Content → Option Associated
+abbrev pub associated_in : ValueContent → Option Associated
 associated_in (Association apdu user) = Some (record { apdu = apdu; user = user })
 associated_in _ = None
 

@@ -22,7 +22,7 @@ use Rattle.dialogue.specs.declared.indication.Indication.{Indication}
 use Rattle.dialogue.specs.declared.indication.Indication.TheVariants as indications
 use Rattle.end_rules.specs.Base.{Base, Carried, Absent, Spelled, Unspelled, Head, General, BadReject, InvokeHead, ResultHead, ErrorHead, RejectHead, is_reliable, most_open}
 use Rattle.end_rules.specs.Sets.{pair_of}
-use Rattle.end_rules.specs.Messages.{Content, Remote, Unread, Value, Values, OfData, Message, Session}
+use Rattle.end_rules.specs.Messages.{ValueContent, Remote, Unread, Value, Values, OfData, Message, Session}
 use Rattle.end_rules.specs.State.{Body, Calls, OpenCall, is_empty, opened_with, opens_of, close}
 use Rattle.end_rules.specs.Invoking.{is_linked_to, operation_of, carrier_in}
 
@@ -230,7 +230,7 @@ hear base calls context (RejectHead id problem) = hear_reject calls id problem
 -- ---- what the end does with it
 
 -- a value on a context of the set
-abbrev pub value_on : Body → ℕ → Content → Value
+abbrev pub value_on : Body → ℕ → ValueContent → Value
 value_on body id content = record { id = id; pair = pair_of body.sets.held id; content = content }
 
 -- APDUs outside reliable mode go as data at once
@@ -284,7 +284,7 @@ syntax_of (Some pair) = pair.transfer
 abbrev pub head_of : Base → Value → Head
 head_of base value = head_in value.content
   where
-    head_in : Content → Head
+    head_in : ValueContent → Head
     head_in (Remote apdu) = head_of_apdu apdu
     head_in (Unread octets) = base.spellings.head (syntax_of value.pair) octets
     head_in _ = General 0

@@ -25,19 +25,19 @@ pub data Information : Type 0 where
 -- what a presentation data value is: an APDU of remote operations; octets of the module's abstract
 -- syntax that spell none; an APDU of association control, whose user information stands beside it; a
 -- plea for the turn; a part of a transfer
-pub data Content : Type 0 where
-  Remote : (apdu : Apdu) → Content
-  Unread : (octets : List ℕ) → Content
-  Association : (apdu : Acse) → (user : List Information) → Content
-  Plea : (priority : ℕ) → Content
-  Part : (octets : List ℕ) → Content
+pub data ValueContent : Type 0 where
+  Remote : (apdu : Apdu) → ValueContent
+  Unread : (octets : List ℕ) → ValueContent
+  Association : (apdu : Acse) → (user : List Information) → ValueContent
+  Plea : (priority : ℕ) → ValueContent
+  Part : (octets : List ℕ) → ValueContent
 
 -- a presentation data value: its context's identifier, the pair that the identifier stands for, and what
 -- it is (X.226 8.4.2); a value on a context that isn't there has no pair
 pub record Value : Type 0 where
   pub id : ℕ
   pub pair : Option Pair
-  pub content : Content
+  pub content : ValueContent
 
 -- ---- messages, in which user data are what they mean: the octets of user data are left empty in the
 -- words of the layers

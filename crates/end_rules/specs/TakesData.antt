@@ -7,7 +7,7 @@ use Rattle.dialogue.specs.declared.indication.Indication.{Indication}
 use Rattle.dialogue.specs.declared.indication.Indication.TheVariants as indications
 use Rattle.end_rules.specs.Base.{Base, Fault, is_reliable, most_transferred}
 use Rattle.end_rules.specs.Sets.{Alteration, proposed_ids, altered, fit_alteration}
-use Rattle.end_rules.specs.Messages.{Content, Remote, Unread, Association, Part, Value, DataWord, Values, AlterContext, AlterContextAck, OfData, Message, Session}
+use Rattle.end_rules.specs.Messages.{ValueContent, Remote, Unread, Association, Part, Value, DataWord, Values, AlterContext, AlterContextAck, OfData, Message, Session}
 use Rattle.end_rules.specs.State.{Body, Octets, joined}
 use Rattle.end_rules.specs.Policy.{policy, is_faulty_proposal}
 use Rattle.end_rules.specs.Hearing.{Taken, take_values}
@@ -15,7 +15,7 @@ use Rattle.end_rules.specs.Faults.{unexpected_ppdu, invalid_ppdu, acse_fault, rt
 
 -- ---- parts of a transfer
 
-abbrev pub part_in : Content → List ℕ
+abbrev pub part_in : ValueContent → List ℕ
 part_in (Part octets) = octets
 part_in _ = []
 
@@ -23,15 +23,15 @@ abbrev pub parts_in : List Value → List ℕ
 parts_in [] = []
 parts_in (value ∷ values) = part_in value.content ++ parts_in values
 
-abbrev pub is_part : Content → Bool
+abbrev pub is_part : ValueContent → Bool
 is_part (Part octets) = true
 is_part _ = false
 
-abbrev pub is_associated : Content → Bool
+abbrev pub is_associated : ValueContent → Bool
 is_associated (Association apdu user) = true
 is_associated _ = false
 
-abbrev pub is_remote : Content → Bool
+abbrev pub is_remote : ValueContent → Bool
 is_remote (Remote apdu) = true
 is_remote (Unread octets) = true
 is_remote _ = false

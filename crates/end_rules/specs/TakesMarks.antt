@@ -10,7 +10,7 @@ use Rattle.dialogue.specs.declared.indication.Indication.{Indication}
 use Rattle.dialogue.specs.declared.indication.Indication.TheVariants as indications
 use Rattle.end_rules.specs.Base.{Base, Fault}
 use Rattle.end_rules.specs.Sets.{listed, same_lists, below, newest}
-use Rattle.end_rules.specs.Messages.{Content, Plea, Value, MarkWord, Mark, MarkAck, Restart, RestartAck, Give, Please, GiveConfirm, GiveAck, OfMarks, Message, Session}
+use Rattle.end_rules.specs.Messages.{ValueContent, Plea, Value, MarkWord, Mark, MarkAck, Restart, RestartAck, Give, Please, GiveConfirm, GiveAck, OfMarks, Message, Session}
 use Rattle.end_rules.specs.State.{Body, NoAnswer, Marked, Transfer, on_transfer}
 use Rattle.end_rules.specs.TakesData.{is_associated}
 use Rattle.end_rules.specs.Faults.{acse_fault, rtse_fault, fault_if, or_fault, cuts, losses}
@@ -81,7 +81,7 @@ abbrev pub priority_in : List Value → Option ℕ
 priority_in [] = Some 0
 priority_in (value ∷ []) = plea_in value.content
   where
-    plea_in : Content → Option ℕ
+    plea_in : ValueContent → Option ℕ
     plea_in (Plea priority) = Some priority
     plea_in _ = None
 priority_in (value ∷ more ∷ values) = None

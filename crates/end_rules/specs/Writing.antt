@@ -22,7 +22,7 @@ use Rattle.dialogue.specs.declared.config.Phase.{Phase}
 use Rattle.dialogue.specs.declared.config.Phase.TheVariants.{Recovering}
 use Rattle.end_rules.specs.Base.{Base, acse_name, rtse_name, ber_name, application_context}
 use Rattle.end_rules.specs.Sets.{lowest_with, pair_of}
-use Rattle.end_rules.specs.Messages.{Information, Transferring, Content, Association, Plea, Part, Value, ConnectionRequest, NoData, ProviderReason, UserValues, Connect, Accept, Refuse, Finish, Disconnect, Abort, Values, Give, GiveConfirm, Please, OfAssociation, OfData, OfMarks, Message, Transport, Session}
+use Rattle.end_rules.specs.Messages.{Information, Transferring, ValueContent, Association, Plea, Part, Value, ConnectionRequest, NoData, ProviderReason, UserValues, Connect, Accept, Refuse, Finish, Disconnect, Abort, Values, Give, GiveConfirm, Please, OfAssociation, OfData, OfMarks, Message, Transport, Session}
 use Rattle.end_rules.specs.State.{Body}
 use Rattle.end_rules.specs.Units.{proposed_units}
 
@@ -176,7 +176,7 @@ give_message Reliable = Session (OfMarks GiveConfirm)
 give_message Direct = Session (OfMarks (Give (Some 4)))
 give_message Bare = Session (OfMarks (Give (Some 4)))
 
-abbrev pub rtse_value : Body → Content → Value
+abbrev pub rtse_value : Body → ValueContent → Value
 rtse_value body content =
     record { id = rtse_context body.link.accepted; pair = pair_of body.sets.held (rtse_context body.link.accepted); content = content }
 

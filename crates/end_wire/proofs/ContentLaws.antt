@@ -20,7 +20,7 @@ use Rattle.apdu_spelling.proofs.OneHead.{one_apdu}
 use Rattle.dialogue.specs.declared.config.Config.{Config}
 use Rattle.end_rules.specs.Base.{Carried, Absent, Spelled, Unspelled, Head, InvokeHead, ResultHead, ErrorHead, RejectHead}
 use Rattle.end_rules.specs.Sets.{pair_of}
-use Rattle.end_rules.specs.Messages.{Content, Remote, Unread, Association, Plea, Part}
+use Rattle.end_rules.specs.Messages.{ValueContent, Remote, Unread, Association, Plea, Part}
 use Rattle.end_rules.specs.Hearing.{carried_in, head_of_apdu, head_of, syntax_of}
 use Rattle.end_wire.specs.Heads.{spelled_head, typed_at, carried_at, said_result, said, said_or_refused, head_at, value_or_lack, apdu_of}
 use Rattle.end_wire.specs.Values.{IsContent, content_of, content_at}
@@ -211,7 +211,7 @@ module _ (tables : Tables) (readable : IsReadable tables) (syntax : Syntax) (oct
   content_kept none = (refl, λ a s. none s.head s.is_head)
 
 -- what a content says is what its octets say
-pub content_says : (tables : Tables) (config : Config) (held : List SetItem) (octets : List ℕ) (c : Content) → IsReadable tables → IsContent tables (syntax_of (pair_of held 0)) octets c
+pub content_says : (tables : Tables) (config : Config) (held : List SetItem) (octets : List ℕ) (c : ValueContent) → IsReadable tables → IsContent tables (syntax_of (pair_of held 0)) octets c
     → head_of (bare_base tables config) (bare_value held c) ≡ head_at tables (syntax_of (pair_of held 0)) octets
 content_says tables config held octets (Remote a) readable p = remote_says tables readable (syntax_of (pair_of held 0)) octets a p
 content_says tables config held octets (Unread kept) readable p = ap (head_at tables (syntax_of (pair_of held 0))) p.0
@@ -221,7 +221,7 @@ content_says tables config held octets (Part part) readable p = absurd p
 
 -- octets are one content at most
 module _ (tables : Tables) (syntax : Syntax) (octets : List ℕ) (readable : IsReadable tables) where
-  pub one_content : (a b : Content) → IsContent tables syntax octets a → IsContent tables syntax octets b → a ≡ b
+  pub one_content : (a b : ValueContent) → IsContent tables syntax octets a → IsContent tables syntax octets b → a ≡ b
   one_content (Remote a) (Remote b) p q = ap Remote (one_apdu syntax tables readable.types a b octets p q)
   one_content (Remote a) (Unread kept) p q = absurd (q.1 a p)
   one_content (Unread kept) (Remote b) p q = absurd (p.1 b q)

@@ -7,7 +7,7 @@ use Rattle.osi_base.specs.declared.syntax.Syntax.{Syntax}
 use Rattle.osi_base.specs.declared.syntax.Syntax.TheVariants.{Ber, Der, Packed}
 use Rattle.osi_base.specs.declared.words.Problem.{Problem}
 use Rattle.asn1_types.specs.Value.{Value}
-use Rattle.asn1_types.specs.Table.{IsSound}
+use Rattle.asn1_types.specs.Table.{AreSoundRows}
 use Rattle.asn1_types.specs.declared.value.Val.{Val}
 use Rattle.asn1_types.specs.declared.row.TypeId.{TypeId}
 use Rattle.asn1_types.specs.declared.table.TypeTable.{TypeTable}
@@ -46,7 +46,7 @@ spelled_is v w e = cc
 
 -- ---- values
 
-module _ (types : TypeTable) (sound : IsSound types) (limit of : ℕ) (v : Val) (octets : List ℕ) where
+module _ (types : TypeTable) (sound : AreSoundRows types) (limit of : ℕ) (v : Val) (octets : List ℕ) where
   abbrev ber_done : Value × ℕ → Result (Value × ℕ) ReadFault
   ber_done x = Ok x
 
@@ -106,7 +106,7 @@ abbrev pub all_octets : Option (List ℕ) → Type 0
 all_octets None = Unit {0}
 all_octets (Some os) = AreOctets os
 
-module _ (syntax : Syntax) (types : TypeTable) (sound : IsSound types) (limit : ℕ) (le : limit < 2 ^ 32) where
+module _ (syntax : Syntax) (types : TypeTable) (sound : AreSoundRows types) (limit : ℕ) (le : limit < 2 ^ 32) where
   typed_read : (of : Option TypeId) (v : Val) (os : List ℕ) → TypedAs syntax types limit of v os → typed_at syntax types limit of os ≡ Spelled v
   typed_read None v os p = absurd p
   typed_read (Some of) v os p = value_read types sound limit of.0 v os syntax le p

@@ -35,7 +35,7 @@ use Rattle.apdu_spelling.specs.Writing.{written_apdu, IsWritable, has_values, is
 use Rattle.apdu_spelling.proofs.Written.{written_spelled}
 use Rattle.end_rules.specs.Sets.{pair_of}
 use Rattle.end_rules.specs.State.{bare_set}
-use Rattle.end_rules.specs.Messages.{Content, Remote, Message}
+use Rattle.end_rules.specs.Messages.{Remote, Message}
 use Rattle.end_rules.specs.Hearing.{syntax_of}
 use Rattle.end_wire.specs.Values.{IsContent}
 use Rattle.end_wire.specs.Bare.{IsWire, bare_message, written, first_at, Whole}

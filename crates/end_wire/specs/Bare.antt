@@ -15,7 +15,7 @@ use Rattle.dialogue.specs.declared.config.Config.{Config}
 use Rattle.dialogue.specs.declared.config.Mode.TheVariants.{Bare}
 use Rattle.end_rules.specs.Base.{Base}
 use Rattle.end_rules.specs.Sets.{pair_of}
-use Rattle.end_rules.specs.Messages.{Content, Value as PresentationValue, Values, OfData, Message, Session, Transport, Word, DataWord, AlterContext, AlterContextAck, OfAssociation, OfMarks, OfActivities}
+use Rattle.end_rules.specs.Messages.{ValueContent, Value as PresentationValue, Values, OfData, Message, Session, Transport, Word, DataWord, AlterContext, AlterContextAck, OfAssociation, OfMarks, OfActivities}
 use Rattle.end_rules.specs.Hearing.{syntax_of}
 use Rattle.end_wire.specs.Values.{IsContent, content_at, written_content, bare_spellings}
 
@@ -27,16 +27,16 @@ bare_base tables config =
 -- ---- messages
 
 -- a value on context 0, under the pair that the set gives it
-abbrev pub bare_value : List SetItem → Content → PresentationValue
+abbrev pub bare_value : List SetItem → ValueContent → PresentationValue
 bare_value held content = record { id = 0; pair = pair_of held 0; content = content }
 
-abbrev pub bare_message : List SetItem → Content → Message
+abbrev pub bare_message : List SetItem → ValueContent → Message
 bare_message held content = Session (OfData (Values (bare_value held content ∷ [])))
 
 -- The octets spell the message: they are one whole value, and its content is what they are under the pair that the set
 -- gives context 0.
 pub record IsWire (tables : Tables) (held : List SetItem) (message : Message) (octets : List ℕ) : Type 0 where
-  pub content : Content
+  pub content : ValueContent
   pub message_is : message ≡ bare_message held content
   pub whole : IsWhole octets
   pub means : IsContent tables (syntax_of (pair_of held 0)) octets content

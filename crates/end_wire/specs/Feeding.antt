@@ -3,7 +3,7 @@ use Rattle.std.specs.Prelude.{◌≡◌, ℕ, List, [], ◌∷◌, ◌++◌, map
 use Rattle.osi_base.specs.declared.words.Layer.TheVariants.{Rose}
 use Rattle.dialogue.specs.declared.indication.Indication.{Indication}
 use Rattle.end_rules.specs.Base.{Base, Fault}
-use Rattle.end_rules.specs.Messages.{Message, Content}
+use Rattle.end_rules.specs.Messages.{Message, ValueContent}
 use Rattle.end_rules.specs.State.{Body, passes_over}
 use Rattle.end_rules.specs.Faults.{fault_at, shown_at_fault}
 use Rattle.end_rules.specs.Hearing.{syntax_of}
@@ -25,7 +25,7 @@ pub data Reads (base : Base) : End → List Step → List Indication → Type 0 
   -- Less than a message waits for more.
   waits : {end : End} → passes_over end.body.link.phase ≡ false → first_at end.line.rest ≡ Short → Reads base end (feed_end ∷ []) []
   -- A whole message is taken, and what it brings is answered at once.
-  takes : {end : End} {steps : List Step} {shown : List Indication} (used : ℕ) (content : Content) (body : Body) (answers : List Message) (told : List Indication)
+  takes : {end : End} {steps : List Step} {shown : List Indication} (used : ℕ) (content : ValueContent) (body : Body) (answers : List Message) (told : List Indication)
       → passes_over end.body.link.phase ≡ false → first_at end.line.rest ≡ Whole used
       → IsContent base.tables (syntax_of (pair_of end.body.sets.held 0)) (front (Whole used) end.line.rest) content
       → react base end.body (bare_message end.body.sets.held content) ≡ Takes body answers told

@@ -12,7 +12,7 @@ use Rattle.apdu_spelling.specs.Writing.{written_apdu, IsWritable}
 use Rattle.dialogue.specs.declared.config.Config.{Config}
 use Rattle.end_rules.specs.Sets.{pair_of}
 use Rattle.end_rules.specs.State.{bare_set}
-use Rattle.end_rules.specs.Messages.{Content, Remote, Message}
+use Rattle.end_rules.specs.Messages.{ValueContent, Remote, Message}
 use Rattle.end_rules.specs.Hearing.{syntax_of, head_of}
 use Rattle.end_wire.specs.Heads.{head_at}
 use Rattle.end_wire.specs.Values.{IsContent}
@@ -20,12 +20,12 @@ use Rattle.end_wire.specs.Bare.{IsWire, bare_message, bare_value, bare_base, wri
 
 -- Octets are one content at most.
 abbrev pub OneContent : Type 0
-OneContent = (tables : Tables) (syntax : Syntax) (octets : List ℕ) (a b : Content) → IsReadable tables
+OneContent = (tables : Tables) (syntax : Syntax) (octets : List ℕ) (a b : ValueContent) → IsReadable tables
     → IsContent tables syntax octets a → IsContent tables syntax octets b → a ≡ b
 
 -- What is heard in a content is what its octets say.
 abbrev pub ContentSays : Type 0
-ContentSays = (tables : Tables) (config : Config) (held : List SetItem) (octets : List ℕ) (content : Content) → IsReadable tables
+ContentSays = (tables : Tables) (config : Config) (held : List SetItem) (octets : List ℕ) (content : ValueContent) → IsReadable tables
     → IsContent tables (syntax_of (pair_of held 0)) octets content
     → head_of (bare_base tables config) (bare_value held content) ≡ head_at tables (syntax_of (pair_of held 0)) octets
 

@@ -9,12 +9,12 @@ use Rattle.stub_tables.specs.declared.apdu.Apdu.{Apdu}
 use Rattle.apdu_spelling.specs.Spellings.{Spells}
 use Rattle.apdu_spelling.specs.Writing.{written_apdu}
 use Rattle.end_rules.specs.Base.{Item, Fault, Arrived, Spellings}
-use Rattle.end_rules.specs.Messages.{Content, Remote, Unread, Association, Plea, Part}
+use Rattle.end_rules.specs.Messages.{ValueContent, Remote, Unread, Association, Plea, Part}
 use Rattle.end_rules.specs.Faults.{rtse_fault}
 use Rattle.end_wire.specs.Heads.{head_at, apdu_of}
 
 -- Octets of the module's abstract syntax are an APDU that they spell; those that spell none stand as they came.
-abbrev pub IsContent : Tables → Syntax → List ℕ → Content → Type 0
+abbrev pub IsContent : Tables → Syntax → List ℕ → ValueContent → Type 0
 IsContent tables syntax octets (Remote apdu) = Spells tables syntax apdu octets
 IsContent tables syntax octets (Unread kept) = (kept ≡ octets) × ((apdu : Apdu) → Spells tables syntax apdu octets → ⊥)
 IsContent tables syntax octets (Association apdu user) = ⊥
@@ -22,15 +22,15 @@ IsContent tables syntax octets (Plea priority) = ⊥
 IsContent tables syntax octets (Part part) = ⊥
 
 -- the same as a function, which the laws tie to it
-abbrev pub content_of : List ℕ → Option Apdu → Content
+abbrev pub content_of : List ℕ → Option Apdu → ValueContent
 content_of octets (Some apdu) = Remote apdu
 content_of octets None = Unread octets
 
-abbrev pub content_at : Tables → Syntax → List ℕ → Content
+abbrev pub content_at : Tables → Syntax → List ℕ → ValueContent
 content_at tables syntax octets = content_of octets (apdu_of tables (head_at tables syntax octets))
 
 -- the one spelling in which it is written: octets that spell no APDU are their own spelling
-abbrev pub written_content : Tables → Syntax → Content → List ℕ
+abbrev pub written_content : Tables → Syntax → ValueContent → List ℕ
 written_content tables syntax (Remote apdu) = written_apdu tables syntax apdu
 written_content tables syntax (Unread octets) = octets
 written_content tables syntax (Association apdu user) = []

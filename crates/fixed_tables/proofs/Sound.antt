@@ -6,7 +6,7 @@ use Rattle.std.proofs.lemmas.List.{append-nil}
 use Rattle.asn1_types.specs.declared.row.TypeRow.{TypeRow}
 use Rattle.asn1_types.specs.declared.row.TypeRow.TheVariants.{Tagged}
 use Rattle.asn1_types.specs.declared.refusal.RowRefusal.{RowRefusal}
-use Rattle.asn1_types.specs.Table.{refusal, IsSound, HasShortTag}
+use Rattle.asn1_types.specs.Table.{refusal, AreSoundRows, HasShortTag}
 use Rattle.fixed_tables.specs.Rows.{all_added, has_short_tag, are_short}
 
 none_is : (o : Option RowRefusal) → is_none o ≡ true → o ≡ None
@@ -36,7 +36,7 @@ short_each (r ∷ rs) zero row a e =
     subst HasShortTag same (short_is r p.0)
 short_each (r ∷ rs) (suc n) row a e = let p = and_parts (has_short_tag r) (are_short rs) a in short_each rs n row p.1 e
 
-pub sound_of : (rows : List TypeRow) → all_added [] rows ≡ true → are_short rows ≡ true → IsSound rows
+pub sound_of : (rows : List TypeRow) → all_added [] rows ≡ true → are_short rows ≡ true → AreSoundRows rows
 sound_of rows a s = record {
   each = λ n row e. added_each [] rows n row a e;
   short = λ n row e. short_each rows n row s e;

@@ -1,7 +1,7 @@
 -- The laws of whole values.
 use Rattle.std.specs.Prelude.{◌≡◌, ℕ, false, List, Ok}
 use Rattle.asn1_types.specs.declared.row.TypeRow.{TypeRow}
-use Rattle.asn1_types.specs.Table.{IsSound}
+use Rattle.asn1_types.specs.Table.{AreSoundRows}
 use Rattle.asn1_types.specs.Value.{Value}
 use Rattle.ber_spelling.specs.Octets.{AreOctets}
 use Rattle.ber_spelling.specs.Spelling.{Spells}
@@ -11,4 +11,4 @@ abbrev pub WholeIsSpelled : Type 0
 WholeIsSpelled = (rows : List TypeRow) (n limit : ℕ) (bytes : List ℕ) (v : Value) → AreOctets bytes → whole_at rows n limit bytes ≡ Ok v → Spells rows n false limit v bytes
 
 abbrev pub SpelledIsWhole : Type 0
-SpelledIsWhole = (rows : List TypeRow) (n limit : ℕ) (bytes : List ℕ) (v : Value) → IsSound rows → Spells rows n false limit v bytes → whole_at rows n limit bytes ≡ Ok v
+SpelledIsWhole = (rows : List TypeRow) (n limit : ℕ) (bytes : List ℕ) (v : Value) → AreSoundRows rows → Spells rows n false limit v bytes → whole_at rows n limit bytes ≡ Ok v

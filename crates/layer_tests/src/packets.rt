@@ -4,8 +4,8 @@ use osi_base::{Kind, NoMemory, Octets};
 use std::alloc::Global;
 use std::test::*;
 use tpkt::{
-    Ends, Packet, TFault, TFed, TReader, write_confirm, write_connect, write_disconnect,
-    write_problem, write_tsdu,
+    ConnectionFields, Packet, TFault, TFed, TReader, write_confirm, write_connect,
+    write_disconnect, write_problem, write_tsdu,
 };
 
 /// An invocation in one DT.
@@ -168,7 +168,7 @@ fn fault_of(alloc: Global, stream: &[u8]) -> Option<(u64, Kind)> {
 }
 
 /// Whether these are the fields.
-fn are_ends(ends: &Ends, destination: u16, source: u16, selector: &[u8]) -> bool {
+fn are_ends(ends: &ConnectionFields, destination: u16, source: u16, selector: &[u8]) -> bool {
     ends.destination == destination
         && ends.source == source
         && ends.size == Some(0x0A)
@@ -248,8 +248,13 @@ fn units_are_read(rt: HostRuntime) -> Result<(), Fail> {
 }
 
 /// The ends of a connection with size 0A.
-fn ends(alloc: Global, destination: u16, source: u16, selector: &[u8]) -> Result<Ends, NoMemory> {
-    Ok(Ends {
+fn ends(
+    alloc: Global,
+    destination: u16,
+    source: u16,
+    selector: &[u8],
+) -> Result<ConnectionFields, NoMemory> {
+    Ok(ConnectionFields {
         destination,
         source,
         size: Some(0x0A),

@@ -177,10 +177,10 @@ module _ (all : List Assignment) (recursive : ℕ → Bool) (implicit : Bool) (f
   abbrev Fair : Numbered → Type 0
   Fair s = Good all recursive implicit fine s
 
-  abbrev Ends : (A : Type 0) → Numbered → Option (A × Numbered) → Type 0
-  Ends A s r = Ended all recursive implicit fine A s r
+  abbrev EndsFairly : (A : Type 0) → Numbered → Option (A × Numbered) → Type 0
+  EndsFairly A s r = Ended all recursive implicit fine A s r
 
-  use_made : (u : Option UseText) → FineUse all env u → (s : Numbered) → Fair s → Ends Use s (use_of ground u s)
+  use_made : (u : Option UseText) → FineUse all env u → (s : Numbered) → Fair s → EndsFairly Use s (use_of ground u s)
   unfolding use_of type_row
   use_made None h s good = record { value = record { inner = None; optional = false }; now = s; is = refl; more = λ n row e. e; good = good }
   use_made (Some u) h s good =
@@ -204,7 +204,7 @@ module _ (all : List Assignment) (recursive : ℕ → Bool) (implicit : Bool) (f
 
   -- one assignment
   record Step (a : Assignment) (made : Made) (s : Numbered) (r : Option (Made × Numbered)) : Type 0 where
-    ended : Ends Made s r
+    ended : EndsFairly Made s r
     grown : (xs : List Assignment) (final : Made) → Grown xs ended.value final → Grown (a ∷ xs) made final
 
   operation_made : (made : Made) (name : Located) (o : OpText) (a : Assignment) → a.body ≡ bodies.Operation o → FineOperation all env name o → (s : Numbered) → Fair s
@@ -298,7 +298,7 @@ module _ (all : List Assignment) (recursive : ℕ → Bool) (implicit : Bool) (f
   assignment_made place made a e h s good = body_made place made a.name a.body a refl (body_here place a e a.body refl) h s good
 
   record Made_of (xs : List Assignment) (made : Made) (s : Numbered) (r : Option (Made × Numbered)) : Type 0 where
-    ended : Ends Made s r
+    ended : EndsFairly Made s r
     grown : Grown xs made ended.value
 
   append_none : {X : Type 0} (xs : List X) → xs ≡ xs ++ []

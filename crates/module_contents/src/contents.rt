@@ -12,7 +12,7 @@ ghost use Rattle.module_contents.specs.Said.{invoke_by, result_by, error_by, rej
 use crate::module_values::{carried, needed};
 use apdu_codec::{HeadFault, Heads};
 use apdu_spelling::{ApduHead, ApduKind};
-use association_words::Content;
+use association_words::ValueContent;
 use osi_base::{NoMemory, Octets, Syntax};
 use std::alloc::Global;
 use stub_tables::{Apdu, Code, Returned, Tables, Use};
@@ -195,13 +195,13 @@ pub fn content_at(
     tables: &Tables,
     syntax: Syntax,
     octets: &[u8],
-) -> Result<Content, NoMemory>
+) -> Result<ValueContent, NoMemory>
     ensures { IfOk result (λ content. seen_content content ≡ values.content_at tables.now syntax
         octets.now) }
 {
     are_octets(octets);
     match spelled(alloc, heads, tables, syntax, octets)? {
-        Some(apdu) => Ok(Content::Remote(apdu)),
-        None => Ok(Content::Unread(Octets::from_slice(alloc, octets)?)),
+        Some(apdu) => Ok(ValueContent::Remote(apdu)),
+        None => Ok(ValueContent::Unread(Octets::from_slice(alloc, octets)?)),
     }
 }

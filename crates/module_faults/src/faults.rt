@@ -5,11 +5,11 @@ ghost use Rattle.std.specs.Prelude.{IfOk};
 ghost use Rattle.module_faults.specs.Faults.{IsLeastFault};
 
 use crate::assigned::{double_codes, double_names, of_bodies};
-use crate::judging::{first_recursive, shown_faults};
 use crate::least::{Found, Least};
 use crate::names::Names;
 use crate::recursion::are_shown;
 use crate::survey::surveyed;
+use crate::type_faults::{first_recursive, shown_faults};
 use crate::uses::all_uses;
 use operation_notation::Assignment;
 use osi_base::NoMemory;

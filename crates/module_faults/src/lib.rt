@@ -4,7 +4,6 @@
 mod assigned;
 mod facts;
 mod faults;
-mod judging;
 mod kind;
 mod laws;
 mod least;
@@ -15,6 +14,7 @@ mod places;
 mod recursion;
 mod survey;
 mod tags;
+mod type_faults;
 mod uses;
 
 pub use faults::least_fault;

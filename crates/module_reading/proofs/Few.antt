@@ -11,7 +11,7 @@ use Rattle.notation_tokens.specs.declared.token.Place.{Place}
 use Rattle.operation_notation.specs.Grammar.{Many}
 use Rattle.operation_notation.specs.GrammarTypes.{Extent, narrow}
 use Rattle.operation_notation.specs.GrammarModules.{Assign, Module}
-use Rattle.operation_notation.specs.Modules.{Reads}
+use Rattle.operation_notation.specs.Modules.{ReadsAsModule}
 use Rattle.operation_notation.specs.declared.module.Assignment.{Assignment}
 use Rattle.operation_notation.specs.declared.module.ModuleText.{ModuleText}
 
@@ -82,7 +82,7 @@ module_few ext ts m h =
     let same : length many.value ≡ length m.assignments = ap (λ (x : ModuleText). length x.assignments) end.second.same_value in
     omega (arith, ap length many.whole, length-append many.front many.back)
 
-pub assignments_few : (text : List ℕ) (m : ModuleText) → Reads text m → length m.assignments < 2 ^ 32
+pub assignments_few : (text : List ℕ) (m : ModuleText) → ReadsAsModule text m → length m.assignments < 2 ^ 32
 assignments_few text m h =
     let tokens : length (lexed_of text).tokens ≤ most_tokens = tokens_few text in
     let spelled : length m.assignments ≤ length (lexemes text (lexed_of text).tokens) = module_few narrow (lexemes text (lexed_of text).tokens) m h.spelled in

@@ -15,7 +15,7 @@ use Rattle.operation_notation.specs.ReadingModules.{module_at, ended_at, whole_a
 use Rattle.operation_notation.specs.GrammarTypes.{Extent, narrow, marked, wide, is_empty}
 use Rattle.operation_notation.specs.GrammarModules.{Module}
 use Rattle.notation_tokens.specs.Texts.{Answers, unless_stopped, too_long}
-use Rattle.operation_notation.specs.Modules.{Reads, module_of, verdict, refused}
+use Rattle.operation_notation.specs.Modules.{ReadsAsModule, module_of, verdict, refused}
 use Rattle.operation_notation.specs.Faults.{IsFormed, Begins, IsUnsupported, IsKind, TooLong, TokenFault, EndFault, IsFirstFault}
 use Rattle.notation_tokens.specs.declared.faults.NotationFault.{NotationFault}
 use Rattle.notation_tokens.specs.declared.faults.NotationFault.TheVariants as faults
@@ -74,7 +74,7 @@ abbrev tokens : List ℕ → List Lexeme
 tokens text = lexemes text (lexed_of text).tokens
 
 abbrev Unread : List ℕ → Type 0
-Unread text = (m : ModuleText) → Reads text m → ⊥
+Unread text = (m : ModuleText) → ReadsAsModule text m → ⊥
 
 stopped_fault : (text : List ℕ) → length text ≤ most_octets → Unread text → Begins marked (tokens text) → (m : ModuleText) (o : Option NotationKind) → (lexed_of text).stop ≡ o → (l c : ℕ) (k : NotationKind)
     → unless_stopped o (lexed_of text).place m ≡ answered (faults.At l c k) → EndFault text l c k
@@ -171,7 +171,7 @@ verdict_fault text fits unread (Err d) is l c k e = refused_fault text fits unre
 long_fault : (text : List ℕ) → most_octets < length text → (l c : ℕ) (k : NotationKind) → answered (faults.At 1 1 TextTooLong) ≡ answered (faults.At l c k) → TooLong text l c k
 long_fault text long l c k e = let q = same_at 1 1 TextTooLong l c k e in record { long = long; at_line = sym q.line; at_column = sym q.column; is = sym q.kind }
 
-not_read : (text : List ℕ) (m : ModuleText) (l c : ℕ) (k : NotationKind) → module_of text ≡ answered (faults.At l c k) → Reads text m → ⊥
+not_read : (text : List ℕ) (m : ModuleText) (l c : ℕ) (k : NotationKind) → module_of text ≡ answered (faults.At l c k) → ReadsAsModule text m → ⊥
 not_read text m l c k e d = let clash : Ok m ≡ answered (faults.At l c k) = sym (reads_only text m d) ∙ e in absurd cc
 
 pub fault_first : (text : List ℕ) (l c : ℕ) (k : NotationKind) → module_of text ≡ answered (faults.At l c k) → IsFirstFault text (faults.At l c k)

@@ -2,7 +2,7 @@
 use Rattle.std.proofs.Common.{◌≡◌, ℕ, zero, suc, ◌+◌, ◌-◌, ◌<◌, ◌≤◌, Bool, true, false, List, [], ◌∷◌, ◌++◌, length, Ok, Err, refl, sym, ap, ◌∙◌, append_assoc, arith}
 use Rattle.std.proofs.lemmas.List.{append-nil}
 use Rattle.notation_tokens.specs.Lexeme.{Lexeme, begins}
-use Rattle.operation_notation.specs.Reading.{◌>>=◌, after, give, Failure, Read, Fails, many_at, all_at, listed_at, behind}
+use Rattle.operation_notation.specs.Reading.{◌>>=◌, after, give, Failure, Read, FailsWith, many_at, all_at, listed_at, behind}
 use Rattle.operation_notation.specs.declared.fault.Refusal.{Refusal}
 use Rattle.operation_notation.specs.declared.fault.Refusal.TheVariants as refusals
 
@@ -62,7 +62,7 @@ fail_at test r (suc n) ts e le none t f = rw (t, f) refl
 
 -- where one more can't be read, the whole can't
 pub fails : {A : Type 0} (test : List Lexeme → Bool) (r : List Lexeme → Read A) (front : List A) (ts : List Lexeme) (total : Read (List A)) (why : Refusal) (rest : List Lexeme)
-    → Going test r front ts total → test [] ≡ false → test ts ≡ true → Fails why rest (r ts) → Fails why rest total
+    → Going test r front ts total → test [] ≡ false → test ts ≡ true → FailsWith why rest (r ts) → FailsWith why rest total
 fails test r front ts total refusals.NoMemory rest g none t f = tt
 fails test r front ts total (refusals.Fault kind) rest g none t f = sym g.so_far ∙ ap (with_front front) (fail_at test r g.turns ts _ g.enough none t f)
 
@@ -91,7 +91,7 @@ unfolding many_at
 fail_now test r n ts e t f = rw (t, f) refl
 
 pub counted_fails : {A : Type 0} (test : List Lexeme → Bool) (r : List Lexeme → Read A) (front : List A) (most i : ℕ) (ts : List Lexeme) (total : Read (List A)) (why : Refusal) (rest : List Lexeme)
-    → i < most → with_front front (many_at test r (most - i) ts) ≡ total → test ts ≡ true → Fails why rest (r ts) → Fails why rest total
+    → i < most → with_front front (many_at test r (most - i) ts) ≡ total → test ts ≡ true → FailsWith why rest (r ts) → FailsWith why rest total
 counted_fails test r front most i ts total refusals.NoMemory rest lt h t f = tt
 counted_fails test r front most i ts total (refusals.Fault kind) rest lt h t f =
     let k : most - i ≡ suc (most - (i + 1)) = omega arith in
@@ -99,10 +99,10 @@ counted_fails test r front most i ts total (refusals.Fault kind) rest lt h t f =
 
 -- what fails behind a reading that succeeded
 pub fails_behind : {A B : Type 0} (r : List Lexeme → Read A) (f : A → List Lexeme → Read B) (ts : List Lexeme) (a : A) (mid : List Lexeme) (why : Refusal) (rest : List Lexeme)
-    → r ts ≡ Ok (a, mid) → Fails why rest (f a mid) → Fails why rest ((r >>= f) ts)
+    → r ts ≡ Ok (a, mid) → FailsWith why rest (f a mid) → FailsWith why rest ((r >>= f) ts)
 fails_behind r f ts a mid refusals.NoMemory rest e h = tt
 fails_behind r f ts a mid (refusals.Fault kind) rest e h = rw e h
 
-pub fails_before : {A B : Type 0} (r : List Lexeme → Read A) (f : A → List Lexeme → Read B) (ts : List Lexeme) (why : Refusal) (rest : List Lexeme) → Fails why rest (r ts) → Fails why rest ((r >>= f) ts)
+pub fails_before : {A B : Type 0} (r : List Lexeme → Read A) (f : A → List Lexeme → Read B) (ts : List Lexeme) (why : Refusal) (rest : List Lexeme) → FailsWith why rest (r ts) → FailsWith why rest ((r >>= f) ts)
 fails_before r f ts refusals.NoMemory rest h = tt
 fails_before r f ts (refusals.Fault kind) rest h = rw h refl

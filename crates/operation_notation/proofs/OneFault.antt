@@ -10,7 +10,7 @@ use Rattle.operation_notation.specs.Reading.{Read}
 use Rattle.operation_notation.specs.GrammarTypes.{narrow, marked}
 use Rattle.operation_notation.specs.GrammarModules.{Module}
 use Rattle.operation_notation.specs.ReadingModules.{whole_at}
-use Rattle.operation_notation.specs.Modules.{Reads, module_of, verdict, refused}
+use Rattle.operation_notation.specs.Modules.{ReadsAsModule, module_of, verdict, refused}
 use Rattle.operation_notation.specs.Faults.{Begins, IsKind, TokenFault, IsFirstFault, Faulty}
 use Rattle.notation_tokens.specs.declared.faults.NotationFault.{NotationFault}
 use Rattle.notation_tokens.specs.declared.faults.NotationFault.TheVariants as faults
@@ -108,18 +108,18 @@ one_fault text f g = let same_as = two_faults text f.line f.column f.kind g.line
 
 -- ---- a module or a fault
 
-not_token : (text : List ℕ) (a : ModuleText) (l c : ℕ) (k : NotationKind) → Reads text a → TokenFault text l c k → ⊥
+not_token : (text : List ℕ) (a : ModuleText) (l c : ℕ) (k : NotationKind) → ReadsAsModule text a → TokenFault text l c k → ⊥
 not_token text a l c k r f =
     let spelled = whole_found marked (lexemes text (lexed_of text).tokens) a [] (mark_reads (lexemes text (lexed_of text).tokens) a [] (whole_only narrow (lexemes text (lexed_of text).tokens) a r.spelled)) in
     let there : Module marked (f.front ++ f.token ∷ f.behind) a = subst (λ (z : List Lexeme). Module marked z a) f.whole spelled in
     f.past f.behind a there
 
-not_fault : (text : List ℕ) (a : ModuleText) (l c : ℕ) (k : NotationKind) → Reads text a → IsFirstFault text (faults.At l c k) → ⊥
+not_fault : (text : List ℕ) (a : ModuleText) (l c : ℕ) (k : NotationKind) → ReadsAsModule text a → IsFirstFault text (faults.At l c k) → ⊥
 not_fault text a l c k r (inl f) = let p = f.long in let q = r.fits in absurd (omega (arith, p, q))
 not_fault text a l c k r (inr (inl f)) = not_token text a l c k r f
 not_fault text a l c k r (inr (inr f)) = f.unread a r
 
-pub not_both : (text : List ℕ) (a : ModuleText) → Reads text a → Faulty text → ⊥
+pub not_both : (text : List ℕ) (a : ModuleText) → ReadsAsModule text a → Faulty text → ⊥
 not_both text a r f = not_fault text a f.line f.column f.kind r f.first
 
 abbrev Answer : Type 0
@@ -145,10 +145,10 @@ no_memory text e = go (nat_lt most_octets (length text)) e
     go true h = absurd cc
     go false h = no_memory_verdict (lexed_of text) (whole_at narrow (lexemes text (lexed_of text).tokens)) h
 
-answered : (text : List ℕ) (r : Answer) → module_of text ≡ r → ((m : ModuleText) × Reads text m) ⊎ Faulty text
+answered : (text : List ℕ) (r : Answer) → module_of text ≡ r → ((m : ModuleText) × ReadsAsModule text m) ⊎ Faulty text
 answered text (Ok m) e = inl (m, reads_found text m e)
 answered text (Err faults.NoMemory) e = absurd (no_memory text e)
 answered text (Err (faults.At l c k)) e = inr (record { line = l; column = c; kind = k; first = fault_first text l c k e })
 
-pub module_or_fault : (text : List ℕ) → ((m : ModuleText) × Reads text m) ⊎ Faulty text
+pub module_or_fault : (text : List ℕ) → ((m : ModuleText) × ReadsAsModule text m) ⊎ Faulty text
 module_or_fault text = answered text (module_of text) refl

@@ -4,7 +4,7 @@ use Rattle.std.specs.Prelude.{if◌then◌else◌}
 use Rattle.std.proofs.lemmas.List.{append-nil, map-append}
 use Rattle.notation_tokens.specs.Lexeme.{Lexeme, lexemes}
 use Rattle.notation_tokens.specs.Lexing.{first_place, lexed_of}
-use Rattle.operation_notation.specs.Modules.{Reads}
+use Rattle.operation_notation.specs.Modules.{ReadsAsModule}
 use Rattle.notation_tokens.specs.Words.{place, word_of, type_name_of, value_name_of, is_type_name, is_value_name, located}
 use Rattle.operation_notation.specs.Grammar.{One, Then, Nothing, Either, Maybe, Many, The, Behind, Listed, Placed, StartsAt}
 use Rattle.operation_notation.specs.GrammarTypes.{Range, RangeBehind, Size, SizeBehind, Item, Items, dflt_value, dflt_text, dflt_of, Absent, Part, Parts, Alternatives, narrow, Leaf, Plain, TypeBehind, Type_of}
@@ -348,7 +348,7 @@ pub cov_module : Cov Module module_places
 cov_module = whole (cov_bind [] heading_places cov_heading (λ h. cov_skip _ (λ _. cov_skip _ (λ imports. cov_bind _ assignment_places (cov_as (concat one_assignment) assignment_places concat_assignments (cov_many Assign one_assignment cov_assign)) (λ l. cov_skip _ (λ _. cov_nothing _ module_places refl))))))
 
 -- the places of a module never fall
-pub module_rises : (text : List ℕ) (m : ModuleText) → Reads text m → NeverFall (module_places m)
+pub module_rises : (text : List ℕ) (m : ModuleText) → ReadsAsModule text m → NeverFall (module_places m)
 module_rises text m d =
     let c = cov_module (lexemes text (lexed_of text).tokens) m d.spelled in
     let all = c.rises first_place (lexed_of text).place (lexed_rises text) in

@@ -20,7 +20,7 @@ use Rattle.notation_tokens.specs.declared.token.Located.{Located}
 use Rattle.operation_notation.specs.declared.module.PartText.{PartText}
 use Rattle.operation_notation.specs.declared.module.ModuleText.{ModuleText}
 use Rattle.operation_notation.specs.declared.bodies.Signature.{Signature}
-use Rattle.operation_notation.specs.Modules.{Reads}
+use Rattle.operation_notation.specs.Modules.{ReadsAsModule}
 use Rattle.notation_tokens.specs.Lexing.{lexed_of}
 use Rattle.operation_notation.proofs.OidLaws.{number_is}
 use Rattle.notation_tokens.proofs.Spans.{lexed_spans}
@@ -296,11 +296,11 @@ pub fine_lexemes : (source : List ℕ) (len : ℕ) (ts : List Token) → AllByRe
 fine_lexemes source len [] all = tt
 fine_lexemes source len (t ∷ ts) all = (all.0.form, fine_lexemes source len ts all.1)
 
-pub reads_well : (text : List ℕ) (m : ModuleText) → Reads text m → IsWellFormed m
+pub reads_well : (text : List ℕ) (m : ModuleText) → ReadsAsModule text m → IsWellFormed m
 reads_well text m d =
     let w = well_module (lexemes text (lexed_of text).tokens) m (fine_lexemes text (length text) (lexed_of text).tokens (lexed_spans text)) d.spelled in
     record { name = w.name; assignments = w.assignments; places = module_rises text m d }
 
-pub well_answer : (r : Result ModuleText NotationFault) (text : List ℕ) → IfOk r (λ m. Reads text m) → IfOk r IsWellFormed
+pub well_answer : (r : Result ModuleText NotationFault) (text : List ℕ) → IfOk r (λ m. ReadsAsModule text m) → IfOk r IsWellFormed
 well_answer (Ok m) text d = reads_well text m d
 well_answer (Err e) text d = tt

@@ -7,7 +7,7 @@ use Rattle.notation_tokens.specs.Lexing.{most_octets, lexed_of}
 use Rattle.operation_notation.specs.Reading.{kind_at}
 use Rattle.operation_notation.specs.GrammarTypes.{Extent, marked, wide, is_empty}
 use Rattle.operation_notation.specs.GrammarModules.{Module}
-use Rattle.operation_notation.specs.Modules.{Reads}
+use Rattle.operation_notation.specs.Modules.{ReadsAsModule}
 use Rattle.notation_tokens.specs.declared.faults.NotationFault.{NotationFault}
 use Rattle.notation_tokens.specs.declared.faults.NotationFault.TheVariants as faults
 use Rattle.notation_tokens.specs.declared.faults.NotationKind.{NotationKind}
@@ -59,7 +59,7 @@ pub record TokenFault (text : List ℕ) (line column : ℕ) (kind : NotationKind
 pub record EndFault (text : List ℕ) (line column : ℕ) (kind : NotationKind) : Type 0 where
   pub fits : length text ≤ most_octets
   pub start : Begins marked (lexemes text (lexed_of text).tokens)
-  pub unread : (m : ModuleText) → Reads text m → ⊥
+  pub unread : (m : ModuleText) → ReadsAsModule text m → ⊥
   pub at_line : (lexed_of text).place.line ≡ line
   pub at_column : (lexed_of text).place.column ≡ column
   pub is : kind ≡ unwrap_or (lexed_of text).stop UnexpectedToken

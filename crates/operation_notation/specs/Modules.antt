@@ -14,7 +14,7 @@ use Rattle.notation_tokens.specs.declared.lexer.Lexed.{Lexed}
 use Rattle.operation_notation.specs.declared.module.ModuleText.{ModuleText}
 
 -- A text reads as a module: within the limits it is cut to its end, and the grammar derives its tokens.
-pub record Reads (text : List ℕ) (m : ModuleText) : Type 0 where
+pub record ReadsAsModule (text : List ℕ) (m : ModuleText) : Type 0 where
   pub fits : length text ≤ most_octets
   pub ends : (lexed_of text).stop ≡ None
   pub spelled : Module narrow (lexemes text (lexed_of text).tokens) m

@@ -30,19 +30,19 @@ abbrev pub ◌>>=◌ : {A B : Type 0} → (List Lexeme → Read A) → (A → Li
 abbrev pub give : {A : Type 0} → A → List Lexeme → Read A
 give a ts = Ok (a, ts)
 
-abbrev pub Fails : {A : Type 0} → Refusal → List Lexeme → Read A → Type 0
-Fails refusals.NoMemory rest read = Unit {0}
-Fails (refusals.Fault kind) rest read = read ≡ Err (record { rest = rest; kind = kind })
+abbrev pub FailsWith : {A : Type 0} → Refusal → List Lexeme → Read A → Type 0
+FailsWith refusals.NoMemory rest read = Unit {0}
+FailsWith (refusals.Fault kind) rest read = read ≡ Err (record { rest = rest; kind = kind })
 
 -- What a function returned, and the tokens that it left, are what reading gives, unless memory ran out.
 abbrev pub Gives : {A : Type 0} → Result A Refusal → List Lexeme → Read A → Type 0
 Gives (Ok x) rest read = read ≡ Ok (x, rest)
-Gives (Err e) rest read = Fails e rest read
+Gives (Err e) rest read = FailsWith e rest read
 
 -- the same, where the function's value is seen by a view
 abbrev pub GivesAs : {A B : Type 0} → (A → B) → Result A Refusal → List Lexeme → Read B → Type 0
 GivesAs view (Ok x) rest read = read ≡ Ok (view x, rest)
-GivesAs view (Err e) rest read = Fails e rest read
+GivesAs view (Err e) rest read = FailsWith e rest read
 
 -- what is wrong with a first token that can't stand where it stands
 unfoldable pub kind_at : List Lexeme → NotationKind

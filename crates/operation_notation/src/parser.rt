@@ -6,7 +6,7 @@ ghost use Rattle.notation_tokens.specs.Lexeme.{IsSpan, lexemes};
 ghost use Rattle.operation_notation.specs.GrammarTypes.{narrow};
 ghost use Rattle.operation_notation.specs.ReadingModules.{whole_at};
 ghost use Rattle.notation_tokens.specs.Texts.{Answers};
-ghost use Rattle.operation_notation.specs.Modules.{Reads, module_of, refused, verdict};
+ghost use Rattle.operation_notation.specs.Modules.{ReadsAsModule, module_of, refused, verdict};
 ghost use Rattle.operation_notation.specs.Faults.{IsFirstFault};
 ghost use Rattle.operation_notation.specs.WellFormed.{IsWellFormed};
 ghost use Rattle.operation_notation.specs.declared.module.ModuleText.{ModuleText};
@@ -57,9 +57,9 @@ fn parse(alloc: Global, text: &[u8], lexed: &Lexed) -> Result<ModuleText, Notati
 /// `NoMemory` where an allocation is refused.
 pub fn parse_module(alloc: Global, text: &[u8]) -> Result<ModuleText, NotationFault>
     // What is read is derived by the grammar.
-    ensures found { IfOk result (λ m. Reads text.now m) }
+    ensures found { IfOk result (λ m. ReadsAsModule text.now m) }
     // What the grammar derives is read, unless memory runs out.
-    ensures only { (m : ModuleText) → Reads text.now m → Answers result (Ok m) }
+    ensures only { (m : ModuleText) → ReadsAsModule text.now m → Answers result (Ok m) }
     // What is read is well formed.
     ensures well { IfOk result IsWellFormed }
     // What is refused is the text's first fault.

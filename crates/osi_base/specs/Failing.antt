@@ -8,14 +8,14 @@ abbrev pub IsDue : FailingCalls → Type 0
 IsDue calls = Contains calls.numbers.items calls.made
 
 -- a call was made that wasn't to fail
-pub record Passes (old new : FailingCalls) : Type 0 where
+pub record CallPasses (old new : FailingCalls) : Type 0 where
   pub is_spared : ¬ (IsDue old)
   pub same_numbers : new.numbers.items ≡ old.numbers.items
   pub one_more : new.made ≡ min (old.made + 1) last_count
   pub no_fault : new.faults ≡ old.faults
 
 -- a call was made that was to fail, and was counted as a fault
-pub record Fails (old new : FailingCalls) : Type 0 where
+pub record CallFails (old new : FailingCalls) : Type 0 where
   pub is_due : IsDue old
   pub same_numbers : new.numbers.items ≡ old.numbers.items
   pub one_more : new.made ≡ min (old.made + 1) last_count

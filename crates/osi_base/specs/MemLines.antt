@@ -1,6 +1,6 @@
 -- A line that is held in memory.
 use Rattle.std.specs.Prelude.{ℕ, ◌≡◌, ◌+◌, List, [], ◌∷◌, min, take, drop}
-use Rattle.osi_base.specs.Failing.{Passes, Fails}
+use Rattle.osi_base.specs.Failing.{CallPasses, CallFails}
 use Rattle.osi_base.specs.declared.mem_line.MemLine.{MemLine}
 
 -- what is read next into so much room: what the present peer says from the octets on that were read
@@ -14,7 +14,7 @@ next_said (said ∷ peers) = said
 
 -- a call that wasn't to fail began a connection to the next peer
 pub record Begins (old new : MemLine) : Type 0 where
-  pub passes : Passes old.failing new.failing
+  pub passes : CallPasses old.failing new.failing
   pub said : new.said ≡ next_said old.peers.items
   pub others : new.peers.items ≡ drop 1 old.peers.items
   pub none_read : new.octets_read ≡ 0
@@ -22,21 +22,21 @@ pub record Begins (old new : MemLine) : Type 0 where
 -- a call that was to fail ended the connection: no peer says anything, and the peers to come are
 -- as they were
 pub record EndsFailed (old new : MemLine) : Type 0 where
-  pub fails : Fails old.failing new.failing
+  pub fails : CallFails old.failing new.failing
   pub same_peers : new.peers.items ≡ old.peers.items
   pub none_said : new.said ≡ []
   pub none_read : new.octets_read ≡ 0
 
 -- a call that wasn't to fail read so many octets of the present peer
 pub record ReadsOn (old new : MemLine) (filled : ℕ) : Type 0 where
-  pub passes : Passes old.failing new.failing
+  pub passes : CallPasses old.failing new.failing
   pub same_said : new.said ≡ old.said
   pub same_peers : new.peers.items ≡ old.peers.items
   pub read : new.octets_read ≡ old.octets_read + filled
 
 -- a call that was to fail left the connection as it was
 pub record KeepsFailed (old new : MemLine) : Type 0 where
-  pub fails : Fails old.failing new.failing
+  pub fails : CallFails old.failing new.failing
   pub same_said : new.said ≡ old.said
   pub same_peers : new.peers.items ≡ old.peers.items
   pub same_read : new.octets_read ≡ old.octets_read

@@ -1,7 +1,7 @@
 //! The calls of a line that is held in memory.
 
 ghost use Rattle.std.specs.Prelude.{◌≡◌, ◌↔◌, ◌+◌, ◌^◌, ◌<◌, ◌≤◌, [], Some, IfOk, IfSome, OnOk, OnErr, IsErrOf, min, length, take, drop};
-ghost use Rattle.osi_base.specs.Failing.{IsDue, Passes, Fails};
+ghost use Rattle.osi_base.specs.Failing.{IsDue, CallPasses, CallFails};
 ghost use Rattle.osi_base.specs.MemLines.{due_in, next_said, Begins, EndsFailed, ReadsOn, KeepsFailed, StaysAsItWas};
 ghost use Rattle.osi_base.specs.Outside.{last_count, logged, counted};
 ghost use Rattle.osi_base.specs.Lines.{shuts_told};
@@ -18,11 +18,11 @@ impl MemLine {
     /// Begins a connection that came to this: to the next peer, where it was done.
     fn begin(&mut self, outcome: Outcome) -> Result<(), LineFault>
         requires { (outcome ≡ Outcome.Failed) ↔ IsDue self.old.failing }
-        ensures ok { OnOk result (Passes self.old.failing self.new.failing) }
+        ensures ok { OnOk result (CallPasses self.old.failing self.new.failing) }
         ensures begins { self.new.octets_read ≡ 0 }
         ensures next { OnOk result (self.new.said ≡ next_said self.old.peers.items) }
         ensures peers { OnOk result (self.new.peers.items ≡ drop 1 self.old.peers.items) }
-        ensures failed { OnErr result (Fails self.old.failing self.new.failing) }
+        ensures failed { OnErr result (CallFails self.old.failing self.new.failing) }
         ensures failed_peers { OnErr result (self.new.peers ≡ self.old.peers) }
         ensures failed_said { OnErr result (self.new.said ≡ []) }
         ensures count { self.old.failing.faults ≤ self.new.failing.faults }

@@ -3,7 +3,7 @@
 ghost use Rattle.std.specs.Prelude.{[], ◌∷◌, ◌++◌, ◌<◌, ◌≡◌, ◌≤◌, Some, None, IfOk, IfSome, OnOk, OnErr, IsErrOf, min, length, reverse, take, find};
 ghost use Rattle.std.specs.Option.{option_copied};
 ghost use Rattle.std.specs.Str.{bytes_eq};
-ghost use Rattle.osi_base.specs.Failing.{Passes, Fails};
+ghost use Rattle.osi_base.specs.Failing.{CallPasses, CallFails};
 ghost use Rattle.osi_base.specs.Limits.{file_most};
 ghost use Rattle.osi_base.specs.Memory.{contents_in};
 
@@ -126,8 +126,9 @@ impl Files for MemFiles {
             (λ octets. length octets ≤ file_most) }
 
         // It fails exactly where it is to
-        ensures ok { OnOk result (Passes self.old.failing self.new.failing) }
-        ensures failed { IsErrOf result FileFault.Failed → Fails self.old.failing self.new.failing }
+        ensures ok { OnOk result (CallPasses self.old.failing self.new.failing) }
+        ensures failed { IsErrOf result FileFault.Failed
+            → CallFails self.old.failing self.new.failing }
         ensures failed_asked { IsErrOf result FileFault.Failed → self.new.asked.items
             ≡ self.old.asked.items ++ name.now ∷ [] }
 
@@ -135,7 +136,7 @@ impl Files for MemFiles {
         ensures missing { IsErrOf result FileFault.Missing → contents_in self.old.files name.now
             ≡ None }
         ensures missing_passes { IsErrOf result FileFault.Missing →
-            Passes self.old.failing self.new.failing }
+            CallPasses self.old.failing self.new.failing }
         ensures missing_asked { IsErrOf result FileFault.Missing → self.new.asked.items
             ≡ self.old.asked.items ++ name.now ∷ [] }
 
@@ -241,8 +242,9 @@ impl Sink for MemSink {
         ensures err { OnErr result (self.new.written ≡ self.old.written) }
 
         // It fails exactly where it is to
-        ensures passes { OnOk result (Passes self.old.failing self.new.failing) }
-        ensures failed { IsErrOf result SinkFault.Failed → Fails self.old.failing self.new.failing }
+        ensures passes { OnOk result (CallPasses self.old.failing self.new.failing) }
+        ensures failed { IsErrOf result SinkFault.Failed
+            → CallFails self.old.failing self.new.failing }
         ensures no_memory { IsErrOf result SinkFault.NoMemory →
             self.new.failing ≡ self.old.failing }
     {

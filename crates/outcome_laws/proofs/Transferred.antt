@@ -28,7 +28,7 @@ use Rattle.end_model.specs.Pairs.{Common, base_at, Two, body_at, coming_to}
 use Rattle.reliable_model.specs.Codecs.{Carries}
 use Rattle.reliable_model.specs.Goes.{Encoding, deeds_of, Ledger}
 use Rattle.reliable_model.specs.ReliablePairs.{reliable_pair, IsFit}
-use Rattle.reliable_model.specs.Transfers.{Ends, IsNewest, ArrivesWhole}
+use Rattle.reliable_model.specs.Transfers.{TakesTransferEnd, IsNewest, ArrivesWhole}
 use Rattle.reliable_model.proofs.Laws.{reliable-whole}
 use Rattle.outcome_laws.specs.Deals.{rejects_in, still_after, Dealings, dealt_of, Deals, begins, calls, acts, takes, passes, fails as aborts_of_itself, breaks}
 use Rattle.outcome_laws.specs.Outcomes.{IsIn, AreAnswers}
@@ -143,7 +143,7 @@ module _ (free : Free) (tables : Tables) (spellings : Spellings) (a b : Config) 
 
   brings : (two : Two) (ledger : Ledger) (dealings : Dealings) (role : Role) (message : Message) (left : List Message) (later : Body) (answers : List Message) (shown : List Indication) → Carries free (base Initiator) → IsFit common → Deals common two ledger dealings → coming_to role two ≡ message ∷ left → react (base role) (body_at role two) message ≡ Takes later answers shown → (number : ℕ) → message ≡ Session (OfActivities (End number)) → (body_at role two).receiving.was_handed ≡ false → Brings (base role) (body_at role two) (dealt_of (other role) dealings).wrote
   brings two ledger dealings role message left later answers shown carries fit reached comes h number m new =
-      let ends : Ends common two role =
+      let ends : TakesTransferEnd common two role =
       record {
         number = number;
         left = left;

@@ -14,7 +14,7 @@ use Rattle.stub_tables.specs.Lookup.{operation_at, operation_with, error_with}
 use Rattle.dialogue.specs.declared.indication.Indication.{Indication}
 use Rattle.dialogue.specs.declared.indication.Indication.TheVariants as indications
 use Rattle.end_rules.specs.Base.{Base, Carried, Head, is_reliable}
-use Rattle.end_rules.specs.Messages.{Content, Remote, Value, Message, Transport, Session, Word, OfAssociation, OfData, OfMarks, OfActivities, Values, AlterContext, AlterContextAck}
+use Rattle.end_rules.specs.Messages.{ValueContent, Remote, Value, Message, Transport, Session, Word, OfAssociation, OfData, OfMarks, OfActivities, Values, AlterContext, AlterContextAck}
 use Rattle.end_rules.specs.State.{Body, OpenCall, Calls, opened_with, close}
 use Rattle.end_rules.specs.Invoking.{carrier_in}
 use Rattle.end_rules.specs.Hearing.{Rejecting, Heard, rejected, told, unless_problem, invoke_problem, invoked, result_problem, hear_result_of, error_problem, error_told, hear_error_of, is_of_invocation, hear_reject, hear, carried_in, code_returned, value_returned, value_in, head_of_apdu, Taken, sent_on, queued, with_reject, on_heard, take_head, head_of, take_values}
@@ -55,7 +55,7 @@ around xs middle ys x h = go (in-either xs ys x h)
 
 -- ---- messages that carry what was written
 
-pub record Written (wrote : List Apdu) (content : Content) : Type 0 where
+pub record Written (wrote : List Apdu) (content : ValueContent) : Type 0 where
   pub apdu : Apdu
   pub is_it : content ≡ Remote apdu
   pub within : IsIn apdu wrote
@@ -114,14 +114,14 @@ quiet tables wrote shown e = each-quiet (Answered tables wrote) shown (unnoted s
 
 -- ---- what is heard
 
-abbrev Says : Tables → List Apdu → Heard → Type 0
-Says tables wrote heard = AreAnswers tables wrote heard.shown
+abbrev HearsAnswers : Tables → List Apdu → Heard → Type 0
+HearsAnswers tables wrote heard = AreAnswers tables wrote heard.shown
 
-unless : (tables : Tables) (wrote : List Apdu) (o : Option ℕ) (refused : ℕ → Heard) (heard : Heard) → ((n : ℕ) → Says tables wrote (refused n)) → Says tables wrote heard → Says tables wrote (unless_problem o refused heard)
+unless : (tables : Tables) (wrote : List Apdu) (o : Option ℕ) (refused : ℕ → Heard) (heard : Heard) → ((n : ℕ) → HearsAnswers tables wrote (refused n)) → HearsAnswers tables wrote heard → HearsAnswers tables wrote (unless_problem o refused heard)
 unless tables wrote None refused heard f h = h
 unless tables wrote (Some n) refused heard f h = f n
 
-says-invoked : (base : Base) (calls : Calls) (context : ℕ) (id : ℤ) (linked : Option ℤ) (place : Option ℕ) (argument : Carried) (wrote : List Apdu) → Says base.tables wrote (invoked base calls context id linked place argument)
+says-invoked : (base : Base) (calls : Calls) (context : ℕ) (id : ℤ) (linked : Option ℤ) (place : Option ℕ) (argument : Carried) (wrote : List Apdu) → HearsAnswers base.tables wrote (invoked base calls context id linked place argument)
 says-invoked base calls context id linked None argument wrote = tt
 says-invoked base calls context id linked (Some place) argument wrote = (tt, tt)
 
@@ -129,7 +129,7 @@ value-is : (returned : Option Returned) → value_in (value_returned returned) �
 value-is None = refl
 value-is (Some returned) = refl
 
-says-result : (base : Base) (calls : Calls) (id : ℤ) (o : Option OpenCall) (returned : Option Returned) (wrote : List Apdu) → IsIn (apdus.Result id returned) wrote → Says base.tables wrote (hear_result_of base calls id o (code_returned returned) (value_returned returned))
+says-result : (base : Base) (calls : Calls) (id : ℤ) (o : Option OpenCall) (returned : Option Returned) (wrote : List Apdu) → IsIn (apdus.Result id returned) wrote → HearsAnswers base.tables wrote (hear_result_of base calls id o (code_returned returned) (value_returned returned))
 says-result base calls id None returned wrote h = tt
 says-result base calls id (Some o) returned wrote h =
     unless base.tables wrote (result_problem base o.operation (operation_at base.tables o.operation) (code_returned returned) (value_returned returned))
@@ -141,12 +141,12 @@ carried-is : (parameter : Option Val) → value_in (carried_in parameter) ≡ pa
 carried-is None = refl
 carried-is (Some value) = refl
 
-says-error-told : (tables : Tables) (calls : Calls) (id : ℤ) (code : Code) (parameter : Option Val) (place : Option ℕ) (wrote : List Apdu) → error_with tables code ≡ place → IsIn (apdus.Error id code parameter) wrote → Says tables wrote (error_told calls id place (carried_in parameter))
+says-error-told : (tables : Tables) (calls : Calls) (id : ℤ) (code : Code) (parameter : Option Val) (place : Option ℕ) (wrote : List Apdu) → error_with tables code ≡ place → IsIn (apdus.Error id code parameter) wrote → HearsAnswers tables wrote (error_told calls id place (carried_in parameter))
 says-error-told tables calls id code parameter None wrote e h = tt
 says-error-told tables calls id code parameter (Some place) wrote e h =
     (record { apdu = apdus.Error id code parameter; written = h; tells = (refl, e, carried-is parameter) }, tt)
 
-says-error : (base : Base) (calls : Calls) (id : ℤ) (o : Option OpenCall) (code : Code) (parameter : Option Val) (wrote : List Apdu) → IsIn (apdus.Error id code parameter) wrote → Says base.tables wrote (hear_error_of base calls id o (error_with base.tables code) (carried_in parameter))
+says-error : (base : Base) (calls : Calls) (id : ℤ) (o : Option OpenCall) (code : Code) (parameter : Option Val) (wrote : List Apdu) → IsIn (apdus.Error id code parameter) wrote → HearsAnswers base.tables wrote (hear_error_of base calls id o (error_with base.tables code) (carried_in parameter))
 says-error base calls id None code parameter wrote h = tt
 says-error base calls id (Some o) code parameter wrote h =
     unless base.tables wrote (error_problem base (operation_at base.tables o.operation) (error_with base.tables code) (carried_in parameter))
@@ -154,15 +154,15 @@ says-error base calls id (Some o) code parameter wrote h =
     (error_told (close true id calls) id (error_with base.tables code) (carried_in parameter))
     (λ n. tt) (says-error-told base.tables (close true id calls) id code parameter (error_with base.tables code) wrote refl h)
 
-says-reject : (tables : Tables) (calls : Calls) (id : Option ℤ) (problem : Problem) (wrote : List Apdu) → IsIn (apdus.Reject id problem) wrote → Says tables wrote (hear_reject calls id problem)
+says-reject : (tables : Tables) (calls : Calls) (id : Option ℤ) (problem : Problem) (wrote : List Apdu) → IsIn (apdus.Reject id problem) wrote → HearsAnswers tables wrote (hear_reject calls id problem)
 says-reject tables calls None problem wrote h = (tt, tt)
 says-reject tables calls (Some id) problem wrote h = go (is_of_invocation problem.kind && is_some (opened_with true id calls.opens))
   where
-    go : (b : Bool) → Says tables wrote (if b then told (close true id calls) (indications.Rejected id problem) else told calls (indications.RejectTaken (Some id) problem))
+    go : (b : Bool) → HearsAnswers tables wrote (if b then told (close true id calls) (indications.Rejected id problem) else told calls (indications.RejectTaken (Some id) problem))
     go true = (record { apdu = apdus.Reject (Some id) problem; written = h; tells = (refl, refl) }, tt)
     go false = (tt, tt)
 
-says : (base : Base) (calls : Calls) (context : ℕ) (apdu : Apdu) (wrote : List Apdu) → IsIn apdu wrote → Says base.tables wrote (hear base calls context (head_of_apdu apdu))
+says : (base : Base) (calls : Calls) (context : ℕ) (apdu : Apdu) (wrote : List Apdu) → IsIn apdu wrote → HearsAnswers base.tables wrote (hear base calls context (head_of_apdu apdu))
 says base calls context (apdus.Invoke id linked code argument) wrote h =
     unless base.tables wrote (invoke_problem base calls id linked (operation_with base.tables code) (carried_in argument))
     (rejected calls (Some id) problems.Invoke)
@@ -202,7 +202,7 @@ head-shows base body context apdu peer h =
 
 one-shows : (base : Base) (body : Body) (value : Value) (peer : List Apdu) → Written peer value.content → AreAnswers base.tables peer (take_head base body value.id (head_of base value)).shown
 one-shows base body value peer h =
-    let says_so : head_of base value ≡ head_of_apdu h.apdu = ap (λ (c : Content). head_of base (record { id = value.id; pair = value.pair; content = c })) h.is_it in
+    let says_so : head_of base value ≡ head_of_apdu h.apdu = ap (λ (c : ValueContent). head_of base (record { id = value.id; pair = value.pair; content = c })) h.is_it in
     subst (λ (head : Head). AreAnswers base.tables peer (take_head base body value.id head).shown) (sym says_so) (head-shows base body value.id h.apdu peer h.within)
 
 pub values-show : (base : Base) (body : Body) (values : List Value) (peer : List Apdu) → AreWritten peer values → AreAnswers base.tables peer (take_values base body values).shown
@@ -227,7 +227,7 @@ head-taken base body context apdu own peer e h =
 
 one-taken : (base : Base) (body : Body) (value : Value) (own peer : List Apdu) → is_reliable base.mode ≡ false → Written peer value.content → TakenWell base.tables own peer (take_head base body value.id (head_of base value)).answers (take_head base body value.id (head_of base value)).shown
 one-taken base body value own peer e h =
-    let says_so : head_of base value ≡ head_of_apdu h.apdu = ap (λ (c : Content). head_of base (record { id = value.id; pair = value.pair; content = c })) h.is_it in
+    let says_so : head_of base value ≡ head_of_apdu h.apdu = ap (λ (c : ValueContent). head_of base (record { id = value.id; pair = value.pair; content = c })) h.is_it in
     subst (λ (head : Head). TakenWell base.tables own peer (take_head base body value.id head).answers (take_head base body value.id head).shown) (sym says_so)
     (head-taken base body value.id h.apdu own peer e h.within)
 

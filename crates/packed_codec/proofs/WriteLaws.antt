@@ -6,7 +6,7 @@ use Rattle.asn1_types.specs.declared.row.Part.{Part}
 use Rattle.asn1_types.specs.declared.row.TypeRow.{TypeRow}
 use Rattle.asn1_types.specs.declared.row.TypeRow.TheVariants.{Boolean, Integer, Enumerated, Null, OctetString, BitString, ObjectId, Text, Sequence, Set, SequenceOf, SetOf, Choice, Tagged, Any}
 use Rattle.asn1_types.specs.Rows.{along, names_of, rows_of_parts}
-use Rattle.asn1_types.specs.Table.{IsSound}
+use Rattle.asn1_types.specs.Table.{AreSoundRows}
 use Rattle.asn1_types.specs.Value.{Value, boolean, integer, null, octets, bits, object_id, text, parts, list, chosen, any, MaybeValues, no_parts, absent, present}
 use Rattle.asn1_types.specs.ValueView.{parts_of, values_of}
 use Rattle.asn1_types.proofs.Along.{settled}
@@ -71,7 +71,7 @@ write_cong (Tagged class number explicit inner) f g h = h.0
 write_cong Any f g h = refl
 
 -- what is written of a row, by its rule
-pub packed_at : (rows : List TypeRow) → IsSound rows → (n : ℕ) (row : TypeRow) → slice_get rows n ≡ Some row → packed rows n ≡ write_by (packed rows) row
+pub packed_at : (rows : List TypeRow) → AreSoundRows rows → (n : ℕ) (row : TypeRow) → slice_get rows n ≡ Some row → packed rows n ≡ write_by (packed rows) row
 unfolding packed
 packed_at rows sound n row e = settled nothing_written write_by write_cong rows (is_down rows sound) n row e
 

@@ -23,15 +23,15 @@ abbrev pub ◌>>=◌ : {A B : Type 0} → Reading A → (A → Reading B) → Re
 (Err e) >>= f = Err e
 
 -- What a function returned, seen by view, is what reading gives, unless memory ran out.
-abbrev pub Fails : {Y : Type 0} → PackedFault → Reading Y → Type 0
-Fails (faults.NotSpelled place kind) read = read ≡ Err (faults.NotSpelled place kind)
-Fails faults.Short read = read ≡ Err faults.Short
-Fails (faults.TooLong place) read = read ≡ Err (faults.TooLong place)
-Fails faults.NoMemory read = Unit {0}
+abbrev pub FailsWith : {Y : Type 0} → PackedFault → Reading Y → Type 0
+FailsWith (faults.NotSpelled place kind) read = read ≡ Err (faults.NotSpelled place kind)
+FailsWith faults.Short read = read ≡ Err faults.Short
+FailsWith (faults.TooLong place) read = read ≡ Err (faults.TooLong place)
+FailsWith faults.NoMemory read = Unit {0}
 
 abbrev pub Gives : {X Y : Type 0} → (X → Y) → Result X PackedFault → Reading Y → Type 0
 Gives view (Ok x) read = read ≡ Ok (view x)
-Gives view (Err e) read = Fails e read
+Gives view (Err e) read = FailsWith e read
 
 -- the field at this place breaks the rule of its type
 abbrev pub refuse : {A : Type 0} → ℕ → Reading A

@@ -3,6 +3,7 @@
 #![tactic(auto)]
 
 mod fault;
+mod field_writing;
 mod fields;
 mod laws;
 mod measure;
@@ -10,7 +11,6 @@ mod numbers;
 mod object_ids;
 mod octets;
 mod public;
-mod put;
 mod read;
 mod spot;
 mod strings;

@@ -4,7 +4,7 @@ ghost use Rattle.std.specs.Prelude.{◌≡◌, ◌≤◌, ◌<◌, ◌+◌, min,
 ghost use Rattle.std.specs.List.{AllByRecursion, flat_map};
 ghost use Rattle.osi_base.specs.Outside.{last_count};
 ghost use Rattle.asn1_types.specs.Rows.{rows_of_parts};
-ghost use Rattle.asn1_types.specs.Table.{IsSound};
+ghost use Rattle.asn1_types.specs.Table.{AreSoundRows};
 ghost use Rattle.asn1_types.specs.ValueView.{parts_of, values_of};
 ghost use Rattle.packed_codec.specs.Numbers.{integer_octets};
 ghost use Rattle.packed_codec.specs.ObjectIds.{base_128, arcs_octets};
@@ -117,7 +117,7 @@ pub fn packed_len(table: &TypeTable, of: TypeId, value: &Val) -> u64
 #[cycle(measuring)]
 fn of_row(table: &TypeTable, of: TypeId, row: &TypeRow, value: &Val) -> u64
     requires row { slice_get table.now of.0 ≡ Some row.now }
-    requires sound { IsSound table.now }
+    requires sound { AreSoundRows table.now }
     ensures { result ≡ min (length (write_by (packed table.now) row.now value.now)) last_count }
 {
     match row {

@@ -3,12 +3,14 @@
 ghost use Rattle.std.specs.Prelude.{◌≡◌, ◌∷◌, ◌++◌, ◌+◌, ◌≤◌, ◌<◌, Some, length, drop, slice_get};
 ghost use Rattle.std.specs.List.{AllByRecursion};
 ghost use Rattle.asn1_types.specs.Rows.{rows_of_parts};
-ghost use Rattle.asn1_types.specs.Table.{IsSound};
+ghost use Rattle.asn1_types.specs.Table.{AreSoundRows};
 ghost use Rattle.asn1_types.specs.ValueView.{parts_of, values_of};
 ghost use Rattle.packed_codec.specs.Writing.{part_written, parts_written, sequence_written, values_written, list_written, choice_written, write_by, packed, IsPut};
 
+use crate::field_writing::{
+    put_bit_string, put_boolean, put_integer, put_octet_string, put_oid, put_text,
+};
 use crate::octets::{put_count, put_octet};
-use crate::put::{put_bit_string, put_boolean, put_integer, put_octet_string, put_oid, put_text};
 use asn1_types::{Node, Part, Parts, TypeId, TypeRow, TypeTable, Val, may_be_absent};
 
 /// Puts a value of this row at a place of the room, and answers the place behind it. Of a value
@@ -41,7 +43,7 @@ fn put_row(
     at: usize,
 ) -> usize
     requires row { slice_get table.now of.0 ≡ Some row.now }
-    requires sound { IsSound table.now }
+    requires sound { AreSoundRows table.now }
     requires room { at + length (write_by (packed table.now) row.now value.now) ≤ length out.old }
     ensures { IsPut (write_by (packed table.now) row.now value.now) at out.old out.new result }
 {

@@ -13,7 +13,7 @@ use Rattle.asn1_types.specs.Rows.{of_row, along}
 use Rattle.asn1_types.specs.Defaults.{may_be_absent, is_default}
 use Rattle.asn1_types.specs.Fits.{is_octet, are_bits, part_fits, parts_fit, sequence_fits, values_fit, list_fits, alternative_fits, choice_fits, nothing_fits}
 use Rattle.asn1_types.specs.Rising.{set_rises}
-use Rattle.asn1_types.specs.Table.{is_bad_range, IsSound}
+use Rattle.asn1_types.specs.Table.{is_bad_range, AreSoundRows}
 use Rattle.asn1_types.specs.Value.{Value, boolean, integer, octets, bits, object_id, text, parts, list, chosen, MaybeValues, no_parts, absent, present, Values, no_values, value}
 use Rattle.asn1_types.specs.Writing as der
 use Rattle.asn1_types.proofs.Sound.{taken}
@@ -204,7 +204,7 @@ module _ (f : ℕ → Value → Bool) (w : ℕ → Writer) (writes : Writes f w)
   row-are spell (row.Tagged class number explicit of) s v h = writes of.0 v h
   row-are spell row.Any s v h = absurd cc
 
-module _ (rows : List TypeRow) (sound : IsSound rows) where
+module _ (rows : List TypeRow) (sound : AreSoundRows rows) where
   of_row-are : (f : ℕ → Value → Bool) (w : ℕ → Writer) → Writes f w → (n : ℕ) (o : Option TypeRow) → slice_get rows n ≡ o → (v : Value) → of_row nothing_fits (packs_by (der.written rows) f) o v ≡ true → Are (of_row nothing_written (write_by w) o v)
   of_row-are f w writes n None e v h = refl
   of_row-are f w writes n (Some r) e v h = row-are f w writes (der.written rows) r (taken _ r (sound.each n r e)).range v h

@@ -3,7 +3,7 @@ use Rattle.std.specs.Prelude.{◌≡◌, ◌*◌, ◌≤◌, ℕ, true, List, le
 use Rattle.std.specs.List.{list_all}
 use Rattle.asn1_types.specs.declared.row.TypeRow.{TypeRow}
 use Rattle.asn1_types.specs.Fits.{fits, is_octet}
-use Rattle.asn1_types.specs.Table.{IsSound}
+use Rattle.asn1_types.specs.Table.{AreSoundRows}
 use Rattle.asn1_types.specs.Value.{Value}
 use Rattle.asn1_types.specs.Writing.{written}
 use Rattle.asn1_types.specs.PackedSize.{packed_size}
@@ -21,7 +21,7 @@ ItemsTakeOctets = (rows : List TypeRow) (n : ℕ) (v : Value) → HasNoAny rows 
 
 -- what is written are octets
 abbrev pub PackedAreOctets : Type 0
-PackedAreOctets = (rows : List TypeRow) (n : ℕ) (v : Value) → IsSound rows → packs rows n v ≡ true → list_all is_octet (packed rows n v) ≡ true
+PackedAreOctets = (rows : List TypeRow) (n : ℕ) (v : Value) → AreSoundRows rows → packs rows n v ≡ true → list_all is_octet (packed rows n v) ≡ true
 
 -- what is written has as many octets as are told
 abbrev pub PackedHasSize : Type 0

@@ -6,7 +6,7 @@ use Rattle.std.proofs.lemmas.List.{drop-drop, length-drop}
 use Rattle.asn1_types.specs.declared.row.Part.{Part}
 use Rattle.asn1_types.specs.declared.row.TypeRow.{TypeRow}
 use Rattle.asn1_types.specs.Defaults.{may_be_absent, kept}
-use Rattle.asn1_types.specs.Table.{IsSound}
+use Rattle.asn1_types.specs.Table.{AreSoundRows}
 use Rattle.asn1_types.specs.Value.{Value, parts}
 use Rattle.asn1_types.specs.ValueView.{parts_of}
 use Rattle.ber_spelling.specs.Rules.{plain, bare}
@@ -21,7 +21,7 @@ use Rattle.passed_fields.specs.Spelling.{HasTag, HeldIs, KnownStep, PassedStep, 
 use Rattle.passed_fields.proofs.MoreTurns.{turns_fewer}
 use Rattle.passed_fields.proofs.PlainFields.{FieldsStand, IsPart}
 
-module _ (rows : List TypeRow) (sound : IsSound rows) where
+module _ (rows : List TypeRow) (sound : AreSoundRows rows) where
   -- ---- one field after the other
 
   module _ (strict : Bool) (levels : ℕ) where

@@ -10,7 +10,7 @@ use Rattle.ber_spelling.specs.Reading.{Spot, Opened, Reading, ◌>>=◌}
 use Rattle.ber_spelling.specs.Fields.{extent_at}
 use Rattle.ber_spelling.specs.Rules.{plain, reads, is_opened, expect_at, constructed_at, list_item_at, any_at, whole_at}
 use Rattle.ber_spelling.proofs.Constructed.{BodyOf}
-use Rattle.ber_spelling.proofs.Inside.{Ends, Inside, Inside-bind, Inside-cond, nowhere, second, extent_inside}
+use Rattle.ber_spelling.proofs.Inside.{EndsAt, Inside, Inside-bind, Inside-cond, nowhere, second, extent_inside}
 use Rattle.ber_spelling.proofs.InsideRules.{InsideRun, InsideBody, all_inside, along_inside}
 use Rattle.passed_fields.specs.declared.field.Field as known
 use Rattle.passed_fields.specs.declared.field.Passed as over
@@ -75,7 +75,7 @@ module _ (rows : List TypeRow) where
     unfolding field_at
     field_inside before = record { each = λ end scope o s le e. by_pass end scope o s le e (passes passed (length before) o.class o.number) }
       where
-        by_pass : (end : ℕ) (scope : Scope) (o : Opened) (s : Spot) → o.start.place ≤ end → Ends end s → (told : Option ℕ) → Inside (second end) end (field_by rows fields before told scope o s)
+        by_pass : (end : ℕ) (scope : Scope) (o : Opened) (s : Spot) → o.start.place ≤ end → EndsAt end s → (told : Option ℕ) → Inside (second end) end (field_by rows fields before told scope o s)
         by_pass end scope o s le e None = (known_inside (drop (length before) fields) before).each end scope o s le e
         by_pass end scope o s le e (Some told) = Inside-bind (second end) (second end) end (whole_at 32 tt scope o s) _ (whole_inside.each end scope o s le e) (λ v k. k)
 

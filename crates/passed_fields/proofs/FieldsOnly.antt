@@ -5,7 +5,7 @@ use Rattle.std.proofs.lemmas.Bool.{and_parts}
 use Rattle.asn1_types.specs.declared.row.Class.{Class}
 use Rattle.asn1_types.specs.declared.row.TypeRow.{TypeRow}
 use Rattle.asn1_types.specs.Rows.{is_no_tag, same_class}
-use Rattle.asn1_types.specs.Table.{IsSound}
+use Rattle.asn1_types.specs.Table.{AreSoundRows}
 use Rattle.asn1_types.specs.Value.{Value}
 use Rattle.ber_spelling.specs.declared.spot.Scope.{Scope}
 use Rattle.asn1_types.specs.declared.row.Tag as tags
@@ -41,7 +41,7 @@ not_is : (b : Bool) → not b ≡ true → b ≡ false
 not_is true e = absurd cc
 not_is false e = refl
 
-module _ (rows : List TypeRow) (sound : IsSound rows) where
+module _ (rows : List TypeRow) (sound : AreSoundRows rows) where
   row_only : (of : ℕ) → Only (Allowed rows of None) (reads rows of plain) (λ strict levels v text. SpelledBy rows (length rows) of plain strict levels v text)
   unfolding reads
   row_only of = along_only rows sound (length rows) of plain tt

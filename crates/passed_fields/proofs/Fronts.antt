@@ -19,7 +19,7 @@ use Rattle.ber_spelling.proofs.Identifiers.{IsIn, bind_ok, ok_is}
 use Rattle.ber_spelling.proofs.Growing.{Grows, Grows-bind, with_spot, with_opened, identifier_grows}
 use Rattle.ber_spelling.proofs.Steady.{Run, Relation, Found, Only}
 use Rattle.ber_spelling.proofs.Items.{GrowsRun}
-use Rattle.ber_spelling.proofs.Inside.{Inside, Inside-bind, Ends, second, Begun, identifier_inside}
+use Rattle.ber_spelling.proofs.Inside.{Inside, Inside-bind, second, Begun, identifier_inside}
 use Rattle.ber_spelling.proofs.InsideRules.{InsideRun}
 use Rattle.fixed_tables.specs.declared.pdu.PduFault as units
 use Rattle.fixed_tables.specs.declared.pdu.PduFault.TheVariants as unit

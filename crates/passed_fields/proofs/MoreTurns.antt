@@ -7,7 +7,7 @@ use Rattle.asn1_types.specs.declared.row.TypeRow.TheVariants as row
 use Rattle.asn1_types.specs.declared.row.Class.TheVariants.{Universal}
 use Rattle.std.specs.List.{AllByRecursion}
 use Rattle.asn1_types.specs.Rows.{rows_of_parts, names_of}
-use Rattle.asn1_types.specs.Table.{IsSound}
+use Rattle.asn1_types.specs.Table.{AreSoundRows}
 use Rattle.asn1_types.proofs.Along.{IsDown}
 use Rattle.asn1_types.proofs.Sound.{is_down}
 use Rattle.asn1_types.specs.Value.{Value, parts, chosen, MaybeValues, no_parts, absent, present}
@@ -121,13 +121,13 @@ turns_more rows (suc more) turns n g strict levels v s p =
     subst (λ (k : ℕ). SpelledBy rows k n g strict levels v s) one (turns_more rows more (suc turns) n g strict levels v s (one_more rows turns n g strict levels v s p))
 
 -- each row names lower ones alone, so a turn for each row up to it is enough
-one_less : (rows : List TypeRow) → IsSound rows → (turns n : ℕ) → n < turns → (g : Guise) (strict : Bool) (levels : ℕ) (v : Value) (s : List ℕ) → SpelledBy rows (suc turns) n g strict levels v s → SpelledBy rows turns n g strict levels v s
+one_less : (rows : List TypeRow) → AreSoundRows rows → (turns n : ℕ) → n < turns → (g : Guise) (strict : Bool) (levels : ℕ) (v : Value) (s : List ℕ) → SpelledBy rows (suc turns) n g strict levels v s → SpelledBy rows turns n g strict levels v s
 one_less rows sound zero n l g strict levels v s p = absurd (omega arith)
 one_less rows sound (suc turns) n l g strict levels v s p =
     row_or_turned (written rows) (SpelledBy rows (suc turns)) (SpelledBy rows turns) (slice_get rows n)
     (λ r e. below_turned (written rows) (SpelledBy rows (suc turns)) (SpelledBy rows turns) n (names_of r) ((is_down rows sound).lower n r e) (λ m b. one_less rows sound turns m (omega arith))) g strict levels v s p
 
-pub turns_fewer : (rows : List TypeRow) → IsSound rows → (more turns n : ℕ) → n < turns → (g : Guise) (strict : Bool) (levels : ℕ) (v : Value) (s : List ℕ) → SpelledBy rows (turns + more) n g strict levels v s → SpelledBy rows turns n g strict levels v s
+pub turns_fewer : (rows : List TypeRow) → AreSoundRows rows → (more turns n : ℕ) → n < turns → (g : Guise) (strict : Bool) (levels : ℕ) (v : Value) (s : List ℕ) → SpelledBy rows (turns + more) n g strict levels v s → SpelledBy rows turns n g strict levels v s
 turns_fewer rows sound zero turns n l g strict levels v s p = let none : turns + zero ≡ turns = omega arith in subst (λ (k : ℕ). SpelledBy rows k n g strict levels v s) none p
 turns_fewer rows sound (suc more) turns n l g strict levels v s p =
     let one : turns + suc more ≡ suc (turns + more) = omega arith in

@@ -8,7 +8,7 @@ use Rattle.asn1_types.specs.declared.row.Class.{Class}
 use Rattle.asn1_types.specs.declared.row.Part.{Part}
 use Rattle.asn1_types.specs.declared.row.TypeRow.{TypeRow}
 use Rattle.asn1_types.specs.Rows.{same_class, is_no_tag, openings, allows, begins, tag}
-use Rattle.asn1_types.specs.Table.{IsSound}
+use Rattle.asn1_types.specs.Table.{AreSoundRows}
 use Rattle.asn1_types.specs.Value.{Value, parts, MaybeValues, no_parts, absent, present}
 use Rattle.asn1_types.specs.ValueView.{parts_of}
 use Rattle.ber_spelling.specs.declared.spot.Scope.{Scope}
@@ -30,7 +30,7 @@ use Rattle.passed_fields.proofs.MoreTurns.{turns_more}
 
 -- ---- the tag of a row's values
 
-module _ (rows : List TypeRow) (sound : IsSound rows) where
+module _ (rows : List TypeRow) (sound : AreSoundRows rows) where
   row_tag : (n : ℕ) (class : Class) (number : ℕ) → openings rows n ≡ tag class number ∷ [] → (c : Class) (k : ℕ) → begins rows n c k ≡ true → (c ≡ class) × (k ≡ number)
   row_tag n class number o c k h =
       let some : (not (is_no_tag c k) && list_any (allows c k) (tag class number ∷ [])) ≡ true = rw o at h in

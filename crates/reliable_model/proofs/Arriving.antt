@@ -35,7 +35,7 @@ use Rattle.reliable_model.specs.Codecs.{IsTransferable, IsPlaced, Carries}
 use Rattle.reliable_model.specs.Goes.{Encoding, deeds_of, Ledger}
 use Rattle.reliable_model.specs.OwnRows.{encoding_seen}
 use Rattle.reliable_model.specs.ReliablePairs.{reliable_pair, IsFit}
-use Rattle.reliable_model.specs.Transfers.{Ends, IsNewest}
+use Rattle.reliable_model.specs.Transfers.{TakesTransferEnd, IsNewest}
 use Rattle.reliable_model.proofs.Ledgers.{AreEncodable}
 use Rattle.reliable_model.proofs.SameApdus.{apdus-same}
 use Rattle.reliable_model.proofs.Words.{Live, Stands, IsOver}
@@ -95,7 +95,7 @@ module _ (free : Free) (tables : Tables) (spellings : Spellings) (a b : Config) 
   no-abort : (number : ℕ) (left ms : List Message) → ms ≡ Session (OfActivities (End number)) ∷ left → OnlyAborts ms → ⊥
   no-abort number left ms e h = subst OnlyAborts e h
 
-  stands-a : (two : Two) (ledger : Ledger) → Kept two ledger → (e : Ends common two Initiator) → Live two.a
+  stands-a : (two : Two) (ledger : Ledger) → Kept two ledger → (e : TakesTransferEnd common two Initiator) → Live two.a
   stands-a two ledger k e = go k.opened
     where
       word : Word
@@ -125,7 +125,7 @@ module _ (free : Free) (tables : Tables) (spellings : Spellings) (a b : Config) 
       go (Standing (Stands live own) s) = live
       go (Standing (IsOver q) s) = absurd (over-takes Initiator two.a (Session word) e.body e.answers e.shown q e.taken)
 
-  stands-b : (two : Two) (ledger : Ledger) → Kept two ledger → (e : Ends common two Responder) → Live two.b
+  stands-b : (two : Two) (ledger : Ledger) → Kept two ledger → (e : TakesTransferEnd common two Responder) → Live two.b
   stands-b two ledger k e = go k.opened
     where
       word : Word
@@ -179,7 +179,7 @@ module _ (free : Free) (tables : Tables) (spellings : Spellings) (a b : Config) 
           let no_take : Passes ≡ Takes later answers shown = sym (reacts-so (base role) body (OfActivities (End number)) live ∙ ap (λ p. if p then Passes else on_word (base role) body (OfActivities (End number)) (word_fault (base role) body (OfActivities (End number)))) e) ∙ h in
           cc
 
-  whole : (world : World) (role : Role) (two : Two) (peer : Body) (to_peer : List Message) (ledger : Ledger) → Carries free (base Initiator) → IsFit common → (e : Ends common two role) → taking.Ends free tables spellings a b world role (body_at role two) (Session (OfActivities (End e.number)) ∷ e.left) peer to_peer ledger → Live (body_at role two) → Whole_ two ledger role
+  whole : (world : World) (role : Role) (two : Two) (peer : Body) (to_peer : List Message) (ledger : Ledger) → Carries free (base Initiator) → IsFit common → (e : TakesTransferEnd common two role) → taking.AreJoint free tables spellings a b world role (body_at role two) (Session (OfActivities (End e.number)) ∷ e.left) peer to_peer ledger → Live (body_at role two) → Whole_ two ledger role
   whole world role two peer to_peer ledger carries fit e j live =
       let body : Body = body_at role two in
       let here = taken-kept role body e.number e.body e.answers e.shown live e.taken in
@@ -202,7 +202,7 @@ module _ (free : Free) (tables : Tables) (spellings : Spellings) (a b : Config) 
         encoded = newest-so (base Initiator) (deeds_of (other role) ledger.deeds).encoded body.receiving.last r.item fit.reads d.encodings (calling.transferable-at free tables spellings a b role r.item.apdu r.transferable) theirs;
       }
 
-  pub whole-at : (two : Two) (ledger : Ledger) (role : Role) → Carries free (base Initiator) → IsFit common → Kept two ledger → Ends common two role → Whole_ two ledger role
+  pub whole-at : (two : Two) (ledger : Ledger) (role : Role) → Carries free (base Initiator) → IsFit common → Kept two ledger → TakesTransferEnd common two role → Whole_ two ledger role
   whole-at two ledger Initiator carries fit k e =
       whole k.world Initiator two two.b two.to_b ledger carries fit e (machine.coming-a free tables spellings a b two ledger k (Session (OfActivities (End e.number)) ∷ e.left) e.comes) (stands-a two ledger k e)
   whole-at two ledger Responder carries fit k e =

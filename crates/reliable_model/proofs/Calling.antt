@@ -30,7 +30,7 @@ use Rattle.end_rules.specs.History.{after_step, step_of}
 use Rattle.agreement.specs.Sets.{Role, named, AreDistinct}
 use Rattle.agreement.specs.Sets.Role.{Initiator, Responder}
 use Rattle.agreement.specs.Messages as model
-use Rattle.agreement.specs.Messages.Act.{Says, Queues, Aborts as model_aborts}
+use Rattle.agreement.specs.Messages.Act.{SaysValue, Queues, Aborts as model_aborts}
 use Rattle.agreement.specs.State as states
 use Rattle.agreement.specs.Worlds.{World}
 use Rattle.agreement.specs.Worlds.Step.{Acts}
@@ -39,7 +39,7 @@ use Rattle.agreement.specs.Laws.{handed_by}
 use Rattle.agreement.proofs.Interface.{laws}
 use Rattle.end_model.specs.Seen.{Free, seen}
 use Rattle.end_model.specs.Opens.{IsProper, Numbered}
-use Rattle.end_model.specs.Acting.{as_list, invoked_as, HandsIn, ActsAs, IsSound, ReadsBack}
+use Rattle.end_model.specs.Acting.{as_list, invoked_as, HandsIn, ActsAs, IsSoundBody, ReadsBack}
 use Rattle.end_model.specs.Requests.{sent_all, after_called}
 use Rattle.end_model.proofs.Ladder.{called}
 use Rattle.end_model.proofs.HandingRows.{invoke-in}
@@ -136,8 +136,8 @@ module _ (free : Free) (tables : Tables) (spellings : Spellings) (a b : Config) 
   abbrev setup : model.Setup
   setup = taking.setup free tables spellings a b
 
-  abbrev Ends : World → Role → Body → List Message → Body → List Message → Ledger → Type 0
-  Ends = taking.Ends free tables spellings a b
+  abbrev AreJoint : World → Role → Body → List Message → Body → List Message → Ledger → Type 0
+  AreJoint = taking.AreJoint free tables spellings a b
 
   abbrev ActDeeds : Role → Body → List SetItem → model.Act → Type 0
   ActDeeds role body set act = ledgers.ActDeeds free tables spellings a b role body set act [] []
@@ -201,22 +201,22 @@ module _ (free : Free) (tables : Tables) (spellings : Spellings) (a b : Config) 
 
   pub record CalledTo (role : Role) (later : Body) (sent coming : List Message) (peer : Body) (to_peer : List Message) (ledger : Ledger) : Type 0 where
     pub world : World
-    pub ends : Ends world role later coming peer (to_peer ++ sent) (after_sending (taking.common free tables spellings a b) role sent ledger)
-    pub sound : IsSound Reliable (base role) later
+    pub ends : AreJoint world role later coming peer (to_peer ++ sent) (after_sending (taking.common free tables spellings a b) role sent ledger)
+    pub sound : IsSoundBody Reliable (base role) later
     pub sending : IsSending (base role) later.sending
     pub side : Live later ⊎ (later.link.phase ≡ Over)
     pub own : AreOwn sent
 
   -- an APDU that is handed in starts and encodes nothing
   of-handing : (role : Role) (body : Body) (set : List SetItem) (act : model.Act) (apdu : model.Apdu) → handed_by (Acts act) ≡ apdu ∷ [] → ActDeeds role body set act
-  of-handing role body set (Says value) apdu h = record { starts = λ rest. refl; encodes = refl }
+  of-handing role body set (SaysValue value) apdu h = record { starts = λ rest. refl; encodes = refl }
   of-handing role body set (Queues context x) apdu h = record { starts = λ rest. refl; encodes = refl }
   of-handing role body set act apdu h = absurd (none h)
     where
       none : [] ≡ apdu ∷ [] → ⊥
       none h = cc
 
-  handing-in : (world : World) (role : Role) (body : Body) (call : Call) (answer : Option ℤ) (coming : List Message) (peer : Body) (to_peer : List Message) (ledger : Ledger) → Ends world role body coming peer to_peer ledger → IsSending (base role) body.sending → Live body → (after_call (base role) body call (Ok answer)).link ≡ body.link → due_of (base role) body call (Ok answer) ≡ [] → (x : HandsIn free Reliable (base role) proposed body call answer) → NoReject x.apdu → CalledTo role (after_called Reliable (base role) body call answer) (due_of (base role) body call (Ok answer)) coming peer to_peer ledger
+  handing-in : (world : World) (role : Role) (body : Body) (call : Call) (answer : Option ℤ) (coming : List Message) (peer : Body) (to_peer : List Message) (ledger : Ledger) → AreJoint world role body coming peer to_peer ledger → IsSending (base role) body.sending → Live body → (after_call (base role) body call (Ok answer)).link ≡ body.link → due_of (base role) body call (Ok answer) ≡ [] → (x : HandsIn free Reliable (base role) proposed body call answer) → NoReject x.apdu → CalledTo role (after_called Reliable (base role) body call answer) (due_of (base role) body call (Ok answer)) coming peer to_peer ledger
   handing-in world role body call answer coming peer to_peer ledger j sending live kept none x usual =
       let later : Body = after_call (base role) body call (Ok answer) in
       let due : List Message = due_of (base role) body call (Ok answer) in
@@ -235,7 +235,7 @@ module _ (free : Free) (tables : Tables) (spellings : Spellings) (a b : Config) 
         own = subst AreOwn (sym none) tt;
       })
 
-  acting : (world : World) (role : Role) (body later : Body) (sent coming : List Message) (peer : Body) (to_peer : List Message) (act : model.Act) (ledger : Ledger) → Ends world role body coming peer to_peer ledger → ActsAs free Reliable (base role) proposed body later sent act → ActDeeds role body ledger.shared.set act → IsSound Reliable (base role) later → IsSending (base role) later.sending → Live later ⊎ (later.link.phase ≡ Over) → AreOwn sent → CalledTo role later sent coming peer to_peer ledger
+  acting : (world : World) (role : Role) (body later : Body) (sent coming : List Message) (peer : Body) (to_peer : List Message) (act : model.Act) (ledger : Ledger) → AreJoint world role body coming peer to_peer ledger → ActsAs free Reliable (base role) proposed body later sent act → ActDeeds role body ledger.shared.set act → IsSoundBody Reliable (base role) later → IsSending (base role) later.sending → Live later ⊎ (later.link.phase ≡ Over) → AreOwn sent → CalledTo role later sent coming peer to_peer ledger
   acting world role body later sent coming peer to_peer act ledger j x d sound sending side own =
       record {
         world = By role (Acts act) ∷ world;
@@ -273,25 +273,25 @@ module _ (free : Free) (tables : Tables) (spellings : Spellings) (a b : Config) 
       go (inr e) = releasing (sym (ap is_broken e) ∙ h)
 
   -- an abort sends an AB and leaves the end over
-  pub aborting : (world : World) (role : Role) (body : Body) (answer : Option ℤ) (coming : List Message) (peer : Body) (to_peer : List Message) (ledger : Ledger) → Ends world role body coming peer to_peer ledger → IsSending (base role) body.sending → body.link.stage ≡ Carrying → can_call (base role) body the_calls.Abort ≡ Ok answer → CalledTo role (after_called Reliable (base role) body the_calls.Abort answer) (due_of (base role) body the_calls.Abort (Ok answer)) coming peer to_peer ledger
+  pub aborting : (world : World) (role : Role) (body : Body) (answer : Option ℤ) (coming : List Message) (peer : Body) (to_peer : List Message) (ledger : Ledger) → AreJoint world role body coming peer to_peer ledger → IsSending (base role) body.sending → body.link.stage ≡ Carrying → can_call (base role) body the_calls.Abort ≡ Ok answer → CalledTo role (after_called Reliable (base role) body the_calls.Abort answer) (due_of (base role) body the_calls.Abort (Ok answer)) coming peer to_peer ledger
   aborting world role body answer coming peer to_peer ledger j sending stage h =
       let ab : Message = user_abort body.link.accepted 0 [] in
       let due : (if is_carrying body.link.stage then ab ∷ [] else []) ≡ ab ∷ [] = ap (λ s. if is_carrying s then ab ∷ [] else []) stage in
       let later : sent_all Reliable (over body) (if is_carrying body.link.stage then ab ∷ [] else []) ≡ over body = ap (sent_all Reliable (over body)) due in
       acting world role body (after_called Reliable (base role) body the_calls.Abort answer) (due_of (base role) body the_calls.Abort (Ok answer)) coming peer to_peer model_aborts ledger j
       (connections-act.aborts Reliable free (base role) proposed body answer tt stage h) (record { starts = λ rest. refl; encodes = refl })
-      (subst (IsSound Reliable (base role)) (sym later) (record { numbered = tt; calm = tt; sets = tt; queues = tt }))
+      (subst (IsSoundBody Reliable (base role)) (sym later) (record { numbered = tt; calm = tt; sets = tt; queues = tt }))
       (subst (λ (y : Body). IsSending (base role) y.sending) (sym later) sending)
       (inr (ap (λ (y : Body). y.link.phase) later))
       (subst AreOwn (sym due) (tt, tt))
 
-  same-numbered : (role : Role) (body later : Body) → IsSound Reliable (base role) body → later.calls ≡ body.calls → IsSound Reliable (base role) later
+  same-numbered : (role : Role) (body later : Body) → IsSoundBody Reliable (base role) body → later.calls ≡ body.calls → IsSoundBody Reliable (base role) later
   same-numbered role body later sound c = record { numbered = subst Numbered (sym c) sound.numbered; calm = tt; sets = tt; queues = tt }
 
   no-mark : (answer : Option ℤ) → Err refusals.NotNegotiated ≡ Ok answer → ⊥
   no-mark answer h = cc
 
-  pub called-so : (world : World) (role : Role) (body : Body) (call : Call) (answer : Option ℤ) (coming : List Message) (peer : Body) (to_peer : List Message) (ledger : Ledger) → ReadsBack (base Initiator) → Ends world role body coming peer to_peer ledger → IsSound Reliable (base role) body → IsSending (base role) body.sending → Live body → can_call (base role) body call ≡ Ok answer → CalledTo role (after_called Reliable (base role) body call answer) (due_of (base role) body call (Ok answer)) coming peer to_peer ledger
+  pub called-so : (world : World) (role : Role) (body : Body) (call : Call) (answer : Option ℤ) (coming : List Message) (peer : Body) (to_peer : List Message) (ledger : Ledger) → ReadsBack (base Initiator) → AreJoint world role body coming peer to_peer ledger → IsSoundBody Reliable (base role) body → IsSending (base role) body.sending → Live body → can_call (base role) body call ≡ Ok answer → CalledTo role (after_called Reliable (base role) body call answer) (due_of (base role) body call (Ok answer)) coming peer to_peer ledger
   called-so world role body (the_calls.Invoke context operation argument linked) None coming peer to_peer ledger back j sound sending live h =
       let x = invoke-in Reliable context operation argument linked free (base role) proposed body None tt (reads-at role back) sound h in
       absurd (none-apdu x.apdu x.of_call)
@@ -367,13 +367,13 @@ module _ (free : Free) (tables : Tables) (spellings : Spellings) (a b : Config) 
 
   pub record OwnTo (role : Role) (body : Body) (own : OwnAct) (coming : List Message) (peer : Body) (to_peer : List Message) (ledger : Ledger) : Type 0 where
     pub world : World
-    pub ends : Ends world role (after_step (base role) body (step_of own)) coming peer (to_peer ++ own_messages own) (after_own (taking.common free tables spellings a b) role body own ledger)
-    pub sound : IsSound Reliable (base role) (after_step (base role) body (step_of own))
+    pub ends : AreJoint world role (after_step (base role) body (step_of own)) coming peer (to_peer ++ own_messages own) (after_own (taking.common free tables spellings a b) role body own ledger)
+    pub sound : IsSoundBody Reliable (base role) (after_step (base role) body (step_of own))
     pub sending : IsSending (base role) (after_step (base role) body (step_of own)).sending
     pub live : Live (after_step (base role) body (step_of own))
     pub words : AreOwn (own_messages own)
 
-  pub own-so : (world : World) (role : Role) (body : Body) (own : OwnAct) (coming : List Message) (peer : Body) (to_peer : List Message) (ledger : Ledger) → SpellsTransfers (base Initiator) → Carries free (base Initiator) → Ends world role body coming peer to_peer ledger → IsSound Reliable (base role) body → IsSending (base role) body.sending → Live body → next_own (base role) body ≡ Some own → EncodesInPlace (base role) body own → OwnTo role body own coming peer to_peer ledger
+  pub own-so : (world : World) (role : Role) (body : Body) (own : OwnAct) (coming : List Message) (peer : Body) (to_peer : List Message) (ledger : Ledger) → SpellsTransfers (base Initiator) → Carries free (base Initiator) → AreJoint world role body coming peer to_peer ledger → IsSoundBody Reliable (base role) body → IsSending (base role) body.sending → Live body → next_own (base role) body ≡ Some own → EncodesInPlace (base role) body own → OwnTo role body own coming peer to_peer ledger
   own-so world role body own coming peer to_peer ledger spells carries j sound sending live h placed =
       let x = own-rows.acts free (base role) proposed body own (spells-at role spells) (carries-at role carries) sending h placed in
       let l : Leaves (base role) body own = leaves (base role) body own h in

@@ -25,7 +25,7 @@ use Rattle.end_rules.specs.History.{after_broke, after_step, broken_phase, step_
 use Rattle.agreement.specs.Sets.{Role, is_initiator}
 use Rattle.agreement.specs.Sets.Role.{Initiator, Responder}
 use Rattle.agreement.specs.Messages as model
-use Rattle.agreement.specs.Messages.Act.{Withdraws, Fails as model_fails}
+use Rattle.agreement.specs.Messages.Act.{Withdraws, TransportFails as model_fails}
 use Rattle.agreement.specs.State.Phase.{Over as model_over}
 use Rattle.agreement.specs.Acts.{MayWithdrawIn}
 use Rattle.agreement.specs.Worlds.{World}
@@ -71,8 +71,8 @@ module _ (free : Free) (tables : Tables) (spellings : Spellings) (a b : Config) 
   abbrev setup : model.Setup
   setup = taking.setup free tables spellings a b
 
-  abbrev pub Ends : World → Role → Body → List Message → Body → List Message → Ledger → Type 0
-  Ends = taking.Ends free tables spellings a b
+  abbrev pub AreJoint : World → Role → Body → List Message → Body → List Message → Ledger → Type 0
+  AreJoint = taking.AreJoint free tables spellings a b
 
   abbrev pub Good : Role → Body → Type 0
   Good = opening.Good free tables spellings a b
@@ -113,7 +113,7 @@ module _ (free : Free) (tables : Tables) (spellings : Spellings) (a b : Config) 
   -- what two ends have reached: a run of the model, and how far the association is
   pub record Kept (two : Two) (ledger : Ledger) : Type 0 where
     pub world : World
-    pub joint : Ends world Initiator two.a two.to_a two.b two.to_b ledger
+    pub joint : AreJoint world Initiator two.a two.to_a two.b two.to_b ledger
     pub good_a : Good Initiator two.a
     pub good_b : Good Responder two.b
     pub opened : Opened two.a two.b two.to_a two.to_b
@@ -123,21 +123,21 @@ module _ (free : Free) (tables : Tables) (spellings : Spellings) (a b : Config) 
     pub fit : IsFit common
     pub carries : Carries free (base Initiator)
 
-  flip : {world : World} {x y : Body} {f g : List Message} {ledger : Ledger} → Ends world Initiator x f y g ledger → Ends world Responder y g x f ledger
+  flip : {world : World} {x y : Body} {f g : List Message} {ledger : Ledger} → AreJoint world Initiator x f y g ledger → AreJoint world Responder y g x f ledger
   flip j = ledgers.flip free tables spellings a b j
 
   -- of the end of a role, with what is left, what it sent, and the ledger then
-  keep-a : (two : Two) (world : World) (later : Body) (left sent : List Message) (new : Ledger) → Ends world Initiator later left two.b (two.to_b ++ sent) new → Good Initiator later → Good Responder two.b → Opened later two.b left (two.to_b ++ sent) → Kept (stepped Initiator later left sent two) new
+  keep-a : (two : Two) (world : World) (later : Body) (left sent : List Message) (new : Ledger) → AreJoint world Initiator later left two.b (two.to_b ++ sent) new → Good Initiator later → Good Responder two.b → Opened later two.b left (two.to_b ++ sent) → Kept (stepped Initiator later left sent two) new
   keep-a two world later left sent new joint good_a good_b opened = record { world = world; joint = joint; good_a = good_a; good_b = good_b; opened = opened }
 
-  keep-b : (two : Two) (world : World) (later : Body) (left sent : List Message) (new : Ledger) → Ends world Responder later left two.a (two.to_a ++ sent) new → Good Responder later → Good Initiator two.a → Opened two.a later (two.to_a ++ sent) left → Kept (stepped Responder later left sent two) new
+  keep-b : (two : Two) (world : World) (later : Body) (left sent : List Message) (new : Ledger) → AreJoint world Responder later left two.a (two.to_a ++ sent) new → Good Responder later → Good Initiator two.a → Opened two.a later (two.to_a ++ sent) left → Kept (stepped Responder later left sent two) new
   keep-b two world later left sent new joint good_b good_a opened = record { world = world; joint = ledgers.flop free tables spellings a b joint; good_a = good_a; good_b = good_b; opened = opened }
 
-  pub coming-a : (two : Two) (ledger : Ledger) (k : Kept two ledger) (ms : List Message) → two.to_a ≡ ms → Ends k.world Initiator two.a ms two.b two.to_b ledger
-  coming-a two ledger k ms e = subst (λ f. Ends k.world Initiator two.a f two.b two.to_b ledger) e k.joint
+  pub coming-a : (two : Two) (ledger : Ledger) (k : Kept two ledger) (ms : List Message) → two.to_a ≡ ms → AreJoint k.world Initiator two.a ms two.b two.to_b ledger
+  coming-a two ledger k ms e = subst (λ f. AreJoint k.world Initiator two.a f two.b two.to_b ledger) e k.joint
 
-  pub coming-b : (two : Two) (ledger : Ledger) (k : Kept two ledger) (ms : List Message) → two.to_b ≡ ms → Ends k.world Responder two.b ms two.a two.to_a ledger
-  coming-b two ledger k ms e = subst (λ g. Ends k.world Responder two.b g two.a two.to_a ledger) e (flip k.joint)
+  pub coming-b : (two : Two) (ledger : Ledger) (k : Kept two ledger) (ms : List Message) → two.to_b ≡ ms → AreJoint k.world Responder two.b ms two.a two.to_a ledger
+  coming-b two ledger k ms e = subst (λ g. AreJoint k.world Responder two.b g two.a two.to_a ledger) e (flip k.joint)
 
   -- more on its way to an end
   side-more : (body : Body) (coming sent : List Message) → AreOwn sent → Side body coming → Side body (coming ++ sent)
@@ -155,8 +155,8 @@ module _ (free : Free) (tables : Tables) (spellings : Spellings) (a b : Config) 
   left-none y g l = subst (Left y) (sym (append-nil g)) l
 
   -- nothing is sent
-  sends-none : {world : World} {role : Role} {body peer : Body} {coming : List Message} {ledger : Ledger} (to_peer : List Message) → Ends world role body coming peer to_peer ledger → Ends world role body coming peer (to_peer ++ []) ledger
-  sends-none {world} {role} {body} {peer} {coming} {ledger} to_peer j = subst (λ g. Ends world role body coming peer g ledger) (sym (append-nil to_peer)) j
+  sends-none : {world : World} {role : Role} {body peer : Body} {coming : List Message} {ledger : Ledger} (to_peer : List Message) → AreJoint world role body coming peer to_peer ledger → AreJoint world role body coming peer (to_peer ++ []) ledger
+  sends-none {world} {role} {body} {peer} {coming} {ledger} to_peer j = subst (λ g. AreJoint world role body coming peer g ledger) (sym (append-nil to_peer)) j
 
   -- ---- what becomes of the message that comes next
 
@@ -175,7 +175,7 @@ module _ (free : Free) (tables : Tables) (spellings : Spellings) (a b : Config) 
   seen-over : (role : Role) (body : Body) → body.link.phase ≡ Over → (seen (base role) body).phase ≡ model_over
   seen-over role body e = ap (phase_seen body.link.stage) e
 
-  pass : (world : World) (role : Role) (body : Body) (message : Message) (left : List Message) (peer : Body) (to_peer : List Message) (ledger : Ledger) → Ends world role body (message ∷ left) peer to_peer ledger → body.link.phase ≡ Over → (world' : World) × Ends world' role body left peer (to_peer ++ []) ledger
+  pass : (world : World) (role : Role) (body : Body) (message : Message) (left : List Message) (peer : Body) (to_peer : List Message) (ledger : Ledger) → AreJoint world role body (message ∷ left) peer to_peer ledger → body.link.phase ≡ Over → (world' : World) × AreJoint world' role body left peer (to_peer ++ []) ledger
   pass world role body (Transport unit) left peer to_peer ledger j e =
       (world, sends-none to_peer (ledgers.units-joint free tables spellings a b world role body unit left peer to_peer ledger j))
   pass world role body (Session word) left peer to_peer ledger j e =
@@ -373,7 +373,7 @@ module _ (free : Free) (tables : Tables) (spellings : Spellings) (a b : Config) 
   -- an abort, with an AB or before a CN
   record Ended (role : Role) (later : Body) (sent coming : List Message) (peer : Body) (to_peer : List Message) (ledger : Ledger) : Type 0 where
     world : World
-    joint : Ends world role later coming peer (to_peer ++ sent) (after_sending common role sent ledger)
+    joint : AreJoint world role later coming peer (to_peer ++ sent) (after_sending common role sent ledger)
     good : Good role later
     is_over : later.link.phase ≡ Over
     only : OnlyAborts sent
@@ -385,7 +385,7 @@ module _ (free : Free) (tables : Tables) (spellings : Spellings) (a b : Config) 
   withdraw-act : (role : Role) (body : Body) → MayWithdraw role body → ActsAs free Reliable (base role) proposed body (over body) [] Withdraws
   withdraw-act role body may = record { may = record { in_phase = may; in_mode = tt }; after = refl; means = tt }
 
-  withdraws-so : (world : World) (role : Role) (body : Body) (coming : List Message) (peer : Body) (to_peer : List Message) (ledger : Ledger) → Ends world role body coming peer to_peer ledger → MayWithdraw role body → Ends (By role (Acts Withdraws) ∷ world) role (over body) coming peer (to_peer ++ []) ledger
+  withdraws-so : (world : World) (role : Role) (body : Body) (coming : List Message) (peer : Body) (to_peer : List Message) (ledger : Ledger) → AreJoint world role body coming peer to_peer ledger → MayWithdraw role body → AreJoint (By role (Acts Withdraws) ∷ world) role (over body) coming peer (to_peer ++ []) ledger
   withdraws-so world role body coming peer to_peer ledger j may =
       ledgers.quiet-joint free tables spellings a b world role body (over body) coming peer to_peer [] Withdraws ledger j (withdraw-act role body may) (record { starts = λ rest. refl; encodes = refl })
 
@@ -402,7 +402,7 @@ module _ (free : Free) (tables : Tables) (spellings : Spellings) (a b : Config) 
   over-good : (role : Role) (body : Body) → Good role body → Good role (over body)
   over-good role body good = record { sound = record { numbered = tt; calm = tt; sets = tt; queues = tt }; sending = good.sending }
 
-  withdrawing : (world : World) (role : Role) (body : Body) (answer : Option ℤ) (coming : List Message) (peer : Body) (to_peer : List Message) (ledger : Ledger) → Ends world role body coming peer to_peer ledger → Good role body → is_carrying body.link.stage ≡ false → MayWithdraw role body → Ended role (after_called Reliable (base role) body the_calls.Abort answer) (due_of (base role) body the_calls.Abort (Ok answer)) coming peer to_peer ledger
+  withdrawing : (world : World) (role : Role) (body : Body) (answer : Option ℤ) (coming : List Message) (peer : Body) (to_peer : List Message) (ledger : Ledger) → AreJoint world role body coming peer to_peer ledger → Good role body → is_carrying body.link.stage ≡ false → MayWithdraw role body → Ended role (after_called Reliable (base role) body the_calls.Abort answer) (due_of (base role) body the_calls.Abort (Ok answer)) coming peer to_peer ledger
   withdrawing world role body answer coming peer to_peer ledger j good stage may =
       subst (λ ms. Ended role (sent_all Reliable (over body) ms) ms coming peer to_peer ledger) (sym (no-due role body answer stage))
       (record {
@@ -413,7 +413,7 @@ module _ (free : Free) (tables : Tables) (spellings : Spellings) (a b : Config) 
         only = tt;
       })
 
-  sending-abort : (world : World) (role : Role) (body : Body) (answer : Option ℤ) (coming : List Message) (peer : Body) (to_peer : List Message) (ledger : Ledger) → Ends world role body coming peer to_peer ledger → Good role body → body.link.stage ≡ Carrying → can_call (base role) body the_calls.Abort ≡ Ok answer → Ended role (after_called Reliable (base role) body the_calls.Abort answer) (due_of (base role) body the_calls.Abort (Ok answer)) coming peer to_peer ledger
+  sending-abort : (world : World) (role : Role) (body : Body) (answer : Option ℤ) (coming : List Message) (peer : Body) (to_peer : List Message) (ledger : Ledger) → AreJoint world role body coming peer to_peer ledger → Good role body → body.link.stage ≡ Carrying → can_call (base role) body the_calls.Abort ≡ Ok answer → Ended role (after_called Reliable (base role) body the_calls.Abort answer) (due_of (base role) body the_calls.Abort (Ok answer)) coming peer to_peer ledger
   sending-abort world role body answer coming peer to_peer ledger j good stage h =
       let c = calling.aborting free tables spellings a b world role body answer coming peer to_peer ledger j good.sending stage h in
       let due : due_of (base role) body the_calls.Abort (Ok answer) ≡ user_abort body.link.accepted 0 [] ∷ [] = ap (λ s. if is_carrying s then user_abort body.link.accepted 0 [] ∷ [] else []) stage in
@@ -637,7 +637,7 @@ module _ (free : Free) (tables : Tables) (spellings : Spellings) (a b : Config) 
   record Settled (role : Role) (body : Body) (coming : List Message) (peer : Body) (to_peer : List Message) (ledger : Ledger) : Type 0 where
     world : World
     later : Body
-    joint : Ends world role later coming peer to_peer ledger
+    joint : AreJoint world role later coming peer to_peer ledger
     breaks_so : BreaksSo common later
     same : after_broke (base role) later ≡ after_broke (base role) body
 
@@ -651,7 +651,7 @@ module _ (free : Free) (tables : Tables) (spellings : Spellings) (a b : Config) 
       } in
       ap put (sym (ap (broken_phase Reliable) e))
 
-  settle : (world : World) (role : Role) (body : Body) (coming : List Message) (peer : Body) (to_peer : List Message) (ledger : Ledger) → Ends world role body coming peer to_peer ledger → Breakable body → Settled role body coming peer to_peer ledger
+  settle : (world : World) (role : Role) (body : Body) (coming : List Message) (peer : Body) (to_peer : List Message) (ledger : Ledger) → AreJoint world role body coming peer to_peer ledger → Breakable body → Settled role body coming peer to_peer ledger
   settle world role body coming peer to_peer ledger j (AsModel h) = record { world = world; later = body; joint = j; breaks_so = h; same = refl }
   settle world role body coming peer to_peer ledger j (BeforeCn phase stage) =
       let may : MayWithdraw role body = subst (λ p. MayWithdrawIn (role_seen (is_initiator role)) (phase_seen body.link.stage p)) (sym phase) (withdraw-phase (role_seen (is_initiator role)) body.link.stage stage) in
@@ -660,7 +660,7 @@ module _ (free : Free) (tables : Tables) (spellings : Spellings) (a b : Config) 
         world = By role (Acts model_fails) ∷ world;
         later = in_phase Over body;
         joint =
-            subst (λ g. Ends (By role (Acts model_fails) ∷ world) role (in_phase Over body) coming peer g ledger) (append-nil to_peer)
+            subst (λ g. AreJoint (By role (Acts model_fails) ∷ world) role (in_phase Over body) coming peer g ledger) (append-nil to_peer)
             (ledgers.quiet-joint free tables spellings a b world role body (in_phase Over body) coming peer to_peer [] model_fails ledger j act (record { starts = λ rest. refl; encodes = refl }));
         breaks_so = over-breaks tables spellings a b (in_phase Over body) refl;
         same = broken-over role body phase;
@@ -686,7 +686,7 @@ module _ (free : Free) (tables : Tables) (spellings : Spellings) (a b : Config) 
       let e = ledgers.breaks-joint free tables spellings a b t.world Initiator s.later two.to_a t.later two.to_b ledger (ledgers.flop free tables spellings a b t.joint) s.breaks_so t.breaks_so in
       record {
         world = Break ∷ t.world;
-        joint = subst (λ v. Ends (Break ∷ t.world) Initiator v [] (after_broke (base Responder) two.b) [] ledger) s.same (subst (λ v. Ends (Break ∷ t.world) Initiator (after_broke (base Initiator) s.later) [] v [] ledger) t.same e);
+        joint = subst (λ v. AreJoint (Break ∷ t.world) Initiator v [] (after_broke (base Responder) two.b) [] ledger) s.same (subst (λ v. AreJoint (Break ∷ t.world) Initiator (after_broke (base Initiator) s.later) [] v [] ledger) t.same e);
         good_a = broke-good Initiator two.a k.good_a;
         good_b = broke-good Responder two.b k.good_b;
         opened = opened;

@@ -54,7 +54,7 @@ use Rattle.agreement.specs.Worlds.Moment.{By}
 use Rattle.end_model.specs.Seen.{Free, phase_seen, awaited_seen, set_seen, queued_seen, seen}
 use Rattle.end_model.specs.Opens.{Numbered}
 use Rattle.end_model.specs.Words.{Means}
-use Rattle.end_model.specs.Acting.{IsSound, TakenAs}
+use Rattle.end_model.specs.Acting.{IsSoundBody, TakenAs}
 use Rattle.end_model.proofs.Takes.{fine}
 use Rattle.end_model.proofs.Fitting.{additions-answered}
 use Rattle.end_model.proofs.Openings.{openings-taken}
@@ -206,12 +206,12 @@ module _ (free : Free) (tables : Tables) (spellings : Spellings) (a b : Config) 
   abbrev pub setup : model.Setup
   setup = taking.setup free tables spellings a b
 
-  abbrev Ends : World → Role → Body → List Message → Body → List Message → Ledger → Type 0
-  Ends = taking.Ends free tables spellings a b
+  abbrev AreJoint : World → Role → Body → List Message → Body → List Message → Ledger → Type 0
+  AreJoint = taking.AreJoint free tables spellings a b
 
   -- an end that is sound, with transfers that are
   pub record Good (role : Role) (body : Body) : Type 0 where
-    pub sound : IsSound Reliable (base role) body
+    pub sound : IsSoundBody Reliable (base role) body
     pub sending : IsSending (base role) body.sending
 
   pub good-same : (role : Role) (body later : Body) → later.calls ≡ body.calls → later.sending ≡ body.sending → Good role body → Good role later
@@ -241,11 +241,11 @@ module _ (free : Free) (tables : Tables) (spellings : Spellings) (a b : Config) 
   pub record Asks (way : Way) (world : World) (body : Body) (left : List Message) (peer : Body) (to_peer : List Message) (ledger : Ledger) : Type 0 where
     pub later : Body
     pub reacts : react (base Responder) body cr ≡ Takes later (Transport confirm ∷ []) []
-    pub ends : Ends world Responder later left peer (to_peer ++ Transport confirm ∷ []) ledger
+    pub ends : AreJoint world Responder later left peer (to_peer ++ Transport confirm ∷ []) ledger
     pub good : Good Responder later
     pub at : At (joins way) Joined later
 
-  pub asked : (way : Way) (world : World) (body : Body) (left : List Message) (peer : Body) (to_peer : List Message) (ledger : Ledger) → Ends world Responder body (cr ∷ left) peer to_peer ledger → Good Responder body → At (rests way) Unused body → Asks way world body left peer to_peer ledger
+  pub asked : (way : Way) (world : World) (body : Body) (left : List Message) (peer : Body) (to_peer : List Message) (ledger : Ledger) → AreJoint world Responder body (cr ∷ left) peer to_peer ledger → Good Responder body → At (rests way) Unused body → Asks way world body left peer to_peer ledger
   asked way world body left peer to_peer ledger j good at =
       let later : Body = after_transport (base Responder) body request in
       let put : states.Phase → states.State = λ p. record (seen (base Responder) body) { phase = p } in
@@ -272,26 +272,26 @@ module _ (free : Free) (tables : Tables) (spellings : Spellings) (a b : Config) 
     pub later : Body
     pub world' : World
     pub reacts : react (base Initiator) body (Transport confirm) ≡ Takes later (cn way ∷ []) []
-    pub ends : Ends world' Initiator later left peer (to_peer ++ cn way ∷ []) ledger
+    pub ends : AreJoint world' Initiator later left peer (to_peer ++ cn way ∷ []) ledger
     pub good : Good Initiator later
     pub at : At (asks way) Carrying later
 
   -- the CN is no change of the ledger
-  acting : (way : Way) (world : World) (body : Body) (left : List Message) (peer : Body) (to_peer : List Message) (ledger : Ledger) → Ends world Initiator body left peer to_peer ledger → body.link.phase ≡ asks way → transport_unit_fault (base Initiator) body confirm ≡ None → connect_message (base Initiator) (is_recovering body.link.phase) ≡ cn way → (world' : World) × Ends world' Initiator (after_transport (base Initiator) body confirm) left peer (to_peer ++ cn way ∷ []) ledger
+  acting : (way : Way) (world : World) (body : Body) (left : List Message) (peer : Body) (to_peer : List Message) (ledger : Ledger) → AreJoint world Initiator body left peer to_peer ledger → body.link.phase ≡ asks way → transport_unit_fault (base Initiator) body confirm ≡ None → connect_message (base Initiator) (is_recovering body.link.phase) ≡ cn way → (world' : World) × AreJoint world' Initiator (after_transport (base Initiator) body confirm) left peer (to_peer ++ cn way ∷ []) ledger
   acting First world body left peer to_peer ledger j phase none due = (
     By Initiator (Acts Connects) ∷ world,
-    subst (λ m. Ends (By Initiator (Acts Connects) ∷ world) Initiator (after_transport (base Initiator) body confirm) left peer (to_peer ++ m ∷ []) (after_sending (taking.common free tables spellings a b) Initiator (m ∷ []) ledger)) due
+    subst (λ m. AreJoint (By Initiator (Acts Connects) ∷ world) Initiator (after_transport (base Initiator) body confirm) left peer (to_peer ++ m ∷ []) (after_sending (taking.common free tables spellings a b) Initiator (m ∷ []) ledger)) due
         (ledgers.quiet-joint free tables spellings a b world Initiator body (after_transport (base Initiator) body confirm) left peer to_peer (connect_message (base Initiator) (is_recovering body.link.phase) ∷ []) Connects ledger j
         (connections-act.connects Reliable 1 (Some 10) free (base Initiator) proposed body tt phase none) (record { starts = λ rest. refl; encodes = refl })),
   )
   acting Again world body left peer to_peer ledger j phase none due = (
     By Initiator (Acts Recovers) ∷ world,
-    subst (λ m. Ends (By Initiator (Acts Recovers) ∷ world) Initiator (after_transport (base Initiator) body confirm) left peer (to_peer ++ m ∷ []) (after_sending (taking.common free tables spellings a b) Initiator (m ∷ []) ledger)) due
+    subst (λ m. AreJoint (By Initiator (Acts Recovers) ∷ world) Initiator (after_transport (base Initiator) body confirm) left peer (to_peer ++ m ∷ []) (after_sending (taking.common free tables spellings a b) Initiator (m ∷ []) ledger)) due
         (ledgers.quiet-joint free tables spellings a b world Initiator body (after_transport (base Initiator) body confirm) left peer to_peer (connect_message (base Initiator) (is_recovering body.link.phase) ∷ []) Recovers ledger j
         (connections-act.recovers 1 (Some 10) free (base Initiator) proposed body phase none) (record { starts = λ rest. refl; encodes = refl })),
   )
 
-  pub confirmed : (way : Way) (world : World) (body : Body) (left : List Message) (peer : Body) (to_peer : List Message) (ledger : Ledger) → Ends world Initiator body (Transport confirm ∷ left) peer to_peer ledger → Good Initiator body → At (asks way) Asked body → Connecting way world body left peer to_peer ledger
+  pub confirmed : (way : Way) (world : World) (body : Body) (left : List Message) (peer : Body) (to_peer : List Message) (ledger : Ledger) → AreJoint world Initiator body (Transport confirm ∷ left) peer to_peer ledger → Good Initiator body → At (asks way) Asked body → Connecting way world body left peer to_peer ledger
   confirmed way world body left peer to_peer ledger j good at =
       let later : Body = after_transport (base Initiator) body confirm in
       let none : transport_unit_fault (base Initiator) body confirm ≡ None = ap (λ s. fault_if (not (is_asked s && true)) transport_fault) at.stage_is in
@@ -377,10 +377,10 @@ module _ (free : Free) (tables : Tables) (spellings : Spellings) (a b : Config) 
 
   pub data Connected (way : Way) (body : Body) (left : List Message) (peer : Body) (to_peer : List Message) (ledger : Ledger) : Type 0 where
     Accepts : (world' : World) (later : Body) (answer : Word) (shown : List Indication) → react (base Responder) body (cn way) ≡ Takes later (Session answer ∷ []) shown
-        → Ends world' Responder later left peer (to_peer ++ Session answer ∷ []) (after_taking (taking.common free tables spellings a b) Responder body (cn way) (Session answer ∷ []) ledger) → Good Responder later → Live later → IsAccept answer
+        → AreJoint world' Responder later left peer (to_peer ++ Session answer ∷ []) (after_taking (taking.common free tables spellings a b) Responder body (cn way) (Session answer ∷ []) ledger) → Good Responder later → Live later → IsAccept answer
         → Connected way body left peer to_peer ledger
     Refuses : (world' : World) (later : Body) (answer : Word) (shown : List Indication) → react (base Responder) body (cn way) ≡ Takes later (Session answer ∷ []) shown
-        → Ends world' Responder later left peer (to_peer ++ Session answer ∷ []) (after_taking (taking.common free tables spellings a b) Responder body (cn way) (Session answer ∷ []) ledger) → Good Responder later → Declined way later → IsRefusal answer
+        → AreJoint world' Responder later left peer (to_peer ++ Session answer ∷ []) (after_taking (taking.common free tables spellings a b) Responder body (cn way) (Session answer ∷ []) ledger) → Good Responder later → Declined way later → IsRefusal answer
         → Connected way body left peer to_peer ledger
 
   -- what an acceptance rests on
@@ -541,7 +541,7 @@ module _ (free : Free) (tables : Tables) (spellings : Spellings) (a b : Config) 
   declined-so Again body at = record { phase_is = ap (λ p. if is_broken p then Broken else Over) at.phase_is; stage_is = refl; calm = at.calm }
 
   -- the taking of the CN with this choice
-  opening-so : (way : Way) (world : World) (body : Body) (left : List Message) (peer : Body) (to_peer : List Message) (ledger : Ledger) (choice : model.Choice) → Ends world Responder body (cn way ∷ left) peer to_peer ledger → At (joins way) Joined body → Opens way body ledger (shared_at setup world) choice → (world' : World) × Ends world' Responder (after_word (base Responder) body (cn_word way)) left peer (to_peer ++ answers_to_word (base Responder) body (cn_word way)) (after_taking (taking.common free tables spellings a b) Responder body (cn way) (answers_to_word (base Responder) body (cn_word way)) ledger)
+  opening-so : (way : Way) (world : World) (body : Body) (left : List Message) (peer : Body) (to_peer : List Message) (ledger : Ledger) (choice : model.Choice) → AreJoint world Responder body (cn way ∷ left) peer to_peer ledger → At (joins way) Joined body → Opens way body ledger (shared_at setup world) choice → (world' : World) × AreJoint world' Responder (after_word (base Responder) body (cn_word way)) left peer (to_peer ++ answers_to_word (base Responder) body (cn_word way)) (after_taking (taking.common free tables spellings a b) Responder body (cn way) (answers_to_word (base Responder) body (cn_word way)) ledger)
   opening-so way world body left peer to_peer ledger choice j at o =
       let t =
       takes-kept free (taking.common free tables spellings a b) proposed world Responder body (cn_word way) left peer to_peer choice j.ends (alive-at (joins way) Joined (base Responder) body (joined-not_over way) at)
@@ -554,7 +554,7 @@ module _ (free : Free) (tables : Tables) (spellings : Spellings) (a b : Config) 
             (subst (λ m. ledgers.TakeDeeds free tables spellings a b Responder body (cn_word way) m choice) (sym (is-meant way t.message t.means)) o.deeds),
       )
 
-  pub connected : (way : Way) (world : World) (body : Body) (left : List Message) (peer : Body) (to_peer : List Message) (ledger : Ledger) → IsFit (taking.common free tables spellings a b) → Ends world Responder body (cn way ∷ left) peer to_peer ledger → Good Responder body → At (joins way) Joined body → Connected way body left peer to_peer ledger
+  pub connected : (way : Way) (world : World) (body : Body) (left : List Message) (peer : Body) (to_peer : List Message) (ledger : Ledger) → IsFit (taking.common free tables spellings a b) → AreJoint world Responder body (cn way ∷ left) peer to_peer ledger → Good Responder body → At (joins way) Joined body → Connected way body left peer to_peer ledger
   connected way world body left peer to_peer ledger right j good at = go (is_refused (base Responder) body session presentation (values way)) refl
     where
       later : Body
@@ -571,7 +571,7 @@ module _ (free : Free) (tables : Tables) (spellings : Spellings) (a b : Config) 
           let t = opening-so way world body left peer to_peer ledger (accepting (set_seen held)) j at o in
           Accepts t.0 (after_word (base Responder) body (cn_word way)) x.0 (shown_of_word (base Responder) body (cn_word way))
           (reacts ∙ ap (λ ms. Takes (after_word (base Responder) body (cn_word way)) ms (shown_of_word (base Responder) body (cn_word way))) answers)
-          (subst (λ ms. Ends t.0 Responder (after_word (base Responder) body (cn_word way)) left peer (to_peer ++ ms) (after_taking (taking.common free tables spellings a b) Responder body (cn way) ms ledger)) answers t.1)
+          (subst (λ ms. AreJoint t.0 Responder (after_word (base Responder) body (cn_word way)) left peer (to_peer ++ ms) (after_taking (taking.common free tables spellings a b) Responder body (cn way) ms ledger)) answers t.1)
           o.good (subst Live (sym (ap (left_so way body) e)) (joined-live way body)) x.2
       go true e =
           let x = refusal way body in
@@ -580,7 +580,7 @@ module _ (free : Free) (tables : Tables) (spellings : Spellings) (a b : Config) 
           let t = opening-so way world body left peer to_peer ledger Refusing j at o in
           Refuses t.0 (after_word (base Responder) body (cn_word way)) x.0 (shown_of_word (base Responder) body (cn_word way))
           (reacts ∙ ap (λ ms. Takes (after_word (base Responder) body (cn_word way)) ms (shown_of_word (base Responder) body (cn_word way))) answers)
-          (subst (λ ms. Ends t.0 Responder (after_word (base Responder) body (cn_word way)) left peer (to_peer ++ ms) (after_taking (taking.common free tables spellings a b) Responder body (cn way) ms ledger)) answers t.1)
+          (subst (λ ms. AreJoint t.0 Responder (after_word (base Responder) body (cn_word way)) left peer (to_peer ++ ms) (after_taking (taking.common free tables spellings a b) Responder body (cn way) ms ledger)) answers t.1)
           o.good (subst (Declined way) (sym (ap (left_so way body) e)) (declined-so way body at)) x.2
 
   -- ---- AC and RF
@@ -595,7 +595,7 @@ module _ (free : Free) (tables : Tables) (spellings : Spellings) (a b : Config) 
     pub later : Body
     pub shown : List Indication
     pub reacts : react (base role) body (Session word) ≡ Takes later [] shown
-    pub ends : Ends world' role later left peer (to_peer ++ []) (after_taking (taking.common free tables spellings a b) role body (Session word) [] ledger)
+    pub ends : AreJoint world' role later left peer (to_peer ++ []) (after_taking (taking.common free tables spellings a b) role body (Session word) [] ledger)
     pub good : Good role later
     pub side : P later
 
@@ -606,7 +606,7 @@ module _ (free : Free) (tables : Tables) (spellings : Spellings) (a b : Config) 
   IsGone body = body.link.phase ≡ Over
 
   -- a word that is taken so, and answered by nothing
-  taken-so : (P : Body → Type 0) (phase : Phase) (stage : Stage) (world : World) (role : Role) (body : Body) (word : Word) (m : model.Message) (left : List Message) (peer : Body) (to_peer : List Message) (ledger : Ledger) → passes_over phase ≡ false → (is_joined stage || is_carrying stage) ≡ true → (phase_seen stage phase ≡ model_over → ⊥) → Ends world role body (Session word ∷ left) peer to_peer ledger → At phase stage body → ((message : model.Message) → Means proposed (base Initiator) word message → message ≡ m) → IsChoice setup (seen (base role) body) m Nothing → TakenAs free Reliable (base role) proposed body word m Nothing → answers_to_word (base role) body word ≡ [] → Same (after_taking (taking.common free tables spellings a b) role body (Session word) (answers_to_word (base role) body word) ledger).shared (worlds.shared_answered m Nothing (shared_at setup world)) → ledgers.TakeDeeds free tables spellings a b role body word m Nothing → Good role (after_word (base role) body word) → P (after_word (base role) body word) → Answered P body role word left peer to_peer ledger
+  taken-so : (P : Body → Type 0) (phase : Phase) (stage : Stage) (world : World) (role : Role) (body : Body) (word : Word) (m : model.Message) (left : List Message) (peer : Body) (to_peer : List Message) (ledger : Ledger) → passes_over phase ≡ false → (is_joined stage || is_carrying stage) ≡ true → (phase_seen stage phase ≡ model_over → ⊥) → AreJoint world role body (Session word ∷ left) peer to_peer ledger → At phase stage body → ((message : model.Message) → Means proposed (base Initiator) word message → message ≡ m) → IsChoice setup (seen (base role) body) m Nothing → TakenAs free Reliable (base role) proposed body word m Nothing → answers_to_word (base role) body word ≡ [] → Same (after_taking (taking.common free tables spellings a b) role body (Session word) (answers_to_word (base role) body word) ledger).shared (worlds.shared_answered m Nothing (shared_at setup world)) → ledgers.TakeDeeds free tables spellings a b role body word m Nothing → Good role (after_word (base role) body word) → P (after_word (base role) body word) → Answered P body role word left peer to_peer ledger
   taken-so P phase stage world role body word m left peer to_peer ledger alive there not_over j at is free_choice row none shares deeds good side =
       let t =
       takes-kept free (taking.common free tables spellings a b) proposed world role body word left peer to_peer Nothing j.ends (alive-at phase stage (base role) body not_over at)
@@ -622,12 +622,12 @@ module _ (free : Free) (tables : Tables) (spellings : Spellings) (a b : Config) 
         later = after_word (base role) body word;
         shown = shown_of_word (base role) body word;
         reacts = reacts-before phase stage (base role) body word alive there at row.no_fault ∙ ap (λ ms. Takes (after_word (base role) body word) ms (shown_of_word (base role) body word)) none;
-        ends = subst (λ ms. Ends (By role (model_takes t.message Nothing) ∷ world) role (after_word (base role) body word) left peer (to_peer ++ ms) (after_taking (taking.common free tables spellings a b) role body (Session word) ms ledger)) none ends;
+        ends = subst (λ ms. AreJoint (By role (model_takes t.message Nothing) ∷ world) role (after_word (base role) body word) left peer (to_peer ++ ms) (after_taking (taking.common free tables spellings a b) role body (Session word) ms ledger)) none ends;
         good = good;
         side = side;
       }
 
-  accept-so : (way : Way) (world : World) (body : Body) (s : Accepting) (p : PresentationAccept) (v : List Value) (left : List Message) (peer : Body) (to_peer : List Message) (ledger : Ledger) → Ends world Initiator body (Session (OfAssociation (Accept s p v)) ∷ left) peer to_peer ledger → Good Initiator body → At (asks way) Carrying body → has_version_two s.version ≡ true → has_units (needed_units Reliable) (selected_with Reliable s.requirements) ≡ true → selected_with Reliable s.requirements ≡ proposed_units Reliable → manages_with p.requirements (selected_with Reliable s.requirements) ≡ true → accept_fault (base Initiator) p v ≡ None → Answered StandsOrOver body Initiator (OfAssociation (Accept s p v)) left peer to_peer ledger
+  accept-so : (way : Way) (world : World) (body : Body) (s : Accepting) (p : PresentationAccept) (v : List Value) (left : List Message) (peer : Body) (to_peer : List Message) (ledger : Ledger) → AreJoint world Initiator body (Session (OfAssociation (Accept s p v)) ∷ left) peer to_peer ledger → Good Initiator body → At (asks way) Carrying body → has_version_two s.version ≡ true → has_units (needed_units Reliable) (selected_with Reliable s.requirements) ≡ true → selected_with Reliable s.requirements ≡ proposed_units Reliable → manages_with p.requirements (selected_with Reliable s.requirements) ≡ true → accept_fault (base Initiator) p v ≡ None → Answered StandsOrOver body Initiator (OfAssociation (Accept s p v)) left peer to_peer ledger
   accept-so way world body s p v left peer to_peer ledger j good at version units selected manages none =
       let word : Word = OfAssociation (Accept s p v) in
       let fine_now : word_fault (base Initiator) body word ≡ None = fine (base Initiator) body word (rw (asked-so way body at, version, units) refl) none in
@@ -637,25 +637,25 @@ module _ (free : Free) (tables : Tables) (spellings : Spellings) (a b : Config) 
       (good-same Initiator body (after_word (base Initiator) body word) refl refl good)
       (inl (record { joined = record { stage = refl; selected = selected; manages = manages }; phase = inl refl }))
 
-  pub accepted : (way : Way) (world : World) (body : Body) (word : Word) (left : List Message) (peer : Body) (to_peer : List Message) (ledger : Ledger) → Ends world Initiator body (Session word ∷ left) peer to_peer ledger → Good Initiator body → At (asks way) Carrying body → IsAccept word → Answered StandsOrOver body Initiator word left peer to_peer ledger
+  pub accepted : (way : Way) (world : World) (body : Body) (word : Word) (left : List Message) (peer : Body) (to_peer : List Message) (ledger : Ledger) → AreJoint world Initiator body (Session word ∷ left) peer to_peer ledger → Good Initiator body → At (asks way) Carrying body → IsAccept word → Answered StandsOrOver body Initiator word left peer to_peer ledger
   accepted way world body word left peer to_peer ledger j good at x =
       subst (λ w. Answered StandsOrOver body Initiator w left peer to_peer ledger) (sym x.is_it)
-      (accept-so way world body x.session x.presentation x.values left peer to_peer ledger (subst (λ w. Ends world Initiator body (Session w ∷ left) peer to_peer ledger) x.is_it j) good at x.version x.units x.selected x.manages x.no_fault)
+      (accept-so way world body x.session x.presentation x.values left peer to_peer ledger (subst (λ w. AreJoint world Initiator body (Session w ∷ left) peer to_peer ledger) x.is_it j) good at x.version x.units x.selected x.manages x.no_fault)
 
-  refuse-so : (way : Way) (world : World) (body : Body) (transport reason : Option ℕ) (p : Option PresentationReject) (v : List Value) (left : List Message) (peer : Body) (to_peer : List Message) (ledger : Ledger) → Ends world Initiator body (Session (OfAssociation (Refuse transport reason p v)) ∷ left) peer to_peer ledger → Good Initiator body → At (asks way) Carrying body → Answered IsGone body Initiator (OfAssociation (Refuse transport reason p v)) left peer to_peer ledger
+  refuse-so : (way : Way) (world : World) (body : Body) (transport reason : Option ℕ) (p : Option PresentationReject) (v : List Value) (left : List Message) (peer : Body) (to_peer : List Message) (ledger : Ledger) → AreJoint world Initiator body (Session (OfAssociation (Refuse transport reason p v)) ∷ left) peer to_peer ledger → Good Initiator body → At (asks way) Carrying body → Answered IsGone body Initiator (OfAssociation (Refuse transport reason p v)) left peer to_peer ledger
   refuse-so way world body transport reason p v left peer to_peer ledger j good at =
       let word : Word = OfAssociation (Refuse transport reason p v) in
       taken-so IsGone (asks way) Carrying world Initiator body word model_refuse left peer to_peer ledger (asks-alive way) refl (carrying-not_over way) j at (λ message means. means) tt
       (record { no_fault = fine (base Initiator) body word (asked-so way body at) refl; chosen = tt; after = refl; means = tt }) refl j.same (record { starts = λ items rest h. h; arrives = λ arrived. refl })
       (good-same Initiator body (after_word (base Initiator) body word) refl refl good) refl
 
-  pub refused-by : (way : Way) (world : World) (body : Body) (word : Word) (left : List Message) (peer : Body) (to_peer : List Message) (ledger : Ledger) → Ends world Initiator body (Session word ∷ left) peer to_peer ledger → Good Initiator body → At (asks way) Carrying body → IsRefusal word → Answered IsGone body Initiator word left peer to_peer ledger
+  pub refused-by : (way : Way) (world : World) (body : Body) (word : Word) (left : List Message) (peer : Body) (to_peer : List Message) (ledger : Ledger) → AreJoint world Initiator body (Session word ∷ left) peer to_peer ledger → Good Initiator body → At (asks way) Carrying body → IsRefusal word → Answered IsGone body Initiator word left peer to_peer ledger
   refused-by way world body word left peer to_peer ledger j good at x =
       subst (λ w. Answered IsGone body Initiator w left peer to_peer ledger) (sym x.is_it)
-      (refuse-so way world body x.transport x.reason x.presentation x.values left peer to_peer ledger (subst (λ w. Ends world Initiator body (Session w ∷ left) peer to_peer ledger) x.is_it j) good at)
+      (refuse-so way world body x.transport x.reason x.presentation x.values left peer to_peer ledger (subst (λ w. AreJoint world Initiator body (Session w ∷ left) peer to_peer ledger) x.is_it j) good at)
 
   -- a broken end that refused a recovery takes an abort
-  pub aborted-by : (world : World) (body : Body) (transport : Option ℕ) (user : AbortData) (left : List Message) (peer : Body) (to_peer : List Message) (ledger : Ledger) → Ends world Responder body (Session (OfAssociation (Abort transport user)) ∷ left) peer to_peer ledger → Good Responder body → At Broken Carrying body → Answered IsGone body Responder (OfAssociation (Abort transport user)) left peer to_peer ledger
+  pub aborted-by : (world : World) (body : Body) (transport : Option ℕ) (user : AbortData) (left : List Message) (peer : Body) (to_peer : List Message) (ledger : Ledger) → AreJoint world Responder body (Session (OfAssociation (Abort transport user)) ∷ left) peer to_peer ledger → Good Responder body → At Broken Carrying body → Answered IsGone body Responder (OfAssociation (Abort transport user)) left peer to_peer ledger
   aborted-by world body transport user left peer to_peer ledger j good at =
       let word : Word = OfAssociation (Abort transport user) in
       taken-so IsGone Broken Carrying world Responder body word model_abort left peer to_peer ledger refl refl broken-not_over j at (λ message means. means) tt

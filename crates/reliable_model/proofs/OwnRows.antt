@@ -19,7 +19,7 @@ use Rattle.end_rules.specs.History.{after_step, step_of}
 use Rattle.end_rules.specs.ByItself.{OwnAct, SendsNow, EncodesOn, part_size, ends_in_octets, is_window_full, next_of}
 use Rattle.end_rules.specs.ByItself.{left_of, encodes_on, next_of_encoded, next_start, next_in, item_on, encoded_as, next_own}
 use Rattle.agreement.specs.Sets as model_sets
-use Rattle.agreement.specs.Messages.Act.{Marks, Ends, Sends, Starts, Encodes}
+use Rattle.agreement.specs.Messages.Act.{Marks, EndsActivity, Sends, Starts, Encodes}
 use Rattle.agreement.specs.Messages.Message.{Mark as model_mark, End as model_end}
 use Rattle.agreement.specs.State as states
 use Rattle.agreement.specs.State.Progress.{Running as model_running}
@@ -181,7 +181,7 @@ ends-so free base proposed body t e carries h leads s none =
     let b = g.beginning in
     let whole : joined t.pieces ≡ e.octets = sym (append-nil (joined t.pieces)) ∙ ap (λ xs. joined t.pieces ++ xs) (sym (sym g.left_is ∙ none-left (left_of t e) none)) ∙ b.begins in
     record {
-      act = Ends;
+      act = EndsActivity;
       acts =
           record {
             may = record { by_transfers = refl; leads = leads; is_whole = running (λ sent all. sent ≡ all) free base body t e carries s g whole };

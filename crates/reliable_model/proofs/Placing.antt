@@ -49,7 +49,7 @@ use Rattle.end_model.proofs.OwnActs.{encoding-so, leading, running-seen}
 use Rattle.reliable_model.specs.Codecs.{IsContextOf, Carries}
 use Rattle.reliable_model.specs.Goes.{Ledger, first_ledger, Goes, begins, calls, acts, takes, passes, fails, breaks, own_messages, after_sending, after_own, after_taking}
 use Rattle.reliable_model.specs.OwnRows.{EncodesInPlace}
-use Rattle.reliable_model.specs.Transfers.{Ends}
+use Rattle.reliable_model.specs.Transfers.{TakesTransferEnd}
 use Rattle.reliable_model.specs.ReliablePairs.{reliable_pair, IsFit}
 use Rattle.reliable_model.proofs.Contexts.{lowest-found}
 use Rattle.reliable_model.proofs.Fixed.{IsIdentifier, AreIdentifiers, listed-identifiers, answers-taken, AllContexts, none-contexts}
@@ -389,7 +389,7 @@ module _ (free : Free) (tables : Tables) (spellings : Spellings) (a b : Config) 
       go : (word : Word) → coming_to role two ≡ Session word ∷ left → react (base role) (body_at role two) (Session word) ≡ Takes later answers shown → ArrivesIn first (base role) (body_at role two) word
       go (OfActivities (End number)) comes taken =
           λ new arrived e.
-          let x : Ends common two role = record { number = number; left = left; body = later; answers = answers; shown = shown; comes = comes; taken = taken; is_new = new } in
+          let x : TakesTransferEnd common two role = record { number = number; left = left; body = later; answers = answers; shown = shown; comes = comes; taken = taken; is_new = new } in
           let w = arriving.whole-at free tables spellings a b two ledger role carries fit k x in
           let loose : IsLoose tables.name_oid first w.item.id = module-loose tables.name_oid first (body_at role two).sets.held w.item.id w.item.pair f.held w.there w.placed.named in
           subst (λ y. IsLoose tables.name_oid first (context_of y)) (one-arrived w.item arrived (sym w.arrived ∙ e)) loose

@@ -57,7 +57,7 @@ use Rattle.end_model.specs.Seen.{apdu_seen, incoming_seen, calls_seen, seen, set
 use Rattle.end_model.specs.Rows.{at}
 use Rattle.end_model.specs.Opens.{Numbered}
 use Rattle.end_model.specs.Words.{Means, results_seen, value_of_item}
-use Rattle.end_model.specs.Acting.{IsSound, TakenAs, ReadsBack}
+use Rattle.end_model.specs.Acting.{IsSoundBody, TakenAs, ReadsBack}
 use Rattle.end_model.specs.Heard.{IsExpected}
 use Rattle.end_model.specs.Takings.{IsJoined, TakenWhere, nothing}
 use Rattle.end_model.specs.Pairs.{Common, base_at}
@@ -160,8 +160,8 @@ module _ (free : Free) (tables : Tables) (spellings : Spellings) (a b : Config) 
   abbrev pub setup : model.Setup
   setup = ledgers.setup free tables spellings a b
 
-  abbrev pub Ends : World → Role → Body → List Message → Body → List Message → Ledger → Type 0
-  Ends = ledgers.Joint free tables spellings a b
+  abbrev pub AreJoint : World → Role → Body → List Message → Body → List Message → Ledger → Type 0
+  AreJoint = ledgers.Joint free tables spellings a b
 
   abbrev TakeDeeds : Role → Body → Word → model.Message → model.Choice → Type 0
   TakeDeeds = ledgers.TakeDeeds free tables spellings a b
@@ -198,11 +198,11 @@ module _ (free : Free) (tables : Tables) (spellings : Spellings) (a b : Config) 
         deeds = λ message means. subst (λ x. TakeDeeds role body word x Nothing) (sym (is message means)) deeds;
       }
 
-  plain : (role : Role) (body : Body) (word : Word) (m : model.Message) → IsMeant word m → IsChoice setup (seen (base role) body) m Nothing → TakenWhere Reliable word m nothing → SharesSo role body word m Nothing → TakeDeeds role body word m Nothing → IsSound Reliable (base role) body → IsJoined Reliable body → OwnTaking role body word
+  plain : (role : Role) (body : Body) (word : Word) (m : model.Message) → IsMeant word m → IsChoice setup (seen (base role) body) m Nothing → TakenWhere Reliable word m nothing → SharesSo role body word m Nothing → TakeDeeds role body word m Nothing → IsSoundBody Reliable (base role) body → IsJoined Reliable body → OwnTaking role body word
   plain role body word m is free_choice row shares deeds sound joined =
       plain-with role body word m is free_choice (λ may. row free (base role) proposed body sound joined (by-role role body m may)) shares deeds
 
-  altering : (role : Role) (body : Body) (add : List Proposal) (delete : List ℕ) → IsSound Reliable (base role) body → IsJoined Reliable body → OwnTaking role body (OfData (AlterContext add delete))
+  altering : (role : Role) (body : Body) (add : List Proposal) (delete : List ℕ) → IsSoundBody Reliable (base role) body → IsJoined Reliable body → OwnTaking role body (OfData (AlterContext add delete))
   altering role body add delete sound joined =
       let x : Alteration = alteration add delete in
       let results : List Result = results_seen x (policy (base role) body x) in
@@ -254,7 +254,7 @@ module _ (free : Free) (tables : Tables) (spellings : Spellings) (a b : Config) 
       }
 
   -- a part of a transfer
-  parting : (role : Role) (body : Body) (id : ℕ) (pair : Option Pair) (octets : List ℕ) → IsSound Reliable (base role) body → IsJoined Reliable body → OwnTaking role body (OfData (Values (part_value id pair octets ∷ [])))
+  parting : (role : Role) (body : Body) (id : ℕ) (pair : Option Pair) (octets : List ℕ) → IsSoundBody Reliable (base role) body → IsJoined Reliable body → OwnTaking role body (OfData (Values (part_value id pair octets ∷ [])))
   parting role body id pair octets sound stands =
       plain role body (OfData (Values (part_value id pair octets ∷ []))) (model_chunk octets)
       (λ message means. means.is_its ∙ ap model_chunk (sym (same-parts id means.id pair means.pair octets means.octets means.is_one))) tt (part-taken id pair octets) (λ ledger theirs s. s) (record { starts = λ items theirs e. e; arrives = λ arrived. refl }) sound stands
@@ -263,7 +263,7 @@ module _ (free : Free) (tables : Tables) (spellings : Spellings) (a b : Config) 
 
   record AfterOwn (role : Role) (body : Body) (word : Word) : Type 0 where
     taken_so : OwnTaking role body word
-    sound : IsSound Reliable (base role) (after_word (base role) body word)
+    sound : IsSoundBody Reliable (base role) (after_word (base role) body word)
     sending : IsSending (base role) (after_word (base role) body word).sending
     side : Live (after_word (base role) body word) ⊎ ((after_word (base role) body word).link.phase ≡ Over)
     own : AreOwn (answers_to_word (base role) body word)
@@ -273,7 +273,7 @@ module _ (free : Free) (tables : Tables) (spellings : Spellings) (a b : Config) 
   IsUsual (OfActivities (End number)) = ⊥
   IsUsual word = Unit {0}
 
-  settled-sound : (role : Role) (body : Body) (own : List Alteration) (answers : Answers) → IsSound Reliable (base role) body → IsSound Reliable (base role) (settled own answers body)
+  settled-sound : (role : Role) (body : Body) (own : List Alteration) (answers : Answers) → IsSoundBody Reliable (base role) body → IsSoundBody Reliable (base role) (settled own answers body)
   settled-sound role body [] answers sound = sound
   settled-sound role body (x ∷ own) answers sound = record { numbered = sound.numbered; calm = tt; sets = tt; queues = tt }
 
@@ -285,7 +285,7 @@ module _ (free : Free) (tables : Tables) (spellings : Spellings) (a b : Config) 
   settled-live body [] answers live = live
   settled-live body (x ∷ own) answers live = same-live body (settled (x ∷ own) answers body) live refl refl refl refl
 
-  after-own : (role : Role) (body : Body) (word : Word) → IsSound Reliable (base role) body → IsSending (base role) body.sending → Live body → OwnWord word → IsUsual word → AfterOwn role body word
+  after-own : (role : Role) (body : Body) (word : Word) → IsSoundBody Reliable (base role) body → IsSending (base role) body.sending → Live body → OwnWord word → IsUsual word → AfterOwn role body word
   after-own role body (OfData (Values values)) sound h live own nd = absurd nd
   after-own role body (OfData (AlterContext add delete)) sound h live own nd =
       record {
@@ -450,13 +450,13 @@ module _ (free : Free) (tables : Tables) (spellings : Spellings) (a b : Config) 
       ap (λ r. model_purged r (awaited_seen body.link.awaits) message) (role-back role)
 
   pub data Reacted (role : Role) (body : Body) (word : Word) (left : List Message) (peer : Body) (to_peer : List Message) (ledger : Ledger) : Type 0 where
-    Passed : (world : World) → react (base role) body (Session word) ≡ Passes → Ends world role body left peer to_peer ledger → Reacted role body word left peer to_peer ledger
+    Passed : (world : World) → react (base role) body (Session word) ≡ Passes → AreJoint world role body left peer to_peer ledger → Reacted role body word left peer to_peer ledger
     Took : (world : World) (later : Body) (answers : List Message) (shown : List Indication) → react (base role) body (Session word) ≡ Takes later answers shown
-        → Ends world role later left peer (to_peer ++ answers) (after_taking common role body (Session word) answers ledger)
-        → IsSound Reliable (base role) later → IsSending (base role) later.sending → Live later ⊎ (later.link.phase ≡ Over) → AreOwn answers
+        → AreJoint world role later left peer (to_peer ++ answers) (after_taking common role body (Session word) answers ledger)
+        → IsSoundBody Reliable (base role) later → IsSending (base role) later.sending → Live later ⊎ (later.link.phase ≡ Over) → AreOwn answers
         → Reacted role body word left peer to_peer ledger
 
-  plain-so : (world : World) (role : Role) (body : Body) (word : Word) (left : List Message) (peer : Body) (to_peer : List Message) (ledger : Ledger) → Ends world role body (Session word ∷ left) peer to_peer ledger → Live body → is_purged (is_initiator role) body.link.awaits (unit_of word) ≡ false → OwnWord word → AfterOwn role body word → Reacted role body word left peer to_peer ledger
+  plain-so : (world : World) (role : Role) (body : Body) (word : Word) (left : List Message) (peer : Body) (to_peer : List Message) (ledger : Ledger) → AreJoint world role body (Session word ∷ left) peer to_peer ledger → Live body → is_purged (is_initiator role) body.link.awaits (unit_of word) ≡ false → OwnWord word → AfterOwn role body word → Reacted role body word left peer to_peer ledger
   plain-so world role body word left peer to_peer ledger j live here own x =
       let t = takes-kept free common proposed world role body word left peer to_peer x.taken_so.choice j.ends (alive role body live) (λ message means. sym (kept-as role body word message own means) ∙ here) x.taken_so.chosen x.taken_so.taking in
       Took (By role (model_takes t.message x.taken_so.choice) ∷ world) (after_word (base role) body word) (answers_to_word (base role) body word) (shown_of_word (base role) body word)
@@ -473,7 +473,7 @@ module _ (free : Free) (tables : Tables) (spellings : Spellings) (a b : Config) 
     pub run : IsRun setup (By role (model_takes (model_end number) Nothing) ∷ world)
     pub may : MayTake setup role (seen (base role) body) (model_end number)
 
-  pub at-end : (world : World) (role : Role) (body : Body) (number : ℕ) (left : List Message) (peer : Body) (to_peer : List Message) (ledger : Ledger) → Ends world role body (Session (OfActivities (End number)) ∷ left) peer to_peer ledger → Live body → is_purged (is_initiator role) body.link.awaits (unit_of (OfActivities (End number))) ≡ false → AtEnd world role body number
+  pub at-end : (world : World) (role : Role) (body : Body) (number : ℕ) (left : List Message) (peer : Body) (to_peer : List Message) (ledger : Ledger) → AreJoint world role body (Session (OfActivities (End number)) ∷ left) peer to_peer ledger → Live body → is_purged (is_initiator role) body.link.awaits (unit_of (OfActivities (End number))) ≡ false → AtEnd world role body number
   at-end world role body number left peer to_peer ledger j live here =
       let n = next-word proposed (base Initiator) (OfActivities (End number)) left (flight_to setup role world) j.ends.own.flight in
       let now = j.ends.own.state in
@@ -524,7 +524,7 @@ module _ (free : Free) (tables : Tables) (spellings : Spellings) (a b : Config) 
   end-shares role body number ledger theirs s = between-same ledger.shared theirs s
 
   -- handed up before
-  again : (world : World) (role : Role) (body : Body) (number : ℕ) → AtEnd world role body number → IsSound Reliable (base role) body → IsSending (base role) body.sending → Live body → body.receiving.was_handed ≡ true → AfterOwn role body (end_word number)
+  again : (world : World) (role : Role) (body : Body) (number : ℕ) → AtEnd world role body number → IsSoundBody Reliable (base role) body → IsSending (base role) body.sending → Live body → body.receiving.was_handed ≡ true → AfterOwn role body (end_word number)
   again world role body number e sound h live was =
       let none : handed_up (base role) body ≡ [] = ap (λ w. if w then [] else values_arrived (arrived_now (base role) body)) was in
       let later : after_word (base role) body (end_word number) ≡ between (ended body) = ap (λ hs. between (take_values (base role) (ended body) hs).body) none in
@@ -539,14 +539,14 @@ module _ (free : Free) (tables : Tables) (spellings : Spellings) (a b : Config) 
                   ap (λ w. (if w then [] else body.receiving.last ∷ []) ++ arrived) was ∙
                   sym (ap (λ w. arrived_of (if w then None else value_read setup (set_seen body.sets.held) (incoming_seen body.receiving)) body.receiving.last ++ arrived) was);
             });
-        sound = subst (IsSound Reliable (base role)) (sym later) (record { numbered = sound.numbered; calm = tt; sets = tt; queues = tt });
+        sound = subst (IsSoundBody Reliable (base role)) (sym later) (record { numbered = sound.numbered; calm = tt; sets = tt; queues = tt });
         sending = subst (λ (y : Body). IsSending (base role) y.sending) (sym later) h;
         side = inl (subst Live (sym later) (same-live body (between (ended body)) live refl refl refl refl));
         own = (tt, tt);
       }
 
   -- handed up now
-  first : (world : World) (role : Role) (body : Body) (number : ℕ) → SpellsTransfers (base role) → Carries free (base role) → ReadsBack (base role) → AtEnd world role body number → state_of setup role world ≡ seen (base role) body → IsSound Reliable (base role) body → IsSending (base role) body.sending → Live body → body.receiving.was_handed ≡ false → AfterOwn role body (end_word number)
+  first : (world : World) (role : Role) (body : Body) (number : ℕ) → SpellsTransfers (base role) → Carries free (base role) → ReadsBack (base role) → AtEnd world role body number → state_of setup role world ≡ seen (base role) body → IsSoundBody Reliable (base role) body → IsSending (base role) body.sending → Live body → body.receiving.was_handed ≡ false → AfterOwn role body (end_word number)
   first world role body number spells carries back e now sound h live was =
       let r = arrives role body spells carries (e.may.is_read was) in
       let item : Item = r.item in
@@ -571,7 +571,7 @@ module _ (free : Free) (tables : Tables) (spellings : Spellings) (a b : Config) 
                   sym (ap (λ v. arrived_of v body.receiving.last ++ arrived) up);
             });
         sound =
-            subst (IsSound Reliable (base role)) (sym later)
+            subst (IsSoundBody Reliable (base role)) (sym later)
             (record { numbered = subst Numbered (sym (heard-calls (base role) (ended body) item.id heard.calls heard.shown heard.reject)) hears_it.numbered; calm = tt; sets = tt; queues = tt });
         sending =
             subst (λ (y : Body). IsSending (base role) y.sending) (sym later)
@@ -582,7 +582,7 @@ module _ (free : Free) (tables : Tables) (spellings : Spellings) (a b : Config) 
         own = (tt, tt);
       }
 
-  end-own : (world : World) (role : Role) (body : Body) (number : ℕ) → SpellsTransfers (base role) → Carries free (base role) → ReadsBack (base role) → AtEnd world role body number → state_of setup role world ≡ seen (base role) body → IsSound Reliable (base role) body → IsSending (base role) body.sending → Live body → AfterOwn role body (end_word number)
+  end-own : (world : World) (role : Role) (body : Body) (number : ℕ) → SpellsTransfers (base role) → Carries free (base role) → ReadsBack (base role) → AtEnd world role body number → state_of setup role world ≡ seen (base role) body → IsSoundBody Reliable (base role) body → IsSending (base role) body.sending → Live body → AfterOwn role body (end_word number)
   end-own world role body number spells carries back e now sound h live = go body.receiving.was_handed refl
     where
       go : (w : Bool) → body.receiving.was_handed ≡ w → AfterOwn role body (end_word number)
@@ -591,12 +591,12 @@ module _ (free : Free) (tables : Tables) (spellings : Spellings) (a b : Config) 
 
   -- ---- a part
 
-  values-so : (world : World) (role : Role) (body : Body) (values : List Value) (left : List Message) (peer : Body) (to_peer : List Message) (ledger : Ledger) → Ends world role body (Session (OfData (Values values)) ∷ left) peer to_peer ledger → IsSound Reliable (base role) body → IsSending (base role) body.sending → Live body → is_purged (is_initiator role) body.link.awaits (unit_of (OfData (Values values))) ≡ false → Reacted role body (OfData (Values values)) left peer to_peer ledger
+  values-so : (world : World) (role : Role) (body : Body) (values : List Value) (left : List Message) (peer : Body) (to_peer : List Message) (ledger : Ledger) → AreJoint world role body (Session (OfData (Values values)) ∷ left) peer to_peer ledger → IsSoundBody Reliable (base role) body → IsSending (base role) body.sending → Live body → is_purged (is_initiator role) body.link.awaits (unit_of (OfData (Values values))) ≡ false → Reacted role body (OfData (Values values)) left peer to_peer ledger
   values-so world role body values left peer to_peer ledger j sound h live here =
       let n = next-word proposed (base Initiator) (OfData (Values values)) left (flight_to setup role world) j.ends.own.flight in
       let word : Word = OfData (Values (part_value n.means.id n.means.pair n.means.octets ∷ [])) in
       subst (λ vs. Reacted role body (OfData (Values vs)) left peer to_peer ledger) (sym n.means.is_one)
-      (plain-so world role body word left peer to_peer ledger (subst (λ vs. Ends world role body (Session (OfData (Values vs)) ∷ left) peer to_peer ledger) n.means.is_one j) live here tt
+      (plain-so world role body word left peer to_peer ledger (subst (λ vs. AreJoint world role body (Session (OfData (Values vs)) ∷ left) peer to_peer ledger) n.means.is_one j) live here tt
       (record {
         taken_so = parting role body n.means.id n.means.pair n.means.octets sound live.joined;
         sound = record { numbered = sound.numbered; calm = tt; sets = tt; queues = tt };
@@ -607,10 +607,10 @@ module _ (free : Free) (tables : Tables) (spellings : Spellings) (a b : Config) 
 
   -- ---- the whole
 
-  pub reacted : (world : World) (role : Role) (body : Body) (word : Word) (left : List Message) (peer : Body) (to_peer : List Message) (ledger : Ledger) → SpellsTransfers (base role) → Carries free (base role) → ReadsBack (base role) → Ends world role body (Session word ∷ left) peer to_peer ledger → IsSound Reliable (base role) body → IsSending (base role) body.sending → Live body → OwnWord word → Reacted role body word left peer to_peer ledger
+  pub reacted : (world : World) (role : Role) (body : Body) (word : Word) (left : List Message) (peer : Body) (to_peer : List Message) (ledger : Ledger) → SpellsTransfers (base role) → Carries free (base role) → ReadsBack (base role) → AreJoint world role body (Session word ∷ left) peer to_peer ledger → IsSoundBody Reliable (base role) body → IsSending (base role) body.sending → Live body → OwnWord word → Reacted role body word left peer to_peer ledger
   reacted world role body word left peer to_peer ledger spells carries back j sound h live own = go (is_purged (is_initiator role) body.link.awaits (unit_of word)) refl
     where
-      kind : (w : Word) → OwnWord w → Ends world role body (Session w ∷ left) peer to_peer ledger → is_purged (is_initiator role) body.link.awaits (unit_of w) ≡ false → Reacted role body w left peer to_peer ledger
+      kind : (w : Word) → OwnWord w → AreJoint world role body (Session w ∷ left) peer to_peer ledger → is_purged (is_initiator role) body.link.awaits (unit_of w) ≡ false → Reacted role body w left peer to_peer ledger
       kind (OfData (Values values)) own j here = values-so world role body values left peer to_peer ledger j sound h live here
       kind (OfActivities (End number)) own j here =
           plain-so world role body (end_word number) left peer to_peer ledger j live here own

@@ -27,7 +27,7 @@ EverReliable Law =
     Law (reliable_pair tables spellings a b) two ledger
 
 -- the end of this role takes the end of a transfer whose number wasn't handed up
-pub record Ends (common : Common) (two : Two) (role : Role) : Type 0 where
+pub record TakesTransferEnd (common : Common) (two : Two) (role : Role) : Type 0 where
   pub number : ℕ
   pub left : List Message
   pub body : Body
@@ -49,13 +49,13 @@ pub record ArrivesWhole (common : Common) (two : Two) (ledger : Ledger) (role : 
   pub encoded : IsNewest (record { activity = (body_at role two).receiving.last; id = item.id; pair = Some item.pair; apdu = item.apdu }) (deeds_of (other role) ledger.deeds).encoded
 
 abbrev pub ReliableArriveWhole : Type 0
-ReliableArriveWhole = EverReliable (λ common two ledger. (role : Role) → Ends common two role → ArrivesWhole common two ledger role)
+ReliableArriveWhole = EverReliable (λ common two ledger. (role : Role) → TakesTransferEnd common two role → ArrivesWhole common two ledger role)
 
 -- Taken as sent: what arrives has the pair that the taker's own set gives its context, and that is the pair that the
 -- shared set gave it as the other end encoded the item.
 abbrev pub ReliableAsSent : Type 0
 ReliableAsSent =
-    EverReliable (λ common two ledger. (role : Role) (item : Item) → Ends common two role →
+    EverReliable (λ common two ledger. (role : Role) (item : Item) → TakesTransferEnd common two role →
     arrived_now (base_at role common) (body_at role two) ≡ Ok (Whole item) →
     (pair_of (body_at role two).sets.held item.id ≡ Some item.pair) ×
     IsNewest (record { activity = (body_at role two).receiving.last; id = item.id; pair = pair_of (body_at role two).sets.held item.id; apdu = item.apdu }) (deeds_of (other role) ledger.deeds).encoded)

@@ -11,7 +11,7 @@ use Rattle.apdu_spelling.specs.Spellings.{CarriedAs}
 use Rattle.apdu_spelling.proofs.OneHead.{one_carried}
 use Rattle.end_rules.specs.Base.{Carried, Absent, Spelled, Unspelled}
 use Rattle.end_rules.specs.Hearing.{problem_if, value_in}
-use Rattle.rose_roles.specs.declared.judging.Judged.TheVariants as judged
+use Rattle.rose_roles.specs.declared.apdu_problems.Judged.TheVariants as judged
 use Rattle.rose_roles.specs.Heads.{room_in, Carries}
 use Rattle.rose_roles.specs.Values.{IsAllowedIn}
 use Rattle.rose_roles.specs.Judging.{is_right, IsAllowed, IsJudged}

@@ -4,7 +4,7 @@ use Rattle.std.specs.Prelude.{IfSome}
 use Rattle.osi_base.specs.declared.syntax.Syntax.{Syntax}
 use Rattle.osi_base.specs.declared.syntax.Syntax.TheVariants.{Ber, Der, Packed}
 use Rattle.asn1_types.specs.Value.{Value}
-use Rattle.asn1_types.specs.Table.{IsSound}
+use Rattle.asn1_types.specs.Table.{AreSoundRows}
 use Rattle.asn1_types.specs.declared.value.Val.{Val}
 use Rattle.asn1_types.specs.declared.row.TypeId.{TypeId}
 use Rattle.asn1_types.specs.declared.table.TypeTable.{TypeTable}
@@ -60,17 +60,17 @@ some_room Ber room = omega arith
 some_room Der room = omega arith
 some_room Packed room = grind arith
 
-octets_carry : (syntax : Syntax) (types : TypeTable) (room : ℕ) (used : Option Use) (os : List ℕ) → IsSound types → AreOctets os
+octets_carry : (syntax : Syntax) (types : TypeTable) (room : ℕ) (used : Option Use) (os : List ℕ) → AreSoundRows types → AreOctets os
     → (c : Carried) → carried_at syntax types (room_in syntax room) used (Some os) ≡ c → Carries syntax types room used (Some os) c
 octets_carry syntax types room used os sound are Absent e = carried_there syntax types (room_in syntax room) used os e
 octets_carry syntax types room used os sound are (Spelled v) e = spelled_there syntax types (room_in syntax room) used os v are e
 octets_carry syntax types room used os sound are Unspelled e =
     λ v p. let s : Spelled v ≡ Unspelled = sym (carried_is syntax types sound (room_in syntax room) (some_room syntax room) used v os p) ∙ e in cc
 
-carries : (syntax : Syntax) (types : TypeTable) (room : ℕ) (used : Option Use) (rest : Option (List ℕ)) → IsSound types → IfSome rest AreOctets
+carries : (syntax : Syntax) (types : TypeTable) (room : ℕ) (used : Option Use) (rest : Option (List ℕ)) → AreSoundRows types → IfSome rest AreOctets
     → Carries syntax types room used rest (carried_at syntax types (room_in syntax room) used rest)
 carries syntax types room used None sound are = tt
 carries syntax types room used (Some os) sound are = octets_carry syntax types room used os sound are (carried_at syntax types (room_in syntax room) used (Some os)) refl
 
-pub always_carries : (tables : Tables) (syntax : Syntax) (head : ApduHead) → IsSound tables.types → IfSome head.rest AreOctets → HeadCarries tables syntax head (carried_by tables syntax head)
+pub always_carries : (tables : Tables) (syntax : Syntax) (head : ApduHead) → AreSoundRows tables.types → IfSome head.rest AreOctets → HeadCarries tables syntax head (carried_by tables syntax head)
 always_carries tables syntax head sound are = carries syntax tables.types head.room (use_by tables head.kind head.code) head.rest sound are

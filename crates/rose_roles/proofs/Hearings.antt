@@ -14,8 +14,8 @@ use Rattle.end_rules.specs.State as ends
 use Rattle.end_rules.specs.Invoking.{is_linked_to, operation_of}
 use Rattle.end_rules.specs.Hearing as rules
 use Rattle.rose_roles.specs.declared.called.Called.{Called}
-use Rattle.rose_roles.specs.declared.judging.Judged as judgeds
-use Rattle.rose_roles.specs.declared.judging.Judged.TheVariants as judged
+use Rattle.rose_roles.specs.declared.apdu_problems.Judged as judgeds
+use Rattle.rose_roles.specs.declared.apdu_problems.Judged.TheVariants as judged
 use Rattle.rose_roles.specs.declared.taken.RoseTaken.TheVariants as taken
 use Rattle.rose_roles.specs.Calls.{Kept, Invoking, called, key_of, side, operation_or_none, AreOpen, opens_in, calls_of}
 use Rattle.rose_roles.specs.Judging as judging

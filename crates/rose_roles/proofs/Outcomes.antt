@@ -21,8 +21,8 @@ use Rattle.end_rules.specs.Base.{Base, Carried, BadReject, InvokeHead, ResultHea
 use Rattle.end_rules.specs.State as ends
 use Rattle.end_rules.specs.Hearing as rules
 use Rattle.rose_roles.specs.declared.called.Called.{Called}
-use Rattle.rose_roles.specs.declared.judging.Judged as judgeds
-use Rattle.rose_roles.specs.declared.judging.Judged.TheVariants as judged
+use Rattle.rose_roles.specs.declared.apdu_problems.Judged as judgeds
+use Rattle.rose_roles.specs.declared.apdu_problems.Judged.TheVariants as judged
 use Rattle.rose_roles.specs.declared.taken.RoseTaken.TheVariants as taken
 use Rattle.rose_roles.specs.Calls.{Kept, Invoking, called, AreOpen, calls_of}
 use Rattle.rose_roles.specs.Heads.{Carries, use_by, parameter_placed, invoke_by, result_by, error_by, reject_by, head_by, said_by, is_invocation}

@@ -14,8 +14,8 @@ use Rattle.end_rules.specs.State as ends
 use Rattle.end_rules.specs.Hearing.{Heard, told, hear, problem_with}
 use Rattle.rose_roles.specs.declared.taken.RoseTaken as takens
 use Rattle.rose_roles.specs.declared.taken.RoseTaken.TheVariants as taken
-use Rattle.rose_roles.specs.declared.judging.Judged as judgeds
-use Rattle.rose_roles.specs.declared.judging.Judged.TheVariants as judged
+use Rattle.rose_roles.specs.declared.apdu_problems.Judged as judgeds
+use Rattle.rose_roles.specs.declared.apdu_problems.Judged.TheVariants as judged
 use Rattle.rose_roles.specs.Heads.{HeadCarries, said_by}
 
 -- an answer as an indication, or as the reject that is due

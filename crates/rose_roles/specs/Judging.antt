@@ -16,8 +16,8 @@ use Rattle.end_rules.specs.State.{is_empty}
 use Rattle.end_rules.specs.Invoking.{is_linked_to}
 use Rattle.end_rules.specs.Hearing.{first_problem, problem_if, has_links, is_place}
 use Rattle.rose_roles.specs.declared.called.Called.{Called}
-use Rattle.rose_roles.specs.declared.judging.Judged as judgeds
-use Rattle.rose_roles.specs.declared.judging.Judged.TheVariants as judged
+use Rattle.rose_roles.specs.declared.apdu_problems.Judged as judgeds
+use Rattle.rose_roles.specs.declared.apdu_problems.Judged.TheVariants as judged
 use Rattle.rose_roles.specs.Calls.{Kept, called}
 
 abbrev pub silent : Option Operation → Bool

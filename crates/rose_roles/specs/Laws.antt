@@ -1,7 +1,7 @@
 -- The laws of the two sides.
 use Rattle.std.specs.Prelude.{ℕ, ◌≤◌, Bool, length, IfSome}
 use Rattle.osi_base.specs.declared.syntax.Syntax.{Syntax}
-use Rattle.asn1_types.specs.Table.{IsSound}
+use Rattle.asn1_types.specs.Table.{AreSoundRows}
 use Rattle.ber_spelling.specs.Octets.{AreOctets}
 use Rattle.stub_tables.specs.declared.tables.Tables.{Tables}
 use Rattle.apdu_spelling.specs.declared.head.ApduHead.{ApduHead}
@@ -17,7 +17,7 @@ carried_by tables syntax head = carried_at syntax tables.types (room_in syntax h
 
 -- The octets behind a head always carry something: what reading them gives.
 abbrev pub AlwaysCarries : Type 0
-AlwaysCarries = (tables : Tables) (syntax : Syntax) (head : ApduHead) → IsSound tables.types → IfSome head.rest AreOctets → HeadCarries tables syntax head (carried_by tables syntax head)
+AlwaysCarries = (tables : Tables) (syntax : Syntax) (head : ApduHead) → AreSoundRows tables.types → IfSome head.rest AreOctets → HeadCarries tables syntax head (carried_by tables syntax head)
 
 -- Whatever is heard, at most 4,096 invocations of an end stay open.
 abbrev pub StaysWithin : Type 0

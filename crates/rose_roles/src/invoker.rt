@@ -13,8 +13,8 @@ ghost use Rattle.rose_roles.specs.Heads.{is_invocation, reject_by, Carries, use_
 ghost use Rattle.rose_roles.specs.Hearing.{Hears, HearsHead, heard_with};
 ghost use Rattle.rose_roles.specs.Calls.{Kept, Invoking, called, key_of, AreOpen, calls_of, open_call, opens_in};
 
+use crate::apdu_problems::{judge_error, judge_result};
 use crate::called::Called;
-use crate::judging::{judge_error, judge_result};
 use crate::opening::{called, enter, key_of, leave, own_key};
 use crate::taken::{
     RoseTaken, error_taken, is_of_invocation, own_rejected, rejected, result_taken,

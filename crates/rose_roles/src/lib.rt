@@ -2,18 +2,18 @@
 //! rejects, and the performer, which takes invocations.
 #![tactic(auto)]
 
+mod apdu_problems;
 mod called;
 mod invoker;
-mod judging;
 mod laws;
 mod opening;
 mod performer;
 mod taken;
 mod values;
 
+pub use apdu_problems::{has_links, is_linked_to};
 pub use called::Called;
 pub use invoker::Invoker;
-pub use judging::{has_links, is_linked_to};
 pub use laws::{always_carries, stays_within};
 pub use performer::Performer;
 pub use taken::{RoseTaken, refused};

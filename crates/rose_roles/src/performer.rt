@@ -14,9 +14,9 @@ ghost use Rattle.rose_roles.specs.Heads.{is_invocation, Carries};
 ghost use Rattle.rose_roles.specs.Judging.{silent, known_problem, early_problem, invoke_problem, IsJudged, IsFree};
 ghost use Rattle.rose_roles.specs.Hearing.{Hears, heard_with};
 
+use crate::apdu_problems::{Judged, is_silent_at, judge_argument, link_problem};
 use crate::called::Called;
 use crate::invoker::Invoker;
-use crate::judging::{Judged, is_silent_at, judge_argument, link_problem};
 use crate::opening::{called, enter, key_of, leave};
 use crate::taken::{RoseTaken, invoke_rejected, invoked};
 use apdu_spelling::ApduHead;

@@ -6,7 +6,7 @@ ghost use Rattle.osi_base.specs.declared.words.ProblemKind.TheVariants as kinds;
 ghost use Rattle.rose_roles.specs.declared.taken.RoseTaken.TheVariants as takens;
 ghost use Rattle.rose_roles.specs.Hearing.{refused_as, result_taken, error_taken};
 
-use crate::judging::Judged;
+use crate::apdu_problems::Judged;
 use apdu_codec::HeadFault;
 use asn1_types::Val;
 use osi_base::{NoMemory, Problem, ProblemKind};

@@ -9,7 +9,7 @@ use Rattle.rtse.specs.Receiving as received
 use Rattle.rtse.specs.Receiving.{Receiving}
 use Rattle.rtse.specs.Exchange.{Exchange, Word, Event, came, confirmations, words_of, happened, MayHappen, MayAllHappen, takes_first, confirms_first, begun, exchange_of, IsReached, NothingIsRefused, ArrivesWhole}
 use Rattle.rtse.specs.Exchange.Word.{Start, Part, Point, Finish, Resume}
-use Rattle.rtse.specs.Exchange.Event.{Gives, Takes, Confirms, Breaks, Renews}
+use Rattle.rtse.specs.Exchange.Event.{SendsWords, Takes, Confirms, Breaks, Renews}
 use Rattle.rtse.proofs.Places.{closed, chunks_on, due_on, marks_at, word_at, IsOpen, IsAt, Taken, part-taken, mark-taken, finish-taken, back-taken, start-taken, anew-taken, renewed-taken, marks-due, marks-closed, marks-ended, marks-before, marks-le, next-mark}
 use Rattle.std.proofs.Math.Seq.{take-nil}
 use Rattle.rtse.specs.declared.incoming.Ended.TheVariants.{Whole}
@@ -371,7 +371,7 @@ confirms-it e (n ∷ rest) same h =
     (confirmed-so e.sender e.receiver e.down n rest (subst (λ ns. Holds e.sender e.receiver e.down ns) same h)).1
 
 good-happens : (e : Exchange) (event : Event) → MayHappen e event → Good e → Good (happened e event)
-good-happens e Gives may h = given-or-not e.sender e.receiver e.down e.up (waits e.sender) refl h
+good-happens e SendsWords may h = given-or-not e.sender e.receiver e.down e.up (waits e.sender) refl h
 good-happens e Takes may h = takes-it e e.down refl h
 good-happens e Confirms may h = confirms-it e e.up refl h
 good-happens e Breaks may h = good-breaks e h

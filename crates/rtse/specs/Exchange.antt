@@ -54,7 +54,7 @@ pub record Exchange : Type 0 where
 
 -- What may happen: the sender gives what is next; the receiver takes the next word; the sender takes the next confirmation; what is on its way is lost, in a break or as an interrupt purges it, and the sender resumes at its highest confirmed mark; the same, and the value is encoded anew, which is resumed from nothing.
 pub data Event : Type 0 where
-  Gives : Event
+  SendsWords : Event
   Takes : Event
   Confirms : Event
   Breaks : Event
@@ -74,7 +74,7 @@ confirms_first e (n ∷ rest) = record e { sender = record e.sender { confirmed 
 
 -- the exchange after an event; where nothing is on its way, and where the receiver refuses, nothing changes
 abbrev pub happened : Exchange → Event → Exchange
-happened e Gives = record e { sender = stepped e.sender; down = e.down ++ words_of (step_of e.sender) }
+happened e SendsWords = record e { sender = stepped e.sender; down = e.down ++ words_of (step_of e.sender) }
 happened e Takes = takes_first e e.down
 happened e Confirms = confirms_first e e.up
 happened e Breaks =
@@ -84,7 +84,7 @@ happened e (Renews octets checkpoint window) =
 
 -- what is encoded anew is within the limits, too
 abbrev pub MayHappen : Exchange → Event → Type 0
-MayHappen e Gives = Unit {0}
+MayHappen e SendsWords = Unit {0}
 MayHappen e Takes = Unit {0}
 MayHappen e Confirms = Unit {0}
 MayHappen e Breaks = Unit {0}

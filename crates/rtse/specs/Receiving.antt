@@ -75,6 +75,6 @@ abbrev pub dropped : Receiving → Receiving
 dropped r = record r { octets = []; marks = [] }
 
 -- what is true of every record
-pub record IsSound (r : Receiving) : Type 0 where
+pub record IsSoundReceiving (r : Receiving) : Type 0 where
   pub within : length r.octets ≤ transfer_limit
   pub few : highest r < 2 ^ 32

@@ -78,7 +78,7 @@ pub record MayStart (number : ℕ) (octets : List ℕ) (checkpoint window : ℕ)
   pub window_within : (1 ≤ window) × (window ≤ window_limit)
 
 -- what is true of every transfer that is sent
-pub record IsSound (s : Sending) : Type 0 where
+pub record IsSoundSending (s : Sending) : Type 0 where
   pub may : MayStart s.number s.octets s.checkpoint s.window
   pub before_end : s.chunks ≢ 0 → (s.chunks - 1) * size_of s < length s.octets
   pub few : s.chunks ≤ transfer_limit

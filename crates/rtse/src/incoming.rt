@@ -33,7 +33,7 @@ pub struct Incoming {
 }
 
 impl Model for Incoming {
-    ghost use Rattle.rtse.specs.Receiving.{Receiving, IsSound};
+    ghost use Rattle.rtse.specs.Receiving.{Receiving, IsSoundReceiving};
 
     ghost Value = { Receiving };
 
@@ -44,7 +44,7 @@ impl Model for Incoming {
       handed_up = i.handed_up;
     } };
 
-    ghost invariant = { λ i. IsSound (record {
+    ghost invariant = { λ i. IsSoundReceiving (record {
       number = i.number;
       octets = i.octets.items;
       marks = i.marks.items;

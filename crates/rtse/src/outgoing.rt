@@ -38,7 +38,7 @@ pub struct Outgoing {
 }
 
 impl Model for Outgoing {
-    ghost use Rattle.rtse.specs.Sending.{Sending, IsSound};
+    ghost use Rattle.rtse.specs.Sending.{Sending, IsSoundSending};
 
     ghost Value = { Sending };
 
@@ -52,7 +52,7 @@ impl Model for Outgoing {
       confirmed = o.confirmed;
     } };
 
-    ghost invariant = { λ o. IsSound (record {
+    ghost invariant = { λ o. IsSoundSending (record {
       number = o.number;
       octets = o.octets;
       checkpoint = o.checkpoint;

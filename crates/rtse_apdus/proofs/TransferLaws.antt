@@ -5,7 +5,7 @@ use Rattle.std.proofs.lemmas.Bool.{lt-ltb}
 use Rattle.osi_base.specs.declared.presentation_word.Pdv as pdvs
 use Rattle.osi_base.specs.declared.presentation_word.PdvContent as contents
 use Rattle.osi_base.specs.declared.presentation_word.PdvContent.TheVariants as content
-use Rattle.asn1_types.specs.Table.{refusal, IsSound}
+use Rattle.asn1_types.specs.Table.{refusal, AreSoundRows}
 use Rattle.asn1_types.specs.Rows.{nesting, openings}
 use Rattle.asn1_types.specs.Value.{Value}
 use Rattle.ber_spelling.specs.Octets.{AreOctets}
@@ -24,7 +24,7 @@ pub transfer_rows_added : all_added [] transfer_rows ≡ true
 unfolding refusal nesting openings
 transfer_rows_added = refl
 
-transfer_sound : IsSound transfer_rows
+transfer_sound : AreSoundRows transfer_rows
 transfer_sound = sound_of transfer_rows transfer_rows_added refl
 
 pub transfer_is_spelled : TransferIsSpelled

@@ -24,7 +24,7 @@ use Rattle.end_rules.specs.Requesting.{due_of, due_invoke, due_outcome, sent_at_
 use Rattle.agreement.specs.Sets.{Role}
 use Rattle.agreement.specs.Sets.Role.{Initiator, Responder}
 use Rattle.end_model.specs.Seen.{Free}
-use Rattle.end_model.specs.Acting.{IsSound, ReadsBack, HandsIn, as_list, invoked_as}
+use Rattle.end_model.specs.Acting.{IsSoundBody, ReadsBack, HandsIn, as_list, invoked_as}
 use Rattle.end_model.specs.Opens.{IsProper}
 use Rattle.end_model.specs.Pairs.{Common, base_at, WritesAll}
 use Rattle.end_model.specs.DirectPairs.{direct_pair}
@@ -120,7 +120,7 @@ module _ (free : Free) (tables : Tables) (spellings : Spellings) (a b : Config) 
       go (Some k) e = (data-said role body k apdu (carrier-there role body context k e) listed t, tt)
 
   module _ (writes : WritesAll free) (back : ReadsBack (base Initiator)) where
-    pub invoke-said : (role : Role) (body : Body) (context operation : ℕ) (argument : Option Val) (linked : Option ℤ) (answer : Option ℤ) → AreListed body.sets.held → IsSound Direct (base role) body → can_call (base role) body (the_calls.Invoke context operation argument linked) ≡ Ok answer → AreSaid (due_of (base role) body (the_calls.Invoke context operation argument linked) (Ok answer))
+    pub invoke-said : (role : Role) (body : Body) (context operation : ℕ) (argument : Option Val) (linked : Option ℤ) (answer : Option ℤ) → AreListed body.sets.held → IsSoundBody Direct (base role) body → can_call (base role) body (the_calls.Invoke context operation argument linked) ≡ Ok answer → AreSaid (due_of (base role) body (the_calls.Invoke context operation argument linked) (Ok answer))
     invoke-said role body context operation argument linked None listed sound can = tt
     invoke-said role body context operation argument linked (Some id) listed sound can = go (operation_at tables operation) h.of_call
       where
@@ -144,13 +144,13 @@ module _ (free : Free) (tables : Tables) (spellings : Spellings) (a b : Config) 
     outcome-said role body None x apdu e listed t = tt
     outcome-said role body (Some o) x apdu e listed t = subst (λ y. AreSaid (due_outcome (base role) body (Some o) y)) (sym e) (carried-said role body o.context apdu listed t)
 
-    pub answer-said : (role : Role) (body : Body) (id : ℤ) (result : Option Val) (answer : Option ℤ) → AreListed body.sets.held → IsSound Direct (base role) body → can_call (base role) body (the_calls.Answer id result) ≡ Ok answer → AreSaid (due_of (base role) body (the_calls.Answer id result) (Ok answer))
+    pub answer-said : (role : Role) (body : Body) (id : ℤ) (result : Option Val) (answer : Option ℤ) → AreListed body.sets.held → IsSoundBody Direct (base role) body → can_call (base role) body (the_calls.Answer id result) ≡ Ok answer → AreSaid (due_of (base role) body (the_calls.Answer id result) (Ok answer))
     answer-said role body id result answer listed sound can =
         let h = answer-in Direct id result free (base role) [] body answer writes (calling.reads-at free tables spellings a b role back) sound can in
         let r = result-handed id result (operation_opened (base role) (opened_with false id body.calls.opens)) h.apdu h.of_call in
         outcome-said role body (opened_with false id body.calls.opens) (result_in (base role) body id result) h.apdu r.0 listed (record { proper = h.is_proper; short = short-so (base role) h.apdu r.1 h.is_short })
 
-    pub refuse-said : (role : Role) (body : Body) (id : ℤ) (error : ℕ) (parameter : Option Val) (answer : Option ℤ) → AreListed body.sets.held → IsSound Direct (base role) body → can_call (base role) body (the_calls.Refuse id error parameter) ≡ Ok answer → AreSaid (due_of (base role) body (the_calls.Refuse id error parameter) (Ok answer))
+    pub refuse-said : (role : Role) (body : Body) (id : ℤ) (error : ℕ) (parameter : Option Val) (answer : Option ℤ) → AreListed body.sets.held → IsSoundBody Direct (base role) body → can_call (base role) body (the_calls.Refuse id error parameter) ≡ Ok answer → AreSaid (due_of (base role) body (the_calls.Refuse id error parameter) (Ok answer))
     refuse-said role body id error parameter answer listed sound can =
         let h = refuse-in Direct id error parameter free (base role) [] body answer writes (calling.reads-at free tables spellings a b role back) sound can in
         let r = error-handed id parameter (error_at tables error) h.apdu h.of_call in

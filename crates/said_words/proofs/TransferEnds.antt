@@ -22,7 +22,7 @@ use Rattle.dialogue.specs.declared.call.CallRefusal.TheVariants as refusals
 use Rattle.end_rules.specs.Base.{Base, Spellings, Fault, last_activity, most_marks}
 use Rattle.end_rules.specs.Sets.{Alteration, pair_of, is_fixed}
 use Rattle.end_rules.specs.State.{Body, Link, Calls, Sending, OpenCall, Queued, Transfer, Encoded, Suspended, NoAnswer, opened_with, is_up, is_broken, is_carrying, is_joined, is_current, is_suspended, is_free, passes_over, on_current, highest, pieces_of, confirmed_of, joined}
-use Rattle.end_rules.specs.Messages.{Message, Session, TransportUnit, ConnectionRequest, ConnectionConfirm, DisconnectRequest, TransportError, Content, Value, Association, Part, Plea, UserValues}
+use Rattle.end_rules.specs.Messages.{Message, Session, TransportUnit, ConnectionRequest, ConnectionConfirm, DisconnectRequest, TransportError, ValueContent, Value, Association, Part, Plea, UserValues}
 use Rattle.end_rules.specs.Messages.{Word, OfAssociation, OfData, OfMarks, OfActivities, AssociationWord, Connect, Accept, Refuse, Finish, Disconnect, Abort, AbortAccept, Values, AlterContext, AlterContextAck, Mark, MarkAck, Restart, RestartAck, Give, Please, GiveConfirm, GiveAck}
 use Rattle.end_rules.specs.Messages.{Start, Resume, End, EndAck, Interrupt, InterruptAck, Discard, DiscardAck, unit_of}
 use Rattle.end_rules.specs.Writing.{acse_pair, acse_context, rtse_context, rtse_value, session_connect, presentation_connect, connect_values, connection_data, connect_message, is_recovering, user_abort, proposals}
@@ -233,7 +233,7 @@ module _ (free : Free) (tables : Tables) (spellings : Spellings) (a b : Config) 
     IsStood : Stood role body → Rooted role body
     IsOver : body.link.phase ≡ Over → Rooted role body
 
-  pub record Says (role : Role) (later : Body) (sent : List Message) : Type 0 where
+  pub record RootedAndSaid (role : Role) (later : Body) (sent : List Message) : Type 0 where
     pub rooted : Rooted role later
     pub said : AreSaid sent
 
@@ -292,7 +292,7 @@ module _ (free : Free) (tables : Tables) (spellings : Spellings) (a b : Config) 
     held-rtse role body s = let f = rtse-pair tables spellings a b right ids in s.firm.held 3 (ap is_fixed f) ∙ f
 
     -- a value on the context of reliable transfer
-    on-three : (role : Role) (body : Body) (content : Content) → Stood role body → rtse_value body content ≡ transfer_value content
+    on-three : (role : Role) (body : Body) (content : ValueContent) → Stood role body → rtse_value body content ≡ transfer_value content
     on-three role body content s =
         let put : ℕ → Option Pair → Value = λ k p. record { id = k; pair = p; content = content } in
         ap (λ (k : ℕ). put k (pair_of body.sets.held k)) (ap rtse_context s.accepted ∙ on-rtse tables spellings a b right ids) ∙ ap (put 3) (held-rtse role body s)
@@ -300,7 +300,7 @@ module _ (free : Free) (tables : Tables) (spellings : Spellings) (a b : Config) 
     -- ---- calls
 
     abbrev CallSays : Role → Body → Call → Option ℤ → Type 0
-    CallSays role body call answer = Says role (after_called Reliable (base role) body call answer) (due_of (base role) body call (Ok answer))
+    CallSays role body call answer = RootedAndSaid role (after_called Reliable (base role) body call answer) (due_of (base role) body call (Ok answer))
 
     aborts : (role : Role) (body : Body) (answer : Option ℤ) → acse_context body.link.accepted ≡ 1 → CallSays role body the_calls.Abort answer
     aborts role body answer e = record { rooted = IsOver (aborted-over body (is_carrying body.link.stage)); said = abort-said body.link.accepted e (is_carrying body.link.stage) }
@@ -324,13 +324,13 @@ module _ (free : Free) (tables : Tables) (spellings : Spellings) (a b : Config) 
 
     invoke-says : (role : Role) (body : Body) (context place : ℕ) (id : ℤ) (link : Option ℤ) (o : Option Operation) (argument : Option Val) → Stood role body
         → Firm tables.name_oid first (sent_all Reliable (after_invoke (base role) body context place id link o argument) (due_invoke (base role) body context id link o argument))
-        → Says role (sent_all Reliable (after_invoke (base role) body context place id link o argument) (due_invoke (base role) body context id link o argument)) (due_invoke (base role) body context id link o argument)
+        → RootedAndSaid role (sent_all Reliable (after_invoke (base role) body context place id link o argument) (due_invoke (base role) body context id link o argument)) (due_invoke (base role) body context id link o argument)
     invoke-says role body context place id link None argument s f = record { rooted = IsStood s; said = tt }
     invoke-says role body context place id link (Some operation) argument s f = record { rooted = left-still role body _ s (record { link = refl; started = refl; current = refl }) f; said = tt }
 
     outcome-says : (role : Role) (body : Body) (id : ℤ) (o : Option OpenCall) (x : Option Apdu) → Stood role body
         → Firm tables.name_oid first (sent_all Reliable (after_outcome (base role) body id o x) (due_outcome (base role) body o x))
-        → Says role (sent_all Reliable (after_outcome (base role) body id o x) (due_outcome (base role) body o x)) (due_outcome (base role) body o x)
+        → RootedAndSaid role (sent_all Reliable (after_outcome (base role) body id o x) (due_outcome (base role) body o x)) (due_outcome (base role) body o x)
     outcome-says role body id None None s f = record { rooted = IsStood s; said = tt }
     outcome-says role body id None (Some apdu) s f = record { rooted = IsStood s; said = tt }
     outcome-says role body id (Some o) None s f = record { rooted = IsStood s; said = tt }
@@ -396,7 +396,7 @@ module _ (free : Free) (tables : Tables) (spellings : Spellings) (a b : Config) 
     -- ---- what an end does by itself
 
     abbrev OwnSays : Role → Body → OwnAct → Type 0
-    OwnSays role body own = Says role (after_step (base role) body (step_of own)) (own_messages own)
+    OwnSays role body own = RootedAndSaid role (after_step (base role) body (step_of own)) (own_messages own)
 
     -- the next activity has a number
     starts-low : (role : Role) (body : Body) (own : OwnAct) (item : Queued) (items : List Queued) → body.sending.current ≡ None → body.sending.queue ≡ item ∷ items → next_in (base role) body body.sending.current ≡ Some own → suc body.sending.started ≤ last_activity
@@ -483,7 +483,7 @@ module _ (free : Free) (tables : Tables) (spellings : Spellings) (a b : Config) 
     -- ---- units of the transport
 
     abbrev UnitSays : Role → Body → TransportUnit → Type 0
-    UnitSays role body unit = Says role (after_transport (base role) body unit) (answers_to_transport (base role) body unit)
+    UnitSays role body unit = RootedAndSaid role (after_transport (base role) body unit) (answers_to_transport (base role) body unit)
 
     confirms : (role : Role) (body : Body) (destination : ℕ) (size : Option ℕ) → transport_unit_fault (base role) body (ConnectionConfirm destination size) ≡ None → IsMessage (base Initiator) (base Responder) (connect_message (base role) (is_recovering body.link.phase))
     confirms Initiator body destination size f = (is_recovering body.link.phase, refl)
@@ -516,7 +516,7 @@ module _ (free : Free) (tables : Tables) (spellings : Spellings) (a b : Config) 
     -- ---- words
 
     abbrev WordSays : Role → Body → Word → Type 0
-    WordSays role body word = Says role (after_word (base role) body word) (answers_to_word (base role) body word)
+    WordSays role body word = RootedAndSaid role (after_word (base role) body word) (answers_to_word (base role) body word)
 
     abbrev InPlace : Role → Body → Word → Type 0
     InPlace role body word = is_in_place (base role) body (unit_of word) ≡ true
@@ -570,7 +570,7 @@ module _ (free : Free) (tables : Tables) (spellings : Spellings) (a b : Config) 
     connects : (role : Role) (body : Body) (recovers : Bool) → (not (is_initiator role) && is_joined body.link.stage) ≡ true → (recovers_in (base Responder) (connect_values (base Initiator) recovers) ≡ true → is_broken body.link.phase ≡ true) → passes_over body.link.phase ≡ false → Rooted role body → WordSays role body (OfAssociation (the_connect (base Initiator) recovers))
     connects Initiator body recovers h meets alive r = cc
     connects Responder body recovers h meets alive r =
-        subst (λ q. Says Responder (if q then refused_connect body else accepted_connect (base Responder) body (session_connect (base Initiator)) (presentation_connect (base Initiator)) (connect_values (base Initiator) recovers))
+        subst (λ q. RootedAndSaid Responder (if q then refused_connect body else accepted_connect (base Responder) body (session_connect (base Initiator)) (presentation_connect (base Initiator)) (connect_values (base Initiator) recovers))
         (if q then refusal_message (base Responder) body (session_connect (base Initiator)) (presentation_connect (base Initiator)) (connect_values (base Initiator) recovers) ∷ [] else acceptance_message (base Responder) (session_connect (base Initiator)) (presentation_connect (base Initiator)) (connect_values (base Initiator) recovers) ∷ []))
         (sym (never-refused tables spellings a b right ids body recovers window (known body recovers meets alive r)))
         (record { rooted = joined-rooted body recovers meets alive r; said = ((recovers, refl), tt) })

@@ -24,7 +24,7 @@ use Rattle.end_model.specs.Seen.{Free}
 use Rattle.end_model.specs.Pairs.{Common, base_at, Two, body_at, coming_to, stepped}
 use Rattle.end_model.proofs.DirectOpening.{At}
 use Rattle.reliable_model.specs.Goes.{Ledger, Goes, begins, calls, acts, takes, passes, fails, breaks}
-use Rattle.reliable_model.specs.Transfers.{Ends}
+use Rattle.reliable_model.specs.Transfers.{TakesTransferEnd}
 use Rattle.reliable_model.specs.Transferring.{IsSending}
 use Rattle.reliable_model.specs.ReliablePairs.{reliable_pair}
 use Rattle.reliable_model.proofs.Fixed.{AreIdentifiers, listed-identifiers}
@@ -66,8 +66,8 @@ module _ (free : Free) (tables : Tables) (spellings : Spellings) (a b : Config) 
   abbrev Rooted : Role → Body → Type 0
   Rooted = ends.Rooted free tables spellings a b
 
-  abbrev Says : Role → Body → List Message → Type 0
-  Says = ends.Says free tables spellings a b
+  abbrev RootedAndSaid : Role → Body → List Message → Type 0
+  RootedAndSaid = ends.RootedAndSaid free tables spellings a b
 
   abbrev Kept : Two → Ledger → Type 0
   Kept = machine.Kept free tables spellings a b
@@ -192,7 +192,7 @@ module _ (free : Free) (tables : Tables) (spellings : Spellings) (a b : Config) 
         go : (word : Word) → coming_to role two ≡ Session word ∷ left → react (base role) (body_at role two) (Session word) ≡ Takes later answers shown → ArrivesIn first (base role) (body_at role two) word
         go (OfActivities (End number)) comes taken =
             λ new arrived e.
-            let x : Ends common two role = record { number = number; left = left; body = later; answers = answers; shown = shown; comes = comes; taken = taken; is_new = new } in
+            let x : TakesTransferEnd common two role = record { number = number; left = left; body = later; answers = answers; shown = shown; comes = comes; taken = taken; is_new = new } in
             let w = arriving.whole-at free tables spellings a b two ledger role q.carries q.fit k x in
             let loose : IsLoose tables.name_oid first w.item.id = module-loose tables.name_oid first (body_at role two).sets.held w.item.id w.item.pair f.held w.there w.placed.named in
             subst (λ y. IsLoose tables.name_oid first (context_of y)) (one-arrived w.item arrived (sym w.arrived ∙ e)) loose
@@ -225,7 +225,7 @@ module _ (free : Free) (tables : Tables) (spellings : Spellings) (a b : Config) 
     coming-said Initiator two s = s.to_a
     coming-said Responder two s = s.to_b
 
-    stepped-said : (role : Role) (two : Two) (later : Body) (left sent : List Message) → Said two → Says role later sent → AreSaid left → Said (stepped role later left sent two)
+    stepped-said : (role : Role) (two : Two) (later : Body) (left sent : List Message) → Said two → RootedAndSaid role later sent → AreSaid left → Said (stepped role later left sent two)
     stepped-said Initiator two later left sent s x l = record { of_a = x.rooted; of_b = s.of_b; to_a = l; to_b = said-append two.to_b sent s.to_b x.said }
     stepped-said Responder two later left sent s x l = record { of_a = s.of_a; of_b = x.rooted; to_a = said-append two.to_a sent s.to_a x.said; to_b = l }
 
@@ -236,27 +236,27 @@ module _ (free : Free) (tables : Tables) (spellings : Spellings) (a b : Config) 
     abbrev kept : (two : Two) (ledger : Ledger) → Goes common two ledger → Kept two ledger
     kept two ledger g = all-kept free tables spellings a b q two ledger g
 
-    unit-taken : (role : Role) (body : Body) (unit : TransportUnit) (later : Body) (answers : List Message) (shown : List Indication) → IsMessage (base Initiator) (base Responder) (Transport unit) → Rooted role body → react (base role) body (Transport unit) ≡ Takes later answers shown → Says role later answers
+    unit-taken : (role : Role) (body : Body) (unit : TransportUnit) (later : Body) (answers : List Message) (shown : List Indication) → IsMessage (base Initiator) (base Responder) (Transport unit) → Rooted role body → react (base role) body (Transport unit) ≡ Takes later answers shown → RootedAndSaid role later answers
     unit-taken role body unit later answers shown i r h = go (passes_over body.link.phase) refl (is_transport_purged body.link.awaits) (transport_unit_fault (base role) body unit) refl h
       where
-        go : (p : Bool) → passes_over body.link.phase ≡ p → (t : Bool) (f : Option Fault) → transport_unit_fault (base role) body unit ≡ f → (if p then Passes else (if t then Passes else on_transport (base role) body unit f)) ≡ Takes later answers shown → Says role later answers
+        go : (p : Bool) → passes_over body.link.phase ≡ p → (t : Bool) (f : Option Fault) → transport_unit_fault (base role) body unit ≡ f → (if p then Passes else (if t then Passes else on_transport (base role) body unit f)) ≡ Takes later answers shown → RootedAndSaid role later answers
         go true e t f g h = cc
         go false e true f g h = cc
         go false e false (Some fault) g h = cc
         go false e false None g h =
             let x : after_transport (base role) body unit ≡ later = cc in
             let y : answers_to_transport (base role) body unit ≡ answers = cc in
-            subst (λ z. Says role z answers) x (subst (Says role (after_transport (base role) body unit)) y (ends.unit-says free tables spellings a b q.fit.spells q.fit.proposes ids window role body unit i g e r))
+            subst (λ z. RootedAndSaid role z answers) x (subst (RootedAndSaid role (after_transport (base role) body unit)) y (ends.unit-says free tables spellings a b q.fit.spells q.fit.proposes ids window role body unit i g e r))
 
-    taken-says : (role : Role) (two : Two) (ledger : Ledger) (message : Message) (left : List Message) (later : Body) (answers : List Message) (shown : List Indication) → Kept two ledger → IsMessage (base Initiator) (base Responder) message → Rooted role (body_at role two) → coming_to role two ≡ message ∷ left → react (base role) (body_at role two) message ≡ Takes later answers shown → Says role later answers
+    taken-says : (role : Role) (two : Two) (ledger : Ledger) (message : Message) (left : List Message) (later : Body) (answers : List Message) (shown : List Indication) → Kept two ledger → IsMessage (base Initiator) (base Responder) message → Rooted role (body_at role two) → coming_to role two ≡ message ∷ left → react (base role) (body_at role two) message ≡ Takes later answers shown → RootedAndSaid role later answers
     taken-says role two ledger (Transport unit) left later answers shown k i r e h = unit-taken role (body_at role two) unit later answers shown i r h
     taken-says role two ledger (Session word) left later answers shown k i r e h =
         let body : Body = body_at role two in
         let t = took-word (base role) body word later answers shown h in
         let m = meets role two ledger word left k e t.alive (in-place (base role) body word t.fine) in
-        let s : Says role (after_word (base role) body word) (answers_to_word (base role) body word) =
+        let s : RootedAndSaid role (after_word (base role) body word) (answers_to_word (base role) body word) =
         ends.word-says free tables spellings a b q.fit.spells q.fit.proposes ids window role body word i m t.fine (arrives role two ledger word left later answers shown k e h) t.alive r in
-        subst (λ (z : Body). Says role z answers) (sym t.later_is) (subst (Says role (after_word (base role) body word)) (sym t.answers_are) s)
+        subst (λ (z : Body). RootedAndSaid role z answers) (sym t.later_is) (subst (RootedAndSaid role (after_word (base role) body word)) (sym t.answers_are) s)
 
     pub all-said : (two : Two) (ledger : Ledger) (g : Goes common two ledger) → AreCalls common two ledger g → Said two
     all-said two ledger begins c =

@@ -42,7 +42,7 @@ use Rattle.end_rules.specs.History.{after_broke, broken_phase}
 use Rattle.agreement.specs.Sets.{Role, is_initiator}
 use Rattle.agreement.specs.Sets.Role.{Initiator, Responder}
 use Rattle.end_model.specs.Seen.{Free}
-use Rattle.end_model.specs.Acting.{IsSound, ReadsBack}
+use Rattle.end_model.specs.Acting.{IsSoundBody, ReadsBack}
 use Rattle.end_model.specs.Requests.{sent_all, after_called}
 use Rattle.end_model.specs.Pairs.{Common, base_at, Two, body_at, coming_to, stepped, WritesAll}
 use Rattle.end_model.specs.DirectPairs.{direct_pair, ProposesRightly}
@@ -125,7 +125,7 @@ module _ (free : Free) (tables : Tables) (spellings : Spellings) (a b : Config) 
     IsStood : Stood body → Rooted body
     IsOver : body.link.phase ≡ Over → Rooted body
 
-  record Says (later : Body) (sent : List Message) : Type 0 where
+  record RootedAndSaid (later : Body) (sent : List Message) : Type 0 where
     rooted : Rooted later
     said : AreSaid sent
 
@@ -176,7 +176,7 @@ module _ (free : Free) (tables : Tables) (spellings : Spellings) (a b : Config) 
     -- ---- calls
 
     abbrev CallSays : Role → Body → Call → Option ℤ → Type 0
-    CallSays role body call answer = Says (after_called Direct (base role) body call answer) (due_of (base role) body call (Ok answer))
+    CallSays role body call answer = RootedAndSaid (after_called Direct (base role) body call answer) (due_of (base role) body call (Ok answer))
 
     young-called : (role : Role) (body : Body) (call : Call) (answer : Option ℤ) → Young body → can_call (base role) body call ≡ Ok answer → CallSays role body call answer
     young-called role body call answer y can = go y.phase
@@ -218,7 +218,7 @@ module _ (free : Free) (tables : Tables) (spellings : Spellings) (a b : Config) 
         let l = listed-few (newest (below n body.saved)) in
         record { low = low; high = high; items = listed (restored_set body n); is_list = refl; are = listed-restored (restored_set body n) h.listed; count = omega arith }
 
-    stood-called : (role : Role) (body : Body) (call : Call) (answer : Option ℤ) → IsSound Direct (base role) body → IsCall call → Stood body → can_call (base role) body call ≡ Ok answer → CallSays role body call answer
+    stood-called : (role : Role) (body : Body) (call : Call) (answer : Option ℤ) → IsSoundBody Direct (base role) body → IsCall call → Stood body → can_call (base role) body call ≡ Ok answer → CallSays role body call answer
     stood-called role body the_calls.Open answer sound i s can = absurd (clash (is_idle body.link.phase) (called (base role) body the_calls.Open answer can).in_phase (stood-test is_idle body refl refl s))
     stood-called role body (the_calls.Invoke context operation argument linked) None sound i s can = record { rooted = IsStood s; said = tt }
     stood-called role body (the_calls.Invoke context operation argument linked) (Some id) sound i s can =
@@ -275,7 +275,7 @@ module _ (free : Free) (tables : Tables) (spellings : Spellings) (a b : Config) 
     stood-called role body the_calls.Abort answer sound i s can =
         record { rooted = IsOver (abort-over body body.link.accepted (is_carrying body.link.stage)); said = abort-said body.link.accepted (on-one body s) (is_carrying body.link.stage) }
 
-    called-says : (role : Role) (body : Body) (call : Call) (answer : Option ℤ) → IsSound Direct (base role) body → IsCall call → Rooted body → can_call (base role) body call ≡ Ok answer → CallSays role body call answer
+    called-says : (role : Role) (body : Body) (call : Call) (answer : Option ℤ) → IsSoundBody Direct (base role) body → IsCall call → Rooted body → can_call (base role) body call ≡ Ok answer → CallSays role body call answer
     called-says role body call answer sound i (IsYoung y) can = young-called role body call answer y can
     called-says role body call answer sound i (IsStood s) can = stood-called role body call answer sound i s can
     called-says role body call answer sound i (IsOver e) can = absurd (over-calls (base role) body call answer e can)
@@ -283,7 +283,7 @@ module _ (free : Free) (tables : Tables) (spellings : Spellings) (a b : Config) 
     -- ---- words that are taken
 
     abbrev WordSays : Role → Body → Word → Type 0
-    WordSays role body word = Says (after_word (base role) body word) (answers_to_word (base role) body word)
+    WordSays role body word = RootedAndSaid (after_word (base role) body word) (answers_to_word (base role) body word)
 
     abbrev InPlace : Role → Body → Word → Type 0
     InPlace role body word = is_in_place (base role) body (unit_of word) ≡ true
@@ -292,11 +292,11 @@ module _ (free : Free) (tables : Tables) (spellings : Spellings) (a b : Config) 
     disconnect-said accepted e = ap (λ k. Disconnect (record { id = k; pair = Some acse_pair; content = Association (acse.ReleaseResponse (pos 0)) [] } ∷ [])) e
 
     -- the reject that data bring
-    rejecting : (role : Role) (body : Body) (context : ℕ) (r : Option Rejecting) → IsRight (base role) r → Stood body → Says (with_reject (base role) body context r).body ((with_reject (base role) body context r).answers ++ [])
+    rejecting : (role : Role) (body : Body) (context : ℕ) (r : Option Rejecting) → IsRight (base role) r → Stood body → RootedAndSaid (with_reject (base role) body context r).body ((with_reject (base role) body context r).answers ++ [])
     rejecting role body context None i s = record { rooted = IsStood s; said = tt }
     rejecting role body context (Some r) i s = go (carrier_in (base role) body context) refl
       where
-        go : (c : Option ℕ) → carrier_in (base role) body context ≡ c → Says (sent_on body r c).body ((sent_on body r c).answers ++ [])
+        go : (c : Option ℕ) → carrier_in (base role) body context ≡ c → RootedAndSaid (sent_on body r c).body ((sent_on body r c).answers ++ [])
         go None e = record { rooted = IsStood s; said = tt }
         go (Some k) e = record { rooted = IsStood s; said = (data-said free tables spellings a b role body k (reject_apdu r) (carrier-there free tables spellings a b role body context k e) s.listed i, tt) }
 
@@ -376,7 +376,7 @@ module _ (free : Free) (tables : Tables) (spellings : Spellings) (a b : Config) 
     connects : (role : Role) (body : Body) → (not (is_initiator role) && is_joined body.link.stage) ≡ true → WordSays role body (OfAssociation (the_connect (base Initiator) false))
     connects Initiator body h = cc
     connects Responder body h =
-        subst (λ r. Says (if r then refused_connect body else accepted_connect (base Responder) body (session_connect (base Initiator)) (presentation_connect (base Initiator)) (connect_values (base Initiator) false))
+        subst (λ r. RootedAndSaid (if r then refused_connect body else accepted_connect (base Responder) body (session_connect (base Initiator)) (presentation_connect (base Initiator)) (connect_values (base Initiator) false))
         (if r then refusal_message (base Responder) body (session_connect (base Initiator)) (presentation_connect (base Initiator)) (connect_values (base Initiator) false) ∷ [] else acceptance_message (base Responder) (session_connect (base Initiator)) (presentation_connect (base Initiator)) (connect_values (base Initiator) false) ∷ []))
         (sym (none-refused tables spellings a b body right ids))
         (record { rooted = IsStood (opened-stood Responder _ refl refl refl refl refl refl); said = ((false, refl), tt) })
@@ -424,7 +424,7 @@ module _ (free : Free) (tables : Tables) (spellings : Spellings) (a b : Config) 
     -- ---- units of the transport
 
     abbrev UnitSays : Role → Body → TransportUnit → Type 0
-    UnitSays role body unit = Says (after_transport (base role) body unit) (answers_to_transport (base role) body unit)
+    UnitSays role body unit = RootedAndSaid (after_transport (base role) body unit) (answers_to_transport (base role) body unit)
 
     young-unit : (role : Role) (body : Body) (unit : TransportUnit) → IsUnit (base Initiator) unit → transport_unit_fault (base role) body unit ≡ None → Young body → UnitSays role body unit
     young-unit role body (ConnectionRequest source size calling other_) i fine y =
@@ -469,20 +469,20 @@ module _ (free : Free) (tables : Tables) (spellings : Spellings) (a b : Config) 
     unit-says role body unit i fine alive (IsStood s) = stood-unit role body unit i fine s
     unit-says role body unit i fine alive (IsOver e) = over-takes body e alive
 
-    taken-says : (role : Role) (body : Body) (message : Message) (later : Body) (answers : List Message) (shown : List Indication) → IsMessage (base Initiator) (base Responder) message → Rooted body → react (base role) body message ≡ Takes later answers shown → Says later answers
+    taken-says : (role : Role) (body : Body) (message : Message) (later : Body) (answers : List Message) (shown : List Indication) → IsMessage (base Initiator) (base Responder) message → Rooted body → react (base role) body message ≡ Takes later answers shown → RootedAndSaid later answers
     taken-says role body (Transport unit) later answers shown i r h = go (passes_over body.link.phase) refl (is_transport_purged body.link.awaits) (transport_unit_fault (base role) body unit) refl h
       where
-        go : (p : Bool) → passes_over body.link.phase ≡ p → (q : Bool) (f : Option Fault) → transport_unit_fault (base role) body unit ≡ f → (if p then Passes else (if q then Passes else on_transport (base role) body unit f)) ≡ Takes later answers shown → Says later answers
+        go : (p : Bool) → passes_over body.link.phase ≡ p → (q : Bool) (f : Option Fault) → transport_unit_fault (base role) body unit ≡ f → (if p then Passes else (if q then Passes else on_transport (base role) body unit f)) ≡ Takes later answers shown → RootedAndSaid later answers
         go true e q f g h = cc
         go false e true f g h = cc
         go false e false (Some fault) g h = cc
         go false e false None g h =
             let x : after_transport (base role) body unit ≡ later = cc in
             let y : answers_to_transport (base role) body unit ≡ answers = cc in
-            subst (λ z. Says z answers) x (subst (Says (after_transport (base role) body unit)) y (unit-says role body unit i g e r))
+            subst (λ z. RootedAndSaid z answers) x (subst (RootedAndSaid (after_transport (base role) body unit)) y (unit-says role body unit i g e r))
     taken-says role body (Session word) later answers shown i r h = go (passes_over body.link.phase) refl (is_joined body.link.stage || is_carrying body.link.stage) (is_purged (is_initiator role) body.link.awaits (unit_of word)) (word_fault (base role) body word) refl h
       where
-        go : (p : Bool) → passes_over body.link.phase ≡ p → (q u : Bool) (f : Option Fault) → word_fault (base role) body word ≡ f → (if p then Passes else (if not q then failing body body.link.accepted transport_fault else (if u then Passes else on_word (base role) body word f))) ≡ Takes later answers shown → Says later answers
+        go : (p : Bool) → passes_over body.link.phase ≡ p → (q u : Bool) (f : Option Fault) → word_fault (base role) body word ≡ f → (if p then Passes else (if not q then failing body body.link.accepted transport_fault else (if u then Passes else on_word (base role) body word f))) ≡ Takes later answers shown → RootedAndSaid later answers
         go true e q u f g h = cc
         go false e false u f g h = cc
         go false e true true f g h = cc
@@ -490,7 +490,7 @@ module _ (free : Free) (tables : Tables) (spellings : Spellings) (a b : Config) 
         go false e true false None g h =
             let x : after_word (base role) body word ≡ later = cc in
             let y : answers_to_word (base role) body word ≡ answers = cc in
-            subst (λ z. Says z answers) x (subst (Says (after_word (base role) body word)) y (word-says role body word i g e r))
+            subst (λ z. RootedAndSaid z answers) x (subst (RootedAndSaid (after_word (base role) body word)) y (word-says role body word i g e r))
 
     -- ---- breaks
 
@@ -531,7 +531,7 @@ module _ (free : Free) (tables : Tables) (spellings : Spellings) (a b : Config) 
     stepped-said Initiator two later left sent s r l m = record { of_a = r; of_b = s.of_b; to_a = l; to_b = said-append two.to_b sent s.to_b m }
     stepped-said Responder two later left sent s r l m = record { of_a = s.of_a; of_b = r; to_a = said-append two.to_a sent s.to_a m; to_b = l }
 
-    sound-at : (role : Role) (two : Two) (ledger : Ledger) → Goes common two ledger → IsSound Direct (base role) (body_at role two)
+    sound-at : (role : Role) (two : Two) (ledger : Ledger) → Goes common two ledger → IsSoundBody Direct (base role) (body_at role two)
     sound-at Initiator two ledger g = (kept-in free tables spellings a b writes back right two ledger g).sound_a
     sound-at Responder two ledger g = (kept-in free tables spellings a b writes back right two ledger g).sound_b
 

@@ -7,7 +7,7 @@ use Rattle.osi_base.specs.declared.acse_word.Acse.TheVariants as acse
 use Rattle.dialogue.specs.declared.config.Mode.{Mode}
 use Rattle.dialogue.specs.declared.config.Mode.TheVariants.{Bare, Direct, Reliable}
 use Rattle.end_rules.specs.Base.{Base, Item, rtse_name, most_contexts, most_marks, last_activity}
-use Rattle.end_rules.specs.Messages.{TransportUnit, ConnectionRequest, ConnectionConfirm, DisconnectRequest, TransportError, Content, Value, Remote, Plea, Part, UserValues, Word, OfAssociation, OfData, OfMarks, OfActivities, AssociationWord, Connect, Accept, Refuse, Finish, Disconnect, Abort, AbortAccept, DataWord, Values, AlterContext, AlterContextAck, MarkWord, Mark, MarkAck, Restart, RestartAck, Give, Please, GiveConfirm, GiveAck, ActivityWord, Start, Resume, End, EndAck, Interrupt, InterruptAck, Discard, DiscardAck, Message, Transport, Session}
+use Rattle.end_rules.specs.Messages.{TransportUnit, ConnectionRequest, ConnectionConfirm, DisconnectRequest, TransportError, ValueContent, Value, Remote, Plea, Part, UserValues, Word, OfAssociation, OfData, OfMarks, OfActivities, AssociationWord, Connect, Accept, Refuse, Finish, Disconnect, Abort, AbortAccept, DataWord, Values, AlterContext, AlterContextAck, MarkWord, Mark, MarkAck, Restart, RestartAck, Give, Please, GiveConfirm, GiveAck, ActivityWord, Start, Resume, End, EndAck, Interrupt, InterruptAck, Discard, DiscardAck, Message, Transport, Session}
 use Rattle.end_rules.specs.Writing.{acse_value, session_connect, presentation_connect, connect_values}
 use Rattle.end_rules.specs.Connecting.{acceptance_message}
 use Rattle.said_words.specs.Fields.{IsContext, IsAlteration, AreAnswers, AreRestored}
@@ -40,7 +40,7 @@ pub record IsData (base : Base) (values : List Value) : Type 0 where
 abbrev pub rtse_pair : Pair
 rtse_pair = record { abstract_name = rtse_name; transfer = Ber }
 
-abbrev pub transfer_value : Content → Value
+abbrev pub transfer_value : ValueContent → Value
 transfer_value content = record { id = 3; pair = Some rtse_pair; content = content }
 
 -- a part of the octets of the transfer of an item

@@ -12,7 +12,7 @@ use Rattle.schedule_text.specs.declared.draft.Draft.{Draft}
 use Rattle.schedule_text.specs.declared.setting.Modes.{Modes}
 use Rattle.schedule_text.specs.Events.{no_draft}
 use Rattle.schedule_text.specs.Schedules.{Said, after_line, at_line, then_lines, lines_read, finished, then_finished, schedule_of, of_lines, lacks_mode, first_or_lack}
-use Rattle.schedule_text.specs.Laws.{said_by, BreaksFirst, SaysAll, told, FirstFault}
+use Rattle.schedule_text.specs.Laws.{said_by, BreaksFirst, SaysAll, told, HasOneReading}
 
 -- from this draft on: the line behind so many breaks the grammar, and none before it
 pub record BreaksFrom (modes : Modes) (tables : Tables) (start : Draft) (lines : List (List ℕ)) (before : ℕ) (kind : ScriptKind) : Type 0 where
@@ -136,7 +136,7 @@ told_is : (read : Reading Said) → at_line 1 read ≡ told read
 told_is (Ok s) = refl
 told_is (Err kind) = refl
 
-pub first_fault : (modes : Modes) (tables : Tables) (text : List ℕ) → modes.direct ≡ true → length text ≤ text_most → FirstFault modes tables text
+pub first_fault : (modes : Modes) (tables : Tables) (text : List ℕ) → modes.direct ≡ true → length text ≤ text_most → HasOneReading modes tables text
 first_fault modes tables text direct short =
     let lines = lines_of text in
     let whole = read_whole modes tables text direct short in

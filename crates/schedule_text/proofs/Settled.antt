@@ -9,7 +9,7 @@ use Rattle.dialogue.specs.declared.config.Mode.{Mode}
 use Rattle.dialogue.specs.declared.config.Mode.TheVariants.{Bare}
 use Rattle.end_config.specs.Refusing.{config_refusal}
 use Rattle.script_lines.specs.declared.fault.ScriptKind.TheVariants.{BadSetup}
-use Rattle.script_lines.specs.Reading.{Reading, ◌>>=◌, Fails}
+use Rattle.script_lines.specs.Reading.{Reading, ◌>>=◌, FailsWith}
 use Rattle.schedule_text.specs.declared.setting.Modes.{Modes}
 use Rattle.schedule_text.specs.declared.setting.Setting.{Setting}
 use Rattle.schedule_text.specs.Meeting.{Meet}
@@ -20,7 +20,7 @@ is_refused x None e = absurd (let no : ⊥ = cc in no)
 is_refused x (Some r) e = refl
 
 -- what is told of a configuration that was refused
-told_so : (x : ConfigRefusal) (o : Option ConfigRefusal) (told : Result (Unit {0}) ConfigRefusal) → told ≡ Err x → (told ≢ Err refusals.NoMemory → told ≡ refused_if o) → Fails (fault_of x) (unless_refused o)
+told_so : (x : ConfigRefusal) (o : Option ConfigRefusal) (told : Result (Unit {0}) ConfigRefusal) → told ≡ Err x → (told ≢ Err refusals.NoMemory → told ≡ refused_if o) → FailsWith (fault_of x) (unless_refused o)
 told_so refusals.NoMemory o told e h = tt
 told_so (refusals.BadContext id) o told e h = is_refused (refusals.BadContext id) o (sym e ∙ h (λ f. let same = sym e ∙ f in let no : ⊥ = cc in no))
 told_so refusals.TooManyContexts o told e h = is_refused refusals.TooManyContexts o (sym e ∙ h (λ f. let same = sym e ∙ f in let no : ⊥ = cc in no))
@@ -29,7 +29,7 @@ told_so refusals.BadReference o told e h = is_refused refusals.BadReference o (s
 told_so refusals.BadWindow o told e h = is_refused refusals.BadWindow o (sym e ∙ h (λ f. let same = sym e ∙ f in let no : ⊥ = cc in no))
 told_so refusals.TooLong o told e h = is_refused refusals.TooLong o (sym e ∙ h (λ f. let same = sym e ∙ f in let no : ⊥ = cc in no))
 
-pub told_of : (x : ConfigRefusal) (c : Config) (told : Result (Unit {0}) ConfigRefusal) → told ≡ Err x → (told ≢ Err refusals.NoMemory → told ≡ refused_if (config_refusal c)) → Fails (fault_of x) (accepted c)
+pub told_of : (x : ConfigRefusal) (c : Config) (told : Result (Unit {0}) ConfigRefusal) → told ≡ Err x → (told ≢ Err refusals.NoMemory → told ≡ refused_if (config_refusal c)) → FailsWith (fault_of x) (accepted c)
 unfolding accepted
 told_of x c told e h = told_so x (config_refusal c) told e h
 

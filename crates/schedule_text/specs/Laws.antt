@@ -43,7 +43,7 @@ told (Err kind) = Err (At 1 kind)
 
 -- Where direct mode is run: a text of not too many octets is a schedule as its lines say, or has one first fault: a line
 -- that breaks the grammar in this way, or the setup that stands after all of them, which is told at line 1.
-pub record FirstFault (modes : Modes) (tables : Tables) (text : List ℕ) : Type 0 where
+pub record HasOneReading (modes : Modes) (tables : Tables) (text : List ℕ) : Type 0 where
   pub said : (s : Said) → schedule_of modes tables text ≡ Ok s → SaysAll modes tables (lines_of text) (Ok s)
   pub broken : (number : ℕ) (kind : ScriptKind) → schedule_of modes tables text ≡ Err (At number kind)
       → ((before : ℕ) × (number ≡ suc before) × BreaksFirst modes tables (lines_of text) before kind)
@@ -53,7 +53,7 @@ pub record FirstFault (modes : Modes) (tables : Tables) (text : List ℕ) : Type
 
 -- for every module and every text
 abbrev pub EveryTextHasOneReading : Type 0
-EveryTextHasOneReading = (modes : Modes) (tables : Tables) (text : List ℕ) → modes.direct ≡ true → length text ≤ text_most → FirstFault modes tables text
+EveryTextHasOneReading = (modes : Modes) (tables : Tables) (text : List ℕ) → modes.direct ≡ true → length text ≤ text_most → HasOneReading modes tables text
 
 -- two configurations that meet in bare mode are ones that ends of bare mode don't refuse
 abbrev pub SetupsOfBareMode : Type 0

@@ -18,10 +18,10 @@ or_kind kind None = Err kind
 or_kind kind (Some x) = Ok x
 
 -- What a function returned, seen by view, is what reading gives, unless memory ran out.
-abbrev pub Fails : {Y : Type 0} → LineFault → Reading Y → Type 0
-Fails (faults.Kind kind) read = read ≡ Err kind
-Fails faults.NoMemory read = Unit {0}
+abbrev pub FailsWith : {Y : Type 0} → LineFault → Reading Y → Type 0
+FailsWith (faults.Kind kind) read = read ≡ Err kind
+FailsWith faults.NoMemory read = Unit {0}
 
 abbrev pub Gives : {X Y : Type 0} → (X → Y) → Result X LineFault → Reading Y → Type 0
 Gives view (Ok x) read = read ≡ Ok (view x)
-Gives view (Err e) read = Fails e read
+Gives view (Err e) read = FailsWith e read

@@ -4,7 +4,7 @@ ghost use Rattle.std.specs.Prelude.{◌≡◌, ◌++◌, ◌∷◌, [], true, If
 ghost use Rattle.end_rules.specs.Base.{Spellings, base_of};
 ghost use Rattle.std.specs.List.{list_any};
 ghost use Rattle.osi_base.specs.Oid.{IsOid};
-ghost use Rattle.end_rules.specs.Sets.{is_among, proposed_ids, accepted_set, lowest_with};
+ghost use Rattle.end_rules.specs.Sets.{proposed_ids, accepted_set, lowest_with};
 ghost use Rattle.end_rules.specs.Altering.{has_double};
 ghost use Rattle.end_rules.specs.Policy.{opening_policy, is_faulty_proposal};
 ghost use Rattle.end_rules.specs.Writing.{proposal_in_ber, own_proposals, proposals};

@@ -2,7 +2,7 @@
 use Rattle.std.proofs.Common.{◌≡◌, ℕ, zero, suc, ◌+◌, ◌-◌, ◌<◌, ◌≤◌, List, [], ◌∷◌, length, Option, Result, Ok, Err, refl, sym, ap, ◌∙◌, arith}
 use Rattle.spdu_codec.specs.declared.parameters.Slot.{Slot}
 use Rattle.spdu_codec.specs.Tables.{row_of}
-use Rattle.spdu_codec.specs.Reading.{Fault, at, Fails, front, value_at}
+use Rattle.spdu_codec.specs.Reading.{Fault, at, FailsWith, front, value_at}
 use Rattle.spdu_codec.specs.declared.fault.SFault.{SFault}
 use Rattle.spdu_codec.specs.declared.fault.SFault.TheVariants as faults
 use Rattle.spdu_codec.specs.Places.{placed, on_value, user_among}
@@ -51,6 +51,6 @@ unfolding user_among
 loop_ends table end at rest whole e reads = ap (among table end at) (sym e) ∙ reads
 
 -- a fault that is no want of memory
-pub fault_is : (e : SFault) (r : Result (List ℕ × List ℕ) Fault) → (e ≡ faults.NoMemory → ⊥) → Fails e r → (f : Fault) × (r ≡ Err f)
+pub fault_is : (e : SFault) (r : Result (List ℕ × List ℕ) Fault) → (e ≡ faults.NoMemory → ⊥) → FailsWith e r → (f : Fault) × (r ≡ Err f)
 fault_is faults.NoMemory r ne h = absurd (ne refl)
 fault_is (faults.At place kind) r ne h = (at place kind, h)

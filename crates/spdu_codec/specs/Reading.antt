@@ -26,17 +26,17 @@ abbrev pub ◌>>=◌ : {A B : Type 0} → Result A Fault → (A → Result B Fau
 (Err e) >>= f = Err e
 
 -- What a function returned, seen by view, is what reading gives, unless memory ran out.
-abbrev pub Fails : {Y : Type 0} → SFault → Result Y Fault → Type 0
-Fails faults.NoMemory read = Unit {0}
-Fails (faults.At place kind) read = read ≡ Err (at place kind)
+abbrev pub FailsWith : {Y : Type 0} → SFault → Result Y Fault → Type 0
+FailsWith faults.NoMemory read = Unit {0}
+FailsWith (faults.At place kind) read = read ≡ Err (at place kind)
 
 abbrev pub Gives : {Y : Type 0} → Result Y SFault → Result Y Fault → Type 0
 Gives (Ok x) read = read ≡ Ok x
-Gives (Err e) read = Fails e read
+Gives (Err e) read = FailsWith e read
 
 abbrev pub GivesBy : {X Y : Type 0} → (X → Y) → Result X SFault → Result Y Fault → Type 0
 GivesBy view (Ok x) read = read ≡ Ok (view x)
-GivesBy view (Err e) read = Fails e read
+GivesBy view (Err e) read = FailsWith e read
 
 -- In each function the octets end at the place `end`; so a field at their front has the place `end` less their number.
 abbrev pub front : ℕ → List ℕ → ℕ

@@ -16,7 +16,7 @@ use Rattle.stream_front.specs.declared.front.Front.TheVariants.{Short, Whole, Fa
 use Rattle.stream_front.specs.declared.scanner.Scanner.{Scanner}
 use Rattle.stream_front.specs.declared.scanner.Stage as stages
 use Rattle.stream_front.specs.declared.scanner.Stage.TheVariants as stage
-use Rattle.stream_front.specs.Resuming.{End, spot, scope_in, is_inside, goes_on, next_at, zero_at, outermost, length_at, number_then, contents_left, counted, size_left, outcome, resume, IsSound}
+use Rattle.stream_front.specs.Resuming.{End, spot, scope_in, is_inside, goes_on, next_at, zero_at, outermost, length_at, number_then, contents_left, counted, size_left, outcome, resume, IsSoundStage}
 use Rattle.stream_front.specs.Steps as steps
 use Rattle.stream_front.specs.Steps.{step}
 use Rattle.stream_front.proofs.Shrinking.{bind_same}
@@ -304,7 +304,7 @@ second_is s octet rest =
 
 -- ---- each stage
 
-step_at : (seen field depth : ℕ) (kept : stages.Stage) (octet : ℕ) (rest : List ℕ) → IsSound kept seen depth
+step_at : (seen field depth : ℕ) (kept : stages.Stage) (octet : ℕ) (rest : List ℕ) → IsSoundStage kept seen depth
     → outcome (resume (standing seen field depth kept) (octet ∷ rest)) ≡ outcome (resume (step (standing seen field depth kept) octet) rest)
 unfolding step
 step_at seen field depth stage.Next octet rest sound = first_is seen field depth stage.Next octet rest
@@ -319,5 +319,5 @@ step_at seen field depth (stage.Contents left) octet rest sound = ap outcome (co
 step_at seen field depth stage.Whole octet rest sound = refl
 step_at seen field depth (stage.Faulty place) octet rest sound = refl
 
-pub step_is : (s : Scanner) (octet : ℕ) (rest : List ℕ) → IsSound s.stage s.seen s.depth → outcome (resume s (octet ∷ rest)) ≡ outcome (resume (step s octet) rest)
+pub step_is : (s : Scanner) (octet : ℕ) (rest : List ℕ) → IsSoundStage s.stage s.seen s.depth → outcome (resume s (octet ∷ rest)) ≡ outcome (resume (step s octet) rest)
 step_is s octet rest sound = step_at s.seen s.field s.depth s.stage octet rest sound

@@ -20,7 +20,7 @@ use Rattle.stream_front.specs.declared.scanner.Scanner.{Scanner}
 use Rattle.stream_front.specs.declared.scanner.Stage as stages
 use Rattle.stream_front.specs.declared.scanner.Stage.TheVariants as stage
 use Rattle.stream_front.specs.Fronts.{front_of, front_at}
-use Rattle.stream_front.specs.Resuming.{End, spot, scope_in, next_at, outermost, goes_on, size_left, outcome, resume, is_done, told, IsSound, HasSeen}
+use Rattle.stream_front.specs.Resuming.{End, spot, scope_in, next_at, outermost, goes_on, size_left, outcome, resume, is_done, told, IsSoundStage, HasSeen}
 use Rattle.stream_front.specs.Steps as steps
 use Rattle.stream_front.proofs.Turning.{bool_is, next_in}
 use Rattle.stream_front.proofs.Lengths.{size_short}
@@ -77,7 +77,7 @@ front_is strict octets =
 
 -- ---- octets behind a stage
 
-nothing_left : (seen field depth : ℕ) (kept : stages.Stage) → IsSound kept seen depth → is_done kept ≡ false → outcome (resume (record { seen = seen; field = field; depth = depth; stage = kept }) []) ≡ Short
+nothing_left : (seen field depth : ℕ) (kept : stages.Stage) → IsSoundStage kept seen depth → is_done kept ≡ false → outcome (resume (record { seen = seen; field = field; depth = depth; stage = kept }) []) ≡ Short
 unfolding identifier_at digits_at contents_at definite_at look_at
 nothing_left seen field zero stage.Next sound on = refl
 nothing_left seen field (suc depth) stage.Next sound on = ap outcome (next_in depth (spot seen []))

@@ -8,14 +8,14 @@ use Rattle.asn1_types.specs.Tags.{class_of, capped}
 use Rattle.stream_front.specs.declared.scanner.Scanner.{Scanner}
 use Rattle.stream_front.specs.declared.scanner.Stage as stages
 use Rattle.stream_front.specs.declared.scanner.Stage.TheVariants as stage
-use Rattle.stream_front.specs.Resuming.{is_inside, is_done, IsSound}
+use Rattle.stream_front.specs.Resuming.{is_inside, is_done, IsSoundStage}
 use Rattle.stream_front.specs.Steps as steps
 use Rattle.stream_front.specs.Steps.{step}
 use Rattle.stream_front.proofs.Turning.{bool_is}
 
 -- it is sound, and it has seen one octet more
 pub record IsNext (s t : Scanner) : Type 0 where
-  pub sound : IsSound t.stage t.seen t.depth
+  pub sound : IsSoundStage t.stage t.seen t.depth
   pub seen : t.seen ≡ s.seen + 1
 
 branch : (s : Scanner) (b : Bool) (x y : Scanner) → (b ≡ true → IsNext s x) → (b ≡ false → IsNext s y) → IsNext s (if b then x else y)
@@ -98,7 +98,7 @@ content s left lt some =
 abbrev standing : ℕ → ℕ → ℕ → stages.Stage → Scanner
 standing seen field depth kept = record { seen = seen; field = field; depth = depth; stage = kept }
 
-next_at : (seen field depth : ℕ) (kept : stages.Stage) (octet : ℕ) → IsSound kept seen depth → is_done kept ≡ false → IsNext (standing seen field depth kept) (step (standing seen field depth kept) octet)
+next_at : (seen field depth : ℕ) (kept : stages.Stage) (octet : ℕ) → IsSoundStage kept seen depth → is_done kept ≡ false → IsNext (standing seen field depth kept) (step (standing seen field depth kept) octet)
 unfolding step
 next_at seen field depth stage.Next octet sound on = first (standing seen field depth stage.Next) octet sound
 next_at seen field depth stage.Zero octet sound on = second (standing seen field depth stage.Zero) octet sound
@@ -110,5 +110,5 @@ next_at seen field depth (stage.Contents left) octet sound on = content (standin
 next_at seen field depth stage.Whole octet sound on = absurd (let wrong : true ≡ false = on in cc)
 next_at seen field depth (stage.Faulty place) octet sound on = absurd (let wrong : true ≡ false = on in cc)
 
-pub next : (s : Scanner) (octet : ℕ) → IsSound s.stage s.seen s.depth → is_done s.stage ≡ false → IsNext s (step s octet)
+pub next : (s : Scanner) (octet : ℕ) → IsSoundStage s.stage s.seen s.depth → is_done s.stage ≡ false → IsNext s (step s octet)
 next s octet sound on = next_at s.seen s.field s.depth s.stage octet sound on

@@ -112,16 +112,16 @@ outcome (Err fault) = faulty fault
 
 -- At most 32 indefinite lengths are open; only inside one of them a zero octet may begin an end-of-contents. A length
 -- that isn't whole lies within the limit.
-abbrev pub IsSound : stages.Stage → ℕ → ℕ → Type 0
-IsSound stage.Next seen depth = depth ≤ 32
-IsSound stage.Zero seen depth = depth ≤ 32
-IsSound (stage.High constructed) seen depth = depth < 32
-IsSound (stage.Digits constructed padded number) seen depth = (depth < 32) × (number ≤ 2 ^ 32)
-IsSound (stage.Length constructed) seen depth = depth < 32
-IsSound (stage.Size size left number) seen depth = (depth < 32) × (0 < left) × (number ≤ 2 ^ 32) × (seen ≤ 262144)
-IsSound (stage.Contents left) seen depth = (depth < 32) × (0 < left)
-IsSound stage.Whole seen depth = Unit {0}
-IsSound (stage.Faulty place) seen depth = Unit {0}
+abbrev pub IsSoundStage : stages.Stage → ℕ → ℕ → Type 0
+IsSoundStage stage.Next seen depth = depth ≤ 32
+IsSoundStage stage.Zero seen depth = depth ≤ 32
+IsSoundStage (stage.High constructed) seen depth = depth < 32
+IsSoundStage (stage.Digits constructed padded number) seen depth = (depth < 32) × (number ≤ 2 ^ 32)
+IsSoundStage (stage.Length constructed) seen depth = depth < 32
+IsSoundStage (stage.Size size left number) seen depth = (depth < 32) × (0 < left) × (number ≤ 2 ^ 32) × (seen ≤ 262144)
+IsSoundStage (stage.Contents left) seen depth = (depth < 32) × (0 < left)
+IsSoundStage stage.Whole seen depth = Unit {0}
+IsSoundStage (stage.Faulty place) seen depth = Unit {0}
 
 -- what stands first is known
 abbrev pub is_done : stages.Stage → Bool
@@ -136,6 +136,6 @@ told _ seen = Short
 
 -- These are the first octets that it has seen, and what they say however they go on is what reading on says.
 pub record HasSeen (s : Scanner) (octets : List ℕ) : Type 0 where
-  pub sound : IsSound s.stage s.seen s.depth
+  pub sound : IsSoundStage s.stage s.seen s.depth
   pub within : s.seen ≤ length octets
   pub reads : (strict : Bool) (more : List ℕ) → front_at strict (take s.seen octets ++ more) ≡ outcome (resume s more)

@@ -2,7 +2,7 @@
 
 ghost use Rattle.std.specs.Prelude.{◌≡◌, ◌<◌, ◌≤◌, ◌^◌, ◌+◌, nat_lt};
 ghost use Rattle.asn1_types.specs.Tags.{capped};
-ghost use Rattle.stream_front.specs.Resuming.{IsSound};
+ghost use Rattle.stream_front.specs.Resuming.{IsSoundStage};
 ghost use Rattle.stream_front.specs.Steps as steps;
 
 use crate::scanner::{Scanner, Stage};
@@ -232,7 +232,7 @@ fn content(scanner: Scanner, left: u64) -> Scanner
 #[tactic(auto, unfolding(crate::specs::Steps::step))]
 pub(crate) fn step(scanner: Scanner, octet: u8) -> Scanner
     requires seen { scanner.seen < 2 ^ 63 }
-    requires sound { IsSound scanner.stage scanner.seen scanner.depth }
+    requires sound { IsSoundStage scanner.stage scanner.seen scanner.depth }
     ensures { result ≡ steps.step scanner octet }
 {
     match scanner.stage {

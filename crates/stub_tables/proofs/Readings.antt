@@ -8,7 +8,7 @@ use Rattle.asn1_types.specs.declared.value.Val.{Val}
 use Rattle.asn1_types.specs.declared.row.TypeId.{TypeId}
 use Rattle.asn1_types.specs.declared.row.TypeRow.{TypeRow}
 use Rattle.asn1_types.specs.Rows.{nesting, openings}
-use Rattle.asn1_types.specs.Table.{HasShortTag, IsSound, refusal}
+use Rattle.asn1_types.specs.Table.{HasShortTag, AreSoundRows, refusal}
 use Rattle.asn1_types.specs.Value.{Value, any, present}
 use Rattle.ber_spelling.specs.declared.fault.ReadFault.{ReadFault}
 use Rattle.ber_spelling.specs.declared.fault.ReadFault.TheVariants.{Short}
@@ -54,7 +54,7 @@ short_at (r ∷ rows) h (suc n) row e = short_at rows h.1 n row e
 heads_short : AllByRecursion HasShortTag head_rows
 heads_short = (tt, (tt, (tt, (tt, (omega arith, (tt, (tt, (omega arith, (tt, (tt, (omega arith, (tt, (omega arith, (tt, tt))))))))))))))
 
-pub heads_sound : IsSound head_rows
+pub heads_sound : AreSoundRows head_rows
 heads_sound = record { each = added [] head_rows heads_added; short = short_at head_rows heads_short }
 
 -- ---- whole values
@@ -162,7 +162,7 @@ one_error i j c d a b e =
 abbrev returns : Code → Val → Returned
 returns code value = record { code = code; value = value }
 
-module _ (t : Tables) (sound : IsSound t.types) where
+module _ (t : Tables) (sound : AreSoundRows t.types) where
   one_typed : (of : Option TypeId) (v w : Val) (octets : List ℕ) → TypedAs t.types of v octets → TypedAs t.types of w octets → v ≡ w
   one_typed None v w octets p q = absurd p
   one_typed (Some of) v w octets p q = (none_begins t.types of.0 false 262144 v w octets octets [] [] sound p q refl).1

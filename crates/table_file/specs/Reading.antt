@@ -40,11 +40,11 @@ fold_at step (suc n) a s = do
   fold_at step n x.0 x.1
 
 -- What a function returned, seen by view, is what reading gives, unless memory ran out.
-abbrev pub Fails : {Y : Type 0} → Stop → Reading Y → Type 0
-Fails stops.Cut read = read ≡ Err stops.Cut
-Fails (stops.Bad place) read = read ≡ Err (stops.Bad place)
-Fails stops.NoMemory read = Unit {0}
+abbrev pub FailsWith : {Y : Type 0} → Stop → Reading Y → Type 0
+FailsWith stops.Cut read = read ≡ Err stops.Cut
+FailsWith (stops.Bad place) read = read ≡ Err (stops.Bad place)
+FailsWith stops.NoMemory read = Unit {0}
 
 abbrev pub Gives : {X Y : Type 0} → (X → Y) → Result X Stop → Reading Y → Type 0
 Gives view (Ok x) read = read ≡ Ok (view x)
-Gives view (Err e) read = Fails e read
+Gives view (Err e) read = FailsWith e read

@@ -14,7 +14,7 @@ use Rattle.asn1_types.specs.Defaults.{is_item}
 use Rattle.asn1_types.specs.Fits.{is_number, is_octet, boolean_fits, integer_fits, enumerated_fits, null_fits, octets_fit, bits_fit, object_id_fits, text_fits, parts_fit, sequence_fits, values_fit, list_fits, alternative_fits, choice_fits, form_by, has_form, fits}
 use Rattle.asn1_types.specs.Rising.{rise, set_rises, sorted}
 use Rattle.asn1_types.specs.Rows.{names_of, rows_of_parts}
-use Rattle.asn1_types.specs.Table.{IsSound, is_double_name}
+use Rattle.asn1_types.specs.Table.{AreSoundRows, is_double_name}
 use Rattle.asn1_types.specs.Value as tree
 use Rattle.asn1_types.specs.Value.{Value}
 use Rattle.asn1_types.specs.Writing.{written}
@@ -192,7 +192,7 @@ past_all [] n e = omega arith
 past_all (x ∷ xs) zero e = absurd (let no : ⊥ = cc in no)
 past_all (x ∷ xs) (suc n) e = let less = past_all xs n e in omega arith
 
-module _ (rows : List TypeRow) (sound : IsSound rows) (noted : list_all has_notation rows ≡ true) where
+module _ (rows : List TypeRow) (sound : AreSoundRows rows) (noted : list_all has_notation rows ≡ true) where
   abbrev pub At : ℕ → Type 0
   At n = Inner (has_form rows n) (printed rows n) (read_as rows n)
 

@@ -5,7 +5,7 @@ use Rattle.asn1_types.specs.declared.row.Item.{Item}
 use Rattle.asn1_types.specs.declared.row.Part.{Part}
 use Rattle.asn1_types.specs.declared.row.TypeRow.{TypeRow}
 use Rattle.asn1_types.specs.declared.row.TypeRow.TheVariants as row
-use Rattle.asn1_types.specs.Table.{IsSound}
+use Rattle.asn1_types.specs.Table.{AreSoundRows}
 use Rattle.asn1_types.specs.Value as tree
 use Rattle.asn1_types.specs.Value.{Value}
 use Rattle.asn1_types.specs.Fits.{is_number, is_octet, bits_fit, object_id_fits, fits}
@@ -55,5 +55,5 @@ has_notation r = true
 
 -- of tables all of whose rows have a notation, as those of modules
 abbrev pub TypedAreReadBack : Type 0
-TypedAreReadBack = (rows : List TypeRow) (n : ℕ) (v : Value) (rest : List ℕ) → IsSound rows → list_all has_notation rows ≡ true
+TypedAreReadBack = (rows : List TypeRow) (n : ℕ) (v : Value) (rest : List ℕ) → AreSoundRows rows → list_all has_notation rows ≡ true
     → fits rows n v ≡ true → may_follow rest ≡ true → value_at rows n (printed rows n v ++ rest) ≡ Some (record { value = v; rest = rest })

@@ -3,13 +3,13 @@ use Rattle.std.proofs.Common.{◌≡◌, ℕ, zero, suc, ◌+◌, ◌-◌, ◌<�
 use Rattle.std.proofs.lemmas.Bool.{ltb-false}
 use Rattle.std.proofs.lemmas.List.{length-take}
 use Rattle.osi_base.specs.declared.words.Kind.TheVariants as kinds
-use Rattle.tpkt.specs.declared.stop.Stop.TheVariants.{Short, At}
-use Rattle.tpkt.specs.declared.stop.Halt.{Halt}
-use Rattle.tpkt.specs.declared.stop.Halt.TheVariants as halts
+use Rattle.tpkt.specs.declared.header_stops.Stop.TheVariants.{Short, At}
+use Rattle.tpkt.specs.declared.header_stops.Halt.{Halt}
+use Rattle.tpkt.specs.declared.header_stops.Halt.TheVariants as halts
 use Rattle.tpkt.proofs.Results.{ok_is, refused}
 use Rattle.tpkt.specs.declared.parameters.Seen.{Seen}
-use Rattle.tpkt.specs.declared.stop.Stop.{Stop}
-use Rattle.tpkt.specs.Header.{◌>>=◌, Fails, with_parameter, value_at, parameter_at, parameters_at}
+use Rattle.tpkt.specs.declared.header_stops.Stop.{Stop}
+use Rattle.tpkt.specs.Header.{◌>>=◌, FailsWith, with_parameter, value_at, parameter_at, parameters_at}
 
 bind_same : {A B : Type 0} (r : Result A Stop) (f g : A → Result B Stop) → ((x : A) → f x ≡ g x) → (r >>= f) ≡ (r >>= g)
 bind_same (Ok x) f g e = e x
@@ -64,11 +64,11 @@ none_left zero o seen xs e = refl
 none_left (suc m) o seen xs e = absurd (omega arith)
 
 -- a failing step of the loop fails the whole
-pub fails_at : (e : Halt) (m o : ℕ) (seen : Seen) (xs : List ℕ) (total : Result Seen Stop) → 0 < m → Fails e (parameter_at m o xs) → parameters_at m m o seen xs ≡ total → Fails e total
+pub fails_at : (e : Halt) (m o : ℕ) (seen : Seen) (xs : List ℕ) (total : Result Seen Stop) → 0 < m → FailsWith e (parameter_at m o xs) → parameters_at m m o seen xs ≡ total → FailsWith e total
 fails_at halts.Memory m o seen xs total lt h so_far = tt
 fails_at (halts.Stop s) m o seen xs total lt h so_far = sym so_far ∙ stops_at m o seen xs s lt h
 
-pub fails_in : (e : Halt) (m o : ℕ) (seen : Seen) (xs : List ℕ) (p : ℕ × List ℕ × List ℕ) (total : Result Seen Stop) → 0 < m → parameter_at m o xs ≡ Ok p → Fails e (with_parameter o seen p.0 p.1)
-    → parameters_at m m o seen xs ≡ total → Fails e total
+pub fails_in : (e : Halt) (m o : ℕ) (seen : Seen) (xs : List ℕ) (p : ℕ × List ℕ × List ℕ) (total : Result Seen Stop) → 0 < m → parameter_at m o xs ≡ Ok p → FailsWith e (with_parameter o seen p.0 p.1)
+    → parameters_at m m o seen xs ≡ total → FailsWith e total
 fails_in halts.Memory m o seen xs p total lt g h so_far = tt
 fails_in (halts.Stop s) m o seen xs p total lt g h so_far = sym so_far ∙ stops_in m o seen xs p s lt g h

@@ -5,14 +5,14 @@ use Rattle.std.specs.List.{flat_map}
 use Rattle.std.proofs.lemmas.Bool.{lt-leb, ltb-false, le-ltb, leb-true, leb-false, le-leb, and_parts, or_parts}
 use Rattle.std.proofs.lemmas.List.{take-append-drop, length-append, length-take}
 use Rattle.osi_base.specs.declared.words.Kind.TheVariants as kinds
-use Rattle.tpkt.specs.declared.packet.Ends.{Ends}
+use Rattle.tpkt.specs.declared.packet.ConnectionFields.{ConnectionFields}
 use Rattle.tpkt.specs.declared.packet.Packet.{Packet}
 use Rattle.tpkt.specs.declared.packet.Packet.TheVariants.{Connect, Confirm, Disconnect, Problem, Tsdu}
 use Rattle.tpkt.specs.declared.header.Header.{Header}
 use Rattle.tpkt.specs.declared.header.Header.TheVariants.{Control, Data}
 use Rattle.tpkt.specs.declared.parameters.Seen.{Seen}
-use Rattle.tpkt.specs.declared.stop.Stop.{Stop}
-use Rattle.tpkt.specs.declared.stop.Stop.TheVariants.{Short, At}
+use Rattle.tpkt.specs.declared.header_stops.Stop.{Stop}
+use Rattle.tpkt.specs.declared.header_stops.Stop.TheVariants.{Short, At}
 use Rattle.tpkt.specs.Wire.{two, packet, header, mark, tsdu_limit, parameter, values, Whole, Spells, IsConnection, IsDisconnect, IsProblem, IsUnit, IsSize, IsSelector}
 use Rattle.tpkt.specs.Stream.{IsOctets}
 use Rattle.tpkt.specs.Header.{◌>>=◌, nothing_seen, or_empty, parameters_at, ends_at, passed_at, mark_at, data_at, fills, code_at, indicator_at, length_at, header_at}
@@ -83,8 +83,8 @@ opens_again begun high low li code rest at_least some short within =
 
 pub data Case (begun room li code : ℕ) (rest : List ℕ) (h : Header) : Type 0 where
   IsPart : code ≡ 240 → li ≡ 2 → data_at begun (room - 2) rest ≡ Ok h → Case begun room li code rest h
-  IsRequest : code ≡ 224 → li ≡ room → 6 ≤ li → (ends : Ends) → ends_at li rest ≡ Ok ends → Control (Connect ends) ≡ h → Case begun room li code rest h
-  IsAnswer : code ≡ 208 → li ≡ room → 6 ≤ li → (ends : Ends) → ends_at li rest ≡ Ok ends → Control (Confirm ends) ≡ h → Case begun room li code rest h
+  IsRequest : code ≡ 224 → li ≡ room → 6 ≤ li → (ends : ConnectionFields) → ends_at li rest ≡ Ok ends → Control (Connect ends) ≡ h → Case begun room li code rest h
+  IsAnswer : code ≡ 208 → li ≡ room → 6 ≤ li → (ends : ConnectionFields) → ends_at li rest ≡ Ok ends → Control (Confirm ends) ≡ h → Case begun room li code rest h
   IsEnd : code ≡ 128 → li ≡ room → 6 ≤ li → passed_at (li - 1) Disconnect rest ≡ Ok h → Case begun room li code rest h
   IsError : code ≡ 112 → li ≡ room → passed_at (li - 1) Problem rest ≡ Ok h → Case begun room li code rest h
 
@@ -229,14 +229,14 @@ is_selector : (o : Option (List ℕ)) (vs : List (List ℕ)) → vs ≡ selector
 is_selector None vs e = subst (IsSelector []) (sym e) refl
 is_selector (Some v) vs e = subst (IsSelector v) (sym e) refl
 
-pub record EndsFound (code li : ℕ) (ends : Ends) (rest : List ℕ) : Type 0 where
+pub record EndsFound (code li : ℕ) (ends : ConnectionFields) (rest : List ℕ) : Type 0 where
   pub fields : List ℕ
   pub more : List ℕ
   pub parts : rest ≡ fields ++ more
   pub len : length fields + 1 ≡ li
   pub whole : IsConnection code ends (li ∷ code ∷ fields)
 
-abbrev ends_of : ℕ → ℕ → ℕ → ℕ → Seen → Ends
+abbrev ends_of : ℕ → ℕ → ℕ → ℕ → Seen → ConnectionFields
 ends_of a b c d seen = record {
   destination = 256 * a + b;
   source = 256 * c + d;
@@ -273,7 +273,7 @@ found_as code li a b c d class seen rest ps more six fits zero_class parts len a
       };
     }
 
-ends_found : (code li : ℕ) (ends : Ends) (rest : List ℕ) → 6 ≤ li → IsOctets rest → ends_at li rest ≡ Ok ends → EndsFound code li ends rest
+ends_found : (code li : ℕ) (ends : ConnectionFields) (rest : List ℕ) → 6 ≤ li → IsOctets rest → ends_at li rest ≡ Ok ends → EndsFound code li ends rest
 unfolding ends_at
 ends_found code li ends [] six fits e = absurd cc
 ends_found code li ends (a ∷ []) six fits e = absurd cc
@@ -284,7 +284,7 @@ ends_found code li ends (a ∷ b ∷ c ∷ d ∷ class ∷ rest) six fits e =
     let p = passed (class == 0) (At 10 kinds.Content) _ ends e in
     let q = bound (parameters_at (li - 6) (li - 6) 11 nothing_seen rest) (λ seen. Ok (ends_of a b c d seen)) ends p.1 in
     let f = all_found (li - 6) (li - 6) 11 nothing_seen q.0 rest (omega arith) q.1 in
-    subst (λ (n : Ends). EndsFound code li n (a ∷ b ∷ c ∷ d ∷ class ∷ rest)) (ok_is (ends_of a b c d q.0) ends q.2)
+    subst (λ (n : ConnectionFields). EndsFound code li n (a ∷ b ∷ c ∷ d ∷ class ∷ rest)) (ok_is (ends_of a b c d q.0) ends q.2)
     (found_as code li a b c d class q.0 rest f.0 f.1 six fits (eq_is class 0 p.0) f.2 f.3 f.4)
 
 -- ---- units other than a DT
@@ -401,13 +401,13 @@ size_of : (o : Option ℕ) (vs : List (List ℕ)) → IsSize o vs → vs ≡ siz
 size_of None vs e = e
 size_of (Some n) vs e = e
 
-abbrev fine : Ends → Result Ends Stop
+abbrev fine : ConnectionFields → Result ConnectionFields Stop
 fine e = Ok e
 
-abbrev made : ℕ → ℕ → Option ℕ → List ℕ → List ℕ → Ends
+abbrev made : ℕ → ℕ → Option ℕ → List ℕ → List ℕ → ConnectionFields
 made destination source size calling called = record { destination = destination; source = source; size = size; calling = calling; called = called }
 
-ends_again : (code li : ℕ) (ends : Ends) (unit more : List ℕ) → (c : IsConnection code ends unit) → li ≡ length (code ∷ two ends.destination ++ two ends.source ++ 0 ∷ flat_map parameter c.parameters)
+ends_again : (code li : ℕ) (ends : ConnectionFields) (unit more : List ℕ) → (c : IsConnection code ends unit) → li ≡ length (code ∷ two ends.destination ++ two ends.source ++ 0 ∷ flat_map parameter c.parameters)
     → ends_at li ((two ends.destination ++ two ends.source ++ 0 ∷ flat_map parameter c.parameters) ++ more) ≡ Ok ends
 unfolding ends_at
 ends_again code li ends unit more c len =
@@ -423,7 +423,7 @@ ends_again code li ends unit more c len =
     ∙ ap (λ v. made ends.destination ends.source ends.size ends.calling v) called.2 in
     rw read (ap fine whole)
 
-request_again : (begun : ℕ) (ends : Ends) (unit more : List ℕ) → IsConnection 224 ends unit → 3 ≤ length unit → length unit ≤ 255 → header_at begun (packet unit ++ more) ≡ Ok (Control (Connect ends))
+request_again : (begun : ℕ) (ends : ConnectionFields) (unit more : List ℕ) → IsConnection 224 ends unit → 3 ≤ length unit → length unit ≤ 255 → header_at begun (packet unit ++ more) ≡ Ok (Control (Connect ends))
 unfolding code_at
 request_again begun ends unit more c long short =
     let fields = two ends.destination ++ two ends.source ++ 0 ∷ flat_map parameter c.parameters in
@@ -433,7 +433,7 @@ request_again begun ends unit more c long short =
     ap (λ (u : List ℕ). header_at begun (packet u ++ more)) c.whole
     ∙ control_again begun li 224 fields more (Connect ends) refl (omega arith) (omega arith) (rw (fills_again li 6 six, ends_again 224 li ends unit more c refl) refl)
 
-answer_again : (begun : ℕ) (ends : Ends) (unit more : List ℕ) → IsConnection 208 ends unit → 3 ≤ length unit → length unit ≤ 255 → header_at begun (packet unit ++ more) ≡ Ok (Control (Confirm ends))
+answer_again : (begun : ℕ) (ends : ConnectionFields) (unit more : List ℕ) → IsConnection 208 ends unit → 3 ≤ length unit → length unit ≤ 255 → header_at begun (packet unit ++ more) ≡ Ok (Control (Confirm ends))
 unfolding code_at
 answer_again begun ends unit more c long short =
     let fields = two ends.destination ++ two ends.source ++ 0 ∷ flat_map parameter c.parameters in

@@ -6,8 +6,8 @@ use Rattle.std.proofs.lemmas.Bool.{ltb-false, le-ltb, cases_Bool}
 use Rattle.std.proofs.lemmas.List.{append-nil, take-append-drop, length-append, length-take, take_at, drop_at}
 use Rattle.osi_base.specs.declared.words.Kind.TheVariants as kinds
 use Rattle.tpkt.specs.declared.parameters.Seen.{Seen}
-use Rattle.tpkt.specs.declared.stop.Stop.{Stop}
-use Rattle.tpkt.specs.declared.stop.Stop.TheVariants.{Short, At}
+use Rattle.tpkt.specs.declared.header_stops.Stop.{Stop}
+use Rattle.tpkt.specs.declared.header_stops.Stop.TheVariants.{Short, At}
 use Rattle.tpkt.specs.Wire.{parameter, values}
 use Rattle.tpkt.specs.Header.{with_size, with_parameter, value_at, parameter_at, parameters_at}
 use Rattle.tpkt.proofs.Results.{ok_is, refused, chosen, bound}

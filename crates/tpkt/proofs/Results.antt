@@ -1,7 +1,7 @@
 -- Steps that may fail, taken apart.
 use Rattle.std.proofs.Common.{◌≡◌, Bool, true, false, cond, Result, Ok, Err, refl, inl, inr}
 use Rattle.std.specs.Prelude.{◌⊎◌}
-use Rattle.tpkt.specs.declared.stop.Stop.{Stop}
+use Rattle.tpkt.specs.declared.header_stops.Stop.{Stop}
 use Rattle.tpkt.specs.Header.{◌>>=◌}
 
 abbrev done : {A : Type 0} → A → Result A Stop

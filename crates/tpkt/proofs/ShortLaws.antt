@@ -5,14 +5,14 @@ use Rattle.std.proofs.lemmas.Bool.{ltb-false, ltb-true, leb-false, or_parts}
 use Rattle.std.proofs.lemmas.List.{length-append}
 use Rattle.osi_base.specs.declared.words.Kind.{Kind}
 use Rattle.osi_base.specs.declared.words.Kind.TheVariants as kinds
-use Rattle.tpkt.specs.declared.packet.Ends.{Ends}
+use Rattle.tpkt.specs.declared.packet.ConnectionFields.{ConnectionFields}
 use Rattle.tpkt.specs.declared.packet.Packet.{Packet}
 use Rattle.tpkt.specs.declared.packet.Packet.TheVariants.{Connect, Confirm, Disconnect, Problem}
 use Rattle.tpkt.specs.declared.header.Header.{Header}
 use Rattle.tpkt.specs.declared.header.Header.TheVariants.{Control, Data}
 use Rattle.tpkt.specs.declared.parameters.Seen.{Seen}
-use Rattle.tpkt.specs.declared.stop.Stop.{Stop}
-use Rattle.tpkt.specs.declared.stop.Stop.TheVariants.{Short, At}
+use Rattle.tpkt.specs.declared.header_stops.Stop.{Stop}
+use Rattle.tpkt.specs.declared.header_stops.Stop.TheVariants.{Short, At}
 use Rattle.tpkt.specs.Wire.{tsdu_limit, parameter}
 use Rattle.tpkt.specs.Header.{◌>>=◌, nothing_seen, with_size, with_parameter, value_at, parameter_at, parameters_at, ends_at, passed_at, mark_at, data_at, fills, code_at, indicator_at, length_at, header_at}
 use Rattle.tpkt.proofs.Results.{chosen}
@@ -126,7 +126,7 @@ data_short begun left xs e = mark_short left xs (past (ltb tsdu_limit (begun + l
           | inr p ↦ absurd (let f = (within (m == 128) 6 kinds.Content (Ok (Data left true)) p.1).1 in cc)
         ]
 
-ends_case : (li : ℕ) (xs : List ℕ) (f : Ends → Header) → (ends_at li xs >>= λ ends. Ok (f ends)) ≡ Err Short → length xs < 6 + li
+ends_case : (li : ℕ) (xs : List ℕ) (f : ConnectionFields → Header) → (ends_at li xs >>= λ ends. Ok (f ends)) ≡ Err Short → length xs < 6 + li
 ends_case li xs f e =
     elim (bound_short (ends_at li xs) (λ ends. Ok (f ends)) e) [
       | inl s ↦ omega (arith, ends_short li xs s)

@@ -5,23 +5,23 @@ use Rattle.std.proofs.lemmas.List.{append-nil, length-append, get_or-append-add}
 use Rattle.tpkt.specs.declared.packet.Packet.{Packet}
 use Rattle.tpkt.specs.declared.packet.Packet.TheVariants.{Tsdu}
 use Rattle.tpkt.specs.declared.packet.TFault.{TFault}
-use Rattle.tpkt.specs.declared.held.Coming.{Coming}
-use Rattle.tpkt.specs.declared.held.Held.{Held}
+use Rattle.tpkt.specs.declared.reader_state.Coming.{Coming}
+use Rattle.tpkt.specs.declared.reader_state.Held.{Held}
 use Rattle.tpkt.specs.declared.header.Header.{Header}
 use Rattle.tpkt.specs.declared.header.Header.TheVariants.{Control, Data}
-use Rattle.tpkt.specs.declared.stop.Stop.{Stop}
-use Rattle.tpkt.specs.declared.stop.Stop.TheVariants.{Short, At}
+use Rattle.tpkt.specs.declared.header_stops.Stop.{Stop}
+use Rattle.tpkt.specs.declared.header_stops.Stop.TheVariants.{Short, At}
 use Rattle.tpkt.specs.Wire.{packet, tsdu_limit, Tpdu, Whole, Part, IsUnit, Splits, begun_after, begun_by, handed_for, handed}
 use Rattle.tpkt.specs.Header.{header_at}
-use Rattle.tpkt.specs.Reader.{Fed, on, between, closed, opened, judged, taken, after, reading, nothing}
-use Rattle.tpkt.specs.Stream.{IsOctets, unit_at, IsInFront, OneHolds, IsStop, Reads, HasRead}
+use Rattle.tpkt.specs.Reader.{ReaderProgress, on, between, closed, opened, judged, taken, after, reading, nothing}
+use Rattle.tpkt.specs.Stream.{IsOctets, unit_at, IsInFront, OneHolds, IsStop, ReadsAsPackets, HasRead}
 use Rattle.tpkt.proofs.HeaderLaws.{front, found_data, found_control, again_data, again_control}
 use Rattle.tpkt.proofs.UnitLaws.{part_packet, part_unit, unit_found, unit_again, unit_stays, faulty, short_yet, data_yet}
 use Rattle.tpkt.proofs.ReaderLaws.{short_empty, still_open, after-append, after_fault}
 use Rattle.tpkt.proofs.Results.{ok_is}
 use Rattle.osi_base.specs.declared.words.Kind.{Kind}
 
-abbrev pub fed : List Packet → Held → Fed
+abbrev pub fed : List Packet → Held → ReaderProgress
 fed packets held = record { packets = packets; held = held }
 
 abbrev reads : Tpdu × List ℕ → Result (Tpdu × List ℕ) Stop
@@ -91,7 +91,7 @@ pub data IsState (begun rest : List ℕ) (start : ℕ) : Held → Type 0 where
   Bad : (unread tsdu : List ℕ) (coming : Option Coming) (place : ℕ) (fault : TFault) (o : ℕ) → unit_at begun rest ≡ Err (At o fault.kind) → fault.place ≡ on start o
       → IsState begun rest start (record { unread = unread; tsdu = tsdu; coming = coming; place = place; fault = Some fault })
 
-pub record Stands (stream : List ℕ) (f : Fed) : Type 0 where
+pub record Stands (stream : List ℕ) (f : ReaderProgress) : Type 0 where
   pub units : List Tpdu
   pub start : ℕ
   pub rest : List ℕ
@@ -213,7 +213,7 @@ octets-front [] ys fits i = omega arith
 octets-front (x ∷ xs) ys fits zero = fits 0
 octets-front (x ∷ xs) ys fits (suc i) = octets-front xs ys (λ j. fits (suc j)) i
 
-after_stands : (stream xs : List ℕ) (f : Fed) → IsOctets (stream ++ xs) → Stands stream f → Stands (stream ++ xs) (after f xs)
+after_stands : (stream xs : List ℕ) (f : ReaderProgress) → IsOctets (stream ++ xs) → Stands stream f → Stands (stream ++ xs) (after f xs)
 unfolding after
 after_stands stream [] f fits s = subst (λ (t : List ℕ). Stands t f) (sym (append-nil stream)) s
 after_stands stream (x ∷ xs) f fits s =
@@ -232,7 +232,7 @@ stops begun rest start held (Comes left place last octets some within size whole
 stops begun rest start held (Bad unread tsdu coming place fault o e at) = subst (λ r. IsStop r start (Some fault)) (sym e) (at, refl)
 
 -- what a new reader makes of a stream
-pub stream_read : (stream : List ℕ) → IsOctets stream → Reads stream (reading nothing stream).packets (reading nothing stream).held.fault
+pub stream_read : (stream : List ℕ) → IsOctets stream → ReadsAsPackets stream (reading nothing stream).packets (reading nothing stream).held.fault
 stream_read stream fits =
     let new : Stands [] (record { packets = []; held = nothing }) = record {
       units = [];
@@ -297,7 +297,7 @@ abbrev comes : ℕ → Bool → List ℕ → ℕ → Held
 comes left last tsdu place = record { unread = []; tsdu = tsdu; coming = Some (record { left = left; last = last }); place = place; fault = None }
 
 -- packets handed up before
-abbrev before : List Packet → Fed → Fed
+abbrev before : List Packet → ReaderProgress → ReaderProgress
 before ps f = record { packets = ps ++ f.packets; held = f.held }
 
 closed_before : (last : Bool) (ps qs : List Packet) (tsdu : List ℕ) (place : ℕ) → closed last (ps ++ qs) tsdu place ≡ before ps (closed last qs tsdu place)
@@ -317,12 +317,12 @@ judged_before (Err (At o k)) ps qs tsdu place unread = refl
 judged_before (Ok (Control p)) ps qs tsdu place unread = ap (λ (rs : List Packet). fed rs (between tsdu (on place (length unread)))) (append_assoc ps qs (p ∷ []))
 judged_before (Ok (Data left last)) ps qs tsdu place unread = opened_before left last ps qs tsdu (on place (length unread))
 
-taken_before : (fault : Option TFault) (coming : Option Coming) (ps : List Packet) (f : Fed) (x : ℕ) → taken fault coming (before ps f) x ≡ before ps (taken fault coming f x)
+taken_before : (fault : Option TFault) (coming : Option Coming) (ps : List Packet) (f : ReaderProgress) (x : ℕ) → taken fault coming (before ps f) x ≡ before ps (taken fault coming f x)
 taken_before (Some g) coming ps f x = refl
 taken_before None (Some c) ps f x = opened_before (c.left - 1) c.last ps f.packets (f.held.tsdu ++ x ∷ []) (on f.held.place 1)
 taken_before None None ps f x = judged_before (header_at (length f.held.tsdu) (f.held.unread ++ x ∷ [])) ps f.packets f.held.tsdu f.held.place (f.held.unread ++ x ∷ [])
 
-after_before : (ps : List Packet) (f : Fed) (xs : List ℕ) → after (before ps f) xs ≡ before ps (after f xs)
+after_before : (ps : List Packet) (f : ReaderProgress) (xs : List ℕ) → after (before ps f) xs ≡ before ps (after f xs)
 unfolding after
 after_before ps f [] = refl
 after_before ps f (x ∷ xs) = ap (λ g. after g xs) (taken_before f.held.fault f.held.coming ps f x) ∙ after_before ps (taken f.held.fault f.held.coming f x) xs
@@ -343,8 +343,8 @@ pub goes_on : (stream more : List ℕ) (given packets : List Packet) (old new : 
     → reading nothing (stream ++ more) ≡ fed (given ++ packets) new
 goes_on stream more given packets old new a b =
     any_cut nothing stream more
-    ∙ ap (λ (f : Fed). fed (f.packets ++ (reading f.held more).packets) (reading f.held more).held) a
-    ∙ ap (λ (f : Fed). fed (given ++ f.packets) f.held) b
+    ∙ ap (λ (f : ReaderProgress). fed (f.packets ++ (reading f.held more).packets) (reading f.held more).held) a
+    ∙ ap (λ (f : ReaderProgress). fed (given ++ f.packets) f.held) b
 
 pub octets_join : (xs ys : List ℕ) → IsOctets xs → IsOctets ys → IsOctets (xs ++ ys)
 octets_join [] ys p q i = q i
@@ -359,9 +359,9 @@ pub feed_goes_on : (came bytes : List ℕ) (given packets : List Packet) (old : 
 feed_goes_on came bytes given packets old held new is now came_so = goes_on came bytes given packets held new (subst (HasRead came given) is came_so) now
 
 pub feed_all : (came bytes : List ℕ) (given packets : List Packet) (old : Option Held) (held new : Held) → IsOctets came → IsOctets bytes → old ≡ Some held → reading held bytes ≡ fed packets new
-    → HasRead came given old → Reads (came ++ bytes) (given ++ packets) new.fault
+    → HasRead came given old → ReadsAsPackets (came ++ bytes) (given ++ packets) new.fault
 feed_all came bytes given packets old held new fits more is now came_so =
-    subst (λ (f : Fed). Reads (came ++ bytes) f.packets f.held.fault) (feed_goes_on came bytes given packets old held new is now came_so)
+    subst (λ (f : ReaderProgress). ReadsAsPackets (came ++ bytes) f.packets f.held.fault) (feed_goes_on came bytes given packets old held new is now came_so)
     (stream_read (came ++ bytes) (octets_join came bytes fits more))
 
 some_is : (a b : Held) (o : Option Held) → o ≡ Some a → o ≡ Some b → a ≡ b
@@ -374,8 +374,8 @@ feed_again bytes packets old held new was fault is now e bad =
     let same : held ≡ was = some_is held was old is e in
     let right : held.fault ≡ Some fault = ap (λ (h : Held). h.fault) same ∙ bad in
     let f : fed packets new ≡ fed [] held = sym now ∙ after_fault (fed [] held) fault bytes right in
-    let next : new ≡ held = ap (λ (f : Fed). f.held) f in
-    (ap (λ (f : Fed). f.packets) f, ap (λ (h : Held). h.fault) next ∙ right, ap (λ (h : Held). Some h) next ∙ sym is)
+    let next : new ≡ held = ap (λ (f : ReaderProgress). f.held) f in
+    (ap (λ (f : ReaderProgress). f.packets) f, ap (λ (h : Held). h.fault) next ∙ right, ap (λ (h : Held). Some h) next ∙ sym is)
 
 stopped : (r : Result (Tpdu × List ℕ) Stop) (start : ℕ) (fault : Option TFault) → IsStop r start fault → (s : Stop) × (r ≡ Err s)
 stopped (Ok p) start fault e = absurd e

@@ -5,7 +5,7 @@ use Rattle.std.specs.List.{flat_map}
 use Rattle.std.proofs.lemmas.Bool.{le-leb, lt-leb, cases_lt}
 use Rattle.std.proofs.lemmas.Grind.{flat_map-append}
 use Rattle.std.proofs.lemmas.List.{append-nil, take-append-drop, length-append, length-take, length-drop}
-use Rattle.tpkt.specs.declared.packet.Ends.{Ends}
+use Rattle.tpkt.specs.declared.packet.ConnectionFields.{ConnectionFields}
 use Rattle.tpkt.specs.declared.packet.Packet.TheVariants.{Connect, Confirm, Disconnect, Problem, Tsdu}
 use Rattle.tpkt.specs.Wire.{parameter, two, header, mark, tsdu_limit, values, Tpdu, Whole, Part, IsUnit, IsTwo, IsConnection, IsSize, IsSelector, Splits, handed}
 use Rattle.tpkt.specs.Stream.{IsOctets}
@@ -143,7 +143,7 @@ is_called (Some n) [] (y ∷ b) = refl
 is_called (Some n) (x ∷ a) [] = refl
 is_called (Some n) (x ∷ a) (y ∷ b) = refl
 
-connection_is : (code : ℕ) (ends : Ends) → IsTwo ends.destination → IsTwo ends.source → IsConnection code ends (header (connection_fields code ends))
+connection_is : (code : ℕ) (ends : ConnectionFields) → IsTwo ends.destination → IsTwo ends.source → IsConnection code ends (header (connection_fields code ends))
 connection_is code ends to from = record {
   destination = to;
   source = from;
@@ -154,10 +154,10 @@ connection_is code ends to from = record {
   called = is_called ends.size ends.calling ends.called;
 }
 
-pub connect_is : (begun : List ℕ) (ends : Ends) → IsTwo ends.destination → IsTwo ends.source → HasRoom ends → IsUnit begun (Whole (Connect ends)) (header (connection_fields 224 ends))
+pub connect_is : (begun : List ℕ) (ends : ConnectionFields) → IsTwo ends.destination → IsTwo ends.source → HasRoom ends → IsUnit begun (Whole (Connect ends)) (header (connection_fields 224 ends))
 connect_is begun ends to from room = record { spells = (connection_is 224 ends to from, omega arith); at_least = omega arith; at_most = omega arith; within = tt }
 
-pub confirm_is : (begun : List ℕ) (ends : Ends) → IsTwo ends.destination → IsTwo ends.source → HasRoom ends → IsUnit begun (Whole (Confirm ends)) (header (connection_fields 208 ends))
+pub confirm_is : (begun : List ℕ) (ends : ConnectionFields) → IsTwo ends.destination → IsTwo ends.source → HasRoom ends → IsUnit begun (Whole (Confirm ends)) (header (connection_fields 208 ends))
 confirm_is begun ends to from room = record { spells = (connection_is 208 ends to from, omega arith); at_least = omega arith; at_most = omega arith; within = tt }
 
 pub disconnect_is : (begun : List ℕ) (destination source reason : ℕ) → IsTwo destination → IsTwo source → IsUnit begun (Whole Disconnect) (header (128 ∷ two destination ++ two source ++ reason ∷ []))
@@ -172,7 +172,7 @@ pub problem_is : (begun : List ℕ) (destination cause : ℕ) → IsUnit begun (
 problem_is begun destination cause = record { spells = (record { fields = two destination ++ cause ∷ []; whole = refl }, omega arith); at_least = omega arith; at_most = omega arith; within = tt }
 
 -- how long the fields of a connection request or confirm are
-pub fields_length : (ends : Ends) → length (connection_fields 0 ends) ≡ 6 + length (flat_map parameter (size_parameter ends.size)) + length (flat_map parameter (selector_parameter 193 ends.calling)) + length (flat_map parameter (selector_parameter 194 ends.called))
+pub fields_length : (ends : ConnectionFields) → length (connection_fields 0 ends) ≡ 6 + length (flat_map parameter (size_parameter ends.size)) + length (flat_map parameter (selector_parameter 193 ends.calling)) + length (flat_map parameter (selector_parameter 194 ends.called))
 fields_length ends =
     let a = size_parameter ends.size in
     let b = selector_parameter 193 ends.calling in

@@ -1,16 +1,16 @@
 -- Reading the header of a packet from left to right, with the first field that breaks the grammar.
 use Rattle.std.specs.Prelude.{◌≡◌, ℕ, zero, suc, ◌+◌, ◌-◌, ◌*◌, ◌==◌, ◌&&◌, ◌||◌, Bool, true, false, List, [], ◌∷◌, length, take, drop, Option, Some, None, Result, Ok, Err, nat_lt, nat_le, is_none, if◌then◌else◌}
 use Rattle.osi_base.specs.declared.words.Kind.TheVariants as kinds
-use Rattle.tpkt.specs.declared.packet.Ends.{Ends}
+use Rattle.tpkt.specs.declared.packet.ConnectionFields.{ConnectionFields}
 use Rattle.tpkt.specs.declared.packet.Packet.{Packet}
 use Rattle.tpkt.specs.declared.packet.Packet.TheVariants.{Connect, Confirm, Disconnect, Problem}
 use Rattle.tpkt.specs.declared.header.Header.{Header}
 use Rattle.tpkt.specs.declared.header.Header.TheVariants.{Control, Data}
 use Rattle.tpkt.specs.declared.parameters.Seen.{Seen}
-use Rattle.tpkt.specs.declared.stop.Stop.{Stop}
-use Rattle.tpkt.specs.declared.stop.Stop.TheVariants.{Short, At}
-use Rattle.tpkt.specs.declared.stop.Halt.{Halt}
-use Rattle.tpkt.specs.declared.stop.Halt.TheVariants as halts
+use Rattle.tpkt.specs.declared.header_stops.Stop.{Stop}
+use Rattle.tpkt.specs.declared.header_stops.Stop.TheVariants.{Short, At}
+use Rattle.tpkt.specs.declared.header_stops.Halt.{Halt}
+use Rattle.tpkt.specs.declared.header_stops.Halt.TheVariants as halts
 use Rattle.tpkt.specs.Wire.{tsdu_limit}
 
 infixl 10 ◌>>=◌
@@ -19,18 +19,18 @@ abbrev pub ◌>>=◌ : {A B : Type 0} → Result A Stop → (A → Result B Stop
 (Err e) >>= f = Err e
 
 -- What a function returned is what reading gives, unless memory ran out.
-abbrev pub Fails : {Y : Type 0} → Halt → Result Y Stop → Type 0
-Fails halts.Memory read = Unit {0}
-Fails (halts.Stop s) read = read ≡ Err s
+abbrev pub FailsWith : {Y : Type 0} → Halt → Result Y Stop → Type 0
+FailsWith halts.Memory read = Unit {0}
+FailsWith (halts.Stop s) read = read ≡ Err s
 
 abbrev pub Gives : {Y : Type 0} → Result Y Halt → Result Y Stop → Type 0
 Gives (Ok x) read = read ≡ Ok x
-Gives (Err e) read = Fails e read
+Gives (Err e) read = FailsWith e read
 
 -- the same for what is seen by a view
 abbrev pub GivesBy : {X Y : Type 0} → (X → Y) → Result X Halt → Result Y Stop → Type 0
 GivesBy view (Ok x) read = read ≡ Ok (view x)
-GivesBy view (Err e) read = Fails e read
+GivesBy view (Err e) read = FailsWith e read
 
 -- ---- the parameters of a connection request or confirm
 
@@ -78,7 +78,7 @@ or_empty None = []
 or_empty (Some selector) = selector
 
 -- the references, the class and the parameters of a connection request or confirm, behind its code
-unfoldable pub ends_at : ℕ → List ℕ → Result Ends Stop
+unfoldable pub ends_at : ℕ → List ℕ → Result ConnectionFields Stop
 ends_at li (a ∷ b ∷ c ∷ d ∷ class ∷ rest) =
     if class == 0 then
     (parameters_at (li - 6) (li - 6) 11 nothing_seen rest >>= λ seen. Ok (record {

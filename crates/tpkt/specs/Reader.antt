@@ -4,17 +4,17 @@ use Rattle.tpkt.specs.declared.packet.Packet.{Packet}
 use Rattle.tpkt.specs.declared.packet.Packet.TheVariants.{Tsdu}
 use Rattle.tpkt.specs.declared.packet.TFault.{TFault}
 use Rattle.tpkt.specs.declared.packet.TFed.{TFed}
-use Rattle.tpkt.specs.declared.held.Coming.{Coming}
-use Rattle.tpkt.specs.declared.held.Held.{Held}
+use Rattle.tpkt.specs.declared.reader_state.Coming.{Coming}
+use Rattle.tpkt.specs.declared.reader_state.Held.{Held}
 use Rattle.tpkt.specs.declared.header.Header.{Header}
 use Rattle.tpkt.specs.declared.header.Header.TheVariants.{Control, Data}
-use Rattle.tpkt.specs.declared.stop.Stop.{Stop}
-use Rattle.tpkt.specs.declared.stop.Stop.TheVariants.{Short, At}
+use Rattle.tpkt.specs.declared.header_stops.Stop.{Stop}
+use Rattle.tpkt.specs.declared.header_stops.Stop.TheVariants.{Short, At}
 use Rattle.tpkt.specs.Wire.{tsdu_limit}
 use Rattle.tpkt.specs.Header.{header_at}
 
 -- what a reader holds, and the packets that it has handed up
-pub record Fed : Type 0 where
+pub record ReaderProgress : Type 0 where
   pub packets : List Packet
   pub held : Held
 
@@ -31,18 +31,18 @@ abbrev pub nothing : Held
 nothing = between [] 0
 
 -- A DT is whole: the last of a TSDU hands it up.
-abbrev pub closed : Bool → List Packet → List ℕ → ℕ → Fed
+abbrev pub closed : Bool → List Packet → List ℕ → ℕ → ReaderProgress
 closed true packets tsdu place = record { packets = packets ++ Tsdu tsdu ∷ []; held = between [] place }
 closed false packets tsdu place = record { packets = packets; held = between tsdu place }
 
 -- so many octets of a DT are still to come
-abbrev pub opened : ℕ → Bool → List Packet → List ℕ → ℕ → Fed
+abbrev pub opened : ℕ → Bool → List Packet → List ℕ → ℕ → ReaderProgress
 opened left last packets tsdu place =
     if left == 0 then closed last packets tsdu place else
     record { packets = packets; held = record { unread = []; tsdu = tsdu; coming = Some (record { left = left; last = last }); place = place; fault = None } }
 
 -- what the octets of a header, which are read so, make of a reader
-abbrev pub judged : Result Header Stop → List Packet → List ℕ → ℕ → List ℕ → Fed
+abbrev pub judged : Result Header Stop → List Packet → List ℕ → ℕ → List ℕ → ReaderProgress
 judged (Err Short) packets tsdu place unread = record { packets = packets; held = record { unread = unread; tsdu = tsdu; coming = None; place = place; fault = None } }
 judged (Err (At offset kind)) packets tsdu place unread =
     record { packets = packets; held = record { unread = []; tsdu = []; coming = None; place = place; fault = Some (record { place = on place offset; kind = kind }) } }
@@ -50,17 +50,17 @@ judged (Ok (Control p)) packets tsdu place unread = record { packets = packets +
 judged (Ok (Data left last)) packets tsdu place unread = opened left last packets tsdu (on place (length unread))
 
 -- The next octet. After a fault nothing is taken.
-abbrev pub taken : Option TFault → Option Coming → Fed → ℕ → Fed
+abbrev pub taken : Option TFault → Option Coming → ReaderProgress → ℕ → ReaderProgress
 taken (Some fault) coming f x = f
 taken None (Some coming) f x = opened (coming.left - 1) coming.last f.packets (f.held.tsdu ++ x ∷ []) (on f.held.place 1)
 taken None None f x = judged (header_at (length f.held.tsdu) (f.held.unread ++ x ∷ [])) f.packets f.held.tsdu f.held.place (f.held.unread ++ x ∷ [])
 
-unfoldable pub after : Fed → List ℕ → Fed
+unfoldable pub after : ReaderProgress → List ℕ → ReaderProgress
 after f [] = f
 after f (x ∷ xs) = after (taken f.held.fault f.held.coming f x) xs
 
 -- what these octets make of a reader
-abbrev pub reading : Held → List ℕ → Fed
+abbrev pub reading : Held → List ℕ → ReaderProgress
 reading held octets = after (record { packets = []; held = held }) octets
 
 -- What a feed of these octets gave; what was held is None where memory once ran out.
@@ -80,7 +80,7 @@ abbrev pub left_of : Option Coming → ℕ
 left_of None = 0
 left_of (Some coming) = coming.left
 
-pub record IsSound (held : Held) : Type 0 where
+pub record IsSoundReader (held : Held) : Type 0 where
   pub short : header_at (length held.tsdu) held.unread ≡ Err Short
   pub within : length held.tsdu + left_of held.coming ≤ tsdu_limit
   pub idle : IsIdle held.coming held.unread

@@ -3,11 +3,11 @@ use Rattle.std.specs.Prelude.{◌≡◌, ◌≢◌, ℕ, ◌+◌, ◌*◌, ◌<�
 use Rattle.osi_base.specs.declared.words.Kind.{Kind}
 use Rattle.tpkt.specs.declared.packet.Packet.{Packet}
 use Rattle.tpkt.specs.declared.packet.TFault.{TFault}
-use Rattle.tpkt.specs.declared.held.Held.{Held}
+use Rattle.tpkt.specs.declared.reader_state.Held.{Held}
 use Rattle.tpkt.specs.declared.header.Header.{Header}
 use Rattle.tpkt.specs.declared.header.Header.TheVariants.{Control, Data}
-use Rattle.tpkt.specs.declared.stop.Stop.{Stop}
-use Rattle.tpkt.specs.declared.stop.Stop.TheVariants.{Short, At}
+use Rattle.tpkt.specs.declared.header_stops.Stop.{Stop}
+use Rattle.tpkt.specs.declared.header_stops.Stop.TheVariants.{Short, At}
 use Rattle.tpkt.specs.Wire.{packet, Tpdu, Whole, Part, IsUnit, Splits, begun_by, handed}
 use Rattle.tpkt.specs.Header.{◌>>=◌, header_at}
 use Rattle.tpkt.specs.Reader.{on, reading, nothing}
@@ -47,7 +47,7 @@ IsStop (Err (At offset kind)) start (Some fault) = (fault.place ≡ on start off
 IsStop _ start fault = ⊥
 
 -- What is made of a stream: the packets of its units, up to where no further unit is there, and its first fault if there is one.
-pub record Reads (stream : List ℕ) (packets : List Packet) (fault : Option TFault) : Type 0 where
+pub record ReadsAsPackets (stream : List ℕ) (packets : List Packet) (fault : Option TFault) : Type 0 where
   pub units : List Tpdu
   pub start : ℕ
   pub rest : List ℕ

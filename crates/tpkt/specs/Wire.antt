@@ -1,7 +1,7 @@
 -- Packets, and the transport units in them, as octets (RFC 1006 6; X.224 13, class 0).
 use Rattle.std.specs.Prelude.{◌≡◌, ℕ, ◌+◌, ◌/◌, ◌%◌, ◌<◌, ◌≤◌, ◌==◌, Bool, true, false, List, [], ◌∷◌, ◌++◌, length, Option, Some, None, if◌then◌else◌}
 use Rattle.std.specs.List.{flat_map}
-use Rattle.tpkt.specs.declared.packet.Ends.{Ends}
+use Rattle.tpkt.specs.declared.packet.ConnectionFields.{ConnectionFields}
 use Rattle.tpkt.specs.declared.packet.Packet.{Packet}
 use Rattle.tpkt.specs.declared.packet.Packet.TheVariants.{Connect, Confirm, Disconnect, Problem, Tsdu}
 
@@ -43,7 +43,7 @@ IsSelector selector (v ∷ w ∷ vs) = ⊥
 
 -- A connection request or confirm: its code, the two references, class 0, and parameters in any order, of which the
 -- size, the calling and the called selector stand at most once. Others are passed over (X.224 13.3, 13.4).
-pub record IsConnection (code : ℕ) (ends : Ends) (unit : List ℕ) : Type 0 where
+pub record IsConnection (code : ℕ) (ends : ConnectionFields) (unit : List ℕ) : Type 0 where
   pub destination : IsTwo ends.destination
   pub source : IsTwo ends.source
   pub parameters : List (ℕ × List ℕ)

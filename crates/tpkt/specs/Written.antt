@@ -1,7 +1,7 @@
 -- The one spelling of what is written.
 use Rattle.std.specs.Prelude.{ℕ, zero, suc, ◌-◌, ◌≤◌, Bool, true, false, List, [], ◌∷◌, ◌++◌, length, take, drop, Option, Some, None, nat_le, if◌then◌else◌}
 use Rattle.std.specs.List.{flat_map}
-use Rattle.tpkt.specs.declared.packet.Ends.{Ends}
+use Rattle.tpkt.specs.declared.packet.ConnectionFields.{ConnectionFields}
 use Rattle.tpkt.specs.Wire.{two, packet, header, parameter, mark}
 
 -- The DTs of a TSDU: each but the last has as much data as it may, and the last has what is left. The fuel is the number of octets.
@@ -30,10 +30,10 @@ abbrev pub selector_parameter : ℕ → List ℕ → List (ℕ × List ℕ)
 selector_parameter code [] = []
 selector_parameter code (x ∷ xs) = (code, x ∷ xs) ∷ []
 
-abbrev pub parameters_of : Ends → List (ℕ × List ℕ)
+abbrev pub parameters_of : ConnectionFields → List (ℕ × List ℕ)
 parameters_of ends = size_parameter ends.size ++ selector_parameter 193 ends.calling ++ selector_parameter 194 ends.called
 
-abbrev pub connection_fields : ℕ → Ends → List ℕ
+abbrev pub connection_fields : ℕ → ConnectionFields → List ℕ
 connection_fields code ends = code ∷ two ends.destination ++ two ends.source ++ 0 ∷ flat_map parameter (parameters_of ends)
 
 -- a packet of a unit other than a DT
@@ -41,5 +41,5 @@ abbrev pub control_packet : List ℕ → List ℕ
 control_packet fields = packet (header fields)
 
 -- the header of a connection request or confirm has room for its fields
-abbrev pub HasRoom : Ends → Type 0
+abbrev pub HasRoom : ConnectionFields → Type 0
 HasRoom ends = length (connection_fields 0 ends) ≤ 254

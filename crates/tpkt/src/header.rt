@@ -4,10 +4,10 @@ ghost use Rattle.std.specs.Prelude.{◌≡◌, ◌≤◌, ◌<◌, ◌-◌, leng
 ghost use Rattle.tpkt.specs.Wire.{tsdu_limit};
 ghost use Rattle.tpkt.specs.Header.{Gives, or_empty, ends_at, passed_at, data_at, mark_at, code_at, indicator_at, length_at, header_at};
 
+use crate::header_stops::{Halt, fault, short};
 use crate::numbers::number_of;
-use crate::packet::{Ends, Packet};
+use crate::packet::{ConnectionFields, Packet};
 use crate::parameters::parameters_at;
-use crate::stop::{Halt, fault, short};
 use osi_base::{Kind, Octets};
 use std::alloc::Global;
 
@@ -33,7 +33,7 @@ fn selector(alloc: Global, seen: Option<Octets>) -> Octets
 }
 
 #[tactic(auto, unfolding(crate::specs::Header::ends_at))]
-fn ends_at(alloc: Global, li: usize, octets: &[u8]) -> Result<Ends, Halt>
+fn ends_at(alloc: Global, li: usize, octets: &[u8]) -> Result<ConnectionFields, Halt>
     requires least { 6 ≤ li }
     requires most { li ≤ 255 }
     ensures { Gives result (ends_at li octets.now) }
@@ -45,7 +45,7 @@ fn ends_at(alloc: Global, li: usize, octets: &[u8]) -> Result<Ends, Halt>
         return fault(10, Kind::Content);
     }
     let seen = parameters_at(alloc, li - 6, rest)?;
-    Ok(Ends {
+    Ok(ConnectionFields {
         destination: number_of(*a, *b),
         source: number_of(*c, *d),
         size: seen.size,

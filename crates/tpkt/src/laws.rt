@@ -2,22 +2,22 @@
 
 ghost use Rattle.std.specs.Prelude.{◌≡◌, ℕ, ◌<◌, ◌≤◌, ◌++◌, ◌∷◌, List, [], length, take, Option, Some, None, Err, Ok};
 ghost use Rattle.osi_base.specs.declared.words.Kind.{Kind};
-ghost use Rattle.tpkt.specs.declared.held.Held.{Held};
+ghost use Rattle.tpkt.specs.declared.reader_state.Held.{Held};
 ghost use Rattle.tpkt.specs.declared.packet.TFault.{TFault};
-ghost use Rattle.tpkt.specs.declared.stop.Stop.{Stop};
-ghost use Rattle.tpkt.specs.declared.packet.Ends.{Ends};
+ghost use Rattle.tpkt.specs.declared.header_stops.Stop.{Stop};
+ghost use Rattle.tpkt.specs.declared.packet.ConnectionFields.{ConnectionFields};
 ghost use Rattle.tpkt.specs.declared.packet.Packet.{Packet};
 ghost use Rattle.tpkt.specs.declared.packet.Packet.TheVariants.{Connect, Confirm, Disconnect, Problem, Tsdu};
 ghost use Rattle.tpkt.specs.Wire.{packet, header, two, tsdu_limit, Tpdu, Whole, IsTwo, IsUnit, Splits, begun_by, handed_for, handed};
 ghost use Rattle.tpkt.specs.Written.{written_tsdu, connection_fields, control_packet, HasRoom};
-ghost use Rattle.tpkt.specs.Reader.{Fed, reading, nothing};
-ghost use Rattle.tpkt.specs.Stream.{IsOctets, unit_at, OneHolds, Reads, HasRead, IsReadAs};
+ghost use Rattle.tpkt.specs.Reader.{reading, nothing};
+ghost use Rattle.tpkt.specs.Stream.{IsOctets, unit_at, OneHolds, ReadsAsPackets, HasRead, IsReadAs};
 
 /// What a reader made of a stream, in whatever pieces it came: the packets of its units, and its
 /// first fault with the place counted from the first octet of the stream.
 pub fn stream_is_read()
     ensures { (stream : List ℕ) (packets : List Packet) (held : Held) → IsOctets stream
-        → HasRead stream packets (Some held) → Reads stream packets held.fault }
+        → HasRead stream packets (Some held) → ReadsAsPackets stream packets held.fault }
 {}
 
 /// A packet is handed up with its last octet, and not before.
@@ -114,10 +114,10 @@ pub fn written_tsdu_is_read()
 
 /// A connection request that is written is one, and so on.
 pub fn written_units()
-    ensures connect { (begun : List ℕ) (ends : Ends) → IsTwo ends.destination
+    ensures connect { (begun : List ℕ) (ends : ConnectionFields) → IsTwo ends.destination
         → IsTwo ends.source → HasRoom ends
         → IsUnit begun (Whole (Connect ends)) (header (connection_fields 224 ends)) }
-    ensures confirm { (begun : List ℕ) (ends : Ends) → IsTwo ends.destination
+    ensures confirm { (begun : List ℕ) (ends : ConnectionFields) → IsTwo ends.destination
         → IsTwo ends.source → HasRoom ends
         → IsUnit begun (Whole (Confirm ends)) (header (connection_fields 208 ends)) }
     ensures disconnect { (begun : List ℕ) (destination source reason : ℕ) → IsTwo destination
@@ -130,11 +130,11 @@ pub fn written_units()
 
 /// A unit that is written is read back by a new reader as the packet that it is, with its fields.
 pub fn written_units_are_read()
-    ensures connect { (ends : Ends) → IsTwo ends.destination → IsTwo ends.source → HasRoom ends
-        → let octets = control_packet (connection_fields 224 ends) in IsOctets octets
+    ensures connect { (ends : ConnectionFields) → IsTwo ends.destination → IsTwo ends.source
+        → HasRoom ends → let octets = control_packet (connection_fields 224 ends) in IsOctets octets
         → IsReadAs (Connect ends) octets }
-    ensures confirm { (ends : Ends) → IsTwo ends.destination → IsTwo ends.source → HasRoom ends
-        → let octets = control_packet (connection_fields 208 ends) in IsOctets octets
+    ensures confirm { (ends : ConnectionFields) → IsTwo ends.destination → IsTwo ends.source
+        → HasRoom ends → let octets = control_packet (connection_fields 208 ends) in IsOctets octets
         → IsReadAs (Confirm ends) octets }
     ensures disconnect { (destination source reason : ℕ) → IsTwo destination → IsTwo source
         → let octets = control_packet (128 ∷ two destination ++ two source ++ reason ∷ []) in

@@ -3,15 +3,15 @@
 #![tactic(auto)]
 
 mod header;
-mod held;
+mod header_stops;
 pub mod laws;
 mod numbers;
 mod packet;
 mod parameters;
 mod reader;
-mod stop;
+mod reader_state;
 mod writer;
 
-pub use packet::{Ends, Packet, Packets, TFault, TFed};
+pub use packet::{ConnectionFields, Packet, Packets, TFault, TFed};
 pub use reader::TReader;
 pub use writer::{write_confirm, write_connect, write_disconnect, write_problem, write_tsdu};

@@ -9,7 +9,7 @@ use osi_base::{Kind, ListOf, Octets};
 
 /// The fields of a connection request or confirm (X.224 13.3, 13.4).
 #[derive(Debug, Drop)]
-pub struct Ends {
+pub struct ConnectionFields {
     /// The reference of the end that the unit goes to; 0 in a request.
     pub destination: u16,
     /// The reference of the end that sends the unit.
@@ -26,9 +26,9 @@ pub struct Ends {
 #[derive(Debug, Drop)]
 pub enum Packet {
     /// A connection request, CR.
-    Connect(Ends),
+    Connect(ConnectionFields),
     /// A connection confirm, CC.
-    Confirm(Ends),
+    Confirm(ConnectionFields),
     /// A disconnect request, DR.
     Disconnect,
     /// A unit that tells an error, ER.
@@ -81,7 +81,7 @@ fn size_len(size: Option<u8>) -> usize
     }
 }
 
-fn fields_len(ends: &Ends) -> usize
+fn fields_len(ends: &ConnectionFields) -> usize
     requires calling { length ends.now.calling ≤ 254 }
     requires called { length ends.now.called ≤ 254 }
     ensures { result ≡ length (connection_fields 0 ends.now) }
@@ -89,7 +89,7 @@ fn fields_len(ends: &Ends) -> usize
     6 + size_len(ends.size) + selector_len(&ends.calling) + selector_len(&ends.called)
 }
 
-impl Ends {
+impl ConnectionFields {
     /// Whether a header has room for these fields: it has at most 254 octets.
     pub fn has_room(&self) -> bool
         ensures { IsTrue result ↔ HasRoom self.now }

@@ -3,7 +3,7 @@
 ghost use Rattle.std.specs.Prelude.{◌≡◌, ◌+◌, ◌≤◌, ◌<◌, length};
 ghost use Rattle.tpkt.specs.Header.{Gives, GivesBy, nothing_seen, with_size, with_parameter, parameter_at, parameters_at};
 
-use crate::stop::{Halt, fault, short};
+use crate::header_stops::{Halt, fault, short};
 use osi_base::{Kind, Octets};
 use std::alloc::Global;
 

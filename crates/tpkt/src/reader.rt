@@ -3,12 +3,12 @@
 ghost use Rattle.std.specs.Prelude.{◌≡◌, ℕ, ◌++◌, List, [], Some, None, IfSome, IfOk, OnErr};
 ghost use Rattle.tpkt.specs.declared.packet.Packet.{Packet};
 ghost use Rattle.tpkt.specs.declared.packet.TFault.{TFault};
-ghost use Rattle.tpkt.specs.declared.held.Held.{Held};
+ghost use Rattle.tpkt.specs.declared.reader_state.Held.{Held};
 ghost use Rattle.tpkt.specs.Reader.{nothing, IsFed, IsKept};
-ghost use Rattle.tpkt.specs.Stream.{IsOctets, Reads, HasRead};
+ghost use Rattle.tpkt.specs.Stream.{IsOctets, ReadsAsPackets, HasRead};
 
-use crate::held::{Held, all_taken, between};
 use crate::packet::{Packets, TFed};
+use crate::reader_state::{Held, all_taken, between};
 use osi_base::{NoMemory, Octets};
 use std::alloc::Global;
 use std::marker::Model;
@@ -26,15 +26,15 @@ pub struct TReader {
 
 impl Model for TReader {
     ghost use Rattle.std.specs.Prelude.{Option, IfSome};
-    ghost use Rattle.tpkt.specs.declared.held.Held.{Held};
+    ghost use Rattle.tpkt.specs.declared.reader_state.Held.{Held};
 
     ghost Value = { Option Held };
 
     ghost view = { λ r. r.held };
 
-    ghost use Rattle.tpkt.specs.Reader.{IsSound};
+    ghost use Rattle.tpkt.specs.Reader.{IsSoundReader};
 
-    ghost invariant = { λ r. IfSome r.held IsSound };
+    ghost invariant = { λ r. IfSome r.held IsSoundReader };
 }
 
 impl TReader {
@@ -58,7 +58,8 @@ impl TReader {
         // All feeds together give the packets of the stream and its first fault.
         ensures all { (came : List ℕ) (given : List Packet) → IsOctets came
             → HasRead came given self.old
-            → IfOk result (λ fed. Reads (came ++ bytes.now) (given ++ fed.packets) fed.fault) }
+            → IfOk result (λ fed.
+                ReadsAsPackets (came ++ bytes.now) (given ++ fed.packets) fed.fault) }
         ensures goes_on { (came : List ℕ) (given : List Packet) → HasRead came given self.old
             → IfOk result (λ fed. HasRead (came ++ bytes.now) (given ++ fed.packets) self.new) }
         // After a fault nothing changes.

@@ -6,7 +6,7 @@ ghost use Rattle.tpkt.specs.Wire.{two, packet, header, parameter};
 ghost use Rattle.tpkt.specs.Written.{part_packet, written_tsdu, size_parameter, selector_parameter, connection_fields, control_packet, HasRoom};
 
 use crate::numbers::push_number;
-use crate::packet::Ends;
+use crate::packet::ConnectionFields;
 use osi_base::{NoMemory, Octets};
 use std::alloc::Global;
 
@@ -75,7 +75,7 @@ fn control(alloc: Global, fields: &[u8]) -> Result<Octets, NoMemory>
     Ok(out)
 }
 
-fn connection(alloc: Global, code: u8, ends: &Ends) -> Result<Octets, NoMemory>
+fn connection(alloc: Global, code: u8, ends: &ConnectionFields) -> Result<Octets, NoMemory>
     requires { HasRoom ends.now }
     ensures { IfOk result (λ octets. octets ≡ control_packet (connection_fields code ends.now)) }
 {
@@ -93,7 +93,7 @@ fn connection(alloc: Global, code: u8, ends: &Ends) -> Result<Octets, NoMemory>
 /// The packet of a connection request, CR (X.224 13.3), of class 0: the references, and the size
 /// and the selectors where they are there. Its header has room for at most 254 octets. `NoMemory`
 /// where memory runs out.
-pub fn write_connect(alloc: Global, ends: &Ends) -> Result<Octets, NoMemory>
+pub fn write_connect(alloc: Global, ends: &ConnectionFields) -> Result<Octets, NoMemory>
     requires { HasRoom ends.now }
     ensures { IfOk result (λ octets. octets ≡ control_packet (connection_fields 224 ends.now)) }
 {
@@ -101,7 +101,7 @@ pub fn write_connect(alloc: Global, ends: &Ends) -> Result<Octets, NoMemory>
 }
 
 /// The packet of a connection confirm, CC (X.224 13.4), as that of a request.
-pub fn write_confirm(alloc: Global, ends: &Ends) -> Result<Octets, NoMemory>
+pub fn write_confirm(alloc: Global, ends: &ConnectionFields) -> Result<Octets, NoMemory>
     requires { HasRoom ends.now }
     ensures { IfOk result (λ octets. octets ≡ control_packet (connection_fields 208 ends.now)) }
 {

@@ -9,7 +9,7 @@ use Rattle.std.proofs.Common.{Result, Ok, Err, subst}
 use Rattle.trace_file.specs.declared.fault.RecordingFault.{RecordingFault}
 use Rattle.trace_file.specs.declared.fault.RecordingFault.TheVariants as faults
 use Rattle.trace_file.specs.declared.fault.RecordingKind.TheVariants.{BadField}
-use Rattle.trace_file.specs.Reading.{octet_of, more_octets, then_octet, added, LineRead, other, tells, faulty, read_told, begun, gone_on, line_at, line_of, put_behind, at_line, lines_at, line_result, Gives, Fails}
+use Rattle.trace_file.specs.Reading.{octet_of, more_octets, then_octet, added, LineRead, other, tells, faulty, read_told, begun, gone_on, line_at, line_of, put_behind, at_line, lines_at, line_result, Gives, FailsWith}
 
 -- the next of the items that are left
 pub next_is : (all : List (List ℕ)) (n : ℕ) (x : List ℕ) → (n < length all) × (x ≡ get_or all n x) → drop n all ≡ x ∷ drop (n + 1) all
@@ -94,7 +94,7 @@ line_on number told line all n x whole t e h =
     by_line faulty o e = absurd cc
 
 pub line_stops : (number : ℕ) (told : List Recorded) (fault : RecordingFault) (all : List (List ℕ)) (n : ℕ) (x : List ℕ) (whole : Result (List Recorded) RecordingFault) → (n < length all) × (x ≡ get_or all n x)
-    → Fails fault (line_result number (line_of x)) → lines_at number told (drop n all) ≡ whole → Fails fault whole
+    → FailsWith fault (line_result number (line_of x)) → lines_at number told (drop n all) ≡ whole → FailsWith fault whole
 unfolding lines_at
 line_stops number told faults.NoMemory all n x whole t e h = tt
 line_stops number told (faults.At line kind) all n x whole t e h =

@@ -83,14 +83,14 @@ lines_at number told (line ∷ lines) = at_line number (line_of line) told (λ n
 unfoldable pub recording_of : List ℕ → Result (List Recorded) RecordingFault
 recording_of text = if nat_lt text_most (length text) then Err (faults.At 1 TooMany) else lines_at 1 [] (lines_of text)
 
-abbrev pub Fails : {A : Type 0} → RecordingFault → Result A RecordingFault → Type 0
-Fails faults.NoMemory read = Unit {0}
-Fails (faults.At line kind) read = read ≡ Err (faults.At line kind)
+abbrev pub FailsWith : {A : Type 0} → RecordingFault → Result A RecordingFault → Type 0
+FailsWith faults.NoMemory read = Unit {0}
+FailsWith (faults.At line kind) read = read ≡ Err (faults.At line kind)
 
 -- what a function returned is what reading gives, unless memory was refused
 abbrev pub Gives : {A : Type 0} → Result A RecordingFault → Result A RecordingFault → Type 0
 Gives (Ok x) read = read ≡ Ok x
-Gives (Err e) read = Fails e read
+Gives (Err e) read = FailsWith e read
 
 -- what a function returned is what a line of this number tells, unless memory was refused
 abbrev pub line_result : ℕ → LineRead → Result (Option Recorded) RecordingFault

@@ -6,11 +6,11 @@ use Rattle.std.proofs.Math.Seq.{drop-append_seam, drop-length}
 use Rattle.osi_base.specs.declared.words.Side.{Side}
 use Rattle.osi_base.specs.declared.words.Side.TheVariants.{A, B}
 use Rattle.stub_tables.specs.declared.tables.Tables.{Tables}
-use Rattle.tpkt.specs.declared.held.Held.{Held}
+use Rattle.tpkt.specs.declared.reader_state.Held.{Held}
 use Rattle.tpkt.specs.declared.packet.Packet.{Packet}
 use Rattle.tpkt.specs.declared.packet.TFault.{TFault}
 use Rattle.tpkt.specs.declared.packet.TFed.{TFed}
-use Rattle.tpkt.specs.Reader.{Fed, reading, nothing, IsFed}
+use Rattle.tpkt.specs.Reader.{ReaderProgress, reading, nothing, IsFed}
 use Rattle.tpkt.specs.Stream.{HasRead}
 use Rattle.tpkt.proofs.ReaderLaws.{after_fault}
 use Rattle.tpkt.proofs.StreamLaws.{any_cut}
@@ -25,12 +25,12 @@ use Rattle.trace_vectors.proofs.SaidLaws.{join, no_fault, stays}
 abbrev Texts : Type 0
 Texts = List (List ℕ)
 
-abbrev of_fed : List Packet → Held → Fed
+abbrev of_fed : List Packet → Held → ReaderProgress
 of_fed packets held = record { packets = packets; held = held }
 
 -- what is shown of a stream, by what its reader made of it
-shows_as : (tables : Tables) (sent : List ℕ) (fed : Fed) (over : Bool) (shown : Texts) → reading nothing sent ≡ fed → AllSaid tables fed.packets fed.held.fault over shown → Shows tables sent shown
-shows_as tables sent fed over shown e h = (over, subst (λ (f : Fed). AllSaid tables f.packets f.held.fault over shown) (sym e) h)
+shows_as : (tables : Tables) (sent : List ℕ) (fed : ReaderProgress) (over : Bool) (shown : Texts) → reading nothing sent ≡ fed → AllSaid tables fed.packets fed.held.fault over shown → Shows tables sent shown
+shows_as tables sent fed over shown e h = (over, subst (λ (f : ReaderProgress). AllSaid tables f.packets f.held.fault over shown) (sym e) h)
 
 -- ---- a direction stands at its beginning
 
@@ -74,11 +74,11 @@ over_shown tables from sent octets text direction e s =
 follows_fault : (held : Held) (fault : TFault) (more : List ℕ) → held.fault ≡ Some fault → reading held more ≡ of_fed [] held
 follows_fault held fault more e = after_fault (of_fed [] held) fault more e
 
-abbrev later : List Packet → Held → List ℕ → Fed
+abbrev later : List Packet → Held → List ℕ → ReaderProgress
 later packets held more = of_fed (packets ++ (reading held more).packets) (reading held more).held
 
 read_on : (sent more : List ℕ) (packets : List Packet) (held : Held) → reading nothing sent ≡ of_fed packets held → reading nothing (sent ++ more) ≡ later packets held more
-read_on sent more packets held e = any_cut nothing sent more ∙ ap (λ (f : Fed). later f.packets f.held more) e
+read_on sent more packets held e = any_cut nothing sent more ∙ ap (λ (f : ReaderProgress). later f.packets f.held more) e
 
 -- what is over by its packets or by the fault of its stream is shown so, whatever follows
 whatever_follows : (tables : Tables) (sent : List ℕ) (packets : List Packet) (held : Held) (fault : Option TFault) (shown : Texts) → held.fault ≡ fault → reading nothing sent ≡ of_fed packets held
@@ -89,7 +89,7 @@ whatever_follows tables sent packets held None shown e r h more =
 whatever_follows tables sent packets held (Some fault) shown e r h more =
     let f = follows_fault held fault more e in
     shows_as tables (sent ++ more) (later packets held more) true shown (read_on sent more packets held r)
-    (stays tables packets (reading held more).packets (Some fault) (reading held more).held.fault shown (ap (λ (x : Fed). x.packets) f, ap (λ (x : Fed). x.held.fault) f ∙ e) h)
+    (stays tables packets (reading held more).packets (Some fault) (reading held more).held.fault shown (ap (λ (x : ReaderProgress). x.packets) f, ap (λ (x : ReaderProgress). x.held.fault) f ∙ e) h)
 
 -- what a feed made of a reader that held something
 abbrev FedTo : List ℕ → List Packet → Held → Option TFault → Option Held → Type 0

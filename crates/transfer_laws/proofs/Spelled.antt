@@ -21,7 +21,7 @@ use Rattle.dialogue.specs.declared.config.Mode.{Mode}
 use Rattle.end_rules.specs.Base.{Base, Head, Item, Fault, Whole, acse_name}
 use Rattle.end_rules.specs.Sets.{same_name, pair_of}
 use Rattle.end_rules.specs.Faults.{fault_if, or_fault}
-use Rattle.end_rules.specs.Messages.{Content, Remote}
+use Rattle.end_rules.specs.Messages.{ValueContent, Remote}
 use Rattle.end_rules.specs.Hearing.{head_of_apdu}
 use Rattle.end_rules.specs.Invoking.{is_too_long}
 use Rattle.end_wire.specs.Heads.{head_at, apdu_of}
@@ -91,12 +91,12 @@ module _ (tables : Tables) (config : Config) (initiator : Bool) (mode : Mode) (m
   remote-content item t p =
       let s = written_spelled tables module_s.readable item.pair.transfer item.apdu (writable-so item t) in
       let found = ap (λ (h : Head). content_of (text item) (apdu_of tables h)) (spelled_said tables item.pair.transfer module_s.readable item.apdu (text item) s) ∙ ap (content_of (text item)) (said_is tables item.pair.transfer module_s.readable item.apdu s.head s.says) in
-      rw (of-module item p) (ap (λ (c : Content). let x : Result Content Fault = Ok c in x) found)
+      rw (of-module item p) (ap (λ (c : ValueContent). let x : Result ValueContent Fault = Ok c in x) found)
 
   arrives-under : (item : Item) (at : PdvPlaces) → IsTransferable base item.apdu → IsPlaced base item → arrived_under tables at (pdv item) (Some item.pair) ≡ Ok (Whole item)
   arrives-under item at t p =
       ap (λ (os : List ℕ). arrived_as at item.id item.pair (content_under tables carriage.Module item.pair os)) (octets-are item.pair.transfer (text item)) ∙
-      ap (λ (r : Result Content Fault). arrived_as at item.id item.pair r) (remote-content item t p)
+      ap (λ (r : Result ValueContent Fault). arrived_as at item.id item.pair r) (remote-content item t p)
 
   reads-so : (set : List SetItem) (item : Item) → IsTransferable base item.apdu → IsPlaced base item → pair_of set item.id ≡ Some item.pair → arrived_at tables set (transferred tables item) ≡ Ok (Whole item)
   reads-so set item t p there =

@@ -23,7 +23,7 @@ use Rattle.association_reading.specs.Transfers.{association_spellings}
 use Rattle.reliable_model.specs.Codecs.{Carries}
 use Rattle.reliable_model.specs.Goes.{Encoding, deeds_of, Ledger, Goes}
 use Rattle.reliable_model.specs.ReliablePairs.{reliable_pair}
-use Rattle.reliable_model.specs.Transfers.{Ends, IsNewest, ArrivesWhole, item_of, IsOf}
+use Rattle.reliable_model.specs.Transfers.{TakesTransferEnd, IsNewest, ArrivesWhole, item_of, IsOf}
 use Rattle.outcome_laws.specs.Deals.{Dealings, dealt_of, Deals}
 use Rattle.outcome_laws.specs.Outcomes.{AreAnswers}
 use Rattle.transfer_spelling.specs.Laws.{IsModule}
@@ -62,7 +62,7 @@ ReliableEndsHaveOneHolder = EverInEnds (λ common two ledger. holds_turn two.a �
 
 -- What the end of a transfer brings is the item that the other end encoded last, for the activity of that number.
 abbrev pub ReliableEndsArriveWhole : Type 0
-ReliableEndsArriveWhole = EverInEnds (λ common two ledger. (role : Role) → Ends common two role → ArrivesWhole common two ledger role)
+ReliableEndsArriveWhole = EverInEnds (λ common two ledger. (role : Role) → TakesTransferEnd common two role → ArrivesWhole common two ledger role)
 
 -- What was encoded last for an activity is the item that was started as that activity.
 abbrev pub ReliableEndsKeepItems : Type 0
@@ -79,7 +79,7 @@ ReliableEndsArriveOnce = EverInEnds (λ common two ledger. (role : Role) → Are
 abbrev pub ReliableEndsTakeAsSent : Type 0
 ReliableEndsTakeAsSent =
     EverInEnds (λ common two ledger.
-    (role : Role) (item : Item) → Ends common two role → arrived_now (base_at role common) (body_at role two) ≡ Ok (Whole item) →
+    (role : Role) (item : Item) → TakesTransferEnd common two role → arrived_now (base_at role common) (body_at role two) ≡ Ok (Whole item) →
     (pair_of (body_at role two).sets.held item.id ≡ Some item.pair) ×
     IsNewest (record { activity = (body_at role two).receiving.last; id = item.id; pair = pair_of (body_at role two).sets.held item.id; apdu = item.apdu }) (deeds_of (other role) ledger.deeds).encoded)
 

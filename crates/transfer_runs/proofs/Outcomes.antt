@@ -366,7 +366,7 @@ module _ (free : Free) (tables : Tables) (spellings : Spellings) (a b : Config) 
   pub record Presumed : Type 0 where
     pub never : early.NeverFails free tables spellings a b
     pub kept : (two : Two) (ledger : Ledger) → Goes common two ledger → machine.Kept free tables spellings a b two ledger
-    pub whole : (two : Two) (ledger : Ledger) → Goes common two ledger → (role : Role) → transfers.Ends common two role → ArrivesWhole common two ledger role
+    pub whole : (two : Two) (ledger : Ledger) → Goes common two ledger → (role : Role) → transfers.TakesTransferEnd common two role → ArrivesWhole common two ledger role
     pub items : (two : Two) (ledger : Ledger) → Goes common two ledger → (role : Role) (encoding : Encoding) → IsNewest encoding (deeds_of role ledger.deeds).encoded → IsOf encoding.apdu (item_of encoding.activity (deeds_of role ledger.deeds).started)
     pub falls : (two : Two) (ledger : Ledger) → Goes common two ledger → (role : Role) → AreFalling (deeds_of role ledger.deeds).arrived
 

@@ -28,7 +28,7 @@ use Rattle.osi_base.specs.declared.words.Side.{Side}
 use Rattle.osi_base.specs.declared.words.Side.TheVariants.{A, B}
 use Rattle.end_model.specs.Pairs.{Two}
 use Rattle.reliable_model.specs.Goes.{Deeds, Encoding, Ledger, Goes, deeds_of}
-use Rattle.reliable_model.specs.Transfers.{Ends as Ends_of, ArrivesWhole, IsNewest, item_of, IsOf}
+use Rattle.reliable_model.specs.Transfers.{TakesTransferEnd as Ends_of, ArrivesWhole, IsNewest, item_of, IsOf}
 use Rattle.run_laws.specs.Transfers.{OneTransfer}
 use Rattle.association_runs.proofs.Deeds.{AreDone}
 use Rattle.association_runs.specs.Laws.{AreEvents, AreOneHolder, ReachesMessages, RunsReachMessages, RunsTakeInPlace, RunsShowWhatIsTaken, RunsNeverFail, RunsHaveOneHolder, RunsTransferWhole, RunsTellOneOutcome, RunsLeaveNothingWhole, RunKeepsLaws}

@@ -12,16 +12,16 @@ use Rattle.agreement.specs.Sets.{Role}
 use Rattle.end_model.specs.Pairs.{Common, base_at}
 use Rattle.association_reading.specs.Front.{Intake, first_in}
 use Rattle.association_reading.specs.Reacting.{react_to}
-use Rattle.association_worlds.specs.Worlds.{Ends, end_at, Spoken}
+use Rattle.association_worlds.specs.Worlds.{LineEnds, end_at, Spoken}
 use Rattle.association_worlds.specs.Laws.{IsSpelled}
 use Rattle.transfer_laws.specs.Laws.{reliable_ends}
 use Rattle.said_worlds.specs.Laws.{AreEndsIn}
 
 -- of every module and every two configurations that may be ends of reliable mode
-abbrev pub EverInWorlds : (Common → Ends → Type 0) → Type 0
+abbrev pub EverInWorlds : (Common → LineEnds → Type 0) → Type 0
 EverInWorlds Law =
     (tables : Tables) (a b : Config) → AreEndsIn Reliable tables a b →
-    (ends : Ends) → Spoken (reliable_ends tables a b) ends → Law (reliable_ends tables a b) ends
+    (ends : LineEnds) → Spoken (reliable_ends tables a b) ends → Law (reliable_ends tables a b) ends
 
 abbrev pub ReliableWorldsAreSpelled : Type 0
 ReliableWorldsAreSpelled = EverInWorlds IsSpelled

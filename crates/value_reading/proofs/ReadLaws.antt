@@ -7,7 +7,7 @@ use Rattle.asn1_types.specs.declared.row.TypeRow.{TypeRow}
 use Rattle.asn1_types.specs.declared.row.TypeRow.TheVariants.{Boolean, Integer, Enumerated, Null, OctetString, BitString, ObjectId, Text, Sequence, Set, SequenceOf, SetOf, Choice, Tagged, Any}
 use Rattle.asn1_types.specs.Rows.{along, names_of, rows_of_parts}
 use Rattle.asn1_types.specs.Rising.{sorted}
-use Rattle.asn1_types.specs.Table.{IsSound}
+use Rattle.asn1_types.specs.Table.{AreSoundRows}
 use Rattle.asn1_types.specs.Value.{Value}
 use Rattle.asn1_types.specs.Writing.{written}
 use Rattle.asn1_types.proofs.Along.{settled}
@@ -82,7 +82,7 @@ read_cong spell (Tagged class number explicit inner) f g h = λ i text. h.0 i te
 read_cong spell Any f g h = refl
 
 -- what is read by a row, by its rule
-pub read_at : (rows : List TypeRow) → IsSound rows → (n : ℕ) (row : TypeRow) → slice_get rows n ≡ Some row → read_as rows n ≡ read_by (written rows) (read_as rows) row
+pub read_at : (rows : List TypeRow) → AreSoundRows rows → (n : ℕ) (row : TypeRow) → slice_get rows n ≡ Some row → read_as rows n ≡ read_by (written rows) (read_as rows) row
 unfolding read_as
 read_at rows sound n row e = settled unread (read_by (written rows)) (read_cong (written rows)) rows (is_down rows sound) n row e
 

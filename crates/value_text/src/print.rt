@@ -3,7 +3,7 @@
 ghost use Rattle.std.specs.Prelude.{◌≡◌, ◌++◌, ◌<◌, Some, OnOk, IfOk, slice_get, true, codes};
 ghost use Rattle.std.specs.List.{AllByRecursion};
 ghost use Rattle.asn1_types.specs.Rows.{rows_of_parts};
-ghost use Rattle.asn1_types.specs.Table.{IsSound};
+ghost use Rattle.asn1_types.specs.Table.{AreSoundRows};
 ghost use Rattle.asn1_types.specs.ValueView.{parts_of, values_of};
 ghost use Rattle.value_text.specs.Printed.{
   item_text,
@@ -53,7 +53,7 @@ fn put_row(
     value: &Val,
 ) -> Result<(), NoMemory>
     requires row { slice_get table.now of.0 ≡ Some row.now }
-    requires sound { IsSound table.now }
+    requires sound { AreSoundRows table.now }
     ensures { OnOk result (text.new ≡ text.old ++ text_by (printed table.now) row.now value.now) }
 {
     match row {

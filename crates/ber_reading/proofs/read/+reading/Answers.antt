@@ -25,7 +25,7 @@ use Rattle.asn1_types.specs.Writing.{written}
 use Rattle.asn1_types.specs.Tags.{rank}
 use Rattle.ber_spelling.proofs.Loops.{goes_then}
 use Rattle.ber_reading.proofs.PartsFrom.{part_fails, part_goes_on, end_fails, end_gives, sequence_fails, sequence_gives}
-use Rattle.ber_spelling.proofs.Steps.{Fails-bind}
+use Rattle.ber_spelling.proofs.Steps.{FailsWith-bind}
 use Rattle.ber_spelling.proofs.Turns.{bind_is, look_fails, step_fails, step_goes, turns_end, no_turns}
 use Rattle.ber_reading.proofs.read.+reading.Goals as goal
 
@@ -110,7 +110,7 @@ items-returns-in-Ended-clause-gives t c =
 pub items-returns-in_err-value-in-Begun-clause-gives : goal.items-returns-in_err-value-in-Begun-clause-gives
 items-returns-in_err-value-in-Begun-clause-gives t c =
     let h = step_fails (list_item_at (reads c.args.table.now c.args.inner.0)) list_done c.in_err-value-in-Begun.field-0.0 (length c.args.spot.rest.now + 1 - c.loop-turn._turn) c.loop-turn.found.items c.args.scope.now (spot_of c.loop-turn.spot) (opened_of c.in-Begun.opened) (spot_of c.in-Begun.after) _ (omega arith) c.loop-turn.invariant.so_far
-    (c.in_ok-after.ensures.gives ∙ ap (λ a. Ok (ahead_of a)) c.in-Begun.is) (Fails-bind c.in_err-value-in-Begun.field-0.0 (reads c.args.table.now c.args.inner.0 plain c.args.scope.now (opened_of c.in-Begun.opened) (spot_of c.in-Begun.after)) _ c.in_err-value-in-Begun.ensures.gives) in
+    (c.in_ok-after.ensures.gives ∙ ap (λ a. Ok (ahead_of a)) c.in-Begun.is) (FailsWith-bind c.in_err-value-in-Begun.field-0.0 (reads c.args.table.now c.args.inner.0 plain c.args.scope.now (opened_of c.in-Begun.opened) (spot_of c.in-Begun.after)) _ c.in_err-value-in-Begun.ensures.gives) in
     search rules
 
 pub items-loop-turn-preserved : goal.items-loop-turn-preserved

@@ -2,14 +2,14 @@ use Rattle.std.proofs.Common.{◌≡◌, ◌-◌, ◌+◌, Some, Ok, true, false
 use Rattle.ber_spelling.specs.Reading.{spot_of, opened_of, ahead_of, LiesIn, Gives, Reading, Spot}
 use Rattle.ber_spelling.specs.Rules.{segment_at, items_at}
 use Rattle.ber_spelling.specs.declared.spot.Gathered.{Gathered}
-use Rattle.ber_spelling.proofs.Steps.{Fails-same}
+use Rattle.ber_spelling.proofs.Steps.{FailsWith-same}
 use Rattle.ber_spelling.proofs.Loops.{goes_then}
 use Rattle.ber_spelling.proofs.Turns.{segment_none, segment_some, look_fails, step_fails, step_goes, turns_end, no_turns}
 use Rattle.ber_spelling.proofs.strings.+gathering.Goals as goal
 
 pub segment-returns-then-depth-eq0-clause-gives : goal.segment-returns-then-depth-eq0-clause-gives
 segment-returns-then-depth-eq0-clause-gives t c =
-    Fails-same c.refusal.result _ _ (sym (segment_none c.args.kind c.args.depth c.args.before c.args.scope.now (opened_of c.args.opened.now) (spot_of c.args.spot) c.if-depth-eq0.true)) (rw c.refusal.ensures refl)
+    FailsWith-same c.refusal.result _ _ (sym (segment_none c.args.kind c.args.depth c.args.before c.args.scope.now (opened_of c.args.opened.now) (spot_of c.args.spot) c.if-depth-eq0.true)) (rw c.refusal.ensures refl)
 
 pub segment-returns-then-opened-clause-gives : goal.segment-returns-then-opened-clause-gives
 segment-returns-then-opened-clause-gives t c =

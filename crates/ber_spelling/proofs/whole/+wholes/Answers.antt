@@ -4,7 +4,7 @@ use Rattle.asn1_types.specs.Rows.{is_no_tag}
 use Rattle.asn1_types.specs.Whole.{is_marked}
 use Rattle.ber_spelling.specs.Reading.{spot_of, opened_of, ahead_of, behind_of, LiesIn, Gives, Reading, Spot, refuse}
 use Rattle.ber_spelling.specs.Rules.{whole_at, items_at}
-use Rattle.ber_spelling.proofs.Steps.{Fails-same}
+use Rattle.ber_spelling.proofs.Steps.{FailsWith-same}
 use Rattle.ber_spelling.proofs.Loops.{goes_then}
 use Rattle.ber_spelling.proofs.Turns.{whole_none, whole_no_tag, whole_marked, whole_sized, look_fails, step_fails, step_goes, turns_end, no_turns}
 use Rattle.osi_base.specs.declared.words.Kind.TheVariants.{Tag}
@@ -48,7 +48,7 @@ whole_value-returns-then-levels-eq0-clause-gives t c =
       | whole_value-then-levels-eq0-via-then-levels-eq0 w ↦ whole_none c.args.levels c.args.scope.now (opened_of c.args.opened.now) (spot_of c.args.spot) w.if-levels-eq0.true
       | whole_value-then-levels-eq0-via-else-levels-eq0+then-is_no_tag w ↦ whole_no_tag c.args.levels c.args.scope.now (opened_of c.args.opened.now) (spot_of c.args.spot) (sym w.is_no_tag.ensures ∙ w.if-is_no_tag.true)
     ] in
-    Fails-same c.refusal.result _ _ (sym same) (rw c.refusal.ensures refl)
+    FailsWith-same c.refusal.result _ _ (sym same) (rw c.refusal.ensures refl)
 
 pub whole_value-returns-then-opened-clause-gives : goal.whole_value-returns-then-opened-clause-gives
 whole_value-returns-then-opened-clause-gives t c =

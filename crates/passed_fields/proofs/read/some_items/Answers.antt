@@ -2,7 +2,7 @@ use Rattle.std.proofs.Common.{rules, ◌≡◌, ◌+◌, ◌-◌, ◌++◌, ◌�
 use Rattle.ber_spelling.specs.Reading.{opened_of, spot_of, ahead_of, LiesIn}
 use Rattle.ber_spelling.specs.Rules.{items_at, list_item_at, reads, plain}
 use Rattle.ber_spelling.proofs.Loops.{goes_then}
-use Rattle.ber_spelling.proofs.Steps.{Fails-bind}
+use Rattle.ber_spelling.proofs.Steps.{FailsWith-bind}
 use Rattle.ber_spelling.proofs.Turns.{bind_is, look_fails, step_fails, step_goes, turns_end, no_turns}
 use Rattle.ber_reading.proofs.Slots.{turns_lack}
 use Rattle.passed_fields.specs.Reading.{some_done}
@@ -26,7 +26,7 @@ returns-in-Ended-clause-gives c =
 pub returns-in_err-value-in-Begun-clause-gives : goal.returns-in_err-value-in-Begun-clause-gives
 returns-in_err-value-in-Begun-clause-gives c =
     let h = step_fails (list_item_at (reads c.args.table.now c.args.of.0)) some_done c.in_err-value-in-Begun.field-0.0 (length c.args.spot.rest.now + 1 - c.loop-turn._turn) c.loop-turn.found.items c.args.scope.now (spot_of c.loop-turn.spot) (opened_of c.in-Begun.opened) (spot_of c.in-Begun.after) _ (omega arith) c.loop-turn.invariant.so_far
-    (c.in_ok-place.ensures.gives ∙ ap (λ a. Ok (ahead_of a)) c.in-Begun.is) (Fails-bind c.in_err-value-in-Begun.field-0.0 (reads c.args.table.now c.args.of.0 plain c.args.scope.now (opened_of c.in-Begun.opened) (spot_of c.in-Begun.after)) _ c.in_err-value-in-Begun.ensures.gives) in
+    (c.in_ok-place.ensures.gives ∙ ap (λ a. Ok (ahead_of a)) c.in-Begun.is) (FailsWith-bind c.in_err-value-in-Begun.field-0.0 (reads c.args.table.now c.args.of.0 plain c.args.scope.now (opened_of c.in-Begun.opened) (spot_of c.in-Begun.after)) _ c.in_err-value-in-Begun.ensures.gives) in
     search rules
 
 pub loop-turn-preserved : goal.loop-turn-preserved

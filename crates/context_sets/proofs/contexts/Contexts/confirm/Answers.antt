@@ -1,7 +1,7 @@
 use Rattle.std.proofs.Common.{◌≡◌, ◌∙◌, ◌+◌, ◌-◌, ◌<◌, ◌≤◌, ap, refl, subst, arith, length, vec_len, vec_capacity, List, ◌∷◌}
 use Rattle.context_sets.specs.declared.alteration.Alteration.{Alteration}
 use Rattle.context_sets.specs.Alterations.{additions}
-use Rattle.context_sets.specs.Held.{IsSound, later}
+use Rattle.context_sets.specs.Held.{IsSoundHeldSet, later}
 use Rattle.context_sets.specs.Results.{acceptances}
 use Rattle.context_sets.proofs.Keeping.{sound_confirmed, first_of_some, IsFirst, sound_at, accepts_asked}
 use Rattle.context_sets.proofs.contexts.Contexts.confirm.Goals as goal
@@ -24,7 +24,7 @@ invariant_of-self c =
     let len = c.settle.ensures.len in
     let capacity = c.settle.ensures.capacity in
     sound_at _ _ (later c.self.inside.own.items) _ _ refl (c.remove-oldest.ensures.items ∙ first.others)
-    (sound_confirmed c.self.inside.items.items _ _ c.remove-oldest.result c.args.answers.now _ _ (subst (λ (x : List Alteration). IsSound c.self.inside.items.items x (vec_capacity c.self.inside.items - vec_len c.self.inside.items)) first.all c.self.invariant) c.settle.ensures.items (omega arith) (omega arith))
+    (sound_confirmed c.self.inside.items.items _ _ c.remove-oldest.result c.args.answers.now _ _ (subst (λ (x : List Alteration). IsSoundHeldSet c.self.inside.items.items x (vec_capacity c.self.inside.items - vec_len c.self.inside.items)) first.all c.self.invariant) c.settle.ensures.items (omega arith) (omega arith))
 
 pub returns-then-len-gt0-clause-roomy : goal.returns-then-len-gt0-clause-roomy
 returns-then-len-gt0-clause-roomy c =

@@ -1,6 +1,6 @@
 use Rattle.std.proofs.Common.{ap, subst, ◌∙◌}
 use Rattle.end_rules.specs.Hearing as rules
-use Rattle.rose_roles.specs.declared.judging.Judged.{Judged}
+use Rattle.rose_roles.specs.declared.apdu_problems.Judged.{Judged}
 use Rattle.rose_roles.specs.Calls.{Performing, calls_of}
 use Rattle.rose_roles.specs.Hearing.{heard_with}
 use Rattle.rose_roles.specs.Judging.{early_problem, invoke_problem, IsJudged, IsFree}

@@ -1,6 +1,0 @@
-use Rattle.std.proofs.Common.{◌≡◌, ℕ, ◌+◌, ◌≤◌, ◌++◌, [], drop, map, vec_len, vec_capacity}
-use Rattle.context_sets.specs.Policy.{chosen, added_answers, deletion_answer}
-use Rattle.context_sets.proofs.judging.added_answers.Given as goal
-
-abbrev pub invariant-loop-proposal : goal.invariant-loop-proposal
-invariant-loop-proposal l = record { rest : l.answers ++ added_answers l.rules l.count (drop l.proposal-index l.proposals) ≡ added_answers l.rules l.taken l.proposals; within : l.count ≤ 64 }

@@ -1,6 +1,0 @@
-use Rattle.std.proofs.Common.{◌≡◌, ℕ, ◌+◌, ◌≤◌, ◌++◌, [], drop, map, vec_len, vec_capacity}
-use Rattle.context_sets.specs.Policy.{chosen, added_answers, deletion_answer}
-use Rattle.context_sets.proofs.judging.chosen.Given as goal
-
-abbrev pub invariant-loop-transfer : goal.invariant-loop-transfer
-invariant-loop-transfer l = chosen l.rules l.name (drop l.transfer-index l.transfers) ≡ chosen l.rules l.name l.transfers

@@ -1,6 +1,0 @@
-use Rattle.std.proofs.Common.{◌≡◌, ℕ, ◌+◌, ◌≤◌, ◌++◌, [], drop, map, vec_len, vec_capacity}
-use Rattle.context_sets.specs.Met.{MayGoOn}
-use Rattle.context_sets.proofs.judging.peer_fault.Given as goal
-
-abbrev pub invariant-loop-proposal : goal.invariant-loop-proposal
-invariant-loop-proposal l = MayGoOn l.met l.peer l.items (drop l.proposal-index l.proposals) l.proposals
