@@ -1,3 +1,4 @@
+pub mod Printed
 pub mod Refusals
 pub mod Pieces
 pub mod Outcomes

@@ -1,4 +1,5 @@
 pub mod Limits
+pub mod Printed
 pub mod Value
 pub mod ValueCode
 pub mod ValueView

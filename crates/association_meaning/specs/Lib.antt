@@ -1,4 +1,5 @@
 pub mod Grounds
+pub mod Printed
 pub mod Steps
 pub mod Informing
 pub mod Words

@@ -8,6 +8,8 @@ use association_words::Fault;
 use dialogue::Config;
 use osi_base::{Layer, ListOf, NoMemory};
 use std::alloc::Global;
+use std::error::Error;
+use std::fmt;
 use stub_tables::Tables;
 
 /// What reading stands on: the fixed tables, the module's tables and the configuration of an end.
@@ -31,6 +33,22 @@ pub enum Halt {
     /// Memory was refused.
     NoMemory,
 }
+
+impl fmt::Display for Halt {
+    ghost use Rattle.std.specs.Prelude.{Some};
+    ghost use Rattle.association_meaning.specs.Printed.{halt_text};
+
+    ghost output = { λ halt. Some (halt_text halt) };
+
+    fn fmt<W: fmt::Write>(&self, f: &mut fmt::Formatter<W>) -> fmt::Result {
+        match self {
+            Halt::Faulty(fault) => fmt::Display::fmt(fault, f),
+            Halt::NoMemory => f.write_str("out of memory"),
+        }
+    }
+}
+
+impl Error for Halt {}
 
 impl From<NoMemory> for Halt {
     ghost use Rattle.std.specs.Prelude.{◌≡◌};

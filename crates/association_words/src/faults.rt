@@ -7,6 +7,8 @@ ghost use Rattle.association_words.specs.Seen.{seen_fault};
 use dialogue::Indications;
 use osi_base::{Layer, ListOf};
 use std::alloc::Global;
+use std::error::Error;
+use std::fmt;
 
 /// Why what came ends the association.
 #[derive(Debug, Drop)]
@@ -22,6 +24,22 @@ pub struct Fault {
     /// What the user is told before all else.
     pub told: Indications,
 }
+
+impl fmt::Display for Fault {
+    ghost use Rattle.std.specs.Prelude.{Some};
+    ghost use Rattle.association_words.specs.Printed.{fault_text};
+
+    ghost output = { λ fault. Some (fault_text fault) };
+
+    fn fmt<W: fmt::Write>(&self, f: &mut fmt::Formatter<W>) -> fmt::Result {
+        let layer = self.layer;
+        let place = self.place;
+        let reason = self.reason;
+        write!(f, "{layer} {place} {reason}")
+    }
+}
+
+impl Error for Fault {}
 
 impl Fault {
     /// A fault before which the user is told nothing.

@@ -3,8 +3,10 @@
 ghost use Rattle.std.specs.Prelude.{◌≡◌};
 ghost use Rattle.ber_spelling.specs.declared.fault.ReadFault.TheVariants.{NoMemory as no_room};
 
-use osi_base::{Kind, NoMemory};
+use osi_base::{FaultAt, Kind, NoMemory};
 use std::alloc::{AllocError, AllocFailed};
+use std::error::Error;
+use std::fmt;
 
 /// Why octets aren't read as a value: the first fault from the left, or that they end too early.
 #[derive(Clone, Copy, Debug, PartialEq, Eq)]
@@ -20,6 +22,43 @@ pub enum ReadFault {
     /// Memory was refused.
     NoMemory,
 }
+
+impl fmt::Display for ReadFault {
+    ghost use Rattle.std.specs.Prelude.{Some};
+    ghost use Rattle.ber_spelling.specs.Printed.{read_fault_text};
+
+    ghost output = { λ fault. Some (read_fault_text fault) };
+
+    fn fmt<W: fmt::Write>(&self, f: &mut fmt::Formatter<W>) -> fmt::Result {
+        match self {
+            ReadFault::NotSpelled { place, kind } => fmt::Display::fmt(
+                &FaultAt {
+                    cause: kind.word(),
+                    place: *place as u64,
+                },
+                f,
+            ),
+            ReadFault::Short => f.write_str("the octets end too early"),
+            ReadFault::TooDeep { place } => fmt::Display::fmt(
+                &FaultAt {
+                    cause: "nested more than 32 deep",
+                    place: *place as u64,
+                },
+                f,
+            ),
+            ReadFault::TooLong { place } => fmt::Display::fmt(
+                &FaultAt {
+                    cause: "too long",
+                    place: *place as u64,
+                },
+                f,
+            ),
+            ReadFault::NoMemory => f.write_str("out of memory"),
+        }
+    }
+}
+
+impl Error for ReadFault {}
 
 impl From<AllocError> for ReadFault {
     ghost from_gives = { λ _ e. e ≡ no_room };

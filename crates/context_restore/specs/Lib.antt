@@ -1,3 +1,4 @@
+pub mod Printed
 pub mod Versions
 pub mod SavedSets
 pub mod Chain

@@ -3,8 +3,10 @@
 ghost use Rattle.std.specs.Prelude.{◌≡◌};
 ghost use Rattle.context_restore.specs.declared.refusal.SaveRefusal.TheVariants.{NoMemory as no_room};
 
-use osi_base::NoMemory;
+use osi_base::{NoMemory, WordWithNumber};
 use std::alloc::{AllocError, AllocFailed};
+use std::error::Error;
+use std::fmt;
 
 /// Why a set isn't saved or restored. The first that holds, in this order, decides.
 #[derive(Clone, Copy, Debug, PartialEq, Eq)]
@@ -19,6 +21,30 @@ pub enum SaveRefusal {
     /// An allocation was refused.
     NoMemory,
 }
+
+impl fmt::Display for SaveRefusal {
+    ghost use Rattle.std.specs.Prelude.{Some};
+    ghost use Rattle.context_restore.specs.Printed.{save_refusal_text};
+
+    ghost output = { λ refusal. Some (save_refusal_text refusal) };
+
+    fn fmt<W: fmt::Write>(&self, f: &mut fmt::Formatter<W>) -> fmt::Result {
+        match self {
+            SaveRefusal::NoSuchMark(number) => fmt::Display::fmt(
+                &WordWithNumber {
+                    word: "NoSuchMark",
+                    number: Some(i64::from(*number)),
+                },
+                f,
+            ),
+            SaveRefusal::MarksFull => f.write_str("MarksFull"),
+            SaveRefusal::NoActivity => f.write_str("NoActivity"),
+            SaveRefusal::NoMemory => f.write_str("NoMemory"),
+        }
+    }
+}
+
+impl Error for SaveRefusal {}
 
 impl From<NoMemory> for SaveRefusal {
     ghost from_gives = { λ _ refusal. refusal ≡ no_room };

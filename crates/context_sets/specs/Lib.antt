@@ -1,3 +1,4 @@
+pub mod Printed
 pub mod Sets
 pub mod Syntaxes
 pub mod Alterations

@@ -4,8 +4,10 @@ ghost use Rattle.std.specs.Prelude.{◌≡◌};
 ghost use Rattle.context_sets.specs.declared.fault.SetRefusal.TheVariants.{NoMemory as no_room};
 ghost use Rattle.context_sets.specs.declared.fault.SetFault.TheVariants.{NoMemory as no_memory};
 
-use osi_base::NoMemory;
+use osi_base::{NoMemory, WordWithNumber};
 use std::alloc::{AllocError, AllocFailed};
+use std::error::Error;
+use std::fmt;
 
 /// Why an end doesn't ask for an alteration. The first that holds, in this order, decides; of the
 /// additions and then of the deletions each is tried in turn, and `SetFull` comes after them.
@@ -32,6 +34,59 @@ pub enum SetRefusal {
     SetFull,
     /// An allocation was refused.
     NoMemory,
+}
+
+impl fmt::Display for SetRefusal {
+    ghost use Rattle.std.specs.Prelude.{Some};
+    ghost use Rattle.context_sets.specs.Printed.{set_refusal_text};
+
+    ghost output = { λ refusal. Some (set_refusal_text refusal) };
+
+    fn fmt<W: fmt::Write>(&self, f: &mut fmt::Formatter<W>) -> fmt::Result {
+        let word = self.word();
+        let number = self.number();
+        fmt::Display::fmt(&WordWithNumber { word, number }, f)
+    }
+}
+
+impl Error for SetRefusal {}
+
+impl SetRefusal {
+    ghost use Rattle.std.specs.Prelude.{◌≡◌};
+    ghost use Rattle.context_sets.specs.Printed.{set_refusal_word, set_refusal_number};
+
+    /// Its name, as a transcript tells it.
+    pub fn word(self) -> &'static str
+        ensures { result.now ≡ set_refusal_word self }
+    {
+        match self {
+            SetRefusal::AlterPending => "AlterPending",
+            SetRefusal::BadProposal => "BadProposal",
+            SetRefusal::WrongParity(_) => "WrongParity",
+            SetRefusal::Named(_) => "Named",
+            SetRefusal::Present(_) => "Present",
+            SetRefusal::Absent(_) => "Absent",
+            SetRefusal::Fixed(_) => "Fixed",
+            SetRefusal::InUse(_) => "InUse",
+            SetRefusal::SetFull => "SetFull",
+            SetRefusal::NoMemory => "NoMemory",
+        }
+    }
+
+    /// The number that it carries, where a transcript tells one.
+    pub fn number(self) -> Option<i64>
+        ensures { result ≡ set_refusal_number self }
+    {
+        match self {
+            SetRefusal::WrongParity(number) => Some(i64::from(number)),
+            SetRefusal::Named(number) => Some(i64::from(number)),
+            SetRefusal::Present(number) => Some(i64::from(number)),
+            SetRefusal::Absent(number) => Some(i64::from(number)),
+            SetRefusal::Fixed(number) => Some(i64::from(number)),
+            SetRefusal::InUse(number) => Some(i64::from(number)),
+            _ => None,
+        }
+    }
 }
 
 impl From<NoMemory> for SetRefusal {
@@ -72,6 +127,39 @@ pub enum SetFault {
     /// An allocation was refused.
     NoMemory,
 }
+
+impl fmt::Display for SetFault {
+    ghost use Rattle.std.specs.Prelude.{Some};
+    ghost use Rattle.context_sets.specs.Printed.{set_fault_text};
+
+    ghost output = { λ fault. Some (set_fault_text fault) };
+
+    fn fmt<W: fmt::Write>(&self, f: &mut fmt::Formatter<W>) -> fmt::Result {
+        match self {
+            SetFault::PeerPresent(id) => fmt::Display::fmt(
+                &WordWithNumber {
+                    word: "already there: context",
+                    number: Some(i64::from(*id)),
+                },
+                f,
+            ),
+            SetFault::PeerParity(id) => fmt::Display::fmt(
+                &WordWithNumber {
+                    word: "wrong parity: context",
+                    number: Some(i64::from(*id)),
+                },
+                f,
+            ),
+            SetFault::Mismatch { sent, answered } => write!(
+                f,
+                "{answered} results do not answer {sent}"
+            ),
+            SetFault::NoMemory => f.write_str("out of memory"),
+        }
+    }
+}
+
+impl Error for SetFault {}
 
 impl From<NoMemory> for SetFault {
     ghost from_gives = { λ _ fault. fault ≡ no_memory };

@@ -1,6 +1,8 @@
 //! What an end accepts.
 
 use osi_base::{Oid, Oids};
+use std::error::Error;
+use std::fmt;
 
 /// What an end accepts of the contexts that the other end proposes.
 #[derive(Debug, Drop)]
@@ -25,3 +27,20 @@ pub enum Rejection {
     /// The set has no place for another context.
     LocalLimit,
 }
+
+impl fmt::Display for Rejection {
+    ghost use Rattle.std.specs.Prelude.{Some};
+    ghost use Rattle.context_sets.specs.Printed.{rejection_text};
+
+    ghost output = { λ rejection. Some (rejection_text rejection) };
+
+    fn fmt<W: fmt::Write>(&self, f: &mut fmt::Formatter<W>) -> fmt::Result {
+        f.write_str(match self {
+            Rejection::AbstractSyntax => "the abstract syntax is not one that the end takes",
+            Rejection::TransferSyntaxes => "none of the transfer syntaxes is accepted",
+            Rejection::LocalLimit => "the set has no place for another context",
+        })
+    }
+}
+
+impl Error for Rejection {}

@@ -1,5 +1,6 @@
 pub mod Config
 pub mod Message
+pub mod Printed
 pub mod State
 pub mod Calls
 pub mod Taking

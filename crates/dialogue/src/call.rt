@@ -2,8 +2,10 @@
 
 use crate::config::Phase;
 use asn1_types::Val;
-use osi_base::{Copied, Ids, NoMemory, Proposals};
+use osi_base::{Copied, Ids, NoMemory, Proposals, WordWithNumber};
 use std::alloc::Global;
+use std::error::Error;
+use std::fmt;
 
 /// A call of an end.
 #[derive(Debug, Drop)]
@@ -136,6 +138,94 @@ pub enum CallRefusal {
     OpenInvocations(u32),
     /// An allocation was refused.
     NoMemory,
+}
+
+impl fmt::Display for CallRefusal {
+    ghost use Rattle.std.specs.Prelude.{Some};
+    ghost use Rattle.dialogue.specs.Printed.{call_refusal_text};
+
+    ghost output = { λ refusal. Some (call_refusal_text refusal) };
+
+    fn fmt<W: fmt::Write>(&self, f: &mut fmt::Formatter<W>) -> fmt::Result {
+        let word = self.word();
+        let number = self.number();
+        fmt::Display::fmt(&WordWithNumber { word, number }, f)
+    }
+}
+
+impl Error for CallRefusal {}
+
+impl CallRefusal {
+    ghost use Rattle.std.specs.Prelude.{◌≡◌};
+    ghost use Rattle.dialogue.specs.Printed.{call_refusal_word, call_refusal_number};
+
+    /// Its name, as a transcript tells it.
+    pub fn word(self) -> &'static str
+        ensures { result.now ≡ call_refusal_word self }
+    {
+        match self {
+            CallRefusal::Dead => "Dead",
+            CallRefusal::NotInitiator => "NotInitiator",
+            CallRefusal::WrongPhase(_) => "WrongPhase",
+            CallRefusal::NotNegotiated => "NotNegotiated",
+            CallRefusal::Waiting => "Waiting",
+            CallRefusal::UnknownOperation => "UnknownOperation",
+            CallRefusal::Absent(_) => "Absent",
+            CallRefusal::AlterPending => "AlterPending",
+            CallRefusal::ParentClosed(_) => "ParentClosed",
+            CallRefusal::LinkNotAllowed(_) => "LinkNotAllowed",
+            CallRefusal::NotTyped => "NotTyped",
+            CallRefusal::TooLong => "TooLong",
+            CallRefusal::TooManyOpen => "TooManyOpen",
+            CallRefusal::NumbersSpent => "NumbersSpent",
+            CallRefusal::QueueFull => "QueueFull",
+            CallRefusal::NoInvocation(_) => "NoInvocation",
+            CallRefusal::NotAllowed => "NotAllowed",
+            CallRefusal::NoContext => "NoContext",
+            CallRefusal::UnknownError => "UnknownError",
+            CallRefusal::NoTurn => "NoTurn",
+            CallRefusal::Ending(_) => "Ending",
+            CallRefusal::BadProposal => "BadProposal",
+            CallRefusal::WrongParity(_) => "WrongParity",
+            CallRefusal::Named(_) => "Named",
+            CallRefusal::Present(_) => "Present",
+            CallRefusal::Fixed(_) => "Fixed",
+            CallRefusal::InUse(_) => "InUse",
+            CallRefusal::SetFull => "SetFull",
+            CallRefusal::MarksFull => "MarksFull",
+            CallRefusal::ActivityOpen(_) => "ActivityOpen",
+            CallRefusal::HasTurn => "HasTurn",
+            CallRefusal::NoSuchMark(_) => "NoSuchMark",
+            CallRefusal::NoActivity => "NoActivity",
+            CallRefusal::NotSuspended => "NotSuspended",
+            CallRefusal::QueueWaiting(_) => "QueueWaiting",
+            CallRefusal::OpenInvocations(_) => "OpenInvocations",
+            CallRefusal::NoMemory => "NoMemory",
+        }
+    }
+
+    /// The number that it carries, where a transcript tells one.
+    pub fn number(self) -> Option<i64>
+        ensures { result ≡ call_refusal_number self }
+    {
+        match self {
+            CallRefusal::Absent(number) => Some(i64::from(number)),
+            CallRefusal::ParentClosed(number) => Some(number),
+            CallRefusal::LinkNotAllowed(number) => Some(number),
+            CallRefusal::NoInvocation(number) => Some(number),
+            CallRefusal::Ending(number) => Some(i64::from(number)),
+            CallRefusal::WrongParity(number) => Some(i64::from(number)),
+            CallRefusal::Named(number) => Some(i64::from(number)),
+            CallRefusal::Present(number) => Some(i64::from(number)),
+            CallRefusal::Fixed(number) => Some(i64::from(number)),
+            CallRefusal::InUse(number) => Some(i64::from(number)),
+            CallRefusal::ActivityOpen(number) => Some(i64::from(number)),
+            CallRefusal::NoSuchMark(number) => Some(i64::from(number)),
+            CallRefusal::QueueWaiting(number) => Some(i64::from(number)),
+            CallRefusal::OpenInvocations(number) => Some(i64::from(number)),
+            _ => None,
+        }
+    }
 }
 
 impl From<NoMemory> for CallRefusal {

@@ -3,8 +3,10 @@
 ghost use Rattle.std.specs.Prelude.{◌≡◌};
 ghost use Rattle.dialogue.specs.Config.{is_bad_selector, config_refusal, refused_if};
 
-use osi_base::{Copied, NoMemory, Octets, Oids, Proposals};
+use osi_base::{Copied, NoMemory, Octets, Oids, Proposals, WordWithNumber};
 use std::alloc::Global;
+use std::error::Error;
+use std::fmt;
 
 /// How APDUs travel.
 #[derive(Clone, Copy, Debug, PartialEq, Eq)]
@@ -98,6 +100,37 @@ pub enum ConfigRefusal {
     /// An allocation was refused.
     NoMemory,
 }
+
+impl fmt::Display for ConfigRefusal {
+    ghost use Rattle.std.specs.Prelude.{Some};
+    ghost use Rattle.dialogue.specs.Printed.{config_refusal_text};
+
+    ghost output = { λ refusal. Some (config_refusal_text refusal) };
+
+    fn fmt<W: fmt::Write>(&self, f: &mut fmt::Formatter<W>) -> fmt::Result {
+        match self {
+            ConfigRefusal::BadContext(id) => fmt::Display::fmt(
+                &WordWithNumber {
+                    word: "may not be proposed: context",
+                    number: Some(i64::from(*id)),
+                },
+                f,
+            ),
+            ConfigRefusal::TooManyContexts => f.write_str("more than 62 contexts are proposed"),
+            ConfigRefusal::BadSelector => f.write_str("a selector does not have 1 to 16 octets"),
+            ConfigRefusal::BadReference => f.write_str(
+                "the reference does not have 1 to 64 octets, or the common one 13",
+            ),
+            ConfigRefusal::BadWindow => f.write_str(
+                "the checkpoint is above 255, or the window is not from 1 to 255",
+            ),
+            ConfigRefusal::TooLong => f.write_str("a CP would have more than 10,240 octets"),
+            ConfigRefusal::NoMemory => f.write_str("out of memory"),
+        }
+    }
+}
+
+impl Error for ConfigRefusal {}
 
 fn is_bad_selector(octets: &Octets) -> bool
     ensures { result ≡ is_bad_selector octets.now }

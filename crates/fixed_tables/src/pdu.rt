@@ -6,8 +6,10 @@ ghost use Rattle.fixed_tables.specs.Faults.{fault_in};
 
 use asn1_types::{TypeId, TypeTable, Val};
 use ber_reading::{ReadFault, ber_read_within};
-use osi_base::{Kind, NoMemory};
+use osi_base::{FaultAt, Kind, NoMemory};
 use std::alloc::Global;
+use std::error::Error;
+use std::fmt;
 
 /// Why octets aren't one whole protocol data unit.
 #[derive(Clone, Copy, Debug, PartialEq, Eq)]
@@ -17,6 +19,28 @@ pub enum PduFault {
     /// Memory was refused.
     NoMemory,
 }
+
+impl fmt::Display for PduFault {
+    ghost use Rattle.std.specs.Prelude.{Some};
+    ghost use Rattle.fixed_tables.specs.Printed.{pdu_fault_text};
+
+    ghost output = { λ fault. Some (pdu_fault_text fault) };
+
+    fn fmt<W: fmt::Write>(&self, f: &mut fmt::Formatter<W>) -> fmt::Result {
+        match self {
+            PduFault::At { place, kind } => fmt::Display::fmt(
+                &FaultAt {
+                    cause: kind.word(),
+                    place: *place as u64,
+                },
+                f,
+            ),
+            PduFault::NoMemory => f.write_str("out of memory"),
+        }
+    }
+}
+
+impl Error for PduFault {}
 
 impl From<NoMemory> for PduFault {
     ghost use Rattle.fixed_tables.specs.declared.pdu.PduFault.TheVariants.{NoMemory as no_room};

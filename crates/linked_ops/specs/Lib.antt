@@ -1,6 +1,7 @@
 pub mod Keys
 pub mod Entries
 pub mod Opening
+pub mod Printed
 pub mod Rows
 pub mod Numbers
 pub mod Links

@@ -1,10 +1,13 @@
 //! The keys of open invocations.
 
 ghost use Rattle.std.specs.Prelude.{◌≡◌};
+ghost use Rattle.linked_ops.specs.Printed.{open_word, closed_word};
 ghost use Rattle.linked_ops.specs.declared.key.ForestRefusal.TheVariants.{NoMemory as no_room};
 
-use osi_base::NoMemory;
+use osi_base::{NoMemory, WordWithNumber};
 use std::alloc::{AllocError, AllocFailed};
+use std::error::Error;
+use std::fmt;
 
 /// An open invocation: from this end or from the peer, with its identifier.
 #[derive(Clone, Copy, Debug)]
@@ -36,6 +39,55 @@ pub enum ForestRefusal {
     /// An allocation was refused.
     NoMemory,
 }
+
+fn open_word(own: bool) -> &'static str
+    ensures { result.now ≡ open_word own }
+{
+    if own {
+        "open already: own invocation"
+    } else {
+        "open already: invocation of the peer"
+    }
+}
+
+fn closed_word(own: bool) -> &'static str
+    ensures { result.now ≡ closed_word own }
+{
+    if own {
+        "not open: own invocation"
+    } else {
+        "not open: invocation of the peer"
+    }
+}
+
+impl fmt::Display for ForestRefusal {
+    ghost use Rattle.std.specs.Prelude.{Some};
+    ghost use Rattle.linked_ops.specs.Printed.{forest_refusal_text};
+
+    ghost output = { λ refusal. Some (forest_refusal_text refusal) };
+
+    fn fmt<W: fmt::Write>(&self, f: &mut fmt::Formatter<W>) -> fmt::Result {
+        match self {
+            ForestRefusal::Present(key) => fmt::Display::fmt(
+                &WordWithNumber {
+                    word: open_word(key.own),
+                    number: Some(key.id),
+                },
+                f,
+            ),
+            ForestRefusal::ParentAbsent(key) => fmt::Display::fmt(
+                &WordWithNumber {
+                    word: closed_word(key.own),
+                    number: Some(key.id),
+                },
+                f,
+            ),
+            ForestRefusal::NoMemory => f.write_str("out of memory"),
+        }
+    }
+}
+
+impl Error for ForestRefusal {}
 
 impl From<AllocError> for ForestRefusal {
     ghost from_gives = { λ _ e. e ≡ no_room };

@@ -1,3 +1,4 @@
+pub mod Printed
 pub mod Scope
 pub mod Kept
 pub mod Numbering

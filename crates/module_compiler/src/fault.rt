@@ -5,6 +5,8 @@ ghost use Rattle.module_compiler.specs.declared.fault.TableFault.TheVariants as 
 
 use module_faults::TableKind;
 use osi_base::NoMemory;
+use std::error::Error;
+use std::fmt;
 
 /// Why a module has no tables.
 #[derive(Clone, Copy, Debug, PartialEq, Eq)]
@@ -18,6 +20,25 @@ pub enum TableFault {
     /// An allocation was refused.
     NoMemory,
 }
+
+impl fmt::Display for TableFault {
+    ghost use Rattle.std.specs.Prelude.{Some};
+    ghost use Rattle.module_compiler.specs.Printed.{table_fault_text};
+
+    ghost output = { λ fault. Some (table_fault_text fault) };
+
+    fn fmt<W: fmt::Write>(&self, f: &mut fmt::Formatter<W>) -> fmt::Result {
+        match self {
+            TableFault::At { line, column, kind } => write!(
+                f,
+                "module refused {line} {column} {kind}"
+            ),
+            TableFault::NoMemory => f.write_str("out of memory"),
+        }
+    }
+}
+
+impl Error for TableFault {}
 
 impl From<NoMemory> for TableFault {
     ghost from_gives = { λ _ e. e ≡ faults.NoMemory };

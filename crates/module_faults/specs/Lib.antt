@@ -1,6 +1,7 @@
 pub mod Places
 pub mod Least
 pub mod Names
+pub mod Printed
 pub mod Seen
 pub mod Locals
 pub mod Recursion

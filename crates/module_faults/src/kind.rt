@@ -1,5 +1,7 @@
 //! What may be wrong with a module that reads.
 
+use std::fmt;
+
 /// What is wrong with a module that reads.
 #[derive(Clone, Copy, Debug, PartialEq, Eq)]
 pub enum TableKind {
@@ -30,4 +32,40 @@ pub enum TableKind {
     /// A default of a type other than BOOLEAN, INTEGER and ENUMERATED, or one that doesn't fit its
     /// type.
     BadDefault,
+}
+
+impl TableKind {
+    ghost use Rattle.std.specs.Prelude.{◌≡◌};
+    ghost use Rattle.module_faults.specs.Printed.{table_kind_word};
+
+    /// The name of the kind.
+    pub fn word(self) -> &'static str
+        ensures { result.now ≡ table_kind_word self }
+    {
+        match self {
+            TableKind::UnknownName => "UnknownName",
+            TableKind::DoubleName => "DoubleName",
+            TableKind::DoubleCode => "DoubleCode",
+            TableKind::NoCode => "NoCode",
+            TableKind::Recursive => "Recursive",
+            TableKind::TooNested => "TooNested",
+            TableKind::TagsNotDistinct => "TagsNotDistinct",
+            TableKind::NotOperation => "NotOperation",
+            TableKind::NotError => "NotError",
+            TableKind::BadRange => "BadRange",
+            TableKind::Contradiction => "Contradiction",
+            TableKind::BadDefault => "BadDefault",
+        }
+    }
+}
+
+impl fmt::Display for TableKind {
+    ghost use Rattle.std.specs.Prelude.{Some};
+    ghost use Rattle.module_faults.specs.Printed.{table_kind_word};
+
+    ghost output = { λ kind. Some (table_kind_word kind) };
+
+    fn fmt<W: fmt::Write>(&self, f: &mut fmt::Formatter<W>) -> fmt::Result {
+        f.write_str(self.word())
+    }
 }

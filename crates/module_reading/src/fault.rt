@@ -1,11 +1,13 @@
 //! Why octets are no module, or a module has no tables.
 
 ghost use Rattle.std.specs.Prelude.{◌≡◌};
-ghost use Rattle.module_reading.specs.Words.{notation_word, table_word, file_word, kind_word};
+ghost use Rattle.module_reading.specs.Words.{kind_word};
 
 use module_compiler::TableKind;
 use notation_tokens::NotationKind;
 use osi_base::Kind;
+use std::error::Error;
+use std::fmt;
 
 /// How a text breaks the notation, what is wrong with a module that reads, or how a table file is
 /// at fault.
@@ -17,6 +19,17 @@ pub enum ModuleKind {
     Table(TableKind),
     /// A table file is at fault.
     File(Kind),
+}
+
+impl fmt::Display for ModuleKind {
+    ghost use Rattle.std.specs.Prelude.{Some};
+    ghost use Rattle.module_reading.specs.Words.{kind_word};
+
+    ghost output = { λ kind. Some (kind_word kind) };
+
+    fn fmt<W: fmt::Write>(&self, f: &mut fmt::Formatter<W>) -> fmt::Result {
+        f.write_str(kind_word(*self))
+    }
 }
 
 /// Why a module has no tables.
@@ -33,57 +46,32 @@ pub enum ModuleFault {
     NoMemory,
 }
 
-fn notation_word(kind: NotationKind) -> &'static str
-    ensures { result.now ≡ notation_word kind }
-{
-    match kind {
-        NotationKind::BadCharacter => "BadCharacter",
-        NotationKind::UnexpectedToken => "UnexpectedToken",
-        NotationKind::TextTooLong => "TextTooLong",
-        NotationKind::TooManyTokens => "TooManyTokens",
-        NotationKind::Unsupported => "Unsupported",
+impl fmt::Display for ModuleFault {
+    ghost use Rattle.std.specs.Prelude.{Some};
+    ghost use Rattle.module_reading.specs.Printed.{module_fault_text};
+
+    ghost output = { λ fault. Some (module_fault_text fault) };
+
+    fn fmt<W: fmt::Write>(&self, f: &mut fmt::Formatter<W>) -> fmt::Result {
+        match self {
+            ModuleFault::At { line, column, kind } => write!(
+                f,
+                "module refused {line} {column} {kind}"
+            ),
+            ModuleFault::NoMemory => f.write_str("out of memory"),
+        }
     }
 }
 
-fn table_word(kind: TableKind) -> &'static str
-    ensures { result.now ≡ table_word kind }
-{
-    match kind {
-        TableKind::UnknownName => "UnknownName",
-        TableKind::DoubleName => "DoubleName",
-        TableKind::DoubleCode => "DoubleCode",
-        TableKind::NoCode => "NoCode",
-        TableKind::Recursive => "Recursive",
-        TableKind::TooNested => "TooNested",
-        TableKind::TagsNotDistinct => "TagsNotDistinct",
-        TableKind::NotOperation => "NotOperation",
-        TableKind::NotError => "NotError",
-        TableKind::BadRange => "BadRange",
-        TableKind::Contradiction => "Contradiction",
-        TableKind::BadDefault => "BadDefault",
-    }
-}
-
-fn file_word(kind: Kind) -> &'static str
-    ensures { result.now ≡ file_word kind }
-{
-    match kind {
-        Kind::Tag => "Tag",
-        Kind::Missing => "Missing",
-        Kind::Extra => "Extra",
-        Kind::Length => "Length",
-        Kind::Content => "Content",
-        Kind::Form => "Form",
-    }
-}
+impl Error for ModuleFault {}
 
 /// The name of a kind of fault.
 pub fn kind_word(kind: ModuleKind) -> &'static str
     ensures { result.now ≡ kind_word kind }
 {
     match kind {
-        ModuleKind::Notation(kind) => notation_word(kind),
-        ModuleKind::Table(kind) => table_word(kind),
-        ModuleKind::File(kind) => file_word(kind),
+        ModuleKind::Notation(kind) => kind.word(),
+        ModuleKind::Table(kind) => kind.word(),
+        ModuleKind::File(kind) => kind.word(),
     }
 }

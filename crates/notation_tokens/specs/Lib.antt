@@ -1,5 +1,6 @@
 pub mod Forms
 pub mod Lexeme
+pub mod Printed
 pub mod Words
 pub mod Lexing
 pub mod Tokens

@@ -4,6 +4,8 @@ ghost use Rattle.std.specs.Prelude.{◌≡◌};
 ghost use Rattle.notation_tokens.specs.declared.faults.NotationFault.TheVariants as faults;
 
 use osi_base::NoMemory;
+use std::error::Error;
+use std::fmt;
 
 /// What is wrong at a place of a text.
 #[derive(Clone, Copy, Debug, PartialEq, Eq)]
@@ -20,6 +22,35 @@ pub enum NotationKind {
     Unsupported,
 }
 
+impl NotationKind {
+    ghost use Rattle.std.specs.Prelude.{◌≡◌};
+    ghost use Rattle.notation_tokens.specs.Printed.{notation_kind_word};
+
+    /// The name of the kind.
+    pub fn word(self) -> &'static str
+        ensures { result.now ≡ notation_kind_word self }
+    {
+        match self {
+            NotationKind::BadCharacter => "BadCharacter",
+            NotationKind::UnexpectedToken => "UnexpectedToken",
+            NotationKind::TextTooLong => "TextTooLong",
+            NotationKind::TooManyTokens => "TooManyTokens",
+            NotationKind::Unsupported => "Unsupported",
+        }
+    }
+}
+
+impl fmt::Display for NotationKind {
+    ghost use Rattle.std.specs.Prelude.{Some};
+    ghost use Rattle.notation_tokens.specs.Printed.{notation_kind_word};
+
+    ghost output = { λ kind. Some (notation_kind_word kind) };
+
+    fn fmt<W: fmt::Write>(&self, f: &mut fmt::Formatter<W>) -> fmt::Result {
+        f.write_str(self.word())
+    }
+}
+
 /// Why a text was refused.
 #[derive(Clone, Copy, Debug, PartialEq, Eq)]
 pub enum NotationFault {
@@ -32,6 +63,25 @@ pub enum NotationFault {
     /// An allocation was refused.
     NoMemory,
 }
+
+impl fmt::Display for NotationFault {
+    ghost use Rattle.std.specs.Prelude.{Some};
+    ghost use Rattle.notation_tokens.specs.Printed.{notation_fault_text};
+
+    ghost output = { λ fault. Some (notation_fault_text fault) };
+
+    fn fmt<W: fmt::Write>(&self, f: &mut fmt::Formatter<W>) -> fmt::Result {
+        match self {
+            NotationFault::At { line, column, kind } => write!(
+                f,
+                "module refused {line} {column} {kind}"
+            ),
+            NotationFault::NoMemory => f.write_str("out of memory"),
+        }
+    }
+}
+
+impl Error for NotationFault {}
 
 impl From<NoMemory> for NotationFault {
     ghost from_gives = { λ _ e. e ≡ faults.NoMemory };

@@ -4,7 +4,7 @@ use Rattle.osi_base.specs.Outside.{FaultsRose, grown, GrewPart}
 use Rattle.osi_base.specs.declared.words.Status.{Status}
 use Rattle.osi_base.specs.declared.words.Status.TheVariants.{Done, Usage, ReadFault, WriteFault, ModuleRefused, ScriptRefused, NoMemory}
 use Rattle.script_lines.specs.declared.fault.ScriptKind.{ScriptKind}
-use Rattle.script_lines.specs.declared.fault.ScriptKind.TheVariants as kinds
+use Rattle.script_lines.specs.Printed.{script_kind_word}
 use Rattle.transcript_text.specs.Texts.{line}
 use Rattle.module_reading.specs.declared.fault.ModuleKind.{ModuleKind}
 use Rattle.module_check.specs.Checking.{refused_text}
@@ -25,19 +25,9 @@ unread_answer name = record { status = ReadFault; text = line (codes "cannot rea
 abbrev pub module_answer : ℕ → ℕ → ModuleKind → Answer
 module_answer number column kind = record { status = ModuleRefused; text = refused_text number column kind }
 
-abbrev pub kind_word : ScriptKind → List ℕ
-kind_word kinds.UnknownWord = codes "UnknownWord"
-kind_word kinds.BadNumber = codes "BadNumber"
-kind_word kinds.BadValue = codes "BadValue"
-kind_word kinds.BadName = codes "BadName"
-kind_word kinds.BadField = codes "BadField"
-kind_word kinds.TooMany = codes "TooMany"
-kind_word kinds.OutOfOrder = codes "OutOfOrder"
-kind_word kinds.BadSetup = codes "BadSetup"
-
 -- the schedule breaks its grammar at this line
 abbrev pub script_answer : ℕ → ScriptKind → Answer
-script_answer number kind = record { status = ScriptRefused; text = line (codes "script refused " ++ decimal number ++ codes " " ++ kind_word kind) }
+script_answer number kind = record { status = ScriptRefused; text = line (codes "script refused " ++ decimal number ++ codes " " ++ script_kind_word kind) }
 
 -- the work is whole
 abbrev pub done_answer : List ℕ → Answer

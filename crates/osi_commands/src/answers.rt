@@ -1,7 +1,7 @@
 //! What the program answers: a status, and the text that it writes.
 
 ghost use Rattle.std.specs.Prelude.{◌≡◌, ◌≤◌, ◌++◌, IfOk, MatchResult, codes, decimal};
-ghost use Rattle.osi_commands.specs.Answers.{usage_answer, unread_answer, module_answer, kind_word, script_answer, done_answer, EndedWith};
+ghost use Rattle.osi_commands.specs.Answers.{usage_answer, unread_answer, module_answer, script_answer, done_answer, EndedWith};
 ghost use Rattle.osi_base.specs.declared.words.Status.TheVariants.{NoMemory as no_room};
 
 use module_check::refused_text;
@@ -65,22 +65,6 @@ pub fn module_refused(
     })
 }
 
-/// The name of a kind of fault.
-fn kind_word(kind: ScriptKind) -> &'static str
-    ensures { result.now ≡ kind_word kind }
-{
-    match kind {
-        ScriptKind::UnknownWord => "UnknownWord",
-        ScriptKind::BadNumber => "BadNumber",
-        ScriptKind::BadValue => "BadValue",
-        ScriptKind::BadName => "BadName",
-        ScriptKind::BadField => "BadField",
-        ScriptKind::TooMany => "TooMany",
-        ScriptKind::OutOfOrder => "OutOfOrder",
-        ScriptKind::BadSetup => "BadSetup",
-    }
-}
-
 /// The schedule breaks its grammar at this line.
 pub fn script_refused(alloc: Global, line: u32, kind: ScriptKind) -> Result<Answer, NoMemory>
     ensures { IfOk result (λ answer. answer ≡ script_answer line kind) }
@@ -89,7 +73,7 @@ pub fn script_refused(alloc: Global, line: u32, kind: ScriptKind) -> Result<Answ
     text.put("script refused ")?;
     text.put_number(u64::from(line))?;
     text.put(" ")?;
-    text.put(kind_word(kind))?;
+    text.put(kind.word())?;
     text.end_line()?;
     Ok(Answer {
         status: Status::ScriptRefused,

@@ -3,8 +3,10 @@
 ghost use Rattle.std.specs.Prelude.{◌≡◌};
 ghost use Rattle.packed_codec.specs.declared.fault.PackedFault.TheVariants.{NoMemory as no_room};
 
-use osi_base::{Kind, NoMemory};
+use osi_base::{FaultAt, Kind, NoMemory};
 use std::alloc::{AllocError, AllocFailed};
+use std::error::Error;
+use std::fmt;
 
 /// Why octets aren't read as a value: the first fault from the left, or that they end too early.
 #[derive(Clone, Copy, Debug, PartialEq, Eq)]
@@ -19,6 +21,36 @@ pub enum PackedFault {
     /// Memory was refused.
     NoMemory,
 }
+
+impl fmt::Display for PackedFault {
+    ghost use Rattle.std.specs.Prelude.{Some};
+    ghost use Rattle.packed_codec.specs.Printed.{packed_fault_text};
+
+    ghost output = { λ fault. Some (packed_fault_text fault) };
+
+    fn fmt<W: fmt::Write>(&self, f: &mut fmt::Formatter<W>) -> fmt::Result {
+        match self {
+            PackedFault::NotSpelled { place, kind } => fmt::Display::fmt(
+                &FaultAt {
+                    cause: kind.word(),
+                    place: *place as u64,
+                },
+                f,
+            ),
+            PackedFault::Short => f.write_str("the octets end too early"),
+            PackedFault::TooLong { place } => fmt::Display::fmt(
+                &FaultAt {
+                    cause: "too long",
+                    place: *place as u64,
+                },
+                f,
+            ),
+            PackedFault::NoMemory => f.write_str("out of memory"),
+        }
+    }
+}
+
+impl Error for PackedFault {}
 
 impl From<AllocError> for PackedFault {
     ghost from_gives = { λ _ e. e ≡ no_room };

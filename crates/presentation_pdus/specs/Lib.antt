@@ -1,6 +1,7 @@
 pub mod Fields
 pub mod Items
 pub mod Laws
+pub mod Printed
 pub mod Rows
 pub mod Said
 pub mod Selected

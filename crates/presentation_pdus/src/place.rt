@@ -3,7 +3,9 @@
 
 ghost use Rattle.std.specs.Prelude.{◌≡◌};
 
-use osi_base::{Kind, NoMemory};
+use osi_base::{FaultAt, Kind, NoMemory};
+use std::error::Error;
+use std::fmt;
 
 /// The kind of session unit (X.225 8.3) that carries a unit of the presentation protocol.
 #[derive(Clone, Copy, Debug, PartialEq, Eq)]
@@ -46,6 +48,28 @@ pub enum PpduFault {
     /// Memory was refused.
     NoMemory,
 }
+
+impl fmt::Display for PpduFault {
+    ghost use Rattle.std.specs.Prelude.{Some};
+    ghost use Rattle.presentation_pdus.specs.Printed.{ppdu_fault_text};
+
+    ghost output = { λ fault. Some (ppdu_fault_text fault) };
+
+    fn fmt<W: fmt::Write>(&self, f: &mut fmt::Formatter<W>) -> fmt::Result {
+        match self {
+            PpduFault::At { place, kind, .. } => fmt::Display::fmt(
+                &FaultAt {
+                    cause: kind.word(),
+                    place: *place as u64,
+                },
+                f,
+            ),
+            PpduFault::NoMemory => f.write_str("out of memory"),
+        }
+    }
+}
+
+impl Error for PpduFault {}
 
 impl From<NoMemory> for PpduFault {
     ghost use Rattle.presentation_pdus.specs.declared.place.PpduFault.TheVariants.{NoMemory as no_room};

@@ -5,6 +5,8 @@ ghost use Rattle.rtse.specs.Faults.{no_memory};
 
 use osi_base::NoMemory;
 use std::alloc::{AllocError, AllocFailed};
+use std::error::Error;
+use std::fmt;
 
 /// Why a word of a transfer isn't taken.
 #[derive(Clone, Copy, Debug, PartialEq, Eq)]
@@ -21,6 +23,23 @@ pub enum RtseFault {
     /// An allocation was refused.
     NoMemory,
 }
+
+impl fmt::Display for RtseFault {
+    ghost use Rattle.std.specs.Prelude.{Some};
+    ghost use Rattle.rtse.specs.Printed.{rtse_fault_text};
+
+    ghost output = { λ fault. Some (rtse_fault_text fault) };
+
+    fn fmt<W: fmt::Write>(&self, f: &mut fmt::Formatter<W>) -> fmt::Result {
+        match self {
+            RtseFault::WrongNumber { had, came } => write!(f, "number {came} after {had}"),
+            RtseFault::TooLong => f.write_str("more than 262,400 octets"),
+            RtseFault::NoMemory => f.write_str("out of memory"),
+        }
+    }
+}
+
+impl Error for RtseFault {}
 
 impl From<NoMemory> for RtseFault {
     ghost from_gives = { λ _ e. e ≡ no_memory };

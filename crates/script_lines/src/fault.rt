@@ -5,6 +5,8 @@ ghost use Rattle.script_lines.specs.declared.fault.ScriptFault.TheVariants.{NoMe
 
 use osi_base::NoMemory;
 use std::alloc::{AllocError, AllocFailed};
+use std::error::Error;
+use std::fmt;
 
 /// How a line breaks the grammar of its text.
 #[derive(Clone, Copy, Debug, PartialEq, Eq)]
@@ -27,6 +29,38 @@ pub enum ScriptKind {
     BadSetup,
 }
 
+impl ScriptKind {
+    ghost use Rattle.std.specs.Prelude.{◌≡◌};
+    ghost use Rattle.script_lines.specs.Printed.{script_kind_word};
+
+    /// The name of the kind.
+    pub fn word(self) -> &'static str
+        ensures { result.now ≡ script_kind_word self }
+    {
+        match self {
+            ScriptKind::UnknownWord => "UnknownWord",
+            ScriptKind::BadNumber => "BadNumber",
+            ScriptKind::BadValue => "BadValue",
+            ScriptKind::BadName => "BadName",
+            ScriptKind::BadField => "BadField",
+            ScriptKind::TooMany => "TooMany",
+            ScriptKind::OutOfOrder => "OutOfOrder",
+            ScriptKind::BadSetup => "BadSetup",
+        }
+    }
+}
+
+impl fmt::Display for ScriptKind {
+    ghost use Rattle.std.specs.Prelude.{Some};
+    ghost use Rattle.script_lines.specs.Printed.{script_kind_word};
+
+    ghost output = { λ kind. Some (script_kind_word kind) };
+
+    fn fmt<W: fmt::Write>(&self, f: &mut fmt::Formatter<W>) -> fmt::Result {
+        f.write_str(self.word())
+    }
+}
+
 /// Why a text isn't read.
 #[derive(Clone, Copy, Debug, PartialEq, Eq)]
 pub enum ScriptFault {
@@ -35,6 +69,22 @@ pub enum ScriptFault {
     /// An allocation was refused.
     NoMemory,
 }
+
+impl fmt::Display for ScriptFault {
+    ghost use Rattle.std.specs.Prelude.{Some};
+    ghost use Rattle.script_lines.specs.Printed.{script_fault_text};
+
+    ghost output = { λ fault. Some (script_fault_text fault) };
+
+    fn fmt<W: fmt::Write>(&self, f: &mut fmt::Formatter<W>) -> fmt::Result {
+        match self {
+            ScriptFault::At { line, kind } => write!(f, "script refused {line} {kind}"),
+            ScriptFault::NoMemory => f.write_str("out of memory"),
+        }
+    }
+}
+
+impl Error for ScriptFault {}
 
 impl From<NoMemory> for ScriptFault {
     ghost from_gives = { λ _ fault. fault ≡ no_room };

@@ -1,3 +1,4 @@
+pub mod Printed
 pub mod Units
 pub mod Steps
 pub mod Reading

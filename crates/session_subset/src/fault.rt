@@ -1,6 +1,8 @@
 //! Why a session machine refuses.
 
-use osi_base::NoMemory;
+use osi_base::{NoMemory, WordWithNumber};
+use std::error::Error;
+use std::fmt;
 
 /// Why a word may not be sent now.
 #[derive(Clone, Copy, Debug, PartialEq, Eq)]
@@ -25,6 +27,41 @@ pub enum SessionRefusal {
     NoMemory,
 }
 
+impl fmt::Display for SessionRefusal {
+    ghost use Rattle.std.specs.Prelude.{Some};
+    ghost use Rattle.session_subset.specs.Printed.{session_refusal_text};
+
+    ghost output = { λ refusal. Some (session_refusal_text refusal) };
+
+    fn fmt<W: fmt::Write>(&self, f: &mut fmt::Formatter<W>) -> fmt::Result {
+        match self {
+            SessionRefusal::NotNegotiated => f.write_str("NotNegotiated"),
+            SessionRefusal::Waiting => f.write_str("Waiting"),
+            SessionRefusal::NoTurn => f.write_str("NoTurn"),
+            SessionRefusal::HasTurn => f.write_str("HasTurn"),
+            SessionRefusal::ActivityOpen(number) => fmt::Display::fmt(
+                &WordWithNumber {
+                    word: "ActivityOpen",
+                    number: Some(i64::from(*number)),
+                },
+                f,
+            ),
+            SessionRefusal::NoActivity => f.write_str("NoActivity"),
+            SessionRefusal::Ending(number) => fmt::Display::fmt(
+                &WordWithNumber {
+                    word: "Ending",
+                    number: Some(i64::from(*number)),
+                },
+                f,
+            ),
+            SessionRefusal::NotSuspended => f.write_str("NotSuspended"),
+            SessionRefusal::NoMemory => f.write_str("NoMemory"),
+        }
+    }
+}
+
+impl Error for SessionRefusal {}
+
 /// Why a unit can't be taken.
 #[derive(Clone, Copy, Debug, PartialEq, Eq)]
 pub enum SessionFault {
@@ -33,6 +70,22 @@ pub enum SessionFault {
     /// An allocation was refused.
     NoMemory,
 }
+
+impl fmt::Display for SessionFault {
+    ghost use Rattle.std.specs.Prelude.{Some};
+    ghost use Rattle.session_subset.specs.Printed.{session_fault_text};
+
+    ghost output = { λ fault. Some (session_fault_text fault) };
+
+    fn fmt<W: fmt::Write>(&self, f: &mut fmt::Formatter<W>) -> fmt::Result {
+        f.write_str(match self {
+            SessionFault::OutOfPlace => "the unit may not come now",
+            SessionFault::NoMemory => "out of memory",
+        })
+    }
+}
+
+impl Error for SessionFault {}
 
 impl From<NoMemory> for SessionRefusal {
     ghost use Rattle.std.specs.Prelude.{◌≡◌};

@@ -1,3 +1,4 @@
+pub mod Printed
 pub mod Values
 pub mod Tables
 pub mod Parameters

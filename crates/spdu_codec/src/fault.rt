@@ -3,7 +3,9 @@
 ghost use Rattle.std.specs.Prelude.{◌≡◌};
 ghost use Rattle.spdu_codec.specs.declared.fault.SFault.TheVariants.{NoMemory as Memory};
 
-use osi_base::{Kind, NoMemory};
+use osi_base::{FaultAt, Kind, NoMemory};
+use std::error::Error;
+use std::fmt;
 
 /// Why session units were not read.
 #[derive(Clone, Copy, Debug, PartialEq, Eq)]
@@ -13,6 +15,28 @@ pub enum SFault {
     /// Memory ran out.
     NoMemory,
 }
+
+impl fmt::Display for SFault {
+    ghost use Rattle.std.specs.Prelude.{Some};
+    ghost use Rattle.spdu_codec.specs.Printed.{s_fault_text};
+
+    ghost output = { λ fault. Some (s_fault_text fault) };
+
+    fn fmt<W: fmt::Write>(&self, f: &mut fmt::Formatter<W>) -> fmt::Result {
+        match self {
+            SFault::At { place, kind } => fmt::Display::fmt(
+                &FaultAt {
+                    cause: kind.word(),
+                    place: *place as u64,
+                },
+                f,
+            ),
+            SFault::NoMemory => f.write_str("out of memory"),
+        }
+    }
+}
+
+impl Error for SFault {}
 
 impl From<NoMemory> for SFault {
     ghost from_gives = { λ _ e. e ≡ Memory };

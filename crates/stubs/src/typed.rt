@@ -4,6 +4,8 @@ ghost use Rattle.std.specs.Prelude.{◌≡◌, IsTrue};
 ghost use Rattle.stubs.specs.Fitting.{fits_use};
 
 use asn1_types::{TypeTable, Val};
+use std::error::Error;
+use std::fmt;
 use stub_tables::Use;
 
 /// A value, or its lack, that fits what carries it (X.880 8.2.2, 8.2.3, 8.3.2).
@@ -21,6 +23,18 @@ pub struct Unfit {
     /// The value, or its lack.
     pub value: Option<Val>,
 }
+
+impl fmt::Display for Unfit {
+    ghost use Rattle.std.specs.Prelude.{Some, codes};
+
+    ghost output = { λ _. Some (codes "the value, or its lack, does not fit") };
+
+    fn fmt<W: fmt::Write>(&self, f: &mut fmt::Formatter<W>) -> fmt::Result {
+        f.write_str("the value, or its lack, does not fit")
+    }
+}
+
+impl Error for Unfit {}
 
 impl<'t> TypedVal<'t> {
     /// The value, or its lack.

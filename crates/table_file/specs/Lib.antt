@@ -1,6 +1,7 @@
 pub mod FieldTypes
 pub mod Contents
 pub mod Files
+pub mod Printed
 pub mod Reading
 pub mod Fields
 pub mod RowParts

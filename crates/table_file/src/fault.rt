@@ -4,8 +4,10 @@ ghost use Rattle.std.specs.Prelude.{◌≡◌};
 ghost use Rattle.table_file.specs.declared.fault.LoadFault.TheVariants as faults;
 ghost use Rattle.table_file.specs.declared.fault.Stop.TheVariants as stops;
 
-use osi_base::{Kind, NoMemory};
+use osi_base::{FaultAt, Kind, NoMemory};
 use std::alloc::{AllocError, AllocFailed};
+use std::error::Error;
+use std::fmt;
 
 /// Why octets aren't a table file.
 #[derive(Clone, Copy, Debug, PartialEq, Eq)]
@@ -17,6 +19,28 @@ pub enum LoadFault {
     /// An allocation was refused.
     NoMemory,
 }
+
+impl fmt::Display for LoadFault {
+    ghost use Rattle.std.specs.Prelude.{Some};
+    ghost use Rattle.table_file.specs.Printed.{load_fault_text};
+
+    ghost output = { λ fault. Some (load_fault_text fault) };
+
+    fn fmt<W: fmt::Write>(&self, f: &mut fmt::Formatter<W>) -> fmt::Result {
+        match self {
+            LoadFault::At { place, kind } => fmt::Display::fmt(
+                &FaultAt {
+                    cause: kind.word(),
+                    place: *place as u64,
+                },
+                f,
+            ),
+            LoadFault::NoMemory => f.write_str("out of memory"),
+        }
+    }
+}
+
+impl Error for LoadFault {}
 
 /// Why reading stops.
 #[derive(Clone, Copy, Debug, PartialEq, Eq)]

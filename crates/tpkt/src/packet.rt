@@ -5,7 +5,9 @@ ghost use Rattle.std.specs.List.{flat_map};
 ghost use Rattle.tpkt.specs.Wire.{parameter};
 ghost use Rattle.tpkt.specs.Written.{size_parameter, selector_parameter, connection_fields, HasRoom};
 
-use osi_base::{Kind, ListOf, Octets};
+use osi_base::{FaultAt, Kind, ListOf, Octets};
+use std::error::Error;
+use std::fmt;
 
 /// The fields of a connection request or confirm (X.224 13.3, 13.4).
 #[derive(Debug, Drop)]
@@ -49,6 +51,21 @@ pub struct TFault {
     /// How the field breaks the grammar.
     pub kind: Kind,
 }
+
+impl fmt::Display for TFault {
+    ghost use Rattle.std.specs.Prelude.{Some};
+    ghost use Rattle.osi_base.specs.Printed.{kind_word, fault_at_text};
+
+    ghost output = { λ fault. Some (fault_at_text (kind_word fault.kind) fault.place) };
+
+    fn fmt<W: fmt::Write>(&self, f: &mut fmt::Formatter<W>) -> fmt::Result {
+        let cause = self.kind.word();
+        let place = self.place;
+        fmt::Display::fmt(&FaultAt { cause, place }, f)
+    }
+}
+
+impl Error for TFault {}
 
 /// What a feed gave: the packets that ended in it, and the fault if the stream has one by now.
 #[derive(Debug, Drop)]

@@ -4,6 +4,8 @@ ghost use Rattle.std.specs.Prelude.{◌≡◌};
 ghost use Rattle.trace_file.specs.declared.fault.RecordingFault.TheVariants.{NoMemory as no_room};
 
 use osi_base::NoMemory;
+use std::error::Error;
+use std::fmt;
 
 /// How a line breaks the grammar.
 #[derive(Clone, Copy, Debug, PartialEq, Eq)]
@@ -14,6 +16,32 @@ pub enum RecordingKind {
     TooMany,
 }
 
+impl RecordingKind {
+    ghost use Rattle.std.specs.Prelude.{◌≡◌};
+    ghost use Rattle.trace_file.specs.Printed.{recording_kind_word};
+
+    /// The name of the kind.
+    pub fn word(self) -> &'static str
+        ensures { result.now ≡ recording_kind_word self }
+    {
+        match self {
+            RecordingKind::BadField => "BadField",
+            RecordingKind::TooMany => "TooMany",
+        }
+    }
+}
+
+impl fmt::Display for RecordingKind {
+    ghost use Rattle.std.specs.Prelude.{Some};
+    ghost use Rattle.trace_file.specs.Printed.{recording_kind_word};
+
+    ghost output = { λ kind. Some (recording_kind_word kind) };
+
+    fn fmt<W: fmt::Write>(&self, f: &mut fmt::Formatter<W>) -> fmt::Result {
+        f.write_str(self.word())
+    }
+}
+
 /// Why a file isn't read.
 #[derive(Clone, Copy, Debug, PartialEq, Eq)]
 pub enum RecordingFault {
@@ -22,6 +50,22 @@ pub enum RecordingFault {
     /// An allocation was refused.
     NoMemory,
 }
+
+impl fmt::Display for RecordingFault {
+    ghost use Rattle.std.specs.Prelude.{Some};
+    ghost use Rattle.trace_file.specs.Printed.{recording_fault_text};
+
+    ghost output = { λ fault. Some (recording_fault_text fault) };
+
+    fn fmt<W: fmt::Write>(&self, f: &mut fmt::Formatter<W>) -> fmt::Result {
+        match self {
+            RecordingFault::At { line, kind } => write!(f, "script refused {line} {kind}"),
+            RecordingFault::NoMemory => f.write_str("out of memory"),
+        }
+    }
+}
+
+impl Error for RecordingFault {}
 
 impl From<NoMemory> for RecordingFault {
     ghost from_gives = { λ _ fault. fault ≡ no_room };

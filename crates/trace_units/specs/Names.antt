@@ -1,7 +1,7 @@
 -- The names of session units (X.225 8.3), units of the presentation protocol (X.226 8) and faults in a trace.
 use Rattle.std.specs.Prelude.{ℕ, List, [], ◌++◌, codes, decimal}
 use Rattle.osi_base.specs.declared.words.Kind.{Kind}
-use Rattle.osi_base.specs.declared.words.Kind.TheVariants as kinds
+use Rattle.osi_base.specs.Printed.{kind_word}
 use Rattle.osi_base.specs.declared.words.Side.{Side}
 use Rattle.osi_base.specs.declared.words.Side.TheVariants.{A, B}
 use Rattle.osi_base.specs.declared.session_word.SessionWord.{SessionWord}
@@ -13,14 +13,6 @@ use Rattle.osi_base.specs.declared.presentation_word.PresentationWord.TheVariant
 abbrev pub direction_word : Side → List ℕ
 direction_word A = codes "A>B"
 direction_word B = codes "B>A"
-
-abbrev pub kind_word : Kind → List ℕ
-kind_word kinds.Tag = codes "Tag"
-kind_word kinds.Missing = codes "Missing"
-kind_word kinds.Extra = codes "Extra"
-kind_word kinds.Length = codes "Length"
-kind_word kinds.Content = codes "Content"
-kind_word kinds.Form = codes "Form"
 
 -- a field that breaks the grammar of its layer, at this place
 abbrev pub fault_text : List ℕ → ℕ → Kind → List ℕ

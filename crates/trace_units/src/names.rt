@@ -1,9 +1,9 @@
 //! The names of units, layers and kinds of fault.
 
 ghost use Rattle.std.specs.Prelude.{◌≡◌};
-ghost use Rattle.trace_units.specs.Names.{direction_word, kind_word, spdu_name, ppdu_name};
+ghost use Rattle.trace_units.specs.Names.{direction_word, spdu_name, ppdu_name};
 
-use osi_base::{Kind, PresentationWord, SessionWord, Side};
+use osi_base::{PresentationWord, SessionWord, Side};
 
 /// The direction of what this end sent.
 pub fn direction_word(from: Side) -> &'static str
@@ -12,19 +12,6 @@ pub fn direction_word(from: Side) -> &'static str
     match from {
         Side::A => "A>B",
         Side::B => "B>A",
-    }
-}
-
-pub(crate) fn kind_word(kind: Kind) -> &'static str
-    ensures { result.now ≡ kind_word kind }
-{
-    match kind {
-        Kind::Tag => "Tag",
-        Kind::Missing => "Missing",
-        Kind::Extra => "Extra",
-        Kind::Length => "Length",
-        Kind::Content => "Content",
-        Kind::Form => "Form",
     }
 }
 

@@ -3,7 +3,6 @@
 ghost use Rattle.std.specs.Prelude.{◌≡◌, ◌++◌, IfOk};
 ghost use Rattle.trace_units.specs.Names.{fault_text};
 
-use crate::names::kind_word;
 use osi_base::{Kind, NoMemory, Octets};
 use std::alloc::Global;
 use value_text::Text;
@@ -27,6 +26,6 @@ pub fn fault_text(alloc: Global, layer: &str, place: u64, kind: Kind) -> Result<
     text.put(" ")?;
     text.put_number(place)?;
     text.put(" ")?;
-    text.put(kind_word(kind))?;
+    text.put(kind.word())?;
     Ok(text.into_octets())
 }

@@ -8,7 +8,8 @@ use Rattle.osi_base.specs.declared.words.Problem.{Problem}
 use Rattle.stub_tables.specs.declared.tables.Tables.{Tables}
 use Rattle.dialogue.specs.declared.indication.Indication.{Indication}
 use Rattle.dialogue.specs.declared.indication.Indication.TheVariants as shown
-use Rattle.transcript_text.specs.Words.{layer_word, problem_word}
+use Rattle.transcript_text.specs.Words.{problem_word}
+use Rattle.osi_base.specs.Printed.{layer_word}
 use Rattle.script_lines.specs.Invoked.{result_type}
 use Rattle.transcript_text.specs.Typed.{field_by, argument_type, parameter_type}
 use Rattle.transcript_text.specs.Calls.{operation_name, error_name, linked_field, number_field}

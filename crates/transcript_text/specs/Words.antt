@@ -2,8 +2,6 @@
 use Rattle.std.specs.Prelude.{ℕ, List, codes}
 use Rattle.osi_base.specs.declared.words.Side.{Side}
 use Rattle.osi_base.specs.declared.words.Side.TheVariants.{A, B}
-use Rattle.osi_base.specs.declared.words.Layer.{Layer}
-use Rattle.osi_base.specs.declared.words.Layer.TheVariants.{Transport, Session, Presentation, Acse, Rtse, Rose}
 use Rattle.osi_base.specs.declared.words.ProblemKind.{ProblemKind}
 use Rattle.osi_base.specs.declared.words.ProblemKind.TheVariants as kinds
 use Rattle.dialogue.specs.declared.config.Mode.{Mode}
@@ -34,14 +32,6 @@ phase_word Broken = codes "broken"
 phase_word Recovering = codes "recovering"
 phase_word Over = codes "over"
 phase_word Dead = codes "dead"
-
-abbrev pub layer_word : Layer → List ℕ
-layer_word Transport = codes "transport"
-layer_word Session = codes "session"
-layer_word Presentation = codes "presentation"
-layer_word Acse = codes "acse"
-layer_word Rtse = codes "rtse"
-layer_word Rose = codes "rose"
 
 abbrev pub problem_word : ProblemKind → List ℕ
 problem_word kinds.General = codes "general"

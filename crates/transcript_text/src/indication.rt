@@ -8,7 +8,7 @@ ghost use Rattle.transcript_text.specs.Indications.{id_text, problem_text, answe
 
 use crate::call::{put_error, put_linked, put_named, put_number_field, put_operation};
 use crate::typed::{put_argument, put_parameter, put_result};
-use crate::words::{layer_word, problem_word};
+use crate::words::problem_word;
 use dialogue::Indication;
 use osi_base::{AddAnswer, Answers, Ids, Layer, NoMemory, Problem};
 use stub_tables::Tables;
@@ -131,7 +131,7 @@ fn put_cause(
     ensures { OnOk result (text.new ≡ text.old ++ (name.now ++ cause_text layer place reason)) }
 {
     text.put(name)?;
-    text.put(layer_word(layer))?;
+    text.put(layer.word())?;
     put_number_field(text, place)?;
     put_number_field(text, u64::from(reason))
 }

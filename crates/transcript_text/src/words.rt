@@ -1,10 +1,10 @@
 //! The words of sides, modes, phases, layers and problems in texts.
 
 ghost use Rattle.std.specs.Prelude.{◌≡◌};
-ghost use Rattle.transcript_text.specs.Words.{side_word, peer_of, mode_word, phase_word, layer_word, problem_word};
+ghost use Rattle.transcript_text.specs.Words.{side_word, peer_of, mode_word, phase_word, problem_word};
 
 use dialogue::{Mode, Phase};
-use osi_base::{Layer, ProblemKind, Side};
+use osi_base::{ProblemKind, Side};
 
 /// The letter of an end.
 pub fn side_word(side: Side) -> &'static str
@@ -50,20 +50,6 @@ pub fn phase_word(phase: Phase) -> &'static str
         Phase::Recovering => "recovering",
         Phase::Over => "over",
         Phase::Dead => "dead",
-    }
-}
-
-/// The word of a layer.
-pub fn layer_word(layer: Layer) -> &'static str
-    ensures { result.now ≡ layer_word layer }
-{
-    match layer {
-        Layer::Transport => "transport",
-        Layer::Session => "session",
-        Layer::Presentation => "presentation",
-        Layer::Acse => "acse",
-        Layer::Rtse => "rtse",
-        Layer::Rose => "rose",
     }
 }
 
