@@ -5,6 +5,9 @@ use Rattle.osi_base.specs.declared.words.Kind.{Kind}
 use Rattle.osi_base.specs.declared.words.Kind.TheVariants as kinds
 use Rattle.osi_base.specs.declared.words.Layer.{Layer}
 use Rattle.osi_base.specs.declared.words.Layer.TheVariants as layers
+use Rattle.osi_base.specs.declared.words.Problem.{Problem}
+use Rattle.osi_base.specs.declared.words.ProblemKind.{ProblemKind}
+use Rattle.osi_base.specs.declared.words.ProblemKind.TheVariants as problems
 use Rattle.osi_base.specs.declared.files.FileFault.{FileFault}
 use Rattle.osi_base.specs.declared.files.FileFault.TheVariants as files
 use Rattle.osi_base.specs.declared.sink.SinkFault.{SinkFault}
@@ -54,3 +57,14 @@ fault_at_text cause place = cause ++ (codes " at octet " ++ decimal place)
 abbrev pub numbered_text : List ℕ → Option ℤ → List ℕ
 numbered_text word (Some number) = word ++ (codes " " ++ signed_decimal number)
 numbered_text word None = word
+
+-- what a reject speaks of
+abbrev pub problem_word : ProblemKind → List ℕ
+problem_word problems.General = codes "general"
+problem_word problems.Invoke = codes "invoke"
+problem_word problems.Result = codes "result"
+problem_word problems.Error = codes "error"
+
+-- the problem that a reject carries
+abbrev pub problem_text : Problem → List ℕ
+problem_text problem = numbered_text (problem_word problem.kind) (Some problem.number)

@@ -5,6 +5,7 @@ use crate::fault::NoMemory;
 use crate::list::ListOf;
 use crate::octets::Octets;
 use crate::oid::Oid;
+use crate::printing::WordWithNumber;
 use crate::syntax::Pair;
 use std::alloc::Global;
 use std::fmt;
@@ -132,6 +133,34 @@ pub enum ProblemKind {
     Error,
 }
 
+impl ProblemKind {
+    ghost use Rattle.std.specs.Prelude.{◌≡◌};
+    ghost use Rattle.osi_base.specs.Printed.{problem_word};
+
+    /// The word of what a reject speaks of.
+    pub fn word(self) -> &'static str
+        ensures { result.now ≡ problem_word self }
+    {
+        match self {
+            ProblemKind::General => "general",
+            ProblemKind::Invoke => "invoke",
+            ProblemKind::Result => "result",
+            ProblemKind::Error => "error",
+        }
+    }
+}
+
+impl fmt::Display for ProblemKind {
+    ghost use Rattle.std.specs.Prelude.{Some};
+    ghost use Rattle.osi_base.specs.Printed.{problem_word};
+
+    ghost output = { λ kind. Some (problem_word kind) };
+
+    fn fmt<W: fmt::Write>(&self, f: &mut fmt::Formatter<W>) -> fmt::Result {
+        f.write_str(self.word())
+    }
+}
+
 /// The problem that a reject carries (X.880 8.4).
 #[derive(Clone, Copy, Debug, PartialEq, Eq)]
 pub struct Problem {
@@ -139,6 +168,23 @@ pub struct Problem {
     pub kind: ProblemKind,
     /// The problem's number among those of its kind.
     pub number: i64,
+}
+
+impl fmt::Display for Problem {
+    ghost use Rattle.std.specs.Prelude.{Some};
+    ghost use Rattle.osi_base.specs.Printed.{problem_text};
+
+    ghost output = { λ problem. Some (problem_text problem) };
+
+    fn fmt<W: fmt::Write>(&self, f: &mut fmt::Formatter<W>) -> fmt::Result {
+        fmt::Display::fmt(
+            &WordWithNumber {
+                word: self.kind.word(),
+                number: Some(self.number),
+            },
+            f,
+        )
+    }
 }
 
 /// How a run of the program ended.

@@ -7,7 +7,8 @@ use Rattle.stub_tables.specs.Lookup.{operation_at, error_at, operation_with, err
 use Rattle.apdu_spelling.specs.declared.head.ApduHead.{ApduHead}
 use Rattle.apdu_spelling.specs.declared.head.ApduKind.{ApduKind}
 use Rattle.apdu_spelling.specs.declared.head.ApduKind.TheVariants as kinds
-use Rattle.transcript_text.specs.Indications.{id_text, problem_text}
+use Rattle.osi_base.specs.Printed.{problem_text}
+use Rattle.transcript_text.specs.Indications.{id_text}
 
 -- the name of the operation with a code
 abbrev pub operation_named : Tables → Code → Option (List ℕ)

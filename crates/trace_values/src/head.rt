@@ -2,43 +2,13 @@
 
 ghost use Rattle.std.specs.Prelude.{◌≡◌, ◌++◌, IfOk, OnOk};
 ghost use Rattle.std.specs.Option.{option_copied};
-ghost use Rattle.transcript_text.specs.Indications.{id_text, problem_text};
-ghost use Rattle.transcript_text.specs.Words.{problem_word};
 ghost use Rattle.trace_values.specs.Heads.{operation_named, error_named, named_text, result_text, invoke_told, result_told, error_told, reject_told, WasTold, head_told};
 
 use apdu_spelling::{ApduHead, ApduKind};
-use osi_base::{Name, NoMemory, Problem, ProblemKind};
+use osi_base::{Name, NoMemory};
 use stub_tables::{Code, Tables};
+use transcript_text::{put_id, put_problem};
 use value_text::Text;
-
-/// An identifier, or `-` where there is none.
-fn put_id(text: &mut Text, id: Option<i64>) -> Result<(), NoMemory>
-    ensures { OnOk result (text.new ≡ text.old ++ id_text id) }
-{
-    match id {
-        Some(id) => text.put_signed(id),
-        None => text.put("-"),
-    }
-}
-
-fn problem_word(kind: ProblemKind) -> &'static str
-    ensures { result.now ≡ problem_word kind }
-{
-    match kind {
-        ProblemKind::General => "general",
-        ProblemKind::Invoke => "invoke",
-        ProblemKind::Result => "result",
-        ProblemKind::Error => "error",
-    }
-}
-
-fn put_problem(text: &mut Text, problem: Problem) -> Result<(), NoMemory>
-    ensures { OnOk result (text.new ≡ text.old ++ problem_text problem) }
-{
-    text.put(problem_word(problem.kind))?;
-    text.put(" ")?;
-    text.put_signed(problem.number)
-}
 
 /// The name of the operation with this code.
 fn operation_named<'t>(tables: &'t Tables, code: &Code) -> Option<&'t Name>

@@ -4,12 +4,10 @@ use Rattle.std.specs.Fmt.{signed_decimal}
 use Rattle.osi_base.specs.declared.words.AddAnswer.{AddAnswer}
 use Rattle.osi_base.specs.declared.words.Answers.{Answers}
 use Rattle.osi_base.specs.declared.words.Layer.{Layer}
-use Rattle.osi_base.specs.declared.words.Problem.{Problem}
 use Rattle.stub_tables.specs.declared.tables.Tables.{Tables}
 use Rattle.dialogue.specs.declared.indication.Indication.{Indication}
 use Rattle.dialogue.specs.declared.indication.Indication.TheVariants as shown
-use Rattle.transcript_text.specs.Words.{problem_word}
-use Rattle.osi_base.specs.Printed.{layer_word}
+use Rattle.osi_base.specs.Printed.{layer_word, problem_text}
 use Rattle.script_lines.specs.Invoked.{result_type}
 use Rattle.transcript_text.specs.Typed.{field_by, argument_type, parameter_type}
 use Rattle.transcript_text.specs.Calls.{operation_name, error_name, linked_field, number_field}
@@ -18,9 +16,6 @@ use Rattle.transcript_text.specs.Calls.{operation_name, error_name, linked_field
 abbrev pub id_text : Option ℤ → List ℕ
 id_text None = codes "-"
 id_text (Some id) = signed_decimal id
-
-abbrev pub problem_text : Problem → List ℕ
-problem_text problem = problem_word problem.kind ++ codes " " ++ signed_decimal problem.number
 
 -- an addition with its result
 abbrev pub added_field : ℕ × AddAnswer → List ℕ

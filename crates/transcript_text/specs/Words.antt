@@ -2,8 +2,6 @@
 use Rattle.std.specs.Prelude.{ℕ, List, codes}
 use Rattle.osi_base.specs.declared.words.Side.{Side}
 use Rattle.osi_base.specs.declared.words.Side.TheVariants.{A, B}
-use Rattle.osi_base.specs.declared.words.ProblemKind.{ProblemKind}
-use Rattle.osi_base.specs.declared.words.ProblemKind.TheVariants as kinds
 use Rattle.dialogue.specs.declared.config.Mode.{Mode}
 use Rattle.dialogue.specs.declared.config.Mode.TheVariants.{Bare, Direct, Reliable}
 use Rattle.dialogue.specs.declared.config.Phase.{Phase}
@@ -32,9 +30,3 @@ phase_word Broken = codes "broken"
 phase_word Recovering = codes "recovering"
 phase_word Over = codes "over"
 phase_word Dead = codes "dead"
-
-abbrev pub problem_word : ProblemKind → List ℕ
-problem_word kinds.General = codes "general"
-problem_word kinds.Invoke = codes "invoke"
-problem_word kinds.Result = codes "result"
-problem_word kinds.Error = codes "error"

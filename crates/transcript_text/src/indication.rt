@@ -2,20 +2,20 @@
 
 ghost use Rattle.std.specs.Prelude.{◌≡◌, ◌++◌, ◌∷◌, ◌<◌, ℕ, [], List, OnOk, decimal, flat_map, codes, slice_get};
 ghost use Rattle.std.specs.Option.{option_copied};
+ghost use Rattle.osi_base.specs.Printed.{problem_text};
 ghost use Rattle.script_lines.specs.Invoked.{result_type};
 ghost use Rattle.transcript_text.specs.Typed.{field_by, argument_type, parameter_type};
-ghost use Rattle.transcript_text.specs.Indications.{id_text, problem_text, answered, added_field, deleted_field, added_text, deleted_text, altered_text, own_text, cause_text, aborted_text, indication_text};
+ghost use Rattle.transcript_text.specs.Indications.{id_text, answered, added_field, deleted_field, added_text, deleted_text, altered_text, own_text, cause_text, aborted_text, indication_text};
 
 use crate::call::{put_error, put_linked, put_named, put_number_field, put_operation};
 use crate::typed::{put_argument, put_parameter, put_result};
-use crate::words::problem_word;
 use dialogue::Indication;
 use osi_base::{AddAnswer, Answers, Ids, Layer, NoMemory, Problem};
 use stub_tables::Tables;
 use value_text::Text;
 
 /// An identifier, or `-` where it is absent.
-fn put_id(text: &mut Text, id: Option<i64>) -> Result<(), NoMemory>
+pub fn put_id(text: &mut Text, id: Option<i64>) -> Result<(), NoMemory>
     ensures { OnOk result (text.new ≡ text.old ++ id_text id) }
 {
     match id {
@@ -25,10 +25,10 @@ fn put_id(text: &mut Text, id: Option<i64>) -> Result<(), NoMemory>
 }
 
 /// The problem of a reject.
-fn put_problem(text: &mut Text, problem: Problem) -> Result<(), NoMemory>
+pub fn put_problem(text: &mut Text, problem: Problem) -> Result<(), NoMemory>
     ensures { OnOk result (text.new ≡ text.old ++ problem_text problem) }
 {
-    text.put(problem_word(problem.kind))?;
+    text.put(problem.kind.word())?;
     text.put(" ")?;
     text.put_signed(problem.number)
 }

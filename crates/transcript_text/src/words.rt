@@ -1,10 +1,10 @@
-//! The words of sides, modes, phases, layers and problems in texts.
+//! The words of sides, modes and phases in texts.
 
 ghost use Rattle.std.specs.Prelude.{◌≡◌};
-ghost use Rattle.transcript_text.specs.Words.{side_word, peer_of, mode_word, phase_word, problem_word};
+ghost use Rattle.transcript_text.specs.Words.{side_word, peer_of, mode_word, phase_word};
 
 use dialogue::{Mode, Phase};
-use osi_base::{ProblemKind, Side};
+use osi_base::Side;
 
 /// The letter of an end.
 pub fn side_word(side: Side) -> &'static str
@@ -50,17 +50,5 @@ pub fn phase_word(phase: Phase) -> &'static str
         Phase::Recovering => "recovering",
         Phase::Over => "over",
         Phase::Dead => "dead",
-    }
-}
-
-/// The word of what a reject speaks of.
-pub fn problem_word(kind: ProblemKind) -> &'static str
-    ensures { result.now ≡ problem_word kind }
-{
-    match kind {
-        ProblemKind::General => "general",
-        ProblemKind::Invoke => "invoke",
-        ProblemKind::Result => "result",
-        ProblemKind::Error => "error",
     }
 }
