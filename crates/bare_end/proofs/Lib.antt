@@ -1,5 +1,3 @@
-pub mod Kept
-pub mod Orders
 pub mod Histories
 pub mod Sent
 pub mod Messages

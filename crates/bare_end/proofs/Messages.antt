@@ -28,7 +28,7 @@ use Rattle.end_wire.specs.Values.{IsContent, content_of, content_at}
 use Rattle.end_wire.proofs.HeadLaws.{head_read, no_head}
 use Rattle.end_wire.proofs.ValueLaws.{carried_is, carried_spelled}
 use Rattle.end_wire.proofs.ContentLaws.{CarriesOctets, content_found, content_kept}
-use Rattle.bare_end.specs.Invocations.{SomeCarried}
+use Rattle.open_invocations.specs.Invocations.{SomeCarried}
 use Rattle.bare_end.specs.Told.{HoldsOctets}
 
 -- ---- a reading of octets is none of their lack
@@ -123,7 +123,7 @@ module _ (tables : Tables) (readable : IsReadable tables) (text : List ℕ) wher
         subst (λ (f : ApduHead). HeadSays tables f (head_at tables Ber text)) (sym p.are)
         (subst (λ (h : Head). HeadSays tables (fields_in Ber p.head) h) head_is (says_so tables readable p.head at_fields))
 
-    pub fields_carry : SomeCarried tables fields
+    pub fields_carry : SomeCarried tables Ber fields
     fields_carry = let s = fields_say in record { carried = s.carried; carries = s.carries }
 
     pub fields_mean : IsContent tables Ber text (content_at tables Ber text)

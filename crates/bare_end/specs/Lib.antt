@@ -1,4 +1,3 @@
-pub mod Invocations
 pub mod View
 pub mod Told
 pub mod First

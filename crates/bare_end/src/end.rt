@@ -3,11 +3,11 @@
 ghost use Rattle.std.specs.Prelude.{◌≡◌, ◌≢◌, ℕ, List, [], ◌∷◌, ◌++◌, length, min, take, drop, IfOk, IfErr, OnOk, true, Some, None, is_some};
 
 use crate::intake::Intake;
-use crate::invocations::Invocations;
 use crate::phases::broken;
 use apdu_codec::Heads;
 use association_ground::is_up;
 use dialogue::{Config, ConfigRefusal, Phase, check_config};
+use open_invocations::Invocations;
 use osi_base::{Copied, OctetQueue, Pair, Syntax, copy_front};
 use std::alloc::Global;
 use std::marker::Model;

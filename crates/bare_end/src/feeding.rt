@@ -16,9 +16,9 @@ ghost use Rattle.bare_end.specs.Feed.{TookOne, ReadAll, Goes, Fed, KeepsDue, Die
 ghost use Rattle.bare_end.specs.First.{IsFirst};
 
 use crate::end::End;
-use crate::order::tell_cuts;
 use association_ground::passes_over;
 use dialogue::{Indication, Indications, Phase};
+use open_invocations::tell_cuts;
 use osi_base::{Layer, ListOf, NoMemory};
 use stream_front::Front;
 

@@ -10,7 +10,7 @@ ghost use Rattle.end_rules.specs.State.{Calls};
 ghost use Rattle.end_rules.specs.Hearing.{hear, reject_apdu};
 ghost use Rattle.end_wire.specs.Heads.{head_at};
 ghost use Rattle.end_wire.specs.Values.{IsContent, content_at};
-ghost use Rattle.bare_end.specs.Invocations.{SomeCarried};
+ghost use Rattle.open_invocations.specs.Invocations.{SomeCarried};
 ghost use Rattle.bare_end.specs.Told.{heard_as, HoldsOctets, Heard, HeardIn, told_by, answered_end};
 ghost use Rattle.bare_end.specs.View.{base, with_calls, with_waiting};
 
@@ -90,11 +90,13 @@ impl<'t> End<'t> {
 
     /// Hears what a head says.
     fn hear_head(&mut self, head: ApduHead) -> Result<Taken, NoMemory>
-        requires { SomeCarried self.old.tables head }
+        requires { SomeCarried self.old.tables syntaxes.Ber head }
         ensures heard { IfOk result (HeardIn self.old self.new head) }
         ensures err { OnErr result (self.new ≡ self.old) }
     {
-        let taken = self.invocations.take(self.tables, head)?;
+        let taken = self
+            .invocations
+            .take(self.tables, Syntax::Ber, 0, head)?;
         Ok(as_taken(taken))
     }
 

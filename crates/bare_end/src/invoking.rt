@@ -10,7 +10,7 @@ ghost use Rattle.dialogue.specs.declared.call.CallRefusal.TheVariants as refusal
 ghost use Rattle.end_rules.specs.State.{opens_of};
 ghost use Rattle.end_rules.specs.Hearing.{opening};
 ghost use Rattle.end_rules.specs.Invoking.{Reply, next_id, is_on_module, is_linked_to, linking_refusal, unless_refused, invoke_apdu, can_send_invoke, can_invoke};
-ghost use Rattle.bare_end.specs.Invocations.{is_link};
+ghost use Rattle.open_invocations.specs.Invocations.{is_link};
 ghost use Rattle.bare_end.specs.Checking.{IsChecked, IsFree, HasRoom, IsNumbered};
 ghost use Rattle.bare_end.specs.View.{base, body, with_calls, with_waiting, Answers, Keeps, IsRefusal};
 

@@ -7,11 +7,7 @@ mod end;
 mod feeding;
 mod hearing;
 mod intake;
-mod invocations;
 mod invoking;
-mod listing;
-mod open_call;
-mod order;
 mod phases;
 mod sending;
 

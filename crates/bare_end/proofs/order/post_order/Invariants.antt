@@ -1,6 +1,0 @@
-use Rattle.std.proofs.Common.{◌≡◌, drop}
-use Rattle.end_rules.specs.State.{post_order_on, post_order}
-use Rattle.bare_end.proofs.order.post_order.Given as goal
-
-abbrev pub invariant-loop-call : goal.invariant-loop-call
-invariant-loop-call l = post_order_on l.ordered.items (drop l.call-index l.opens) ≡ post_order l.opens

@@ -1,6 +1,0 @@
-use Rattle.std.proofs.Common.{◌≡◌, ◌++◌, map, take}
-use Rattle.end_rules.specs.Faults.{cut_of}
-use Rattle.bare_end.proofs.order.push_cuts.Given as goal
-
-abbrev pub invariant-loop-call : goal.invariant-loop-call
-invariant-loop-call l = l.shown ≡ l.fn.shown ++ map cut_of (take l.call-index l.ordered)
