@@ -1,14 +1,15 @@
 //! What the names of a module stand for.
 
-ghost use Rattle.std.specs.Prelude.{◌≡◌, ◌<◌, ◌≤◌, ◌^◌, ℕ, List, Some, None, length, IfOk, IfSome, OnOk, slice_get, slice_set, option_map};
+ghost use Rattle.std.specs.Prelude.{◌≡◌, ◌<◌, ◌≤◌, ◌^◌, ℕ, List, Some, None, length, IfOk, IfSome, slice_get, slice_set, option_map};
 ghost use Rattle.std.specs.Option.{option_copied};
 ghost use Rattle.std.specs.Str.{bytes_eq};
 ghost use Rattle.indexmap.specs.IndexMap.{get_by};
-ghost use Rattle.module_faults.specs.Names.{find, type_at, or_none, AreFound, IsAdded};
+ghost use Rattle.module_faults.specs.Names.{find, type_at, or_none, AreFound};
 ghost use Rattle.module_compiler.specs.Scope.{behind, behind_by, alias, is_plain};
 ghost use Rattle.module_compiler.specs.Kept.{AreFollowed, AreBehind, IsFollowed, IsBehind, IsOneMore, Leads, From};
 
 use indexmap::IndexMap;
+use module_faults::name_places;
 use operation_notation::{Assignment, Body, ModuleText, PlainText, TypeText};
 use osi_base::{Name, NoMemory};
 use std::alloc::Global;
@@ -66,36 +67,6 @@ pub(crate) fn alias(of: &TypeText) -> Option<&Name>
         (None, PlainText::Named(name)) => Some(&name.text),
         _ => None,
     }
-}
-
-/// Puts the place of a name that has none yet.
-fn add_place<'m>(
-    places: &mut IndexMap<&'m str, u32>,
-    name: &'m str,
-    place: u32,
-) -> Result<(), NoMemory>
-    ensures { OnOk result (IsAdded places.old places.new name.now place) }
-{
-    if places.contains_key(name) {
-        return Ok(());
-    }
-    places.insert(name, place)?;
-    Ok(())
-}
-
-/// The places of names.
-fn name_places(alloc: Global, assignments: &[Assignment]) -> Result<IndexMap<&str, u32>, NoMemory>
-    ensures { IfOk result (λ places. AreFound assignments.now places) }
-{
-    let mut places = IndexMap::new(alloc);
-    for (place, assignment) in assignments.iter().enumerate() {
-        let name = assignment.name.text.as_str();
-        let Ok(number) = u32::try_from(place) else {
-            return Err(NoMemory);
-        };
-        add_place(&mut places, name, number)?;
-    }
-    Ok(places)
 }
 
 /// The place of a name.

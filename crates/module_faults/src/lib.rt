@@ -21,3 +21,4 @@ pub use faults::least_fault;
 pub use kind::TableKind;
 pub use laws::one_least_fault;
 pub use least::Found;
+pub use names::name_places;

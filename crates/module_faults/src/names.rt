@@ -51,8 +51,11 @@ fn add_place<'m>(
     Ok(())
 }
 
-/// The places of names.
-fn name_places(alloc: Global, assignments: &[Assignment]) -> Result<IndexMap<&str, u32>, NoMemory>
+/// The places of names, each that of its first assignment.
+pub fn name_places(
+    alloc: Global,
+    assignments: &[Assignment],
+) -> Result<IndexMap<&str, u32>, NoMemory>
     ensures { IfOk result (λ places. AreFound assignments.now places) }
 {
     let mut places = IndexMap::new(alloc);
