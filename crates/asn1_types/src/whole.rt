@@ -45,7 +45,7 @@ pub fn behind_identifier(octets: &[u8]) -> Option<&[u8]>
 }
 
 /// The number that at most 8 octets are, the most significant first.
-fn number_256(octets: &[u8]) -> u64
+pub fn number_256(octets: &[u8]) -> u64
     requires { length octets.now ≤ 8 }
     ensures { result ≡ number_256 0 octets.now }
 {
@@ -104,7 +104,7 @@ fn is_constructed(octets: &[u8]) -> bool
 }
 
 /// Whether an indefinite length stands here (X.690 8.1.3.6).
-fn is_marked(octets: &[u8]) -> bool
+pub fn is_marked(octets: &[u8]) -> bool
     ensures { result ≡ is_marked octets.now }
 {
     match octets {

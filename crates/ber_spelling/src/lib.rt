@@ -24,7 +24,7 @@ pub use laws::{
 };
 pub use order::{RANKS, rank, rank_of};
 pub use plain::{boolean, enumerated, integer, is_other_number, null, object_id};
-pub use primitives::integer_of;
+pub use primitives::{integer_of, is_padded, ones_above};
 pub use spot::{Ahead, Gathered, Opened, Scope, Spot, StringKind, StringRule};
 pub use strings::{bit_string, octet_string, text};
 pub use tag::{expect, tag_or};

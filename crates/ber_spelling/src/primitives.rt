@@ -9,8 +9,9 @@ use crate::fields::number_of;
 use osi_base::{NoMemory, Oid};
 use std::alloc::Global;
 
+/// Whether the first nine bits are all zero or all one (X.690 8.3.2).
 #[inline(always)]
-fn is_padded(octets: &[u8]) -> bool
+pub fn is_padded(octets: &[u8]) -> bool
     ensures { result ≡ is_padded octets.now }
 {
     match octets {
@@ -19,9 +20,9 @@ fn is_padded(octets: &[u8]) -> bool
     }
 }
 
-/// What completes a number of this many octets to 64 bits.
+/// The ones above a number of this many octets, which complete it to 64 bits.
 #[inline(always)]
-fn above(len: usize) -> u64
+pub fn ones_above(len: usize) -> u64
     requires some { 1 ≤ len }
     requires few { len ≤ 8 }
     ensures { result + 256 ^ len ≡ 2 ^ 64 }
@@ -49,7 +50,7 @@ fn signed_of(octets: &[u8]) -> i64
     if octets[0] < 128 {
         number.cast_signed()
     } else {
-        (number + above(octets.len())).cast_signed()
+        (number + ones_above(octets.len())).cast_signed()
     }
 }
 

@@ -1,25 +1,14 @@
 //! One whole value of any type (X.690 8.1).
 
 ghost use Rattle.std.specs.Prelude.{◌≢◌, IfErr, ◌≡◌, ◌+◌, ◌<◌, ◌^◌, length, Some, IfOk};
-ghost use Rattle.asn1_types.specs.Whole.{is_marked};
 ghost use Rattle.ber_spelling.specs.Reading.{Gives, spot_of, opened_of, behind_of, GoesOn};
 ghost use Rattle.ber_spelling.specs.Rules.{all_items_at, sized_at, marked_at, whole_at};
 
 use crate::fault::ReadFault;
 use crate::fields::{contents, extent, look, refusal};
 use crate::spot::{Ahead, Opened, Scope, Spot};
-use asn1_types::is_no_tag;
+use asn1_types::{is_marked, is_no_tag};
 use osi_base::Kind;
-
-/// Whether an indefinite length stands here (X.690 8.1.3.6).
-fn is_marked(octets: &[u8]) -> bool
-    ensures { result ≡ is_marked octets.now }
-{
-    match octets {
-        [] => false,
-        [first, ..] => *first == 128,
-    }
-}
 
 /// A definite length, and that many octets.
 fn sized<'a>(scope: &Scope, spot: Spot<'a>) -> Result<Spot<'a>, ReadFault>

@@ -1,13 +1,8 @@
 -- The contents of INTEGER and ENUMERATED: two's complement in as few octets as hold it (X.690 8.3).
-use Rattle.std.specs.Prelude.{ℕ, suc, ◌-◌, ◌^◌, ℤ, pos, negsuc, Bool, false, not, ◌&&◌, ◌||◌, Option, Some, None, List, [], ◌∷◌, length, nat_lt, nat_le, nat_eq, slice_index, if◌then◌else◌}
+use Rattle.std.specs.Prelude.{ℕ, suc, ◌-◌, ◌^◌, ℤ, pos, negsuc, Bool, not, ◌&&◌, Option, Some, None, List, [], ◌∷◌, length, nat_lt, nat_le, slice_index, if◌then◌else◌}
 use Rattle.std.specs.Int.{w64, cast_unsigned, bytes_high_first}
 use Rattle.asn1_types.specs.Whole.{number_256}
-
--- the first nine bits are all zero or all one (X.690 8.3.2)
-abbrev pub is_padded : List ℕ → Bool
-is_padded [] = false
-is_padded (first ∷ []) = false
-is_padded (first ∷ second ∷ octets) = (nat_eq first 0 && nat_lt second 128) || (nat_eq first 255 && nat_le 128 second)
+use Rattle.ber_spelling.specs.Primitives.{is_padded}
 
 -- ---- read
 

@@ -8,7 +8,7 @@ ghost use Rattle.packed_codec.specs.Numbers.{unpadded, integer_octets};
 ghost use Rattle.packed_codec.specs.ObjectIds.{digits_128, without_zeros, base_128, arcs_octets};
 ghost use Rattle.packed_codec.specs.Writing.{counted, with_size, IsPut};
 
-use crate::numbers::is_padded;
+use ber_spelling::is_padded;
 use byteorder::{BigEndian, ByteOrder};
 
 /// Two's complement without the octets that only repeat the sign.

@@ -22,7 +22,8 @@ use Rattle.ber_spelling.specs.Fields.{number_from}
 use Rattle.ber_spelling.specs.Primitives as prim
 use Rattle.ber_spelling.specs.Spelling as spelling
 use Rattle.ber_spelling.proofs.UniqueDigits.{unique_128, unique_integer}
-use Rattle.packed_codec.specs.Numbers.{is_padded, is_size, signed_of, integer_of, integer_octets}
+use Rattle.ber_spelling.specs.Primitives.{is_padded}
+use Rattle.packed_codec.specs.Numbers.{is_size, signed_of, integer_of, integer_octets}
 use Rattle.packed_codec.specs.ObjectIds.{base_128, subidentifiers, arcs_octets}
 use Rattle.packed_codec.specs.Writing.{Writer, counted, how_many, part_written, parts_written, values_written, list_written, sequence_written, alternative_written, choice_written, nothing_written, write_by, packed}
 use Rattle.packed_codec.specs.Laws.{packs_by, packs}

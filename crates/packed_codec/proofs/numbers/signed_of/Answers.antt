@@ -20,6 +20,6 @@ pub returns-else-octets-lt128 : goal.returns-else-octets-lt128
 returns-else-octets-lt128 c =
     let os = c.args.octets.now in
     let octets : AreOctets os = record { each = λ i. omega (arith, c.type_inv.octets i) } in
-    again c.cast_signed-else-octets-lt128.result (c.number_256-number.result + c.above.result) (number_256 0 os + c.above.result) c.cast_signed-else-octets-lt128.ensures
-    (omega (arith, number_high 0 os octets)) (ap (λ n. n + c.above.result) c.number_256-number.ensures)
-    ∙ signed_high os c.above.result octets c.requires.some c.requires.few c.if-octets-lt128.false c.above.ensures
+    again c.cast_signed-else-octets-lt128.result (c.number_256-number.result + c.ones_above.result) (number_256 0 os + c.ones_above.result) c.cast_signed-else-octets-lt128.ensures
+    (omega (arith, number_high 0 os octets)) (ap (λ n. n + c.ones_above.result) c.number_256-number.ensures)
+    ∙ signed_high os c.ones_above.result octets c.requires.some c.requires.few c.if-octets-lt128.false c.ones_above.ensures
