@@ -3,7 +3,7 @@
 ghost use Rattle.std.specs.Prelude.{◌≡◌, Some, true};
 ghost use Rattle.stub_tables.specs.Lookup.{error_with};
 ghost use Rattle.end_rules.specs.State.{opened_with};
-ghost use Rattle.end_rules.specs.Hearing.{carried_in, hear_result_of, hear_error_of, hear_reject, is_of_invocation};
+ghost use Rattle.end_rules.specs.Hearing.{carried_in, hear_result_of, hear_error_of, hear_reject};
 ghost use Rattle.rose_roles.specs.Hearing.{heard_with};
 ghost use Rattle.association_state.specs.Seen.{base_in};
 
@@ -13,7 +13,7 @@ use asn1_types::Val;
 use association_state::Ground;
 use open_invocations::Invocations;
 use osi_base::{Problem, ProblemKind};
-use rose_roles::RoseTaken;
+use rose_roles::{RoseTaken, is_of_invocation};
 use stub_tables::Code;
 
 /// Hears a result.
@@ -64,16 +64,6 @@ pub(crate) fn hear_error(
             error,
             parameter,
         },
-    }
-}
-
-/// Whether the problem is one of an invocation.
-fn is_of_invocation(kind: ProblemKind) -> bool
-    ensures { result ≡ is_of_invocation kind }
-{
-    match kind {
-        ProblemKind::Invoke => true,
-        ProblemKind::General | ProblemKind::Result | ProblemKind::Error => false,
     }
 }
 

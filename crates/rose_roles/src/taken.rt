@@ -78,7 +78,7 @@ pub fn refused(fault: HeadFault) -> Result<RoseTaken, NoMemory>
 }
 
 /// Whether the problem is one of an invocation.
-pub(crate) fn is_of_invocation(kind: ProblemKind) -> bool
+pub fn is_of_invocation(kind: ProblemKind) -> bool
     ensures { result ≡ is_of_invocation kind }
 {
     match kind {
