@@ -1,12 +1,12 @@
 //! The fixed table of the APDUs of association control.
 
-ghost use Rattle.std.specs.Prelude.{◌≡◌, Some, IfOk, slice_get, true, false};
-ghost use Rattle.asn1_types.specs.declared.row.Class.TheVariants.{Context as context, Application as application};
+ghost use Rattle.std.specs.Prelude.{◌≡◌, Some, IfOk, slice_get, false};
+ghost use Rattle.asn1_types.specs.declared.row.Class.TheVariants.{Application as application};
 ghost use Rattle.asn1_types.specs.declared.row.TypeRow.TheVariants as row;
 ghost use Rattle.acse.specs.Rows.{acse_rows};
 
 use asn1_types::{Class, Parts, TypeId, TypeRow, TypeTable};
-use fixed_tables::{part, parts_of, table_of, tagged};
+use fixed_tables::{explicit, implicit, part, parts_of, table_of, tagged};
 use osi_base::NoMemory;
 use std::alloc::Global;
 use std::marker::Model;
@@ -102,20 +102,6 @@ fn apdu_parts(alloc: Global) -> Result<Parts, NoMemory>
         part(alloc, "RLRE", 26, false)?,
         part(alloc, "ABRT", 29, false)?,
     ]?))
-}
-
-/// A context tag in the place of a row's own.
-fn implicit(number: u32, inner: u32) -> TypeRow
-    ensures { result ≡ row.Tagged context number false (record { 0 = inner }) }
-{
-    tagged(Class::Context, number, false, inner)
-}
-
-/// A context tag around a row.
-fn explicit(number: u32, inner: u32) -> TypeRow
-    ensures { result ≡ row.Tagged context number true (record { 0 = inner }) }
-{
-    tagged(Class::Context, number, true, inner)
 }
 
 /// The tag of an APDU in the place of a row's own.

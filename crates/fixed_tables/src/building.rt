@@ -3,7 +3,7 @@
 ghost use Rattle.std.specs.Prelude.{◌≡◌, ◌++◌, ◌∷◌, [], None, true, IfOk, OnOk};
 ghost use Rattle.asn1_types.specs.Table.{refusal};
 ghost use Rattle.asn1_types.specs.declared.row.TypeRow.TheVariants.{Tagged};
-ghost use Rattle.fixed_tables.specs.Rows.{part, all_added};
+ghost use Rattle.fixed_tables.specs.Rows.{part, implicit, explicit as around, all_added};
 
 use asn1_types::{Class, Part, Parts, RowRefusal, TypeId, TypeRow, TypeTable};
 use osi_base::{ListOf, Name, NoMemory};
@@ -38,6 +38,20 @@ pub fn tagged(class: Class, number: u32, explicit: bool, inner: u32) -> TypeRow
         explicit,
         inner: TypeId(inner),
     }
+}
+
+/// A context tag in the place of a row's own.
+pub fn implicit(number: u32, inner: u32) -> TypeRow
+    ensures { result ≡ implicit number inner }
+{
+    tagged(Class::Context, number, false, inner)
+}
+
+/// A context tag around a row.
+pub fn explicit(number: u32, inner: u32) -> TypeRow
+    ensures { result ≡ around number inner }
+{
+    tagged(Class::Context, number, true, inner)
 }
 
 /// Puts a row behind the others, of which it is known that it may stand there.

@@ -9,7 +9,7 @@ mod making;
 mod pdu;
 mod values;
 
-pub use building::{part, parts_of, table_of, tagged};
+pub use building::{explicit, implicit, part, parts_of, table_of, tagged};
 pub use laws::{spelled_is_whole, whole_is_spelled};
 pub use lists::{InValue, list_in, list_of};
 pub use making::{any, bits, chosen, integer, object_id, octets, present, sequence};

@@ -1,11 +1,11 @@
 //! The fixed table of the units of the presentation protocol.
 
 ghost use Rattle.std.specs.Prelude.{◌≡◌, ◌++◌, [], map, IfOk};
-ghost use Rattle.fixed_tables.specs.Rows.{part, implicit};
+ghost use Rattle.fixed_tables.specs.Rows.{part};
 ghost use Rattle.presentation_pdus.specs.Rows.{content_parts, pdv_parts, definition_parts, answer_parts, restored_parts, mode_parts, connect_fields_parts, connect_parts, accept_fields_parts, accept_parts, reject_parts, alter_parts, alter_ack_parts, restart_parts, user_abort_parts, provider_abort_parts, rows_of_values, rows_of_definitions, rows_of_fields, rows_of_connections, rows_of_alterations, rows_of_restarts, ppdu_rows};
 
 use asn1_types::{Class, Parts, TypeId, TypeRow, TypeTable};
-use fixed_tables::{part, parts_of, table_of, tagged};
+use fixed_tables::{implicit, part, parts_of, table_of, tagged};
 use osi_base::NoMemory;
 use std::alloc::Global;
 use std::marker::Model;
@@ -25,13 +25,6 @@ impl Model for PpduTable {
     ghost view = { λ table. tt };
 
     ghost invariant = { λ table. table.types ≡ ppdu_rows };
-}
-
-/// A context tag in the place of a row's own.
-fn implicit(number: u32, inner: u32) -> TypeRow
-    ensures { result ≡ implicit number inner }
-{
-    tagged(Class::Context, number, false, inner)
 }
 
 /// The parts that are told, each by its name, the row of its type, and whether it may lack.

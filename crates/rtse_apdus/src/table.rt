@@ -1,13 +1,11 @@
 //! The fixed table of the APDUs of reliable transfer.
 
-ghost use Rattle.std.specs.Prelude.{◌≡◌, Some, IfOk, slice_get, true, [], ◌++◌, take, OnOk, ◌∷◌};
-ghost use Rattle.std.specs.Prelude.{false};
-ghost use Rattle.asn1_types.specs.declared.row.Class.TheVariants.{Context as context};
+ghost use Rattle.std.specs.Prelude.{◌≡◌, Some, IfOk, slice_get};
 ghost use Rattle.asn1_types.specs.declared.row.TypeRow.TheVariants as row;
 ghost use Rattle.rtse_apdus.specs.Rows.{rtse_rows};
 
 use asn1_types::{Class, Parts, TypeId, TypeRow, TypeTable};
-use fixed_tables::{part, parts_of, table_of, tagged};
+use fixed_tables::{explicit, implicit, part, parts_of, table_of, tagged};
 use osi_base::NoMemory;
 use std::alloc::Global;
 use std::marker::Model;
@@ -94,20 +92,6 @@ fn apdu_parts(alloc: Global) -> Result<Parts, NoMemory>
         part(alloc, "turnPlease", 2, false)?,
         part(alloc, "transfer", 3, false)?,
     ]?))
-}
-
-/// A context tag in the place of a row's own.
-fn implicit(number: u32, inner: u32) -> TypeRow
-    ensures { result ≡ row.Tagged context number false (record { 0 = inner }) }
-{
-    tagged(Class::Context, number, false, inner)
-}
-
-/// A context tag around a row.
-fn explicit(number: u32, inner: u32) -> TypeRow
-    ensures { result ≡ row.Tagged context number true (record { 0 = inner }) }
-{
-    tagged(Class::Context, number, true, inner)
 }
 
 /// All rows.
