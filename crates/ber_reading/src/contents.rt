@@ -66,7 +66,7 @@ pub(crate) fn close_behind<'a>(scope: &Scope, spot: Spot<'a>) -> Result<Spot<'a>
 /// Any one value, as octets.
 #[tactic(auto, unfolding(ber_spelling::specs::Rules::any_at))]
 #[inline(never)]
-pub(crate) fn any<'a>(
+pub fn any_value<'a>(
     alloc: Global,
     scope: &Scope,
     opened: &Opened<'a>,
@@ -104,6 +104,6 @@ pub(crate) fn tagged_any<'a>(
     ensures stops { IfOk result (λ x. GoesOn spot.entry.place (length spot.entry.rest.now) x.1) }
 {
     let (inside, first, spot) = open(tag, scope, opened, spot)?;
-    let (value, spot) = any(alloc, &inside, &first, spot)?;
+    let (value, spot) = any_value(alloc, &inside, &first, spot)?;
     Ok((value, close(&inside, spot)?))
 }

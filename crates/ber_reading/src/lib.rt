@@ -8,5 +8,6 @@ mod read;
 mod short_parts;
 
 pub use ber_spelling::ReadFault;
+pub use contents::any_value;
 pub use public::{LIMIT, Read, ber_read, ber_read_within, der_read};
 pub use read::value;

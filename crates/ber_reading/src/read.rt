@@ -14,7 +14,7 @@ ghost use Rattle.ber_spelling.specs.Reading.{begun, Opens, Gives, FailsWith, spo
 ghost use Rattle.ber_spelling.specs.Rules.{all_items_at, list_item_at, list_done, list_at, set_item_at, set_of_done, set_of_at, sequence_at, choice_at, explicit_at, read_by, reads, no_parts_of, nothing_filled, is_free, is_filled, set_done, bare, under, late_at, ordered_at, slot_at, set_at};
 ghost use Rattle.ber_reading.specs.Parts.{found_at, part_from, parts_from};
 
-use crate::contents::{any, close, open, tagged_any};
+use crate::contents::{any_value, close, open, tagged_any};
 use crate::parts::{absent, is_filled, is_free, kept, none_of, settle};
 use crate::short_parts::{integer_ahead, parts_at_once, reach};
 use asn1_types::{
@@ -157,7 +157,7 @@ fn value_as<'a>(
             }
         }
         TypeRow::Any => match tag {
-            None => any(alloc, scope, opened, spot),
+            None => any_value(alloc, scope, opened, spot),
             Some(tag) => tagged_any(alloc, tag, scope, opened, spot),
         },
         TypeRow::Set(parts) => {

@@ -4,7 +4,7 @@ ghost use Rattle.std.specs.Prelude.{◌≡◌, ◌+◌, ◌++◌, ◌<◌, ◌^�
 ghost use Rattle.asn1_types.specs.Value as tree;
 ghost use Rattle.asn1_types.specs.ValueView.{values_of, parts_of};
 ghost use Rattle.ber_spelling.specs.Reading.{Gives, GoesOn, opened_of, spot_of};
-ghost use Rattle.ber_spelling.specs.Rules.{all_items_at, list_item_at, any_at, reads};
+ghost use Rattle.ber_spelling.specs.Rules.{all_items_at, list_item_at, reads};
 ghost use Rattle.passed_fields.specs.Known.{HasRow, HaveRows};
 ghost use Rattle.passed_fields.specs.Passing.{is_of, are_optional, nones, told_behind, told_by, passes};
 ghost use Rattle.passed_fields.specs.Reading as spec;
@@ -12,11 +12,11 @@ ghost use Rattle.passed_fields.specs.Reading.{some_done, some_items_at, some_at,
 
 use crate::field::{Field, Fields, Holds, Passed};
 use asn1_types::{Class, MaybeVals, Node, TypeId, TypeTable, Val, Vals, same_class};
-use ber_reading::value;
+use ber_reading::{any_value, value};
 use ber_spelling::{
     Ahead, Opened, ReadFault, Scope, Spot, Tag, expect, extent, look, refusal, whole_value,
 };
-use osi_base::{Kind, NoMemory, Octets};
+use osi_base::{Kind, NoMemory};
 use std::alloc::Global;
 
 /// A SEQUENCE OF values of a row, at least one, under this tag.
@@ -86,31 +86,6 @@ fn some_list(found: Vals) -> Option<Val>
     })
 }
 
-/// Any one value, as octets.
-#[tactic(auto, unfolding(ber_spelling::specs::Rules::any_at))]
-fn any<'a>(
-    alloc: Global,
-    scope: &Scope,
-    opened: &Opened<'a>,
-    spot: Spot<'a>,
-) -> Result<(Val, Spot<'a>), ReadFault>
-    requires whole { spot.place + length spot.rest.now < 2 ^ 63 }
-    requires start { GoesOn opened.now.start.place (length opened.now.start.rest.now) spot }
-    ensures gives { Gives (λ x. (x.0, spot_of x.1)) result
-        (any_at scope.now (opened_of opened.now) (spot_of spot.entry)) }
-    ensures stops { IfOk result (λ x. GoesOn spot.entry.place (length spot.entry.rest.now) x.1) }
-{
-    let after = whole_value(32, scope, opened, spot)?;
-    let whole = opened.start.rest;
-    let octets = Octets::from_slice(alloc, &whole[..whole.len() - after.rest.len()])?;
-    Ok((
-        Val {
-            node: Node::Any(octets),
-        },
-        after,
-    ))
-}
-
 /// What a known field holds.
 fn held<'a>(
     alloc: Global,
@@ -130,7 +105,7 @@ fn held<'a>(
 {
     match holds {
         Holds::Row(of) => value(alloc, table, of, None, None, scope, opened, spot),
-        Holds::Any => any(alloc, scope, opened, spot),
+        Holds::Any => any_value(alloc, scope, opened, spot),
         Holds::Some(of) => some_values(alloc, table, of, tag, scope, opened, spot),
     }
 }
