@@ -1,32 +1,17 @@
 //! Invocations.
 
 ghost use Rattle.std.specs.Prelude.{◌≡◌, IfOk};
-ghost use Rattle.osi_base.specs.declared.words.ProblemKind.TheVariants as kinds;
-ghost use Rattle.end_rules.specs.Hearing.{carried_in, hear_invoke, problem_with};
+ghost use Rattle.end_rules.specs.Hearing.{carried_in, hear_invoke};
 ghost use Rattle.rose_roles.specs.Hearing.{heard_with};
-ghost use Rattle.rose_roles.specs.declared.taken.RoseTaken.TheVariants as takens;
 ghost use Rattle.association_state.specs.Seen.{base_in};
 
 use crate::problems::invoke_problem;
 use asn1_types::Val;
 use association_state::Ground;
 use open_invocations::Invocations;
-use osi_base::{NoMemory, Problem, ProblemKind};
-use rose_roles::{Called, RoseTaken};
+use osi_base::{NoMemory, ProblemKind};
+use rose_roles::{Called, RoseTaken, rejected};
 use stub_tables::Code;
-
-/// A reject with a problem of this kind and number.
-pub(crate) fn rejected(id: Option<i64>, kind: ProblemKind, number: u8) -> RoseTaken
-    ensures { result ≡ takens.Reject id (problem_with kind number) }
-{
-    RoseTaken::Reject {
-        id,
-        problem: Problem {
-            kind,
-            number: i64::from(number),
-        },
-    }
-}
 
 /// Hears an invocation on a context.
 pub(crate) fn hear_invoke(

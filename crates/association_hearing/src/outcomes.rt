@@ -7,13 +7,12 @@ ghost use Rattle.end_rules.specs.Hearing.{carried_in, hear_result_of, hear_error
 ghost use Rattle.rose_roles.specs.Hearing.{heard_with};
 ghost use Rattle.association_state.specs.Seen.{base_in};
 
-use crate::invocations::rejected;
 use crate::problems::{error_problem, result_problem};
 use asn1_types::Val;
 use association_state::Ground;
 use open_invocations::Invocations;
 use osi_base::{Problem, ProblemKind};
-use rose_roles::{RoseTaken, is_of_invocation};
+use rose_roles::{RoseTaken, is_of_invocation, rejected};
 use stub_tables::Code;
 
 /// Hears a result.

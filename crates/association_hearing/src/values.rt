@@ -9,7 +9,6 @@ ghost use Rattle.association_state.specs.Seen.{base_in, seen};
 ghost use Rattle.association_hearing.specs.Took.{TookAs, Joined};
 
 use crate::apdus::hear_apdu;
-use crate::invocations::rejected;
 use crate::unread::hear_unread;
 use association_answers::{Taken, one_message, quiet, told};
 use association_calls::carrier_in;
@@ -20,7 +19,7 @@ use association_words::{DataWord, Message, Value, ValueContent, Values, Word, sy
 use dialogue::Indication;
 use open_invocations::Invocations;
 use osi_base::{ListOf, NoMemory, Problem, ProblemKind};
-use rose_roles::RoseTaken;
+use rose_roles::{RoseTaken, rejected};
 use stub_tables::Apdu;
 
 /// Hears what a value says.

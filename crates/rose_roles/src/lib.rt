@@ -16,4 +16,4 @@ pub use called::Called;
 pub use invoker::Invoker;
 pub use laws::{always_carries, stays_within};
 pub use performer::Performer;
-pub use taken::{RoseTaken, is_of_invocation, refused};
+pub use taken::{RoseTaken, is_of_invocation, refused, rejected};

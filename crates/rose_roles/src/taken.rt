@@ -53,7 +53,7 @@ pub enum RoseTaken {
 }
 
 /// A reject with a problem of this kind and number.
-pub(crate) fn rejected(id: Option<i64>, kind: ProblemKind, number: u8) -> RoseTaken
+pub fn rejected(id: Option<i64>, kind: ProblemKind, number: u8) -> RoseTaken
     ensures { result ≡ takens.Reject id (problem_with kind number) }
 {
     RoseTaken::Reject {
