@@ -4,20 +4,20 @@ use Rattle.stub_tables.specs.declared.operation.Operation.{Operation}
 use Rattle.stub_tables.specs.Codes.{is_silent}
 use Rattle.dialogue.specs.declared.call.CallRefusal.{CallRefusal}
 use Rattle.dialogue.specs.declared.call.CallRefusal.TheVariants as refusals
-use Rattle.end_rules.specs.Base.{Base}
+use Rattle.end_rules.specs.Base.{Base, most_open, last_invocation}
 use Rattle.end_rules.specs.State.{Body, opens_of}
 use Rattle.end_rules.specs.Invoking.{Reply, next_id, is_queue_full}
 
 -- there is a number, and where one is opened there is room for it
 pub record HasRoom (body : Body) (operation : Operation) : Type 0 where
-  pub numbers : body.calls.made < 2147483647
-  pub room : is_silent operation ≡ false → length (opens_of true body.calls.opens) < 4096
+  pub numbers : body.calls.made < last_invocation
+  pub room : is_silent operation ≡ false → length (opens_of true body.calls.opens) < most_open
 
 -- the last rows of an invocation
 abbrev pub last_rows : Base → Body → Operation → Reply
 last_rows base body operation =
-    if not (is_silent operation) && nat_le 4096 (length (opens_of true body.calls.opens)) then Err refusals.TooManyOpen
-    else (if nat_le 2147483647 body.calls.made then Err refusals.NumbersSpent
+    if not (is_silent operation) && nat_le most_open (length (opens_of true body.calls.opens)) then Err refusals.TooManyOpen
+    else (if nat_le last_invocation body.calls.made then Err refusals.NumbersSpent
     else (if is_queue_full base body then Err refusals.QueueFull
     else Ok (Some (next_id body))))
 

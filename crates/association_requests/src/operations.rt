@@ -5,6 +5,7 @@ ghost use Rattle.std.specs.Prelude.{◌≡◌, ◌<◌, ◌+◌, pos, Some, None
 ghost use Rattle.dialogue.specs.declared.call.Call.TheVariants as the_calls;
 ghost use Rattle.stub_tables.specs.Lookup.{operation_at};
 ghost use Rattle.dialogue.specs.declared.config.Mode.TheVariants.{Direct, Bare};
+ghost use Rattle.end_rules.specs.Base.{last_invocation};
 ghost use Rattle.end_rules.specs.State.{opened_with};
 ghost use Rattle.end_rules.specs.Hearing.{is_silent_at};
 ghost use Rattle.end_rules.specs.Invoking.{next_id, can_invoke, can_answer, can_refuse};
@@ -79,7 +80,7 @@ fn is_silent_at(basis: &Ground<'_>, place: u32) -> bool
 
 /// Counts the next own invocation, which is never open.
 fn pass(body: &mut Body) -> Result<i64, NoMemory>
-    requires { (seen body.old).calls.made < 2147483647 }
+    requires { (seen body.old).calls.made < last_invocation }
     ensures id { IfOk result (λ id. id ≡ pos ((seen body.old).calls.made + 1)) }
     ensures passed { OnOk result (seen body.new ≡ record (seen body.old) {
       calls = record (seen body.old).calls { made = (seen body.old).calls.made + 1 };

@@ -9,7 +9,7 @@ use Rattle.stub_tables.specs.Codes.{is_silent}
 use Rattle.stub_tables.specs.Uses.{is_carried}
 use Rattle.dialogue.specs.declared.call.CallRefusal.{CallRefusal}
 use Rattle.dialogue.specs.declared.call.CallRefusal.TheVariants as refusals
-use Rattle.end_rules.specs.Base.{Base}
+use Rattle.end_rules.specs.Base.{Base, most_open, last_invocation}
 use Rattle.end_rules.specs.State.{Body, Calls, OpenCall, opens_of}
 use Rattle.end_rules.specs.Invoking.{Reply, is_too_long, error_apdu, can_send_outcome}
 use Rattle.bare_end.specs.declared.sending.Checked as checkeds
@@ -28,8 +28,8 @@ IsChecked can answer text (checked.Sends octets) = (can ≡ Ok answer) × (octet
 
 -- the end has a number for one more invocation of the operation, and room where it isn't silent
 pub record HasRoom (calls : Calls) (operation : Operation) : Type 0 where
-  pub number : calls.made < 2147483647
-  pub room : is_silent operation ≡ false → length (opens_of true calls.opens) < 4096
+  pub number : calls.made < last_invocation
+  pub room : is_silent operation ≡ false → length (opens_of true calls.opens) < most_open
 
 abbrev pub IsFree : Calls → Operation → checkeds.Checked → Type 0
 IsFree calls operation (checked.Refused refusal) = Unit {0}

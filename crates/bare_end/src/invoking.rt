@@ -7,6 +7,7 @@ ghost use Rattle.stub_tables.specs.Lookup.{operation_at};
 ghost use Rattle.apdu_spelling.specs.Writing.{written_apdu};
 ghost use Rattle.dialogue.specs.declared.call.Call.TheVariants as the_calls;
 ghost use Rattle.dialogue.specs.declared.call.CallRefusal.TheVariants as refusals;
+ghost use Rattle.end_rules.specs.Base.{most_open, last_invocation};
 ghost use Rattle.end_rules.specs.State.{opens_of};
 ghost use Rattle.end_rules.specs.Hearing.{opening};
 ghost use Rattle.end_rules.specs.Invoking.{Reply, next_id, is_on_module, is_linked_to, linking_refusal, unless_refused, invoke_apdu, can_send_invoke, can_invoke};
@@ -104,8 +105,8 @@ impl<'t> End<'t> {
     fn room_refusal(&self, operation: &Operation) -> Option<CallRefusal>
         ensures { (go : Reply) → IsNumbered self.now.calls operation.now result
             (if not (is_silent operation.now)
-            && nat_le 4096 (length (opens_of true self.now.calls.opens)) then Err
-            refusals.TooManyOpen else (if nat_le 2147483647 self.now.calls.made then Err
+            && nat_le most_open (length (opens_of true self.now.calls.opens)) then Err
+            refusals.TooManyOpen else (if nat_le last_invocation self.now.calls.made then Err
             refusals.NumbersSpent else go)) go }
     {
         if !operation.is_silent() && self.invocations.own_count() >= MOST_OPEN {

@@ -7,7 +7,7 @@ use Rattle.linked_ops.specs.Entries.{Entry}
 use Rattle.rose_roles.specs.Calls.{Kept, Invoking, AreOpen, opens_in}
 use Rattle.rose_roles.specs.declared.called.Called.{Called}
 use Rattle.rose_roles.specs.Heads.{HeadCarries}
-use Rattle.end_rules.specs.Base.{Carried}
+use Rattle.end_rules.specs.Base.{Carried, last_invocation}
 use Rattle.end_rules.specs.State.{OpenCall, opened_with}
 
 -- The keys of the forest are what each end has open; no own number is open that wasn't given yet.
@@ -15,7 +15,7 @@ pub record AreKept (forest : List Entry) (invoking : Invoking) (performed : Kept
   pub own : AreOpen true forest invoking.kept
   pub peer : AreOpen false forest performed
   pub fresh : (n : ℕ) → invoking.made < n → opened_with true (pos n) (opens_in forest invoking.kept performed) ≡ None
-  pub most : invoking.made ≤ 2147483647
+  pub most : invoking.made ≤ last_invocation
 
 -- a link names an open invocation of the peer
 abbrev pub is_link : Option ℤ → List OpenCall → Bool

@@ -3,7 +3,7 @@
 ghost use Rattle.std.specs.Prelude.{◌≡◌, ◌<◌, ◌≤◌, ◌+◌, ◌++◌, ◌∷◌, [], length, pos, true, false, is_some, None, IfOk, OnOk, OnErr};
 ghost use Rattle.rose_roles.specs.Hearing.{Hears};
 ghost use Rattle.end_rules.specs.State.{opened_with, opens_of, close};
-ghost use Rattle.end_rules.specs.Base.{Base};
+ghost use Rattle.end_rules.specs.Base.{Base, most_open, last_invocation};
 ghost use Rattle.end_rules.specs.Hearing.{opening};
 ghost use Rattle.open_invocations.specs.Invocations.{is_link, is_link_back, called_in, operation_in, SomeCarried};
 
@@ -98,7 +98,7 @@ impl Invocations {
     /// How many own invocations were made.
     pub fn made(&self) -> u32
         ensures is { result ≡ self.now.made }
-        ensures most { result ≤ 2147483647 }
+        ensures most { result ≤ last_invocation }
     {
         self.invoker.made()
     }
@@ -110,8 +110,8 @@ impl Invocations {
         context: u32,
         linked: Option<i64>,
     ) -> Result<i64, NoMemory>
-        requires numbers { self.old.made < 2147483647 }
-        requires room { length (opens_of true self.old.opens) < 4096 }
+        requires numbers { self.old.made < last_invocation }
+        requires room { length (opens_of true self.old.opens) < most_open }
         requires linked { is_link linked self.old.opens ≡ true }
         ensures id { IfOk result (λ id. id ≡ pos (self.old.made + 1)) }
         ensures opened { OnOk result (self.new
@@ -135,7 +135,7 @@ impl Invocations {
 
     /// Counts an own invocation that is never open.
     pub fn pass(&mut self) -> i64
-        requires { self.old.made < 2147483647 }
+        requires { self.old.made < last_invocation }
         ensures id { result ≡ pos (self.old.made + 1) }
         ensures passed { self.new ≡ record self.old { made = self.old.made + 1 } }
     {

@@ -11,7 +11,7 @@ use Rattle.stub_tables.specs.Codes.{is_silent, is_error_of}
 use Rattle.stub_tables.specs.Lookup.{operation_at, error_at, operation_with}
 use Rattle.stub_tables.specs.Uses.{is_carried}
 use Rattle.stub_tables.specs.Apdus.{placed}
-use Rattle.end_rules.specs.Base.{Carried, Absent, Spelled, Unspelled}
+use Rattle.end_rules.specs.Base.{Carried, Absent, Spelled, Unspelled, most_open}
 use Rattle.end_rules.specs.State.{is_empty}
 use Rattle.end_rules.specs.Invoking.{is_linked_to}
 use Rattle.end_rules.specs.Hearing.{first_problem, problem_if, has_links, is_place}
@@ -48,7 +48,7 @@ known_problem tables invoked linked (Some place) = linking_problem tables invoke
 abbrev pub early_problem : Tables → Kept → Kept → ℤ → Option ℤ → Option ℕ → Option ℕ
 early_problem tables invoked performed id linked place =
     first_problem (problem_if (is_some (called id performed)) 0)
-    (first_problem (problem_if (nat_le 4096 (length performed) && not (silent (placed (operation_at tables) place))) 3)
+    (first_problem (problem_if (nat_le most_open (length performed) && not (silent (placed (operation_at tables) place))) 3)
     (known_problem tables invoked linked place))
 
 -- ---- values

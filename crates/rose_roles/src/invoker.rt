@@ -6,7 +6,7 @@ ghost use Rattle.std.specs.Ordering.{int_cmp};
 ghost use Rattle.linked_ops.specs.Entries.{Entry, IsForest, is_open, is_open_or_none};
 ghost use Rattle.apdu_spelling.specs.declared.head.ApduKind.TheVariants as kinds;
 ghost use Rattle.stub_tables.specs.Lookup.{error_with};
-ghost use Rattle.end_rules.specs.Base.{Base, ResultHead, ErrorHead, RejectHead};
+ghost use Rattle.end_rules.specs.Base.{Base, ResultHead, ErrorHead, RejectHead, most_open, last_invocation};
 ghost use Rattle.end_rules.specs.State.{close, opens_of};
 ghost use Rattle.end_rules.specs.Hearing.{hear, is_of_invocation};
 ghost use Rattle.rose_roles.specs.Heads.{is_invocation, reject_by, Carries, use_by, parameter_placed};
@@ -89,8 +89,8 @@ impl Invoker {
         called: Called,
         linked: Option<i64>,
     ) -> Result<i64, NoMemory>
-        requires numbers { self.old.made < 2147483647 }
-        requires room { length self.old.kept < 4096 }
+        requires numbers { self.old.made < last_invocation }
+        requires room { length self.old.kept < most_open }
         requires fresh { is_open (key_of true (pos (self.old.made + 1))) forest.old ≡ false }
         requires linked { is_open_or_none (option_map (key_of false) linked) forest.old ≡ true }
         requires own { AreOpen true forest.old self.old.kept }
@@ -121,7 +121,7 @@ impl Invoker {
 
     /// Counts an invocation that is never open, and answers its identifier.
     pub fn pass(&mut self) -> i64
-        requires { self.old.made < 2147483647 }
+        requires { self.old.made < last_invocation }
         ensures id { result ≡ pos (self.old.made + 1) }
         ensures passed { self.new ≡ record self.old { made = self.old.made + 1 } }
     {

@@ -6,7 +6,7 @@ ghost use Rattle.stub_tables.specs.Lookup.{operation_at};
 ghost use Rattle.stub_tables.specs.Apdus.{placed, argument_of};
 ghost use Rattle.apdu_spelling.specs.declared.head.ApduKind.TheVariants as kinds;
 ghost use Rattle.linked_ops.specs.Entries.{Entry, IsForest, is_open, is_open_or_none};
-ghost use Rattle.end_rules.specs.Base.{Base, Carried};
+ghost use Rattle.end_rules.specs.Base.{Base, Carried, most_open};
 ghost use Rattle.end_rules.specs.State.{close, opens_of};
 ghost use Rattle.end_rules.specs.Hearing.{opening, invoked, value_in, first_problem, problem_if};
 ghost use Rattle.rose_roles.specs.Calls.{Kept, Invoking, called, key_of, AreOpen, calls_of, opens_in};
@@ -160,7 +160,7 @@ impl Performer {
 
     /// Whether no more invocation is opened, and this is one that would be.
     fn is_full(&self, tables: &Tables, place: Option<u32>) -> bool
-        ensures { result ≡ (nat_le 4096 (length self.now.kept)
+        ensures { result ≡ (nat_le most_open (length self.now.kept)
             && not (silent (placed (operation_at tables.now) place))) }
     {
         let many = self.open_count() >= 4096;
