@@ -1,5 +1,6 @@
 pub mod Faults
 pub mod Laws
+pub mod Pdvs
 pub mod Printed
 pub mod Rows
 pub mod Values

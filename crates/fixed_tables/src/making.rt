@@ -1,6 +1,6 @@
 //! Values made of their fields.
 
-ghost use Rattle.std.specs.Prelude.{◌≡◌, ◌++◌, ◌∷◌, [], IfOk, OnOk};
+ghost use Rattle.std.specs.Prelude.{◌≡◌, ◌++◌, ◌∷◌, [], IfOk, OnOk, option_map};
 ghost use Rattle.asn1_types.specs.Value as tree;
 ghost use Rattle.asn1_types.specs.ValueView.{parts_of};
 
@@ -83,4 +83,14 @@ pub fn bits(alloc: Global, string: &BitString) -> Result<Val, NoMemory>
             unused: string.unused,
         },
     })
+}
+
+/// An object identifier as a part, where there is one.
+pub fn name_part(alloc: Global, name: &Option<Oid>) -> Result<Option<Val>, NoMemory>
+    ensures { IfOk result (λ part. part ≡ option_map tree.object_id name.now) }
+{
+    match name {
+        Some(name) => Ok(Some(object_id(alloc, name)?)),
+        None => Ok(None),
+    }
 }

@@ -1,15 +1,12 @@
 -- Items of lists in units of the presentation protocol, and the values that they stand for (X.226 8.2 to 8.4).
-use Rattle.std.specs.Prelude.{◌==◌, ℕ, pos, List, [], ◌∷◌, map, Option, Some, None, option_map, if◌then◌else◌}
+use Rattle.std.specs.Prelude.{ℕ, pos, List, [], ◌∷◌, map, Option, Some, None, option_map}
 use Rattle.osi_base.specs.declared.bit_string.BitString as strings
 use Rattle.osi_base.specs.declared.words.Proposal as proposals
 use Rattle.osi_base.specs.declared.words.AddAnswer as answers
 use Rattle.osi_base.specs.declared.words.RestoredItem as restored
-use Rattle.osi_base.specs.declared.presentation_word.Pdv as pdvs
-use Rattle.osi_base.specs.declared.presentation_word.PdvContent as contents
-use Rattle.osi_base.specs.declared.presentation_word.PdvContent.TheVariants as content
-use Rattle.asn1_types.specs.Value.{Value, integer, octets, bits, object_id, parts, list, chosen, any}
+use Rattle.asn1_types.specs.Value.{Value, integer, bits, object_id, parts, list}
 use Rattle.asn1_types.specs.ValueView.{parts_of, values_of}
-use Rattle.fixed_tables.specs.Values.{part_in, small_or, octet_or, octets_in, arcs_in, maybe_arcs, maybe_bits, items_in, alternative, inside}
+use Rattle.fixed_tables.specs.Values.{part_in, small_or, octet_or, arcs_in, maybe_arcs, items_in}
 
 abbrev pub number_value : ℕ → Value
 number_value n = integer (pos n)
@@ -25,10 +22,6 @@ name_in v = arcs_in (Some v)
 
 abbrev pub bits_value : strings.BitString → Value
 bits_value string = bits string.octets string.unused
-
-abbrev pub bits_or_none : Option strings.BitString → strings.BitString
-bits_or_none None = record { octets = []; unused = 0 }
-bits_or_none (Some string) = string
 
 -- a list, and a list that doesn't stand where it has no items
 abbrev pub list_value : {X : Type 0} → (X → Value) → List X → Value
@@ -58,21 +51,3 @@ restored_value r = parts (parts_of (Some (number_value r.id) ∷ Some (object_id
 
 abbrev pub restored_in : Value → restored.RestoredItem
 restored_in v = record { id = small_or (pos 0) (part_in 0 (Some v)); transfer = arcs_in (part_in 1 (Some v)) }
-
--- a presentation data value in its form
-abbrev pub content_value : contents.PdvContent → Value
-content_value (content.SingleAsn1Type os) = chosen 0 (any os)
-content_value (content.OctetAligned os) = chosen 1 (octets os)
-content_value (content.Arbitrary string) = chosen 2 (bits_value string)
-
-abbrev pub content_in : Option Value → contents.PdvContent
-content_in v =
-    if alternative v == 0 then content.SingleAsn1Type (octets_in (inside v))
-    else (if alternative v == 1 then content.OctetAligned (octets_in (inside v)) else content.Arbitrary (bits_or_none (maybe_bits (inside v))))
-
--- transfer syntax name, identifier, and the value
-abbrev pub pdv_value : pdvs.Pdv → Value
-pdv_value p = parts (parts_of (option_map object_id p.transfer ∷ Some (number_value p.id) ∷ Some (content_value p.content) ∷ []))
-
-abbrev pub pdv_in : Value → pdvs.Pdv
-pdv_in v = record { transfer = maybe_arcs (part_in 0 (Some v)); id = small_or (pos 0) (part_in 1 (Some v)); content = content_in (part_in 2 (Some v)) }

@@ -11,7 +11,8 @@ use Rattle.osi_base.specs.declared.presentation_word.PresentationWord as units
 use Rattle.osi_base.specs.declared.presentation_word.PresentationWord.TheVariants as unit
 use Rattle.asn1_types.specs.Value.{Value}
 use Rattle.fixed_tables.specs.Values.{part_in, number_or, maybe_octets, maybe_bits, items_in, alternative, inside}
-use Rattle.presentation_pdus.specs.Items.{number_in, octet_in, definition_in, answer_in, restored_in, pdv_in}
+use Rattle.fixed_tables.specs.Pdvs.{pdv_in}
+use Rattle.presentation_pdus.specs.Items.{number_in, octet_in, definition_in, answer_in, restored_in}
 
 abbrev pub integer_in : Value → ℤ
 integer_in v = number_or (pos 0) (Some v)

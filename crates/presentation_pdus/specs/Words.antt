@@ -9,7 +9,8 @@ use Rattle.asn1_types.specs.Value.{Value, integer, octets, parts}
 use Rattle.asn1_types.specs.ValueView.{parts_of}
 use Rattle.asn1_types.specs.Writing.{written}
 use Rattle.presentation_pdus.specs.Rows.{connect_row, accept_row, reject_row, alter_row, alter_ack_row, restart_row, user_abort_row, provider_abort_row, data_row, ppdu_rows}
-use Rattle.presentation_pdus.specs.Items.{number_value, bits_value, list_value, some_list, definition_value, answer_value, restored_value, pdv_value}
+use Rattle.fixed_tables.specs.Pdvs.{pdv_value}
+use Rattle.presentation_pdus.specs.Items.{number_value, bits_value, list_value, some_list, definition_value, answer_value, restored_value}
 
 -- normal mode (X.226 8.2.1)
 abbrev pub normal_mode : Value

@@ -3,17 +3,15 @@
 ghost use Rattle.std.specs.Prelude.{◌≡◌, IfOk, option_map};
 ghost use Rattle.std.specs.Option.{option_copied};
 ghost use Rattle.asn1_types.specs.Value as tree;
-ghost use Rattle.presentation_pdus.specs.Items as spec;
-ghost use Rattle.presentation_pdus.specs.Items.{number_value, number_in, octet_in, name_in, bits_value, bits_or_none, list_value, some_list, definition_value, definition_in, answer_value, answer_in, restored_value, restored_in, content_value, content_in, pdv_value, pdv_in};
+ghost use Rattle.presentation_pdus.specs.Items.{number_value, number_in, octet_in, name_in, list_value, some_list, definition_value, definition_in, answer_value, answer_in, restored_value, restored_in};
+ghost use Rattle.fixed_tables.specs.Pdvs.{pdv_value, pdv_in};
 
 use asn1_types::Val;
 use fixed_tables::{
-    InValue, alternative, any, bits, chosen, inside, integer, list_in, list_of, maybe_bits,
-    maybe_oid, object_id, octet, octets, octets_in, oid_in, part_in, sequence, small,
+    InValue, integer, list_in, list_of, maybe_oid, name_part, object_id, octet, oid_in, part_in,
+    pdv_in, pdv_value, sequence, small,
 };
-use osi_base::{
-    AddAnswer, BitString, ListOf, NoMemory, Octets, Oid, Pdv, PdvContent, Proposal, RestoredItem,
-};
+use osi_base::{AddAnswer, ListOf, NoMemory, Oid, Pdv, Proposal, RestoredItem};
 use std::alloc::Global;
 
 /// Identifiers of contexts.
@@ -102,15 +100,6 @@ impl InValue for Definitions {
 }
 
 /// A name as a part.
-fn name_part(alloc: Global, name: &Option<Oid>) -> Result<Option<Val>, NoMemory>
-    ensures { IfOk result (λ part. part ≡ option_map tree.object_id name.now) }
-{
-    match name {
-        Some(name) => Ok(Some(object_id(alloc, name)?)),
-        None => Ok(None),
-    }
-}
-
 /// A small number as a part.
 pub(crate) fn octet_part(number: Option<u8>) -> Option<Val>
     ensures { result ≡ option_map number_value number }
@@ -185,42 +174,6 @@ impl InValue for Restored {
     }
 }
 
-fn bits_or_none(alloc: Global, string: Option<BitString>) -> BitString
-    ensures { result ≡ bits_or_none string }
-{
-    match string {
-        Some(string) => string,
-        None => BitString {
-            octets: Octets::new(alloc),
-            unused: 0,
-        },
-    }
-}
-
-fn content_in(alloc: Global, value: Option<&Val>) -> Result<PdvContent, NoMemory>
-    ensures { IfOk result (λ x. x ≡ content_in (option_copied value.entry)) }
-{
-    let inner = inside(value);
-    match alternative(value) {
-        0 => Ok(PdvContent::SingleAsn1Type(octets_in(alloc, inner)?)),
-        1 => Ok(PdvContent::OctetAligned(octets_in(alloc, inner)?)),
-        _ => {
-            let string = maybe_bits(alloc, inner)?;
-            Ok(PdvContent::Arbitrary(bits_or_none(alloc, string)))
-        }
-    }
-}
-
-fn content_value(alloc: Global, content: &PdvContent) -> Result<Val, NoMemory>
-    ensures { IfOk result (λ v. v ≡ content_value content.now) }
-{
-    match content {
-        PdvContent::SingleAsn1Type(value) => chosen(alloc, 0, any(alloc, value)?),
-        PdvContent::OctetAligned(value) => chosen(alloc, 1, octets(alloc, value)?),
-        PdvContent::Arbitrary(string) => chosen(alloc, 2, bits(alloc, string)?),
-    }
-}
-
 /// Presentation data values.
 pub(crate) struct DataValues;
 
@@ -232,20 +185,11 @@ impl InValue for DataValues {
     ghost says = { pdv_value };
 
     fn item(alloc: Global, value: &Val) -> Result<Pdv, NoMemory> {
-        Ok(Pdv {
-            transfer: maybe_oid(alloc, part_in(0, Some(value)))?,
-            id: small(part_in(1, Some(value)), 0),
-            content: content_in(alloc, part_in(2, Some(value)))?,
-        })
+        pdv_in(alloc, value)
     }
 
     fn val(alloc: Global, item: &Pdv) -> Result<Val, NoMemory> {
-        let parts = vec![in alloc;
-            name_part(alloc, &item.transfer)?,
-            Some(integer(item.id as i64)),
-            Some(content_value(alloc, &item.content)?),
-        ]?;
-        Ok(sequence(parts))
+        pdv_value(alloc, item)
     }
 }
 

@@ -18,7 +18,8 @@ use Rattle.fixed_tables.specs.Whole.{whole_at}
 use Rattle.fixed_tables.proofs.Sound.{sound_of}
 use Rattle.fixed_tables.proofs.WholeLaws.{whole_is_spelled, spelled_is_whole}
 use Rattle.rtse_apdus.specs.TransferRows.{transfer_row, transfer_rows}
-use Rattle.rtse_apdus.specs.Transfer.{transfer_most, content_in, content_value, pdv_in, pdv_value, of_pdv, transfer_at, written_transfer, SpellsTransfer, IsTransfer, TransferIsSpelled, SpelledTransferIsRead, WrittenTransferIsRead}
+use Rattle.fixed_tables.specs.Pdvs.{content_in, content_value, pdv_in, pdv_value}
+use Rattle.rtse_apdus.specs.Transfer.{transfer_most, of_pdv, transfer_at, written_transfer, SpellsTransfer, IsTransfer, TransferIsSpelled, SpelledTransferIsRead, WrittenTransferIsRead}
 
 pub transfer_rows_added : all_added [] transfer_rows ≡ true
 unfolding refusal nesting openings

@@ -1,21 +1,17 @@
 //! The octets of a transfer: one presentation data value with its context.
 
-ghost use Rattle.std.specs.Prelude.{◌≡◌, Some, IfOk, slice_get, option_map};
-ghost use Rattle.std.specs.Option.{option_copied};
-ghost use Rattle.asn1_types.specs.Value as tree;
+ghost use Rattle.std.specs.Prelude.{◌≡◌, Some, IfOk, slice_get};
 ghost use Rattle.asn1_types.specs.declared.row.TypeRow.TheVariants as row;
-ghost use Rattle.fixed_tables.specs.Values.{maybe_bits};
 ghost use Rattle.fixed_tables.specs.Whole.{GivesWhole};
 ghost use Rattle.rtse_apdus.specs.TransferRows.{transfer_rows};
-ghost use Rattle.rtse_apdus.specs.Transfer.{bits_or_none, content_in, content_value, pdv_in, pdv_value, transfer_at, written_transfer};
+ghost use Rattle.rtse_apdus.specs.Transfer.{transfer_at, written_transfer};
 
-use asn1_types::{Class, Parts, TypeId, TypeRow, TypeTable, Val};
+use asn1_types::{Class, Parts, TypeId, TypeRow, TypeTable};
 use ber_writing::ber_octets;
 use fixed_tables::{
-    PduFault, alternative, any, bits, chosen, inside, integer, maybe_bits, maybe_oid, object_id,
-    octets, octets_in, part, part_in, parts_of, sequence, small, table_of, tagged, whole,
+    PduFault, part, parts_of, pdv_in, pdv_value, table_of, tagged, whole,
 };
-use osi_base::{BitString, NoMemory, Octets, Oid, Pdv, PdvContent};
+use osi_base::{NoMemory, Octets, Pdv};
 use std::alloc::Global;
 use std::marker::Model;
 
@@ -83,71 +79,6 @@ fn rows(alloc: Global) -> Result<Vec<TypeRow>, NoMemory>
         TypeRow::Choice(form_parts(alloc)?),
         TypeRow::Sequence(value_parts(alloc)?),
     ]?)
-}
-
-fn bits_in(alloc: Global, value: Option<&Val>) -> Result<BitString, NoMemory>
-    ensures { IfOk result (λ x. x ≡ bits_or_none (maybe_bits (option_copied value.entry))) }
-{
-    match maybe_bits(alloc, value)? {
-        Some(string) => Ok(string),
-        None => Ok(BitString {
-            octets: Octets::new(alloc),
-            unused: 0,
-        }),
-    }
-}
-
-fn content_in(alloc: Global, value: Option<&Val>) -> Result<PdvContent, NoMemory>
-    ensures { IfOk result (λ x. x ≡ content_in (option_copied value.entry)) }
-{
-    let inner = inside(value);
-    match alternative(value) {
-        0 => Ok(PdvContent::SingleAsn1Type(octets_in(alloc, inner)?)),
-        1 => Ok(PdvContent::OctetAligned(octets_in(alloc, inner)?)),
-        _ => Ok(PdvContent::Arbitrary(bits_in(alloc, inner)?)),
-    }
-}
-
-/// What a value says.
-fn pdv_in(alloc: Global, value: &Val) -> Result<Pdv, NoMemory>
-    ensures { IfOk result (λ x. x ≡ pdv_in value.now) }
-{
-    Ok(Pdv {
-        transfer: maybe_oid(alloc, part_in(0, Some(value)))?,
-        id: small(part_in(1, Some(value)), 0),
-        content: content_in(alloc, part_in(2, Some(value)))?,
-    })
-}
-
-fn content_value(alloc: Global, content: &PdvContent) -> Result<Val, NoMemory>
-    ensures { IfOk result (λ v. v ≡ content_value content.now) }
-{
-    match content {
-        PdvContent::SingleAsn1Type(value) => chosen(alloc, 0, any(alloc, value)?),
-        PdvContent::OctetAligned(value) => chosen(alloc, 1, octets(alloc, value)?),
-        PdvContent::Arbitrary(string) => chosen(alloc, 2, bits(alloc, string)?),
-    }
-}
-
-fn name_part(alloc: Global, name: &Option<Oid>) -> Result<Option<Val>, NoMemory>
-    ensures { IfOk result (λ part. part ≡ option_map tree.object_id name.now) }
-{
-    match name {
-        Some(oid) => Ok(Some(object_id(alloc, oid)?)),
-        None => Ok(None),
-    }
-}
-
-/// The value that says a presentation data value with its context.
-fn pdv_value(alloc: Global, pdv: &Pdv) -> Result<Val, NoMemory>
-    ensures { IfOk result (λ v. v ≡ pdv_value pdv.now) }
-{
-    let parts = vec![in alloc;
-        name_part(alloc, &pdv.transfer)?,
-        Some(integer(pdv.id as i64)),
-        Some(content_value(alloc, &pdv.content)?),
-    ]?;
-    Ok(sequence(parts))
 }
 
 impl TransferTable {

@@ -12,7 +12,7 @@ use Rattle.asn1_types.specs.Fits.{is_octet, has_form}
 use Rattle.asn1_types.proofs.FitLaws.{fits_has_form}
 use Rattle.asn1_types.specs.Whole.{is_whole}
 use Rattle.asn1_types.specs.Writing.{written}
-use Rattle.rtse_apdus.specs.Transfer.{pdv_value}
+use Rattle.fixed_tables.specs.Pdvs.{pdv_value}
 use Rattle.rtse_apdus.specs.TransferRows.{transfer_row, transfer_rows}
 use Rattle.stub_tables.specs.declared.tables.Tables.{Tables}
 use Rattle.stub_tables.specs.declared.operation.Code.{Code}

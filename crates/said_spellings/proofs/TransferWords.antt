@@ -14,7 +14,8 @@ use Rattle.osi_base.specs.declared.session_word.SessionWord.TheVariants as units
 use Rattle.asn1_types.specs.Fits.{is_octet}
 use Rattle.presentation_pdus.specs.declared.place.PpduPlace.TheVariants as place
 use Rattle.presentation_pdus.specs.Words.{written_ppdu}
-use Rattle.rtse_apdus.specs.Transfer.{pdv_value, written_transfer, IsTransfer}
+use Rattle.fixed_tables.specs.Pdvs.{pdv_value}
+use Rattle.rtse_apdus.specs.Transfer.{written_transfer, IsTransfer}
 use Rattle.rtse_apdus.specs.TransferRows.{transfer_row, transfer_rows}
 use Rattle.rtse_apdus.specs.Written.{written_rtse}
 use Rattle.spdu_codec.specs.Written.{mark_numeral, numeral}

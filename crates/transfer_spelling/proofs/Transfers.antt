@@ -14,7 +14,8 @@ use Rattle.asn1_types.specs.Whole.{is_whole}
 use Rattle.asn1_types.specs.Writing.{written, writes, integer_octets, definite}
 use Rattle.ber_spelling.proofs.WholeSpelled.{der_is_whole}
 use Rattle.packed_laws.proofs.Octets.{append-are, packed-octets}
-use Rattle.rtse_apdus.specs.Transfer.{pdv_value, written_transfer}
+use Rattle.fixed_tables.specs.Pdvs.{pdv_value}
+use Rattle.rtse_apdus.specs.Transfer.{written_transfer}
 use Rattle.rtse_apdus.specs.TransferRows.{transfer_row, transfer_rows}
 use Rattle.stub_tables.specs.declared.tables.Tables.{Tables}
 use Rattle.stub_tables.specs.declared.operation.Use.{Use}
