@@ -82,7 +82,9 @@ pub enum TypeRow {
     Boolean,
     /// INTEGER from `low` to `high`, both included.
     Integer {
+        /// The least number.
         low: i64,
+        /// The greatest number.
         high: i64,
     },
     /// ENUMERATED.
@@ -91,6 +93,7 @@ pub enum TypeRow {
     Null,
     /// OCTET STRING of at most `most` octets.
     OctetString {
+        /// How many octets at most.
         most: u32,
     },
     /// BIT STRING.
@@ -112,9 +115,13 @@ pub enum TypeRow {
     /// A type with a tag of its own, around the inner type's (explicit) or in its place. Over an
     /// untagged CHOICE or an `Any` each tag is explicit, also where `explicit` is false.
     Tagged {
+        /// The tag's class.
         class: Class,
+        /// The tag's number.
         number: u32,
+        /// Whether the tag stands around the inner type's own.
         explicit: bool,
+        /// The row of the inner type.
         inner: TypeId,
     },
     /// One whole BER value, kept as octets.

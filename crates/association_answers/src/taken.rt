@@ -28,8 +28,11 @@ pub enum Reaction {
     Takes(Taken),
     /// It ends the association by an own abort, which is sent, if any is.
     Fails {
+        /// Why it ends.
         fault: Fault,
+        /// The messages that are sent then, in their order.
         aborts: Messages,
+        /// The indications shown to the user, in their order.
         shown: Indications,
     },
 }

@@ -14,25 +14,36 @@ pub enum Call {
     Open,
     /// Invokes the operation at this place on a context, linked to a peer's invocation or not.
     Invoke {
+        /// The identifier of the presentation context.
         context: u32,
+        /// The operation's place in the module's table, counted from 0.
         operation: u32,
+        /// The argument, where there is one.
         argument: Option<Val>,
+        /// The identifier of the peer's invocation that it is linked to, if it is.
         linked: Option<i64>,
     },
     /// Returns the result of the peer's invocation of this identifier.
     Answer {
+        /// The identifier of the peer's invocation.
         id: i64,
+        /// The value of the result, where it has one.
         result: Option<Val>,
     },
     /// Returns an error for the peer's invocation of this identifier.
     Refuse {
+        /// The identifier of the peer's invocation.
         id: i64,
+        /// The error's place in the module's table, counted from 0.
         error: u32,
+        /// The error's parameter, where there is one.
         parameter: Option<Val>,
     },
     /// Asks for an alteration of the context set.
     Alter {
+        /// The contexts that are proposed.
         add: Proposals,
+        /// The identifiers of the contexts to be deleted.
         delete: Ids,
     },
     /// Sets a mark, in direct mode.
@@ -41,10 +52,12 @@ pub enum Call {
     Give,
     /// Asks the peer for the turn, with this priority.
     Please {
+        /// The priority; 0 is the highest.
         priority: u32,
     },
     /// Restarts the dialogue at the mark of this number, in direct mode.
     Resync {
+        /// The mark's number.
         n: u32,
     },
     /// Interrupts the own activity, in reliable mode.

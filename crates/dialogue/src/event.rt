@@ -9,9 +9,19 @@ use osi_base::{ListOf, Octets, Side};
 #[derive(Debug, Drop)]
 pub enum Event {
     /// A call at one side.
-    Call { side: Side, call: Call },
+    Call {
+        /// The end that is called.
+        side: Side,
+        /// What it is asked.
+        call: Call,
+    },
     /// At most so many octets that wait at that side, or all, go to the other side.
-    Carry { side: Side, most: Option<u32> },
+    Carry {
+        /// The end that gives octets out.
+        side: Side,
+        /// How many octets at most; all where it is absent.
+        most: Option<u32>,
+    },
     /// The connection breaks.
     Break,
 }
@@ -33,14 +43,20 @@ pub struct Carried {
 pub enum Entry {
     /// A call at one side, with the end's answer.
     Call {
+        /// The end that was called.
         side: Side,
+        /// What it was asked.
         call: Call,
+        /// What it answered: the identifier of an invocation, nothing, or why it refused.
         answer: Result<Option<i64>, CallRefusal>,
     },
     /// A carry from one side to the other, with what it did.
     Carry {
+        /// The end that gave octets out.
         side: Side,
+        /// How many octets at most; all where it is absent.
         most: Option<u32>,
+        /// The octets, and what the other end told of them.
         carried: Carried,
     },
     /// The connection broke.

@@ -13,8 +13,11 @@ use std::fmt;
 pub enum TableFault {
     /// What stands at this line and column, both counted from 1, columns in octets.
     At {
+        /// The line, counted from 1.
         line: u32,
+        /// The column in octets, counted from 1.
         column: u32,
+        /// What is wrong there.
         kind: TableKind,
     },
     /// An allocation was refused.

@@ -38,8 +38,11 @@ pub enum ModuleFault {
     /// What stands at this line and column: in a text both are counted from 1, columns in octets;
     /// in a table file the line is 0, and the column is the place, counted in octets from 0.
     At {
+        /// The line, counted from 1; 0 in a table file.
         line: u32,
+        /// The column in octets, counted from 1; in a table file the place, counted from 0.
         column: u64,
+        /// What is wrong there.
         kind: ModuleKind,
     },
     /// An allocation was refused.

@@ -56,8 +56,11 @@ impl fmt::Display for NotationKind {
 pub enum NotationFault {
     /// What stands at this line and column, both counted from 1, columns in octets.
     At {
+        /// The line, counted from 1.
         line: u32,
+        /// The column in octets, counted from 1.
         column: u32,
+        /// What is wrong there.
         kind: NotationKind,
     },
     /// An allocation was refused.

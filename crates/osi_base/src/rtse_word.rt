@@ -13,7 +13,12 @@ pub enum ConnectionData {
     /// `[0]`: one whole BER value of any type.
     Open(Octets),
     /// `[1]`: the reference and the common reference of the association.
-    Recover { reference: Octets, common: Octets },
+    Recover {
+        /// The reference of the association.
+        reference: Octets,
+        /// Its common reference.
+        common: Octets,
+    },
 }
 
 /// One APDU of reliable transfer. A field that lacks has its default.

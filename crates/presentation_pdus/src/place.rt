@@ -41,8 +41,11 @@ pub enum PpduFault {
     /// with the provider's reason for an abort (X.226 8.3): 1, a unit that isn't known there, or 6,
     /// another fault in it.
     At {
+        /// The field's first octet, counted from 0.
         place: usize,
+        /// How the field breaks the grammar.
         kind: Kind,
+        /// The provider's reason, 1 or 6.
         reason: u8,
     },
     /// Memory was refused.

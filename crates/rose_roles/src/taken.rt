@@ -17,37 +17,52 @@ use osi_base::{NoMemory, Problem, ProblemKind};
 pub enum RoseTaken {
     /// The peer invoked an operation, as a place in the table of operations.
     Invoked {
+        /// The identifier of the peer's invocation.
         id: i64,
+        /// The operation's place in the module's table, counted from 0.
         operation: u32,
+        /// The identifier of the own invocation that it is linked to, if it is.
         linked: Option<i64>,
+        /// The argument, where there is one.
         argument: Option<Val>,
     },
     /// An own invocation got its result.
     Result {
+        /// The identifier of the own invocation.
         id: i64,
+        /// The value of the result, where it has one.
         value: Option<Val>,
     },
     /// An own invocation got an error, as a place in the table of errors.
     Error {
+        /// The identifier of the own invocation.
         id: i64,
+        /// The error's place in the module's table, counted from 0.
         error: u32,
+        /// The error's parameter, where there is one.
         parameter: Option<Val>,
     },
     /// An own invocation was rejected.
     Rejected {
+        /// The identifier of the own invocation.
         id: i64,
+        /// The problem that the peer found.
         problem: Problem,
     },
     /// A reject of anything else.
     RejectTaken {
+        /// The identifier that the reject tells, if it tells one.
         id: Option<i64>,
+        /// The problem that the peer found.
         problem: Problem,
     },
     /// A reject that can't be read.
     BadReject,
     /// The APDU is rejected.
     Reject {
+        /// The identifier of the APDU, if it has one that can be read.
         id: Option<i64>,
+        /// The problem that is told.
         problem: Problem,
     },
 }

@@ -18,25 +18,36 @@ pub struct Returned {
 pub enum Apdu {
     /// ROIV: an invocation, with the invocation that it is linked to.
     Invoke {
+        /// The identifier of the invocation.
         id: i64,
+        /// The identifier of the invocation that it is linked to, if it is.
         linked: Option<i64>,
+        /// The operation's code.
         code: Code,
+        /// The argument, where there is one.
         argument: Option<Val>,
     },
     /// RORS: the result of an invocation.
     Result {
+        /// The identifier of the invocation.
         id: i64,
+        /// The operation's code and the value, where there is one.
         returned: Option<Returned>,
     },
     /// ROER: the error of an invocation.
     Error {
+        /// The identifier of the invocation.
         id: i64,
+        /// The error's code.
         code: Code,
+        /// The error's parameter, where there is one.
         parameter: Option<Val>,
     },
     /// RORJ: a reject, with the invocation that it is of, where it is told.
     Reject {
+        /// The identifier of the invocation, where it is told.
         id: Option<i64>,
+        /// The problem.
         problem: Problem,
     },
 }
