@@ -2,7 +2,7 @@
 use Rattle.std.proofs.Common.{◌≡◌, ℕ, ◌+◌, ◌<◌, ◌≤◌, Bool, true, false, not, nat_eq, nat_lt, List, [], ◌∷◌, length, Result, Ok, Err, insert, slice_set, filter, refl, ap, ◌∙◌, sym, arith, subst, add-one}
 use Rattle.osi_base.specs.declared.words.SetItem.{SetItem}
 use Rattle.end_rules.specs.Sets.{put, without_context}
-use Rattle.association_sets.specs.Places.{place_of, moved_by, put_at}
+use Rattle.osi_base.specs.SetPlaces.{place_of, moved_by, put_at}
 
 at_next : (new item : SetItem) (items : List SetItem) (r : Result ℕ ℕ) → put_at new (moved_by 1 r) (item ∷ items) ≡ item ∷ put_at new r items
 at_next new item items (Ok place) = rw add-one refl

@@ -3,12 +3,11 @@
 ghost use Rattle.std.specs.Prelude.{◌≡◌, IfOk, OnOk, is_some};
 ghost use Rattle.std.specs.Option.{option_copied};
 ghost use Rattle.end_rules.specs.Sets.{pair_of, put, without_context, may_send, has_abstract, lowest_with, carrier, same_name, is_fixed};
-ghost use Rattle.association_sets.specs.Places.{place_of};
 
 use crate::alteration::Alteration;
 use crate::asking::is_deleted_in;
 use association_ground::{is_acse, is_rtse, same_name};
-use osi_base::{Copied, ListOf, NoMemory, Pair, SetItem, SetList};
+use osi_base::{Copied, ListOf, NoMemory, Pair, SetItem, SetList, place_of};
 use std::alloc::Global;
 
 /// The pair that the set gives an identifier (X.216 3.3.15).
@@ -21,21 +20,6 @@ pub fn pair_of(items: &[SetItem], id: u32) -> Option<&Pair>
         }
     }
     None
-}
-
-/// The place of the context with this identifier, or else the place where one would go.
-fn place_of(items: &[SetItem], id: u32) -> Result<usize, usize>
-    ensures { result ≡ place_of id items.now }
-{
-    for (place, item) in items.iter().enumerate() {
-        if id < item.id {
-            return Err(place);
-        }
-        if id == item.id {
-            return Ok(place);
-        }
-    }
-    Err(items.len())
 }
 
 /// Puts a context into a set, in the place of one with its identifier.

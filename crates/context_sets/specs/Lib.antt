@@ -6,6 +6,5 @@ pub mod Held
 pub mod Asking
 pub mod Policy
 pub mod Results
-pub mod Places
 pub mod Met
 pub mod Laws

@@ -3,9 +3,8 @@
 ghost use Rattle.std.specs.Prelude.{◌≡◌, ◌+◌, ◌<◌, ◌≤◌, vec_len, vec_capacity};
 ghost use Rattle.std.specs.Option.{option_copied};
 ghost use Rattle.context_sets.specs.Sets.{pair_of, put, remove};
-ghost use Rattle.context_sets.specs.Places.{place_of};
 
-use osi_base::{Pair, SetItem};
+use osi_base::{Pair, SetItem, place_of};
 
 /// The pair that the set gives an identifier.
 pub fn pair_of(items: &[SetItem], id: u32) -> Option<&Pair>
@@ -17,21 +16,6 @@ pub fn pair_of(items: &[SetItem], id: u32) -> Option<&Pair>
         }
     }
     None
-}
-
-/// The place of the context with this identifier, or else the place where one would go.
-fn place_of(items: &[SetItem], id: u32) -> Result<usize, usize>
-    ensures { result ≡ place_of id items.now }
-{
-    for (place, item) in items.iter().enumerate() {
-        if id < item.id {
-            return Err(place);
-        }
-        if id == item.id {
-            return Ok(place);
-        }
-    }
-    Err(items.len())
 }
 
 /// Puts a context into a set that has room for it, in the place of one with its identifier.

@@ -9,4 +9,5 @@ pub mod Oid
 pub mod Outside
 pub mod PdvContent
 pub mod Printed
+pub mod SetPlaces
 pub mod Syntax

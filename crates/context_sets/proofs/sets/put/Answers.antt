@@ -1,7 +1,7 @@
 use Rattle.std.proofs.Common.{◌≡◌, ◌∙◌, sym, ap, subst, length, insert, Ok, Err, arith}
 use Rattle.std.proofs.lemmas.Grind.{common_steps}
 use Rattle.context_sets.specs.Sets.{put}
-use Rattle.context_sets.specs.Places.{place_of}
+use Rattle.osi_base.specs.SetPlaces.{place_of}
 use Rattle.context_sets.proofs.Placing.{found_within, put_as}
 use Rattle.context_sets.proofs.sets.put.Goals as goal
 

@@ -1,4 +1,4 @@
--- Where a context stands in a set. No public clause cites this module.
+-- Where a context stands in a set.
 use Rattle.std.specs.Prelude.{ℕ, ◌+◌, nat_eq, nat_lt, if◌then◌else◌, List, [], ◌∷◌, Result, Ok, Err, insert, slice_set}
 use Rattle.osi_base.specs.declared.words.SetItem.{SetItem}
 
