@@ -94,9 +94,7 @@ impl<'t> End<'t> {
         ensures heard { IfOk result (HeardIn self.old self.new head) }
         ensures err { OnErr result (self.new ≡ self.old) }
     {
-        let taken = self
-            .invocations
-            .take(self.tables, Syntax::Ber, 0, head)?;
+        let taken = self.invocations.take(self.tables, Syntax::Ber, 0, head)?;
         Ok(as_taken(taken))
     }
 

@@ -8,9 +8,7 @@ ghost use Rattle.rtse_apdus.specs.Transfer.{transfer_at, written_transfer};
 
 use asn1_types::{Class, Parts, TypeId, TypeRow, TypeTable};
 use ber_writing::ber_octets;
-use fixed_tables::{
-    PduFault, part, parts_of, pdv_in, pdv_value, table_of, tagged, whole,
-};
+use fixed_tables::{PduFault, part, parts_of, pdv_in, pdv_value, table_of, tagged, whole};
 use osi_base::{NoMemory, Octets, Pdv};
 use std::alloc::Global;
 use std::marker::Model;
