@@ -35,31 +35,41 @@ pub enum Diagnostic {
 /// One APDU of association control. User information, `[30]`, that isn't there has no items.
 #[derive(Debug, Drop)]
 pub enum Acse {
-    /// AARQ: protocol version, `[0]`, application context name, `[1]`, and user information.
+    /// AARQ.
     AssociateRequest {
+        /// Protocol version, `[0]`.
         version: Option<BitString>,
+        /// Application context name, `[1]`.
         context: Oid,
+        /// User information.
         user: Externals,
     },
-    /// AARE: application context name, `[1]`, result, `[2]` (0 accepted, 1 rejected for good,
-    /// 2 rejected for now), diagnostic, `[3]`, and user information.
+    /// AARE.
     AssociateResponse {
+        /// Application context name, `[1]`.
         context: Oid,
+        /// Result, `[2]`: 0 accepted, 1 rejected for good, 2 rejected for now.
         result: u8,
+        /// Diagnostic, `[3]`.
         diagnostic: Diagnostic,
+        /// User information.
         user: Externals,
     },
-    /// RLRQ: reason, `[0]`, which is 0 where it lacks.
+    /// RLRQ.
     ReleaseRequest {
+        /// Reason, `[0]`; 0 where it lacks.
         reason: i64,
     },
-    /// RLRE: reason, `[0]`, which is 0 where it lacks.
+    /// RLRE.
     ReleaseResponse {
+        /// Reason, `[0]`; 0 where it lacks.
         reason: i64,
     },
-    /// ABRT: source, `[0]` (0 the user, 1 the provider), and user information.
+    /// ABRT.
     Abort {
+        /// Source, `[0]`: 0 the user, 1 the provider.
         source: u8,
+        /// User information.
         user: Externals,
     },
 }

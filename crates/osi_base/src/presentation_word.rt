@@ -119,36 +119,45 @@ pub enum PresentationWord {
     Accept(PresentationAccept),
     /// CONNECT PRESENTATION REJECT, CPR.
     Reject(PresentationReject),
-    /// ALTER CONTEXT, AC: contexts to be defined, `[0]`, and to be deleted, `[1]`.
+    /// ALTER CONTEXT, AC.
     Alter {
+        /// Contexts to be defined, `[0]`.
         add: Proposals,
+        /// Contexts to be deleted, `[1]`.
         delete: Ids,
     },
-    /// ALTER CONTEXT ACKNOWLEDGE, ACA: one result for each definition, `[0]`, and for each
-    /// deletion, `[1]`.
+    /// ALTER CONTEXT ACKNOWLEDGE, ACA.
     AlterAck {
+        /// One result for each definition, `[0]`, and for each deletion, `[1]`.
         answers: Answers,
     },
-    /// RESYNCHRONIZE, RS: the contexts that are restored, `[0]`.
+    /// RESYNCHRONIZE, RS.
     Resynchronize {
+        /// The contexts that are restored, `[0]`.
         restored: Option<RestoredList>,
     },
-    /// RESYNCHRONIZE ACKNOWLEDGE, RSA: the contexts that are restored, `[0]`.
+    /// RESYNCHRONIZE ACKNOWLEDGE, RSA.
     ResynchronizeAck {
+        /// The contexts that are restored, `[0]`.
         restored: Option<RestoredList>,
     },
-    /// ABNORMAL RELEASE USER, ARU: the contexts of the set, `[0]`, and user data.
+    /// ABNORMAL RELEASE USER, ARU.
     UserAbort {
+        /// The contexts of the set, `[0]`.
         contexts: Option<RestoredList>,
+        /// User data.
         user: Pdvs,
     },
-    /// ABNORMAL RELEASE PROVIDER, ARP: the provider reason, `[0]`, and the event, `[1]`.
+    /// ABNORMAL RELEASE PROVIDER, ARP.
     ProviderAbort {
+        /// The provider reason, `[0]`.
         reason: Option<i64>,
+        /// The event, `[1]`.
         event: Option<i64>,
     },
     /// User data alone, as data, releases and pleas for the token carry it.
     Data {
+        /// User data.
         user: Pdvs,
     },
 }

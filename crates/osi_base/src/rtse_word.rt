@@ -24,34 +24,44 @@ pub enum ConnectionData {
 /// One APDU of reliable transfer. A field that lacks has its default.
 #[derive(Debug, Drop)]
 pub enum Rtse {
-    /// RTORQ: checkpoint size, `[0]`, 0 where it lacks; window size, `[1]`, 3 where it lacks;
-    /// dialogue mode, `[2]`, 0 where it lacks; and connection data, `[3]`.
+    /// RTORQ.
     OpenRequest {
+        /// Checkpoint size, `[0]`; 0 where it lacks.
         checkpoint: u32,
+        /// Window size, `[1]`; 3 where it lacks.
         window: u32,
+        /// Dialogue mode, `[2]`; 0 where it lacks.
         mode: i64,
+        /// Connection data, `[3]`.
         data: ConnectionData,
     },
-    /// RTOAC: checkpoint size, `[0]`, and window size, `[1]`, as in RTORQ; connection data, `[2]`.
+    /// RTOAC.
     OpenAccept {
+        /// Checkpoint size, `[0]`; 0 where it lacks.
         checkpoint: u32,
+        /// Window size, `[1]`; 3 where it lacks.
         window: u32,
+        /// Connection data, `[2]`.
         data: ConnectionData,
     },
-    /// RTORJ: reason, `[0]`.
+    /// RTORJ.
     OpenReject {
+        /// Reason, `[0]`.
         reason: i64,
     },
-    /// RTAB: reason, `[0]`.
+    /// RTAB.
     Abort {
+        /// Reason, `[0]`.
         reason: i64,
     },
-    /// RTTP: the priority with which the turn is asked for.
+    /// RTTP.
     TurnPlease {
+        /// The priority with which the turn is asked for; 0 is the highest.
         priority: u32,
     },
-    /// RTTR: a part of a transfer.
+    /// RTTR.
     Transfer {
+        /// A part of a transfer.
         octets: Octets,
     },
 }

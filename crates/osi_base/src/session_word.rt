@@ -33,104 +33,133 @@ pub struct SessionConnect {
 pub enum SessionWord {
     /// CONNECT, CN.
     Connect(SessionConnect),
-    /// ACCEPT, AC: protocol options (19), version number (22), initial serial number (23),
-    /// session user requirements (20) and user data (193).
+    /// ACCEPT, AC.
     Accept {
+        /// Protocol options (19).
         options: Option<u8>,
+        /// Version number (22).
         version: Option<u8>,
+        /// Initial serial number (23), 1 to 999,999.
         initial: Option<u32>,
+        /// Session user requirements (20).
         requirements: Option<u16>,
+        /// User data (193).
         user: Octets,
     },
-    /// REFUSE, RF: transport disconnect (17), and the code and the user data of the reason (50).
+    /// REFUSE, RF.
     Refuse {
+        /// Transport disconnect (17).
         transport: Option<u8>,
+        /// The code of the reason (50).
         reason: Option<u8>,
+        /// The user data of the reason (50).
         user: Option<Octets>,
     },
-    /// FINISH, FN: transport disconnect (17) and user data (193).
+    /// FINISH, FN.
     Finish {
+        /// Transport disconnect (17).
         transport: Option<u8>,
+        /// User data (193).
         user: Octets,
     },
-    /// DISCONNECT, DN: user data (193).
+    /// DISCONNECT, DN.
     Disconnect {
+        /// User data (193).
         user: Octets,
     },
-    /// ABORT, AB: transport disconnect (17) and user data (193).
+    /// ABORT, AB.
     Abort {
+        /// Transport disconnect (17).
         transport: Option<u8>,
+        /// User data (193).
         user: Option<Octets>,
     },
     /// ABORT ACCEPT, AA.
     AbortAccept,
-    /// GIVE TOKENS, GT: token item (16).
+    /// GIVE TOKENS, GT.
     GiveTokens {
+        /// Token item (16).
         tokens: Option<u8>,
     },
-    /// PLEASE TOKENS, PT: token item (16) and user data (193).
+    /// PLEASE TOKENS, PT.
     PleaseTokens {
+        /// Token item (16).
         tokens: Option<u8>,
+        /// User data (193).
         user: Option<Octets>,
     },
     /// GIVE TOKENS CONFIRM, GTC.
     GiveTokensConfirm,
     /// GIVE TOKENS ACK, GTA.
     GiveTokensAck,
-    /// TYPED DATA, TD: user information.
+    /// TYPED DATA, TD.
     TypedData {
+        /// User information.
         user: Octets,
     },
-    /// DATA TRANSFER, DT: user information.
+    /// DATA TRANSFER, DT.
     Data {
+        /// User information.
         user: Octets,
     },
-    /// MINOR SYNC POINT, MIP: serial number (42), 1 to 999,999.
+    /// MINOR SYNC POINT, MIP.
     Mark {
+        /// Serial number (42), 1 to 999,999.
         number: u32,
     },
-    /// MINOR SYNC ACK, MIA: serial number (42).
+    /// MINOR SYNC ACK, MIA.
     MarkAck {
+        /// Serial number (42).
         number: u32,
     },
-    /// RESYNCHRONIZE, RS, as a restart: serial number (42) and user data (193).
+    /// RESYNCHRONIZE, RS, as a restart.
     Resynchronize {
+        /// Serial number (42).
         number: u32,
+        /// User data (193).
         user: Option<Octets>,
     },
-    /// RESYNCHRONIZE ACK, RA: serial number (42) and user data (193).
+    /// RESYNCHRONIZE ACK, RA.
     ResynchronizeAck {
+        /// Serial number (42).
         number: u32,
+        /// User data (193).
         user: Option<Octets>,
     },
-    /// ACTIVITY START, AS: activity identifier (41), 1 to 999,999.
+    /// ACTIVITY START, AS.
     ActivityStart {
+        /// Activity identifier (41), 1 to 999,999.
         activity: u32,
     },
-    /// ACTIVITY RESUME, AR: activity identifier (41), which is the old one too, and the serial
-    /// number of the mark (42 of 33), 0 to 999,999.
+    /// ACTIVITY RESUME, AR.
     ActivityResume {
+        /// Activity identifier (41), which is the old one too.
         activity: u32,
+        /// The serial number of the mark (42 of 33), 0 to 999,999.
         mark: u32,
     },
-    /// ACTIVITY INTERRUPT, AI: reason (50).
+    /// ACTIVITY INTERRUPT, AI.
     ActivityInterrupt {
+        /// Reason (50).
         reason: Option<u8>,
     },
     /// ACTIVITY INTERRUPT ACK, AIA.
     ActivityInterruptAck,
-    /// ACTIVITY DISCARD, AD: reason (50).
+    /// ACTIVITY DISCARD, AD.
     ActivityDiscard {
+        /// Reason (50).
         reason: Option<u8>,
     },
     /// ACTIVITY DISCARD ACK, ADA.
     ActivityDiscardAck,
-    /// ACTIVITY END, AE: serial number (42).
+    /// ACTIVITY END, AE.
     ActivityEnd {
+        /// Serial number (42).
         number: u32,
     },
-    /// ACTIVITY END ACK, AEA: serial number (42).
+    /// ACTIVITY END ACK, AEA.
     ActivityEndAck {
+        /// Serial number (42).
         number: u32,
     },
 }
