@@ -12,18 +12,25 @@ use osi_base::{
 pub enum TransportUnit {
     /// CR: the reference of the end that asks, the code of the size of a unit, and selectors.
     ConnectionRequest {
+        /// The reference of the end that asks.
         source: u16,
+        /// The code of the greatest size of a unit (X.224 13.3.4).
         size: Option<u8>,
+        /// The calling selector.
         calling: Octets,
+        /// The called selector.
         called: Octets,
     },
     /// CC: the reference of the end that asked, and the code of the size.
     ConnectionConfirm {
+        /// The reference of the end that asked.
         destination: u16,
+        /// The code of the greatest size of a unit (X.224 13.3.4).
         size: Option<u8>,
     },
     /// DR, with the reference of the end that it goes to.
     DisconnectRequest {
+        /// The reference of the end that it goes to.
         destination: u16,
     },
     /// ER.
@@ -59,35 +66,50 @@ pub enum AbortData {
 pub enum AssociationWord {
     /// CN with CP.
     Connect {
+        /// The parameters of the session.
         session: SessionConnect,
+        /// The fields of the presentation.
         presentation: PresentationConnect,
+        /// The values of the user data.
         values: Values,
     },
     /// AC with CPA.
     Accept {
+        /// The parameters of the session.
         session: Accepting,
+        /// The fields of the presentation.
         presentation: PresentationAccept,
+        /// The values of the user data.
         values: Values,
     },
     /// RF with CPR: transport disconnect, and the code of the reason.
     Refuse {
+        /// Transport disconnect (17).
         transport: Option<u8>,
+        /// The code of the reason (50).
         reason: Option<u8>,
+        /// The fields of the presentation, where there are any.
         presentation: Option<PresentationReject>,
+        /// The values of the user data.
         values: Values,
     },
     /// FN: transport disconnect.
     Finish {
+        /// Transport disconnect (17).
         transport: Option<u8>,
+        /// The values of the user data.
         values: Values,
     },
     /// DN.
     Disconnect {
+        /// The values of the user data.
         values: Values,
     },
     /// AB with ARU, ARP or nothing: transport disconnect.
     Abort {
+        /// Transport disconnect (17).
         transport: Option<u8>,
+        /// What it carries.
         user: AbortData,
     },
     /// AA.
@@ -110,29 +132,38 @@ pub enum DataWord {
 pub enum MarkWord {
     /// MIP.
     Mark {
+        /// Serial number (42), 1 to 999,999.
         number: u32,
     },
     /// MIA.
     MarkAck {
+        /// Serial number (42).
         number: u32,
     },
     /// RS.
     Restart {
+        /// Serial number (42).
         number: u32,
+        /// The contexts that are restored, where they are told.
         list: Option<RestoredList>,
     },
     /// RA.
     RestartAck {
+        /// Serial number (42).
         number: u32,
+        /// The contexts that are restored, where they are told.
         list: Option<RestoredList>,
     },
     /// GT.
     Give {
+        /// Token item (16).
         tokens: Option<u8>,
     },
     /// PT.
     Please {
+        /// Token item (16).
         tokens: Option<u8>,
+        /// The values of the user data.
         values: Values,
     },
     /// GTC.
