@@ -78,8 +78,7 @@ pub trait Sink {
         ensures no_memory { IsErrOf result SinkFault.NoMemory → faults self.new ≡ faults self.old };
 }
 
-/// Writes all of these octets. After an `Err` a beginning of them was written. A call of the sink
-/// that fails is the last one.
+/// Writes all of these octets. After an `Err` a beginning of them was written.
 #[tactic(auto, using(crate::proofs::Grown::grown_nil, crate::proofs::Grown::grown_grown))]
 pub fn write_all<O: Sink>(out: &mut O, bytes: &[u8]) -> Result<(), SinkFault>
     ensures count { O.faults out.old ≤ O.faults out.new }
