@@ -59,7 +59,7 @@ impl TReader {
         ensures all { (came : List ℕ) (given : List Packet) → IsOctets came
             → HasRead came given self.old
             → IfOk result (λ fed.
-                ReadsAsPackets (came ++ bytes.now) (given ++ fed.packets) fed.fault) }
+            ReadsAsPackets (came ++ bytes.now) (given ++ fed.packets) fed.fault) }
         ensures goes_on { (came : List ℕ) (given : List Packet) → HasRead came given self.old
             → IfOk result (λ fed. HasRead (came ++ bytes.now) (given ++ fed.packets) self.new) }
         // After a fault nothing changes.
