@@ -1,4 +1,6 @@
-//! The worked heads.
+//! Heads of APDUs, and rejects. The octets of invocations and of rejects are those of worked
+//! dialogues; which problem octets have that are no head follows from X.880 9.4.2, in the packed
+//! syntax too, which is this project's own.
 
 use apdu_codec::{ApduHead, ApduKind, HeadFault, read_apdu, write_apdu};
 use asn1_types::TypeTable;

@@ -1,4 +1,6 @@
-//! What no clause says of checks: whole runs with ample memory, over the worked modules.
+//! What no clause says of checks: whole runs with ample memory, over the worked modules. The
+//! listings and the table file follow from the modules, field by field, and lines and columns are
+//! counted in their texts.
 
 use crate::traces::CALC_MODULE;
 use crate::whole_runs::words;

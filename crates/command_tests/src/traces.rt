@@ -1,4 +1,6 @@
 //! What no clause says of traces: whole runs with ample memory, among them those of the examples.
+//! The octets are those of worked dialogues; the units that a line names, and how many octets a
+//! value has, are read off these octets.
 
 use crate::whole_runs::{ONE_MODULE, files, words};
 use osi_base::{NoMemory, Octets, Status, SureLine, SureSink};

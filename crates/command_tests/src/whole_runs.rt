@@ -1,4 +1,5 @@
-//! What no clause says: whole runs with ample memory, and the texts of the refusing statuses.
+//! What no clause says: whole runs with ample memory, and the texts of the refusing statuses. The
+//! octets of the transcripts are those of worked invocations, results and rejects.
 
 use osi_base::{
     FailingCalls, ListOf, MemFile, MemFiles, MemSink, Name, NoMemory, Octets, Status, SureLine,

@@ -1,4 +1,5 @@
-//! The forest of open invocations by itself.
+//! The forest of open invocations by itself. Which keys come, and in which order, follows from the
+//! order in which they were opened.
 
 use linked_ops::{Forest, ForestRefusal, Key, Keys};
 use osi_base::NoMemory;

@@ -1,4 +1,5 @@
-//! Spellings from outside: each is read whole and written back, or its first fault is told.
+//! Spellings that are laid out by the rules of the packed syntax, field by field: each is read
+//! whole and written back, or its first fault is told.
 
 use asn1_types::{
     Class, Item, Named, Part, Parts, RowRefusal, TextKind, TypeId, TypeRow, TypeTable,

@@ -1,4 +1,5 @@
-//! Octets from outside: an invocation, an opening, a faulty header, the largest packet.
+//! Octets of worked dialogues: an invocation, openings, marks, a release; and headers that are
+//! faulty and packets as large as may be, laid out by RFC 1006 6 and X.224 13.
 
 use osi_base::{Kind, NoMemory, Octets};
 use std::alloc::Global;

@@ -1,4 +1,4 @@
-//! Octets of each unit, from outside.
+//! Octets of each unit: those of worked dialogues, and others that are laid out by X.225 8.3.
 
 ghost use Rattle.std.specs.Prelude.{◌≡◌, ◌≤◌, true, length};
 ghost use Rattle.spdu_codec.specs.Written.{AreFields, AreWritable, octets_in, stands_alone, stands_second};

@@ -1,4 +1,5 @@
-//! Worked rows of SET OF: read in any order in BER, in rising order in DER and the packed syntax.
+//! Worked rows of SET OF (X.690 11.6): read in any order in BER, in rising order in DER and the
+//! packed syntax.
 
 use ber_codec::{
     Node, Part, Parts, ReadFault, RowRefusal, TypeId, TypeRow, TypeTable, Val, ber_octets,

@@ -1,3 +1,6 @@
+//! Whole texts, with the module that each is, as `Debug` prints it, or with its first fault. Both
+//! follow from the grammar, and their lines and columns are counted in the texts.
+
 use notation_tokens::cut_text;
 use operation_notation::{NotationFault, NotationKind, lex, parse_module};
 use std::alloc::{AllocError, Global};

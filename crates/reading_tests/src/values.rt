@@ -1,4 +1,7 @@
-//! Values that are read and printed again, and texts that are no values.
+//! Values that are read and printed again, and texts that are no values, by the notation of X.680:
+//! a value prints as it was read, but for spaces and lower-case digits, with parts in the order of
+//! their type and without those that have their default's value, and with the items of a SET OF in
+//! the order of their encodings (X.690 11.6).
 
 use asn1_types::{Item, Named, Part, Parts, TextKind, TypeId, TypeRow, TypeTable, Val};
 use osi_base::{ListOf, Name};

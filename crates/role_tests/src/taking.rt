@@ -1,4 +1,6 @@
-//! What becomes of APDUs that come (X.880 9; the packed syntax is this project's own).
+//! What becomes of APDUs that come (X.880 9; the packed syntax is this project's own). The result,
+//! the invocation and its reject are those of worked dialogues; the numbers of all problems are
+//! those of X.880 9.4.
 
 ghost use Rattle.std.specs.Prelude.{◌≡◌, true, false, [], IfOk};
 ghost use Rattle.rose_roles.specs.Calls.{AreOpen};

@@ -1,5 +1,5 @@
 //! APDUs of the module written in three syntaxes (X.882 9; the packed syntax is this project's
-//! own), by worked ones.
+//! own): invocations and results of worked dialogues, and others that differ from these in a field.
 
 use crate::sample::{integer, module};
 use Sample::{Error, Invoke, Returns};

@@ -1,4 +1,6 @@
-//! Tests of `script_lines`, `schedule_text` and `transcript_text`.
+//! Tests of `script_lines`, `schedule_text` and `transcript_text`. What is expected stands in the
+//! texts themselves: an event prints as it was read, and which line is refused, and why, follows
+//! from the grammar of schedules. The octets of the transcripts are those of a worked invocation.
 #![tactic(auto)]
 
 #[cfg(test)]

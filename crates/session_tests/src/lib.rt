@@ -1,5 +1,6 @@
 //! Tests of the session machine, over its public calls: two machines that exchange their words,
-//! what is refused, what is passed over and what is out of place.
+//! what is refused, what is passed over and what is out of place. What is expected of a step
+//! follows from X.225 7, in this project's profile.
 #![tactic(auto)]
 
 #[cfg(test)]
