@@ -21,7 +21,8 @@ pub trait Syntax {
 
     /// How many octets the spelling has, or the last number of 64 bits where there are more.
     fn len(sample: &Sample) -> u64
-        ensures { result ≡ min (length (spelling sample.now.table sample.now.of.0 sample.now.value)) last_count };
+        ensures { result ≡
+            min (length (spelling sample.now.table sample.now.of.0 sample.now.value)) last_count };
 
     /// Writes the spelling at the front of the room, and answers how many octets it has.
     fn write(sample: &Sample, room: &mut [u8]) -> usize
