@@ -70,8 +70,8 @@ pub fn resumption_goes_on()
 pub fn end_is_confirmed_again()
     ensures again { Leads calc_pair confirmed_again (λ place.
         (place.told_a ≡ indications.Opened ∷ indications.Recovered ∷ indications.Transferred 1 ∷ [])
-        × (place.told_b ≡ indications.Opened ∷ indications.Invoked (pos 1) 0 None None ∷ indications.Recovered
-        ∷ indications.Resumed 1 2 ∷ [])
+        × (place.told_b ≡ indications.Opened ∷ indications.Invoked (pos 1) 0 None None
+        ∷ indications.Recovered ∷ indications.Resumed 1 2 ∷ [])
         × (place.ledger.deeds.b.arrived ≡ 1 ∷ [])
         × (place.two.a.sending.current ≡ None)) }
 {}
