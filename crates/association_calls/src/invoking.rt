@@ -10,7 +10,7 @@ ghost use Rattle.association_state.specs.Seen.{base_in, seen};
 ghost use Rattle.association_calls.specs.Replies.{IsChecked, IsRefusal};
 ghost use Rattle.association_calls.specs.Rooms.{HasRoom, IsRoomy};
 
-use crate::texts::is_too_long;
+use apdu_codec::is_too_long;
 use asn1_types::Val;
 use association_ground::{is_direct, is_reliable};
 use association_sets::{has_abstract, is_deleted_in, pair_of};
@@ -143,7 +143,7 @@ fn check_send(
         return Err(CallRefusal::NotTyped);
     }
     let apdu = invoke_apdu(basis, operation, next_id(body), linked, argument)?;
-    if is_too_long(basis, &apdu)? {
+    if is_too_long(basis.tables, &apdu) {
         return Err(CallRefusal::TooLong);
     }
     match room_refusal(basis, body, operation) {

@@ -12,7 +12,7 @@ ghost use Rattle.association_calls.specs.Replies.{IsChecked};
 ghost use Rattle.association_calls.specs.Outcomes.{can_send_on, can_refuse_with};
 
 use crate::invoking::{is_queue_full, is_stopped};
-use crate::texts::is_too_long;
+use apdu_codec::is_too_long;
 use asn1_types::Val;
 use association_ground::is_direct;
 use association_sets::carrier;
@@ -88,7 +88,7 @@ fn check_outcome(
     if lacks_carrier(basis, body, context) {
         return Err(CallRefusal::NoContext);
     }
-    if is_too_long(basis, &apdu)? {
+    if is_too_long(basis.tables, &apdu) {
         return Err(CallRefusal::TooLong);
     }
     if is_queue_full(basis, body) {
