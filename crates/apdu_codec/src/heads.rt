@@ -2,10 +2,10 @@
 
 ghost use Rattle.std.specs.Prelude.{◌≡◌, IfOk};
 ghost use Rattle.apdu_spelling.specs.Rows as table;
-ghost use Rattle.apdu_spelling.specs.Rows.{head_rows, tagged};
+ghost use Rattle.apdu_spelling.specs.Rows.{head_rows};
 
-use asn1_types::{Class, Parts, TypeId, TypeRow, TypeTable};
-use fixed_tables::{part, table_of, tagged};
+use asn1_types::{Parts, TypeId, TypeRow, TypeTable};
+use fixed_tables::{implicit, part, table_of};
 use osi_base::{ListOf, NoMemory};
 use std::alloc::Global;
 use std::marker::Model;
@@ -161,13 +161,6 @@ fn packed_apdu_kinds(alloc: Global) -> Result<Parts, NoMemory>
     parts.push(part(alloc, "returnError", 29, false)?)?;
     parts.push(part(alloc, "reject", 15, false)?)?;
     Ok(parts)
-}
-
-/// A context tag in the place of a row's own.
-fn implicit(number: u32, inner: u32) -> TypeRow
-    ensures { result ≡ tagged number inner }
-{
-    tagged(Class::Context, number, false, inner)
 }
 
 /// All rows.
