@@ -1,5 +1,5 @@
 -- The APDUs of association control and the values that they stand for (X.227 9).
-use Rattle.std.specs.Prelude.{◌==◌, ℕ, pos, List, [], ◌∷◌, map, Option, Some, None}
+use Rattle.std.specs.Prelude.{◌==◌, ℕ, pos, List, [], ◌∷◌, map, Option, Some, None, if◌then◌else◌}
 use Rattle.osi_base.specs.declared.bit_string.BitString as strings
 use Rattle.osi_base.specs.declared.acse_word.External as externals
 use Rattle.osi_base.specs.declared.acse_word.Diagnostic as diagnostics

@@ -1,5 +1,5 @@
 -- The APDUs of reliable transfer and the values that they stand for (X.228 9).
-use Rattle.std.specs.Prelude.{◌==◌, ℕ, pos, Option, Some}
+use Rattle.std.specs.Prelude.{◌==◌, ℕ, pos, Option, Some, if◌then◌else◌}
 use Rattle.osi_base.specs.declared.rtse_word.ConnectionData as connections
 use Rattle.osi_base.specs.declared.rtse_word.ConnectionData.TheVariants as connection
 use Rattle.osi_base.specs.declared.rtse_word.Rtse as apdus
