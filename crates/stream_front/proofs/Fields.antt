@@ -6,7 +6,6 @@ use Rattle.osi_base.specs.declared.words.Kind.TheVariants.{Tag, Length}
 use Rattle.asn1_types.specs.declared.row.Class.{Class}
 use Rattle.asn1_types.specs.Rows.{is_no_tag, same_class}
 use Rattle.asn1_types.specs.declared.row.Class.TheVariants.{Universal}
-use Rattle.asn1_types.specs.Whole.{number_256}
 use Rattle.ber_spelling.specs.declared.fault.ReadFault.{ReadFault}
 use Rattle.ber_spelling.specs.declared.fault.ReadFault.TheVariants as faults
 use Rattle.ber_spelling.specs.Reading.{Spot, Opened, Ahead, ended, begun, Reading, ◌>>=◌, within, refuse}
