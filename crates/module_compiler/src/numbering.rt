@@ -10,8 +10,7 @@ ghost use Rattle.module_compiler.specs.Numbering.{Numbered, Gives, add, note, kn
 use crate::fault::Halt;
 use crate::scope::Scope;
 use asn1_types::{
-    Item, Named, Part, Parts, RowRefusal, TypeId, TypeRow, TypeTable, class_numbered,
-    kind_numbered,
+    Item, Named, Part, Parts, RowRefusal, TypeId, TypeRow, TypeTable, class_numbered, kind_numbered,
 };
 use module_faults::is_same_name;
 use operation_notation::{
