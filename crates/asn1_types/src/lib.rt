@@ -6,6 +6,7 @@ mod check;
 mod clash;
 mod defaults;
 mod nesting;
+mod numbered;
 mod opening;
 mod refusal;
 mod row;
@@ -15,6 +16,7 @@ mod value;
 mod whole;
 
 pub use defaults::{has_default_value, may_be_absent};
+pub use numbered::{class_numbered, kind_numbered};
 pub use opening::{begins, is_no_tag, same_class, text_number};
 pub use refusal::RowRefusal;
 pub use row::{Class, Item, Named, Part, Parts, Tag, TextKind, TypeId, TypeRow};

@@ -137,14 +137,19 @@ can_answer base body id result =
     if is_stopped base body then Err refusals.Waiting
     else can_answer_open base body id (opened_with false id body.calls.opens) (operation_of base (opened_with false id body.calls.opens)) result
 
+-- the last rows of a refusal by an error
+abbrev pub can_refuse_with : Base → Body → ℤ → OpenCall → ErrorRow → Option Val → Reply
+can_refuse_with base body id o error parameter =
+    if not (is_carried base.tables.types error.parameter parameter) then Err refusals.NotTyped
+    else can_send_outcome base body o (error_apdu error id parameter)
+
 abbrev pub can_refuse_open : Base → Body → ℤ → Option OpenCall → Option Operation → ℕ → Option ErrorRow → Option Val → Reply
 can_refuse_open base body id None operation place error parameter = Err (refusals.NoInvocation id)
 can_refuse_open base body id (Some o) None place error parameter = Err (refusals.NoInvocation id)
 can_refuse_open base body id (Some o) (Some operation) place None parameter = Err refusals.UnknownError
 can_refuse_open base body id (Some o) (Some operation) place (Some error) parameter =
     if not (is_error_of operation place) then Err refusals.NotAllowed
-    else (if not (is_carried base.tables.types error.parameter parameter) then Err refusals.NotTyped
-    else can_send_outcome base body o (error_apdu error id parameter))
+    else can_refuse_with base body id o error parameter
 
 abbrev pub can_refuse : Base → Body → ℤ → ℕ → Option Val → Reply
 can_refuse base body id error parameter =

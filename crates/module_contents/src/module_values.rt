@@ -4,7 +4,6 @@ ghost use Rattle.std.specs.Prelude.{◌≡◌, ◌<◌, length, IfOk, true, fals
 ghost use Rattle.std.specs.Option.{option_copied};
 ghost use Rattle.osi_base.specs.declared.syntax.Syntax.TheVariants as syntaxes;
 ghost use Rattle.end_wire.specs.Heads.{value_at, typed_at, carried_at, value_or_lack};
-ghost use Rattle.stub_tables.specs.Uses as lacks;
 ghost use Rattle.module_contents.specs.Said.{room_in, spelled_or, value_needed};
 
 use asn1_types::{TypeId, TypeTable, Val};
@@ -165,13 +164,6 @@ pub(crate) fn needed(
     typed_value(alloc, syntax, types, used.inner, octets.as_slice(), room)
 }
 
-/// Whether nothing may be carried where it is used so.
-fn may_lack(used: &Use) -> bool
-    ensures { result ≡ lacks.may_lack used.now.inner used.now.optional }
-{
-    used.inner.is_none() || used.optional
-}
-
 /// The value that is carried, or its lack where that is allowed; `None` where it is neither.
 pub(crate) fn carried(
     alloc: Global,
@@ -186,7 +178,7 @@ pub(crate) fn carried(
 {
     let Some(used) = used else { return Ok(None) };
     let Some(octets) = octets else {
-        if may_lack(used) {
+        if used.may_lack() {
             return Ok(Some(None));
         }
         return Ok(None);

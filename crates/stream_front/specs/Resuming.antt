@@ -1,11 +1,11 @@
 -- Reading that is left somewhere in a value, and goes on there: what the octets that follow make of it.
 use Rattle.std.specs.Prelude.{◌≡◌, ℕ, zero, suc, ◌+◌, ◌-◌, ◌<◌, ◌≤◌, ◌^◌, Bool, true, false, ◌&&◌, ◌||◌, Option, Some, None, List, [], ◌∷◌, ◌++◌, length, take, drop, Ok, Err, nat_lt, nat_eq, slice_index, if◌then◌else◌}
 use Rattle.osi_base.specs.declared.words.Kind.TheVariants.{Tag, Length}
-use Rattle.asn1_types.specs.Whole.{is_marked}
+use Rattle.asn1_types.specs.Whole.{is_marked, number_256}
 use Rattle.ber_spelling.specs.declared.fault.ReadFault.TheVariants as faults
 use Rattle.ber_spelling.specs.declared.spot.Scope.{Scope}
 use Rattle.ber_spelling.specs.Reading.{Spot, Reading, ◌>>=◌, refuse, within}
-use Rattle.ber_spelling.specs.Fields.{identifier_at, digits_at, announced_at, contents_at, number_from, cut_off}
+use Rattle.ber_spelling.specs.Fields.{identifier_at, digits_at, announced_at, contents_at, cut_off}
 use Rattle.ber_spelling.specs.Rules.{all_items_at, whole_at}
 use Rattle.stream_front.specs.declared.front.Front.{Front}
 use Rattle.stream_front.specs.declared.front.Front.TheVariants.{Short, Whole, Faulty}
@@ -87,7 +87,7 @@ size_left depth field size left number place rest =
     else (do
       _ ← within (scope_in depth) field (place + left)
       if nat_lt 8 size then refuse field Length
-          else announced_at (scope_in depth) field (number_from number (take left rest)) true (place + left) (drop left rest) >>= counted depth)
+          else announced_at (scope_in depth) field (number_256 number (take left rest)) true (place + left) (drop left rest) >>= counted depth)
 
 -- ---- where a scanner stands
 
