@@ -125,18 +125,6 @@ most_transfers = 8
 abbrev pub highest_context : ℕ
 highest_context = 32767
 
--- marks that are kept
-abbrev pub most_marks : ℕ
-most_marks = 65536
-
--- octets of an APDU in each syntax
-abbrev pub most_octets : ℕ
-most_octets = 262144
-
--- octets of a transfer
-abbrev pub most_transferred : ℕ
-most_transferred = 262400
-
 -- open invocations of one end
 abbrev pub most_open : ℕ
 most_open = 4096

@@ -12,3 +12,15 @@ text_most = 16777216
 -- how many events a schedule or a script may have
 abbrev pub event_most : ℕ
 event_most = 20000
+
+-- octets of a transfer
+abbrev pub most_transferred : ℕ
+most_transferred = 262400
+
+-- marks that are kept
+abbrev pub most_marks : ℕ
+most_marks = 65536
+
+-- the last number of 32 bits
+abbrev pub most_32 : ℕ
+most_32 = 4294967295
