@@ -20,7 +20,7 @@ use Rattle.association_line.specs.Line.{after, after_all}
 use Rattle.association_line.specs.Feeding.{BeginsByItself, nothing_done, one_done}
 use Rattle.association_line.specs.OwnActs.{left_to_do, OwnActsLessen}
 use Rattle.association_end.specs.View.{EndView, base, Stepped}
-use Rattle.association_end.specs.Doing.{Keeps, DidOne, RestsAt, DidOwn, BeganOwn}
+use Rattle.association_end.specs.Progress.{Keeps, DidOne, RestsAt, DidOwn, BeganOwn}
 use Rattle.association_end.specs.Reacted.{with_body, sending}
 use Rattle.association_end.proofs.Histories.{same_base, stepped_on, after_all-append}
 

@@ -4,7 +4,7 @@ ghost use Rattle.std.specs.Prelude.{◌≡◌, ◌≤◌, IfOk, OnErr, MatchResu
 ghost use Rattle.tpkt.specs.Wire.{unit_least, unit_most};
 ghost use Rattle.end_rules.specs.State.{passes_over};
 ghost use Rattle.association_intake.specs.Seen.{seen_front, IsPlaced, TakesFirst};
-ghost use Rattle.association_end.specs.Doing.{Keeps};
+ghost use Rattle.association_end.specs.Progress.{Keeps};
 ghost use Rattle.association_end.specs.Reacted.{TookFirst, ReactedTo, Deals, size_of_front};
 ghost use Rattle.association_end.specs.Seen.{came_in};
 ghost use Rattle.association_end.specs.Sound.{IsMessage, HasMessages};

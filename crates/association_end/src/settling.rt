@@ -5,7 +5,7 @@ ghost use Rattle.tpkt.specs.Wire.{unit_least, unit_most};
 ghost use Rattle.dialogue.specs.declared.indication.Indication.{Indication};
 ghost use Rattle.end_rules.specs.State.{passes_over};
 ghost use Rattle.association_answers.specs.Reacted.{seen_messages};
-ghost use Rattle.association_end.specs.Doing.{Keeps};
+ghost use Rattle.association_end.specs.Progress.{Keeps};
 ghost use Rattle.association_end.specs.Reacted.{AllMayStand, sent_for, IsOverFor, SettlesFor, Settles, sending, with_line, with_came};
 
 use crate::end::End;

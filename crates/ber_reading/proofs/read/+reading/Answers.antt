@@ -13,8 +13,8 @@ use Rattle.ber_spelling.specs.Reading.{opened_of, spot_of, ahead_of, LiesIn}
 use Rattle.ber_spelling.specs.Rules.{items_at, list_item_at, list_done, set_item_at, set_of_done, reads, slot_at, set_done, is_free, is_filled, plain, bare}
 use Rattle.ber_reading.proofs.Slots.{none_length, set_length, slot_taken, slot_fails, slot_gives, set_full, set_lacks, turns_lack, late_fails}
 use Rattle.ber_reading.proofs.Rows.{reads_at}
-use Rattle.ber_reading.proofs.AtOnce.{reads_it, lower}
-use Rattle.ber_reading.specs.AtOnce.{integer_opened, behind}
+use Rattle.ber_reading.proofs.ShortParts.{reads_it, lower}
+use Rattle.ber_reading.specs.ShortParts.{integer_opened, behind}
 use Rattle.std.specs.Vec.{vec_len}
 use Rattle.std.proofs.lemmas.Int.{to_z-of_z}
 use mir.Syntax.{w64}
