@@ -136,7 +136,3 @@ last_invocation = 2147483647
 -- items that wait for their transfer
 abbrev pub most_queued : ℕ
 most_queued = 64
-
--- the last number of an activity
-abbrev pub last_activity : ℕ
-last_activity = 999999

@@ -17,6 +17,10 @@ event_most = 20000
 abbrev pub most_transferred : ℕ
 most_transferred = 262400
 
+-- the last number of an activity (X.225 in this project's profile writes at most six digits)
+abbrev pub last_activity : ℕ
+last_activity = 999999
+
 -- marks that are kept
 abbrev pub most_marks : ℕ
 most_marks = 65536

@@ -1,9 +1,9 @@
 -- What an end gives of a transfer (X.228 7.4, 8.2): chunks, each but the last with a mark behind it, and the end.
 use Rattle.std.specs.Prelude.{◌≡◌, ℕ, ◌+◌, ◌-◌, ◌*◌, ◌<◌, ◌≤◌, ◌==◌, ◌||◌, nat_le, Bool, true, false, List, length, take, drop, if◌then◌else◌, IsTrue, ◌≢◌}
-use Rattle.osi_base.specs.Limits.{most_transferred}
+use Rattle.osi_base.specs.Limits.{most_transferred, last_activity}
 use Rattle.rtse.specs.declared.outgoing.Step.{Step}
 use Rattle.rtse.specs.declared.outgoing.Step.TheVariants.{Chunk, Mark, End, Wait}
-use Rattle.rtse.specs.Limits.{activity_limit, checkpoint_limit, window_limit}
+use Rattle.rtse.specs.Limits.{checkpoint_limit, window_limit}
 
 -- a transfer as its sender has it: how many chunks were given, whether what stands behind the last of them is still due, and the highest mark that is confirmed
 pub record Sending : Type 0 where
@@ -72,7 +72,7 @@ IsNext s n = (n ≡ s.confirmed + 1) × (n ≤ marks_given s)
 
 -- what may be sent as a transfer
 pub record MayStart (number : ℕ) (octets : List ℕ) (checkpoint window : ℕ) : Type 0 where
-  pub numbered : (1 ≤ number) × (number ≤ activity_limit)
+  pub numbered : (1 ≤ number) × (number ≤ last_activity)
   pub some : 1 ≤ length octets
   pub within : length octets ≤ most_transferred
   pub checkpoint_within : checkpoint ≤ checkpoint_limit
