@@ -1,5 +1,5 @@
 //! Types and values of ASN.1 (X.680), below every transfer syntax: the value type, rows and
-//! tables of types, and which values fit.
+//! tables of types, which values fit, and what stands behind one whole value.
 #![tactic(auto)]
 
 mod check;

@@ -2,6 +2,7 @@
 -- the rows and their order are this project's own).
 use Rattle.std.specs.Prelude.{ℕ, suc, min, ℤ, pos, length, Bool, true, false, not, ◌&&◌, ◌||◌, nat_lt, nat_le, Option, Some, None, Result, Ok, Err, if◌then◌else◌}
 use Rattle.asn1_types.specs.declared.value.Val.{Val}
+use Rattle.asn1_types.specs.Limits.{most_octets}
 use Rattle.osi_base.specs.declared.syntax.Syntax.{Syntax}
 use Rattle.osi_base.specs.declared.syntax.Syntax.TheVariants.{Ber, Der, Packed}
 use Rattle.stub_tables.specs.declared.operation.Code.{Code}
@@ -15,7 +16,7 @@ use Rattle.stub_tables.specs.Lookup.{operation_at, error_at}
 use Rattle.stub_tables.specs.Uses.{is_carried}
 use Rattle.dialogue.specs.declared.call.CallRefusal.{CallRefusal}
 use Rattle.dialogue.specs.declared.call.CallRefusal.TheVariants as refusals
-use Rattle.end_rules.specs.Base.{Base, is_direct, is_reliable, most_octets, most_open, last_invocation, most_queued}
+use Rattle.end_rules.specs.Base.{Base, is_direct, is_reliable, most_open, last_invocation, most_queued}
 use Rattle.end_rules.specs.Sets.{is_deleted_in, is_among, pair_of, has_abstract, carrier}
 use Rattle.end_rules.specs.State.{Body, OpenCall, is_free, is_none, opened_with, opens_of}
 

@@ -11,6 +11,7 @@ use Rattle.asn1_types.specs.declared.row.Class.{Class}
 use Rattle.asn1_types.specs.declared.row.TypeRow.{TypeRow}
 use Rattle.asn1_types.specs.declared.row.TypeRow.TheVariants as rows
 use Rattle.asn1_types.specs.Numbered.{kind_numbered, class_numbered}
+use Rattle.asn1_types.specs.Limits.{most_octets}
 use Rattle.operation_notation.specs.Tree.{TypeTree, type_tree, PlainTree, boolean, null, integer, enumerated, octets, bits, object_id, text, sequence_of, set_of, sequence, set, choice, named, PartTrees, no_parts, part}
 use Rattle.operation_notation.specs.declared.module.TagText.{TagText}
 use Rattle.operation_notation.specs.declared.module.RangeText.{RangeText}
@@ -74,7 +75,7 @@ most (pos n) = if nat_lt n 4294967296 then Some n else None
 most (negsuc n) = None
 
 abbrev pub size_of : Option RangeText → Option ℕ
-size_of None = Some 262144
+size_of None = Some most_octets
 size_of (Some r) = most r.high
 
 abbrev pub item_of : ItemText → Item

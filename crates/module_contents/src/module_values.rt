@@ -3,6 +3,7 @@
 ghost use Rattle.std.specs.Prelude.{◌≡◌, ◌<◌, length, IfOk, true, false, nat_eq};
 ghost use Rattle.std.specs.Option.{option_copied};
 ghost use Rattle.osi_base.specs.declared.syntax.Syntax.TheVariants as syntaxes;
+ghost use Rattle.asn1_types.specs.Limits.{most_octets};
 ghost use Rattle.end_wire.specs.Heads.{value_at, typed_at, carried_at, value_or_lack};
 ghost use Rattle.module_contents.specs.Said.{room_in, spelled_or, value_needed};
 
@@ -22,7 +23,7 @@ fn ber_value(
     octets: &[u8],
 ) -> Result<Option<Val>, NoMemory>
     requires { of.0 < length types.now }
-    ensures { IfOk result (λ v. spelled_or v ≡ value_at syntaxes.Ber types.now 262144 of.0
+    ensures { IfOk result (λ v. spelled_or v ≡ value_at syntaxes.Ber types.now most_octets of.0
         octets.now) }
 {
     match ber_read(alloc, types, of, octets) {
@@ -47,7 +48,7 @@ fn der_value(
     octets: &[u8],
 ) -> Result<Option<Val>, NoMemory>
     requires { of.0 < length types.now }
-    ensures { IfOk result (λ v. spelled_or v ≡ value_at syntaxes.Der types.now 262144 of.0
+    ensures { IfOk result (λ v. spelled_or v ≡ value_at syntaxes.Der types.now most_octets of.0
         octets.now) }
 {
     match der_read(alloc, types, of, octets) {

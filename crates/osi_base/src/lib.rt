@@ -1,5 +1,6 @@
-//! The words that all layers of the stack share: octets, names, object identifiers, transfer
-//! syntaxes, pairs, kinds of fault, and the traits of the outside.
+//! The words that all layers of the stack share: octets and queues of them, names, object
+//! identifiers, transfer syntaxes, pairs, places in sets of contexts, kinds of fault, how faults
+//! print, and the traits of the outside.
 #![tactic(auto)]
 
 mod acse_word;

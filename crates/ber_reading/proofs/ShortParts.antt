@@ -23,7 +23,7 @@ use Rattle.ber_spelling.specs.Reading.{spot_of, Spot, Opened, begun, ◌>>=◌, 
 use Rattle.ber_spelling.specs.Fields.{is_end, opened_at, identifier_at, announced_at, definite_at, contents_at, look_at}
 use Rattle.ber_spelling.specs.Rules.{Reader, always, integer_rule, primitive_at, choice_at, reads, bare, plain, is_other, expect_at, judge, form_at}
 use Rattle.ber_spelling.proofs.Growing.{within_is}
-use Rattle.ber_reading.specs.AtOnce.{IsReach, integer_tag, integer_opened, behind}
+use Rattle.ber_reading.specs.ShortParts.{IsReach, integer_tag, integer_opened, behind}
 use Rattle.ber_reading.specs.Parts.{part_from}
 use Rattle.ber_reading.proofs.Rows.{reads_at}
 
