@@ -10,7 +10,7 @@ use Rattle.stub_tables.specs.declared.tables.Tables.{Tables}
 use Rattle.stub_tables.specs.declared.apdu.Apdu.{Apdu}
 use Rattle.stub_tables.specs.declared.operation.Code.{Code}
 use Rattle.stub_tables.specs.declared.operation.Code.TheVariants.{Local, Global}
-use Rattle.apdu_spelling.specs.Spellings.{most_octets}
+use Rattle.asn1_types.specs.Limits.{most_octets}
 use Rattle.apdu_spelling.specs.Writing.{written_apdu}
 
 -- identifier of one octet, length and contents
