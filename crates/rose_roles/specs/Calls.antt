@@ -1,6 +1,6 @@
 -- What an end keeps of open invocations: the forest of their keys, and for each end the operation and the context of
 -- each. Together they are the list of open invocations in order of opening.
-use Rattle.std.specs.Prelude.{◌≡◌, ℕ, ℤ, Bool, not, List, [], ◌∷◌, Option, Some, None, is_some, if◌then◌else◌}
+use Rattle.std.specs.Prelude.{◌≡◌, ℕ, ℤ, Bool, true, false, not, List, [], ◌∷◌, Option, Some, None, is_some, if◌then◌else◌}
 use Rattle.std.specs.Ordering.{int_cmp}
 use Rattle.std.specs.Map.{lookup}
 use Rattle.std.specs.BTreeMap.{is_at}
@@ -33,6 +33,12 @@ key_of own id = record { own = own; id = id }
 -- The keys of one end in the forest are its open invocations.
 pub record AreOpen (own : Bool) (forest : List Entry) (kept : Kept) : Type 0 where
   pub each : (id : ℤ) → is_open (key_of own id) forest ≡ is_some (called id kept)
+
+-- The own keys of the forest are the own open invocations afterwards, and the others are those of the peer where they were
+-- before.
+pub record KeepsOpen (before after : List Entry) (kept : Kept) : Type 0 where
+  pub own : AreOpen true after kept
+  pub peer : (performed : Kept) → AreOpen false before performed → AreOpen false after performed
 
 -- ---- the open invocations of both ends, in order of opening
 

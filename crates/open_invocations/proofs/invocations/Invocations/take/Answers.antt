@@ -17,5 +17,5 @@ invariant_of-self c =
 pub invariant_of-self-in-Result : goal.invariant_of-self-in-Result
 invariant_of-self-in-Result c =
     let i = c.self.inside in
-    taken_by_invoker c.args.syntax c.args.context c.args.tables.now c.args.head c.requires i.forest c.take-in-Result.new.forest i.invoker c.take-in-Result.new.self i.performer.kept c.self.invariant c.take-in-Result.ensures.own
-    (c.take-in-Result.ensures.peer i.performer.kept c.self.invariant.peer) c.take-in-Result.result c.take-in-Result.ensures.heard c.take-in-Result.ensures.err
+    taken_by_invoker c.args.syntax c.args.context c.args.tables.now c.args.head c.requires i.forest c.take-in-Result.new.forest i.invoker c.take-in-Result.new.self i.performer.kept c.self.invariant c.take-in-Result.ensures.open.own
+    (c.take-in-Result.ensures.open.peer i.performer.kept c.self.invariant.peer) c.take-in-Result.result c.take-in-Result.ensures.heard c.take-in-Result.ensures.err
