@@ -205,8 +205,14 @@ fn informed_value(
     match content {
         ValueContent::Association { apdu, user } => {
             if is_of(kind, &apdu) {
-                let user = first_informed(basis, accepted, user)?;
-                one(basis, id, pair, ValueContent::Association { apdu, user })
+                match first_informed(basis, accepted, user) {
+                    Ok(user) => one(basis, id, pair, ValueContent::Association { apdu, user }),
+                    Err(halt) => {
+                        drop(pair);
+                        drop(apdu);
+                        Err(halt)
+                    }
+                }
             } else {
                 one(basis, id, pair, ValueContent::Association { apdu, user })
             }

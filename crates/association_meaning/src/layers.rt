@@ -85,11 +85,16 @@ fn without_user(alloc: Global, apdu: Acse) -> Acse
 pub(crate) fn associated(alloc: Global, apdu: Acse) -> Result<ValueContent, NoMemory>
     ensures { IfOk result (λ content. seen_content content ≡ reading.associated apdu) }
 {
-    let user = others(alloc, externals_of(&apdu))?;
-    Ok(ValueContent::Association {
-        apdu: without_user(alloc, apdu),
-        user,
-    })
+    match others(alloc, externals_of(&apdu)) {
+        Ok(user) => Ok(ValueContent::Association {
+            apdu: without_user(alloc, apdu),
+            user,
+        }),
+        Err(error) => {
+            drop(apdu);
+            Err(error)
+        }
+    }
 }
 
 /// What octets are as an APDU of association control.

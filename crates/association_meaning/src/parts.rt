@@ -6,6 +6,7 @@ ghost use Rattle.presentation_pdus.specs.Units.{ppdu_at};
 ghost use Rattle.association_reading.specs.Meaning as reading;
 ghost use Rattle.association_reading.specs.Places.{pdv_places};
 ghost use Rattle.association_words.specs.Seen.{seen_values, seen_accepting, seen_abort, seen_word};
+ghost use Rattle.association_meaning.specs.declared.basis.Halt.TheVariants as halts;
 ghost use Rattle.association_meaning.specs.Grounds.{association_base, GivesAs};
 ghost use Rattle.association_intake.specs.Seen.{HasPlaces};
 ghost use Rattle.association_meaning.specs.Steps as steps;
@@ -66,6 +67,20 @@ fn without_user(alloc: Global, session: &SessionConnect) -> Result<SessionConnec
     })
 }
 
+/// What a unit of another kind gives: an invalid unit of the presentation. It is let go here, by a
+/// call, since it is much to let go in each function that looks for one kind.
+fn other_unit<T>(alloc: Global, unit: PresentationWord) -> Result<T, Halt>
+    ensures { result ≡ Err (halts.Faulty (record {
+      layer = Layer.Presentation;
+      place = 0;
+      reason = 6;
+      told = [];
+    })) }
+{
+    drop(unit);
+    invalid_ppdu(alloc)
+}
+
 /// CP in the user data of CN.
 fn connect_in(basis: &Ground<'_>, carrier: &Carrier<'_>) -> Result<PresentationConnect, Halt>
     requires { carrier.now.start + length carrier.now.user.now < 2 ^ 63 }
@@ -75,15 +90,15 @@ fn connect_in(basis: &Ground<'_>, carrier: &Carrier<'_>) -> Result<PresentationC
     let unit = unit_in(basis, carrier)?;
     match unit {
         PresentationWord::Connect(presentation) => Ok(presentation),
-        PresentationWord::Accept(_) => invalid_ppdu(basis.alloc),
-        PresentationWord::Reject(_) => invalid_ppdu(basis.alloc),
-        PresentationWord::Alter { .. } => invalid_ppdu(basis.alloc),
-        PresentationWord::AlterAck { .. } => invalid_ppdu(basis.alloc),
-        PresentationWord::Resynchronize { .. } => invalid_ppdu(basis.alloc),
-        PresentationWord::ResynchronizeAck { .. } => invalid_ppdu(basis.alloc),
-        PresentationWord::UserAbort { .. } => invalid_ppdu(basis.alloc),
-        PresentationWord::ProviderAbort { .. } => invalid_ppdu(basis.alloc),
-        PresentationWord::Data { .. } => invalid_ppdu(basis.alloc),
+        other @ PresentationWord::Accept(_) => other_unit(basis.alloc, other),
+        other @ PresentationWord::Reject(_) => other_unit(basis.alloc, other),
+        other @ PresentationWord::Alter { .. } => other_unit(basis.alloc, other),
+        other @ PresentationWord::AlterAck { .. } => other_unit(basis.alloc, other),
+        other @ PresentationWord::Resynchronize { .. } => other_unit(basis.alloc, other),
+        other @ PresentationWord::ResynchronizeAck { .. } => other_unit(basis.alloc, other),
+        other @ PresentationWord::UserAbort { .. } => other_unit(basis.alloc, other),
+        other @ PresentationWord::ProviderAbort { .. } => other_unit(basis.alloc, other),
+        other @ PresentationWord::Data { .. } => other_unit(basis.alloc, other),
     }
 }
 
@@ -96,15 +111,15 @@ fn accept_in(basis: &Ground<'_>, carrier: &Carrier<'_>) -> Result<PresentationAc
     let unit = unit_in(basis, carrier)?;
     match unit {
         PresentationWord::Accept(presentation) => Ok(presentation),
-        PresentationWord::Connect(_) => invalid_ppdu(basis.alloc),
-        PresentationWord::Reject(_) => invalid_ppdu(basis.alloc),
-        PresentationWord::Alter { .. } => invalid_ppdu(basis.alloc),
-        PresentationWord::AlterAck { .. } => invalid_ppdu(basis.alloc),
-        PresentationWord::Resynchronize { .. } => invalid_ppdu(basis.alloc),
-        PresentationWord::ResynchronizeAck { .. } => invalid_ppdu(basis.alloc),
-        PresentationWord::UserAbort { .. } => invalid_ppdu(basis.alloc),
-        PresentationWord::ProviderAbort { .. } => invalid_ppdu(basis.alloc),
-        PresentationWord::Data { .. } => invalid_ppdu(basis.alloc),
+        other @ PresentationWord::Connect(_) => other_unit(basis.alloc, other),
+        other @ PresentationWord::Reject(_) => other_unit(basis.alloc, other),
+        other @ PresentationWord::Alter { .. } => other_unit(basis.alloc, other),
+        other @ PresentationWord::AlterAck { .. } => other_unit(basis.alloc, other),
+        other @ PresentationWord::Resynchronize { .. } => other_unit(basis.alloc, other),
+        other @ PresentationWord::ResynchronizeAck { .. } => other_unit(basis.alloc, other),
+        other @ PresentationWord::UserAbort { .. } => other_unit(basis.alloc, other),
+        other @ PresentationWord::ProviderAbort { .. } => other_unit(basis.alloc, other),
+        other @ PresentationWord::Data { .. } => other_unit(basis.alloc, other),
     }
 }
 
@@ -117,15 +132,15 @@ fn reject_in(basis: &Ground<'_>, carrier: &Carrier<'_>) -> Result<PresentationRe
     let unit = unit_in(basis, carrier)?;
     match unit {
         PresentationWord::Reject(presentation) => Ok(presentation),
-        PresentationWord::Connect(_) => invalid_ppdu(basis.alloc),
-        PresentationWord::Accept(_) => invalid_ppdu(basis.alloc),
-        PresentationWord::Alter { .. } => invalid_ppdu(basis.alloc),
-        PresentationWord::AlterAck { .. } => invalid_ppdu(basis.alloc),
-        PresentationWord::Resynchronize { .. } => invalid_ppdu(basis.alloc),
-        PresentationWord::ResynchronizeAck { .. } => invalid_ppdu(basis.alloc),
-        PresentationWord::UserAbort { .. } => invalid_ppdu(basis.alloc),
-        PresentationWord::ProviderAbort { .. } => invalid_ppdu(basis.alloc),
-        PresentationWord::Data { .. } => invalid_ppdu(basis.alloc),
+        other @ PresentationWord::Connect(_) => other_unit(basis.alloc, other),
+        other @ PresentationWord::Accept(_) => other_unit(basis.alloc, other),
+        other @ PresentationWord::Alter { .. } => other_unit(basis.alloc, other),
+        other @ PresentationWord::AlterAck { .. } => other_unit(basis.alloc, other),
+        other @ PresentationWord::Resynchronize { .. } => other_unit(basis.alloc, other),
+        other @ PresentationWord::ResynchronizeAck { .. } => other_unit(basis.alloc, other),
+        other @ PresentationWord::UserAbort { .. } => other_unit(basis.alloc, other),
+        other @ PresentationWord::ProviderAbort { .. } => other_unit(basis.alloc, other),
+        other @ PresentationWord::Data { .. } => other_unit(basis.alloc, other),
     }
 }
 
@@ -138,15 +153,15 @@ fn data_in(basis: &Ground<'_>, carrier: &Carrier<'_>) -> Result<Pdvs, Halt>
     let unit = unit_in(basis, carrier)?;
     match unit {
         PresentationWord::Data { user } => Ok(user),
-        PresentationWord::Connect(_) => invalid_ppdu(basis.alloc),
-        PresentationWord::Accept(_) => invalid_ppdu(basis.alloc),
-        PresentationWord::Reject(_) => invalid_ppdu(basis.alloc),
-        PresentationWord::Alter { .. } => invalid_ppdu(basis.alloc),
-        PresentationWord::AlterAck { .. } => invalid_ppdu(basis.alloc),
-        PresentationWord::Resynchronize { .. } => invalid_ppdu(basis.alloc),
-        PresentationWord::ResynchronizeAck { .. } => invalid_ppdu(basis.alloc),
-        PresentationWord::UserAbort { .. } => invalid_ppdu(basis.alloc),
-        PresentationWord::ProviderAbort { .. } => invalid_ppdu(basis.alloc),
+        other @ PresentationWord::Connect(_) => other_unit(basis.alloc, other),
+        other @ PresentationWord::Accept(_) => other_unit(basis.alloc, other),
+        other @ PresentationWord::Reject(_) => other_unit(basis.alloc, other),
+        other @ PresentationWord::Alter { .. } => other_unit(basis.alloc, other),
+        other @ PresentationWord::AlterAck { .. } => other_unit(basis.alloc, other),
+        other @ PresentationWord::Resynchronize { .. } => other_unit(basis.alloc, other),
+        other @ PresentationWord::ResynchronizeAck { .. } => other_unit(basis.alloc, other),
+        other @ PresentationWord::UserAbort { .. } => other_unit(basis.alloc, other),
+        other @ PresentationWord::ProviderAbort { .. } => other_unit(basis.alloc, other),
     }
 }
 
@@ -167,16 +182,27 @@ pub(crate) fn connect_meaning(
         user: session.user.as_slice(),
     };
     let presentation = connect_in(basis, &carrier)?;
-    let values = connect_values(basis, &presentation, &carrier)?;
-    let session = without_user(basis.alloc, session)?;
-    Ok(Word::OfAssociation(AssociationWord::Connect {
-        session,
-        presentation: PresentationConnect {
-            user: ListOf::new(basis.alloc),
-            ..presentation
+    match connect_values(basis, &presentation, &carrier) {
+        Err(halt) => {
+            drop(presentation);
+            Err(halt)
+        }
+        Ok(values) => match without_user(basis.alloc, session) {
+            Err(NoMemory) => {
+                drop(presentation);
+                drop(values);
+                Err(Halt::NoMemory)
+            }
+            Ok(session) => Ok(Word::OfAssociation(AssociationWord::Connect {
+                session,
+                presentation: PresentationConnect {
+                    user: ListOf::new(basis.alloc),
+                    ..presentation
+                },
+                values,
+            })),
         },
-        values,
-    }))
+    }
 }
 
 /// AC with CPA.
@@ -197,15 +223,20 @@ pub(crate) fn accept_meaning(
         user,
     };
     let presentation = accept_in(basis, &carrier)?;
-    let values = accept_values(basis, &presentation, &carrier)?;
-    Ok(Word::OfAssociation(AssociationWord::Accept {
-        session,
-        presentation: PresentationAccept {
-            user: ListOf::new(basis.alloc),
-            ..presentation
-        },
-        values,
-    }))
+    match accept_values(basis, &presentation, &carrier) {
+        Err(halt) => {
+            drop(presentation);
+            Err(halt)
+        }
+        Ok(values) => Ok(Word::OfAssociation(AssociationWord::Accept {
+            session,
+            presentation: PresentationAccept {
+                user: ListOf::new(basis.alloc),
+                ..presentation
+            },
+            values,
+        })),
+    }
 }
 
 /// RF with CPR.
@@ -295,14 +326,14 @@ fn abort_in(
             user_abort(basis, accepted, carrier, user.as_slice())
         }
         PresentationWord::ProviderAbort { reason, .. } => Ok(AbortData::ProviderReason { reason }),
-        PresentationWord::Connect(_) => invalid_ppdu(basis.alloc),
-        PresentationWord::Accept(_) => invalid_ppdu(basis.alloc),
-        PresentationWord::Reject(_) => invalid_ppdu(basis.alloc),
-        PresentationWord::Alter { .. } => invalid_ppdu(basis.alloc),
-        PresentationWord::AlterAck { .. } => invalid_ppdu(basis.alloc),
-        PresentationWord::Resynchronize { .. } => invalid_ppdu(basis.alloc),
-        PresentationWord::ResynchronizeAck { .. } => invalid_ppdu(basis.alloc),
-        PresentationWord::Data { .. } => invalid_ppdu(basis.alloc),
+        other @ PresentationWord::Connect(_) => other_unit(basis.alloc, other),
+        other @ PresentationWord::Accept(_) => other_unit(basis.alloc, other),
+        other @ PresentationWord::Reject(_) => other_unit(basis.alloc, other),
+        other @ PresentationWord::Alter { .. } => other_unit(basis.alloc, other),
+        other @ PresentationWord::AlterAck { .. } => other_unit(basis.alloc, other),
+        other @ PresentationWord::Resynchronize { .. } => other_unit(basis.alloc, other),
+        other @ PresentationWord::ResynchronizeAck { .. } => other_unit(basis.alloc, other),
+        other @ PresentationWord::Data { .. } => other_unit(basis.alloc, other),
     }
 }
 
@@ -505,14 +536,14 @@ pub(crate) fn typed_meaning(basis: &Ground<'_>, start: usize, user: &[u8]) -> Re
         PresentationWord::AlterAck { answers } => {
             Ok(Word::OfData(DataWord::AlterContextAck { answers }))
         }
-        PresentationWord::Connect(_) => invalid_ppdu(basis.alloc),
-        PresentationWord::Accept(_) => invalid_ppdu(basis.alloc),
-        PresentationWord::Reject(_) => invalid_ppdu(basis.alloc),
-        PresentationWord::Resynchronize { .. } => invalid_ppdu(basis.alloc),
-        PresentationWord::ResynchronizeAck { .. } => invalid_ppdu(basis.alloc),
-        PresentationWord::UserAbort { .. } => invalid_ppdu(basis.alloc),
-        PresentationWord::ProviderAbort { .. } => invalid_ppdu(basis.alloc),
-        PresentationWord::Data { .. } => invalid_ppdu(basis.alloc),
+        other @ PresentationWord::Connect(_) => other_unit(basis.alloc, other),
+        other @ PresentationWord::Accept(_) => other_unit(basis.alloc, other),
+        other @ PresentationWord::Reject(_) => other_unit(basis.alloc, other),
+        other @ PresentationWord::Resynchronize { .. } => other_unit(basis.alloc, other),
+        other @ PresentationWord::ResynchronizeAck { .. } => other_unit(basis.alloc, other),
+        other @ PresentationWord::UserAbort { .. } => other_unit(basis.alloc, other),
+        other @ PresentationWord::ProviderAbort { .. } => other_unit(basis.alloc, other),
+        other @ PresentationWord::Data { .. } => other_unit(basis.alloc, other),
     }
 }
 
@@ -532,15 +563,15 @@ fn restart_meaning(basis: &Ground<'_>, number: u32, start: usize, user: &[u8]) -
             number,
             list: restored,
         })),
-        PresentationWord::Connect(_) => invalid_ppdu(basis.alloc),
-        PresentationWord::Accept(_) => invalid_ppdu(basis.alloc),
-        PresentationWord::Reject(_) => invalid_ppdu(basis.alloc),
-        PresentationWord::Alter { .. } => invalid_ppdu(basis.alloc),
-        PresentationWord::AlterAck { .. } => invalid_ppdu(basis.alloc),
-        PresentationWord::ResynchronizeAck { .. } => invalid_ppdu(basis.alloc),
-        PresentationWord::UserAbort { .. } => invalid_ppdu(basis.alloc),
-        PresentationWord::ProviderAbort { .. } => invalid_ppdu(basis.alloc),
-        PresentationWord::Data { .. } => invalid_ppdu(basis.alloc),
+        other @ PresentationWord::Connect(_) => other_unit(basis.alloc, other),
+        other @ PresentationWord::Accept(_) => other_unit(basis.alloc, other),
+        other @ PresentationWord::Reject(_) => other_unit(basis.alloc, other),
+        other @ PresentationWord::Alter { .. } => other_unit(basis.alloc, other),
+        other @ PresentationWord::AlterAck { .. } => other_unit(basis.alloc, other),
+        other @ PresentationWord::ResynchronizeAck { .. } => other_unit(basis.alloc, other),
+        other @ PresentationWord::UserAbort { .. } => other_unit(basis.alloc, other),
+        other @ PresentationWord::ProviderAbort { .. } => other_unit(basis.alloc, other),
+        other @ PresentationWord::Data { .. } => other_unit(basis.alloc, other),
     }
 }
 
@@ -584,15 +615,15 @@ fn restart_ack_meaning(
                 list: restored,
             }))
         }
-        PresentationWord::Connect(_) => invalid_ppdu(basis.alloc),
-        PresentationWord::Accept(_) => invalid_ppdu(basis.alloc),
-        PresentationWord::Reject(_) => invalid_ppdu(basis.alloc),
-        PresentationWord::Alter { .. } => invalid_ppdu(basis.alloc),
-        PresentationWord::AlterAck { .. } => invalid_ppdu(basis.alloc),
-        PresentationWord::Resynchronize { .. } => invalid_ppdu(basis.alloc),
-        PresentationWord::UserAbort { .. } => invalid_ppdu(basis.alloc),
-        PresentationWord::ProviderAbort { .. } => invalid_ppdu(basis.alloc),
-        PresentationWord::Data { .. } => invalid_ppdu(basis.alloc),
+        other @ PresentationWord::Connect(_) => other_unit(basis.alloc, other),
+        other @ PresentationWord::Accept(_) => other_unit(basis.alloc, other),
+        other @ PresentationWord::Reject(_) => other_unit(basis.alloc, other),
+        other @ PresentationWord::Alter { .. } => other_unit(basis.alloc, other),
+        other @ PresentationWord::AlterAck { .. } => other_unit(basis.alloc, other),
+        other @ PresentationWord::Resynchronize { .. } => other_unit(basis.alloc, other),
+        other @ PresentationWord::UserAbort { .. } => other_unit(basis.alloc, other),
+        other @ PresentationWord::ProviderAbort { .. } => other_unit(basis.alloc, other),
+        other @ PresentationWord::Data { .. } => other_unit(basis.alloc, other),
     }
 }
 
