@@ -1,4 +1,5 @@
-//! What an end does with the end of an activity.
+//! What an end does with the end of an activity. What arrived is let go by a call wherever it isn't
+//! handed on.
 
 ghost use Rattle.std.specs.Prelude.{◌≡◌, IfOk, false};
 ghost use Rattle.end_rules.specs.Base.{is_bare};
@@ -29,11 +30,11 @@ fn take_or_fail_end(
         (OfActivities (rule_end number)) (word_fault (base_in basis.now) (seen body.old)
         (OfActivities (rule_end number)))) (seen body.old) (seen body.new)) }
 {
-    if !is_in_place(
-        basis,
-        body,
-        &Word::OfActivities(ActivityWord::End { number }),
-    ) {
+    let end = Word::OfActivities(ActivityWord::End { number });
+    let placed = is_in_place(basis, body, &end);
+    drop(end);
+    if !placed {
+        drop(arrived);
         return fails_on_accepted(basis, body, Fault::at(basis.alloc, Layer::Session, 0, 0));
     }
     match arrived {
@@ -57,13 +58,14 @@ fn react_to_end_word(
         (OfActivities (rule_end number))) (seen body.old) (seen body.new)) }
 {
     if !has_connection(body) {
+        drop(arrived);
         return fails_on_accepted(basis, body, Fault::at(basis.alloc, Layer::Transport, 0, 0));
     }
-    if is_purged(
-        basis.config.initiator,
-        body.link.awaits,
-        &Word::OfActivities(ActivityWord::End { number }),
-    ) {
+    let end = Word::OfActivities(ActivityWord::End { number });
+    let purged = is_purged(basis.config.initiator, body.link.awaits, &end);
+    drop(end);
+    if purged {
+        drop(arrived);
         return Ok(Reaction::Passes);
     }
     take_or_fail_end(basis, body, number, arrived)
@@ -83,6 +85,7 @@ pub fn react_to_end(
         (OfActivities (rule_end number)))) (seen body.old) (seen body.new)) }
 {
     if passes_over(body.link.phase) {
+        drop(arrived);
         return Ok(Reaction::Passes);
     }
     react_to_end_word(basis, body, number, arrived)

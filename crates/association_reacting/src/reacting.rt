@@ -1,4 +1,5 @@
-//! What an end does with a message.
+//! What an end does with a message, which is let go by a call wherever it isn't handed on: what it
+//! may hold is much to let go where a function ends.
 
 ghost use Rattle.std.specs.Prelude.{◌≡◌, IfOk, false};
 ghost use Rattle.end_rules.specs.Base.{is_bare};
@@ -25,9 +26,11 @@ fn react_to_word(basis: &Ground<'_>, body: &mut Body, word: Word) -> Result<Reac
         (seen_word word)) (seen body.old) (seen body.new)) }
 {
     if !has_connection(body) {
+        drop(word);
         return fails_on_accepted(basis, body, Fault::at(basis.alloc, Layer::Transport, 0, 0));
     }
     if is_purged(basis.config.initiator, body.link.awaits, &word) {
+        drop(word);
         return Ok(Reaction::Passes);
     }
     take_or_fail(basis, body, word)
@@ -43,10 +46,14 @@ fn react_to_transport(
         (seen_transport unit)) (seen body.old) (seen body.new)) }
 {
     if is_transport_purged(body.link.awaits) {
+        drop(unit);
         return Ok(Reaction::Passes);
     }
     match transport_fault(basis, body, &unit) {
-        Some(fault) => fails_on_accepted(basis, body, fault),
+        Some(fault) => {
+            drop(unit);
+            fails_on_accepted(basis, body, fault)
+        }
         None => {
             let taken = take_transport(basis, body, unit)?;
             Ok(Reaction::Takes(taken))
@@ -62,6 +69,7 @@ pub fn react(basis: &Ground<'_>, body: &mut Body, message: Message) -> Result<Re
         (seen_message message)) (seen body.old) (seen body.new)) }
 {
     if passes_over(body.link.phase) {
+        drop(message);
         return Ok(Reaction::Passes);
     }
     match message {

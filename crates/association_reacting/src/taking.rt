@@ -62,7 +62,7 @@ fn fail_word(
     fails(basis, body, accepted.as_slice(), fault)
 }
 
-/// Takes a unit, or ends the association for what is faulty in it.
+/// Takes a unit, or ends the association for what is faulty in it. The unit is let go by a call.
 pub(crate) fn take_or_fail(
     basis: &Ground<'_>,
     body: &mut Body,
@@ -73,11 +73,21 @@ pub(crate) fn take_or_fail(
         (word_fault (base_in basis.now) (seen body.old) (seen_word word))) (seen body.old)
         (seen body.new)) }
 {
-    match word_fault(basis, body, &word)? {
-        Some(fault) => fail_word(basis, body, &word, fault),
-        None => {
-            let taken = take_word(basis, body, word)?;
-            Ok(Reaction::Takes(taken))
+    match word_fault(basis, body, &word) {
+        Ok(fault) => match fault {
+            Some(fault) => {
+                let reaction = fail_word(basis, body, &word, fault);
+                drop(word);
+                reaction
+            }
+            None => {
+                let taken = take_word(basis, body, word)?;
+                Ok(Reaction::Takes(taken))
+            }
+        },
+        Err(error) => {
+            drop(word);
+            Err(error)
         }
     }
 }

@@ -16,9 +16,9 @@ returns-then-not-has_connection c =
     (unconnected b old word (sym c.has_connection.ensures ∙ c.if-not-has_connection.true) ∙ ap (λ (f : Fault). fails old old.link.accepted f) (sym c.at.ensures))
     c.fails_on_accepted.ensures
 
-pub returns-then-is_purged : goal.returns-then-is_purged
-returns-then-is_purged c = record {
-  is = purged (base_in c.args.basis.now) (seen c.args.body.now) (OfActivities (End c.args.number)) (sym c.has_connection.ensures ∙ c.if-not-has_connection.false) (sym c.is_purged.ensures ∙ c.if-is_purged.true);
+pub returns-then-purged : goal.returns-then-purged
+returns-then-purged c = record {
+  is = purged (base_in c.args.basis.now) (seen c.args.body.now) (OfActivities (End c.args.number)) (sym c.has_connection.ensures ∙ c.if-not-has_connection.false) (sym c.is_purged-purged.ensures ∙ c.if-purged.true);
   body = refl;
 }
 
@@ -28,5 +28,5 @@ returns c =
     let old = seen c.args.body.now in
     let word : Word = OfActivities (End c.args.number) in
     result_by (react_to_word b old word) (on_word b old word (word_fault b old word)) old (seen c.take_or_fail_end.new.body) c.take_or_fail_end.result
-    (looked_at b old word (sym c.has_connection.ensures ∙ c.if-not-has_connection.false) (sym c.is_purged.ensures ∙ c.if-is_purged.false))
+    (looked_at b old word (sym c.has_connection.ensures ∙ c.if-not-has_connection.false) (sym c.is_purged-purged.ensures ∙ c.if-purged.false))
     c.take_or_fail_end.ensures

@@ -12,13 +12,13 @@ use Rattle.association_reacting.specs.Ends.{Arrives, ArrivesAs}
 use Rattle.association_reacting.proofs.Reactions.{result_by, taken_so, misplaced, in_place}
 use Rattle.association_reacting.proofs.ending.take_or_fail_end.Goals as goal
 
-pub returns-then-not-is_in_place : goal.returns-then-not-is_in_place
-returns-then-not-is_in_place c =
+pub returns-then-not-placed : goal.returns-then-not-placed
+returns-then-not-placed c =
     let b = base_in c.args.basis.now in
     let old = seen c.args.body.now in
     let word : Word = OfActivities (End c.args.number) in
     result_by (on_word b old word (word_fault b old word)) (fails old old.link.accepted (seen_fault c.at.result)) old (seen c.fails_on_accepted.new.body) c.fails_on_accepted.result
-    (ap (on_word b old word) (misplaced b old word (sym c.is_in_place.ensures ∙ c.if-not-is_in_place.true)) ∙ ap (λ (f : Fault). fails old old.link.accepted f) (sym c.at.ensures))
+    (ap (on_word b old word) (misplaced b old word (sym c.is_in_place-placed.ensures ∙ c.if-not-placed.true)) ∙ ap (λ (f : Fault). fails old old.link.accepted f) (sym c.at.ensures))
     c.fails_on_accepted.ensures
 
 pub end_taken-requires : goal.end_taken-requires
@@ -34,7 +34,7 @@ returns-in_ok-taken-in-Ok c =
     let word : Word = OfActivities (End c.args.number) in
     let arrives : Arrives b old c.in-Ok.value = subst (λ (r : Result (Option Value) faults.Fault). ArrivesAs b old r) c.in-Ok.is c.requires in
     taken_so (on_word b old word (word_fault b old word)) (seen c.end_taken.new.body) (after_activity b old (End c.args.number)) (answers_to_activity b old (End c.args.number)) (shown_of_activity b old (End c.args.number)) c.in_ok-taken-in-Ok.taken
-    (ap (on_word b old word) (in_place b old word (sym c.is_in_place.ensures ∙ c.if-not-is_in_place.false) ∙ arrives.sound))
+    (ap (on_word b old word) (in_place b old word (sym c.is_in_place-placed.ensures ∙ c.if-not-placed.false) ∙ arrives.sound))
     c.in_ok-taken-in-Ok.ensures.body c.in_ok-taken-in-Ok.ensures.taken
 
 pub returns-in-Err : goal.returns-in-Err
@@ -43,5 +43,5 @@ returns-in-Err c =
     let old = seen c.args.body.now in
     let word : Word = OfActivities (End c.args.number) in
     result_by (on_word b old word (word_fault b old word)) (fails old old.link.accepted (seen_fault c.in-Err.fault)) old (seen c.fails_on_accepted-in-Err.new.body) c.fails_on_accepted-in-Err.result
-    (ap (on_word b old word) (in_place b old word (sym c.is_in_place.ensures ∙ c.if-not-is_in_place.false) ∙ subst (λ (r : Result (Option Value) faults.Fault). ArrivesAs b old r) c.in-Err.is c.requires))
+    (ap (on_word b old word) (in_place b old word (sym c.is_in_place-placed.ensures ∙ c.if-not-placed.false) ∙ subst (λ (r : Result (Option Value) faults.Fault). ArrivesAs b old r) c.in-Err.is c.requires))
     c.fails_on_accepted-in-Err.ensures

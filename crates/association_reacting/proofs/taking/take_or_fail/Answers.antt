@@ -11,12 +11,12 @@ returns-in-Some c =
     let b = base_in c.args.basis.now in
     let old = seen c.args.body.now in
     let word = seen_word c.args.word in
-    result_by (on_word b old word (word_fault b old word)) (fails old (contexts_of_word b old word) (seen_fault c.in-Some.fault)) old (seen c.fail_word.new.body) c.fail_word.result
-    (ap (on_word b old word) (sym (sym (ap (option_map seen_fault) c.in-Some.is) ∙ c.in_ok-fault.ensures)))
-    c.fail_word.ensures
+    result_by (on_word b old word (word_fault b old word)) (fails old (contexts_of_word b old word) (seen_fault c.in-Some.fault)) old (seen c.fail_word-reaction.new.body) c.fail_word-reaction.result
+    (ap (on_word b old word) (sym (sym (ap (option_map seen_fault) c.in-Some.is) ∙ c.in-Ok.ensures)))
+    c.fail_word-reaction.ensures
 
 pub take_word-requires-clause-right : goal.take_word-requires-clause-right
-take_word-requires-clause-right c = sym (sym (ap (option_map seen_fault) c.in-None.is) ∙ c.in_ok-fault.ensures)
+take_word-requires-clause-right c = sym (sym (ap (option_map seen_fault) c.in-None.is) ∙ c.in-Ok.ensures)
 
 pub returns-in_ok-taken-in-None : goal.returns-in_ok-taken-in-None
 returns-in_ok-taken-in-None c =
@@ -24,5 +24,5 @@ returns-in_ok-taken-in-None c =
     let old = seen c.args.body.now in
     let word = seen_word c.args.word in
     taken_so (on_word b old word (word_fault b old word)) (seen c.take_word.new.body) (after_word b old word) (answers_to_word b old word) (shown_of_word b old word) c.in_ok-taken-in-None.taken
-    (ap (on_word b old word) (sym (sym (ap (option_map seen_fault) c.in-None.is) ∙ c.in_ok-fault.ensures)))
+    (ap (on_word b old word) (sym (sym (ap (option_map seen_fault) c.in-None.is) ∙ c.in-Ok.ensures)))
     c.in_ok-taken-in-None.ensures.body c.in_ok-taken-in-None.ensures.taken
