@@ -56,14 +56,18 @@ impl<'t> End<'t> {
         }
     }
 
-    /// Makes a call, unless memory is refused.
+    /// Makes a call, unless memory is refused. The message is let go by a call, since it is much to
+    /// let go where a function ends.
     fn call_now(&mut self, asked: &Call) -> Result<Option<i64>, CallRefusal>
         ensures { Answers self.old self.new asked.now result }
     {
         let called = self.change(asked)?;
-        self.send_due(&called.message)?;
+        let Called { answer, message } = called;
+        let sent = self.send_due(&message);
+        drop(message);
+        sent?;
         self.pump()?;
-        Ok(called.answer)
+        Ok(answer)
     }
 
     /// Makes a call; where memory is refused, the end dies.

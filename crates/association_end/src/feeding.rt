@@ -53,6 +53,7 @@ impl<'t> End<'t> {
         reactions_are_steps();
         let front = self.take_front();
         if is_short(&front) {
+            drop(front);
             return Ok(false);
         }
         self.deal_with(front, shown)

@@ -43,28 +43,37 @@ fn encoded_under(
 {
     let Transfer {
         item,
-        encoded: _,
+        encoded,
         pieces,
         confirmed,
         progress,
     } = transfer;
+    drop(encoded);
     let Queued { context, apdu } = item;
     let item = Item { id, pair, apdu };
-    let octets = write_item(basis.alloc, codecs, basis.tables, &item)?;
-    let Item { id, pair, apdu } = item;
-    Ok(Transfer {
-        item: Queued { context, apdu },
-        encoded: Some(Encoded {
-            id,
-            pair,
-            octets,
-            checkpoint: body.link.checkpoint,
-            window: body.link.window,
-        }),
-        pieces,
-        confirmed,
-        progress,
-    })
+    match write_item(basis.alloc, codecs, basis.tables, &item) {
+        Ok(octets) => {
+            let Item { id, pair, apdu } = item;
+            Ok(Transfer {
+                item: Queued { context, apdu },
+                encoded: Some(Encoded {
+                    id,
+                    pair,
+                    octets,
+                    checkpoint: body.link.checkpoint,
+                    window: body.link.window,
+                }),
+                pieces,
+                confirmed,
+                progress,
+            })
+        }
+        Err(error) => {
+            drop(item);
+            drop(pieces);
+            Err(error)
+        }
+    }
 }
 
 /// The transfer with its item encoded on a context, under the pair that the set gives it; not
@@ -81,13 +90,18 @@ fn encoded_on(
           (seen_queued transfer.item) (pair_of (seen body.now).sets.held context));
     }) }
 {
-    let pair = pair_copied(basis.alloc, body.sets.held.as_slice(), context)?;
-    match pair {
-        None => {
-            transfer.encoded = None;
-            Ok(transfer)
+    match pair_copied(basis.alloc, body.sets.held.as_slice(), context) {
+        Ok(pair) => match pair {
+            None => {
+                transfer.encoded = None;
+                Ok(transfer)
+            }
+            Some(pair) => encoded_under(basis, codecs, body, transfer, context, pair),
+        },
+        Err(error) => {
+            drop(transfer);
+            Err(error)
         }
-        Some(pair) => encoded_under(basis, codecs, body, transfer, context, pair),
     }
 }
 
@@ -149,7 +163,11 @@ impl<'t> End<'t> {
     {
         match act {
             Own::Encodes(context) => self.encode(context),
-            Own::Sends(message) => self.send(&message),
+            Own::Sends(message) => {
+                let sent = self.send(&message);
+                drop(message);
+                sent
+            }
         }
     }
 

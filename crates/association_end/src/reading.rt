@@ -129,7 +129,11 @@ fn contexts_proposed(
         (ppdu_at place.Cn user.now)) }
 {
     match codecs.ppdus.read(basis.alloc, PpduPlace::Cn, user) {
-        Ok(word) => contexts_said(basis, body, &word),
+        Ok(word) => {
+            let contexts = contexts_said(basis, body, &word);
+            drop(word);
+            contexts
+        }
         Err(fault) => match fault {
             PpduFault::At { .. } => copy_set(basis.alloc, body.link.accepted.as_slice()),
             PpduFault::NoMemory => Err(NoMemory),
@@ -218,6 +222,7 @@ fn react_to_word(
     match ending(&word) {
         None => react(basis, body, Message::Session(word)),
         Some(number) => {
+            drop(word);
             let arrived = arrived(basis, codecs, body)?;
             react_to_end(basis, body, number, arrived)
         }
@@ -327,7 +332,11 @@ pub(crate) fn react_to(
     match front {
         Front::Short => Ok(Reaction::Passes),
         Front::OfTransport(unit) => react(basis, body, Message::Transport(unit)),
-        Front::OfSession { unit, start } => react_to_unit(basis, codecs, body, &unit, start),
+        Front::OfSession { unit, start } => {
+            let reaction = react_to_unit(basis, codecs, body, &unit, start);
+            drop(unit);
+            reaction
+        }
         Front::Faulty { layer, place } => {
             let fault = grammar_fault(basis, body, layer, place);
             fails_on_accepted(basis, body, fault)

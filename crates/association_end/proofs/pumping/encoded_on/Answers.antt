@@ -15,7 +15,7 @@ returns-in-None c =
     let b = base_in c.args.basis.now in
     let body = seen c.args.body.now in
     let pair_is : None ≡ pair_of body.sets.held c.args.context
-    = sym c.in-None.is ∙ c.in_ok-pair.ensures ∙ ap (λ (s : List SetItem). pair_of s c.args.context) c.as_slice.ensures in
+    = sym c.in-None.is ∙ c.in-Ok.ensures ∙ ap (λ (s : List SetItem). pair_of s c.args.context) c.as_slice.ensures in
     ap (λ (p : Option Pair). record (seen_transfer c.args.transfer) { encoded = encoded_as b body (item_on c.args.context (seen_queued c.args.transfer.item) p) }) pair_is
 
 pub returns-in-Some : goal.returns-in-Some
@@ -23,6 +23,6 @@ returns-in-Some c =
     let b = base_in c.args.basis.now in
     let body = seen c.args.body.now in
     let pair_is : Some c.in-Some.pair ≡ pair_of body.sets.held c.args.context
-    = sym c.in-Some.is ∙ c.in_ok-pair.ensures ∙ ap (λ (s : List SetItem). pair_of s c.args.context) c.as_slice.ensures in
+    = sym c.in-Some.is ∙ c.in-Ok.ensures ∙ ap (λ (s : List SetItem). pair_of s c.args.context) c.as_slice.ensures in
     subst (λ (i : Option Item). IfOk c.encoded_under.result (λ t. seen_transfer t ≡ record (seen_transfer c.args.transfer) { encoded = encoded_as b body i }))
     (ap (item_on c.args.context (seen_queued c.args.transfer.item)) pair_is) c.encoded_under.ensures

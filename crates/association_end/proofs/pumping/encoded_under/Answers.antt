@@ -3,8 +3,8 @@ use Rattle.association_pieces.specs.Sending.{seen_transfer}
 use Rattle.association_state.specs.Seen.{seen}
 use Rattle.association_end.proofs.pumping.encoded_under.Goals as goal
 
-pub returns : goal.returns
-returns c =
+pub returns-in-Ok : goal.returns-in-Ok
+returns-in-Ok c =
     let body = seen c.args.body.now in
     ap
     (λ (octets : List ℕ).
@@ -16,4 +16,4 @@ returns c =
         window = body.link.window;
       });
     })
-    c.in_ok-octets.ensures
+    c.in-Ok.ensures

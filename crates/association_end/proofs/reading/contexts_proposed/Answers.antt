@@ -12,7 +12,7 @@ use Rattle.association_end.proofs.reading.contexts_proposed.Goals as goal
 
 pub returns-in-Ok : goal.returns-in-Ok
 returns-in-Ok c =
-    subst (λ (r : Result PresentationWord PpduFault). IfOk c.contexts_said.result (λ set. set ≡ contexts_read (base_in c.args.basis.now) (seen c.args.body.now) r)) (sym c.in-Ok.ensures) c.contexts_said.ensures
+    subst (λ (r : Result PresentationWord PpduFault). IfOk c.contexts_said-contexts.result (λ set. set ≡ contexts_read (base_in c.args.basis.now) (seen c.args.body.now) r)) (sym c.in-Ok.ensures) c.contexts_said-contexts.ensures
 
 pub returns-in-At : goal.returns-in-At
 returns-in-At c =

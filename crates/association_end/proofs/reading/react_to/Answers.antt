@@ -21,16 +21,16 @@ returns-in-OfTransport c =
     subst (λ (f : Front). IfOk c.react.result (ReactsTo b old new (seen_front f))) (sym c.in-OfTransport.is)
     (IfOk-weaker c.react.result _ _ (λ r h. transport_reacts b old new r (seen_transport c.in-OfTransport.unit) h) c.react.ensures)
 
-pub react_to_unit-requires-clause-placed : goal.react_to_unit-requires-clause-placed
-react_to_unit-requires-clause-placed c = subst (λ (f : Front). IsPlaced f) c.in-OfSession.is c.requires.placed
+pub react_to_unit-reaction-requires-clause-placed : goal.react_to_unit-reaction-requires-clause-placed
+react_to_unit-reaction-requires-clause-placed c = subst (λ (f : Front). IsPlaced f) c.in-OfSession.is c.requires.placed
 
 pub returns-in-OfSession : goal.returns-in-OfSession
 returns-in-OfSession c =
     let b = base_in c.args.basis.now in
     let old = seen c.args.body.now in
-    let new = seen c.react_to_unit.new.body in
-    subst (λ (f : Front). IfOk c.react_to_unit.result (ReactsTo b old new (seen_front f))) (sym c.in-OfSession.is)
-    (IfOk-weaker c.react_to_unit.result _ _ (λ r h. unit_reacts b old new c.requires.up r c.in-OfSession.unit c.in-OfSession.start h) c.react_to_unit.ensures)
+    let new = seen c.react_to_unit-reaction.new.body in
+    subst (λ (f : Front). IfOk c.react_to_unit-reaction.result (ReactsTo b old new (seen_front f))) (sym c.in-OfSession.is)
+    (IfOk-weaker c.react_to_unit-reaction.result _ _ (λ r h. unit_reacts b old new c.requires.up r c.in-OfSession.unit c.in-OfSession.start h) c.react_to_unit-reaction.ensures)
 
 pub returns-in-Faulty : goal.returns-in-Faulty
 returns-in-Faulty c =

@@ -13,18 +13,18 @@ pub returns-in-Encodes-clause-ok : goal.returns-in-Encodes-clause-ok
 returns-in-Encodes-clause-ok c =
     subst (λ (a : Own). OnOk c.encode.result (Stepped c.args.self.now c.encode.new.self (step_of (seen_act a) ∷ []))) (sym c.in-Encodes.is) c.encode.ensures.ok
 
-pub send-requires-clause-up : goal.send-requires-clause-up
-send-requires-clause-up c =
+pub send-sent-requires-clause-up : goal.send-sent-requires-clause-up
+send-sent-requires-clause-up c =
     let next : Some (SendsNow (seen_message c.in-Sends.message)) ≡ next_own (base c.args.self.now) c.args.self.now.end.body
     = subst (λ (a : Own). Some (seen_act a) ≡ next_own (base c.args.self.now) c.args.self.now.end.body) c.in-Sends.is c.requires in
     own_up (base c.args.self.now) c.args.self.now.end.body (SendsNow (seen_message c.in-Sends.message)) (sym next)
 
-pub send-requires-clause-room : goal.send-requires-clause-room
-send-requires-clause-room c =
+pub send-sent-requires-clause-room : goal.send-sent-requires-clause-room
+send-sent-requires-clause-room c =
     let next : Some (SendsNow (seen_message c.in-Sends.message)) ≡ next_own (base c.args.self.now) c.args.self.now.end.body
     = subst (λ (a : Own). Some (seen_act a) ≡ next_own (base c.args.self.now) c.args.self.now.end.body) c.in-Sends.is c.requires in
     sends_stand (base c.args.self.now) c.args.self.now.end.body (seen_message c.in-Sends.message) next
 
 pub returns-in-Sends-clause-ok : goal.returns-in-Sends-clause-ok
 returns-in-Sends-clause-ok c =
-    subst (λ (a : Own). OnOk c.send.result (Stepped c.args.self.now c.send.new.self (step_of (seen_act a) ∷ []))) (sym c.in-Sends.is) c.send.ensures.ok
+    subst (λ (a : Own). OnOk c.send-sent.result (Stepped c.args.self.now c.send-sent.new.self (step_of (seen_act a) ∷ []))) (sym c.in-Sends.is) c.send-sent.ensures.ok
