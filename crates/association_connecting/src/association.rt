@@ -168,7 +168,40 @@ fn aborted_by_peer() -> Indication
     }
 }
 
-/// Takes a unit of the association, in which nothing is faulty.
+/// Takes a unit of the association, in which nothing is faulty, and leaves it as it is.
+fn take_unit(basis: &Ground<'_>, body: &mut Body, word: &AssociationWord) -> Result<Taken, NoMemory>
+    requires { association_fault (base_in basis.now) (seen body.old) (seen_association word.now)
+        ≡ None }
+    ensures body { OnOk result (seen body.new ≡ after_association (base_in basis.now) (seen
+        body.old) (seen_association word.now)) }
+    ensures taken { IfOk result (TakenAs (answers_to_association (base_in basis.now) (seen body.old)
+        (seen_association word.now)) (shown_of_association (base_in basis.now) (seen body.old)
+        (seen_association word.now))) }
+{
+    match word {
+        AssociationWord::Connect {
+            session,
+            presentation,
+            values,
+        } => take_connect(basis, body, session, presentation, values.as_slice()),
+        AssociationWord::Accept {
+            session,
+            presentation,
+            values,
+        } => take_accept(basis, body, session, presentation, values.as_slice()),
+        AssociationWord::Refuse { .. } => {
+            body.link.phase = Phase::Over;
+            told(basis.alloc, Indication::AssociationRefused)
+        }
+        AssociationWord::Finish { .. } => take_finish(basis, body),
+        AssociationWord::Disconnect { .. } => take_disconnect(basis, body),
+        AssociationWord::Abort { .. } => end_quietly(basis, body, aborted_by_peer()),
+        AssociationWord::AbortAccept => end_quietly(basis, body, aborted_by_peer()),
+    }
+}
+
+/// Takes a unit of the association, in which nothing is faulty. It is let go by a call, since it is
+/// much to let go where a function ends.
 pub fn take_association(
     basis: &Ground<'_>,
     body: &mut Body,
@@ -182,35 +215,7 @@ pub fn take_association(
         (seen_association word)) (shown_of_association (base_in basis.now) (seen body.old)
         (seen_association word))) }
 {
-    match word {
-        AssociationWord::Connect {
-            session,
-            presentation,
-            values,
-        } => take_connect(basis, body, &session, &presentation, values.as_slice()),
-        AssociationWord::Accept {
-            session,
-            presentation,
-            values,
-        } => take_accept(basis, body, &session, &presentation, values.as_slice()),
-        AssociationWord::Refuse {
-            transport: _,
-            reason: _,
-            presentation: _,
-            values: _,
-        } => {
-            body.link.phase = Phase::Over;
-            told(basis.alloc, Indication::AssociationRefused)
-        }
-        AssociationWord::Finish {
-            transport: _,
-            values: _,
-        } => take_finish(basis, body),
-        AssociationWord::Disconnect { values: _ } => take_disconnect(basis, body),
-        AssociationWord::Abort {
-            transport: _,
-            user: _,
-        } => end_quietly(basis, body, aborted_by_peer()),
-        AssociationWord::AbortAccept => end_quietly(basis, body, aborted_by_peer()),
-    }
+    let taken = take_unit(basis, body, &word);
+    drop(word);
+    taken
 }

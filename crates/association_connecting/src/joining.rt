@@ -12,6 +12,7 @@ use association_sets::copy_set;
 use association_state::{Awaited, Body, Ground, SavedSets, Stage};
 use dialogue::{Mode, Phase};
 use osi_base::{Copied, NoMemory, SessionConnect, SetItem, SetList};
+use std::mem;
 
 /// What the two ends of a connection have: the accepted contexts, the functional units selected,
 /// whether context management is, and what is agreed for transfers.
@@ -76,7 +77,8 @@ pub(crate) fn join(basis: &Ground<'_>, body: &mut Body, terms: &Terms<'_>) -> Re
     Ok(())
 }
 
-/// An opening begins anew, with the references of its CN.
+/// An opening begins anew, with the references of its CN. What the end held before is let go by a
+/// call.
 pub(crate) fn begin(
     basis: &Ground<'_>,
     body: &mut Body,
@@ -86,7 +88,9 @@ pub(crate) fn begin(
 {
     let reference = session.calling_reference.copy(basis.alloc)?;
     let common = session.common_reference.copy(basis.alloc)?;
-    *body = Body::new(basis)?;
+    let new = Body::new(basis)?;
+    let before = mem::replace(body, new);
+    drop(before);
     body.link.reference = reference;
     body.link.common = common;
     Ok(())
