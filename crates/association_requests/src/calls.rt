@@ -56,8 +56,13 @@ fn request(basis: &Ground<'_>, body: &mut Body, call: &Call) -> Result<Called, C
 {
     let called = due(basis, body, call)?;
     begin(body, call);
-    send(basis, body, &called.message)?;
-    Ok(called)
+    match send(basis, body, &called.message) {
+        Ok(()) => Ok(called),
+        Err(NoMemory) => {
+            drop(called);
+            Err(CallRefusal::NoMemory)
+        }
+    }
 }
 
 /// Makes a call that no row of all calls refuses.
