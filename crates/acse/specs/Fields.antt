@@ -5,7 +5,7 @@ use Rattle.osi_base.specs.declared.acse_word.Acse as apdus
 use Rattle.asn1_types.specs.declared.row.Class.TheVariants.{Application, Context}
 use Rattle.asn1_types.specs.declared.row.TypeRow.{TypeRow}
 use Rattle.asn1_types.specs.Rows.{same_class}
-use Rattle.asn1_types.specs.Limits.{most_levels}
+use Rattle.asn1_types.specs.Limits.{most_levels, most_octets}
 use Rattle.asn1_types.specs.Value.{Value, chosen}
 use Rattle.ber_spelling.specs.declared.spot.Scope.{Scope}
 use Rattle.asn1_types.specs.declared.row.Tag as tags
@@ -75,7 +75,7 @@ any_apdu_at rows scope opened spot = if same_class opened.class Application then
 
 -- the APDU that all of these octets are, or their first fault
 abbrev pub acse_at : List ℕ → Result apdus.Acse units.PduFault
-acse_at octets = of_value (all_at (any_apdu_at acse_rows) 262144 octets)
+acse_at octets = of_value (all_at (any_apdu_at acse_rows) most_octets octets)
 
 -- ---- apart from reading: the fields of each APDU under its tag
 
@@ -98,5 +98,5 @@ AnyApdu strict levels v octets = (which : ℕ) × (fields : Value) × (v ≡ cho
 pub record SpellsAcse (apdu : apdus.Acse) (octets : List ℕ) : Type 0 where
   pub value : Value
   pub spelled : AnyApdu false most_levels value octets
-  pub within : length octets ≤ 262144
+  pub within : length octets ≤ most_octets
   pub says : said value ≡ apdu

@@ -1,7 +1,7 @@
 -- APDUs of association control of known fields alone: none of their fields is passed over (X.227 9).
 use Rattle.std.specs.Prelude.{◌≡◌, ℕ, zero, suc, ◌≤◌, Bool, false, List, [], length}
 use Rattle.osi_base.specs.declared.acse_word.Acse as apdus
-use Rattle.asn1_types.specs.Limits.{most_levels}
+use Rattle.asn1_types.specs.Limits.{most_levels, most_octets}
 use Rattle.asn1_types.specs.Value.{Value, chosen}
 use Rattle.acse.specs.Words.{said}
 use Rattle.acse.specs.Fields.{request_fields, response_fields, release_fields, abort_fields, FieldsSpelled}
@@ -21,5 +21,5 @@ KnownApdu strict levels v octets = (which : ℕ) × (fields : Value) × (v ≡ c
 pub record SpellsKnown (apdu : apdus.Acse) (octets : List ℕ) : Type 0 where
   pub value : Value
   pub spelled : KnownApdu false most_levels value octets
-  pub within : length octets ≤ 262144
+  pub within : length octets ≤ most_octets
   pub says : said value ≡ apdu

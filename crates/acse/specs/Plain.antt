@@ -2,6 +2,7 @@
 use Rattle.std.specs.Prelude.{◌≡◌, ℕ, false, List, Result, Ok, Err}
 use Rattle.osi_base.specs.declared.acse_word.Acse as apdus
 use Rattle.asn1_types.specs.Value.{Value}
+use Rattle.asn1_types.specs.Limits.{most_octets}
 use Rattle.ber_spelling.specs.Spelling.{Spells}
 use Rattle.fixed_tables.specs.declared.pdu.PduFault as units
 use Rattle.acse.specs.Rows.{acse_row, acse_rows}
@@ -10,7 +11,7 @@ use Rattle.acse.specs.Words.{said}
 -- octets spell this APDU, and nothing in them is passed over
 pub record SpellsPlain (apdu : apdus.Acse) (octets : List ℕ) : Type 0 where
   pub value : Value
-  pub spelled : Spells acse_rows acse_row false 262144 value octets
+  pub spelled : Spells acse_rows acse_row false most_octets value octets
   pub says : said value ≡ apdu
 
 abbrev pub of_value : Result Value units.PduFault → Result apdus.Acse units.PduFault

@@ -1,5 +1,5 @@
 -- The APDUs of association control and the values that they stand for (X.227 9).
-use Rattle.std.specs.Prelude.{◌==◌, ℕ, ℤ, pos, List, [], ◌∷◌, map, Option, Some, None, if◌then◌else◌}
+use Rattle.std.specs.Prelude.{◌==◌, ℕ, pos, List, [], ◌∷◌, map, Option, Some, None, if◌then◌else◌}
 use Rattle.osi_base.specs.declared.bit_string.BitString as strings
 use Rattle.osi_base.specs.declared.acse_word.External as externals
 use Rattle.osi_base.specs.declared.acse_word.Diagnostic as diagnostics
@@ -8,6 +8,7 @@ use Rattle.osi_base.specs.declared.acse_word.Acse as apdus
 use Rattle.osi_base.specs.declared.acse_word.Acse.TheVariants as apdu
 use Rattle.asn1_types.specs.Value.{Value, integer, object_id, bits, parts, list, chosen, any, MaybeValues, no_parts, absent, present}
 use Rattle.asn1_types.specs.ValueView.{values_of}
+use Rattle.fixed_tables.specs.Reasons.{reason_in, reason_value}
 use Rattle.fixed_tables.specs.Values.{part_in, number_or, small_or, octet_or, octets_in, arcs_in, maybe_bits, items_in, alternative, inside}
 
 -- ---- what a value says
@@ -27,10 +28,6 @@ request_in v = apdu.AssociateRequest (maybe_bits (part_in 0 v)) (arcs_in (part_i
 
 abbrev pub response_in : Option Value → apdus.Acse
 response_in v = apdu.AssociateResponse (arcs_in (part_in 0 v)) (octet_or (pos 0) (part_in 1 v)) (diagnostic_in (part_in 2 v)) (user_in (part_in 3 v))
-
--- a reason that lacks is 0
-abbrev pub reason_in : Option Value → ℤ
-reason_in v = number_or (pos 0) (part_in 0 v)
 
 -- the APDU of an alternative with its value
 abbrev pub said_by : ℕ → Option Value → apdus.Acse
@@ -61,9 +58,6 @@ bits_part (Some string) more = present (bits string.octets string.unused) more
 abbrev pub diagnostic_value : diagnostics.Diagnostic → Value
 diagnostic_value (diagnostic.User number) = chosen 0 (integer number)
 diagnostic_value (diagnostic.Provider number) = chosen 1 (integer number)
-
-abbrev pub reason_value : ℤ → Value
-reason_value reason = parts (present (integer reason) no_parts)
 
 abbrev pub value_of : apdus.Acse → Value
 value_of (apdu.AssociateRequest version context user) = chosen 0 (parts (bits_part version (present (object_id context) (user_part user))))

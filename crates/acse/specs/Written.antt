@@ -11,6 +11,7 @@ use Rattle.asn1_types.specs.Fits.{is_number, bits_fit, object_id_fits}
 use Rattle.asn1_types.specs.Value.{bits, object_id}
 use Rattle.asn1_types.specs.Whole.{is_whole}
 use Rattle.asn1_types.specs.Writing.{written}
+use Rattle.asn1_types.specs.Limits.{most_octets}
 use Rattle.acse.specs.Rows.{acse_row, acse_rows}
 use Rattle.acse.specs.Words.{value_of}
 
@@ -41,4 +42,4 @@ written_acse apdu = written acse_rows acse_row (value_of apdu)
 
 pub record IsWritable (apdu : apdus.Acse) : Type 0 where
   pub can : can_write apdu ≡ true
-  pub within : length (written_acse apdu) ≤ 262144
+  pub within : length (written_acse apdu) ≤ most_octets

@@ -1,6 +1,7 @@
 //! APDUs of association control read and written.
 
 ghost use Rattle.std.specs.Prelude.{◌≡◌, IfOk};
+ghost use Rattle.asn1_types.specs.Limits.{most_octets};
 ghost use Rattle.fixed_tables.specs.Whole.{GivesWhole, of_whole};
 ghost use Rattle.passed_fields.specs.Front.{all_at};
 ghost use Rattle.acse.specs.Rows.{acse_rows};
@@ -19,7 +20,7 @@ use std::alloc::Global;
 /// The value that all of the octets are.
 fn whole(alloc: Global, table: &TypeTable, bytes: &[u8]) -> Result<Val, PduFault>
     requires { table.now ≡ acse_rows }
-    ensures { GivesWhole result (all_at (any_apdu_at acse_rows) 262144 bytes.now) }
+    ensures { GivesWhole result (all_at (any_apdu_at acse_rows) most_octets bytes.now) }
 {
     match front(alloc, table, bytes) {
         Ok((value, used)) => {

@@ -1,6 +1,7 @@
 //! APDUs of association control read, with the fields that are passed over.
 
 ghost use Rattle.std.specs.Prelude.{◌≡◌, ◌+◌, ◌<◌, ◌^◌, length, IfOk};
+ghost use Rattle.asn1_types.specs.Limits.{most_octets};
 ghost use Rattle.ber_spelling.specs.Reading.{Gives, GoesOn, opened_of, spot_of};
 ghost use Rattle.passed_fields.specs.Known.{HaveRows};
 ghost use Rattle.passed_fields.specs.Front.{front_at};
@@ -189,7 +190,7 @@ pub(crate) fn front(
     bytes: &[u8],
 ) -> Result<(Val, usize), ReadFault>
     requires rows { length table.now ≡ 31 }
-    ensures gives { Gives (λ x. x) result (front_at (any_apdu_at table.now) 262144 bytes.now) }
+    ensures gives { Gives (λ x. x) result (front_at (any_apdu_at table.now) most_octets bytes.now) }
 {
     let scope = Scope {
         levels: 32,

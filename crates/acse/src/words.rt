@@ -4,12 +4,12 @@ ghost use Rattle.std.specs.Prelude.{◌≡◌, ◌++◌, ◌∷◌, [], IfOk, Li
 ghost use Rattle.asn1_types.specs.Value as tree;
 ghost use Rattle.std.specs.Option.{option_copied};
 ghost use Rattle.asn1_types.specs.ValueView.{parts_of};
-ghost use Rattle.acse.specs.Words.{external_in, user_in, diagnostic_in, request_in, response_in, reason_in, said_by, said, external_value, user_part, bits_part, diagnostic_value, reason_value, value_of};
+ghost use Rattle.acse.specs.Words.{external_in, user_in, diagnostic_in, request_in, response_in, said_by, said, external_value, user_part, bits_part, diagnostic_value, value_of};
 
 use asn1_types::Val;
 use fixed_tables::{
     InValue, alternative, any, bits, chosen, inside, integer, list_in, list_of, maybe_bits, number,
-    object_id, octet, octets_in, oid_in, part_in, sequence, small,
+    object_id, octet, octets_in, oid_in, part_in, reason_in, reason_value, sequence, small,
 };
 use osi_base::{Acse, BitString, Diagnostic, External, Externals, NoMemory};
 use std::alloc::Global;
@@ -78,12 +78,6 @@ fn response_in(alloc: Global, value: Option<&Val>) -> Result<Acse, NoMemory>
     })
 }
 
-fn reason_in(value: Option<&Val>) -> i64
-    ensures { result ≡ reason_in (option_copied value.entry) }
-{
-    number(part_in(0, value), 0)
-}
-
 /// The APDU that a value says.
 pub(crate) fn said(alloc: Global, value: &Val) -> Result<Acse, NoMemory>
     ensures { IfOk result (λ x. x ≡ said value.now) }
@@ -133,12 +127,6 @@ fn diagnostic_value(alloc: Global, reason: Diagnostic) -> Result<Val, NoMemory>
         Diagnostic::User(number) => chosen(alloc, 0, integer(number)),
         Diagnostic::Provider(number) => chosen(alloc, 1, integer(number)),
     }
-}
-
-fn reason_value(alloc: Global, reason: i64) -> Result<Val, NoMemory>
-    ensures { IfOk result (λ v. v ≡ reason_value reason) }
-{
-    Ok(sequence(vec![in alloc; Some(integer(reason))]?))
 }
 
 /// The value that says an APDU.

@@ -3,3 +3,4 @@ pub mod Lists
 pub mod Forth
 pub mod Back
 pub mod Tries
+pub mod Sizes

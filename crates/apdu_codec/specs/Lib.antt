@@ -4,3 +4,4 @@ pub mod Pieces
 pub mod Outcomes
 pub mod HeadsRead
 pub mod Laws
+pub mod Lengths

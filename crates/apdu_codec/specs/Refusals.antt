@@ -5,6 +5,7 @@ use Rattle.osi_base.specs.declared.syntax.Syntax.TheVariants.{Ber, Der, Packed}
 use Rattle.osi_base.specs.declared.words.Kind.{Kind}
 use Rattle.osi_base.specs.declared.words.Kind.TheVariants.{Tag, Missing, Extra, Length, Content, Form}
 use Rattle.asn1_types.specs.Value.{Value}
+use Rattle.asn1_types.specs.Limits.{most_octets}
 use Rattle.ber_spelling.specs.declared.fault.ReadFault as bers
 use Rattle.ber_spelling.specs.declared.fault.ReadFault.TheVariants as ber
 use Rattle.ber_spelling.specs.Rules as ber_rules
@@ -12,7 +13,6 @@ use Rattle.packed_codec.specs.declared.fault.PackedFault as packeds
 use Rattle.packed_codec.specs.declared.fault.PackedFault.TheVariants as packed
 use Rattle.packed_codec.specs.Rules as packed_rules
 use Rattle.apdu_spelling.specs.Rows.{head_rows, apdu_row, packed_apdu_row}
-use Rattle.apdu_spelling.specs.Spellings.{most_octets}
 use Rattle.apdu_codec.specs.declared.fault.HeadFault.{HeadFault}
 use Rattle.apdu_codec.specs.declared.fault.HeadFault.TheVariants.{General, BadReject}
 

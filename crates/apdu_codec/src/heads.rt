@@ -1,11 +1,11 @@
 //! The fixed table of the heads of APDUs.
 
-ghost use Rattle.std.specs.Prelude.{◌≡◌, IfOk};
+ghost use Rattle.std.specs.Prelude.{◌≡◌, take, drop, IfOk};
 ghost use Rattle.apdu_spelling.specs.Rows as table;
-ghost use Rattle.apdu_spelling.specs.Rows.{head_rows, tagged};
+ghost use Rattle.apdu_spelling.specs.Rows.{head_rows};
 
-use asn1_types::{Class, Parts, TypeId, TypeRow, TypeTable};
-use fixed_tables::{part, table_of, tagged};
+use asn1_types::{Parts, TypeId, TypeRow, TypeTable};
+use fixed_tables::{behind, implicit, part, table_of};
 use osi_base::{ListOf, NoMemory};
 use std::alloc::Global;
 use std::marker::Model;
@@ -163,16 +163,9 @@ fn packed_apdu_kinds(alloc: Global) -> Result<Parts, NoMemory>
     Ok(parts)
 }
 
-/// A context tag in the place of a row's own.
-fn implicit(number: u32, inner: u32) -> TypeRow
-    ensures { result ≡ tagged number inner }
-{
-    tagged(Class::Context, number, false, inner)
-}
-
-/// All rows.
-fn all_rows(alloc: Global) -> Result<Vec<TypeRow>, NoMemory>
-    ensures { IfOk result (λ rows. rows.items ≡ head_rows) }
+/// Rows 0 to 15: identifiers, codes, problems and rejects.
+fn common_rows(alloc: Global) -> Result<Vec<TypeRow>, NoMemory>
+    ensures { IfOk result (λ rows. rows.items ≡ take 16 head_rows) }
 {
     Ok(vec![in alloc;
         TypeRow::Integer {
@@ -197,6 +190,14 @@ fn all_rows(alloc: Global) -> Result<Vec<TypeRow>, NoMemory>
         TypeRow::Choice(rejected_kinds(alloc)?),
         TypeRow::Sequence(reject_parts(alloc)?),
         implicit(4, 14),
+    ]?)
+}
+
+/// Rows 16 to 23: APDUs in BER and DER.
+fn ber_rows(alloc: Global) -> Result<Vec<TypeRow>, NoMemory>
+    ensures { IfOk result (λ rows. rows.items ≡ take 8 (drop 16 head_rows)) }
+{
+    Ok(vec![in alloc;
         TypeRow::Sequence(invoke_parts(alloc)?),
         implicit(1, 16),
         TypeRow::Sequence(returned_parts(alloc)?),
@@ -205,6 +206,14 @@ fn all_rows(alloc: Global) -> Result<Vec<TypeRow>, NoMemory>
         TypeRow::Sequence(error_parts(alloc)?),
         implicit(3, 21),
         TypeRow::Choice(apdu_kinds(alloc)?),
+    ]?)
+}
+
+/// Rows 24 to 30: heads in the packed syntax.
+fn packed_rows(alloc: Global) -> Result<Vec<TypeRow>, NoMemory>
+    ensures { IfOk result (λ rows. rows.items ≡ drop 24 head_rows) }
+{
+    Ok(vec![in alloc;
         TypeRow::Sequence(packed_invoke_parts(alloc)?),
         implicit(1, 24),
         TypeRow::Sequence(packed_result_parts(alloc)?),
@@ -213,6 +222,14 @@ fn all_rows(alloc: Global) -> Result<Vec<TypeRow>, NoMemory>
         implicit(3, 28),
         TypeRow::Choice(packed_apdu_kinds(alloc)?),
     ]?)
+}
+
+/// All rows.
+fn all_rows(alloc: Global) -> Result<Vec<TypeRow>, NoMemory>
+    ensures { IfOk result (λ rows. rows.items ≡ head_rows) }
+{
+    let ber = behind(common_rows(alloc)?, ber_rows(alloc)?)?;
+    behind(ber, packed_rows(alloc)?)
 }
 
 impl Heads {

@@ -5,9 +5,11 @@
 mod fault;
 mod heads;
 mod laws;
+mod lengths;
 mod packed_heads;
 mod pieces;
 mod reading;
+mod uses;
 mod values;
 mod writing;
 
@@ -15,5 +17,6 @@ pub use apdu_spelling::{ApduHead, ApduKind};
 pub use fault::HeadFault;
 pub use heads::Heads;
 pub use laws::written_apdu_is_read;
+pub use lengths::{apdu_len, is_too_long};
 pub use reading::read_apdu;
 pub use writing::write_apdu;

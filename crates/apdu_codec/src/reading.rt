@@ -2,6 +2,7 @@
 
 ghost use Rattle.std.specs.Prelude.{◌≡◌, ◌≤◌, ◌-◌, ℕ, IfOk, Ok, Err, length, true, false};
 ghost use Rattle.osi_base.specs.declared.syntax.Syntax.TheVariants as syntaxes;
+ghost use Rattle.asn1_types.specs.Limits.{most_octets};
 ghost use Rattle.apdu_spelling.specs.Rows.{head_rows};
 ghost use Rattle.apdu_codec.specs.Refusals.{opens, opens_reject, number_of_kind, ber_told, packed_told, refusal_of, number_of};
 ghost use Rattle.apdu_codec.specs.HeadsRead.{IsTried, IsHeadRead, HasNone};
@@ -106,7 +107,7 @@ fn try_der(alloc: Global, rows: &TypeTable, bytes: &[u8]) -> Result<Tried, NoMem
 
 /// The head before whose value so many octets stand.
 fn behind(head: ApduHead, used: usize) -> ApduHead
-    ensures { result ≡ record head { room = 262144 - used } }
+    ensures { result ≡ record head { room = most_octets - used } }
 {
     let room = (MOST_OCTETS as usize).saturating_sub(used) as u32;
     ApduHead { room, ..head }

@@ -2,46 +2,16 @@
 
 ghost use Rattle.std.specs.Prelude.{◌≡◌, IfOk, Some, None, is_some};
 ghost use Rattle.std.specs.Option.{option_map};
-ghost use Rattle.asn1_types.specs.Value.{any, integer, boolean, chosen, parts as tree_parts, present, no_parts};
+ghost use Rattle.asn1_types.specs.Value.{any, boolean, chosen, parts as tree_parts, present, no_parts};
 ghost use Rattle.asn1_types.specs.ValueView.{parts_of};
 ghost use Rattle.apdu_spelling.specs.Heads as heads;
 ghost use Rattle.apdu_spelling.specs.Values.{code_value, rejected_value, problem_value, kind_place, reject_value, ber_value, packed_value};
 
 use asn1_types::{MaybeVals, Node, Val};
-use osi_base::{Copied, NoMemory, Octets, Problem, ProblemKind};
+use fixed_tables::{chosen, integer, number_part, object_id, sequence};
+use osi_base::{NoMemory, Octets, Problem, ProblemKind};
 use std::alloc::Global;
 use stub_tables::Code;
-
-/// An INTEGER.
-fn integer(number: i64) -> Val
-    ensures { result ≡ integer number }
-{
-    Val {
-        node: Node::Int(number),
-    }
-}
-
-/// An INTEGER, if it is there.
-fn integer_or_none(number: Option<i64>) -> Option<Val>
-    ensures { result ≡ option_map integer number }
-{
-    match number {
-        Some(number) => Some(integer(number)),
-        None => None,
-    }
-}
-
-/// A value of this alternative of a CHOICE.
-fn chosen(alloc: Global, which: u32, value: Val) -> Result<Val, NoMemory>
-    ensures { IfOk result (λ v. v ≡ chosen which value) }
-{
-    Ok(Val {
-        node: Node::Chosen {
-            which,
-            value: Box::new(alloc, value)?,
-        },
-    })
-}
 
 /// The value of a code.
 fn code(alloc: Global, code: &Code) -> Result<Val, NoMemory>
@@ -49,12 +19,7 @@ fn code(alloc: Global, code: &Code) -> Result<Val, NoMemory>
 {
     match code {
         Code::Local(number) => chosen(alloc, 0, integer(*number)),
-        Code::Global(oid) => {
-            let oid = Val {
-                node: Node::ObjectId(oid.copy(alloc)?),
-            };
-            chosen(alloc, 1, oid)
-        }
+        Code::Global(oid) => chosen(alloc, 1, object_id(alloc, oid)?),
     }
 }
 
@@ -83,13 +48,7 @@ fn mark(octets: &Option<Octets>) -> Val
 fn head(alloc: Global, which: u32, parts: MaybeVals) -> Result<Val, NoMemory>
     ensures { IfOk result (λ head. head ≡ chosen which (tree_parts (parts_of parts.items))) }
 {
-    chosen(
-        alloc,
-        which,
-        Val {
-            node: Node::Parts(parts),
-        },
-    )
+    chosen(alloc, which, sequence(parts))
 }
 
 /// The head of an invocation in BER and DER.
@@ -104,7 +63,7 @@ pub(crate) fn ber_invoke(
 {
     let mut parts = Vec::new(alloc);
     parts.push(Some(integer(id)))?;
-    parts.push(integer_or_none(linked))?;
+    parts.push(number_part(linked))?;
     parts.push(Some(code(alloc, operation)?))?;
     parts.push(any_or_none(octets))?;
     head(alloc, 0, parts)
@@ -123,7 +82,7 @@ pub(crate) fn packed_invoke(
 {
     let mut parts = Vec::new(alloc);
     parts.push(Some(integer(id)))?;
-    parts.push(integer_or_none(linked))?;
+    parts.push(number_part(linked))?;
     parts.push(Some(code(alloc, operation)?))?;
     parts.push(Some(mark(octets)))?;
     head(alloc, 1, parts)
@@ -169,9 +128,7 @@ fn returned(alloc: Global, operation: &Code, octets: Octets) -> Result<Val, NoMe
     let mut parts = Vec::new(alloc);
     parts.push(Some(code(alloc, operation)?))?;
     parts.push(any_or_none(Some(octets)))?;
-    Ok(Val {
-        node: Node::Parts(parts),
-    })
+    Ok(sequence(parts))
 }
 
 /// The head of a result without a value, in BER and DER.

@@ -1,16 +1,16 @@
 //! Writing APDUs.
 
 ghost use Rattle.std.specs.Prelude.{◌≡◌, ℕ, ◌++◌, IfOk, Some, None};
-ghost use Rattle.std.specs.Option.{option_map, option_copied};
+ghost use Rattle.std.specs.Option.{option_copied};
 ghost use Rattle.apdu_spelling.specs.Heads as heads;
 ghost use Rattle.apdu_spelling.specs.Heads.{or_none};
 ghost use Rattle.apdu_spelling.specs.Rows.{head_rows, apdu_row, packed_apdu_row};
 ghost use Rattle.asn1_types.specs.Writing.{written};
 ghost use Rattle.apdu_spelling.specs.Writing.{written_value, written_typed, written_carried, written_head, outcome_of, written_apdu};
 ghost use Rattle.packed_codec.specs.Writing.{packed};
-ghost use Rattle.stub_tables.specs.Apdus.{argument_of, result_of, parameter_of, operation_coded, error_coded};
 
 use crate::heads::{APDU, Heads, PACKED_APDU};
+use crate::uses::{argument_use, parameter_use, result_use};
 use crate::values;
 use asn1_types::{TypeId, TypeTable, Val};
 use ber_writing::ber_octets;
@@ -68,39 +68,6 @@ fn carried_octets(
     match (used.inner, value) {
         (Some(of), Some(value)) => Ok(Some(value_octets(alloc, syntax, types, of, value)?)),
         _ => Ok(None),
-    }
-}
-
-/// What the operation with this code takes.
-fn argument_use(tables: &Tables, code: &Code) -> Option<Use>
-    ensures { result ≡ option_map argument_of (operation_coded tables.now code.now) }
-{
-    let place = tables.operation_with(code)?;
-    match tables.operation(place) {
-        Some(operation) => Some(operation.argument),
-        None => None,
-    }
-}
-
-/// What the operation with this code returns.
-fn result_use(tables: &Tables, code: &Code) -> Option<Use>
-    ensures { result ≡ option_map result_of (operation_coded tables.now code.now) }
-{
-    let place = tables.operation_with(code)?;
-    match tables.operation(place) {
-        Some(operation) => Some(operation.result),
-        None => None,
-    }
-}
-
-/// What the error with this code carries.
-fn parameter_use(tables: &Tables, code: &Code) -> Option<Use>
-    ensures { result ≡ option_map parameter_of (error_coded tables.now code.now) }
-{
-    let place = tables.error_with(code)?;
-    match tables.error(place) {
-        Some(error) => Some(error.parameter),
-        None => None,
     }
 }
 

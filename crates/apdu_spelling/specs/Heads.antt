@@ -2,6 +2,7 @@
 -- which stands in them as its octets.
 use Rattle.std.specs.Prelude.{ℕ, ℤ, List, [], Option, Some, None}
 use Rattle.osi_base.specs.declared.words.Problem.{Problem}
+use Rattle.asn1_types.specs.Limits.{most_octets}
 use Rattle.stub_tables.specs.declared.operation.Code.{Code}
 use Rattle.apdu_spelling.specs.declared.head.ApduHead.{ApduHead}
 use Rattle.apdu_spelling.specs.declared.head.ApduKind.TheVariants as kind
@@ -34,8 +35,8 @@ carried (reject id problem) = []
 
 -- the fields of a head, as the program keeps them before it knows how many octets the head has
 abbrev pub fields_of : Head → ApduHead
-fields_of (invoke id linked code argument) = record { kind = kind.Invoke; id = Some id; linked = linked; code = Some code; problem = None; rest = argument; room = 262144 }
-fields_of (result id None) = record { kind = kind.Result; id = Some id; linked = None; code = None; problem = None; rest = None; room = 262144 }
-fields_of (result id (Some outcome)) = record { kind = kind.Result; id = Some id; linked = None; code = Some outcome.code; problem = None; rest = Some outcome.octets; room = 262144 }
-fields_of (error id code parameter) = record { kind = kind.Error; id = Some id; linked = None; code = Some code; problem = None; rest = parameter; room = 262144 }
-fields_of (reject id problem) = record { kind = kind.Reject; id = id; linked = None; code = None; problem = Some problem; rest = None; room = 262144 }
+fields_of (invoke id linked code argument) = record { kind = kind.Invoke; id = Some id; linked = linked; code = Some code; problem = None; rest = argument; room = most_octets }
+fields_of (result id None) = record { kind = kind.Result; id = Some id; linked = None; code = None; problem = None; rest = None; room = most_octets }
+fields_of (result id (Some outcome)) = record { kind = kind.Result; id = Some id; linked = None; code = Some outcome.code; problem = None; rest = Some outcome.octets; room = most_octets }
+fields_of (error id code parameter) = record { kind = kind.Error; id = Some id; linked = None; code = Some code; problem = None; rest = parameter; room = most_octets }
+fields_of (reject id problem) = record { kind = kind.Reject; id = id; linked = None; code = None; problem = Some problem; rest = None; room = most_octets }

@@ -6,6 +6,7 @@ use Rattle.osi_base.specs.declared.syntax.Syntax.TheVariants as syntax
 use Rattle.asn1_types.specs.declared.value.Val.{Val}
 use Rattle.asn1_types.specs.declared.table.TypeTable.{TypeTable}
 use Rattle.asn1_types.specs.declared.row.TypeId.{TypeId}
+use Rattle.asn1_types.specs.Limits.{most_octets}
 use Rattle.ber_spelling.specs.Spelling as ber
 use Rattle.packed_codec.specs.Laws.{Packed}
 use Rattle.packed_codec.specs.Writing.{packed}
@@ -21,10 +22,6 @@ use Rattle.apdu_spelling.specs.declared.head.ApduHead.{ApduHead}
 use Rattle.apdu_spelling.specs.Heads.{Outcome, Head, invoke, result, error, reject, carried, fields_of}
 use Rattle.apdu_spelling.specs.Rows.{head_rows, apdu_row, packed_apdu_row}
 use Rattle.apdu_spelling.specs.Values.{ber_value, packed_value}
-
--- An APDU has at most so many octets.
-abbrev pub most_octets : ℕ
-most_octets = 262144
 
 -- ---- heads
 

@@ -8,7 +8,7 @@ use Rattle.asn1_types.specs.declared.table.TypeTable.{TypeTable}
 use Rattle.asn1_types.specs.declared.row.TypeId.{TypeId}
 use Rattle.asn1_types.specs.Fits.{is_number, fits}
 use Rattle.asn1_types.specs.Writing.{written}
-use Rattle.asn1_types.specs.Limits.{most_items}
+use Rattle.asn1_types.specs.Limits.{most_items, most_octets}
 use Rattle.packed_codec.specs.Writing.{packed, items}
 use Rattle.packed_codec.specs.Laws.{packs}
 use Rattle.stub_tables.specs.declared.tables.Tables.{Tables}
@@ -106,4 +106,4 @@ has_values tables syntax (Reject id problem) = true
 pub record IsWritable (tables : Tables) (syntax : Syntax) (a : Apdu) : Type 0 where
   pub numbers : has_numbers a ≡ true
   pub values : has_values tables syntax a ≡ true
-  pub short : length (written_apdu tables syntax a) ≤ 262144
+  pub short : length (written_apdu tables syntax a) ≤ most_octets

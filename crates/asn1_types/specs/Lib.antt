@@ -14,3 +14,4 @@ pub mod Writing
 pub mod Rising
 pub mod PackedSize
 pub mod Fits
+pub mod Numbered

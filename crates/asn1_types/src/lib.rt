@@ -1,11 +1,12 @@
 //! Types and values of ASN.1 (X.680), below every transfer syntax: the value type, rows and
-//! tables of types, and which values fit.
+//! tables of types, which values fit, and what stands behind one whole value.
 #![tactic(auto)]
 
 mod check;
 mod clash;
 mod defaults;
 mod nesting;
+mod numbered;
 mod opening;
 mod refusal;
 mod row;
@@ -15,6 +16,7 @@ mod value;
 mod whole;
 
 pub use defaults::{has_default_value, may_be_absent};
+pub use numbered::{class_numbered, kind_numbered};
 pub use opening::{begins, is_no_tag, same_class, text_number};
 pub use refusal::RowRefusal;
 pub use row::{Class, Item, Named, Part, Parts, Tag, TextKind, TypeId, TypeRow};

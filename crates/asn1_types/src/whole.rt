@@ -45,6 +45,7 @@ pub fn behind_identifier(octets: &[u8]) -> Option<&[u8]>
 }
 
 /// The number that at most 8 octets are, the most significant first.
+#[inline(always)]
 pub fn number_256(octets: &[u8]) -> u64
     requires { length octets.now ≤ 8 }
     ensures { result ≡ number_256 0 octets.now }

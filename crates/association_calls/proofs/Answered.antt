@@ -11,12 +11,11 @@ use Rattle.dialogue.specs.declared.call.CallRefusal.{CallRefusal}
 use Rattle.dialogue.specs.declared.call.CallRefusal.TheVariants as refusals
 use Rattle.end_rules.specs.Base.{Base}
 use Rattle.end_rules.specs.State.{Body, OpenCall, opened_with}
-use Rattle.end_rules.specs.Invoking.{Reply, is_stopped, operation_of, result_apdu, error_apdu, can_answer_open, can_answer, can_refuse_open, can_refuse}
+use Rattle.end_rules.specs.Invoking.{Reply, is_stopped, operation_of, result_apdu, error_apdu, can_answer_open, can_answer, can_refuse_open, can_refuse, can_refuse_with}
 use Rattle.end_rules.specs.Requesting.{result_for, error_for, operation_opened, result_in}
 use Rattle.rose_roles.specs.declared.called.Called.{Called}
 use Rattle.open_invocations.specs.Invocations.{called_in}
 use Rattle.association_calls.specs.Replies.{IsChecked}
-use Rattle.association_calls.specs.Outcomes.{can_refuse_with}
 
 module _ (base : Base) (body : Body) (id : ℤ) where
   abbrev its : Option OpenCall

@@ -10,14 +10,13 @@ ghost use Rattle.association_state.specs.Seen.{base_in, seen};
 ghost use Rattle.association_calls.specs.Replies.{IsChecked, IsRefusal};
 ghost use Rattle.association_calls.specs.Rooms.{HasRoom, IsRoomy};
 
-use crate::texts::is_too_long;
+use apdu_codec::is_too_long;
 use asn1_types::Val;
 use association_ground::{is_direct, is_reliable};
 use association_sets::{has_abstract, is_deleted_in, pair_of};
 use association_state::{Body, Ground};
 use dialogue::CallRefusal;
-use osi_base::{Copied, NoMemory};
-use rose_roles::is_linked_to;
+use rose_roles::{invoke_apdu, is_linked_to};
 use stub_tables::{Apdu, Operation};
 
 /// How many invocations of one end may be open.
@@ -92,24 +91,6 @@ fn linking_refusal(
     }
 }
 
-/// The APDU of the next invocation.
-fn invoke_apdu(
-    basis: &Ground<'_>,
-    operation: &Operation,
-    id: i64,
-    linked: Option<i64>,
-    argument: &Option<Val>,
-) -> Result<Apdu, NoMemory>
-    ensures { IfOk result (λ apdu. apdu ≡ invoke_apdu operation.now id linked argument.now) }
-{
-    Ok(Apdu::Invoke {
-        id,
-        linked,
-        code: operation.code.copy(basis.alloc)?,
-        argument: argument.copy(basis.alloc)?,
-    })
-}
-
 /// Why there is no room or no number for one more invocation of an operation.
 fn room_refusal(basis: &Ground<'_>, body: &Body, operation: &Operation) -> Option<CallRefusal>
     ensures { IsRoomy (base_in basis.now) (seen body.now) operation.now result }
@@ -142,8 +123,8 @@ fn check_send(
     if !operation.argument.carries(&basis.tables.types, argument) {
         return Err(CallRefusal::NotTyped);
     }
-    let apdu = invoke_apdu(basis, operation, next_id(body), linked, argument)?;
-    if is_too_long(basis, &apdu)? {
+    let apdu = invoke_apdu(basis.alloc, operation, next_id(body), linked, argument)?;
+    if is_too_long(basis.tables, &apdu) {
         return Err(CallRefusal::TooLong);
     }
     match room_refusal(basis, body, operation) {

@@ -7,7 +7,6 @@ mod invoking;
 mod marks;
 mod outcomes;
 mod rows;
-mod texts;
 mod transfers;
 mod units;
 

@@ -1,25 +1,25 @@
 //! Outcomes of invocations of the peer.
 
-ghost use Rattle.std.specs.Prelude.{◌≡◌, Some, None, IfOk, is_some};
+ghost use Rattle.std.specs.Prelude.{◌≡◌, Some, None, is_some};
 ghost use Rattle.std.specs.Option.{option_copied, option_map};
 ghost use Rattle.stub_tables.specs.Lookup.{operation_at, error_at};
 ghost use Rattle.end_rules.specs.State.{OpenCall, opened_with};
-ghost use Rattle.end_rules.specs.Invoking.{carrier_in, lacks_carrier, operation_of, result_apdu, error_apdu, can_send_outcome, can_answer_open, can_answer, can_refuse_open, can_refuse};
+ghost use Rattle.end_rules.specs.Invoking.{carrier_in, lacks_carrier, operation_of, result_apdu, error_apdu, can_send_outcome, can_answer_open, can_answer, can_refuse_with, can_refuse_open, can_refuse};
 ghost use Rattle.end_rules.specs.Requesting.{result_in, error_for};
 ghost use Rattle.open_invocations.specs.Invocations.{called_in};
 ghost use Rattle.association_state.specs.Seen.{base_in, seen};
 ghost use Rattle.association_calls.specs.Replies.{IsChecked};
-ghost use Rattle.association_calls.specs.Outcomes.{can_send_on, can_refuse_with};
+ghost use Rattle.association_calls.specs.Outcomes.{can_send_on};
 
 use crate::invoking::{is_queue_full, is_stopped};
-use crate::texts::is_too_long;
+use apdu_codec::is_too_long;
 use asn1_types::Val;
 use association_ground::is_direct;
 use association_sets::carrier;
 use association_state::{Body, Ground};
 use dialogue::CallRefusal;
-use osi_base::{Copied, NoMemory};
-use stub_tables::{Apdu, ErrorRow, Operation, Returned};
+use rose_roles::{error_apdu, result_apdu};
+use stub_tables::{Apdu, ErrorRow, Operation};
 
 /// The context on which what belongs to a context travels.
 pub fn carrier_in(basis: &Ground<'_>, body: &Body, context: u32) -> Option<u32>
@@ -40,41 +40,6 @@ fn lacks_carrier(basis: &Ground<'_>, body: &Body, context: u32) -> bool
     is_direct(basis.config.mode) && carrier_in(basis, body, context).is_none()
 }
 
-/// The APDU of a result.
-fn result_apdu(
-    basis: &Ground<'_>,
-    operation: &Operation,
-    id: &i64,
-    value: &Option<Val>,
-) -> Result<Apdu, NoMemory>
-    ensures { IfOk result (λ apdu. apdu ≡ result_apdu operation.now id.now value.now) }
-{
-    let returned = match value {
-        None => None,
-        Some(value) => Some(Returned {
-            code: operation.code.copy(basis.alloc)?,
-            value: value.copy(basis.alloc)?,
-        }),
-    };
-    Ok(Apdu::Result { id: *id, returned })
-}
-
-/// The APDU of an error.
-fn error_apdu(
-    basis: &Ground<'_>,
-    error: &ErrorRow,
-    id: &i64,
-    parameter: &Option<Val>,
-) -> Result<Apdu, NoMemory>
-    ensures { IfOk result (λ apdu. apdu ≡ error_apdu error.now id.now parameter.now) }
-{
-    Ok(Apdu::Error {
-        id: *id,
-        code: error.code.copy(basis.alloc)?,
-        parameter: parameter.copy(basis.alloc)?,
-    })
-}
-
 /// An outcome for a context, or why it may not be sent.
 fn check_outcome(
     basis: &Ground<'_>,
@@ -88,7 +53,7 @@ fn check_outcome(
     if lacks_carrier(basis, body, context) {
         return Err(CallRefusal::NoContext);
     }
-    if is_too_long(basis, &apdu)? {
+    if is_too_long(basis.tables, &apdu) {
         return Err(CallRefusal::TooLong);
     }
     if is_queue_full(basis, body) {
@@ -117,7 +82,7 @@ fn check_result(
     if !operation.result.carries(&basis.tables.types, value) {
         return Err(CallRefusal::NotTyped);
     }
-    let apdu = result_apdu(basis, operation, id, value)?;
+    let apdu = result_apdu(basis.alloc, operation, id, value)?;
     check_outcome(basis, body, context, apdu)
 }
 
@@ -159,7 +124,7 @@ fn check_error(
     if !error.parameter.carries(&basis.tables.types, parameter) {
         return Err(CallRefusal::NotTyped);
     }
-    let apdu = error_apdu(basis, error, id, parameter)?;
+    let apdu = error_apdu(basis.alloc, error, id, parameter)?;
     check_outcome(basis, body, context, apdu)
 }
 

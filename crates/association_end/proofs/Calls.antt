@@ -39,7 +39,7 @@ use Rattle.association_requests.specs.declared.called.Called as calleds
 use Rattle.association_requests.specs.Called.{sent_by, CalledAs}
 use Rattle.association_end.specs.View.{EndView, base, Stepped}
 use Rattle.association_end.specs.Called.{is_memory, Answered, nothing_made, made, BeganCall, DiedCalled}
-use Rattle.association_end.specs.Doing.{Keeps, DidOwn, BeganOwn, Answers}
+use Rattle.association_end.specs.Progress.{Keeps, DidOwn, BeganOwn, Answers}
 use Rattle.association_end.specs.Sound.{IsSoundEnd}
 use Rattle.association_end.specs.Changed.{AcceptedSo, RefusedSo, wants_memory, ChangedBy}
 use Rattle.association_end.specs.Reacted.{AllMayStand, with_body, sending}

@@ -19,7 +19,7 @@ use Rattle.association_end.specs.Reacted.{AllMayStand, with_body, with_line, wit
 use Rattle.association_words.specs.declared.words.Message.{Message}
 use Rattle.association_intake.specs.declared.front.Front as fronts
 use Rattle.association_intake.specs.Seen.{seen_front}
-use Rattle.association_end.specs.Doing.{Keeps, Goes}
+use Rattle.association_end.specs.Progress.{Keeps, Goes}
 use Rattle.association_end.proofs.Sent.{answers_stand}
 use Rattle.association_end.proofs.Dealt.{dealt}
 

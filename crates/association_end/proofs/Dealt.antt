@@ -17,7 +17,7 @@ use Rattle.association_line.specs.Line.{Line, after, after_all, takes_first, fir
 use Rattle.association_line.specs.Feeding.{word_in, message_in, taking, failing, Reads, is_over, waits, passes, takes, fails, one_passed, one_taken, one_failed}
 use Rattle.association_line.specs.Reactions.{ReactionsAreSteps, IsTaken, IsFailed}
 use Rattle.association_end.specs.View.{EndView, base}
-use Rattle.association_end.specs.Doing.{DealtWith, ReadAll, Goes, count_in, messages_left}
+use Rattle.association_end.specs.Progress.{DealtWith, ReadAll, Goes, count_in, messages_left}
 use Rattle.association_end.specs.Reacted as reacted
 use Rattle.association_end.specs.Reacted.{Deals, TookFirst, with_body, with_line, with_came, sending, size_of_front}
 use Rattle.association_end.specs.Sound.{IsMessage, AreMessages, HasMessages}

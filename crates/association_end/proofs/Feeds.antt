@@ -12,7 +12,7 @@ use Rattle.association_line.specs.Line.{End, after, after_all}
 use Rattle.association_line.specs.Feeding.{Reads, is_over, Begins, nothing_read, all_read, BeginsByItself}
 use Rattle.association_end.specs.View.{EndView, base, Stepped}
 use Rattle.association_end.specs.Fed.{Fed, BeganFeed, DiedFed}
-use Rattle.association_end.specs.Doing.{Keeps, ReadsOn, DealtWith, ReadAll, BeganReading, DidOwn, BeganOwn}
+use Rattle.association_end.specs.Progress.{Keeps, ReadsOn, DealtWith, ReadAll, BeganReading, DidOwn, BeganOwn}
 use Rattle.association_end.specs.Reacted.{with_came}
 use Rattle.association_end.proofs.Histories.{same_base, stands_on, stepped_on, after_all-append}
 

@@ -3,6 +3,7 @@ use Rattle.std.proofs.Common.{◌≡◌, ℕ, suc, ◌<◌, nat_lt, take, length
 use Rattle.std.proofs.lemmas.List.{append-nil}
 use Rattle.dialogue.specs.declared.config.Phase.{Phase}
 use Rattle.dialogue.specs.declared.config.Phase.TheVariants.{Over, Dead}
+use Rattle.osi_base.specs.Limits.{last_activity}
 use Rattle.end_rules.specs.Base.{Base, is_reliable}
 use Rattle.end_rules.specs.Messages.{Message, Session, OfMarks, OfActivities, Mark, Start, End}
 use Rattle.end_rules.specs.State.{Body, Transfer, Encoded, Queued, Link, on_current, is_up, is_free, is_running, is_empty, highest, passes_over}
@@ -10,7 +11,7 @@ use Rattle.end_rules.specs.Writing.{part_message}
 use Rattle.end_rules.specs.Invoking.{carrier_in}
 use Rattle.end_rules.specs.ByItself.{OwnAct, SendsNow, EncodesOn, next_own, next_in, next_start, next_of, next_of_encoded, encodes_on, leads, part_size, ends_in_octets, is_window_full, left_of, item_on, encoded_as, encoding}
 use Rattle.end_rules.specs.Sets.{pair_of}
-use Rattle.end_rules.specs.Base.{Item, last_activity}
+use Rattle.end_rules.specs.Base.{Item}
 use Rattle.end_rules.specs.History.{Step, step_of, sent, encoded, ByItself, rests, goes}
 use Rattle.end_rules.specs.Requesting.{after_sent}
 use Rattle.association_wire.specs.Written.{written}
@@ -20,7 +21,7 @@ use Rattle.association_line.specs.Line.{after, after_all}
 use Rattle.association_line.specs.Feeding.{BeginsByItself, nothing_done, one_done}
 use Rattle.association_line.specs.OwnActs.{left_to_do, OwnActsLessen}
 use Rattle.association_end.specs.View.{EndView, base, Stepped}
-use Rattle.association_end.specs.Doing.{Keeps, DidOne, RestsAt, DidOwn, BeganOwn}
+use Rattle.association_end.specs.Progress.{Keeps, DidOne, RestsAt, DidOwn, BeganOwn}
 use Rattle.association_end.specs.Reacted.{with_body, sending}
 use Rattle.association_end.proofs.Histories.{same_base, stepped_on, after_all-append}
 

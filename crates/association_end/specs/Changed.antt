@@ -9,7 +9,7 @@ use Rattle.end_rules.specs.History.{after_steps, call_steps}
 use Rattle.association_requests.specs.declared.called.Called.{Called}
 use Rattle.association_requests.specs.Called.{sent_by}
 use Rattle.association_end.specs.View.{EndView, base}
-use Rattle.association_end.specs.Doing.{Keeps}
+use Rattle.association_end.specs.Progress.{Keeps}
 use Rattle.association_end.specs.Reacted.{with_body}
 
 pub record AcceptedSo (old new : EndView) (call : Call) (called : Called) : Type 0 where

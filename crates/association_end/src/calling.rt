@@ -4,7 +4,7 @@ ghost use Rattle.std.specs.Prelude.{◌≡◌, IfOk, OnOk, OnErr, MatchBool, opt
 ghost use Rattle.association_words.specs.Seen.{seen_message};
 ghost use Rattle.association_sends.specs.Due.{listed};
 ghost use Rattle.association_end.specs.Called.{is_memory, Answered, DiedCalled};
-ghost use Rattle.association_end.specs.Doing.{Answers};
+ghost use Rattle.association_end.specs.Progress.{Answers};
 ghost use Rattle.association_requests.specs.Called.{sent_by};
 ghost use Rattle.association_end.specs.Changed.{wants_memory, ChangedBy};
 ghost use Rattle.association_end.specs.Reacted.{AllMayStand, sending};

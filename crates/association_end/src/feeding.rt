@@ -9,7 +9,7 @@ ghost use Rattle.association_end.specs.View.{EndView, Stepped};
 ghost use Rattle.association_end.specs.Seen.{came_in};
 ghost use Rattle.association_end.specs.Sound.{IsMessage};
 ghost use Rattle.association_end.specs.Fed.{Fed, BeganFeed, DiedFed};
-ghost use Rattle.association_end.specs.Doing.{Keeps, Goes, ReadAll, BeganReading};
+ghost use Rattle.association_end.specs.Progress.{Keeps, Goes, ReadAll, BeganReading};
 
 use crate::end::End;
 use association_ground::passes_over;

@@ -11,7 +11,7 @@ ghost use Rattle.association_state.specs.Seen.{base_in, seen};
 ghost use Rattle.association_pieces.specs.Sending.{seen_queued, seen_transfer};
 ghost use Rattle.association_requests.specs.Acts.{seen_act};
 ghost use Rattle.association_end.specs.View.{base, Stepped};
-ghost use Rattle.association_end.specs.Doing.{Keeps, OwnGoes, DidOwn, BeganOwn};
+ghost use Rattle.association_end.specs.Progress.{Keeps, OwnGoes, DidOwn, BeganOwn};
 
 use crate::end::End;
 use association_codecs::Codecs;

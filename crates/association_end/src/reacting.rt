@@ -1,9 +1,10 @@
 //! What an end does with what stands first.
 
 ghost use Rattle.std.specs.Prelude.{◌≡◌, ◌≤◌, IfOk, OnErr, MatchResult, false, true};
+ghost use Rattle.tpkt.specs.Wire.{unit_least, unit_most};
 ghost use Rattle.end_rules.specs.State.{passes_over};
 ghost use Rattle.association_intake.specs.Seen.{seen_front, IsPlaced, TakesFirst};
-ghost use Rattle.association_end.specs.Doing.{Keeps};
+ghost use Rattle.association_end.specs.Progress.{Keeps};
 ghost use Rattle.association_end.specs.Reacted.{TookFirst, ReactedTo, Deals, size_of_front};
 ghost use Rattle.association_end.specs.Seen.{came_in};
 ghost use Rattle.association_end.specs.Sound.{IsMessage, HasMessages};
@@ -52,8 +53,8 @@ impl<'t> End<'t> {
     fn size_with(&self, front: &Front) -> u32
         ensures is { result ≡ size_of_front (line.first_size self.now.config.initiator)
             self.now.end.line.size (seen_front front.now) }
-        ensures least { 128 ≤ result }
-        ensures most { result ≤ 65531 }
+        ensures least { unit_least ≤ result }
+        ensures most { result ≤ unit_most }
     {
         size_with(first_size(self.basis.config.initiator), self.size, front)
     }

@@ -1,10 +1,11 @@
 //! What an end tells and sends for a message.
 
 ghost use Rattle.std.specs.Prelude.{◌≡◌, ◌≤◌, ◌++◌, true, List, OnOk, OnErr, MatchResult, Some, None};
+ghost use Rattle.tpkt.specs.Wire.{unit_least, unit_most};
 ghost use Rattle.dialogue.specs.declared.indication.Indication.{Indication};
 ghost use Rattle.end_rules.specs.State.{passes_over};
 ghost use Rattle.association_answers.specs.Reacted.{seen_messages};
-ghost use Rattle.association_end.specs.Doing.{Keeps};
+ghost use Rattle.association_end.specs.Progress.{Keeps};
 ghost use Rattle.association_end.specs.Reacted.{AllMayStand, sent_for, IsOverFor, SettlesFor, Settles, sending, with_line, with_came};
 
 use crate::end::End;
@@ -25,8 +26,8 @@ fn show(shown: &mut Indications, told: Indications) -> Result<(), NoMemory>
 impl<'t> End<'t> {
     /// Answers a message that is taken.
     fn answer(&mut self, taken: Taken, size: u32, shown: &mut Indications) -> Result<(), NoMemory>
-        requires least { 128 ≤ size }
-        requires most { size ≤ 65531 }
+        requires least { unit_least ≤ size }
+        requires most { size ≤ unit_most }
         requires room { AllMayStand (seen_messages taken.answers) }
         ensures ok { OnOk result (Settles self.old self.new (sending (seen_messages taken.answers)
             (with_line (record self.old.end.line { size = size }) self.old)) shown.old shown.new
@@ -69,8 +70,8 @@ impl<'t> End<'t> {
         size: u32,
         shown: &mut Indications,
     ) -> Result<bool, NoMemory>
-        requires least { 128 ≤ size }
-        requires most { size ≤ 65531 }
+        requires least { unit_least ≤ size }
+        requires most { size ≤ unit_most }
         requires room { AllMayStand (sent_for reaction) }
         requires over { IsOverFor reaction self.old }
         ensures { MatchResult result (λ more. SettlesFor reaction size self.old self.new shown.old

@@ -1,6 +1,7 @@
 //! How many octets a DT has at most (X.224 13.3.4, RFC 1006 5).
 
 ghost use Rattle.std.specs.Prelude.{◌≡◌, ◌≤◌, ◌^◌};
+ghost use Rattle.tpkt.specs.Wire.{unit_least, unit_most, named_most};
 ghost use Rattle.end_rules.specs.TakesTransport.{is_size, octets_of_size};
 ghost use Rattle.association_line.specs.Line as line;
 ghost use Rattle.association_intake.specs.Seen.{seen_front};
@@ -12,8 +13,8 @@ use association_words::TransportUnit;
 /// How many octets a DT has at most where no size is named.
 pub(crate) fn first_size(initiator: bool) -> u32
     ensures is { result ≡ line.first_size initiator }
-    ensures least { 128 ≤ result }
-    ensures most { result ≤ 65531 }
+    ensures least { unit_least ≤ result }
+    ensures most { result ≤ unit_most }
 {
     if initiator { 128 } else { 65_531 }
 }
@@ -23,8 +24,8 @@ fn octets_of(code: u8) -> u32
     requires least { 7 ≤ code }
     requires most { code ≤ 13 }
     ensures is { result ≡ 2 ^ code }
-    ensures least { 128 ≤ result }
-    ensures most { result ≤ 8192 }
+    ensures least { unit_least ≤ result }
+    ensures most { result ≤ named_most }
 {
     if code == 7 {
         return 128;
@@ -46,13 +47,13 @@ fn octets_of(code: u8) -> u32
 
 /// The size that the code names, where it is one; else this one.
 fn size_named(first: u32, before: u32, code: Option<u8>) -> u32
-    requires first_least { 128 ≤ first }
-    requires first_most { first ≤ 65531 }
-    requires least { 128 ≤ before }
-    requires most { before ≤ 65531 }
+    requires first_least { unit_least ≤ first }
+    requires first_most { first ≤ unit_most }
+    requires least { unit_least ≤ before }
+    requires most { before ≤ unit_most }
     ensures is { result ≡ line.size_named first before code }
-    ensures least { 128 ≤ result }
-    ensures most { result ≤ 65531 }
+    ensures least { unit_least ≤ result }
+    ensures most { result ≤ unit_most }
 {
     match code {
         None => first,
@@ -68,13 +69,13 @@ fn size_named(first: u32, before: u32, code: Option<u8>) -> u32
 
 /// The size once what stands first is taken.
 pub(crate) fn size_with(first: u32, before: u32, front: &Front) -> u32
-    requires first_least { 128 ≤ first }
-    requires first_most { first ≤ 65531 }
-    requires least { 128 ≤ before }
-    requires most { before ≤ 65531 }
+    requires first_least { unit_least ≤ first }
+    requires first_most { first ≤ unit_most }
+    requires least { unit_least ≤ before }
+    requires most { before ≤ unit_most }
     ensures is { result ≡ size_of_front first before (seen_front front.now) }
-    ensures least { 128 ≤ result }
-    ensures most { result ≤ 65531 }
+    ensures least { unit_least ≤ result }
+    ensures most { result ≤ unit_most }
 {
     match front {
         Front::OfTransport(TransportUnit::ConnectionRequest { size, .. }) => {

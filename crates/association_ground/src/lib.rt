@@ -1,4 +1,5 @@
-//! Small words of the rules of an association: modes, names of syntaxes, phases.
+//! Modes with the units that each proposes, names of syntaxes and of the application context, and
+//! phases, as ends of every mode ask of them.
 #![tactic(auto)]
 
 mod modes;

@@ -12,7 +12,7 @@ use Rattle.association_answers.specs.declared.taken.Taken as takens
 use Rattle.association_answers.specs.Reacted.{seen_messages}
 use Rattle.association_words.specs.declared.values.Value as words
 use Rattle.association_words.specs.Seen.{seen_message, seen_value, seen_values}
-use Rattle.association_hearing.specs.Took.{TookAs, Joined}
+use Rattle.association_hearing.specs.ValuesTaken.{TookAs, Joined}
 
 -- ---- one behind the other
 

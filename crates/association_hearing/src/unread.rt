@@ -1,32 +1,16 @@
 //! Octets of the module's abstract syntax that spell no APDU.
 
-ghost use Rattle.std.specs.Prelude.{◌≡◌, IfOk, IfSome};
-ghost use Rattle.ber_spelling.specs.Octets.{AreOctets};
+ghost use Rattle.std.specs.Prelude.{◌≡◌, IfOk};
 ghost use Rattle.end_rules.specs.Hearing.{hear};
 ghost use Rattle.end_wire.specs.Heads.{head_at};
 ghost use Rattle.rose_roles.specs.Hearing.{heard_with};
 ghost use Rattle.association_state.specs.Seen.{base_in};
 
 use association_state::Ground;
+use ber_spelling::{are_octets, hold_octets};
 use open_invocations::Invocations;
 use osi_base::{NoMemory, Octets, Syntax};
 use rose_roles::{RoseTaken, refused};
-
-/// Does nothing. Its contract says that octets are numbers below 256.
-fn are_octets(octets: &[u8])
-    ensures { AreOctets octets.now }
-{
-    let _octets = octets;
-}
-
-/// Does nothing. Its contract says that octets, where there are some, are numbers below 256.
-fn hold_octets(octets: &Option<Octets>)
-    ensures { IfSome octets.now AreOctets }
-{
-    if let Some(octets) = octets {
-        are_octets(octets.as_slice());
-    }
-}
 
 /// What becomes of octets on a context in a syntax: of the head that they spell, or of octets that
 /// spell none.

@@ -6,7 +6,7 @@ ghost use Rattle.end_rules.specs.Requesting.{queueing};
 ghost use Rattle.rose_roles.specs.Hearing.{heard_with};
 ghost use Rattle.association_words.specs.Seen.{seen_message, seen_value, seen_values};
 ghost use Rattle.association_state.specs.Seen.{base_in, seen};
-ghost use Rattle.association_hearing.specs.Took.{TookAs, Joined};
+ghost use Rattle.association_hearing.specs.ValuesTaken.{TookAs, Joined};
 
 use crate::apdus::hear_apdu;
 use crate::unread::hear_unread;

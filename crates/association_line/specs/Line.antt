@@ -1,6 +1,7 @@
 -- One end of an association with its octets: those that wait to be given out, what came and isn't reacted to yet, and how
 -- many octets a DT of it has at most.
 use Rattle.std.specs.Prelude.{ℕ, List, [], ◌∷◌, ◌++◌, drop, Bool, true, false, if◌then◌else◌, Option, Some, None, option_map}
+use Rattle.tpkt.specs.Wire.{unit_least, unit_most}
 use Rattle.end_rules.specs.Base.{Base}
 use Rattle.end_rules.specs.Messages.{Message, Transport, Session, TransportUnit, ConnectionRequest, ConnectionConfirm, DisconnectRequest, TransportError}
 use Rattle.end_rules.specs.State.{Body, new_body, passes_over}
@@ -24,8 +25,8 @@ pub record End : Type 0 where
 
 -- where no size is named, an initiator uses 128 octets (X.224 13.3.4) and a responder 65,531 (RFC 1006 5)
 abbrev pub first_size : Bool → ℕ
-first_size true = 128
-first_size false = 65531
+first_size true = unit_least
+first_size false = unit_most
 
 abbrev pub first_line : Base → Line
 first_line base = record { waiting = []; came = Some nothing_came; size = first_size base.initiator }

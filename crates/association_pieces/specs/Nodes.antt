@@ -1,5 +1,6 @@
 -- A piece as it is kept, as the rules of one end see it.
 use Rattle.std.specs.Prelude.{◌<◌}
+use Rattle.osi_base.specs.Limits.{most_32}
 use Rattle.end_rules.specs.State as rules
 use Rattle.association_pieces.specs.declared.piece.PieceNode.{PieceNode}
 use Rattle.association_pieces.specs.declared.piece.PieceNode.TheVariants.{Octets, Marked}
@@ -11,4 +12,4 @@ seen_node (Marked number set) = rules.Marked number set
 -- the number of a mark isn't the last of 32 bits
 abbrev pub IsFit : PieceNode → Type 0
 IsFit (Octets octets) = Unit {0}
-IsFit (Marked number set) = number < 4294967295
+IsFit (Marked number set) = number < most_32

@@ -1,6 +1,7 @@
 //! One piece of a transfer.
 
 ghost use Rattle.std.specs.Prelude.{◌≡◌, ◌<◌, [], ◌∷◌, IfOk, OnOk};
+ghost use Rattle.osi_base.specs.Limits.{most_32};
 ghost use Rattle.end_rules.specs.State.{Octets as octets_piece, Marked as marked_piece};
 ghost use Rattle.end_rules.specs.ByItself.{ends_in_octets};
 ghost use Rattle.association_pieces.specs.Pieces.{is_mark, octets_in, set_in, number_in};
@@ -46,7 +47,7 @@ impl Piece {
     /// A mark with its set. Its number isn't the last of 32 bits.
     pub fn marked(number: u32, set: SetList) -> Result<Piece, NoMemory>
         ensures mark { IfOk result (λ piece. piece ≡ marked_piece number set) }
-        ensures fits { OnOk result (number < 4294967295) }
+        ensures fits { OnOk result (number < most_32) }
     {
         if number == u32::MAX {
             return Err(NoMemory);
@@ -99,7 +100,7 @@ impl Piece {
     /// Its number, 0 for octets.
     pub(crate) fn number(&self) -> u32
         ensures number { result ≡ number_in self.now }
-        ensures fits { result < 4294967295 }
+        ensures fits { result < most_32 }
     {
         match &self.node {
             PieceNode::Octets(_) => 0,

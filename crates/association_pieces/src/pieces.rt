@@ -1,6 +1,7 @@
 //! What a transfer is made of: octets and marks.
 
 ghost use Rattle.std.specs.Prelude.{◌≡◌, ◌<◌, [], ◌∷◌, suc, length, reverse, IfOk, OnOk};
+ghost use Rattle.osi_base.specs.Limits.{most_32};
 ghost use Rattle.end_rules.specs.State.{Octets as octets_piece, Marked as marked_piece, joined, highest, newest_set, from_mark, up_to};
 ghost use Rattle.end_rules.specs.ByItself.{ends_in_octets};
 ghost use Rattle.association_pieces.specs.Ends.{starts_at, front_octets};
@@ -23,6 +24,7 @@ pub struct Pieces {
 
 impl Model for Pieces {
     ghost use Rattle.std.specs.Prelude.{◌≡◌, ◌<◌, List, length};
+    ghost use Rattle.osi_base.specs.Limits.{most_32};
     ghost use Rattle.end_rules.specs.State.{Piece as seen_piece, joined, highest};
 
     ghost Value = { List seen_piece };
@@ -30,7 +32,7 @@ impl Model for Pieces {
     ghost view = { λ p. p.stack };
 
     ghost invariant = { λ p. (p.count ≡ length (joined p.stack)) × (p.top ≡ highest p.stack)
-        × (p.top < 4294967295) };
+        × (p.top < most_32) };
 }
 
 impl Pieces {
@@ -200,7 +202,7 @@ fn cut_stack(stack: &mut Stack<Piece>, octets: usize, n: u32) -> usize
 #[tactic(auto, using(crate::proofs::Ends::left_at))]
 fn highest_in(stack: &Stack<Piece>) -> u32
     ensures highest { result ≡ highest stack.now }
-    ensures fits { result < 4294967295 }
+    ensures fits { result < most_32 }
 {
     for place in 0..stack.len() {
         let piece = stack.at(place);

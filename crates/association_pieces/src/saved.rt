@@ -18,13 +18,14 @@ pub struct SavedSet {
 
 impl Model for SavedSet {
     ghost use Rattle.std.specs.Prelude.{◌<◌};
+    ghost use Rattle.osi_base.specs.Limits.{most_32};
     ghost use Rattle.end_rules.specs.Sets.{Saved};
 
     ghost Value = { Saved };
 
     ghost view = { λ s. record { number = s.number; set = s.set } };
 
-    ghost invariant = { λ s. s.number < 4294967295 };
+    ghost invariant = { λ s. s.number < most_32 };
 }
 
 impl SavedSet {

@@ -4,7 +4,7 @@ use Rattle.osi_base.specs.declared.acse_word.Acse.{Acse}
 use Rattle.acse.specs.Written.{IsWritable as IsWritableAcse}
 use Rattle.rtse_apdus.specs.Written.{IsWritable as IsWritableRtse}
 use Rattle.osi_base.specs.declared.rtse_word.Rtse.TheVariants as rtse
-use Rattle.tpkt.specs.Wire.{IsTwo, tsdu_limit}
+use Rattle.tpkt.specs.Wire.{IsTwo, tsdu_limit, unit_least, unit_most}
 use Rattle.tpkt.specs.Written.{HasRoom}
 use Rattle.association_wire.specs.Written.{request_ends, confirm_ends, written_unit, with_user, session_units, tsdu_of, written}
 use Rattle.end_rules.specs.Messages.{Association, Plea, Part, TransportUnit, ConnectionRequest, ConnectionConfirm, DisconnectRequest, Remote, Value, NoData, Word, OfAssociation, Refuse, Finish, Disconnect, Abort, AbortAccept, OfData, Values, AlterContext, AlterContextAck, OfMarks, Mark, MarkAck, Restart, RestartAck, Give, Please, GiveConfirm, GiveAck, OfActivities, Session, unit_of}
@@ -48,7 +48,7 @@ pub record IsSendable (tables : Tables) (word : Word) : Type 0 where
 -- What is written of a word stands first on a line, whatever follows.
 abbrev pub WrittenStandsFirst : Type 0
 WrittenStandsFirst =
-    (tables : Tables) (size : ℕ) (word : Word) (more : List ℕ) → 128 ≤ size → size ≤ 65531 → IsSendable tables word →
+    (tables : Tables) (size : ℕ) (word : Word) (more : List ℕ) → unit_least ≤ size → size ≤ unit_most → IsSendable tables word →
     (start : ℕ) × (first_in (with_octets (written tables size (Session word) ++ more) nothing_came) ≡ OfSession (with_user (user_octets tables word) (unit_of word)) start)
 
 -- ---- what it means
@@ -156,7 +156,7 @@ abbrev pub BeginningsOf : List ℕ → Type 0
 BeginningsOf octets = (front back : List ℕ) → octets ≡ front ++ back → 0 < length back → first_in (with_octets front nothing_came) ≡ Short
 
 pub record BeginningsAreShort : Type 0 where
-  pub words : (tables : Tables) (size : ℕ) (word : Word) → 128 ≤ size → size ≤ 65531 → IsSendable tables word → BeginningsOf (written tables size (Session word))
+  pub words : (tables : Tables) (size : ℕ) (word : Word) → unit_least ≤ size → size ≤ unit_most → IsSendable tables word → BeginningsOf (written tables size (Session word))
   pub request : (source : ℕ) (size : Option ℕ) (calling called : List ℕ) → IsTwo source → HasRoom (request_ends source size calling called) →
       IsOctets (written_unit (ConnectionRequest source size calling called)) → BeginningsOf (written_unit (ConnectionRequest source size calling called))
   pub confirm : (destination : ℕ) (size : Option ℕ) → IsTwo destination → HasRoom (confirm_ends destination size) →

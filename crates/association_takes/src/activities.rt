@@ -7,7 +7,7 @@ ghost use Rattle.end_rules.specs.State.{Suspended, Transfer as rule_transfer, on
 ghost use Rattle.end_rules.specs.TakesActivities.{handed_up, invocation_in, cut_invocation, shown_cut, keeping, received, started_record, resumed_record, after_resume, calmed, without_current, after_discard, after_activity, answers_to_activity, shown_of_activity};
 ghost use Rattle.end_rules.specs.Faults.{losses};
 ghost use Rattle.end_rules.specs.Hearing.{take_values};
-ghost use Rattle.association_hearing.specs.Took.{TookAs};
+ghost use Rattle.association_hearing.specs.ValuesTaken.{TookAs};
 ghost use Rattle.association_takes.specs.Acts.{is_end, invocation_of};
 ghost use Rattle.association_words.specs.Seen.{seen_message, seen_activities, seen_value};
 ghost use Rattle.association_pieces.specs.Seen.{seen_receiving};

@@ -1,7 +1,8 @@
 //! Parts of transfers.
 
-ghost use Rattle.std.specs.Prelude.{◌≡◌, ◌≤◌, ◌++◌, ◌∷◌, min, length, nat_lt, not, OnOk, option_map};
+ghost use Rattle.std.specs.Prelude.{◌≡◌, ◌≤◌, ◌+◌, ◌++◌, ◌∷◌, min, length, nat_lt, not, OnOk, option_map};
 ghost use Rattle.std.specs.List.{list_any};
+ghost use Rattle.osi_base.specs.Limits.{most_transferred};
 ghost use Rattle.end_rules.specs.Messages.{Value as rule_value};
 ghost use Rattle.end_rules.specs.State.{joined, Octets as octets_piece};
 ghost use Rattle.end_rules.specs.Faults.{rtse_fault, fault_if, or_fault};
@@ -100,7 +101,8 @@ fn has_strange(values: &[Value]) -> bool
 /// How many octets the parts have, at most 262,401.
 #[tactic(auto, using(crate::proofs::Lengths::one_more))]
 fn parts_len(values: &[Value]) -> usize
-    ensures len { result ≡ min 262401 (length (parts_in (seen_values values.now))) }
+    ensures len { result ≡ min (most_transferred + 1)
+        (length (parts_in (seen_values values.now))) }
 {
     let mut len: usize = 0;
     for value in values {
@@ -112,8 +114,8 @@ fn parts_len(values: &[Value]) -> usize
 /// Whether a transfer would have too many octets with these parts.
 #[tactic(auto, using(crate::proofs::Lengths::too_many))]
 fn is_too_long(body: &Body, values: &[Value]) -> bool
-    ensures { result ≡ nat_lt 262400 (length (joined (seen body.now).receiving.pieces ++ parts_in
-        (seen_values values.now))) }
+    ensures { result ≡ nat_lt most_transferred (length (joined (seen body.now).receiving.pieces
+        ++ parts_in (seen_values values.now))) }
 {
     body.receiving.pieces.octets().min(262_401) + parts_len(values) > MOST_TRANSFERRED
 }
@@ -121,8 +123,8 @@ fn is_too_long(body: &Body, values: &[Value]) -> bool
 /// Why parts of a transfer may not be taken.
 fn parts_fault(basis: &Ground<'_>, body: &Body, values: &[Value]) -> Option<Fault>
     ensures { option_map seen_fault result ≡ or_fault (fault_if (list_any (λ (v : rule_value). not
-        (is_part v.content)) (seen_values values.now)) rtse_fault) (fault_if (nat_lt 262400 (length
-        (joined (seen body.now).receiving.pieces
+        (is_part v.content)) (seen_values values.now)) rtse_fault) (fault_if
+        (nat_lt most_transferred (length (joined (seen body.now).receiving.pieces
         ++ parts_in (seen_values values.now)))) rtse_fault) }
 {
     if has_other(values) || is_too_long(body, values) {

@@ -1,5 +1,6 @@
 -- An end of an association with its line: the octets that wait to be given out, and what came and isn't reacted to yet.
 use Rattle.std.specs.Prelude.{ℕ, ◌≤◌, List, [], ◌∷◌, ◌++◌, Option, Some, None}
+use Rattle.tpkt.specs.Wire.{unit_least, unit_most}
 use Rattle.stub_tables.specs.declared.tables.Tables.{Tables}
 use Rattle.end_rules.specs.Base.{Base}
 use Rattle.end_rules.specs.Messages.{Message}
@@ -24,8 +25,8 @@ new_end base = record { body = new_body base; line = new_line }
 
 -- how many octets a packet of an end may have in it
 pub record IsSize (size : ℕ) : Type 0 where
-  pub least : 128 ≤ size
-  pub most : size ≤ 65531
+  pub least : unit_least ≤ size
+  pub most : size ≤ unit_most
 
 -- what is written of messages, one behind the other
 abbrev pub written_all : Tables → ℕ → List Message → List ℕ

@@ -14,6 +14,7 @@ use Rattle.end_rules.specs.Invoking.{is_linked_to}
 use Rattle.end_rules.specs.Hearing.{is_place}
 use Rattle.end_rules.specs.History.{Step, called, sent, encoded, fed, took, answered, passed, fault, aborted, feed_end, gave, broke}
 use Rattle.end_rules.specs.World.{World, Ends}
+use Rattle.end_rules.specs.Base.{most_open}
 use Rattle.bare_duo.specs.Shows.{apdu_in}
 use Rattle.bare_duo.specs.Worlds.{end_at}
 use Rattle.bare_duo.specs.Outcomes.{has_result, has_error}
@@ -34,7 +35,7 @@ may_link tables calls place (Some linked) = is_linked_to (operation_in tables (o
 abbrev pub may_be_invoked : Tables → Calls → Option Operation → Option Val → Bool
 may_be_invoked tables calls None argument = false
 may_be_invoked tables calls (Some operation) argument =
-    (is_silent operation || nat_lt (length (opens_of false calls.opens)) 4096) && is_carried tables.types operation.argument argument
+    (is_silent operation || nat_lt (length (opens_of false calls.opens)) most_open) && is_carried tables.types operation.argument argument
 
 -- its identifier is free
 abbrev pub may_invoke : Tables → Calls → ℤ → Option ℤ → Option ℕ → Option Val → Bool

@@ -16,7 +16,7 @@ use Rattle.dialogue.specs.declared.call.Call.TheVariants as the_calls
 use Rattle.dialogue.specs.declared.call.CallRefusal.{CallRefusal}
 use Rattle.dialogue.specs.declared.call.CallRefusal.TheVariants as refusals
 use Rattle.end_rules.specs.State.{Body, OpenCall, opened_with, opens_of, close}
-use Rattle.end_rules.specs.Invoking.{Reply, is_too_long, can_send_outcome, next_id, is_on_module, linking_refusal, unless_refused, operation_of, invoke_apdu, result_apdu, error_apdu, can_send_invoke, can_invoke, can_invoke_operation, can_answer, can_answer_open, can_refuse, can_refuse_open}
+use Rattle.end_rules.specs.Invoking.{Reply, is_too_long, can_send_outcome, next_id, is_on_module, linking_refusal, unless_refused, operation_of, invoke_apdu, result_apdu, error_apdu, can_send_invoke, can_invoke, can_invoke_operation, can_answer, can_answer_open, can_refuse, can_refuse_open, can_refuse_with}
 use Rattle.dialogue.specs.declared.config.Phase.TheVariants.{Dead}
 use Rattle.end_rules.specs.Calling.{can_call, can_by_rows, is_dead, is_initiators, is_phase_for, is_of_bare_mode}
 use Rattle.end_rules.specs.Hearing.{opening}
@@ -24,7 +24,7 @@ use Rattle.end_rules.specs.Requesting.{due_of, after_refused}
 use Rattle.end_rules.specs.History.{called, sent}
 use Rattle.bare_end.specs.declared.sending.Checked as checkeds
 use Rattle.bare_end.specs.declared.sending.Checked.TheVariants as checked
-use Rattle.bare_end.specs.Checking.{IsChecked, IsNumbered, HasRoom, can_refuse_with}
+use Rattle.bare_end.specs.Checking.{IsChecked, IsNumbered, HasRoom}
 use Rattle.bare_end.specs.View.{EndView, base, body, seen, Stepped, Answers, Answered, Died, Keeps, is_memory, with_calls, with_waiting}
 use Rattle.bare_end.proofs.Sent.{invoked, answered, refused}
 

@@ -1,17 +1,14 @@
 -- What a call that may be made sends, and why one that may not is refused.
-use Rattle.std.specs.Prelude.{◌≡◌, ℕ, ◌<◌, ℤ, not, true, false, List, length, Option, Some, None, Ok, Err, if◌then◌else◌}
+use Rattle.std.specs.Prelude.{◌≡◌, ℕ, ◌<◌, ℤ, true, false, List, length, Option, Some, None, Ok, Err, if◌then◌else◌}
 use Rattle.osi_base.specs.declared.syntax.Syntax.TheVariants.{Ber}
-use Rattle.asn1_types.specs.declared.value.Val.{Val}
 use Rattle.stub_tables.specs.declared.apdu.Apdu.{Apdu}
 use Rattle.stub_tables.specs.declared.operation.Operation.{Operation}
-use Rattle.stub_tables.specs.declared.operation.ErrorRow.{ErrorRow}
 use Rattle.stub_tables.specs.Codes.{is_silent}
-use Rattle.stub_tables.specs.Uses.{is_carried}
 use Rattle.dialogue.specs.declared.call.CallRefusal.{CallRefusal}
 use Rattle.dialogue.specs.declared.call.CallRefusal.TheVariants as refusals
 use Rattle.end_rules.specs.Base.{Base, most_open, last_invocation}
-use Rattle.end_rules.specs.State.{Body, Calls, OpenCall, opens_of}
-use Rattle.end_rules.specs.Invoking.{Reply, is_too_long, error_apdu, can_send_outcome}
+use Rattle.end_rules.specs.State.{Calls, opens_of}
+use Rattle.end_rules.specs.Invoking.{Reply, is_too_long}
 use Rattle.bare_end.specs.declared.sending.Checked as checkeds
 use Rattle.bare_end.specs.declared.sending.Checked.TheVariants as checked
 use Rattle.bare_end.specs.View.{is_memory}
@@ -34,12 +31,6 @@ pub record HasRoom (calls : Calls) (operation : Operation) : Type 0 where
 abbrev pub IsFree : Calls → Operation → checkeds.Checked → Type 0
 IsFree calls operation (checked.Refused refusal) = Unit {0}
 IsFree calls operation (checked.Sends octets) = HasRoom calls operation
-
--- the last rows of a refusal by an error
-abbrev pub can_refuse_with : Base → Body → ℤ → OpenCall → ErrorRow → Option Val → Reply
-can_refuse_with base body id o error parameter =
-    if not (is_carried base.tables.types error.parameter parameter) then Err refusals.NotTyped
-    else can_send_outcome base body o (error_apdu error id parameter)
 
 -- no number, or no room
 abbrev pub IsNumbered : Calls → Operation → Option CallRefusal → Reply → Reply → Type 0

@@ -1,5 +1,6 @@
 -- What a feed does.
 use Rattle.std.specs.Prelude.{◌≡◌, ℕ, ◌<◌, ◌≤◌, List, [], ◌++◌, length, drop, Bool, true, false}
+use Rattle.asn1_types.specs.Limits.{most_octets}
 use Rattle.dialogue.specs.declared.config.Phase.TheVariants.{Dead}
 use Rattle.dialogue.specs.declared.indication.Indication.{Indication}
 use Rattle.osi_base.specs.declared.syntax.Syntax.TheVariants.{Ber}
@@ -42,7 +43,7 @@ pub record ReadAll (old new : EndView) (before after : List Indication) : Type 0
   pub reads : Reads (base old) (seen old) steps told
   pub made : Stepped old new steps
   pub shown_is : after ≡ before ++ told
-  pub few : length new.rest ≤ 262144
+  pub few : length new.rest ≤ most_octets
 
 -- a message was taken and more may follow, or all was read
 abbrev pub Goes : Bool → EndView → EndView → List Indication → List Indication → Type 0
@@ -55,7 +56,7 @@ pub record Fed (old new : EndView) (octets : List ℕ) (shown : List Indication)
   pub feeds : Feeds (base old) (seen old) octets steps shown
   pub made : Stepped old new steps
   -- of an APDU that isn't whole it keeps at most 262,144 octets
-  pub few : length new.rest ≤ 262144
+  pub few : length new.rest ≤ most_octets
   -- where it stood for a history, it stands for it with these steps
   pub stands : (h : History) → StandsFor old h → StandsFor new (going_on h steps)
 

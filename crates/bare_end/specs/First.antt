@@ -1,5 +1,6 @@
 -- What stands first in octets, as an end sees it.
 use Rattle.std.specs.Prelude.{◌≡◌, ℕ, ◌≤◌, ◌<◌, List, length}
+use Rattle.asn1_types.specs.Limits.{most_octets}
 use Rattle.stream_front.specs.declared.front.Front as fronts
 use Rattle.stream_front.specs.declared.front.Front.TheVariants as front
 use Rattle.end_wire.specs.Bare.{Short, Whole, Faulty, first_at}
@@ -13,7 +14,7 @@ pub record IsWholeFirst (octets : List ℕ) (used : ℕ) : Type 0 where
 -- less than one whole value, of at most 262,144 octets
 pub record IsShortFirst (octets : List ℕ) : Type 0 where
   pub first : first_at octets ≡ Short
-  pub few : length octets ≤ 262144
+  pub few : length octets ≤ most_octets
 
 abbrev pub IsFirst : List ℕ → fronts.Front → Type 0
 IsFirst octets front.Short = IsShortFirst octets

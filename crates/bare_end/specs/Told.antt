@@ -1,5 +1,5 @@
 -- How what became of an APDU is told and answered.
-use Rattle.std.specs.Prelude.{◌≡◌, ℕ, List, [], ◌∷◌, Option, Some, None}
+use Rattle.std.specs.Prelude.{◌≡◌, ℕ, List, [], ◌∷◌, Option, Some, IfSome}
 use Rattle.osi_base.specs.declared.syntax.Syntax.TheVariants.{Ber}
 use Rattle.ber_spelling.specs.Octets.{AreOctets}
 use Rattle.apdu_spelling.specs.declared.head.ApduHead.{ApduHead}
@@ -18,8 +18,7 @@ use Rattle.bare_end.specs.View.{EndView, base, body, with_calls, with_waiting}
 
 -- octets, where there are some
 abbrev pub HoldsOctets : Option (List ℕ) → Type 0
-HoldsOctets None = Unit {0}
-HoldsOctets (Some octets) = AreOctets octets
+HoldsOctets octets = IfSome octets AreOctets
 
 -- what becomes of an APDU: an indication, or a reject that is due
 abbrev pub heard_as : Calls → takens.Taken → rules.Heard

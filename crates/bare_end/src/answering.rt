@@ -7,16 +7,17 @@ ghost use Rattle.stub_tables.specs.Lookup.{error_at};
 ghost use Rattle.apdu_spelling.specs.Writing.{written_apdu};
 ghost use Rattle.dialogue.specs.declared.call.Call.TheVariants as the_calls;
 ghost use Rattle.end_rules.specs.State.{OpenCall, opened_with, close};
-ghost use Rattle.end_rules.specs.Invoking.{operation_of, result_apdu, error_apdu, can_send_outcome, can_answer_open, can_answer, can_refuse};
-ghost use Rattle.bare_end.specs.Checking.{IsChecked, can_refuse_with};
+ghost use Rattle.end_rules.specs.Invoking.{operation_of, result_apdu, error_apdu, can_send_outcome, can_answer_open, can_answer, can_refuse_with, can_refuse};
+ghost use Rattle.bare_end.specs.Checking.{IsChecked};
 ghost use Rattle.bare_end.specs.View.{base, body, with_calls, with_waiting, Answers, Keeps};
 
 use crate::end::End;
 use crate::sending::Checked;
 use asn1_types::Val;
 use dialogue::CallRefusal;
-use osi_base::{Copied, NoMemory};
-use stub_tables::{Apdu, ErrorRow, Operation, Returned};
+use osi_base::NoMemory;
+use rose_roles::{error_apdu, result_apdu};
+use stub_tables::{Apdu, ErrorRow, Operation};
 
 impl<'t> End<'t> {
     /// The operation of an open invocation of the peer.
@@ -51,41 +52,6 @@ impl<'t> End<'t> {
         }
     }
 
-    /// The APDU of a result.
-    fn result_apdu(
-        &self,
-        operation: &Operation,
-        id: &i64,
-        value: &Option<Val>,
-    ) -> Result<Apdu, NoMemory>
-        ensures { IfOk result (λ apdu. apdu ≡ result_apdu operation.now id.now value.now) }
-    {
-        let returned = match value {
-            None => None,
-            Some(value) => Some(Returned {
-                code: operation.code.copy(self.alloc)?,
-                value: value.copy(self.alloc)?,
-            }),
-        };
-        Ok(Apdu::Result { id: *id, returned })
-    }
-
-    /// The APDU of an error.
-    fn error_apdu(
-        &self,
-        error: &ErrorRow,
-        id: &i64,
-        parameter: &Option<Val>,
-    ) -> Result<Apdu, NoMemory>
-        ensures { IfOk result (λ apdu. apdu ≡ error_apdu error.now id.now parameter.now) }
-    {
-        Ok(Apdu::Error {
-            id: *id,
-            code: error.code.copy(self.alloc)?,
-            parameter: parameter.copy(self.alloc)?,
-        })
-    }
-
     /// The text of a result, or why it isn't sent.
     fn check_answer(
         &self,
@@ -105,7 +71,7 @@ impl<'t> End<'t> {
         if !operation.result.carries(&self.tables.types, value) {
             return Ok(Checked::Refused(CallRefusal::NotTyped));
         }
-        let apdu = self.result_apdu(operation, id, value)?;
+        let apdu = result_apdu(self.alloc, operation, id, value)?;
         let checked = self.check_outcome(&apdu);
         drop(apdu);
         checked
@@ -126,7 +92,7 @@ impl<'t> End<'t> {
         if !error.parameter.carries(&self.tables.types, parameter) {
             return Ok(Checked::Refused(CallRefusal::NotTyped));
         }
-        let apdu = self.error_apdu(error, id, parameter)?;
+        let apdu = error_apdu(self.alloc, error, id, parameter)?;
         let checked = self.check_outcome(&apdu);
         drop(apdu);
         checked

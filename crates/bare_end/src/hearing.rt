@@ -11,15 +11,15 @@ ghost use Rattle.end_rules.specs.Hearing.{hear, reject_apdu};
 ghost use Rattle.end_wire.specs.Heads.{head_at};
 ghost use Rattle.end_wire.specs.Values.{IsContent, content_at};
 ghost use Rattle.open_invocations.specs.Invocations.{SomeCarried};
-ghost use Rattle.bare_end.specs.Told.{heard_as, HoldsOctets, Heard, HeardIn, told_by, answered_end};
+ghost use Rattle.bare_end.specs.Told.{heard_as, Heard, HeardIn, told_by, answered_end};
 ghost use Rattle.bare_end.specs.View.{base, with_calls, with_waiting};
 
 use crate::end::End;
-use crate::intake::are_octets;
 use apdu_codec::HeadFault;
 use apdu_spelling::ApduHead;
+use ber_spelling::{are_octets, hold_octets};
 use dialogue::{Indication, Indications};
-use osi_base::{NoMemory, Octets, Problem, Syntax};
+use osi_base::{NoMemory, Problem, Syntax};
 use rose_roles::{RoseTaken, refused};
 use stub_tables::Apdu;
 
@@ -64,15 +64,6 @@ fn as_taken(taken: RoseTaken) -> Taken
         }
         RoseTaken::BadReject => Taken::Told(Indication::BadReject),
         RoseTaken::Reject { id, problem } => Taken::Rejects { id, problem },
-    }
-}
-
-/// Does nothing. Its contract says that octets, where there are some, are numbers below 256.
-fn hold_octets(octets: &Option<Octets>)
-    ensures { HoldsOctets octets.now }
-{
-    if let Some(octets) = octets {
-        are_octets(octets.as_slice());
     }
 }
 

@@ -1,9 +1,9 @@
 //! Octets that came and weren't taken yet.
 
 ghost use Rattle.std.specs.Prelude.{◌≡◌, ◌≤◌, ◌++◌, List, [], length, drop, OnOk, OnErr};
-ghost use Rattle.ber_spelling.specs.Octets.{AreOctets};
 ghost use Rattle.bare_end.specs.First.{IsFirst};
 
+use ber_spelling::are_octets;
 use osi_base::{NoMemory, OctetQueue};
 use std::alloc::Global;
 use std::marker::Model;
@@ -26,13 +26,6 @@ impl Model for Intake {
     ghost view = { λ i. i.octets };
 
     ghost invariant = { λ i. HasSeen i.scanner i.octets };
-}
-
-/// Does nothing. Its contract says that octets are numbers below 256.
-pub(crate) fn are_octets(octets: &[u8])
-    ensures { AreOctets octets.now }
-{
-    let _octets = octets;
 }
 
 impl Intake {

@@ -19,8 +19,8 @@ use crate::end::End;
 use crate::sending::Checked;
 use asn1_types::Val;
 use dialogue::CallRefusal;
-use osi_base::{Copied, NoMemory};
-use rose_roles::is_linked_to;
+use osi_base::NoMemory;
+use rose_roles::{invoke_apdu, is_linked_to};
 use stub_tables::{Apdu, Operation};
 
 /// How many invocations of one end may be open.
@@ -69,24 +69,6 @@ impl<'t> End<'t> {
         }
     }
 
-    /// The APDU of an invocation.
-    fn invoke_apdu(
-        &self,
-        operation: &Operation,
-        id: i64,
-        linked: Option<i64>,
-        argument: &Option<Val>,
-    ) -> Result<Apdu, NoMemory>
-        ensures { IfOk result (λ apdu. apdu ≡ invoke_apdu operation.now id linked argument.now) }
-    {
-        Ok(Apdu::Invoke {
-            id,
-            linked,
-            code: operation.code.copy(self.alloc)?,
-            argument: argument.copy(self.alloc)?,
-        })
-    }
-
     /// The APDU of the next invocation.
     fn next_apdu(
         &self,
@@ -98,7 +80,7 @@ impl<'t> End<'t> {
             linked argument.now) }
     {
         let id = self.next_id();
-        self.invoke_apdu(operation, id, linked, argument)
+        invoke_apdu(self.alloc, operation, id, linked, argument)
     }
 
     /// Why there is no room or no number for one more invocation of an operation.

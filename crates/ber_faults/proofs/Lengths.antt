@@ -4,11 +4,12 @@ use Rattle.std.specs.Prelude.{nat_lt, nat_le, nat_eq, slice_index}
 use Rattle.std.proofs.lemmas.Bool.{lt-ltb, le-ltb, ltb-false, ltb-true, eqb-true, eqb-false, ne_eqb, and_parts, lt-leb}
 use Rattle.std.proofs.lemmas.List.{take_at, drop_at, take-append-drop, length-take}
 use Rattle.osi_base.specs.declared.words.Kind.TheVariants.{Length, Form}
+use Rattle.asn1_types.specs.Whole.{number_256}
 use Rattle.ber_spelling.specs.declared.fault.ReadFault.{ReadFault}
 use Rattle.ber_spelling.specs.declared.fault.ReadFault.TheVariants.{NotSpelled, Short}
 use Rattle.ber_spelling.specs.declared.spot.Scope.{Scope}
 use Rattle.ber_spelling.specs.Reading.{Spot, Reading, refuse, is_past, within}
-use Rattle.ber_spelling.specs.Fields.{number_from, announced_at, long_at, sure_reach, definite_at, inside, inside_until, extent_at, contents_at}
+use Rattle.ber_spelling.specs.Fields.{announced_at, long_at, sure_reach, definite_at, inside, inside_until, extent_at, contents_at}
 use Rattle.ber_spelling.proofs.Identifiers.{IsIn, ok_is}
 use Rattle.ber_spelling.proofs.Lengths.{contents_found, contents_again, extent_found, extent_until, extent_marked}
 use Rattle.ber_faults.specs.Fields.{IsWithin, Crosses, IsLonger, WholeLongFault, CutLongFault, LongFault, SizeFault, LengthFault, ExtentFault, Extends, Holds}
@@ -87,18 +88,18 @@ announced_fails scope place count minimal from rest f (inr h) =
 -- ---- the long form
 
 abbrev minimal_of : List ℕ → Bool
-minimal_of digits = nat_le 128 (number_from 0 digits) && nat_lt 0 (slice_index digits 0)
+minimal_of digits = nat_le 128 (number_256 0 digits) && nat_lt 0 (slice_index digits 0)
 
 longer_of : (digits : List ℕ) → minimal_of digits ≡ false → IsLonger digits
 longer_of digits e =
-    elim (and_none (nat_le 128 (number_from 0 digits)) (nat_lt 0 (slice_index digits 0)) e) [
-      | inl t ↦ inl (leb-false 128 (number_from 0 digits) t)
+    elim (and_none (nat_le 128 (number_256 0 digits)) (nat_lt 0 (slice_index digits 0)) e) [
+      | inl t ↦ inl (leb-false 128 (number_256 0 digits) t)
       | inr t ↦ let le : slice_index digits 0 ≤ 0 = ltb-false 0 (slice_index digits 0) t in inr (omega arith)
     ]
 
 of_longer : (digits : List ℕ) → IsLonger digits → minimal_of digits ≡ false
-of_longer digits (inl lt) = not_both (nat_le 128 (number_from 0 digits)) (nat_lt 0 (slice_index digits 0)) (inl (lt-leb 128 (number_from 0 digits) lt))
-of_longer digits (inr e) = not_both (nat_le 128 (number_from 0 digits)) (nat_lt 0 (slice_index digits 0)) (inr (ap (λ (k : ℕ). nat_lt 0 k) e))
+of_longer digits (inl lt) = not_both (nat_le 128 (number_256 0 digits)) (nat_lt 0 (slice_index digits 0)) (inl (lt-leb 128 (number_256 0 digits) lt))
+of_longer digits (inr e) = not_both (nat_le 128 (number_256 0 digits)) (nat_lt 0 (slice_index digits 0)) (inr (ap (λ (k : ℕ). nat_lt 0 k) e))
 
 cut_by : (scope : Scope) (place size there : ℕ) (f : ReadFault) (b : Bool) → is_past scope.end (place + 1 + size) ≡ b → Crosses scope place (cond b (place + 1 + size) (place + 1 + there)) f → CutLongFault scope place size there f
 cut_by scope place size there f true e c = inl (e, c)
@@ -131,7 +132,7 @@ long_err scope place size rest f ne e =
                   | inl w ↦ inl (ltb-true 8 size w.0, sym (err_is {A = ℕ × Spot} (NotSpelled place Length) f w.1))
                   | inr w ↦ inr (
                     ltb-false 8 size w.0,
-                    elim (announced_err scope place (number_from 0 (take size rest)) (minimal_of (take size rest)) (place + 1 + size) (drop size rest) f w.1) [
+                    elim (announced_err scope place (number_256 0 (take size rest)) (minimal_of (take size rest)) (place + 1 + size) (drop size rest) f w.1) [
                       | inl x ↦ inl x
                       | inr x ↦ inr (x.0, x.1, longer_of (take size rest) x.2, x.3)
                     ],
@@ -152,7 +153,7 @@ whole_fails scope place digits more f h =
       | inr c ↦ bind_goes (within scope place (place + 1 + length digits)) _ tt (Err f) (within_goes scope place (place + 1 + length digits) c.0) (elim c.1 [
         | inl d ↦ cond_yes (nat_lt 8 (length digits)) _ _ _ (lt-ltb 8 (length digits) d.0) (fault_of f (NotSpelled place Length) d.1)
         | inr d ↦ cond_no (nat_lt 8 (length digits)) _ _ _ (le-ltb 8 (length digits) d.0)
-            (announced_fails scope place (number_from 0 digits) (minimal_of digits) (place + 1 + length digits) more f (elim d.1 [
+            (announced_fails scope place (number_256 0 digits) (minimal_of digits) (place + 1 + length digits) more f (elim d.1 [
               | inl x ↦ inl x
               | inr x ↦ inr (x.0, x.1, of_longer digits x.2, x.3)
             ]))

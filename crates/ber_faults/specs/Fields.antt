@@ -2,11 +2,12 @@
 use Rattle.std.specs.Prelude.{◌≡◌, ◌≢◌, ℕ, ◌+◌, ◌-◌, ◌%◌, ◌≤◌, ◌<◌, ◌⊎◌, Bool, true, false, List, [], ◌∷◌, ◌++◌, length, slice_index}
 use Rattle.osi_base.specs.declared.words.Kind.TheVariants.{Tag, Length, Form}
 use Rattle.asn1_types.specs.Tags.{capped}
+use Rattle.asn1_types.specs.Whole.{number_256}
 use Rattle.ber_spelling.specs.declared.fault.ReadFault.{ReadFault}
 use Rattle.ber_spelling.specs.declared.fault.ReadFault.TheVariants.{NotSpelled, TooDeep, TooLong}
 use Rattle.ber_spelling.specs.declared.spot.Scope.{Scope}
 use Rattle.ber_spelling.specs.Reading.{Spot, Opened, is_past}
-use Rattle.ber_spelling.specs.Fields.{number_from, is_end, inside, inside_until}
+use Rattle.ber_spelling.specs.Fields.{is_end, inside, inside_until}
 use Rattle.ber_spelling.specs.Spelling.{AreDigits, number_128, IsIdentifier, IsLength}
 
 -- ---- how far a field may go
@@ -56,15 +57,15 @@ IdentifierFault scope place (first ∷ rest) f =
 
 -- DER's shortest form (X.690 10.1)
 abbrev pub IsLonger : List ℕ → Type 0
-IsLonger digits = (number_from 0 digits < 128) ⊎ (slice_index digits 0 ≡ 0)
+IsLonger digits = (number_256 0 digits < 128) ⊎ (slice_index digits 0 ≡ 0)
 
 -- The octets of the number are there, as many as the first octet says.
 abbrev pub WholeLongFault : Scope → ℕ → ℕ → List ℕ → ReadFault → Type 0
 WholeLongFault scope place size digits f =
     Crosses scope place (place + 1 + size) f
     ⊎ (IsWithin scope (place + 1 + size) × (((8 < size) × (f ≡ NotSpelled place Length))
-    ⊎ ((size ≤ 8) × (Crosses scope place (place + 1 + size + number_from 0 digits) f
-    ⊎ (IsWithin scope (place + 1 + size + number_from 0 digits) × (scope.strict ≡ true) × IsLonger digits × (f ≡ NotSpelled place Form))))))
+    ⊎ ((size ≤ 8) × (Crosses scope place (place + 1 + size + number_256 0 digits) f
+    ⊎ (IsWithin scope (place + 1 + size + number_256 0 digits) × (scope.strict ≡ true) × IsLonger digits × (f ≡ NotSpelled place Form))))))
 
 -- Some of them lack. Such a field certainly goes on to its own end, where the contents end before that; else to the end of
 -- the octets that are there.

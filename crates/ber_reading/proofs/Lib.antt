@@ -2,4 +2,4 @@ pub mod Rows
 pub mod Slots
 pub mod Calls
 pub mod PartsFrom
-pub mod AtOnce
+pub mod ShortParts

@@ -1,3 +1,3 @@
-pub mod AtOnce
+pub mod ShortParts
 pub mod Calls
 pub mod Parts

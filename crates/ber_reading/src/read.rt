@@ -1,8 +1,7 @@
 //! Reading values, row by row.
 
 ghost use Rattle.std.specs.Prelude.{◌≡◌, false, true, ◌++◌, ◌∷◌, ◌+◌, ◌≤◌, ◌<◌, ◌^◌, [], length, Some, None, slice_get, slice_set, IfOk, List};
-ghost use Rattle.std.specs.List.{AllByRecursion};
-ghost use Rattle.asn1_types.specs.Rows.{begins, rows_of_parts};
+ghost use Rattle.asn1_types.specs.Rows.{begins};
 ghost use Rattle.asn1_types.specs.Defaults.{kept};
 ghost use Rattle.asn1_types.specs.Table.{AreSoundRows};
 ghost use Rattle.asn1_types.specs.Value as tree;
@@ -12,6 +11,7 @@ ghost use Rattle.asn1_types.specs.ValueView.{values_of, parts_of};
 ghost use Rattle.asn1_types.specs.Tags.{rank};
 ghost use Rattle.ber_spelling.specs.Reading.{begun, Opens, Gives, FailsWith, spot_of, opened_of, GoesOn};
 ghost use Rattle.ber_spelling.specs.Rules.{all_items_at, list_item_at, list_done, list_at, set_item_at, set_of_done, set_of_at, sequence_at, choice_at, explicit_at, read_by, reads, no_parts_of, nothing_filled, is_free, is_filled, set_done, bare, under, late_at, ordered_at, slot_at, set_at};
+ghost use Rattle.ber_spelling.specs.Below.{ReadsBelow, ReadsPartsBelow};
 ghost use Rattle.ber_reading.specs.Parts.{found_at, part_from, parts_from};
 
 use crate::contents::{any_value, close, open, tagged_any};
@@ -180,9 +180,7 @@ fn list<'a>(
     opened: &Opened<'a>,
     spot: Spot<'a>,
 ) -> Result<(Val, Spot<'a>), ReadFault>
-    requires below { inner.0 < of.0 }
-    requires row { of.0 ≤ length table.now }
-    requires whole { spot.place + length spot.rest.now < 2 ^ 63 }
+    requires { ReadsBelow inner.0 of.0 (length table.now) spot.place (length spot.rest.now) }
     ensures gives { Gives (λ x. (x.0, spot_of x.1)) result
         (list_at (reads table.now inner.0) tag scope.now (opened_of opened.now)
         (spot_of spot.entry)) }
@@ -209,9 +207,7 @@ fn items<'a>(
     scope: &Scope,
     spot: Spot<'a>,
 ) -> Result<(Vals, Spot<'a>), ReadFault>
-    requires below { inner.0 < of.0 }
-    requires row { of.0 ≤ length table.now }
-    requires whole { spot.place + length spot.rest.now < 2 ^ 63 }
+    requires { ReadsBelow inner.0 of.0 (length table.now) spot.place (length spot.rest.now) }
     ensures gives { Gives (λ x. (tree.list (values_of x.0.items), spot_of x.1)) result
         (all_items_at (list_item_at (reads table.now inner.0)) list_done [] scope.now
         (spot_of spot.entry)) }
@@ -255,9 +251,7 @@ fn set_of<'a>(
     opened: &Opened<'a>,
     spot: Spot<'a>,
 ) -> Result<(Val, Spot<'a>), ReadFault>
-    requires below { inner.0 < of.0 }
-    requires row { of.0 ≤ length table.now }
-    requires whole { spot.place + length spot.rest.now < 2 ^ 63 }
+    requires { ReadsBelow inner.0 of.0 (length table.now) spot.place (length spot.rest.now) }
     ensures gives { Gives (λ x. (x.0, spot_of x.1)) result
         (set_of_at (written table.now inner.0) (reads table.now inner.0) tag scope.now
         (opened_of opened.now) (spot_of spot.entry)) }
@@ -286,9 +280,7 @@ fn set_items<'a>(
     scope: &Scope,
     spot: Spot<'a>,
 ) -> Result<(Vals, Spot<'a>), ReadFault>
-    requires below { inner.0 < of.0 }
-    requires row { of.0 ≤ length table.now }
-    requires whole { spot.place + length spot.rest.now < 2 ^ 63 }
+    requires { ReadsBelow inner.0 of.0 (length table.now) spot.place (length spot.rest.now) }
     ensures gives { Gives (λ x. (
       tree.list
           (values_of (sorted (written table.now inner.0) x.0.items)),
@@ -326,9 +318,7 @@ fn set_item<'a>(
     opened: &Opened<'a>,
     spot: Spot<'a>,
 ) -> Result<(Val, Spot<'a>), ReadFault>
-    requires below { inner.0 < of.0 }
-    requires row { of.0 ≤ length table.now }
-    requires whole { spot.place + length spot.rest.now < 2 ^ 63 }
+    requires reads { ReadsBelow inner.0 of.0 (length table.now) spot.place (length spot.rest.now) }
     requires start { GoesOn opened.now.start.place (length opened.now.start.rest.now) spot }
     ensures gives { Gives (λ x. (before.now ++ x.0 ∷ [], spot_of x.1)) result
         (set_item_at (written table.now inner.0) (reads table.now inner.0) before.now scope.now
@@ -356,9 +346,7 @@ fn tagged<'a>(
     opened: &Opened<'a>,
     spot: Spot<'a>,
 ) -> Result<(Val, Spot<'a>), ReadFault>
-    requires below { inner.0 < of.0 }
-    requires row { of.0 ≤ length table.now }
-    requires whole { spot.place + length spot.rest.now < 2 ^ 63 }
+    requires { ReadsBelow inner.0 of.0 (length table.now) spot.place (length spot.rest.now) }
     ensures gives { Gives (λ x. (x.0, spot_of x.1)) result
         (explicit_at (reads table.now inner.0 (bare default)) tag scope.now (opened_of opened.now)
         (spot_of spot.entry)) }
@@ -382,10 +370,9 @@ fn tagged_choice<'a>(
     opened: &Opened<'a>,
     spot: Spot<'a>,
 ) -> Result<(Val, Spot<'a>), ReadFault>
-    requires below { AllByRecursion (λ m. m < of.0) (rows_of_parts alternatives.now) }
-    requires row { of.0 ≤ length table.now }
+    requires reads { ReadsPartsBelow alternatives.now of.0 (length table.now) spot.place
+        (length spot.rest.now) }
     requires few { length alternatives.now < 2 ^ 32 }
-    requires whole { spot.place + length spot.rest.now < 2 ^ 63 }
     ensures gives { Gives (λ x. (x.0, spot_of x.1)) result
         (explicit_at (choice_at (begins table.now) (reads table.now) 0 alternatives.now) tag
         scope.now (opened_of opened.now) (spot_of spot.entry)) }
@@ -417,10 +404,9 @@ fn choice<'a>(
     opened: &Opened<'a>,
     spot: Spot<'a>,
 ) -> Result<(Val, Spot<'a>), ReadFault>
-    requires below { AllByRecursion (λ m. m < of.0) (rows_of_parts alternatives.now) }
-    requires row { of.0 ≤ length table.now }
+    requires reads { ReadsPartsBelow alternatives.now of.0 (length table.now) spot.place
+        (length spot.rest.now) }
     requires few { length alternatives.now < 2 ^ 32 }
-    requires whole { spot.place + length spot.rest.now < 2 ^ 63 }
     requires start { GoesOn opened.now.start.place (length opened.now.start.rest.now) spot }
     ensures gives { Gives (λ x. (x.0, spot_of x.1)) result
         (choice_at (begins table.now) (reads table.now) 0 alternatives.now scope.now
@@ -453,9 +439,7 @@ pub(crate) fn sequence<'a>(
     opened: &Opened<'a>,
     spot: Spot<'a>,
 ) -> Result<(Val, Spot<'a>), ReadFault>
-    requires below { AllByRecursion (λ m. m < of.0) (rows_of_parts parts.now) }
-    requires row { of.0 ≤ length table.now }
-    requires whole { spot.place + length spot.rest.now < 2 ^ 63 }
+    requires { ReadsPartsBelow parts.now of.0 (length table.now) spot.place (length spot.rest.now) }
     ensures gives { Gives (λ x. (x.0, spot_of x.1)) result
         (sequence_at (begins table.now) (reads table.now) parts.now tag scope.now
         (opened_of opened.now) (spot_of spot.entry)) }
@@ -483,9 +467,7 @@ fn parts_of<'a>(
     scope: &Scope,
     spot: Spot<'a>,
 ) -> Result<(MaybeVals, Spot<'a>), ReadFault>
-    requires below { AllByRecursion (λ m. m < of.0) (rows_of_parts parts.now) }
-    requires row { of.0 ≤ length table.now }
-    requires whole { spot.place + length spot.rest.now < 2 ^ 63 }
+    requires { ReadsPartsBelow parts.now of.0 (length table.now) spot.place (length spot.rest.now) }
     ensures gives { Gives (λ x. (x.0.items, spot_of x.1)) result
         (parts_from (begins table.now) (reads table.now) scope.now (spot_of spot.entry) parts.now) }
     ensures stops { IfOk result (λ x. GoesOn spot.entry.place (length spot.entry.rest.now) x.1) }
@@ -515,9 +497,8 @@ fn part_of<'a>(
     scope: &Scope,
     spot: Spot<'a>,
 ) -> Result<(Option<Val>, Spot<'a>), ReadFault>
-    requires below { part.now.inner.0 < of.0 }
-    requires row { of.0 ≤ length table.now }
-    requires whole { spot.place + length spot.rest.now < 2 ^ 63 }
+    requires { ReadsBelow part.now.inner.0 of.0 (length table.now) spot.place
+        (length spot.rest.now) }
     ensures gives { Gives (λ x. (x.0, spot_of x.1)) result
         (part_from (begins table.now) (reads table.now part.now.inner.0) part.now scope.now
         (spot_of spot.entry)) }
@@ -544,9 +525,8 @@ fn part_begun<'a>(
     opened: &Opened<'a>,
     after: Spot<'a>,
 ) -> Result<(Option<Val>, Spot<'a>), ReadFault>
-    requires below { part.now.inner.0 < of.0 }
-    requires row { of.0 ≤ length table.now }
-    requires whole { spot.place + length spot.rest.now < 2 ^ 63 }
+    requires reads { ReadsBelow part.now.inner.0 of.0 (length table.now) spot.place
+        (length spot.rest.now) }
     requires start { Opens spot.place (length spot.rest.now) opened.now after }
     ensures gives { Gives (λ x. (x.0, spot_of x.1)) result
         (found_at (begins table.now) (reads table.now part.now.inner.0) part.now scope.now
@@ -577,9 +557,7 @@ fn set<'a>(
     opened: &Opened<'a>,
     spot: Spot<'a>,
 ) -> Result<(Val, Spot<'a>), ReadFault>
-    requires below { AllByRecursion (λ m. m < of.0) (rows_of_parts parts.now) }
-    requires row { of.0 ≤ length table.now }
-    requires whole { spot.place + length spot.rest.now < 2 ^ 63 }
+    requires { ReadsPartsBelow parts.now of.0 (length table.now) spot.place (length spot.rest.now) }
     ensures gives { Gives (λ x. (x.0, spot_of x.1)) result
         (set_at (begins table.now) (reads table.now) parts.now tag scope.now (opened_of opened.now)
         (spot_of spot.entry)) }
@@ -608,10 +586,9 @@ fn slots<'a>(
     scope: &Scope,
     spot: Spot<'a>,
 ) -> Result<(MaybeVals, Spot<'a>), ReadFault>
-    requires below { AllByRecursion (λ m. m < of.0) (rows_of_parts parts.now) }
-    requires row { of.0 ≤ length table.now }
+    requires reads { ReadsPartsBelow parts.now of.0 (length table.now) spot.place
+        (length spot.rest.now) }
     requires none { found.items ≡ no_parts_of parts.now }
-    requires whole { spot.place + length spot.rest.now < 2 ^ 63 }
     ensures gives { Gives (λ x. (tree.parts (parts_of x.0.items), spot_of x.1)) result
         (all_items_at (slot_at (begins table.now) (reads table.now) 0 parts.now)
         (set_done parts.now) (nothing_filled parts.now) scope.now (spot_of spot.entry)) }
@@ -657,10 +634,9 @@ fn slot<'a>(
     opened: &Opened<'a>,
     spot: Spot<'a>,
 ) -> Result<(usize, Val, Spot<'a>), ReadFault>
-    requires below { AllByRecursion (λ m. m < of.0) (rows_of_parts parts.now) }
-    requires row { of.0 ≤ length table.now }
+    requires reads { ReadsPartsBelow parts.now of.0 (length table.now) spot.place
+        (length spot.rest.now) }
     requires slots { length found.now ≡ length parts.now }
-    requires whole { spot.place + length spot.rest.now < 2 ^ 63 }
     requires start { GoesOn opened.now.start.place (length opened.now.start.rest.now) spot }
     ensures gives { Gives (λ x. (
       record {
@@ -700,9 +676,8 @@ fn ordered<'a>(
     opened: &Opened<'a>,
     spot: Spot<'a>,
 ) -> Result<(Val, Spot<'a>), ReadFault>
-    requires below { part.now.inner.0 < of.0 }
-    requires row { of.0 ≤ length table.now }
-    requires whole { spot.place + length spot.rest.now < 2 ^ 63 }
+    requires reads { ReadsBelow part.now.inner.0 of.0 (length table.now) spot.place
+        (length spot.rest.now) }
     requires start { GoesOn opened.now.start.place (length opened.now.start.rest.now) spot }
     ensures gives { Gives (λ x. (x.0, spot_of x.1)) result
         (ordered_at (reads table.now part.now.inner.0 (bare part.now.default)) least scope.now
@@ -728,9 +703,8 @@ fn late<'a>(
     opened: &Opened<'a>,
     spot: Spot<'a>,
 ) -> ReadFault
-    requires below { part.now.inner.0 < of.0 }
-    requires row { of.0 ≤ length table.now }
-    requires whole { spot.place + length spot.rest.now < 2 ^ 63 }
+    requires { ReadsBelow part.now.inner.0 of.0 (length table.now) spot.place
+        (length spot.rest.now) }
     ensures { FailsWith result (late_at {A = Unit {0}} kind
         (reads table.now part.now.inner.0 (bare part.now.default)) scope.now (opened_of opened.now)
         (spot_of spot.entry)) }

@@ -10,7 +10,7 @@ ghost use Rattle.asn1_types.specs.Value as tree;
 ghost use Rattle.ber_spelling.specs.Reading.{begun, spot_of, opened_of, GoesOn, Opens};
 ghost use Rattle.ber_spelling.specs.Fields.{identifier_at, look_at};
 ghost use Rattle.ber_spelling.specs.Rules.{outermost, always, integer_rule, primitive_at, choice_at, reads};
-ghost use Rattle.ber_reading.specs.AtOnce.{IsReach, integer_tag, integer_opened, behind};
+ghost use Rattle.ber_reading.specs.ShortParts.{IsReach, integer_tag, integer_opened, behind};
 ghost use Rattle.ber_reading.specs.Parts.{part_from, parts_from, parts_behind};
 
 use asn1_types::{

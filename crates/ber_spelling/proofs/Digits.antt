@@ -3,7 +3,7 @@ use Rattle.std.proofs.Common.{◌≡◌, ◌≢◌, ℕ, zero, suc, ◌+◌, ◌
 use Rattle.std.specs.Prelude.{slice_index, nat_lt, nat_eq}
 use Rattle.std.proofs.Math.Nat.{pow-suc, div-add-mod}
 use Rattle.std.proofs.lemmas.Bool.{le-ltb, lt-ltb, ltb-true, ltb-false, ne_eqb}
-use Rattle.ber_spelling.specs.Fields.{number_from}
+use Rattle.asn1_types.specs.Whole.{number_256}
 use Rattle.ber_spelling.specs.Spelling.{AreDigits, low_bits, number_128, IsBase128}
 use Rattle.asn1_types.specs.Writing.{high_digits, base_128, digits_256, base_256, natural_octets}
 use Rattle.ber_spelling.proofs.Identifiers.{digits_more}
@@ -122,12 +122,12 @@ low_append (suc t) n b c = by_test (nat_eq n 0) (low_append t (n / 256) ((n % 25
     by_test true h = refl
     by_test false h = h
 
-low_number : (t n : ℕ) (b : List ℕ) → n ≤ t → number_from 0 (digits_256 t n b) ≡ number_from n b
-low_number t zero b le = ap (number_from 0) (low_none t b)
+low_number : (t n : ℕ) (b : List ℕ) → n ≤ t → number_256 0 (digits_256 t n b) ≡ number_256 n b
+low_number t zero b le = ap (number_256 0) (low_none t b)
 low_number zero (suc n) b le = absurd (omega arith)
 low_number (suc t) (suc n) b le =
     let s = split_256 (suc n) in
-    ap (number_from 0) (low_some t (suc n) b (omega arith)) ∙ low_number t (suc n / 256) ((suc n % 256) ∷ b) (omega arith) ∙ ap (λ (k : ℕ). number_from k b) s.0
+    ap (number_256 0) (low_some t (suc n) b (omega arith)) ∙ low_number t (suc n / 256) ((suc n % 256) ∷ b) (omega arith) ∙ ap (λ (k : ℕ). number_256 k b) s.0
 
 low_first : (t n : ℕ) (b : List ℕ) → n ≤ t → (n ≡ 0 → 0 < slice_index b 0) → 0 < slice_index (digits_256 t n b) 0
 low_first t zero b le h = subst (λ (l : List ℕ). 0 < slice_index l 0) (sym (low_none t b)) (h refl)
@@ -151,7 +151,7 @@ pub base_256_few : (n : ℕ) → n < 2 ^ 64 → length (base_256 n) ≤ 8
 unfolding base_256
 base_256_few n lt = let few = low_few 8 n n [] (omega arith) lt in omega arith
 
-pub base_256_number : (n : ℕ) → number_from 0 (base_256 n) ≡ n
+pub base_256_number : (n : ℕ) → number_256 0 (base_256 n) ≡ n
 unfolding base_256
 base_256_number n = low_number n n [] (omega arith)
 

@@ -8,12 +8,12 @@ use Rattle.asn1_types.specs.declared.row.Item.{Item}
 use Rattle.asn1_types.specs.declared.row.TextKind.{TextKind}
 use Rattle.asn1_types.specs.Value.{Value, boolean, integer, null, octets, bits, object_id, text, parts, list, chosen, any}
 use Rattle.asn1_types.specs.Fits.{is_number, is_octet, is_text, boolean_fits, integer_fits, enumerated_fits, null_fits, object_id_fits, octets_fit, bits_fit, text_fits, any_fits}
+use Rattle.asn1_types.specs.Whole.{number_256}
 use Rattle.ber_spelling.specs.Octets.{AreOctets}
 use Rattle.asn1_types.specs.declared.row.Tag as tags
 use Rattle.ber_spelling.specs.declared.spot.StringKind.{StringKind}
 use Rattle.ber_spelling.specs.declared.spot.StringKind.TheVariants.{OfOctets, OfBits}
 use Rattle.ber_spelling.specs.declared.spot.Gathered.{Gathered}
-use Rattle.ber_spelling.specs.Fields.{number_from}
 use Rattle.ber_spelling.specs.Rules.{segment_tag, is_segment, nothing, gathered, segment_rule, string_rule, and_whole, cleared, whole_octets, whole_text, whole_bits}
 use Rattle.ber_spelling.specs.Spelling.{IsInteger, BooleanIs, IntegerIs, EnumeratedIs, NullIs, ObjectIdIs, AnyIs, Steps, ItemsAre, SegmentIs, StringIs}
 use Rattle.ber_spelling.proofs.Numbers.{octets_tail, few_256, number_small, number_large}
@@ -34,11 +34,11 @@ use Rattle.ber_spelling.proofs.UnusedBits.{last_cleared, bits_zeros}
 integer_number : (c : List ℕ) (z : ℤ) → AreOctets c → IsInteger c z → is_number z ≡ true
 integer_number c z are h = subst (λ (x : ℤ). is_number x ≡ true) h.number (by_test (nat_lt (slice_index c 0) 128) refl)
   where
-    by_test : (b : Bool) → nat_lt (slice_index c 0) 128 ≡ b → is_number (cond b (pos (number_from 0 c)) (negsuc (256 ^ length c - suc (number_from 0 c)))) ≡ true
-    by_test true t = lt-ltb (number_from 0 c) (2 ^ 63) (number_small c are h.some h.few (ltb-true (slice_index c 0) 128 t))
+    by_test : (b : Bool) → nat_lt (slice_index c 0) 128 ≡ b → is_number (cond b (pos (number_256 0 c)) (negsuc (256 ^ length c - suc (number_256 0 c)))) ≡ true
+    by_test true t = lt-ltb (number_256 0 c) (2 ^ 63) (number_small c are h.some h.few (ltb-true (slice_index c 0) 128 t))
     by_test false t =
-        let large : 256 ^ length c ≤ 2 * number_from 0 c = number_large c h.some (ltb-false (slice_index c 0) 128 t) in
-        lt-ltb (256 ^ length c - suc (number_from 0 c)) (2 ^ 63) (omega (arith, few_256 (length c) h.few))
+        let large : 256 ^ length c ≤ 2 * number_256 0 c = number_large c h.some (ltb-false (slice_index c 0) 128 t) in
+        lt-ltb (256 ^ length c - suc (number_256 0 c)) (2 ^ 63) (omega (arith, few_256 (length c) h.few))
 
 pub boolean_fitting : (strict : Bool) (v : Value) (c : List ℕ) → BooleanIs strict v c → boolean_fits v ≡ true
 boolean_fitting strict (boolean b) c p = refl

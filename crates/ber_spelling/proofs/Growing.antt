@@ -4,11 +4,12 @@ use Rattle.std.specs.Prelude.{nat_lt, nat_eq}
 use Rattle.std.proofs.lemmas.Bool.{cases_lt, lt-ltb, le-ltb, ltb-false, leb-true}
 use Rattle.std.proofs.lemmas.List.{take-append-le, drop-append-le}
 use Rattle.osi_base.specs.declared.words.Kind.TheVariants.{Length}
+use Rattle.asn1_types.specs.Whole.{number_256}
 use Rattle.ber_spelling.specs.declared.fault.ReadFault.{ReadFault}
 use Rattle.ber_spelling.specs.declared.fault.ReadFault.TheVariants as faults
 use Rattle.ber_spelling.specs.declared.spot.Scope.{Scope}
 use Rattle.ber_spelling.specs.Reading.{Spot, Opened, Ahead, ended, begun, Reading, ◌>>=◌, is_past, within}
-use Rattle.ber_spelling.specs.Fields.{digits_at, is_lax, high_at, identifier_at, number_from, announced_at, long_at, is_end, cut_off, lacking_from, sure_reach, definite_at, extent_at, contents_at, begin_at, second_zero_at, mark_at, look_at}
+use Rattle.ber_spelling.specs.Fields.{digits_at, is_lax, high_at, identifier_at, announced_at, long_at, is_end, cut_off, lacking_from, sure_reach, definite_at, extent_at, contents_at, begin_at, second_zero_at, mark_at, look_at}
 use Rattle.asn1_types.specs.Tags.{capped}
 
 abbrev pub grown : List ℕ → Spot → Spot
@@ -181,7 +182,7 @@ long_grows scope place size rest more =
           let longer : size ≤ length (rest ++ more) = omega (arith, length-append rest more) in
           rw (le-ltb (length rest) size le, le-ltb (length (rest ++ more)) size longer)
           (Grows-same (with_spot more) (within scope place (place + 1 + size)) _ _ (λ x e.
-          rw (take-append-le size rest more le, drop-append-le size rest more le) (Grows-cond (with_spot more) (nat_lt 8 size) _ _ _ _ (λ t. refl) (λ t. announced_grows scope place (number_from 0 (take size rest)) _ (place + 1 + size) (drop size rest) more))))
+          rw (take-append-le size rest more le, drop-append-le size rest more le) (Grows-cond (with_spot more) (nat_lt 8 size) _ _ _ _ (λ t. refl) (λ t. announced_grows scope place (number_256 0 (take size rest)) _ (place + 1 + size) (drop size rest) more))))
     ]
   where
     -- the contents end before the field does

@@ -3,10 +3,11 @@ use Rattle.std.proofs.Common.{◌≡◌, ℕ, ◌+◌, ◌-◌, ◌*◌, ◌%◌
 use Rattle.std.specs.Prelude.{nat_lt, nat_eq}
 use Rattle.std.proofs.lemmas.Bool.{ltb-false}
 use Rattle.std.proofs.lemmas.List.{length-drop}
+use Rattle.asn1_types.specs.Whole.{number_256}
 use Rattle.ber_spelling.specs.declared.fault.ReadFault.TheVariants as faults
 use Rattle.ber_spelling.specs.declared.spot.Scope.{Scope}
 use Rattle.ber_spelling.specs.Reading.{Spot, Opened, Ahead, ended, begun, Reading, ◌>>=◌, is_past, within}
-use Rattle.ber_spelling.specs.Fields.{digits_at, is_lax, high_at, identifier_at, number_from, announced_at, long_at, is_end, cut_off, lacking_from, definite_at, extent_at, contents_at, begin_at, second_zero_at, mark_at, look_at}
+use Rattle.ber_spelling.specs.Fields.{digits_at, is_lax, high_at, identifier_at, announced_at, long_at, is_end, cut_off, lacking_from, definite_at, extent_at, contents_at, begin_at, second_zero_at, mark_at, look_at}
 use Rattle.asn1_types.specs.Tags.{capped}
 
 -- the octets from a spot on end here
@@ -98,7 +99,7 @@ long_inside scope place size rest end e =
     let enough : size ≤ length rest = ltb-false (length rest) size t in
     then_inside (second end) scope place (place + 1 + size) end _ le
     (Inside-cond (second end) end (nat_lt 8 size) _ _ (λ t. le) (λ t.
-    announced_inside scope place (number_from 0 (take size rest)) _ (place + 1 + size) (drop size rest) end le (omega (arith, length-drop size rest)))))
+    announced_inside scope place (number_256 0 (take size rest)) _ (place + 1 + size) (drop size rest) end le (omega (arith, length-drop size rest)))))
 
 definite_inside : (scope : Scope) (place : ℕ) (rest : List ℕ) (end : ℕ) → place + length rest ≡ end → Inside (second end) end (definite_at scope place rest)
 unfolding definite_at

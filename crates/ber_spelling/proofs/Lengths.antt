@@ -4,10 +4,11 @@ use Rattle.std.specs.Prelude.{nat_lt, nat_le, nat_eq, slice_index}
 use Rattle.std.proofs.lemmas.Bool.{lt-ltb, le-ltb, ltb-false, ltb-true, eqb-true, eqb-false, ne_eqb, leb-true, le-leb, and_parts}
 use Rattle.std.proofs.lemmas.List.{take_at, drop_at, take-append-drop, length-take}
 use Rattle.osi_base.specs.declared.words.Kind.TheVariants.{Length, Form}
+use Rattle.asn1_types.specs.Whole.{number_256}
 use Rattle.ber_spelling.specs.declared.fault.ReadFault.TheVariants as faults
 use Rattle.ber_spelling.specs.declared.spot.Scope.{Scope}
 use Rattle.ber_spelling.specs.Reading.{Spot, Reading, refuse, within, ◌>>=◌}
-use Rattle.ber_spelling.specs.Fields.{number_from, announced_at, long_at, sure_reach, definite_at, inside, inside_until, extent_at, contents_at}
+use Rattle.ber_spelling.specs.Fields.{announced_at, long_at, sure_reach, definite_at, inside, inside_until, extent_at, contents_at}
 use Rattle.ber_spelling.specs.Spelling.{IsLong, IsLength}
 use Rattle.ber_spelling.proofs.Growing.{short_not_ok, lacking_not_ok}
 use Rattle.ber_spelling.proofs.Identifiers.{IsIn, in_before, is_in, in_is, Taken, bind_ok, chosen_ok, unless_ok, ok_is}
@@ -65,7 +66,7 @@ long_found scope place first rest n s large e =
     let enough : size ≤ length rest = ltb-false (length rest) size u.0 in
     let few : size ≤ 8 = ltb-false 8 size v.0 in
     let len : length (take size rest) ≡ size = omega (arith, length-take size rest) in
-    let a = announced_found scope place (number_from 0 (take size rest)) (nat_le 128 (number_from 0 (take size rest)) && nat_lt 0 (slice_index (take size rest) 0)) (place + 1 + size) (drop size rest) n s v.1 in
+    let a = announced_found scope place (number_256 0 (take size rest)) (nat_le 128 (number_256 0 (take size rest)) && nat_lt 0 (slice_index (take size rest) 0)) (place + 1 + size) (drop size rest) n s v.1 in
     record {
       size = first ∷ take size rest;
       taken = record { parts = ap (λ (x : List ℕ). first ∷ x) (sym (take-append-drop size rest) ∙ ap (λ (x : List ℕ). take size rest ++ x) (sym a.behind)); onward = omega (arith, a.place) };
@@ -75,7 +76,7 @@ long_found scope place first rest n s large e =
         few = omega arith;
         number = sym a.number;
         shortest = λ h. let t = and_parts _ _ (a.shortest h) in
-            (let le = leb-true 128 (number_from 0 (take size rest)) t.0 in omega (arith, a.number), ltb-true 0 (slice_index (take size rest) 0) t.1);
+            (let le = leb-true 128 (number_256 0 (take size rest)) t.0 in omega (arith, a.number), ltb-true 0 (slice_index (take size rest) 0) t.1);
       });
       is_in = rw (a.place, a.number) a.is_in;
     }

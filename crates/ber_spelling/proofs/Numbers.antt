@@ -6,8 +6,8 @@ use Rattle.std.specs.Int.{w64}
 use Rattle.std.proofs.Math.Nat.{pow-le-pow_right, pow-suc, add-mul, mul_assoc, mul_comm, mul-le-mul_right}
 use Rattle.std.proofs.lemmas.Bool.{le-ltb, lt-ltb}
 use Rattle.std.proofs.lemmas.Int.{to_z_pos, of_z-to_z}
+use Rattle.asn1_types.specs.Whole.{number_256}
 use Rattle.ber_spelling.specs.Octets.{AreOctets}
-use Rattle.ber_spelling.specs.Fields.{number_from}
 use Rattle.ber_spelling.specs.Primitives.{signed_of}
 
 pub octets_tail : (o : ℕ) (os : List ℕ) → AreOctets (o ∷ os) → AreOctets os
@@ -31,17 +31,17 @@ high_step n o p lt =
     let f : (o + 1) * p ≤ 256 * p = mul-le-mul_right p (omega arith) in
     omega arith
 
-pub number_low : (n : ℕ) (os : List ℕ) → n * 256 ^ length os ≤ number_from n os
+pub number_low : (n : ℕ) (os : List ℕ) → n * 256 ^ length os ≤ number_256 n os
 number_low n [] = omega arith
 number_low n (o ∷ os) =
     let p = pow-suc 256 (length os) in
-    let more : (256 * n + o) * 256 ^ length os ≤ number_from (256 * n + o) os = number_low (256 * n + o) os in
+    let more : (256 * n + o) * 256 ^ length os ≤ number_256 (256 * n + o) os = number_low (256 * n + o) os in
     rw p (omega (arith, low_step n o (256 ^ length os)))
 
-pub number_high : (n : ℕ) (os : List ℕ) → AreOctets os → number_from n os < (n + 1) * 256 ^ length os
+pub number_high : (n : ℕ) (os : List ℕ) → AreOctets os → number_256 n os < (n + 1) * 256 ^ length os
 number_high n [] h = omega arith
 number_high n (o ∷ os) h =
-    let more : number_from (256 * n + o) os < (256 * n + o + 1) * 256 ^ length os = number_high (256 * n + o) os (octets_tail o os h) in
+    let more : number_256 (256 * n + o) os < (256 * n + o + 1) * 256 ^ length os = number_high (256 * n + o) os (octets_tail o os h) in
     let p = pow-suc 256 (length os) in
     let lt : o < 256 = h.each 0 in
     rw p (omega (arith, high_step n o (256 ^ length os) lt))
@@ -59,37 +59,37 @@ few_128 len le =
     let most : 256 ^ len ≤ 256 ^ 7 = pow-le-pow_right some le in
     omega arith
 
-pub number_below : (os : List ℕ) → AreOctets os → length os ≤ 8 → number_from 0 os < 2 ^ 64
+pub number_below : (os : List ℕ) → AreOctets os → length os ≤ 8 → number_256 0 os < 2 ^ 64
 number_below os h le = omega (arith, number_high 0 os h, few_256 (length os) le)
 
 -- the first octet tells where the number lies
-pub number_small : (os : List ℕ) → AreOctets os → 1 ≤ length os → length os ≤ 8 → slice_index os 0 < 128 → number_from 0 os < 2 ^ 63
+pub number_small : (os : List ℕ) → AreOctets os → 1 ≤ length os → length os ≤ 8 → slice_index os 0 < 128 → number_256 0 os < 2 ^ 63
 number_small [] h some le lt = absurd (omega arith)
 number_small (o ∷ os) h some le lt =
-    let high : number_from (256 * 0 + o) os < (256 * 0 + o + 1) * 256 ^ length os = number_high (256 * 0 + o) os (octets_tail o os h) in
+    let high : number_256 (256 * 0 + o) os < (256 * 0 + o + 1) * 256 ^ length os = number_high (256 * 0 + o) os (octets_tail o os h) in
     let cap : (256 * 0 + o + 1) * 256 ^ length os ≤ 128 * 256 ^ length os = mul-le-mul_right (256 ^ length os) (omega arith) in
     omega (arith, few_128 (length os) (omega arith))
 
-pub number_large : (os : List ℕ) → 1 ≤ length os → 128 ≤ slice_index os 0 → 256 ^ length os ≤ 2 * number_from 0 os
+pub number_large : (os : List ℕ) → 1 ≤ length os → 128 ≤ slice_index os 0 → 256 ^ length os ≤ 2 * number_256 0 os
 number_large [] some le = absurd (omega arith)
 number_large (o ∷ os) some le =
-    let low : (256 * 0 + o) * 256 ^ length os ≤ number_from (256 * 0 + o) os = number_low (256 * 0 + o) os in
+    let low : (256 * 0 + o) * 256 ^ length os ≤ number_256 (256 * 0 + o) os = number_low (256 * 0 + o) os in
     let cap : 128 * 256 ^ length os ≤ (256 * 0 + o) * 256 ^ length os = mul-le-mul_right (256 ^ length os) (omega arith) in
     rw pow-suc (omega arith)
 
-pub signed_low : (os : List ℕ) → AreOctets os → 1 ≤ length os → length os ≤ 8 → slice_index os 0 < 128 → cast_signed w64 (number_from 0 os) ≡ signed_of os
+pub signed_low : (os : List ℕ) → AreOctets os → 1 ≤ length os → length os ≤ 8 → slice_index os 0 < 128 → cast_signed w64 (number_256 0 os) ≡ signed_of os
 signed_low os h some le lt =
-    rw (lt-ltb (slice_index os 0) 128 lt) (to_z_pos w64 (number_from 0 os) (number_small os h some le lt))
+    rw (lt-ltb (slice_index os 0) 128 lt) (to_z_pos w64 (number_256 0 os) (number_small os h some le lt))
 
 signed_high_by : (n above p : ℕ) → n < p → above + p ≡ 2 ^ 64 → p ≤ 2 * n → p ≤ 2 ^ 64 → cast_signed w64 (n + above) ≡ negsuc (p - suc n)
 signed_high_by n above p lt sum large le =
     let big : 2 ^ 63 ≤ n + above = omega arith in
     rw (le-ltb (n + above) (2 ^ 63) big) (ap negsuc (omega arith))
 
-pub signed_high : (os : List ℕ) (above : ℕ) → AreOctets os → 1 ≤ length os → length os ≤ 8 → 128 ≤ slice_index os 0 → above + 256 ^ length os ≡ 2 ^ 64 → cast_signed w64 (number_from 0 os + above) ≡ signed_of os
+pub signed_high : (os : List ℕ) (above : ℕ) → AreOctets os → 1 ≤ length os → length os ≤ 8 → 128 ≤ slice_index os 0 → above + 256 ^ length os ≡ 2 ^ 64 → cast_signed w64 (number_256 0 os + above) ≡ signed_of os
 signed_high os above h some le ge sum =
     rw (le-ltb (slice_index os 0) 128 ge)
-    (signed_high_by (number_from 0 os) above (256 ^ length os) (omega (arith, number_high 0 os h)) sum (number_large os some ge) (few_256 (length os) le))
+    (signed_high_by (number_256 0 os) above (256 ^ length os) (omega (arith, number_high 0 os h)) sum (number_large os some ge) (few_256 (length os) le))
 
 pub again : (r : ℤ) (n m : ℕ) → r ≡ cast_signed w64 n → n < 2 ^ 64 → n ≡ m → cast_signed w64 (cast_unsigned w64 r) ≡ cast_signed w64 m
 again r n m e lt same = ap (λ z. cast_signed w64 (cast_unsigned w64 z)) e ∙ ap (cast_signed w64) (of_z-to_z w64 n lt ∙ same)

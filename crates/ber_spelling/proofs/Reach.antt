@@ -4,10 +4,11 @@ use Rattle.std.specs.Prelude.{nat_lt, nat_eq}
 use Rattle.std.proofs.lemmas.Bool.{ltb-false, ltb-true, lt-ltb, leb-true}
 use Rattle.std.proofs.lemmas.List.{length-drop}
 use Rattle.osi_base.specs.declared.words.Kind.TheVariants.{Length}
+use Rattle.asn1_types.specs.Whole.{number_256}
 use Rattle.ber_spelling.specs.declared.fault.ReadFault.TheVariants as faults
 use Rattle.ber_spelling.specs.declared.spot.Scope.{Scope}
 use Rattle.ber_spelling.specs.Reading.{Spot, Opened, Ahead, ended, begun, Reading, ◌>>=◌, is_past, within}
-use Rattle.ber_spelling.specs.Fields.{digits_at, is_lax, high_at, identifier_at, number_from, announced_at, sure_reach, long_at, is_end, cut_off, lacking_from, definite_at, extent_at, contents_at, begin_at, second_zero_at, mark_at, look_at}
+use Rattle.ber_spelling.specs.Fields.{digits_at, is_lax, high_at, identifier_at, announced_at, sure_reach, long_at, is_end, cut_off, lacking_from, definite_at, extent_at, contents_at, begin_at, second_zero_at, mark_at, look_at}
 use Rattle.asn1_types.specs.Tags.{capped}
 
 -- Octets that end here are too short only where they end within the limit.
@@ -137,7 +138,7 @@ long_bounded limit end base scope place size rest same lo e =
     let enough : size ≤ length rest = ltb-false (length rest) size t in
     then_bounded Q limit end scope place (place + 1 + size) _ same (λ k.
     Bounded-cond Q limit end (nat_lt 8 size) _ _ (λ t. tt) (λ t.
-    announced_bounded limit end base scope place (number_from 0 (take size rest)) _ (place + 1 + size) (drop size rest) same (omega arith) (omega (arith, length-drop size rest)))))
+    announced_bounded limit end base scope place (number_256 0 (take size rest)) _ (place + 1 + size) (drop size rest) same (omega arith) (omega (arith, length-drop size rest)))))
 
 definite_bounded : (limit end : ℕ) (scope : Scope) (place : ℕ) (rest : List ℕ) → scope.limit ≡ limit → place ≤ limit → place + length rest ≡ end → Bounded (Announced limit end place) limit end (definite_at scope place rest)
 unfolding definite_at

@@ -2,10 +2,11 @@
 use Rattle.std.proofs.Common.{◌≡◌, ◌≢◌, ◌⊎◌, ℕ, ◌+◌, ◌-◌, ◌*◌, ◌%◌, Bool, true, false, not, ◌&&◌, ◌||◌, cond, ltb, List, [], ◌∷◌, length, take, drop, Ok, Err, refl, inl, inr}
 use Rattle.std.specs.Prelude.{nat_lt, nat_eq}
 use Rattle.osi_base.specs.declared.words.Kind.TheVariants.{Tag, Length, Form}
+use Rattle.asn1_types.specs.Whole.{number_256}
 use Rattle.ber_spelling.specs.declared.fault.ReadFault.TheVariants as faults
 use Rattle.ber_spelling.specs.declared.spot.Scope.{Scope}
 use Rattle.ber_spelling.specs.Reading.{Spot, Reading, ◌>>=◌, refuse, is_past, within}
-use Rattle.ber_spelling.specs.Fields.{digits_at, is_lax, high_at, identifier_at, number_from, announced_at, long_at, is_end, lacking, sure_reach, definite_at, extent_at, contents_at, begin_at, second_zero_at, mark_at, look_at}
+use Rattle.ber_spelling.specs.Fields.{digits_at, is_lax, high_at, identifier_at, announced_at, long_at, is_end, lacking, sure_reach, definite_at, extent_at, contents_at, begin_at, second_zero_at, mark_at, look_at}
 use Rattle.asn1_types.specs.Tags.{capped}
 
 -- the scope of BER
@@ -92,7 +93,7 @@ unfolding long_at within
 long_lax scope place size rest =
     Formal-cond same (ltb (length rest) size) _ _ _ _ (λ t. Formal-same same (within scope place (sure_reach scope.end (place + 1 + size) (place + 1 + length rest))) _ _ (λ u. refl)) (λ t.
     Formal-same same (within scope place (place + 1 + size)) _ _ (λ u.
-    Formal-cond same (nat_lt 8 size) _ _ _ _ (λ t. inr refl) (λ t. announced_lax scope place (number_from 0 (take size rest)) _ (place + 1 + size) (drop size rest))))
+    Formal-cond same (nat_lt 8 size) _ _ _ _ (λ t. inr refl) (λ t. announced_lax scope place (number_256 0 (take size rest)) _ (place + 1 + size) (drop size rest))))
 
 lacking_lax : (A : Type 0) (scope : Scope) (place : ℕ) → Formal {A = A} same (lacking scope place) (lacking (lax scope) place)
 unfolding within

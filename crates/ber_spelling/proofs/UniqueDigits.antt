@@ -6,8 +6,8 @@ use Rattle.std.proofs.lemmas.Bool.{lt-ltb, le-ltb, ltb-false, cases_lt}
 use Rattle.std.proofs.lemmas.Bool.Decides.{nat_tests}
 use Rattle.asn1_types.specs.declared.row.Class.{Class}
 use Rattle.asn1_types.specs.Writing.{high_digits, base_128, digits_256, base_256, natural_octets, integer_octets, identifier, length_octets}
+use Rattle.asn1_types.specs.Whole.{number_256}
 use Rattle.ber_spelling.specs.Octets.{AreOctets}
-use Rattle.ber_spelling.specs.Fields.{number_from}
 use Rattle.ber_spelling.specs.Primitives.{is_padded}
 use Rattle.ber_spelling.specs.Spelling.{AreDigits, low_bits, number_128, IsBase128, IsIdentifier, IsLength, IsInteger, AreSubidentifiers}
 use Rattle.ber_spelling.proofs.Digits.{high_step, high_append, low_step, low_append, nat_step, nat_append, nat_last}
@@ -89,19 +89,19 @@ low_of a d m e some lt =
     let r : m % 256 ≡ d = omega arith in
     sym (low_step m [] some) ∙ low_append (m / 256) (m / 256) [] ((m % 256) ∷ []) ∙ (λ i. low (q i) ++ (r i ∷ []))
 
-low_digits : (a : ℕ) (ds : List ℕ) → 0 < a → Small ds → low (number_from a ds) ≡ low a ++ ds
+low_digits : (a : ℕ) (ds : List ℕ) → 0 < a → Small ds → low (number_256 a ds) ≡ low a ++ ds
 low_digits a [] some s = sym (append-nil (low a))
 low_digits a (d ∷ ds) some s =
     low_digits (256 * a + d) ds (omega arith) s.1
     ∙ ap (λ (l : List ℕ). l ++ ds) (low_of a d (256 * a + d) refl (omega arith) s.0)
     ∙ append_assoc (low a) (d ∷ []) ds
 
-pub unique_256 : (ds : List ℕ) (n : ℕ) → Small ds → number_from 0 ds ≡ n → 0 < slice_index ds 0 → ds ≡ base_256 n
+pub unique_256 : (ds : List ℕ) (n : ℕ) → Small ds → number_256 0 ds ≡ n → 0 < slice_index ds 0 → ds ≡ base_256 n
 unfolding base_256
 unique_256 [] n s e some = absurd (omega arith)
 unique_256 (d ∷ ds) n s e some =
     let first : 256 * 0 + d ≡ d = omega arith in
-    let number : number_from d ds ≡ n = ap (λ (k : ℕ). number_from k ds) (sym first) ∙ e in
+    let number : number_256 d ds ≡ n = ap (λ (k : ℕ). number_256 k ds) (sym first) ∙ e in
     ap (λ (l : List ℕ). l ++ ds) (sym (low_of 0 d d (sym first) some s.0)) ∙ sym (low_digits d ds some s.1) ∙ ap low number
 
 -- ---- identifiers and lengths
@@ -131,7 +131,7 @@ nat_of a d m e some lt =
     let r : m % 256 ≡ d = omega arith in
     sym (nat_step m [] some) ∙ nat_append (m / 256) (m / 256) [] ((m % 256) ∷ []) (omega arith) ∙ (λ i. nat (q i) ++ (r i ∷ []))
 
-nat_digits : (a : ℕ) (ds : List ℕ) → 0 < a → Small ds → nat (number_from a ds) ≡ nat a ++ ds
+nat_digits : (a : ℕ) (ds : List ℕ) → 0 < a → Small ds → nat (number_256 a ds) ≡ nat a ++ ds
 nat_digits a [] some s = sym (append-nil (nat a))
 nat_digits a (d ∷ ds) some s =
     nat_digits (256 * a + d) ds (omega arith) s.1
@@ -145,7 +145,7 @@ second_high e b h = ltb-false e 128 (first_test (nat_lt e 128) b h)
     first_test true y h = h
     first_test false y h = refl
 
-unique_nat : (c : List ℕ) → 1 ≤ length c → slice_index c 0 < 128 → Small c → is_padded c ≡ false → c ≡ nat (number_from 0 c)
+unique_nat : (c : List ℕ) → 1 ≤ length c → slice_index c 0 < 128 → Small c → is_padded c ≡ false → c ≡ nat (number_256 0 c)
 unique_nat [] some lt s fresh = absurd (omega arith)
 unique_nat (d ∷ []) some lt s fresh =
     let first : d ≡ 256 * 0 + d = omega arith in
@@ -154,10 +154,10 @@ unique_nat (zero ∷ e ∷ es) some lt s fresh =
     let ge : 128 ≤ e = second_high e false fresh in
     let first : e ≡ 256 * (256 * 0 + 0) + e = omega arith in
     let none : e ≡ 256 * 0 + e = omega arith in
-    ap (λ (l : List ℕ). l ++ es) (sym (nat_of 0 e e none ge s.1.0)) ∙ sym (nat_digits e es (omega arith) s.1.1) ∙ ap (λ (k : ℕ). nat (number_from k es)) first
+    ap (λ (l : List ℕ). l ++ es) (sym (nat_of 0 e e none ge s.1.0)) ∙ sym (nat_digits e es (omega arith) s.1.1) ∙ ap (λ (k : ℕ). nat (number_256 k es)) first
 unique_nat (suc d ∷ e ∷ es) some lt s fresh =
     let first : suc d ≡ 256 * 0 + suc d = omega arith in
-    ap (λ (l : List ℕ). l ++ (e ∷ es)) (sym (nat_last (suc d) [] lt)) ∙ sym (nat_digits (suc d) (e ∷ es) (omega arith) s.1) ∙ ap (λ (k : ℕ). nat (number_from k (e ∷ es))) first
+    ap (λ (l : List ℕ). l ++ (e ∷ es)) (sym (nat_last (suc d) [] lt)) ∙ sym (nat_digits (suc d) (e ∷ es) (omega arith) s.1) ∙ ap (λ (k : ℕ). nat (number_256 k (e ∷ es))) first
 
 turned_back : (c : List ℕ) → Small c → turned (turned c) ≡ c
 turned_back [] s = refl
@@ -179,18 +179,18 @@ turned_padded (x ∷ y ∷ os) s = by_tests x y s.0 s.1.0
     by_tests : (x y : ℕ) → x < 256 → y < 256 → is_padded (x ∷ y ∷ os) ≡ is_padded ((255 - x) ∷ (255 - y) ∷ turned os)
     by_tests x y lt less = grind (arith, nat_tests)
 
-pos_one : (c : List ℕ) → Small c → 1 ≤ length c → is_padded c ≡ false → slice_index c 0 < 128 → c ≡ integer_octets (pos (number_from 0 c))
+pos_one : (c : List ℕ) → Small c → 1 ≤ length c → is_padded c ≡ false → slice_index c 0 < 128 → c ≡ integer_octets (pos (number_256 0 c))
 unfolding integer_octets
 pos_one c s some fresh lt = unique_nat c some lt s fresh
 
-neg_one : (c : List ℕ) → Small c → 1 ≤ length c → is_padded c ≡ false → 128 ≤ slice_index c 0 → c ≡ integer_octets (negsuc (256 ^ length c - suc (number_from 0 c)))
+neg_one : (c : List ℕ) → Small c → 1 ≤ length c → is_padded c ≡ false → 128 ≤ slice_index c 0 → c ≡ integer_octets (negsuc (256 ^ length c - suc (number_256 0 c)))
 unfolding integer_octets
 neg_one c s some fresh ge =
     let t : List ℕ = turned c in
     let len : length t ≡ length c = turned_length c in
-    let sum : number_from 0 c + number_from 0 t + 1 ≡ (0 + 0 + 1) * 256 ^ length c = turned_number 0 0 c s in
-    let number : number_from 0 t ≡ 256 ^ length c - suc (number_from 0 c) = omega (arith, sum) in
-    let one : t ≡ nat (number_from 0 t) = unique_nat t (omega (arith, len, some)) (turned_low c ge) (turned_small c) (sym (turned_padded c s) ∙ fresh) in
+    let sum : number_256 0 c + number_256 0 t + 1 ≡ (0 + 0 + 1) * 256 ^ length c = turned_number 0 0 c s in
+    let number : number_256 0 t ≡ 256 ^ length c - suc (number_256 0 c) = omega (arith, sum) in
+    let one : t ≡ nat (number_256 0 t) = unique_nat t (omega (arith, len, some)) (turned_low c ge) (turned_small c) (sym (turned_padded c s) ∙ fresh) in
     sym (turned_back c s) ∙ ap turned one ∙ ap (λ (k : ℕ). turned (nat k)) number
 
 pub unique_integer : (c : List ℕ) (z : ℤ) → AreOctets c → IsInteger c z → c ≡ integer_octets z
@@ -198,10 +198,10 @@ unique_integer c z are h = by_sign (cases_lt (slice_index c 0) 128)
   where
     by_sign : (slice_index c 0 < 128) ⊎ (128 ≤ slice_index c 0) → c ≡ integer_octets z
     by_sign (inl lt) =
-        let e : pos (number_from 0 c) ≡ z = ap (λ (b : Bool). cond b (pos (number_from 0 c)) (negsuc (256 ^ length c - suc (number_from 0 c)))) (sym (lt-ltb (slice_index c 0) 128 lt)) ∙ h.number in
+        let e : pos (number_256 0 c) ≡ z = ap (λ (b : Bool). cond b (pos (number_256 0 c)) (negsuc (256 ^ length c - suc (number_256 0 c)))) (sym (lt-ltb (slice_index c 0) 128 lt)) ∙ h.number in
         pos_one c (small_of c are) h.some h.shortest lt ∙ ap integer_octets e
     by_sign (inr ge) =
-        let e : negsuc (256 ^ length c - suc (number_from 0 c)) ≡ z = ap (λ (b : Bool). cond b (pos (number_from 0 c)) (negsuc (256 ^ length c - suc (number_from 0 c)))) (sym (le-ltb (slice_index c 0) 128 ge)) ∙ h.number in
+        let e : negsuc (256 ^ length c - suc (number_256 0 c)) ≡ z = ap (λ (b : Bool). cond b (pos (number_256 0 c)) (negsuc (256 ^ length c - suc (number_256 0 c)))) (sym (le-ltb (slice_index c 0) 128 ge)) ∙ h.number in
         neg_one c (small_of c are) h.some h.shortest ge ∙ ap integer_octets e
 
 -- ---- OBJECT IDENTIFIER

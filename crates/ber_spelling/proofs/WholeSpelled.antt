@@ -15,7 +15,7 @@ use Rattle.asn1_types.specs.Whole.{number_256, behind_digits, behind_high, behin
 use Rattle.asn1_types.specs.Fits.{has_form}
 use Rattle.asn1_types.proofs.Sound.{sound_row}
 use Rattle.asn1_types.specs.declared.row.Tag as tags
-use Rattle.ber_spelling.specs.Fields.{is_constructed, number_from}
+use Rattle.ber_spelling.specs.Fields.{is_constructed}
 use Rattle.ber_spelling.specs.declared.spot.StringKind.{StringKind}
 use Rattle.ber_spelling.specs.declared.spot.StringKind.TheVariants.{OfOctets, OfBits}
 use Rattle.ber_spelling.specs.Rules.{string_rule, whole_octets, whole_bits, whole_text, has_zero_bits, always, Guise, bare, plain, under}
@@ -27,7 +27,7 @@ use Rattle.ber_spelling.proofs.Identifiers.{low_at, form_at}
 use Rattle.ber_spelling.proofs.Steady.{Head, head_some, regroup, regroup_marked}
 use Rattle.ber_spelling.proofs.RowLaws.{text_tag, OkTag, tag_ok}
 use Rattle.ber_spelling.proofs.Written.{written_spelled}
-use Rattle.ber_spelling.proofs.Wholes.{whole_is, same_number}
+use Rattle.ber_spelling.proofs.Wholes.{whole_is}
 use Rattle.ber_spelling.proofs.WholeReads.{unmarked}
 use Rattle.ber_spelling.proofs.Lax.{lax_length}
 
@@ -103,13 +103,13 @@ passed count contents rest is =
     let enough : count ≤ length (contents ++ rest) = omega (arith, length-append contents rest) in
     rw (le-leb count (length (contents ++ rest)) enough, drop_at contents rest count (sym is)) refl
 
-counted : (digits contents rest : List ℕ) (n : ℕ) → n ≡ length digits → 1 ≤ length digits → length digits ≤ 8 → number_from 0 digits ≡ length contents → behind_counted n (digits ++ (contents ++ rest)) ≡ Some rest
+counted : (digits contents rest : List ℕ) (n : ℕ) → n ≡ length digits → 1 ≤ length digits → length digits ≤ 8 → number_256 0 digits ≡ length contents → behind_counted n (digits ++ (contents ++ rest)) ≡ Some rest
 counted digits contents rest n is some few number =
     let len : length (digits ++ (contents ++ rest)) ≡ length digits + length (contents ++ rest) = length-append digits (contents ++ rest) in
     let front : take n (digits ++ (contents ++ rest)) ≡ digits = take_at digits (contents ++ rest) n (sym is) in
     let back : drop n (digits ++ (contents ++ rest)) ≡ contents ++ rest = drop_at digits (contents ++ rest) n (sym is) in
     let test = both (nat_le 1 n && nat_le n 8) (nat_le n (length (digits ++ (contents ++ rest)))) (both (nat_le 1 n) (nat_le n 8) (le-leb 1 n (omega arith)) (le-leb n 8 (omega arith))) (le-leb n (length (digits ++ (contents ++ rest))) (omega arith)) in
-    rw (test, front, back) (passed (number_256 0 digits) contents rest (same_number 0 digits ∙ number))
+    rw (test, front, back) (passed (number_256 0 digits) contents rest number)
 
 sized : (size contents rest : List ℕ) → IsLength false size (length contents) → behind_sized (size ++ (contents ++ rest)) ≡ Some rest
 sized [] contents rest h = absurd h

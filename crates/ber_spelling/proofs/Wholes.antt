@@ -8,7 +8,7 @@ use Rattle.asn1_types.specs.declared.row.Class.TheVariants.{Universal, Applicati
 use Rattle.asn1_types.specs.Rows.{is_no_tag, same_class}
 use Rattle.asn1_types.specs.Whole.{number_256, behind_digits, behind_high, behind_identifier, behind_octets, behind_counted, behind_sized, is_constructed as is_formed, is_marked, is_ended, behind_values, behind_length, behind_whole, is_nothing, is_whole}
 use Rattle.asn1_types.specs.Tags.{class_of, leading}
-use Rattle.ber_spelling.specs.Fields.{is_constructed, number_from}
+use Rattle.ber_spelling.specs.Fields.{is_constructed}
 use Rattle.ber_spelling.specs.Spelling.{AreDigits, low_bits, number_128, IsBase128, IsIdentifier, IsLength, IsSized, AreAll, IsMarked, IsWhole}
 use Rattle.ber_spelling.proofs.Identifiers.{first_is}
 use Rattle.ber_spelling.proofs.Steady.{regroup, regroup_marked}
@@ -16,10 +16,6 @@ use Rattle.ber_spelling.proofs.Steady.{regroup, regroup_marked}
 pub cond_some : {A : Type 0} (b : Bool) (o : Option A) (x : A) → cond b None o ≡ Some x → (b ≡ false) × (o ≡ Some x)
 cond_some true o x e = absurd cc
 cond_some false o x e = (refl, e)
-
-pub same_number : (n : ℕ) (os : List ℕ) → number_256 n os ≡ number_from n os
-same_number n [] = refl
-same_number n (o ∷ os) = same_number (256 * n + o) os
 
 -- ---- lengths
 
@@ -64,7 +60,7 @@ sized (first ∷ more) rest e = by_test (nat_lt first 128) refl e
         record {
           size = first ∷ take n more;
           contents = take number (drop n more);
-          is_length = inr (record { size = omega arith; some = omega arith; few = omega arith; number = sym (same_number 0 (take n more)) ∙ sym all; shortest = λ f. absurd cc });
+          is_length = inr (record { size = omega arith; some = omega arith; few = omega arith; number = sym all; shortest = λ f. absurd cc });
           are = ap (λ (x : List ℕ). first ∷ x) (sym (take-append-drop n more) ∙ ap (λ (x : List ℕ). take n more ++ x) k.1);
         }
 

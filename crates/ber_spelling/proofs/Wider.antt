@@ -3,11 +3,12 @@ use Rattle.std.proofs.Common.{◌≡◌, ◌≤◌, ℕ, ◌+◌, ◌-◌, ◌*�
 use Rattle.std.proofs.lemmas.Bool.{le-ltb, ltb-false}
 use Rattle.std.specs.Prelude.{nat_lt, nat_eq}
 use Rattle.osi_base.specs.declared.words.Kind.TheVariants.{Length, Form}
+use Rattle.asn1_types.specs.Whole.{number_256}
 use Rattle.ber_spelling.specs.declared.fault.ReadFault.TheVariants as faults
 use Rattle.ber_spelling.specs.declared.spot.Scope.{Scope}
 use Rattle.ber_spelling.specs.Reading.{Spot, Reading, ◌>>=◌, refuse, is_past, within}
 use Rattle.asn1_types.specs.Tags.{capped}
-use Rattle.ber_spelling.specs.Fields.{digits_at, is_lax, high_at, identifier_at, number_from, announced_at, long_at, is_end, cut_off, lacking_from, lacking, inside, sure_reach, definite_at, extent_at, contents_at, begin_at, second_zero_at, mark_at, look_at}
+use Rattle.ber_spelling.specs.Fields.{digits_at, is_lax, high_at, identifier_at, announced_at, long_at, is_end, cut_off, lacking_from, lacking, inside, sure_reach, definite_at, extent_at, contents_at, begin_at, second_zero_at, mark_at, look_at}
 
 -- a scope with another limit
 abbrev pub wide : ℕ → Scope → Scope
@@ -113,7 +114,7 @@ unfolding long_at
 long_wide m scope place size rest le =
     Wider-cond same (ltb (length rest) size) _ _ _ _ (λ t. cut_wide (ℕ × Spot) m scope place (sure_reach scope.end (place + 1 + size) (place + 1 + length rest)) le) (λ t.
     then_wide same m scope place (place + 1 + size) _ _ le (
-    Wider-cond same (nat_lt 8 size) _ _ _ _ (λ t. refl) (λ t. announced_wide m scope place (number_from 0 (take size rest)) _ (place + 1 + size) (drop size rest) le)))
+    Wider-cond same (nat_lt 8 size) _ _ _ _ (λ t. refl) (λ t. announced_wide m scope place (number_256 0 (take size rest)) _ (place + 1 + size) (drop size rest) le)))
 
 definite_wide : (m : ℕ) (scope : Scope) (place : ℕ) (rest : List ℕ) → scope.limit ≤ m → Wider same (definite_at scope place rest) (definite_at (wide m scope) place rest)
 unfolding definite_at

@@ -6,7 +6,7 @@ use Rattle.std.proofs.Math.Nat.{pow-suc, mul_assoc, mul_comm}
 use Rattle.std.proofs.lemmas.Bool.{le-ltb, lt-ltb, ltb-true, ltb-false, ne_eqb, lt-leb}
 use Rattle.asn1_types.specs.declared.row.Class.{Class}
 use Rattle.asn1_types.specs.declared.row.Tag as tags
-use Rattle.ber_spelling.specs.Fields.{number_from}
+use Rattle.asn1_types.specs.Whole.{number_256}
 use Rattle.ber_spelling.specs.Primitives.{is_padded, signed_of}
 use Rattle.ber_spelling.specs.Spelling.{IsIdentifier, IsLength, IsDefinite, IsInteger, AreSubidentifiers}
 use Rattle.asn1_types.specs.Writing.{natural_octets, integer_octets, identifier, base_128, base_256, length_octets, definite}
@@ -51,10 +51,10 @@ definite_is strict constructed tag P c lt p = record {
 
 -- ---- INTEGER
 
-nat_number : (n : ℕ) → number_from 0 (natural_octets n n []) ≡ n
-nat_number n = by_turns (λ m b l. number_from 0 l ≡ number_from m b)
-    (λ m b lt. let same : 256 * 0 + m ≡ m = omega arith in ap (λ (k : ℕ). number_from k b) same)
-    (λ m b l le h. let s = split_256 m in h ∙ ap (λ (k : ℕ). number_from k b) s.0) n n [] (omega arith)
+nat_number : (n : ℕ) → number_256 0 (natural_octets n n []) ≡ n
+nat_number n = by_turns (λ m b l. number_256 0 l ≡ number_256 m b)
+    (λ m b lt. let same : 256 * 0 + m ≡ m = omega arith in ap (λ (k : ℕ). number_256 k b) same)
+    (λ m b l le h. let s = split_256 m in h ∙ ap (λ (k : ℕ). number_256 k b) s.0) n n [] (omega arith)
 
 nat_first : (n : ℕ) → slice_index (natural_octets n n []) 0 < 128
 nat_first n = by_turns (λ m b l. slice_index l 0 < 128) (λ m b lt. lt) (λ m b l le h. h) n n [] (omega arith)
@@ -99,7 +99,7 @@ turned os = map (λ octet. 255 - octet) os
 regroup : (s p : ℕ) → (256 * s) * p ≡ s * (p * 256)
 regroup s p = ap (λ (k : ℕ). k * p) (mul_comm 256 s) ∙ mul_assoc s 256 p ∙ ap (λ (k : ℕ). s * k) (mul_comm 256 p)
 
-pub turned_number : (a b : ℕ) (os : List ℕ) → Small os → number_from a os + number_from b (turned os) + 1 ≡ (a + b + 1) * 256 ^ length os
+pub turned_number : (a b : ℕ) (os : List ℕ) → Small os → number_256 a os + number_256 b (turned os) + 1 ≡ (a + b + 1) * 256 ^ length os
 turned_number a b [] h = omega arith
 turned_number a b (o ∷ os) h =
     let lt : o < 256 = h.0 in
@@ -133,8 +133,8 @@ turned_signed : (n : ℕ) → signed_of (turned (natural_octets n n [])) ≡ neg
 turned_signed n =
     let os : List ℕ = natural_octets n n [] in
     let ge : 128 ≤ slice_index (turned os) 0 = turned_first os (nat_some n) (nat_first n) in
-    let sum : number_from 0 os + number_from 0 (turned os) + 1 ≡ (0 + 0 + 1) * 256 ^ length os = turned_number 0 0 os (nat_small n) in
-    let number : number_from 0 os ≡ n = nat_number n in
+    let sum : number_256 0 os + number_256 0 (turned os) + 1 ≡ (0 + 0 + 1) * 256 ^ length os = turned_number 0 0 os (nat_small n) in
+    let number : number_256 0 os ≡ n = nat_number n in
     let len : length (turned os) ≡ length os = turned_length os in
     let whole : 256 ^ length (turned os) ≡ 256 ^ length os = ap (λ (k : ℕ). 256 ^ k) len in
     rw (le-ltb (slice_index (turned os) 0) 128 ge) (ap negsuc (omega arith))

@@ -2,6 +2,7 @@
 use Rattle.std.specs.Prelude.{ℕ, ◌+◌, ◌-◌, ◌*◌, ◌/◌, ◌%◌, Bool, true, false, not, ◌&&◌, ◌||◌, Option, Some, None, List, [], ◌∷◌, length, take, drop, Ok, Err, nat_lt, nat_le, nat_eq, slice_index, if◌then◌else◌}
 use Rattle.osi_base.specs.declared.words.Kind.TheVariants.{Tag, Length, Form}
 use Rattle.asn1_types.specs.Tags.{class_of, capped}
+use Rattle.asn1_types.specs.Whole.{number_256}
 use Rattle.ber_spelling.specs.declared.fault.ReadFault.TheVariants.{Short, TooDeep}
 use Rattle.ber_spelling.specs.declared.spot.Scope.{Scope}
 use Rattle.ber_spelling.specs.Reading.{Spot, Opened, Ahead, ended, begun, Reading, ◌>>=◌, refuse, is_past, within}
@@ -55,11 +56,6 @@ identifier_at scope place (first ∷ rest) =
       if nat_eq (first % 32) 31 then high_at scope place first rest
           else Ok (opened_at place (first ∷ rest) first (first % 32), record { place = place + 1; rest = rest }))
 
--- the number that octets are, most significant first
-abbrev pub number_from : ℕ → List ℕ → ℕ
-number_from number [] = number
-number_from number (octet ∷ octets) = number_from (256 * number + octet) octets
-
 -- a length that is announced: its contents end within what encloses them
 unfoldable pub announced_at : Scope → ℕ → ℕ → Bool → ℕ → List ℕ → Reading (ℕ × Spot)
 announced_at scope place count minimal from rest = do
@@ -78,8 +74,8 @@ long_at scope place size rest =
     else (do
       _ ← within scope place (place + 1 + size)
       if nat_lt 8 size then refuse place Length
-          else announced_at scope place (number_from 0 (take size rest))
-          (nat_le 128 (number_from 0 (take size rest)) && nat_lt 0 (slice_index (take size rest) 0)) (place + 1 + size) (drop size rest))
+          else announced_at scope place (number_256 0 (take size rest))
+          (nat_le 128 (number_256 0 (take size rest)) && nat_lt 0 (slice_index (take size rest) 0)) (place + 1 + size) (drop size rest))
 
 -- a definite length (X.690 8.1.3.3)
 unfoldable pub definite_at : Scope → ℕ → List ℕ → Reading (ℕ × Spot)

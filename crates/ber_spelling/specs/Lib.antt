@@ -7,3 +7,4 @@ pub mod Order
 pub mod Rules
 pub mod Spelling
 pub mod Laws
+pub mod Below

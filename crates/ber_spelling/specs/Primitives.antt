@@ -2,7 +2,7 @@
 use Rattle.std.specs.Prelude.{ℕ, suc, ◌+◌, ◌-◌, ◌*◌, ◌^◌, min, ℤ, pos, negsuc, Bool, true, false, not, ◌&&◌, ◌||◌, Option, Some, None, List, [], ◌∷◌, length, nat_lt, nat_le, nat_eq, slice_index, if◌then◌else◌}
 use Rattle.std.specs.List.{list_all}
 use Rattle.osi_base.specs.Oid.{is_oid}
-use Rattle.ber_spelling.specs.Fields.{number_from}
+use Rattle.asn1_types.specs.Whole.{number_256}
 
 -- ---- INTEGER and ENUMERATED (X.690 8.3, 8.4)
 
@@ -15,8 +15,8 @@ is_padded (first ∷ second ∷ octets) = (nat_eq first 0 && nat_lt second 128) 
 -- two's complement (X.690 8.3.3): bit 8 of the first octet counts negative
 abbrev pub signed_of : List ℕ → ℤ
 signed_of octets =
-    if nat_lt (slice_index octets 0) 128 then pos (number_from 0 octets)
-    else negsuc (256 ^ length octets - suc (number_from 0 octets))
+    if nat_lt (slice_index octets 0) 128 then pos (number_256 0 octets)
+    else negsuc (256 ^ length octets - suc (number_256 0 octets))
 
 abbrev pub is_integer : List ℕ → Bool
 is_integer octets = nat_le 1 (length octets) && nat_le (length octets) 8 && not (is_padded octets)

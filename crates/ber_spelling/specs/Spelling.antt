@@ -16,7 +16,7 @@ use Rattle.asn1_types.specs.Value.{Value, boolean, integer, null, object_id, par
 use Rattle.asn1_types.specs.declared.row.Tag as tags
 use Rattle.asn1_types.specs.Tags.{tag_or, front_rank, leading}
 use Rattle.asn1_types.specs.Rising.{behind_last}
-use Rattle.ber_spelling.specs.Fields.{number_from}
+use Rattle.asn1_types.specs.Whole.{number_256}
 use Rattle.ber_spelling.specs.Primitives.{is_padded, signed_of}
 use Rattle.ber_spelling.specs.declared.spot.StringKind.{StringKind}
 use Rattle.ber_spelling.specs.declared.spot.StringKind.TheVariants.{OfOctets, OfBits}
@@ -62,7 +62,7 @@ pub record IsLong (strict : Bool) (first : ℕ) (digits : List ℕ) (n : ℕ) : 
   pub size : first ≡ 128 + length digits
   pub some : 1 ≤ length digits
   pub few : length digits ≤ 8
-  pub number : number_from 0 digits ≡ n
+  pub number : number_256 0 digits ≡ n
   pub shortest : strict ≡ true → (128 ≤ n) × (0 < slice_index digits 0)
 
 abbrev pub IsLength : Bool → List ℕ → ℕ → Type 0

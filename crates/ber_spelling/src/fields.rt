@@ -1,13 +1,14 @@
 //! The fields of BER: identifiers, lengths, contents and their ends (X.690 8.1).
 
 ghost use Rattle.std.specs.Prelude.{◌≢◌, IfErr, ◌≡◌, ◌∷◌, ◌+◌, ◌-◌, ◌≤◌, ◌<◌, ◌^◌, length, take, IfOk, Err};
+ghost use Rattle.asn1_types.specs.Whole.{number_256};
 ghost use Rattle.ber_spelling.specs.Reading.{Gives, within, spot_of, opened_of, ahead_of, is_past, LiesIn, GoesOn, Opens};
-ghost use Rattle.ber_spelling.specs.Fields.{is_constructed, digits_at, high_at, identifier_at, number_from, announced_at, long_at, definite_at, extent_at, contents_at, begin_at, mark_at, look_at, is_end, lacking_from, cut_off, sure_reach};
+ghost use Rattle.ber_spelling.specs.Fields.{is_constructed, digits_at, high_at, identifier_at, announced_at, long_at, definite_at, extent_at, contents_at, begin_at, mark_at, look_at, is_end, lacking_from, cut_off, sure_reach};
 ghost use Rattle.asn1_types.specs.Tags.{class_of, capped};
 
 use crate::fault::ReadFault;
 use crate::spot::{Ahead, Opened, Scope, Spot};
-use asn1_types::Class;
+use asn1_types::{Class, number_256};
 use osi_base::Kind;
 
 /// The fault of kind `kind` in the field at `place`, counted in octets from 0.
@@ -175,19 +176,6 @@ pub fn identifier<'a>(scope: &Scope, start: Spot<'a>) -> Result<(Opened<'a>, Spo
     }
 }
 
-/// The number that at most 8 octets are, the most significant first.
-#[inline(always)]
-pub(crate) fn number_of(octets: &[u8]) -> u64
-    requires { length octets.now ≤ 8 }
-    ensures { result ≡ number_from 0 octets.now }
-{
-    let mut number: u64 = 0;
-    for octet in octets {
-        number = 256 * number + *octet as u64;
-    }
-    number
-}
-
 /// Whether `count` octets from `from` on, of a field at this place, stay within the limit and the
 /// enclosing contents.
 #[tactic(auto, unfolding(crate::specs::Reading::within))]
@@ -253,7 +241,7 @@ fn long<'a>(
         return Err(refusal(place, Kind::Length));
     }
     let (octets, after) = rest.split_at(size as usize);
-    let count = number_of(octets);
+    let count = number_256(octets);
     let minimal = count >= 128 && octets.first() != Some(&0);
     announced(
         scope,

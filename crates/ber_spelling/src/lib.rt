@@ -5,6 +5,7 @@
 mod fault;
 mod fields;
 mod laws;
+mod octets;
 mod order;
 mod plain;
 mod primitives;
@@ -22,6 +23,7 @@ pub use laws::{
     short_is_within, spelled_fits, spelled_is_read, unused_bits_are_cleared, unused_bits_are_zeros,
     wider_is_long, wider_stays, written_is_read, written_is_spelled,
 };
+pub use octets::{are_octets, hold_octets};
 pub use order::{RANKS, rank, rank_of};
 pub use plain::{boolean, enumerated, integer, is_other_number, null, object_id};
 pub use primitives::{integer_of, is_padded, ones_above};

@@ -2,10 +2,10 @@
 
 ghost use Rattle.std.specs.Prelude.{◌≡◌, ◌∷◌, [], ◌+◌, ◌≤◌, ◌<◌, ◌^◌, length, Some, slice_index, IfOk, option_map, false, if◌then◌else◌, None};
 ghost use Rattle.std.specs.List.{list_all};
-ghost use Rattle.ber_spelling.specs.Fields.{number_from};
+ghost use Rattle.asn1_types.specs.Whole.{number_256};
 ghost use Rattle.ber_spelling.specs.Primitives.{is_padded, is_integer, signed_of, integer_of, subidentifiers_of, arcs_from, arcs_of, is_arc};
 
-use crate::fields::number_of;
+use asn1_types::number_256;
 use osi_base::{NoMemory, Oid};
 use std::alloc::Global;
 
@@ -46,7 +46,7 @@ fn signed_of(octets: &[u8]) -> i64
     requires few { length octets.now ≤ 8 }
     ensures { result ≡ signed_of octets.now }
 {
-    let number = number_of(octets);
+    let number = number_256(octets);
     if octets[0] < 128 {
         number.cast_signed()
     } else {

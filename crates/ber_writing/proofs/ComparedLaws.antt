@@ -14,7 +14,7 @@ use Rattle.asn1_types.specs.declared.row.Tag as tags
 use Rattle.asn1_types.specs.Tags.{leading}
 use Rattle.asn1_types.specs.Writing.{saturated, base_128, base_256, subidentifiers, identifier, length_octets, definite}
 use Rattle.asn1_types.specs.Rising.{is_less}
-use Rattle.ber_spelling.specs.Fields.{number_from}
+use Rattle.asn1_types.specs.Whole.{number_256}
 use Rattle.ber_spelling.specs.Spelling.{AreDigits, IsBase128}
 use Rattle.ber_spelling.proofs.Digits.{base_128_is, base_256_number}
 use Rattle.ber_writing.specs.declared.pieces.Compared.{Compared}
@@ -198,9 +198,9 @@ lengths_apart n m =
 read_length : List ℕ → ℕ
 read_length [] = 0
 read_length (x ∷ []) = x
-read_length (x ∷ y ∷ os) = number_from 0 (y ∷ os)
+read_length (x ∷ y ∷ os) = number_256 0 (y ∷ os)
 
-some_octets : (os : List ℕ) (x n : ℕ) → 0 < n → number_from 0 os ≡ n → read_length (x ∷ os) ≡ n
+some_octets : (os : List ℕ) (x n : ℕ) → 0 < n → number_256 0 os ≡ n → read_length (x ∷ os) ≡ n
 unfolding read_length
 some_octets [] x n lt e = absurd (omega arith)
 some_octets (y ∷ os) x n lt e = e

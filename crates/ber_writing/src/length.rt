@@ -52,7 +52,7 @@ fn natural_len(number: u64) -> u64
 
 /// The length of an INTEGER's contents (X.690 8.3).
 #[tactic(auto, unfolding(asn1_types::specs::Writing::integer_octets))]
-pub(crate) fn integer_len(number: i64) -> u64
+pub fn integer_len(number: i64) -> u64
     ensures length { result ≡ length (integer_octets number) }
     ensures few { result ≤ 9 }
 {
@@ -83,8 +83,8 @@ pub(crate) fn length_len(count: u64) -> u64
     1 + base_256_len(count)
 }
 
-/// The length of a spelling that has contents of this length.
-pub(crate) fn definite_len(tag: Tag, count: u64) -> u64
+/// The length of a spelling under this tag whose contents have this length.
+pub fn definite_len(tag: Tag, count: u64) -> u64
     ensures { result ≡ saturated (length (identifier tag.class false tag.number)
         + (length (length_octets count) + count)) }
 {
@@ -144,7 +144,7 @@ fn bits_len(tag: Tag, value: &Val) -> u64
 
 /// The length of an OBJECT IDENTIFIER's arcs (X.690 8.19), of which the first two are one
 /// subidentifier.
-pub(crate) fn arcs_len(arcs: &[u32]) -> u64
+pub fn arcs_len(arcs: &[u32]) -> u64
     ensures { result ≡ saturated (length (flat_map base_128 (subidentifiers arcs.now))) }
 {
     match arcs {

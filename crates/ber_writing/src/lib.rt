@@ -16,7 +16,7 @@ mod sort;
 mod write;
 
 pub use fitting::fits;
-pub use length::ber_len;
+pub use length::{arcs_len, ber_len, definite_len, integer_len};
 pub use order::is_less;
 pub use size::packed_size;
 pub use sort::{follows_last, in_order};

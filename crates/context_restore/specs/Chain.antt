@@ -2,6 +2,7 @@
 use Rattle.std.specs.Prelude.{◌≡◌, ℕ, zero, suc, ◌+◌, ◌<◌, ◌≤◌, Bool, true, false, ◌&&◌, nat_eq, nat_lt, if◌then◌else◌, List, [], ◌∷◌, length, Option, Some, None}
 use Rattle.slab.specs.Slab.{Slab, get, slab_len}
 use Rattle.osi_base.specs.declared.words.SetItem.{SetItem}
+use Rattle.osi_base.specs.Limits.{most_marks}
 use Rattle.context_sets.specs.Sets.{ContextSet, IsRising}
 use Rattle.context_sets.specs.Alterations.{is_among}
 use Rattle.context_restore.specs.declared.node.VersionNode.{VersionNode}
@@ -100,7 +101,7 @@ pub record IsSoundChain (nodes : Nodes) (head : Option ℕ) (newest : ContextSet
   pub keys : List ℕ
   pub linked : IsLinked nodes head keys
   pub all : length keys ≡ slab_len nodes
-  pub few : length keys ≤ 65537
+  pub few : length keys ≤ most_marks + 1
   pub is_newest : newest ≡ set_of (versions_at nodes keys)
   pub leads_back : LeadsBack nodes keys
   pub rooted : active ≡ true → 0 < length keys

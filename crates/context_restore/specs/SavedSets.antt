@@ -1,5 +1,6 @@
 -- The sets that can be restored: those of the marks, and the one from before an activity (this project's own rules).
 use Rattle.std.specs.Prelude.{◌≡◌, ◌≢◌, ℕ, ◌+◌, Bool, ◌||◌, not, nat_eq, nat_lt, max, if◌then◌else◌, List, [], ◌∷◌, length, Option, Some, None}
+use Rattle.osi_base.specs.Limits.{most_marks}
 use Rattle.context_sets.specs.Sets.{ContextSet}
 use Rattle.context_restore.specs.declared.refusal.SaveRefusal.{SaveRefusal}
 use Rattle.context_restore.specs.declared.refusal.SaveRefusal.TheVariants.{NoSuchMark, MarksFull, NoActivity, NoMemory}
@@ -28,7 +29,7 @@ next_number nodes = max 1 (length nodes)
 -- no more than 65,536 marks are kept, number 0 not counted
 abbrev pub mark_refusal : SavedSets → Option SaveRefusal
 mark_refusal saved =
-    if nat_lt 65536 (length saved.nodes) then Some MarksFull
+    if nat_lt most_marks (length saved.nodes) then Some MarksFull
     else if not saved.active then Some NoActivity
     else None
 

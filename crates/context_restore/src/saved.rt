@@ -1,6 +1,7 @@
 //! The sets that can be restored.
 
 ghost use Rattle.std.specs.Prelude.{◌≡◌, ◌+◌, ◌<◌, ◌≤◌, true, false, [], ◌∷◌, length, None, Err, IsOk, IfOk, IfErr, OnOk, OnErr, MatchOption, MatchResult};
+ghost use Rattle.osi_base.specs.Limits.{most_marks};
 ghost use Rattle.context_sets.specs.Sets.{IsRising};
 ghost use Rattle.context_restore.specs.Versions.{version, root, set_of, below};
 ghost use Rattle.context_restore.specs.declared.refusal.SaveRefusal.TheVariants.{NoMemory as no_room};
@@ -66,7 +67,7 @@ impl Saved {
     /// How many nodes the chain has: one for number 0, and one for each mark that is kept.
     pub fn nodes(&self) -> u32
         ensures count { result ≡ length self.now.nodes }
-        ensures few { result ≤ 65537 }
+        ensures few { result ≤ most_marks + 1 }
         ensures rooted { self.now.active ≡ true → 0 < result }
     {
         self.nodes.len() as u32
@@ -128,7 +129,7 @@ impl Saved {
 
     /// Puts the version that leads to a set at the head of the chain.
     fn push(&mut self, set: &Contexts) -> Result<(), SaveRefusal>
-        requires { length self.old.nodes ≤ 65536 }
+        requires { length self.old.nodes ≤ most_marks }
         ensures ok { OnOk result (self.new ≡ record self.old
             { nodes = version (set_of self.old.nodes) set.now.set ∷ self.old.nodes }) }
         ensures rises { IsRising set.now.set }

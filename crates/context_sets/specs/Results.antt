@@ -3,6 +3,7 @@ use Rattle.std.specs.Prelude.{ℕ, ◌+◌, min, Bool, true, false, not, ◌&&�
 use Rattle.osi_base.specs.declared.words.Proposal.{Proposal}
 use Rattle.osi_base.specs.declared.words.AddAnswer.{AddAnswer}
 use Rattle.osi_base.specs.declared.words.Answers.{Answers}
+use Rattle.osi_base.specs.Limits.{most_32}
 use Rattle.context_sets.specs.declared.alteration.Alteration.{Alteration}
 use Rattle.context_sets.specs.declared.fault.SetFault.{SetFault}
 use Rattle.context_sets.specs.declared.fault.SetFault.TheVariants.{Mismatch}
@@ -24,7 +25,7 @@ all_fit (proposal ∷ proposals) (answer ∷ answers) = fits proposal answer && 
 
 -- a count of 32 bits, which stands still at its last value
 abbrev pub counted : ℕ → ℕ
-counted n = min n 4294967295
+counted n = min n most_32
 
 abbrev pub mismatch_of : ℕ → ℕ → SetFault
 mismatch_of sent answered = Mismatch (counted sent) (counted answered)

@@ -1,11 +1,2 @@
 pub mod Config
-pub mod Message
 pub mod Printed
-pub mod State
-pub mod Calls
-pub mod Taking
-pub mod History
-pub mod Feeding
-pub mod FeedLaws
-pub mod World
-pub mod Laws

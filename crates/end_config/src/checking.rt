@@ -3,38 +3,18 @@
 ghost use Rattle.std.specs.Prelude.{◌≡◌, ◌≢◌, [], IfOk, Err, None, true};
 ghost use Rattle.dialogue.specs.Config.{refused_if};
 ghost use Rattle.dialogue.specs.declared.config.ConfigRefusal.TheVariants as refusals;
-ghost use Rattle.end_rules.specs.Base.{is_bare, is_reliable};
 ghost use Rattle.end_config.specs.Refusing.{is_taken, is_bad_context, bad_context, is_too_long};
 ghost use Rattle.end_config.specs.Refusing.{has_connect, early_refusal, late_refusal};
 ghost use Rattle.end_config.specs.Refusing.{config_refusal};
 
 use crate::connecting::connect_octets;
+use association_ground::{is_bare, is_reliable};
 use dialogue::{Config, ConfigRefusal, Mode};
 use osi_base::{NoMemory, Proposal};
 use std::alloc::Global;
 
 /// The most octets of a CP.
 const MOST_OCTETS: usize = 10_240;
-
-fn is_bare(mode: Mode) -> bool
-    ensures { result ≡ is_bare mode }
-{
-    match mode {
-        Mode::Bare => true,
-        Mode::Direct => false,
-        Mode::Reliable => false,
-    }
-}
-
-fn is_reliable(mode: Mode) -> bool
-    ensures { result ≡ is_reliable mode }
-{
-    match mode {
-        Mode::Bare => false,
-        Mode::Direct => false,
-        Mode::Reliable => true,
-    }
-}
 
 /// Whether one of these has the identifier.
 fn is_taken(id: u32, before: &[Proposal]) -> bool

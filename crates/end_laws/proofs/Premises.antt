@@ -6,6 +6,7 @@ use Rattle.osi_base.specs.declared.syntax.Syntax.TheVariants.{Der}
 use Rattle.osi_base.specs.declared.words.SetItem.{SetItem}
 use Rattle.asn1_types.specs.declared.row.TypeId.{TypeId}
 use Rattle.asn1_types.specs.declared.value.Val.{Val}
+use Rattle.asn1_types.specs.Limits.{most_octets}
 use Rattle.dialogue.specs.declared.config.Config.{Config}
 use Rattle.dialogue.specs.declared.config.Mode.{Mode}
 use Rattle.stub_tables.specs.declared.tables.Tables.{Tables}
@@ -20,7 +21,7 @@ use Rattle.stub_tables.specs.Lookup.{operation_at, error_at, operation_with, err
 use Rattle.stub_tables.specs.Apdus.{placed, argument_of, result_of, parameter_of}
 use Rattle.apdu_spelling.specs.Writing.{written_apdu, is_identifier, is_identifier_or_none, may_carry, may_return, IsWritable}
 use Rattle.apdu_spelling.proofs.Written.{written_spelled}
-use Rattle.end_rules.specs.Base.{Base, most_octets}
+use Rattle.end_rules.specs.Base.{Base}
 use Rattle.end_rules.specs.Invoking.{is_too_long}
 use Rattle.end_rules.specs.Hearing.{head_of_apdu}
 use Rattle.end_rules.specs.Messages.{Remote}

@@ -11,11 +11,12 @@ use Rattle.osi_base.specs.declared.words.Proposal.{Proposal}
 use Rattle.osi_base.specs.declared.words.Answers.{Answers}
 use Rattle.osi_base.specs.declared.words.RestoredItem.{RestoredItem}
 use Rattle.osi_base.specs.declared.words.Layer.TheVariants.{Presentation}
+use Rattle.osi_base.specs.Limits.{most_marks, most_transferred}
 use Rattle.dialogue.specs.declared.indication.Indication.TheVariants.{RestoredListDiffers}
 use Rattle.dialogue.specs.declared.config.Mode.{Mode}
 use Rattle.dialogue.specs.declared.config.Mode.TheVariants.{Direct, Reliable}
 use Rattle.dialogue.specs.declared.config.Phase.TheVariants.{Up}
-use Rattle.end_rules.specs.Base.{Base, Fault, most_marks, most_transferred}
+use Rattle.end_rules.specs.Base.{Base, Fault}
 use Rattle.end_rules.specs.State.{Body, Awaited, NoAnswer, RestartOf, InterruptOf, DiscardOf}
 use Rattle.end_rules.specs.State.{ReleaseOf, Transfer, Progress, Running, Ending, Suspended, is_up}
 use Rattle.end_rules.specs.State.{highest, joined, is_suspended}

@@ -3,13 +3,14 @@ use Rattle.std.proofs.Common.{◌≡◌, refl, true, false, ◌∙◌, sym, ap, 
 use Rattle.std.proofs.Common.{[], ◌∷◌, length, map}
 use Rattle.std.specs.Prelude.{ℤ, Bool, not, ◌&&◌, ◌||◌, Option, Some, None, Ok, nat_lt, nat_le}
 use Rattle.std.proofs.lemmas.Bool.Decides.{nat_tests}
+use Rattle.osi_base.specs.Limits.{most_marks}
 use Rattle.dialogue.specs.declared.config.Mode.{Mode}
 use Rattle.dialogue.specs.declared.config.Mode.TheVariants.{Direct, Reliable}
 use Rattle.dialogue.specs.declared.config.Phase.{Phase}
 use Rattle.dialogue.specs.declared.config.Phase.TheVariants as phases
 use Rattle.dialogue.specs.declared.call.Call.TheVariants as the_calls
 use Rattle.dialogue.specs.declared.call.CallRefusal.TheVariants as refusals
-use Rattle.end_rules.specs.Base.{Base, is_direct, is_reliable, most_marks}
+use Rattle.end_rules.specs.Base.{Base, is_direct, is_reliable}
 use Rattle.end_rules.specs.Sets.{next_number}
 use Rattle.end_rules.specs.State.{Body, OpenCall, Transfer, Progress, Running, Ending, Suspended}
 use Rattle.end_rules.specs.State.{is_up, is_broken, is_free, is_empty, is_none, is_current}

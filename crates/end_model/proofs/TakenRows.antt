@@ -6,9 +6,10 @@ use Rattle.std.specs.List.{list_any}
 use Rattle.osi_base.specs.declared.words.Proposal.{Proposal}
 use Rattle.osi_base.specs.declared.words.Answers.{Answers}
 use Rattle.osi_base.specs.declared.words.RestoredItem.{RestoredItem}
+use Rattle.osi_base.specs.Limits.{most_marks}
 use Rattle.dialogue.specs.declared.config.Mode.{Mode}
 use Rattle.dialogue.specs.declared.config.Mode.TheVariants.{Bare, Direct, Reliable}
-use Rattle.end_rules.specs.Base.{Base, most_marks}
+use Rattle.end_rules.specs.Base.{Base}
 use Rattle.end_rules.specs.State.{Body, highest, is_up}
 use Rattle.end_rules.specs.Sets.{Alteration, next_number, fit_proposals, fit_alteration, altered}
 use Rattle.end_rules.specs.Units.{proposed_units}

@@ -6,10 +6,11 @@ use Rattle.std.specs.Prelude.{nat_lt}
 use Rattle.std.proofs.lemmas.Bool.Decides.{nat_tests}
 use Rattle.osi_base.specs.declared.syntax.Pair.{Pair}
 use Rattle.osi_base.specs.declared.words.Proposal.{Proposal}
+use Rattle.osi_base.specs.Limits.{most_transferred}
 use Rattle.stub_tables.specs.declared.apdu.Apdu.{Apdu}
 use Rattle.stub_tables.specs.declared.apdu.Apdu.TheVariants as apdus
 use Rattle.dialogue.specs.declared.config.Mode.TheVariants.{Reliable}
-use Rattle.end_rules.specs.Base.{Base, most_transferred}
+use Rattle.end_rules.specs.Base.{Base}
 use Rattle.end_rules.specs.State.{Body, Calls, Piece, Octets, Marked, Transfer, Receiving, Progress}
 use Rattle.end_rules.specs.State.{Running, Ending, Suspended, Awaited, NoAnswer, RestartOf}
 use Rattle.end_rules.specs.State.{InterruptOf, DiscardOf, ReleaseOf, highest, joined, pieces_of}

@@ -125,18 +125,6 @@ most_transfers = 8
 abbrev pub highest_context : ℕ
 highest_context = 32767
 
--- marks that are kept
-abbrev pub most_marks : ℕ
-most_marks = 65536
-
--- octets of an APDU in each syntax
-abbrev pub most_octets : ℕ
-most_octets = 262144
-
--- octets of a transfer
-abbrev pub most_transferred : ℕ
-most_transferred = 262400
-
 -- open invocations of one end
 abbrev pub most_open : ℕ
 most_open = 4096
@@ -148,7 +136,3 @@ last_invocation = 2147483647
 -- items that wait for their transfer
 abbrev pub most_queued : ℕ
 most_queued = 64
-
--- the last number of an activity
-abbrev pub last_activity : ℕ
-last_activity = 999999

@@ -2,7 +2,8 @@
 -- start of the next item (X.228 7.2, 7.3).
 use Rattle.std.specs.Prelude.{ℕ, zero, suc, ◌-◌, ◌*◌, List, [], ◌∷◌, length, take, drop, Bool, true, false, not, ◌&&◌, nat_lt, nat_le, if◌then◌else◌, Option, Some, None, is_some}
 use Rattle.osi_base.specs.declared.syntax.Pair.{Pair}
-use Rattle.end_rules.specs.Base.{Base, Item, is_reliable, last_activity}
+use Rattle.osi_base.specs.Limits.{last_activity}
+use Rattle.end_rules.specs.Base.{Base, Item, is_reliable}
 use Rattle.end_rules.specs.Sets.{pair_of}
 use Rattle.end_rules.specs.Messages.{Message, Session, OfMarks, OfActivities, Mark, Start, End}
 use Rattle.end_rules.specs.State.{Body, Transfer, Encoded, Queued, Piece, Octets, Marked, is_up, is_free, is_empty, is_running, joined, highest, on_transfer}

@@ -1,12 +1,13 @@
 -- What may be called, and why not: the first row that fails decides (X.225 7, X.228 8; the rows and their
 -- order are this project's own).
 use Rattle.std.specs.Prelude.{ℕ, length, Bool, true, false, not, ◌&&◌, ◌||◌, nat_lt, nat_le, None, Ok, Err, if◌then◌else◌}
+use Rattle.osi_base.specs.Limits.{most_marks}
 use Rattle.dialogue.specs.declared.call.Call.{Call}
 use Rattle.dialogue.specs.declared.call.Call.TheVariants as the_calls
 use Rattle.dialogue.specs.declared.call.CallRefusal.TheVariants as refusals
 use Rattle.dialogue.specs.declared.config.Phase.{Phase}
 use Rattle.dialogue.specs.declared.config.Phase.TheVariants.{Idle, Opening, Up, Releasing, Recovering, Dead}
-use Rattle.end_rules.specs.Base.{Base, is_bare, is_direct, is_reliable, most_marks}
+use Rattle.end_rules.specs.Base.{Base, is_bare, is_direct, is_reliable}
 use Rattle.end_rules.specs.Sets.{next_number}
 use Rattle.end_rules.specs.State.{Body, is_up, is_broken, is_free, is_none, is_empty, is_current, is_running, is_ending, is_suspended, opens_of}
 use Rattle.end_rules.specs.Units.{has_marks, has_restarts, has_token}

@@ -3,9 +3,10 @@
 use Rattle.std.specs.Prelude.{ℕ, suc, Bool, true, false, not, ◌&&◌, ◌||◌, nat_eq, nat_le, if◌then◌else◌, Option, Some, None}
 use Rattle.osi_base.specs.declared.session_word.SessionWord.{SessionWord}
 use Rattle.osi_base.specs.declared.session_word.SessionWord.TheVariants as units
+use Rattle.osi_base.specs.Limits.{most_marks}
 use Rattle.dialogue.specs.declared.config.Phase.{Phase}
 use Rattle.dialogue.specs.declared.config.Phase.TheVariants.{Opening, Recovering}
-use Rattle.end_rules.specs.Base.{Base, is_direct, is_reliable, most_marks}
+use Rattle.end_rules.specs.Base.{Base, is_direct, is_reliable}
 use Rattle.end_rules.specs.Sets.{next_number}
 use Rattle.end_rules.specs.State.{Body, Awaited, RestartOf, InterruptOf, DiscardOf, ReleaseOf, Transfer, Receiving, is_up, is_joined, is_carrying, is_current, is_ending, is_suspended, highest, pieces_of}
 use Rattle.end_rules.specs.Units.{has_units, needed_units, selected_with, has_version_two, has_marks, has_restarts, has_typed_data, has_activities, has_token}

@@ -2,6 +2,7 @@
 -- the rows and their order are this project's own).
 use Rattle.std.specs.Prelude.{ℕ, suc, min, ℤ, pos, length, Bool, true, false, not, ◌&&◌, ◌||◌, nat_lt, nat_le, Option, Some, None, Result, Ok, Err, if◌then◌else◌}
 use Rattle.asn1_types.specs.declared.value.Val.{Val}
+use Rattle.asn1_types.specs.Limits.{most_octets}
 use Rattle.osi_base.specs.declared.syntax.Syntax.{Syntax}
 use Rattle.osi_base.specs.declared.syntax.Syntax.TheVariants.{Ber, Der, Packed}
 use Rattle.stub_tables.specs.declared.operation.Code.{Code}
@@ -15,7 +16,7 @@ use Rattle.stub_tables.specs.Lookup.{operation_at, error_at}
 use Rattle.stub_tables.specs.Uses.{is_carried}
 use Rattle.dialogue.specs.declared.call.CallRefusal.{CallRefusal}
 use Rattle.dialogue.specs.declared.call.CallRefusal.TheVariants as refusals
-use Rattle.end_rules.specs.Base.{Base, is_direct, is_reliable, most_octets, most_open, last_invocation, most_queued}
+use Rattle.end_rules.specs.Base.{Base, is_direct, is_reliable, most_open, last_invocation, most_queued}
 use Rattle.end_rules.specs.Sets.{is_deleted_in, is_among, pair_of, has_abstract, carrier}
 use Rattle.end_rules.specs.State.{Body, OpenCall, is_free, is_none, opened_with, opens_of}
 
@@ -137,14 +138,19 @@ can_answer base body id result =
     if is_stopped base body then Err refusals.Waiting
     else can_answer_open base body id (opened_with false id body.calls.opens) (operation_of base (opened_with false id body.calls.opens)) result
 
+-- the last rows of a refusal by an error
+abbrev pub can_refuse_with : Base → Body → ℤ → OpenCall → ErrorRow → Option Val → Reply
+can_refuse_with base body id o error parameter =
+    if not (is_carried base.tables.types error.parameter parameter) then Err refusals.NotTyped
+    else can_send_outcome base body o (error_apdu error id parameter)
+
 abbrev pub can_refuse_open : Base → Body → ℤ → Option OpenCall → Option Operation → ℕ → Option ErrorRow → Option Val → Reply
 can_refuse_open base body id None operation place error parameter = Err (refusals.NoInvocation id)
 can_refuse_open base body id (Some o) None place error parameter = Err (refusals.NoInvocation id)
 can_refuse_open base body id (Some o) (Some operation) place None parameter = Err refusals.UnknownError
 can_refuse_open base body id (Some o) (Some operation) place (Some error) parameter =
     if not (is_error_of operation place) then Err refusals.NotAllowed
-    else (if not (is_carried base.tables.types error.parameter parameter) then Err refusals.NotTyped
-    else can_send_outcome base body o (error_apdu error id parameter))
+    else can_refuse_with base body id o error parameter
 
 abbrev pub can_refuse : Base → Body → ℤ → ℕ → Option Val → Reply
 can_refuse base body id error parameter =

@@ -3,9 +3,10 @@ use Rattle.std.specs.Prelude.{ℕ, List, [], ◌∷◌, ◌++◌, length, Bool, 
 use Rattle.std.specs.List.{list_any}
 use Rattle.osi_base.specs.declared.words.Proposal.{Proposal}
 use Rattle.osi_base.specs.declared.words.Answers.{Answers}
+use Rattle.osi_base.specs.Limits.{most_transferred}
 use Rattle.dialogue.specs.declared.indication.Indication.{Indication}
 use Rattle.dialogue.specs.declared.indication.Indication.TheVariants as indications
-use Rattle.end_rules.specs.Base.{Base, Fault, is_reliable, most_transferred}
+use Rattle.end_rules.specs.Base.{Base, Fault, is_reliable}
 use Rattle.end_rules.specs.Sets.{Alteration, proposed_ids, altered, fit_alteration}
 use Rattle.end_rules.specs.Messages.{ValueContent, Remote, Unread, Association, Part, Value, DataWord, Values, AlterContext, AlterContextAck, OfData, Message, Session}
 use Rattle.end_rules.specs.State.{Body, Octets, joined}

@@ -4,6 +4,7 @@ use Rattle.std.specs.Prelude.{◌≡◌, ℕ, ◌<◌, ◌≤◌, List, [], ◌�
 use Rattle.osi_base.specs.declared.syntax.Pair.{Pair}
 use Rattle.osi_base.specs.declared.words.SetItem.{SetItem}
 use Rattle.asn1_types.specs.Value.{Value}
+use Rattle.asn1_types.specs.Limits.{most_octets}
 use Rattle.ber_spelling.specs.declared.fault.ReadFault.{ReadFault}
 use Rattle.ber_spelling.specs.declared.fault.ReadFault.TheVariants as fault
 use Rattle.ber_spelling.specs.Rules.{read_at}
@@ -82,7 +83,7 @@ first_of (Err fault.NoMemory) = Short
 
 -- an APDU has at most 262,144 octets
 unfoldable pub first_at : List ℕ → First
-first_at octets = first_of (read_at head_rows any_row false 262144 octets)
+first_at octets = first_of (read_at head_rows any_row false most_octets octets)
 
 -- the first message, and the octets behind it
 abbrev pub front : First → List ℕ → List ℕ

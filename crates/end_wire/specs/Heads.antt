@@ -7,6 +7,7 @@ use Rattle.asn1_types.specs.Value.{Value}
 use Rattle.asn1_types.specs.declared.value.Val.{Val}
 use Rattle.asn1_types.specs.declared.row.TypeId.{TypeId}
 use Rattle.asn1_types.specs.declared.table.TypeTable.{TypeTable}
+use Rattle.asn1_types.specs.Limits.{most_octets}
 use Rattle.ber_spelling.specs.declared.fault.ReadFault.{ReadFault}
 use Rattle.ber_spelling.specs.Rules as ber
 use Rattle.packed_codec.specs.declared.fault.PackedFault.{PackedFault}
@@ -39,9 +40,9 @@ front_head text (Ok x) = packed_head x.0 (drop x.1 text)
 front_head text (Err fault) = None
 
 unfoldable pub spelled_head : Syntax → List ℕ → Option heads.Head
-spelled_head Ber text = whole_head (length text) (ber.read_at head_rows apdu_row false 262144 text)
-spelled_head Der text = whole_head (length text) (ber.read_at head_rows apdu_row true 262144 text)
-spelled_head Packed text = front_head text (packed.read_at head_rows packed_apdu_row 262144 text)
+spelled_head Ber text = whole_head (length text) (ber.read_at head_rows apdu_row false most_octets text)
+spelled_head Der text = whole_head (length text) (ber.read_at head_rows apdu_row true most_octets text)
+spelled_head Packed text = front_head text (packed.read_at head_rows packed_apdu_row most_octets text)
 
 -- ---- the value that it carries
 

@@ -54,6 +54,16 @@ pub fn explicit(number: u32, inner: u32) -> TypeRow
     tagged(Class::Context, number, true, inner)
 }
 
+/// These rows and those behind them.
+pub fn behind(rows: Vec<TypeRow>, more: Vec<TypeRow>) -> Result<Vec<TypeRow>, NoMemory>
+    ensures { IfOk result (λ all. all.items ≡ rows.items ++ more.items) }
+{
+    let mut all = rows;
+    let mut more = more;
+    all.append(&mut more)?;
+    Ok(all)
+}
+
 /// Puts a row behind the others, of which it is known that it may stand there.
 fn add(table: &mut TypeTable, row: TypeRow) -> Result<(), NoMemory>
     requires { refusal table.old row ≡ None }

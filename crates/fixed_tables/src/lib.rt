@@ -8,14 +8,18 @@ mod lists;
 mod making;
 mod pdu;
 mod pdvs;
+mod reasons;
 mod values;
 
-pub use building::{explicit, implicit, part, parts_of, table_of, tagged};
+pub use building::{behind, explicit, implicit, part, parts_of, table_of, tagged};
 pub use laws::{spelled_is_whole, whole_is_spelled};
 pub use lists::{InValue, list_in, list_of};
-pub use making::{any, bits, chosen, integer, name_part, object_id, octets, present, sequence};
+pub use making::{
+    any, bits, chosen, integer, name_part, number_part, object_id, octets, present, sequence,
+};
 pub use pdu::{PduFault, fault_of, whole};
 pub use pdvs::{pdv_in, pdv_value};
+pub use reasons::{reason_in, reason_value};
 pub use values::{
     alternative, inside, maybe_bits, maybe_octets, maybe_oid, number, octet, octets_in, oid_in,
     part_in, small,

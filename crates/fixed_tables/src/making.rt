@@ -17,6 +17,16 @@ pub fn integer(number: i64) -> Val
     }
 }
 
+/// A number as a part, where there is one.
+pub fn number_part(number: Option<i64>) -> Option<Val>
+    ensures { result ≡ option_map tree.integer number }
+{
+    match number {
+        Some(number) => Some(integer(number)),
+        None => None,
+    }
+}
+
 /// A value of OCTET STRING with a copy of these octets.
 pub fn octets(alloc: Global, octets: &Octets) -> Result<Val, NoMemory>
     ensures { IfOk result (λ v. v ≡ tree.octets octets.now) }

@@ -1,5 +1,5 @@
 -- In a module without a fault each type has a row: walking it ends with one, at most 65 types deep.
-use Rattle.std.proofs.Common.{◌≡◌, ℕ, zero, suc, ◌+◌, ◌*◌, ◌≤◌, Bool, true, false, List, [], ◌∷◌, ◌++◌, length, Option, None, Some, refl, sym, ap, subst, ◌∙◌, arith, ℤ}
+use Rattle.std.proofs.Common.{◌≡◌, ℕ, zero, suc, pos, ◌+◌, ◌*◌, ◌≤◌, Bool, true, false, List, [], ◌∷◌, ◌++◌, length, Option, None, Some, refl, sym, ap, subst, ◌∙◌, arith, ℤ}
 use Rattle.std.specs.Prelude.{◌||◌, not, nat_lt, max, map, slice_get, option_map, if◌then◌else◌}
 use Rattle.std.specs.Str.{bytes_eq}
 use Rattle.std.proofs.lemmas.Bool.{ltb-false}
@@ -20,7 +20,8 @@ use Rattle.module_faults.specs.declared.kind.TableKind.TheVariants as kinds
 use Rattle.module_faults.specs.Least.{fault, if_so}
 use Rattle.module_faults.specs.Names.{or_none}
 use Rattle.module_faults.specs.Facts.{Base, truth, numbers, items, other, unknown, Facts, deeper, has_item, takes, default_faults, parts_nesting, plain_facts, type_facts}
-use Rattle.module_compiler.specs.Numbering.{Numbered, item_of, kind_of, class_of, under, base_in, base, truth_number, item_number, number_in, default_number, with_default, part_of}
+use Rattle.asn1_types.specs.Numbered.{kind_numbered, class_numbered}
+use Rattle.module_compiler.specs.Numbering.{Numbered, item_of, under, base_in, base, truth_number, item_number, number_in, default_number, with_default, part_of}
 use Rattle.module_compiler.proofs.Faultless.{alias_slack}
 
 -- ---- lists of faults
@@ -215,14 +216,14 @@ measure_pos env (suc levels) (type_tree line column None (named name)) = omega a
 
 -- ---- rows by numbers that there are
 
-pub class_made : (n : ℕ) → n ≤ 3 → (c : Class) × (class_of n ≡ Some c)
+pub class_made : (n : ℕ) → n ≤ 3 → (c : Class) × (class_numbered (pos n) ≡ Some c)
 class_made zero le = (_, refl)
 class_made (suc zero) le = (_, refl)
 class_made (suc (suc zero)) le = (_, refl)
 class_made (suc (suc (suc zero))) le = (_, refl)
 class_made (suc (suc (suc (suc n)))) le = absurd (omega arith)
 
-pub kind_made : (n : ℕ) → n ≤ 4 → (k : TextKind) × (kind_of n ≡ Some k)
+pub kind_made : (n : ℕ) → n ≤ 4 → (k : TextKind) × (kind_numbered (pos n) ≡ Some k)
 kind_made zero le = (_, refl)
 kind_made (suc zero) le = (_, refl)
 kind_made (suc (suc zero)) le = (_, refl)

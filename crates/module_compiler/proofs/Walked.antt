@@ -22,7 +22,8 @@ use Rattle.module_faults.specs.Places.{is_bad_size}
 use Rattle.module_faults.specs.Locals.{tag_faults, size_faults, in_parts, part_faults, end_faults, plain_faults, type_faults}
 use Rattle.module_faults.specs.Facts.{other, Facts, deeper, with_tags, clash, tags_behind, default_faults, parts_nesting, plain_facts, tagged as tagged_facts, type_facts, parts_show, plain_shows, type_shows, env_of}
 use Rattle.module_compiler.specs.Scope.{Ground, behind}
-use Rattle.module_compiler.specs.Numbering.{Numbered, Walk, after, add, add_if, range_row, most, size_of, item_of, kind_of, is_explicit, tag_row, tagged, part_of, parts_of, note, known, walk_if_new, row_of, row_behind, named_row, plain_row, walk}
+use Rattle.asn1_types.specs.Numbered.{kind_numbered}
+use Rattle.module_compiler.specs.Numbering.{Numbered, Walk, after, add, add_if, range_row, most, size_of, item_of, is_explicit, tag_row, tagged, part_of, parts_of, note, known, walk_if_new, row_of, row_behind, named_row, plain_row, walk}
 use Rattle.module_compiler.proofs.Faultless.{IsFine, AreFine, slack, alias_slack, no_slack, slack_small, alias_slack_small, name_known, StandsBehind, stands, behind_is, name_stands}
 use Rattle.module_compiler.proofs.Trails.{place_typed}
 use Rattle.module_compiler.proofs.Rows.{nothing_first, nothing_behind, Extends, extends_push, Fits, HasRow, has_more, Untagged, plain_has, tag_has, part_made, deeper_pos, deeper_is, nesting_part, measure_pos, class_made, kind_made}
@@ -303,7 +304,7 @@ module _ (all : List Assignment) (recursive : ℕ → Bool) (implicit : Bool) (f
       plain_walked object_id f h well few room s good = added_plain rows.ObjectId (plain_facts env facts object_id) s good (λ g. refl) (omega arith) tt
       plain_walked (text kind) f h well few room s good =
           let k = kind_made kind well in
-          as_result (plain_facts env facts (text kind)) s (add (rows.Text k.0) s) (add_if (kind_of kind) rows.Text s) (ap (λ o. add_if o rows.Text s) k.1)
+          as_result (plain_facts env facts (text kind)) s (add (rows.Text k.0) s) (add_if (kind_numbered (pos kind)) rows.Text s) (ap (λ o. add_if o rows.Text s) k.1)
           (added_plain (rows.Text k.0) (plain_facts env facts (text kind)) s good (λ g. refl) (omega arith) tt)
       plain_walked (sequence_of item) f h well few room s good = item_walked item (plain_facts env facts (sequence_of item)) rows.SequenceOf refl refl (λ id g. refl) f h well few (omega arith) s good
       plain_walked (set_of item) f h well few room s good = item_walked item (plain_facts env facts (set_of item)) rows.SetOf refl refl (λ id g. refl) f h well few (omega arith) s good

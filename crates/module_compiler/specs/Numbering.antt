@@ -8,11 +8,10 @@ use Rattle.asn1_types.specs.declared.row.Item.{Item}
 use Rattle.asn1_types.specs.declared.row.Part.{Part}
 use Rattle.asn1_types.specs.declared.row.TypeId.{TypeId}
 use Rattle.asn1_types.specs.declared.row.Class.{Class}
-use Rattle.asn1_types.specs.declared.row.Class.TheVariants.{Universal, Application, Context, Private}
-use Rattle.asn1_types.specs.declared.row.TextKind.{TextKind}
-use Rattle.asn1_types.specs.declared.row.TextKind.TheVariants.{Utf8, Ia5, Visible, Printable, Numeric}
 use Rattle.asn1_types.specs.declared.row.TypeRow.{TypeRow}
 use Rattle.asn1_types.specs.declared.row.TypeRow.TheVariants as rows
+use Rattle.asn1_types.specs.Numbered.{kind_numbered, class_numbered}
+use Rattle.asn1_types.specs.Limits.{most_octets}
 use Rattle.operation_notation.specs.Tree.{TypeTree, type_tree, PlainTree, boolean, null, integer, enumerated, octets, bits, object_id, text, sequence_of, set_of, sequence, set, choice, named, PartTrees, no_parts, part}
 use Rattle.operation_notation.specs.declared.module.TagText.{TagText}
 use Rattle.operation_notation.specs.declared.module.RangeText.{RangeText}
@@ -76,26 +75,11 @@ most (pos n) = if nat_lt n 4294967296 then Some n else None
 most (negsuc n) = None
 
 abbrev pub size_of : Option RangeText → Option ℕ
-size_of None = Some 262144
+size_of None = Some most_octets
 size_of (Some r) = most r.high
 
 abbrev pub item_of : ItemText → Item
 item_of item = record { name = item.name.text; number = item.number }
-
-abbrev pub kind_of : ℕ → Option TextKind
-kind_of zero = Some Utf8
-kind_of (suc zero) = Some Ia5
-kind_of (suc (suc zero)) = Some Visible
-kind_of (suc (suc (suc zero))) = Some Printable
-kind_of (suc (suc (suc (suc zero)))) = Some Numeric
-kind_of (suc (suc (suc (suc (suc n))))) = None
-
-abbrev pub class_of : ℕ → Option Class
-class_of zero = Some Universal
-class_of (suc zero) = Some Application
-class_of (suc (suc zero)) = Some Context
-class_of (suc (suc (suc zero))) = Some Private
-class_of (suc (suc (suc (suc n)))) = None
 
 abbrev pub add_if : {A : Type 0} → Option A → (A → TypeRow) → Walk TypeId
 add_if None row = none
@@ -122,7 +106,7 @@ tag_row explicit tag inner class = rows.Tagged class tag.number explicit inner
 
 unfoldable pub tagged : Ground → Option TagText → TypeId → Walk TypeId
 tagged scope None inner s = Some (inner, s)
-tagged scope (Some tag) inner s = add_if (class_of tag.class) (tag_row (is_explicit scope tag inner s) tag inner) s
+tagged scope (Some tag) inner s = add_if (class_numbered (pos tag.class)) (tag_row (is_explicit scope tag inner s) tag inner) s
 
 -- ---- defaults (X.680 25.9)
 
@@ -210,7 +194,7 @@ plain_row scope inner (enumerated items) = add (rows.Enumerated (map item_of ite
 plain_row scope inner (octets size) = add_if (size_of size) rows.OctetString
 plain_row scope inner bits = add rows.BitString
 plain_row scope inner object_id = add rows.ObjectId
-plain_row scope inner (text kind) = add_if (kind_of kind) rows.Text
+plain_row scope inner (text kind) = add_if (kind_numbered (pos kind)) rows.Text
 plain_row scope inner (sequence_of item) = inner item >>= λ of. add (rows.SequenceOf of)
 plain_row scope inner (set_of item) = inner item >>= λ of. add (rows.SetOf of)
 plain_row scope inner (sequence ps) = parts_of inner [] ps >>= λ parts. add (rows.Sequence parts)

@@ -2,17 +2,17 @@
 
 ghost use Rattle.std.specs.Prelude.{◌≡◌, ◌+◌, ℕ, List, Option, Some, None, length, map, replicate, slice_get, slice_set, IfOk, IfSome, OnErr, []};
 ghost use Rattle.std.specs.Option.{option_copied};
-ghost use Rattle.std.specs.Str.{bytes_eq};
 ghost use Rattle.module_faults.specs.Names.{find, type_at, or_none};
 ghost use Rattle.module_compiler.specs.Scope.{behind};
 ghost use Rattle.operation_notation.specs.TreeView.{plain_of, parts_of as trees};
-ghost use Rattle.module_compiler.specs.Numbering.{Numbered, Gives, add, note, known, is_choice, base, base_in, range_row, size_of, kind_of, class_of, item_of, item_number, number_in, default_number, part_of, tagged, parts_of, row_of, row_behind, named_row, plain_row, walk, type_row, use_of};
+ghost use Rattle.module_compiler.specs.Numbering.{Numbered, Gives, add, note, known, is_choice, base, base_in, range_row, size_of, item_of, item_number, number_in, default_number, part_of, tagged, parts_of, row_of, row_behind, named_row, plain_row, walk, type_row, use_of};
 
 use crate::fault::Halt;
 use crate::scope::Scope;
 use asn1_types::{
-    Class, Item, Named, Part, Parts, RowRefusal, TextKind, TypeId, TypeRow, TypeTable,
+    Item, Named, Part, Parts, RowRefusal, TypeId, TypeRow, TypeTable, class_numbered, kind_numbered,
 };
+use module_faults::is_same_name;
 use operation_notation::{
     DfltText, DfltValue, ItemText, PartText, PlainText, RangeText, TagText, TypeText, UseText,
 };
@@ -141,33 +141,6 @@ fn size_of(size: &Option<RangeText>) -> Option<u32>
     }
 }
 
-/// The kind of text of this number.
-fn kind_of(number: u8) -> Option<TextKind>
-    ensures { result ≡ kind_of number }
-{
-    match number {
-        0 => Some(TextKind::Utf8),
-        1 => Some(TextKind::Ia5),
-        2 => Some(TextKind::Visible),
-        3 => Some(TextKind::Printable),
-        4 => Some(TextKind::Numeric),
-        _ => None,
-    }
-}
-
-/// The class of this number.
-fn class_of(number: u8) -> Option<Class>
-    ensures { result ≡ class_of number }
-{
-    match number {
-        0 => Some(Class::Universal),
-        1 => Some(Class::Application),
-        2 => Some(Class::Context),
-        3 => Some(Class::Private),
-        _ => None,
-    }
-}
-
 /// The items of an ENUMERATED.
 fn items_of(alloc: Global, items: &[ItemText]) -> Result<Named, NoMemory>
     ensures { IfOk result (λ named. named ≡ map item_of items.now) }
@@ -182,19 +155,12 @@ fn items_of(alloc: Global, items: &[ItemText]) -> Result<Named, NoMemory>
     Ok(named)
 }
 
-/// Whether two names have the same octets.
-fn is_same(a: &Name, b: &Name) -> bool
-    ensures { result ≡ bytes_eq a.now b.now }
-{
-    a.as_bytes() == b.as_bytes()
-}
-
 /// The number of the first item of a name.
 fn item_number(items: &[Item], name: &Name) -> Option<i64>
     ensures { result ≡ item_number items.now name.now }
 {
     for item in items {
-        if is_same(&item.name, name) {
+        if is_same_name(&item.name, name) {
             return Some(item.number);
         }
     }
@@ -263,7 +229,7 @@ impl Numbering {
                     None => !scope.is_implicit(),
                 };
                 let explicit = self.is_choice(inner) || stated;
-                match class_of(tag.class) {
+                match class_numbered(i64::from(tag.class)) {
                     Some(class) => self.add(TypeRow::Tagged {
                         class,
                         number: tag.number,
@@ -373,7 +339,7 @@ impl Numbering {
             },
             PlainText::Bits => self.add(TypeRow::BitString),
             PlainText::ObjectId => self.add(TypeRow::ObjectId),
-            PlainText::Text(kind) => match kind_of(*kind) {
+            PlainText::Text(kind) => match kind_numbered(i64::from(*kind)) {
                 Some(kind) => self.add(TypeRow::Text(kind)),
                 None => Err(Halt::NoTables),
             },

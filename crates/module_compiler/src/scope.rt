@@ -9,7 +9,7 @@ ghost use Rattle.module_compiler.specs.Scope.{behind, behind_by, alias, is_plain
 ghost use Rattle.module_compiler.specs.Kept.{AreFollowed, AreBehind, IsFollowed, IsBehind, IsOneMore, Leads, From};
 
 use indexmap::IndexMap;
-use module_faults::name_places;
+use module_faults::{name_places, type_at};
 use operation_notation::{Assignment, Body, ModuleText, PlainText, TypeText};
 use osi_base::{Name, NoMemory};
 use std::alloc::Global;
@@ -154,10 +154,7 @@ impl<'m> Scope<'m> {
     pub fn type_at(&self, place: u32) -> Option<&'m TypeText>
         ensures { option_copied result ≡ type_at self.now.assignments place }
     {
-        match &self.assignments.get(place as usize)?.body {
-            Body::Typed(of) => Some(of),
-            _ => None,
-        }
+        type_at(self.assignments, place)
     }
 }
 

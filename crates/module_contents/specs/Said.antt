@@ -5,6 +5,7 @@ use Rattle.osi_base.specs.declared.syntax.Syntax.TheVariants.{Ber, Der, Packed}
 use Rattle.osi_base.specs.declared.words.Problem.{Problem}
 use Rattle.asn1_types.specs.declared.value.Val.{Val}
 use Rattle.asn1_types.specs.declared.table.TypeTable.{TypeTable}
+use Rattle.asn1_types.specs.Limits.{most_octets}
 use Rattle.stub_tables.specs.declared.tables.Tables.{Tables}
 use Rattle.stub_tables.specs.declared.operation.Code.{Code}
 use Rattle.stub_tables.specs.declared.operation.Use.{Use}
@@ -19,9 +20,9 @@ use Rattle.end_wire.specs.Heads.{carried_at, value_or_lack}
 
 -- an APDU has at most 262,144 octets, in the packed syntax with those before its value
 abbrev pub room_in : Syntax → ℕ → ℕ
-room_in Ber room = 262144
-room_in Der room = 262144
-room_in Packed room = min room 262144
+room_in Ber room = most_octets
+room_in Der room = most_octets
+room_in Packed room = min room most_octets
 
 abbrev pub spelled_or : Option Val → Carried
 spelled_or None = Unspelled

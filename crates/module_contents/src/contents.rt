@@ -13,6 +13,7 @@ use crate::module_values::{carried, needed};
 use apdu_codec::{HeadFault, Heads};
 use apdu_spelling::{ApduHead, ApduKind};
 use association_words::ValueContent;
+use ber_spelling::are_octets;
 use osi_base::{NoMemory, Octets, Syntax};
 use std::alloc::Global;
 use stub_tables::{Apdu, Code, Returned, Tables, Use};
@@ -178,13 +179,6 @@ fn spelled(
         Err(HeadFault::BadReject) => Ok(None),
         Err(HeadFault::NoMemory) => Err(NoMemory),
     }
-}
-
-/// Does nothing. Its contract says that octets are numbers below 256.
-fn are_octets(octets: &[u8])
-    ensures { AreOctets octets.now }
-{
-    let _octets = octets;
 }
 
 /// What octets of the module's abstract syntax are: the APDU that they spell in a syntax, with its

@@ -3,8 +3,8 @@
 ghost use Rattle.std.specs.Prelude.{◌≡◌, ◌<◌, length, IfOk, true, false, nat_eq};
 ghost use Rattle.std.specs.Option.{option_copied};
 ghost use Rattle.osi_base.specs.declared.syntax.Syntax.TheVariants as syntaxes;
+ghost use Rattle.asn1_types.specs.Limits.{most_octets};
 ghost use Rattle.end_wire.specs.Heads.{value_at, typed_at, carried_at, value_or_lack};
-ghost use Rattle.stub_tables.specs.Uses as lacks;
 ghost use Rattle.module_contents.specs.Said.{room_in, spelled_or, value_needed};
 
 use asn1_types::{TypeId, TypeTable, Val};
@@ -23,7 +23,7 @@ fn ber_value(
     octets: &[u8],
 ) -> Result<Option<Val>, NoMemory>
     requires { of.0 < length types.now }
-    ensures { IfOk result (λ v. spelled_or v ≡ value_at syntaxes.Ber types.now 262144 of.0
+    ensures { IfOk result (λ v. spelled_or v ≡ value_at syntaxes.Ber types.now most_octets of.0
         octets.now) }
 {
     match ber_read(alloc, types, of, octets) {
@@ -48,7 +48,7 @@ fn der_value(
     octets: &[u8],
 ) -> Result<Option<Val>, NoMemory>
     requires { of.0 < length types.now }
-    ensures { IfOk result (λ v. spelled_or v ≡ value_at syntaxes.Der types.now 262144 of.0
+    ensures { IfOk result (λ v. spelled_or v ≡ value_at syntaxes.Der types.now most_octets of.0
         octets.now) }
 {
     match der_read(alloc, types, of, octets) {
@@ -165,13 +165,6 @@ pub(crate) fn needed(
     typed_value(alloc, syntax, types, used.inner, octets.as_slice(), room)
 }
 
-/// Whether nothing may be carried where it is used so.
-fn may_lack(used: &Use) -> bool
-    ensures { result ≡ lacks.may_lack used.now.inner used.now.optional }
-{
-    used.inner.is_none() || used.optional
-}
-
 /// The value that is carried, or its lack where that is allowed; `None` where it is neither.
 pub(crate) fn carried(
     alloc: Global,
@@ -186,7 +179,7 @@ pub(crate) fn carried(
 {
     let Some(used) = used else { return Ok(None) };
     let Some(octets) = octets else {
-        if may_lack(used) {
+        if used.may_lack() {
             return Ok(Some(None));
         }
         return Ok(None);

@@ -21,4 +21,5 @@ pub use faults::least_fault;
 pub use kind::TableKind;
 pub use laws::one_least_fault;
 pub use least::Found;
-pub use names::name_places;
+pub use names::{name_places, type_at};
+pub use places::is_same_name;

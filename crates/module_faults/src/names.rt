@@ -69,6 +69,16 @@ pub fn name_places(
     Ok(places)
 }
 
+/// The type that is assigned at a place.
+pub fn type_at(assignments: &[Assignment], place: u32) -> Option<&TypeText>
+    ensures { option_copied result ≡ type_at assignments.now place }
+{
+    match &assignments.get(place as usize)?.body {
+        Body::Typed(of) => Some(of),
+        _ => None,
+    }
+}
+
 impl<'m> Names<'m> {
     /// The names of these assignments.
     pub fn new(alloc: Global, assignments: &'m [Assignment]) -> Result<Names<'m>, NoMemory>
@@ -107,10 +117,7 @@ impl<'m> Names<'m> {
     pub fn type_at(&self, place: u32) -> Option<&'m TypeText>
         ensures { option_copied result ≡ type_at self.now place }
     {
-        match &self.assignments.get(place as usize)?.body {
-            Body::Typed(of) => Some(of),
-            _ => None,
-        }
+        type_at(self.assignments, place)
     }
 
     /// The place of the type of a name.

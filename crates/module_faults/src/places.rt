@@ -8,7 +8,7 @@ use operation_notation::{RangeText, TagText};
 use osi_base::Name;
 
 /// Whether two names have the same octets.
-pub(crate) fn is_same_name(a: &Name, b: &Name) -> bool
+pub fn is_same_name(a: &Name, b: &Name) -> bool
     ensures { result ≡ bytes_eq a.now b.now }
 {
     a.as_bytes() == b.as_bytes()

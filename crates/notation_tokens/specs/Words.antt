@@ -100,9 +100,6 @@ number most text = if is_decimal text && nat_le (digits_value 10 text) most then
 abbrev pub most_64 : ℕ
 most_64 = 9223372036854775807
 
-abbrev pub most_32 : ℕ
-most_32 = 4294967295
-
 abbrev pub negative : Option ℕ → Option ℤ
 negative None = None
 negative (Some n) = if n == 0 then None else Some (negsuc (n - 1))

@@ -2,7 +2,7 @@
 
 ghost use Rattle.std.specs.Prelude.{◌≡◌, ◌≤◌, ◌<◌, ◌+◌, ◌^◌, length, IfOk};
 ghost use Rattle.notation_tokens.specs.Forms.{is_blank};
-ghost use Rattle.notation_tokens.specs.Lexing.{behind_octets, goes_on_length, word_length, digits_length, number_length, sign_length, single_sign_length, comment_length, piece_of, fits_in, lexed_of};
+ghost use Rattle.notation_tokens.specs.Lexing.{behind_octets, goes_on_length, word_length, digits_length, number_length, sign_length, single_sign_length, comment_length, piece_of, fits_in, lexed_of, most_octets};
 
 use crate::faults::NotationKind;
 use crate::token::{Place, Token, TokenKind, Tokens};
@@ -202,7 +202,7 @@ fn is_white(octet: u8) -> bool
 ///
 /// Where an allocation is refused.
 pub fn cut_text(alloc: Global, text: &[u8]) -> Result<Lexed, NoMemory>
-    requires { length text.now ≤ 1048576 }
+    requires { length text.now ≤ most_octets }
     ensures { IfOk result (λ lexed. lexed ≡ lexed_of text.now) }
 {
     let mut tokens = ListOf::new(alloc);

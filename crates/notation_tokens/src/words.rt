@@ -18,7 +18,7 @@ pub fn is_same(left: &[u8], right: &[u8]) -> bool
 }
 
 /// Whether the text is one of these words.
-fn is_one_of(text: &[u8], words: &[&[u8]]) -> bool
+pub fn is_one_of(text: &[u8], words: &[&[u8]]) -> bool
     ensures { result ≡ list_any (λ word. same text.now word.now) words.now }
 {
     words.iter().any(|word| is_same(text, word))

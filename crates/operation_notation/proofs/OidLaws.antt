@@ -7,8 +7,9 @@ use Rattle.std.specs.Str.Parse.{digits_value}
 use Rattle.std.proofs.lemmas.Bool.{not-true, leb-true, le-leb, false≢true, and_parts}
 use Rattle.std.proofs.lemmas.Bool.Decides.{nat_tests}
 use Rattle.osi_base.specs.Oid.{IsOid}
+use Rattle.osi_base.specs.Limits.{most_32}
 use Rattle.notation_tokens.specs.Lexeme.{Lexeme, same, goes_on}
-use Rattle.notation_tokens.specs.Words.{number, number_of, most_32, is_decimal, is_value_name, is_kind_word, begins_lower, arc_name_of, root_name, place}
+use Rattle.notation_tokens.specs.Words.{number, number_of, is_decimal, is_value_name, is_kind_word, begins_lower, arc_name_of, root_name, place}
 use Rattle.operation_notation.specs.Reading.{Read, number_at, many_at}
 use Rattle.operation_notation.specs.ReadingTypes.{starts_name, arc_name_at, bracketed_at, arc_at, alone_at, named_root_at, root_at, most_second, oid_at}
 use Rattle.operation_notation.specs.Grammar.{One, Then, Nothing, Either, Many, The}

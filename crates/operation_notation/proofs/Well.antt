@@ -3,9 +3,10 @@ use Rattle.std.proofs.Common.{codes, ◌≡◌, ℕ, zero, suc, ◌<◌, ◌≤�
 use Rattle.std.specs.Prelude.{IfOk, ◌&&◌, not, if◌then◌else◌, IsTrue, IfSome}
 use Rattle.std.specs.List.{AllByRecursion}
 use Rattle.std.proofs.lemmas.Bool.{not-true, and_parts}
+use Rattle.osi_base.specs.Limits.{most_32}
 use Rattle.notation_tokens.specs.Forms.{has_form}
 use Rattle.notation_tokens.specs.Lexeme.{Lexeme, same, IsSpan, lexemes}
-use Rattle.notation_tokens.specs.Words.{is_type_name, is_value_name, is_kind_word, is_quoted, is_unsupported, begins_upper, begins_lower, type_name_of, value_name_of, text_kind_of, text_kind_word, located, number_of, most_32}
+use Rattle.notation_tokens.specs.Words.{is_type_name, is_value_name, is_kind_word, is_quoted, is_unsupported, begins_upper, begins_lower, type_name_of, value_name_of, text_kind_of, text_kind_word, located, number_of}
 use Rattle.operation_notation.specs.Grammar.{One, Then, Nothing, Either, Maybe, Many, Behind, Listed, Placed}
 use Rattle.operation_notation.specs.GrammarTypes.{Item, Items, Class, Tag, dflt_value, dflt_text, dflt_of, Absent, Part, Parts, Alternatives, narrow, Leaf, Plain, TypeBehind, Type_of}
 use Rattle.operation_notation.specs.GrammarModules.{NamedList, Code, HeadingSpelled}

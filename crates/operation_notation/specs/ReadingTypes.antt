@@ -1,8 +1,9 @@
 -- Reading types and object identifiers, with the first fault that is met.
 use Rattle.std.specs.Prelude.{ℕ, zero, suc, codes, Bool, true, false, ◌&&◌, ◌||◌, List, [], ◌∷◌, Option, Some, None, is_some, nat_lt, Ok, if◌then◌else◌}
 use Rattle.std.specs.List.{list_any}
+use Rattle.osi_base.specs.Limits.{most_32}
 use Rattle.notation_tokens.specs.Lexeme.{Lexeme, same, begins, goes_on}
-use Rattle.notation_tokens.specs.Words.{most_32, is_type_name, is_value_name, arc_name_of, root_name, text_kind_of}
+use Rattle.notation_tokens.specs.Words.{is_type_name, is_value_name, arc_name_of, root_name, text_kind_of}
 use Rattle.operation_notation.specs.Reading.{◌>>=◌, Read, give, here, refuse, refuse_as, kind_at, token_at, word_at, type_name_at, value_name_at, number_at, number_64_at, int_at, end_at, maybe_at, many_at, listed_at}
 use Rattle.operation_notation.specs.Tree.{TypeTree, type_tree, PlainTree, boolean, null, integer, enumerated, octets, bits, object_id, text, sequence_of, set_of, sequence, set, choice, named}
 use Rattle.operation_notation.specs.TreeView.{parts_of}

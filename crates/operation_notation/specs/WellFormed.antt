@@ -1,6 +1,7 @@
 -- What holds of every module that is read, beside that a text reads as it.
 use Rattle.std.specs.Prelude.{◌≡◌, ◌≤◌, ◌<◌, Bool, true, false, ◌&&◌, not, List, [], ◌∷◌, ◌++◌, length, Option, Some, None, IsTrue, is_some, IfSome}
 use Rattle.std.specs.List.{AllByRecursion}
+use Rattle.osi_base.specs.Limits.{most_32}
 use Rattle.notation_tokens.specs.Forms.{is_word}
 use Rattle.notation_tokens.specs.Words.{is_quoted, is_unsupported, begins_upper, begins_lower}
 use Rattle.operation_notation.specs.Tree.{TypeTree, type_tree, PlainTree, boolean, null, integer, enumerated, octets, bits, object_id, text, sequence_of, set_of, sequence, set, choice, named, PartTrees, no_parts, part}
@@ -48,7 +49,7 @@ MayLack may optional (Some d) = (may ≡ true) × (optional ≡ false) × IsWell
 -- a tag's class is 0 to 3, and its number has 32 bits
 pub record IsTag (t : TagText) : Type 0 where
   pub class : t.class ≤ 3
-  pub number : t.number ≤ 4294967295
+  pub number : t.number ≤ most_32
 
 -- a type whose names have their forms, whose tags and kinds of text are in range, in which an ENUMERATED and a CHOICE have an item,
 -- no alternative of a CHOICE may be absent, and no part of a SEQUENCE or SET is both optional and has a default

@@ -12,8 +12,8 @@ ghost use Rattle.operation_notation.specs.ReadingTypes.{dflt_at, type_words, sta
 use crate::fault::Refusal;
 use crate::module::{DfltText, DfltValue};
 use notation_tokens::words::{
-    arc_word, integer, is_lower_name, is_same, is_unsupported_word, is_upper_name, natural,
-    range_end, text_word, truth,
+    arc_word, integer, is_lower_name, is_one_of, is_same, is_unsupported_word, is_upper_name,
+    natural, range_end, text_word, truth,
 };
 use notation_tokens::{Located, NotationKind, Place, Token};
 use osi_base::{Name, NoMemory};
@@ -55,13 +55,6 @@ fn located(alloc: Global, text: &[u8], place: Place) -> Result<Located, NoMemory
         line: place.line,
         column: place.column,
     })
-}
-
-/// Whether the text is one of these words.
-fn is_one_of(text: &[u8], words: &[&[u8]]) -> bool
-    ensures { result ≡ list_any (λ word. same text.now word.now) words.now }
-{
-    words.iter().any(|word| is_same(text, word))
 }
 
 /// Whether a type begins with this word or sign.

@@ -1,7 +1,7 @@
 //! Parsing object identifiers.
 
 ghost use Rattle.std.specs.Prelude.{◌≡◌, ◌≤◌, ◌<◌, codes, length, IfOk, IfSome, OnOk};
-ghost use Rattle.notation_tokens.specs.Words.{most_32};
+ghost use Rattle.osi_base.specs.Limits.{most_32};
 ghost use Rattle.operation_notation.specs.Reading.{Gives, number_at, many_at};
 ghost use Rattle.notation_tokens.specs.Lexeme.{goes_on};
 ghost use Rattle.operation_notation.specs.ReadingTypes.{bracketed_at, arc_at, named_root_at, root_at, most_second, oid_at};

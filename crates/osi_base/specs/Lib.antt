@@ -1,6 +1,7 @@
 pub mod BitString
 pub mod Bits
 pub mod Failing
+pub mod Hexadecimal
 pub mod Limits
 pub mod Lines
 pub mod MemLines

@@ -12,3 +12,19 @@ text_most = 16777216
 -- how many events a schedule or a script may have
 abbrev pub event_most : ℕ
 event_most = 20000
+
+-- octets of a transfer
+abbrev pub most_transferred : ℕ
+most_transferred = 262400
+
+-- the last number of an activity (X.225 in this project's profile writes at most six digits)
+abbrev pub last_activity : ℕ
+last_activity = 999999
+
+-- marks that are kept
+abbrev pub most_marks : ℕ
+most_marks = 65536
+
+-- the last number of 32 bits
+abbrev pub most_32 : ℕ
+most_32 = 4294967295

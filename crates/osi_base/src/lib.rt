@@ -1,5 +1,6 @@
-//! The words that all layers of the stack share: octets, names, object identifiers, transfer
-//! syntaxes, pairs, kinds of fault, and the traits of the outside.
+//! The words that all layers of the stack share: octets and queues of them, names, object
+//! identifiers, transfer syntaxes, pairs, places in sets of contexts, kinds of fault, how faults
+//! print, and the traits of the outside.
 #![tactic(auto)]
 
 mod acse_word;
@@ -9,6 +10,7 @@ mod copied;
 mod failing;
 mod fault;
 mod files;
+mod hexadecimal;
 mod line;
 mod list;
 mod mem_calls;
@@ -36,6 +38,7 @@ pub use copied::Copied;
 pub use failing::FailingCalls;
 pub use fault::NoMemory;
 pub use files::{FILE_MOST, FileFault, Files};
+pub use hexadecimal::octet_of_digits;
 pub use line::{Failed, Line, LineCall, LineFault, Outcome};
 pub use list::ListOf;
 pub use mem_line::MemLine;

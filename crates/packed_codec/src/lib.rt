@@ -22,6 +22,6 @@ pub use laws::{
     one_spelling, read_is_spelled, read_stays, short_is_within, spelled_is_read, wider_is_long,
     wider_stays, written_is_read,
 };
-pub use measure::packed_len;
+pub use measure::{arcs_len, integer_len, packed_len};
 pub use public::{LIMIT, Read, packed_read, packed_read_within};
 pub use write::packed_write;

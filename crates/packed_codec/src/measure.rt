@@ -22,13 +22,21 @@ fn of_boolean(value: &Val) -> u64
     }
 }
 
-/// Of an INTEGER or ENUMERATED.
+/// The length of the contents of an INTEGER or ENUMERATED.
 #[tactic(auto, unfolding(crate::specs::Numbers::integer_octets))]
+pub fn integer_len(number: i64) -> u64
+    ensures length { result ≡ length (integer_octets number) }
+    ensures few { result ≤ 8 }
+{
+    unpadded(&number.to_be_bytes()).len() as u64
+}
+
+/// Of an INTEGER or ENUMERATED.
 fn of_integer(value: &Val) -> u64
     ensures { result ≡ min (length (number_written value.now)) last_count }
 {
     match &value.node {
-        Node::Int(number) => 1 + unpadded(&number.to_be_bytes()).len() as u64,
+        Node::Int(number) => 1 + integer_len(*number),
         _ => 0,
     }
 }
@@ -79,8 +87,9 @@ fn of_each(numbers: &[u32]) -> u64
     size
 }
 
+/// The length of an OBJECT IDENTIFIER's arcs, of which the first two are one subidentifier.
 #[tactic(auto, unfolding(crate::specs::ObjectIds::arcs_octets))]
-fn of_arcs(arcs: &[u32]) -> u64
+pub fn arcs_len(arcs: &[u32]) -> u64
     ensures { result ≡ min (length (arcs_octets arcs.now)) last_count }
 {
     match arcs {
@@ -96,7 +105,7 @@ fn of_object_id(value: &Val) -> u64
     ensures { result ≡ min (length (object_id_written value.now)) last_count }
 {
     match &value.node {
-        Node::ObjectId(oid) => of_arcs(oid.arcs()).saturating_add(4),
+        Node::ObjectId(oid) => arcs_len(oid.arcs()).saturating_add(4),
         _ => 0,
     }
 }

@@ -1,10 +1,9 @@
 //! Reading values, row by row.
 
 ghost use Rattle.std.specs.Prelude.{◌≡◌, [], ◌+◌, ◌≤◌, ◌<◌, ◌^◌, length, Some, None, slice_get, IfOk};
-ghost use Rattle.std.specs.List.{AllByRecursion};
-ghost use Rattle.asn1_types.specs.Rows.{rows_of_parts};
 ghost use Rattle.asn1_types.specs.Table.{AreSoundRows};
 ghost use Rattle.asn1_types.specs.Writing.{written};
+ghost use Rattle.ber_spelling.specs.Below.{ReadsBelow, ReadsPartsBelow};
 ghost use Rattle.packed_codec.specs.Reading.{Gives, spot_of, GoesOn};
 ghost use Rattle.packed_codec.specs.Rules.{last_size, part_at, present_at, parts_at, sequence_at, items_at, list_at, set_item_at, set_items_at, set_of_at, choice_at, read_by, reads};
 
@@ -85,9 +84,7 @@ fn tagged<'a>(
     limit: u32,
     spot: Spot<'a>,
 ) -> Result<(Val, Spot<'a>), PackedFault>
-    requires below { inner.0 < of.0 }
-    requires row { of.0 ≤ length table.now }
-    requires whole { spot.place + length spot.rest.now < 2 ^ 63 }
+    requires { ReadsBelow inner.0 of.0 (length table.now) spot.place (length spot.rest.now) }
     ensures gives { Gives (λ x. (x.0, spot_of x.1)) result
         (reads table.now inner.0 limit (spot_of spot.entry)) }
     ensures stops { IfOk result (λ x. GoesOn spot.entry.place (length spot.entry.rest.now) x.1) }
@@ -106,9 +103,8 @@ fn choice<'a>(
     limit: u32,
     spot: Spot<'a>,
 ) -> Result<(Val, Spot<'a>), PackedFault>
-    requires below { AllByRecursion (λ m. m < of.0) (rows_of_parts alternatives.now) }
-    requires row { of.0 ≤ length table.now }
-    requires whole { spot.place + length spot.rest.now < 2 ^ 63 }
+    requires { ReadsPartsBelow alternatives.now of.0 (length table.now) spot.place
+        (length spot.rest.now) }
     ensures gives { Gives (λ x. (x.0, spot_of x.1)) result
         (choice_at (reads table.now) alternatives.now limit (spot_of spot.entry)) }
     ensures stops { IfOk result (λ x. GoesOn spot.entry.place (length spot.entry.rest.now) x.1) }
@@ -135,9 +131,7 @@ fn sequence<'a>(
     limit: u32,
     spot: Spot<'a>,
 ) -> Result<(Val, Spot<'a>), PackedFault>
-    requires below { AllByRecursion (λ m. m < of.0) (rows_of_parts parts.now) }
-    requires row { of.0 ≤ length table.now }
-    requires whole { spot.place + length spot.rest.now < 2 ^ 63 }
+    requires { ReadsPartsBelow parts.now of.0 (length table.now) spot.place (length spot.rest.now) }
     ensures gives { Gives (λ x. (x.0, spot_of x.1)) result
         (sequence_at (reads table.now) parts.now limit (spot_of spot.entry)) }
     ensures stops { IfOk result (λ x. GoesOn spot.entry.place (length spot.entry.rest.now) x.1) }
@@ -162,9 +156,7 @@ fn parts_of<'a>(
     limit: u32,
     spot: Spot<'a>,
 ) -> Result<(MaybeVals, Spot<'a>), PackedFault>
-    requires below { AllByRecursion (λ m. m < of.0) (rows_of_parts parts.now) }
-    requires row { of.0 ≤ length table.now }
-    requires whole { spot.place + length spot.rest.now < 2 ^ 63 }
+    requires { ReadsPartsBelow parts.now of.0 (length table.now) spot.place (length spot.rest.now) }
     ensures gives { Gives (λ x. (x.0.items, spot_of x.1)) result
         (parts_at (reads table.now) limit (spot_of spot.entry) parts.now) }
     ensures stops { IfOk result (λ x. GoesOn spot.entry.place (length spot.entry.rest.now) x.1) }
@@ -203,9 +195,8 @@ fn part_of<'a>(
     limit: u32,
     spot: Spot<'a>,
 ) -> Result<(Option<Val>, Spot<'a>), PackedFault>
-    requires below { part.now.inner.0 < of.0 }
-    requires row { of.0 ≤ length table.now }
-    requires whole { spot.place + length spot.rest.now < 2 ^ 63 }
+    requires { ReadsBelow part.now.inner.0 of.0 (length table.now) spot.place
+        (length spot.rest.now) }
     ensures gives { Gives (λ x. (x.0, spot_of x.1)) result
         (part_at (reads table.now part.now.inner.0) part.now limit (spot_of spot.entry)) }
     ensures stops { IfOk result (λ x. GoesOn spot.entry.place (length spot.entry.rest.now) x.1) }
@@ -237,9 +228,7 @@ fn list<'a>(
     limit: u32,
     spot: Spot<'a>,
 ) -> Result<(Val, Spot<'a>), PackedFault>
-    requires below { inner.0 < of.0 }
-    requires row { of.0 ≤ length table.now }
-    requires whole { spot.place + length spot.rest.now < 2 ^ 63 }
+    requires { ReadsBelow inner.0 of.0 (length table.now) spot.place (length spot.rest.now) }
     ensures gives { Gives (λ x. (x.0, spot_of x.1)) result
         (list_at (reads table.now inner.0) limit (spot_of spot.entry)) }
     ensures stops { IfOk result (λ x. GoesOn spot.entry.place (length spot.entry.rest.now) x.1) }
@@ -274,9 +263,7 @@ fn items_of<'a>(
     limit: u32,
     spot: Spot<'a>,
 ) -> Result<(Vals, Spot<'a>), PackedFault>
-    requires below { inner.0 < of.0 }
-    requires row { of.0 ≤ length table.now }
-    requires whole { spot.place + length spot.rest.now < 2 ^ 63 }
+    requires { ReadsBelow inner.0 of.0 (length table.now) spot.place (length spot.rest.now) }
     ensures gives { Gives (λ x. (x.0.items, spot_of x.1)) result
         (items_at (reads table.now inner.0) number limit (spot_of spot.entry)) }
     ensures stops { IfOk result (λ x. GoesOn spot.entry.place (length spot.entry.rest.now) x.1) }
@@ -302,9 +289,7 @@ fn set_of<'a>(
     limit: u32,
     spot: Spot<'a>,
 ) -> Result<(Val, Spot<'a>), PackedFault>
-    requires below { inner.0 < of.0 }
-    requires row { of.0 ≤ length table.now }
-    requires whole { spot.place + length spot.rest.now < 2 ^ 63 }
+    requires { ReadsBelow inner.0 of.0 (length table.now) spot.place (length spot.rest.now) }
     ensures gives { Gives (λ x. (x.0, spot_of x.1)) result
         (set_of_at (written table.now inner.0) (reads table.now inner.0) limit
         (spot_of spot.entry)) }
@@ -340,9 +325,7 @@ fn set_items<'a>(
     limit: u32,
     spot: Spot<'a>,
 ) -> Result<(Vals, Spot<'a>), PackedFault>
-    requires below { inner.0 < of.0 }
-    requires row { of.0 ≤ length table.now }
-    requires whole { spot.place + length spot.rest.now < 2 ^ 63 }
+    requires { ReadsBelow inner.0 of.0 (length table.now) spot.place (length spot.rest.now) }
     ensures gives { Gives (λ x. (x.0.items, spot_of x.1)) result
         (set_items_at (set_item_at (written table.now inner.0) (reads table.now inner.0)) [] number
         limit (spot_of spot.entry)) }
@@ -370,9 +353,7 @@ fn set_item<'a>(
     limit: u32,
     spot: Spot<'a>,
 ) -> Result<(Val, Spot<'a>), PackedFault>
-    requires below { inner.0 < of.0 }
-    requires row { of.0 ≤ length table.now }
-    requires whole { spot.place + length spot.rest.now < 2 ^ 63 }
+    requires { ReadsBelow inner.0 of.0 (length table.now) spot.place (length spot.rest.now) }
     ensures gives { Gives (λ x. (x.0, spot_of x.1)) result
         (set_item_at (written table.now inner.0) (reads table.now inner.0) before.now limit
         (spot_of spot.entry)) }

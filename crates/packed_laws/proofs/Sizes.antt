@@ -1,6 +1,6 @@
 -- The packed spelling of a value has as many octets as are told of it.
-use Rattle.std.proofs.Common.{◌≡◌, refl, true, false, sym, ap, ◌∙◌, arith, ℕ, zero, suc, ◌+◌, ◌-◌, ◌*◌, ◌^◌, ◌≤◌, ◌<◌, ℤ, pos, negsuc, List, [], ◌∷◌, ◌++◌, length}
-use Rattle.std.specs.Prelude.{Bool, not, ◌&&◌, ◌||◌, Option, Some, None, nat_le, nat_lt, slice_get, slice_index, if◌then◌else◌}
+use Rattle.std.proofs.Common.{◌≡◌, refl, true, false, sym, ap, ◌∙◌, arith, ℕ, zero, suc, ◌+◌, ◌-◌, ◌*◌, ◌^◌, ◌≤◌, ◌<◌, ℤ, List, [], ◌∷◌, ◌++◌, length}
+use Rattle.std.specs.Prelude.{Bool, not, ◌&&◌, ◌||◌, Option, Some, None, nat_le, slice_get, slice_index, if◌then◌else◌}
 use Rattle.std.specs.List.{list_all, flat_map}
 use Rattle.std.specs.Int.{bytes_high_first}
 use Rattle.std.proofs.lemmas.Bool.{and_parts, or_cases, leb-true, ltb-true}
@@ -12,13 +12,11 @@ use Rattle.asn1_types.specs.declared.row.TypeRow.{TypeRow}
 use Rattle.asn1_types.specs.declared.row.TypeRow.TheVariants as row
 use Rattle.asn1_types.specs.Rows.{of_row, along}
 use Rattle.asn1_types.specs.Defaults.{may_be_absent, is_default}
-use Rattle.asn1_types.specs.Whole.{number_256}
 use Rattle.asn1_types.specs.Fits.{is_octet, has_32_bits, is_number, part_fits, parts_fit, sequence_fits, values_fit, list_fits, alternative_fits, choice_fits, nothing_fits}
 use Rattle.asn1_types.specs.Rising.{set_rises}
 use Rattle.asn1_types.specs.Value.{Value, boolean, integer, null, octets, bits, object_id, text, parts, list, chosen, MaybeValues, no_parts, absent, present, Values, no_values, value}
 use Rattle.asn1_types.specs.Writing as der
 use Rattle.asn1_types.specs.PackedSize as sizes
-use Rattle.ber_spelling.specs.Fields.{number_from}
 use Rattle.ber_spelling.specs.Primitives as prim
 use Rattle.ber_spelling.specs.Spelling as spelling
 use Rattle.ber_spelling.proofs.UniqueDigits.{unique_128, unique_integer}
@@ -35,17 +33,13 @@ use Rattle.packed_laws.specs.Laws.{PackedHasSize}
 
 -- ---- numbers: the packed contents are those of DER
 
-number-same : (n : ℕ) (os : List ℕ) → number_256 n os ≡ number_from n os
-number-same n [] = refl
-number-same n (o ∷ os) = number-same (256 * n + o) os
-
 padded-same : (os : List ℕ) → prim.is_padded os ≡ is_padded os
 padded-same [] = refl
 padded-same (a ∷ []) = refl
 padded-same (a ∷ b ∷ os) = refl
 
 signed-same : (os : List ℕ) → signed_of os ≡ prim.signed_of os
-signed-same os = ap (λ (k : ℕ). if nat_lt (slice_index os 0) 128 then pos k else negsuc (256 ^ length os - suc k)) (number-same 0 os)
+signed-same os = refl
 
 each-small : (os : List ℕ) → Are os → (i : ℕ) → slice_index os i < 256
 each-small [] h i = omega arith

@@ -4,7 +4,7 @@ use Rattle.std.specs.Prelude.{◌≡◌, ℕ, zero, suc, ◌≤◌, true, false,
 use Rattle.osi_base.specs.declared.presentation_word.PresentationWord as units
 use Rattle.osi_base.specs.declared.presentation_word.PresentationWord.TheVariants as unit
 use Rattle.asn1_types.specs.declared.row.Class.TheVariants.{Context}
-use Rattle.asn1_types.specs.Limits.{most_levels}
+use Rattle.asn1_types.specs.Limits.{most_levels, most_spelled}
 use Rattle.asn1_types.specs.Value.{Value, parts, chosen, MaybeValues, no_parts, absent, present}
 use Rattle.passed_fields.specs.declared.field.Field as known
 use Rattle.passed_fields.specs.Known.{of_row}
@@ -78,5 +78,5 @@ pub record SpellsKnown (carrier : PpduPlace) (word : units.PresentationWord) (oc
   pub value : Value
   pub carried : carries carrier word ≡ true
   pub spelled : KnownIs word false most_levels value octets
-  pub within : length octets ≤ 4294967295
+  pub within : length octets ≤ most_spelled
   pub says : said (read_as word value) ≡ word

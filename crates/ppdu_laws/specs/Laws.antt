@@ -2,6 +2,7 @@
 use Rattle.std.specs.Prelude.{◌≡◌, ℕ, List, true, false, Ok}
 use Rattle.osi_base.specs.declared.presentation_word.PresentationWord as units
 use Rattle.asn1_types.specs.Value.{Value}
+use Rattle.asn1_types.specs.Limits.{most_spelled}
 use Rattle.ber_spelling.specs.Spelling.{Spells}
 use Rattle.presentation_pdus.specs.declared.place.PpduPlace.{PpduPlace}
 use Rattle.presentation_pdus.specs.Rows.{ppdu_rows}
@@ -19,7 +20,7 @@ WrittenPpduIsRead = (carrier : PpduPlace) (word : units.PresentationWord) → Is
 -- is carried.
 abbrev pub PlainPpduIsSpelled : Type 0
 PlainPpduIsSpelled = (carrier : PpduPlace) (word : units.PresentationWord) (octets : List ℕ) → carries carrier word ≡ true → is_written_whole word ≡ true
-    → Spells ppdu_rows (row_of word) false 4294967295 (value_of word) octets → SpellsPpdu carrier word octets
+    → Spells ppdu_rows (row_of word) false most_spelled (value_of word) octets → SpellsPpdu carrier word octets
 
 -- what octets spell in known fields alone is the unit that they spell
 abbrev pub KnownPpduIsSpelled : Type 0
@@ -28,4 +29,4 @@ KnownPpduIsSpelled = (carrier : PpduPlace) (word : units.PresentationWord) (octe
 -- and a value of the table's row that says it
 abbrev pub KnownPpduIsValue : Type 0
 KnownPpduIsValue = (carrier : PpduPlace) (word : units.PresentationWord) (octets : List ℕ) → SpellsKnown carrier word octets
-    → (value : Value) × (said (read_as word value) ≡ word) × Spells ppdu_rows (row_of word) false 4294967295 value octets
+    → (value : Value) × (said (read_as word value) ≡ word) × Spells ppdu_rows (row_of word) false most_spelled value octets

@@ -8,6 +8,7 @@ use Rattle.osi_base.specs.declared.presentation_word.Pdv as pdvs
 use Rattle.osi_base.specs.declared.presentation_word.PresentationWord as units
 use Rattle.osi_base.specs.declared.presentation_word.PresentationWord.TheVariants as unit
 use Rattle.asn1_types.specs.Fits.{has_form}
+use Rattle.asn1_types.specs.Limits.{most_spelled}
 use Rattle.presentation_pdus.specs.declared.place.PpduPlace.{PpduPlace}
 use Rattle.presentation_pdus.specs.declared.place.PpduPlace.TheVariants as place
 use Rattle.presentation_pdus.specs.Rows.{ppdu_rows}
@@ -72,4 +73,4 @@ pub record IsWritable (carrier : PpduPlace) (word : units.PresentationWord) : Ty
   pub carried : carries carrier word ≡ true
   pub whole : is_written_whole word ≡ true
   pub fitting : has_form ppdu_rows (row_of word) (value_of word) ≡ true
-  pub within : length (written_ppdu word) ≤ 4294967295
+  pub within : length (written_ppdu word) ≤ most_spelled

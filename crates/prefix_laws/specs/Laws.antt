@@ -3,7 +3,7 @@ use Rattle.std.specs.Prelude.{◌≡◌, ℕ, ◌<◌, ◌≤◌, List, [], ◌�
 use Rattle.stub_tables.specs.declared.tables.Tables.{Tables}
 use Rattle.tpkt.specs.declared.packet.Packet.{Packet}
 use Rattle.tpkt.specs.declared.packet.Packet.TheVariants.{Tsdu}
-use Rattle.tpkt.specs.Wire.{Tpdu, Splits, begun_after, begun_by, handed_for, handed, tsdu_limit}
+use Rattle.tpkt.specs.Wire.{Tpdu, Splits, begun_after, begun_by, handed_for, handed, tsdu_limit, unit_least, unit_most}
 use Rattle.tpkt.specs.Written.{written_tsdu}
 use Rattle.tpkt.specs.Reader.{nothing, reading}
 use Rattle.association_reading.specs.Front.{all_fronts}
@@ -20,7 +20,7 @@ pub record HandsUpLast (begun stream : List ℕ) (packet : Packet) : Type 0 wher
 
 -- so it is of what is written of a TSDU
 abbrev pub OnlyTheLastPacketHandsUp : Type 0
-OnlyTheLastPacketHandsUp = (size : ℕ) (tsdu : List ℕ) → 128 ≤ size → size ≤ 65531 → length tsdu ≤ tsdu_limit → HandsUpLast [] (written_tsdu size tsdu) (Tsdu tsdu)
+OnlyTheLastPacketHandsUp = (size : ℕ) (tsdu : List ℕ) → unit_least ≤ size → size ≤ unit_most → length tsdu ≤ tsdu_limit → HandsUpLast [] (written_tsdu size tsdu) (Tsdu tsdu)
 
 -- Behind whole messages, a proper beginning of the next brings nothing, and is right so far.
 abbrev pub BeginningsBringNothing : Type 0

@@ -6,7 +6,7 @@ use Rattle.osi_base.specs.declared.presentation_word.PresentationWord as units
 use Rattle.asn1_types.specs.declared.row.Class.TheVariants.{Context}
 use Rattle.asn1_types.specs.declared.row.TypeRow.{TypeRow}
 use Rattle.asn1_types.specs.Rows.{same_class}
-use Rattle.asn1_types.specs.Limits.{most_levels}
+use Rattle.asn1_types.specs.Limits.{most_levels, most_spelled}
 use Rattle.asn1_types.specs.Value.{Value, chosen}
 use Rattle.asn1_types.specs.declared.row.Tag as tags
 use Rattle.ber_spelling.specs.Reading.{◌>>=◌}
@@ -91,7 +91,7 @@ of_value (Err e) = Err (of_fault e)
 
 -- the unit that all of these octets are, or their first fault
 abbrev pub ppdu_at : PpduPlace → List ℕ → Result units.PresentationWord faults.PpduFault
-ppdu_at carrier octets = of_value (all_at (ppdu_run ppdu_rows carrier) 4294967295 octets)
+ppdu_at carrier octets = of_value (all_at (ppdu_run ppdu_rows carrier) most_spelled octets)
 
 abbrev pub FailsPpdu : faults.PpduFault → Result units.PresentationWord faults.PpduFault → Type 0
 FailsPpdu fault.NoMemory read = Unit {0}
@@ -135,5 +135,5 @@ PpduIs place.Ra = UnitIs 6 (Fielded restart_fields [] sequence_tag)
 pub record SpellsPpdu (carrier : PpduPlace) (word : units.PresentationWord) (octets : List ℕ) : Type 0 where
   pub value : Value
   pub spelled : PpduIs carrier false most_levels value octets
-  pub within : length octets ≤ 4294967295
+  pub within : length octets ≤ most_spelled
   pub says : said value ≡ word

@@ -1,6 +1,7 @@
 //! Units of the presentation protocol read and written.
 
 ghost use Rattle.std.specs.Prelude.{◌≡◌, IfOk};
+ghost use Rattle.asn1_types.specs.Limits.{most_spelled};
 ghost use Rattle.fixed_tables.specs.Whole.{GivesWhole, of_whole};
 ghost use Rattle.passed_fields.specs.Front.{all_at};
 ghost use Rattle.presentation_pdus.specs.Rows.{ppdu_rows};
@@ -21,7 +22,7 @@ use std::alloc::Global;
 /// The value that all of the octets are.
 fn whole(alloc: Global, table: &TypeTable, place: PpduPlace, bytes: &[u8]) -> Result<Val, PduFault>
     requires { table.now ≡ ppdu_rows }
-    ensures { GivesWhole result (all_at (ppdu_run ppdu_rows place) 4294967295 bytes.now) }
+    ensures { GivesWhole result (all_at (ppdu_run ppdu_rows place) most_spelled bytes.now) }
 {
     match front(alloc, table, place, bytes) {
         Ok((value, used)) => {

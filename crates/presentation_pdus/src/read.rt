@@ -1,6 +1,7 @@
 //! Units of the presentation protocol read from the left.
 
 ghost use Rattle.std.specs.Prelude.{◌≡◌, ◌+◌, ◌<◌, ◌^◌, length, IfOk, [], Some, None};
+ghost use Rattle.asn1_types.specs.Limits.{most_spelled};
 ghost use Rattle.ber_spelling.specs.Reading.{Gives, GoesOn, opened_of, spot_of};
 ghost use Rattle.ber_spelling.specs.declared.fault.ReadFault.TheVariants.{NotSpelled};
 ghost use Rattle.ber_spelling.specs.Rules.{reads, plain};
@@ -450,7 +451,7 @@ pub(crate) fn front(
     bytes: &[u8],
 ) -> Result<(Val, usize), ReadFault>
     requires all { length table.now ≡ 64 }
-    ensures gives { Gives (λ x. x) result (front_at (ppdu_run table.now place) 4294967295
+    ensures gives { Gives (λ x. x) result (front_at (ppdu_run table.now place) most_spelled
         bytes.now) }
 {
     let scope = Scope {

@@ -5,7 +5,7 @@ ghost use Rattle.fixed_tables.specs.Rows.{part};
 ghost use Rattle.presentation_pdus.specs.Rows.{content_parts, pdv_parts, definition_parts, answer_parts, restored_parts, mode_parts, connect_fields_parts, connect_parts, accept_fields_parts, accept_parts, reject_parts, alter_parts, alter_ack_parts, restart_parts, user_abort_parts, provider_abort_parts, rows_of_values, rows_of_definitions, rows_of_fields, rows_of_connections, rows_of_alterations, rows_of_restarts, ppdu_rows};
 
 use asn1_types::{Class, Parts, TypeId, TypeRow, TypeTable};
-use fixed_tables::{implicit, part, parts_of, table_of, tagged};
+use fixed_tables::{behind, implicit, part, parts_of, table_of, tagged};
 use osi_base::NoMemory;
 use std::alloc::Global;
 use std::marker::Model;
@@ -325,16 +325,6 @@ fn rows_of_restarts(alloc: Global) -> Result<Vec<TypeRow>, NoMemory>
         implicit(1, 5),
         TypeRow::Sequence(provider_abort),
     ]?)
-}
-
-/// These rows and those behind them.
-fn behind(rows: Vec<TypeRow>, more: Vec<TypeRow>) -> Result<Vec<TypeRow>, NoMemory>
-    ensures { IfOk result (λ all. all.items ≡ rows.items ++ more.items) }
-{
-    let mut all = rows;
-    let mut more = more;
-    all.append(&mut more)?;
-    Ok(all)
 }
 
 /// All rows.

@@ -10,7 +10,7 @@ use crate::items::{
     some_list,
 };
 use asn1_types::{TypeId, Val};
-use fixed_tables::{bits, integer, list_of, octets, sequence};
+use fixed_tables::{bits, integer, list_of, number_part, octets, sequence};
 use osi_base::{
     BitString, NoMemory, Octets, PresentationAccept, PresentationConnect, PresentationReject,
     PresentationWord,
@@ -32,15 +32,6 @@ fn octets_part(alloc: Global, string: &Option<Octets>) -> Result<Option<Val>, No
     match string {
         Some(string) => Ok(Some(octets(alloc, string)?)),
         None => Ok(None),
-    }
-}
-
-fn number_part(number: Option<i64>) -> Option<Val>
-    ensures { result ≡ option_map tree.integer number }
-{
-    match number {
-        Some(number) => Some(integer(number)),
-        None => None,
     }
 }
 

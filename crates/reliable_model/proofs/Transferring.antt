@@ -5,8 +5,9 @@ use Rattle.std.specs.Prelude.{Bool, Option, Some, None, nat_eq, nat_le, if◌the
 use Rattle.std.proofs.lemmas.Bool.Decides.{nat_tests}
 use Rattle.std.proofs.lemmas.List.{append_assoc, length-append, length-take-le, take_all}
 use Rattle.osi_base.specs.declared.syntax.Pair.{Pair}
+use Rattle.osi_base.specs.Limits.{most_transferred}
 use Rattle.stub_tables.specs.declared.apdu.Apdu.{Apdu}
-use Rattle.end_rules.specs.Base.{Base, most_transferred}
+use Rattle.end_rules.specs.Base.{Base}
 use Rattle.end_rules.specs.State.{Body, Piece, Octets, Marked, Progress, Encoded, Transfer, Queued, Sending}
 use Rattle.end_rules.specs.State.{joined, highest, from_mark, on_current, is_empty}
 use Rattle.end_rules.specs.Requesting.{begun, resumed}

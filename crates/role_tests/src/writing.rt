@@ -4,7 +4,7 @@
 use crate::sample::{integer, module};
 use Sample::{Error, Invoke, Returns};
 use Syntax::{Ber, Der, Packed};
-use apdu_codec::write_apdu;
+use apdu_codec::{apdu_len, write_apdu};
 use osi_base::{NoMemory, Syntax};
 use std::alloc::Global;
 use std::test::Fail;
@@ -119,7 +119,7 @@ fn apdu(sample: Sample) -> Apdu {
     }
 }
 
-/// Whether an APDU of the module is written as these octets.
+/// Whether an APDU of the module is written as these octets, and has as many.
 fn is_written(
     alloc: Global,
     tables: &Tables,
@@ -127,8 +127,9 @@ fn is_written(
     sample: Sample,
     octets: &[u8],
 ) -> Result<bool, NoMemory> {
-    let written = write_apdu(alloc, syntax, tables, &apdu(sample))?;
-    Ok(written.as_slice() == octets)
+    let apdu = apdu(sample);
+    let written = write_apdu(alloc, syntax, tables, &apdu)?;
+    Ok(written.as_slice() == octets && apdu_len(syntax, tables, &apdu) == octets.len() as u64)
 }
 
 #[test]

@@ -14,7 +14,7 @@ use Rattle.end_rules.specs.Hearing.{problem_if, value_in}
 use Rattle.rose_roles.specs.declared.apdu_problems.Judged.TheVariants as judged
 use Rattle.rose_roles.specs.Heads.{room_in, Carries}
 use Rattle.rose_roles.specs.Values.{IsAllowedIn}
-use Rattle.rose_roles.specs.Judging.{is_right, IsAllowed, IsJudged}
+use Rattle.rose_roles.specs.ApduProblems.{is_right, IsAllowed, IsJudged}
 
 room_le : (s : Syntax) (room : ℕ) → room_in s room ≤ 262144
 room_le syntax.Ber room = omega arith

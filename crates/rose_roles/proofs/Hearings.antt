@@ -18,7 +18,7 @@ use Rattle.rose_roles.specs.declared.apdu_problems.Judged as judgeds
 use Rattle.rose_roles.specs.declared.apdu_problems.Judged.TheVariants as judged
 use Rattle.rose_roles.specs.declared.taken.RoseTaken.TheVariants as taken
 use Rattle.rose_roles.specs.Calls.{Kept, Invoking, called, key_of, side, operation_or_none, AreOpen, opens_in, calls_of}
-use Rattle.rose_roles.specs.Judging as judging
+use Rattle.rose_roles.specs.ApduProblems as judging
 use Rattle.rose_roles.specs.Hearing.{heard_with}
 use Rattle.rose_roles.proofs.Keys.{AreApart}
 use Rattle.rose_roles.proofs.Opens.{found, not_found}

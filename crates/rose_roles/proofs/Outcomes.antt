@@ -26,7 +26,7 @@ use Rattle.rose_roles.specs.declared.apdu_problems.Judged.TheVariants as judged
 use Rattle.rose_roles.specs.declared.taken.RoseTaken.TheVariants as taken
 use Rattle.rose_roles.specs.Calls.{Kept, Invoking, called, AreOpen, calls_of}
 use Rattle.rose_roles.specs.Heads.{Carries, use_by, parameter_placed, invoke_by, result_by, error_by, reject_by, head_by, said_by, is_invocation}
-use Rattle.rose_roles.specs.Judging as judging
+use Rattle.rose_roles.specs.ApduProblems as judging
 use Rattle.rose_roles.specs.Hearing.{heard_with, result_taken, error_taken}
 use Rattle.rose_roles.proofs.Hearings.{Matches, matching, right_is}
 

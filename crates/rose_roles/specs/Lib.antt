@@ -1,6 +1,6 @@
 pub mod Calls
 pub mod Heads
 pub mod Values
-pub mod Judging
+pub mod ApduProblems
 pub mod Hearing
 pub mod Laws

@@ -9,7 +9,7 @@ ghost use Rattle.end_rules.specs.Base.{Carried};
 ghost use Rattle.end_rules.specs.Hearing.{has_links, problem_if, value_in};
 ghost use Rattle.end_rules.specs.Sets.{is_among};
 ghost use Rattle.end_rules.specs.Invoking.{is_linked_to};
-ghost use Rattle.rose_roles.specs.Judging.{silent, operation_called, argument_problem, link_problem, is_right, IsJudged, result_problem, error_problem, known_error_problem};
+ghost use Rattle.rose_roles.specs.ApduProblems.{silent, operation_called, argument_problem, link_problem, is_right, IsJudged, result_problem, error_problem, known_error_problem};
 ghost use Rattle.rose_roles.specs.Heads.{Carries, use_by, parameter_at, parameter_placed};
 
 use crate::called::Called;

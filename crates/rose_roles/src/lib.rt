@@ -3,6 +3,7 @@
 #![tactic(auto)]
 
 mod apdu_problems;
+mod apdus;
 mod called;
 mod invoker;
 mod laws;
@@ -12,6 +13,7 @@ mod taken;
 mod values;
 
 pub use apdu_problems::{has_links, is_linked_to};
+pub use apdus::{error_apdu, invoke_apdu, result_apdu};
 pub use called::Called;
 pub use invoker::Invoker;
 pub use laws::{always_carries, stays_within};

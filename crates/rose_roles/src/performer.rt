@@ -11,7 +11,7 @@ ghost use Rattle.end_rules.specs.State.{close, opens_of};
 ghost use Rattle.end_rules.specs.Hearing.{opening, invoked, value_in, first_problem, problem_if};
 ghost use Rattle.rose_roles.specs.Calls.{Kept, Invoking, called, key_of, AreOpen, calls_of, opens_in};
 ghost use Rattle.rose_roles.specs.Heads.{is_invocation, Carries};
-ghost use Rattle.rose_roles.specs.Judging.{silent, known_problem, early_problem, invoke_problem, IsJudged, IsFree};
+ghost use Rattle.rose_roles.specs.ApduProblems.{silent, known_problem, early_problem, invoke_problem, IsJudged, IsFree};
 ghost use Rattle.rose_roles.specs.Hearing.{Hears, heard_with};
 
 use crate::apdu_problems::{Judged, is_silent_at, judge_argument, link_problem};

@@ -7,7 +7,7 @@ use Rattle.std.proofs.lemmas.Bool.Decides.{leb_tells}
 use Rattle.std.proofs.lemmas.Grind.{common_steps}
 use Rattle.std.proofs.Math.Seq.{take-add, take-length, get_or-append_seam}
 use Rattle.std.proofs.Math.Nat.{eq-or-lt_of_le, zero-mul, mul-le-mul_right}
-use Rattle.rtse.specs.Limits.{transfer_limit}
+use Rattle.osi_base.specs.Limits.{most_transferred}
 use Rattle.rtse.specs.Receiving as received
 use Rattle.rtse.specs.Receiving.{Receiving, highest}
 use Rattle.rtse.specs.declared.incoming.Ended.TheVariants.{Whole, Again}
@@ -96,16 +96,16 @@ next-octets os size k had h =
     let e : (k + 1) * size ≡ k * size + size = grind arith in
     rw (h, e) (sym (take-add (k * size) size os))
 
-few-octets : (os : List ℕ) (size k : ℕ) (had : List ℕ) → length os ≤ transfer_limit → had ≡ take (k * size) os → length had + length (take size (drop (k * size) os)) ≤ transfer_limit
+few-octets : (os : List ℕ) (size k : ℕ) (had : List ℕ) → length os ≤ most_transferred → had ≡ take (k * size) os → length had + length (take size (drop (k * size) os)) ≤ most_transferred
 few-octets os size k had few h =
     let joined : had ++ take size (drop (k * size) os) ≡ take ((k + 1) * size) os = next-octets os size k had h in
     omega (arith, length-append had (take size (drop (k * size) os)), ap length joined, length-take ((k + 1) * size) os)
 
-pub part-taken : (number : ℕ) (os : List ℕ) (size k : ℕ) (r : Receiving) → length os ≤ transfer_limit → IsAt number os size k false r → Taken number os size (k + 1) true r (word_at os size k false)
+pub part-taken : (number : ℕ) (os : List ℕ) (size k : ℕ) (r : Receiving) → length os ≤ most_transferred → IsAt number os size k false r → Taken number os size (k + 1) true r (word_at os size k false)
 part-taken number os size k r few at =
     record {
       record_after = record r { octets = r.octets ++ take size (drop (k * size) os) };
-      is_taken = rw (le-leb (length r.octets + length (take size (drop (k * size) os))) transfer_limit (few-octets os size k r.octets few at.came_so_far)) refl;
+      is_taken = rw (le-leb (length r.octets + length (take size (drop (k * size) os))) most_transferred (few-octets os size k r.octets few at.came_so_far)) refl;
       is_there = record {
         numbered = at.numbered;
         came_so_far = next-octets os size k r.octets at.came_so_far;

@@ -1,14 +1,6 @@
 -- The limits of transfers.
 use Rattle.std.specs.Prelude.{ℕ}
 
--- the most octets of one transfer
-abbrev pub transfer_limit : ℕ
-transfer_limit = 262400
-
--- the highest number of an activity (X.225 in this project's profile writes at most six digits)
-abbrev pub activity_limit : ℕ
-activity_limit = 999999
-
 -- the highest checkpoint, in units of 1,024 octets
 abbrev pub checkpoint_limit : ℕ
 checkpoint_limit = 255

@@ -1,10 +1,10 @@
 -- What an end keeps of the other end's transfers (X.228 7.4, 8.2).
 use Rattle.std.specs.Prelude.{◌≡◌, ℕ, ◌+◌, ◌-◌, ◌<◌, ◌≤◌, ◌==◌, ◌&&◌, nat_lt, nat_le, Bool, true, false, List, [], ◌∷◌, ◌++◌, length, take, if◌then◌else◌, Result, Ok, Err, slice_index, ◌⊎◌, ◌^◌}
+use Rattle.osi_base.specs.Limits.{most_transferred}
 use Rattle.rtse.specs.declared.fault.RtseFault.{RtseFault}
 use Rattle.rtse.specs.declared.fault.RtseFault.TheVariants.{WrongNumber, TooLong, NoMemory}
 use Rattle.rtse.specs.declared.incoming.Ended.{Ended}
 use Rattle.rtse.specs.declared.incoming.Ended.TheVariants.{Whole, Again}
-use Rattle.rtse.specs.Limits.{transfer_limit}
 
 -- The record of the other end's last activity: its number (0 where there was none), the octets that came, how many there were at each mark, the oldest first, and whether the transfer was handed up.
 pub record Receiving : Type 0 where
@@ -41,7 +41,7 @@ started number r =
 -- The next octets come.
 abbrev pub chunked : List ℕ → Receiving → Result Receiving RtseFault
 chunked bytes r =
-    if nat_le (length r.octets + length bytes) transfer_limit
+    if nat_le (length r.octets + length bytes) most_transferred
     then Ok (record r { octets = r.octets ++ bytes })
     else Err TooLong
 
@@ -76,5 +76,5 @@ dropped r = record r { octets = []; marks = [] }
 
 -- what is true of every record
 pub record IsSoundReceiving (r : Receiving) : Type 0 where
-  pub within : length r.octets ≤ transfer_limit
+  pub within : length r.octets ≤ most_transferred
   pub few : highest r < 2 ^ 32

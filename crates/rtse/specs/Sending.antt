@@ -1,8 +1,9 @@
 -- What an end gives of a transfer (X.228 7.4, 8.2): chunks, each but the last with a mark behind it, and the end.
 use Rattle.std.specs.Prelude.{◌≡◌, ℕ, ◌+◌, ◌-◌, ◌*◌, ◌<◌, ◌≤◌, ◌==◌, ◌||◌, nat_le, Bool, true, false, List, length, take, drop, if◌then◌else◌, IsTrue, ◌≢◌}
+use Rattle.osi_base.specs.Limits.{most_transferred, last_activity}
 use Rattle.rtse.specs.declared.outgoing.Step.{Step}
 use Rattle.rtse.specs.declared.outgoing.Step.TheVariants.{Chunk, Mark, End, Wait}
-use Rattle.rtse.specs.Limits.{transfer_limit, activity_limit, checkpoint_limit, window_limit}
+use Rattle.rtse.specs.Limits.{checkpoint_limit, window_limit}
 
 -- a transfer as its sender has it: how many chunks were given, whether what stands behind the last of them is still due, and the highest mark that is confirmed
 pub record Sending : Type 0 where
@@ -71,9 +72,9 @@ IsNext s n = (n ≡ s.confirmed + 1) × (n ≤ marks_given s)
 
 -- what may be sent as a transfer
 pub record MayStart (number : ℕ) (octets : List ℕ) (checkpoint window : ℕ) : Type 0 where
-  pub numbered : (1 ≤ number) × (number ≤ activity_limit)
+  pub numbered : (1 ≤ number) × (number ≤ last_activity)
   pub some : 1 ≤ length octets
-  pub within : length octets ≤ transfer_limit
+  pub within : length octets ≤ most_transferred
   pub checkpoint_within : checkpoint ≤ checkpoint_limit
   pub window_within : (1 ≤ window) × (window ≤ window_limit)
 
@@ -81,6 +82,6 @@ pub record MayStart (number : ℕ) (octets : List ℕ) (checkpoint window : ℕ)
 pub record IsSoundSending (s : Sending) : Type 0 where
   pub may : MayStart s.number s.octets s.checkpoint s.window
   pub before_end : s.chunks ≢ 0 → (s.chunks - 1) * size_of s < length s.octets
-  pub few : s.chunks ≤ transfer_limit
+  pub few : s.chunks ≤ most_transferred
   pub some_due : IsTrue s.due → 1 ≤ s.chunks
   pub given : s.confirmed ≤ marks_given s

@@ -1,7 +1,7 @@
 //! The end that sends a transfer.
 
 ghost use Rattle.std.specs.Prelude.{◌≡◌, ◌*◌, ◌<◌, ◌≤◌, length, IfOk, OnOk, OnErr, IfErr};
-ghost use Rattle.rtse.specs.Limits.{transfer_limit};
+ghost use Rattle.osi_base.specs.Limits.{most_transferred};
 ghost use Rattle.rtse.specs.Sending.{MayStart, IsNext, started, step_of, stepped, resumed, size_of, is_last, behind, chunk_behind, closed, marks_given, waits};
 
 use crate::fault::RtseFault;
@@ -149,7 +149,7 @@ impl Outgoing {
     fn size(&self) -> usize
         ensures size { result ≡ size_of self.now }
         ensures some { 1 ≤ result }
-        ensures within { result ≤ transfer_limit }
+        ensures within { result ≤ most_transferred }
     {
         match self.checkpoint {
             0 => self.octets.len(),
@@ -158,7 +158,7 @@ impl Outgoing {
     }
 
     fn is_last(&self, n: u32) -> bool
-        requires { n ≤ transfer_limit }
+        requires { n ≤ most_transferred }
         ensures { result ≡ is_last self.now n }
     {
         self.octets.len() <= n as usize * self.size()
@@ -191,7 +191,7 @@ impl Outgoing {
 
     fn closed(&self) -> u32
         ensures closed { result ≡ closed self.now }
-        ensures few { result ≤ transfer_limit }
+        ensures few { result ≤ most_transferred }
     {
         if self.due {
             self.chunks - 1

@@ -5,6 +5,7 @@ use Rattle.std.proofs.lemmas.Bool.{lt-ltb}
 use Rattle.osi_base.specs.declared.presentation_word.Pdv as pdvs
 use Rattle.osi_base.specs.declared.presentation_word.PdvContent as contents
 use Rattle.osi_base.specs.declared.presentation_word.PdvContent.TheVariants as content
+use Rattle.osi_base.specs.Limits.{most_transferred}
 use Rattle.asn1_types.specs.Table.{refusal, AreSoundRows}
 use Rattle.asn1_types.specs.Rows.{nesting, openings}
 use Rattle.asn1_types.specs.Value.{Value}
@@ -19,7 +20,7 @@ use Rattle.fixed_tables.proofs.Sound.{sound_of}
 use Rattle.fixed_tables.proofs.WholeLaws.{whole_is_spelled, spelled_is_whole}
 use Rattle.rtse_apdus.specs.TransferRows.{transfer_row, transfer_rows}
 use Rattle.fixed_tables.specs.Pdvs.{content_in, content_value, pdv_in, pdv_value}
-use Rattle.rtse_apdus.specs.Transfer.{transfer_most, of_pdv, transfer_at, written_transfer, SpellsTransfer, IsTransfer, TransferIsSpelled, SpelledTransferIsRead, WrittenTransferIsRead}
+use Rattle.rtse_apdus.specs.Transfer.{of_pdv, transfer_at, written_transfer, SpellsTransfer, IsTransfer, TransferIsSpelled, SpelledTransferIsRead, WrittenTransferIsRead}
 
 pub transfer_rows_added : all_added [] transfer_rows ≡ true
 unfolding refusal nesting openings
@@ -29,19 +30,19 @@ transfer_sound : AreSoundRows transfer_rows
 transfer_sound = sound_of transfer_rows transfer_rows_added refl
 
 pub transfer_is_spelled : TransferIsSpelled
-transfer_is_spelled pdv text are e = by_read (whole_at transfer_rows transfer_row transfer_most text) refl e
+transfer_is_spelled pdv text are e = by_read (whole_at transfer_rows transfer_row most_transferred text) refl e
   where
-    by_read : (r : Result Value units.PduFault) → whole_at transfer_rows transfer_row transfer_most text ≡ r → of_pdv r ≡ Ok pdv → SpellsTransfer pdv text
+    by_read : (r : Result Value units.PduFault) → whole_at transfer_rows transfer_row most_transferred text ≡ r → of_pdv r ≡ Ok pdv → SpellsTransfer pdv text
     by_read (Ok v) h e = record {
       value = v;
-      spelled = whole_is_spelled transfer_rows transfer_row transfer_most text v are h;
+      spelled = whole_is_spelled transfer_rows transfer_row most_transferred text v are h;
       says = cc;
     }
     by_read (Err f) h e = absurd cc
 
 pub spelled_transfer_is_read : SpelledTransferIsRead
 spelled_transfer_is_read pdv text p =
-    ap of_pdv (spelled_is_whole transfer_rows transfer_row transfer_most text p.value transfer_sound p.spelled) ∙ ap (λ (x : pdvs.Pdv). Ok x) p.says
+    ap of_pdv (spelled_is_whole transfer_rows transfer_row most_transferred text p.value transfer_sound p.spelled) ∙ ap (λ (x : pdvs.Pdv). Ok x) p.says
 
 natural_is : (n : ℕ) → n ≤ 32767 → natural_in (pos n) ≡ n
 natural_is n le = (let lt : n < 2 ^ 32 = omega arith in rw (lt-ltb n (2 ^ 32) lt) refl)
@@ -63,7 +64,7 @@ written_transfer_is_read p w =
     let text : List ℕ = written_transfer p in
     let spells : SpellsTransfer p text = record {
       value = pdv_value p;
-      spelled = written_spelled whole_is transfer_rows transfer_sound transfer_row (pdv_value p) w.fitting false transfer_most (omega arith) w.within;
+      spelled = written_spelled whole_is transfer_rows transfer_sound transfer_row (pdv_value p) w.fitting false most_transferred (omega arith) w.within;
       says = says p.transfer p.id p.content w.identifier;
     } in
     (spells, spelled_transfer_is_read p text spells)

@@ -1,6 +1,7 @@
 -- What the octets of a transfer are: one presentation data value with its context (X.226 8.4.2), of at most 262,400 octets.
 use Rattle.std.specs.Prelude.{◌≡◌, ℕ, ◌≤◌, true, false, List, length, Result, Ok, Err}
 use Rattle.osi_base.specs.declared.presentation_word.Pdv as pdvs
+use Rattle.osi_base.specs.Limits.{most_transferred}
 use Rattle.asn1_types.specs.Fits.{has_form}
 use Rattle.asn1_types.specs.Value.{Value}
 use Rattle.ber_spelling.specs.Octets.{AreOctets}
@@ -11,15 +12,12 @@ use Rattle.fixed_tables.specs.Pdvs.{pdv_in, pdv_value}
 use Rattle.fixed_tables.specs.Whole.{whole_at}
 use Rattle.rtse_apdus.specs.TransferRows.{transfer_row, transfer_rows}
 
-abbrev pub transfer_most : ℕ
-transfer_most = 262400
-
 -- ---- octets
 
 -- octets spell this value with its context
 pub record SpellsTransfer (pdv : pdvs.Pdv) (text : List ℕ) : Type 0 where
   pub value : Value
-  pub spelled : Spells transfer_rows transfer_row false transfer_most value text
+  pub spelled : Spells transfer_rows transfer_row false most_transferred value text
   pub says : pdv_in value ≡ pdv
 
 abbrev pub of_pdv : Result Value units.PduFault → Result pdvs.Pdv units.PduFault
@@ -28,7 +26,7 @@ of_pdv (Err e) = Err e
 
 -- the value with its context that all of these octets spell, or their first fault
 abbrev pub transfer_at : List ℕ → Result pdvs.Pdv units.PduFault
-transfer_at text = of_pdv (whole_at transfer_rows transfer_row transfer_most text)
+transfer_at text = of_pdv (whole_at transfer_rows transfer_row most_transferred text)
 
 abbrev pub written_transfer : pdvs.Pdv → List ℕ
 written_transfer pdv = written transfer_rows transfer_row (pdv_value pdv)
@@ -37,7 +35,7 @@ written_transfer pdv = written transfer_rows transfer_row (pdv_value pdv)
 pub record IsTransfer (pdv : pdvs.Pdv) : Type 0 where
   pub identifier : pdv.id ≤ 32767
   pub fitting : has_form transfer_rows transfer_row (pdv_value pdv) ≡ true
-  pub within : length (written_transfer pdv) ≤ transfer_most
+  pub within : length (written_transfer pdv) ≤ most_transferred
 
 -- ---- laws
 

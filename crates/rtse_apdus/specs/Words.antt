@@ -1,10 +1,11 @@
 -- The APDUs of reliable transfer and the values that they stand for (X.228 9).
-use Rattle.std.specs.Prelude.{◌==◌, ℕ, ℤ, pos, List, Option, Some, None, if◌then◌else◌}
+use Rattle.std.specs.Prelude.{◌==◌, ℕ, pos, Option, Some, if◌then◌else◌}
 use Rattle.osi_base.specs.declared.rtse_word.ConnectionData as connections
 use Rattle.osi_base.specs.declared.rtse_word.ConnectionData.TheVariants as connection
 use Rattle.osi_base.specs.declared.rtse_word.Rtse as apdus
 use Rattle.osi_base.specs.declared.rtse_word.Rtse.TheVariants as apdu
 use Rattle.asn1_types.specs.Value.{Value, integer, octets, parts, chosen, any, no_parts, present}
+use Rattle.fixed_tables.specs.Reasons.{reason_in, reason_value}
 use Rattle.fixed_tables.specs.Values.{part_in, number_or, small_or, octets_in, alternative, inside}
 
 -- ---- what a value says
@@ -18,9 +19,6 @@ request_in v = apdu.OpenRequest (small_or (pos 0) (part_in 0 v)) (small_or (pos 
 
 abbrev pub accept_in : Option Value → apdus.Rtse
 accept_in v = apdu.OpenAccept (small_or (pos 0) (part_in 0 v)) (small_or (pos 3) (part_in 1 v)) (data_in (part_in 2 v))
-
-abbrev pub reason_in : Option Value → ℤ
-reason_in v = number_or (pos 0) (part_in 0 v)
 
 -- the APDU of an alternative with its value
 abbrev pub said_by : ℕ → Option Value → apdus.Rtse
@@ -39,9 +37,6 @@ said v = said_by (alternative (Some v)) (inside (Some v))
 abbrev pub data_value : connections.ConnectionData → Value
 data_value (connection.Open value) = chosen 0 (any value)
 data_value (connection.Recover reference common) = chosen 1 (parts (present (octets reference) (present (octets common) no_parts)))
-
-abbrev pub reason_value : ℤ → Value
-reason_value reason = parts (present (integer reason) no_parts)
 
 abbrev pub value_of : apdus.Rtse → Value
 value_of (apdu.OpenRequest checkpoint window mode data_) = chosen 0 (parts (present (integer (pos checkpoint)) (present (integer (pos window)) (present (integer mode) (present (data_value data_) no_parts)))))

@@ -9,13 +9,14 @@ use Rattle.asn1_types.specs.Fits.{is_number, octets_fit}
 use Rattle.asn1_types.specs.Value.{octets}
 use Rattle.asn1_types.specs.Whole.{is_whole}
 use Rattle.asn1_types.specs.Writing.{written}
+use Rattle.asn1_types.specs.Limits.{most_spelled}
 use Rattle.rtse_apdus.specs.Rows.{rtse_row, rtse_rows}
 use Rattle.rtse_apdus.specs.Words.{value_of}
 use Rattle.rtse_apdus.specs.Reading.{limit_of}
 
 -- octets, at most 4,294,967,295
 abbrev pub are_octets : List ℕ → Bool
-are_octets os = octets_fit 4294967295 (octets os)
+are_octets os = octets_fit most_spelled (octets os)
 
 abbrev pub can_carry : connections.ConnectionData → Bool
 can_carry (connection.Open value) = is_whole value

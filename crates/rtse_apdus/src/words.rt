@@ -2,11 +2,12 @@
 
 ghost use Rattle.std.specs.Prelude.{◌≡◌, IfOk};
 ghost use Rattle.std.specs.Option.{option_copied};
-ghost use Rattle.rtse_apdus.specs.Words.{data_in, request_in, accept_in, reason_in, said_by, said, data_value, reason_value, value_of};
+ghost use Rattle.rtse_apdus.specs.Words.{data_in, request_in, accept_in, said_by, said, data_value, value_of};
 
 use asn1_types::Val;
 use fixed_tables::{
-    alternative, any, chosen, inside, integer, number, octets, octets_in, part_in, sequence, small,
+    alternative, any, chosen, inside, integer, number, octets, octets_in, part_in, reason_in,
+    reason_value, sequence, small,
 };
 use osi_base::{ConnectionData, NoMemory, Rtse};
 use std::alloc::Global;
@@ -45,12 +46,6 @@ fn accept_in(alloc: Global, value: Option<&Val>) -> Result<Rtse, NoMemory>
     })
 }
 
-fn reason_in(value: Option<&Val>) -> i64
-    ensures { result ≡ reason_in (option_copied value.entry) }
-{
-    number(part_in(0, value), 0)
-}
-
 /// The APDU that a value says.
 pub(crate) fn said(alloc: Global, value: &Val) -> Result<Rtse, NoMemory>
     ensures { IfOk result (λ x. x ≡ said value.now) }
@@ -87,12 +82,6 @@ fn data_value(alloc: Global, carried: &ConnectionData) -> Result<Val, NoMemory>
             chosen(alloc, 1, sequence(parts))
         }
     }
-}
-
-fn reason_value(alloc: Global, reason: i64) -> Result<Val, NoMemory>
-    ensures { IfOk result (λ v. v ≡ reason_value reason) }
-{
-    Ok(sequence(vec![in alloc; Some(integer(reason))]?))
 }
 
 /// The value that says an APDU.

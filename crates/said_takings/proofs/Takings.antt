@@ -17,7 +17,7 @@ use Rattle.dialogue.specs.declared.call.Call.{Call}
 use Rattle.dialogue.specs.declared.call.Call.TheVariants as the_calls
 use Rattle.dialogue.specs.declared.call.CallRefusal.TheVariants as refusals
 use Rattle.dialogue.specs.declared.indication.Indication.{Indication}
-use Rattle.end_rules.specs.Base.{Base, Spellings, Fault, Item, most_marks}
+use Rattle.end_rules.specs.Base.{Base, Spellings, Fault, Item}
 use Rattle.end_rules.specs.Sets.{Alteration, pair_of, is_fixed, below, next_number}
 use Rattle.end_rules.specs.State.{Body, Sets, Calls, OpenCall, NoAnswer, opened_with, is_up, is_carrying, is_joined, passes_over}
 use Rattle.end_rules.specs.Messages.{Message, Transport, Session, TransportUnit, ConnectionRequest, ConnectionConfirm, DisconnectRequest, TransportError, Value, Accepting}
@@ -40,6 +40,7 @@ use Rattle.end_rules.specs.History.{after_broke, broken_phase}
 use Rattle.end_rules.specs.World.{Shared, shared_sent}
 use Rattle.osi_base.specs.declared.words.Side.{Side}
 use Rattle.osi_base.specs.declared.presentation_word.PresentationAccept.{PresentationAccept}
+use Rattle.osi_base.specs.Limits.{most_marks}
 use Rattle.agreement.specs.Sets.{Role, is_initiator}
 use Rattle.agreement.specs.Sets.Role.{Initiator, Responder}
 use Rattle.end_model.specs.Seen.{Free}

@@ -7,6 +7,7 @@ use Rattle.osi_base.specs.declared.syntax.Pair.{Pair}
 use Rattle.osi_base.specs.declared.words.SetItem.{SetItem}
 use Rattle.osi_base.specs.declared.words.Answers.{Answers}
 use Rattle.osi_base.specs.declared.acse_word.Acse.TheVariants as acse
+use Rattle.osi_base.specs.Limits.{most_marks, last_activity}
 use Rattle.asn1_types.specs.declared.value.Val.{Val}
 use Rattle.stub_tables.specs.declared.tables.Tables.{Tables}
 use Rattle.stub_tables.specs.declared.apdu.Apdu.{Apdu}
@@ -19,7 +20,7 @@ use Rattle.dialogue.specs.declared.config.Phase.TheVariants.{Idle, Opening, Up, 
 use Rattle.dialogue.specs.declared.call.Call.{Call}
 use Rattle.dialogue.specs.declared.call.Call.TheVariants as the_calls
 use Rattle.dialogue.specs.declared.call.CallRefusal.TheVariants as refusals
-use Rattle.end_rules.specs.Base.{Base, Spellings, Fault, last_activity, most_marks}
+use Rattle.end_rules.specs.Base.{Base, Spellings, Fault}
 use Rattle.end_rules.specs.Sets.{Alteration, pair_of, is_fixed}
 use Rattle.end_rules.specs.State.{Body, Link, Calls, Sending, OpenCall, Queued, Transfer, Encoded, Suspended, NoAnswer, opened_with, is_up, is_broken, is_carrying, is_joined, is_current, is_suspended, is_free, passes_over, on_current, highest, pieces_of, confirmed_of, joined}
 use Rattle.end_rules.specs.Messages.{Message, Session, TransportUnit, ConnectionRequest, ConnectionConfirm, DisconnectRequest, TransportError, ValueContent, Value, Association, Part, Plea, UserValues}

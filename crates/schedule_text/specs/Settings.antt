@@ -11,6 +11,7 @@ use Rattle.dialogue.specs.declared.config.ConfigRefusal.{ConfigRefusal}
 use Rattle.dialogue.specs.declared.config.ConfigRefusal.TheVariants as refusals
 use Rattle.dialogue.specs.declared.config.Mode.{Mode}
 use Rattle.dialogue.specs.declared.config.Mode.TheVariants.{Bare, Direct, Reliable}
+use Rattle.end_rules.specs.Base.{is_bare}
 use Rattle.end_config.specs.Refusing.{config_refusal}
 use Rattle.script_lines.specs.declared.fault.ScriptKind.TheVariants.{BadSetup}
 use Rattle.script_lines.specs.declared.line_fault.LineFault.{LineFault}
@@ -36,11 +37,6 @@ mode_or_direct (Some mode) = mode
 abbrev pub mode_of : Setting → Mode
 mode_of s = mode_or_direct s.mode
 
-abbrev pub is_bare_mode : Mode → Bool
-is_bare_mode Bare = true
-is_bare_mode Direct = false
-is_bare_mode Reliable = false
-
 abbrev pub default_context : Tables → Proposal
 default_context tables = record { id = 5; abstract_name = tables.name_oid; transfers = name_of Ber ∷ [] }
 
@@ -50,7 +46,7 @@ or_default tables (p ∷ ps) = p ∷ ps
 
 -- the contexts that an end proposes: none as a responder or in bare mode
 abbrev pub contexts_of : Tables → Bool → Setting → List Proposal
-contexts_of tables initiator s = if not initiator || is_bare_mode (mode_of s) then [] else or_default tables s.contexts
+contexts_of tables initiator s = if not initiator || is_bare (mode_of s) then [] else or_default tables s.contexts
 
 abbrev pub all_syntaxes : List (List ℕ)
 all_syntaxes = name_of Ber ∷ name_of Der ∷ name_of Packed ∷ []
@@ -62,7 +58,7 @@ accepted_of (Some names) = names
 -- the syntaxes that an end accepts
 abbrev pub accepts_of : Bool → Setting → List (List ℕ)
 accepts_of initiator s =
-    if is_bare_mode (mode_of s) then [] else if initiator then accepted_of s.accepted_by_a else accepted_of s.accepted_by_b
+    if is_bare (mode_of s) then [] else if initiator then accepted_of s.accepted_by_a else accepted_of s.accepted_by_b
 
 abbrev pub names_for : Setting → Side → Option (List (List ℕ))
 names_for s A = s.accepted_by_a

@@ -7,6 +7,7 @@ use Rattle.osi_base.specs.declared.words.Proposal.{Proposal}
 use Rattle.stub_tables.specs.declared.tables.Tables.{Tables}
 use Rattle.dialogue.specs.declared.config.Config.{Config}
 use Rattle.dialogue.specs.declared.config.Mode.TheVariants.{Bare, Direct, Reliable}
+use Rattle.end_rules.specs.Base.{is_bare}
 use Rattle.script_lines.specs.declared.fault.ScriptKind.TheVariants.{UnknownWord, BadSetup}
 use Rattle.script_lines.specs.declared.syntax.EndsBefore.TheVariants.{Nothing}
 use Rattle.script_lines.specs.Reading.{Reading, ◌>>=◌, or_kind}
@@ -15,7 +16,7 @@ use Rattle.script_lines.specs.Syntaxes.{syntaxes_at}
 use Rattle.schedule_text.specs.declared.setup_line.ModeLine.{ModeLine}
 use Rattle.schedule_text.specs.declared.setting.Modes.{Modes}
 use Rattle.schedule_text.specs.declared.setting.Setting.{Setting}
-use Rattle.schedule_text.specs.Settings.{mode_of, is_bare_mode, names_for, settled}
+use Rattle.schedule_text.specs.Settings.{mode_of, names_for, settled}
 use Rattle.schedule_text.specs.Events.{side_of}
 
 -- where the ends run it and refuse neither configuration
@@ -51,7 +52,7 @@ has_lines s = is_filled s.contexts || is_some s.accepted_by_a || is_some s.accep
 -- bare mode has neither
 abbrev pub with_mode : Modes → Tables → Setting → ModeLine → Reading Setting
 with_mode modes tables s line =
-    if is_bare_mode line.mode && has_lines s then Err BadSetup
+    if is_bare line.mode && has_lines s then Err BadSetup
     else kept_settled modes tables (record s { mode = Some line.mode; checkpoint = line.checkpoint; window = line.window })
 
 -- one line names the mode
@@ -74,7 +75,7 @@ new_context modes tables s id rest =
 -- one line names a context, and none in bare mode
 abbrev pub context_line : Modes → Tables → Setting → List ℕ → Reading Setting
 context_line modes tables s text =
-    if is_bare_mode (mode_of s) then Err BadSetup else (number_at text >>= λ id. new_context modes tables s id.0 id.1)
+    if is_bare (mode_of s) then Err BadSetup else (number_at text >>= λ id. new_context modes tables s id.0 id.1)
 
 -- ---- accepts
 
@@ -95,7 +96,7 @@ accepts_fields modes tables s text = do
 
 -- one line names what an end accepts, and none in bare mode
 abbrev pub accepts_line : Modes → Tables → Setting → List ℕ → Reading Setting
-accepts_line modes tables s text = if is_bare_mode (mode_of s) then Err BadSetup else accepts_fields modes tables s text
+accepts_line modes tables s text = if is_bare (mode_of s) then Err BadSetup else accepts_fields modes tables s text
 
 -- ---- all lines of the setup
 

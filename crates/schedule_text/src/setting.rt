@@ -3,8 +3,9 @@
 ghost use Rattle.std.specs.Prelude.{◌≡◌, ◌∷◌, [], IfOk, ◌≢◌, OnOk, None};
 ghost use Rattle.script_lines.specs.Reading.{Gives};
 ghost use Rattle.end_config.specs.Refusing.{config_refusal};
-ghost use Rattle.schedule_text.specs.Settings.{runs, mode_of, is_bare_mode, default_context, contexts_of, all_syntaxes, accepted_of, accepts_of, config_of, fault_of, accepted, accepted_config, settled, names_for};
+ghost use Rattle.schedule_text.specs.Settings.{runs, mode_of, default_context, contexts_of, all_syntaxes, accepted_of, accepts_of, config_of, fault_of, accepted, accepted_config, settled, names_for};
 
+use association_ground::is_bare;
 use dialogue::{Config, ConfigRefusal, Mode};
 use end_config::check_config;
 use osi_base::{Copied, ListOf, NoMemory, Octets, Oids, Proposal, Proposals, Side, Syntax};
@@ -59,16 +60,6 @@ pub(crate) fn mode_of(setting: &Setting) -> Mode
     }
 }
 
-pub(crate) fn is_bare_mode(mode: Mode) -> bool
-    ensures { result ≡ is_bare_mode mode }
-{
-    match mode {
-        Mode::Bare => true,
-        Mode::Direct => false,
-        Mode::Reliable => false,
-    }
-}
-
 /// The context that an initiator proposes where no line names one.
 fn default_context(alloc: Global, tables: &Tables) -> Result<Proposal, NoMemory>
     ensures { IfOk result (λ p. p ≡ default_context tables.now) }
@@ -91,7 +82,7 @@ fn contexts_of(
 ) -> Result<Proposals, NoMemory>
     ensures { IfOk result (λ ps. ps ≡ contexts_of tables.now initiator setting.now) }
 {
-    if !initiator || is_bare_mode(mode_of(setting)) {
+    if !initiator || is_bare(mode_of(setting)) {
         return Ok(ListOf::new(alloc));
     }
     if setting.contexts.len() > 0 {
@@ -127,7 +118,7 @@ fn accepted_of(alloc: Global, named: &Option<Oids>) -> Result<Oids, NoMemory>
 fn accepts_of(alloc: Global, initiator: bool, setting: &Setting) -> Result<Oids, NoMemory>
     ensures { IfOk result (λ names. names ≡ accepts_of initiator setting.now) }
 {
-    if is_bare_mode(mode_of(setting)) {
+    if is_bare(mode_of(setting)) {
         return Ok(ListOf::new(alloc));
     }
     if initiator {

@@ -6,7 +6,8 @@ ghost use Rattle.script_lines.specs.Reading.{Gives, or_kind};
 ghost use Rattle.schedule_text.specs.SetupLines.{reliable_at, mode_named, mode_at, has_lines, with_mode, mode_line, is_named, with_context, new_context, context_line, with_accepted, new_accepted, accepts_fields, accepts_line, kept_settled, setup_line};
 
 use crate::event::side_or_unknown;
-use crate::setting::{Modes, Setting, is_bare_mode, mode_of, names_for, settled};
+use crate::setting::{Modes, Setting, mode_of, names_for, settled};
+use association_ground::is_bare;
 use dialogue::Mode;
 use osi_base::{Copied, NoMemory, Oids, Proposal, Side};
 use script_lines::{EndsBefore, LineFault, ScriptKind, field, number, over, syntaxes};
@@ -105,7 +106,7 @@ fn mode_line(
         return Err(LineFault::Kind(ScriptKind::BadSetup));
     }
     let line = mode_fields(text)?;
-    if is_bare_mode(line.mode) && has_lines(&setting) {
+    if is_bare(line.mode) && has_lines(&setting) {
         return Err(LineFault::Kind(ScriptKind::BadSetup));
     }
     let mut setting = setting;
@@ -170,7 +171,7 @@ fn context_line(
 ) -> Result<Setting, LineFault>
     ensures { Gives (λ x. x) result (context_line modes tables.now setting text.now) }
 {
-    if is_bare_mode(mode_of(&setting)) {
+    if is_bare(mode_of(&setting)) {
         return Err(LineFault::Kind(ScriptKind::BadSetup));
     }
     let (id, rest) = number(text)?;
@@ -232,7 +233,7 @@ fn accepts_line(
 ) -> Result<Setting, LineFault>
     ensures { Gives (λ x. x) result (accepts_line modes tables.now setting text.now) }
 {
-    if is_bare_mode(mode_of(&setting)) {
+    if is_bare(mode_of(&setting)) {
         return Err(LineFault::Kind(ScriptKind::BadSetup));
     }
     accepts_fields(alloc, modes, tables, setting, text)

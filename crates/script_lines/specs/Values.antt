@@ -1,10 +1,11 @@
 -- Values in a line: by their type, and those of results by their form where they aren't of it.
-use Rattle.std.specs.Prelude.{ℕ, Bool, true, false, ◌||◌, ◌&&◌, if◌then◌else◌, is_none, List, [], ◌∷◌, Option, None, Some, Result, Ok, Err, codes}
+use Rattle.std.specs.Prelude.{ℕ, Bool, true, false, ◌||◌, ◌&&◌, if◌then◌else◌, List, [], ◌∷◌, Option, None, Some, Result, Ok, Err, codes}
 use Rattle.std.specs.Str.{is_utf8}
 use Rattle.asn1_types.specs.declared.row.TypeId.{TypeId}
 use Rattle.asn1_types.specs.declared.row.TypeRow.{TypeRow}
 use Rattle.asn1_types.specs.Value.{Value}
 use Rattle.stub_tables.specs.declared.operation.Use.{Use}
+use Rattle.stub_tables.specs.Uses.{may_lack}
 use Rattle.value_reading.specs.Found.{Found}
 use Rattle.value_reading.specs.Forms.{form_at}
 use Rattle.value_reading.specs.Typed.{value_at}
@@ -28,12 +29,8 @@ if_parted f = if is_parted f.rest then Ok (Some f.value, f.rest) else Err BadFie
 
 -- ---- arguments and parameters
 
--- a use without a type, or whose value may be left out
-abbrev pub may_lack : Use → Bool
-may_lack used = is_none used.inner || used.optional
-
 abbrev pub no_value : Use → List ℕ → Reading (Option Value × List ℕ)
-no_value used here = if may_lack used then Ok (None, here) else Err (bad_value here)
+no_value used here = if may_lack used.inner used.optional then Ok (None, here) else Err (bad_value here)
 
 -- nothing stands here, or the word that follows an argument
 abbrev pub value_is_over : Bool → List ℕ → Bool

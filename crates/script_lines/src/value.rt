@@ -3,7 +3,7 @@
 ghost use Rattle.std.specs.Prelude.{◌≡◌, IfOk};
 ghost use Rattle.value_reading.specs.Found.{found};
 ghost use Rattle.script_lines.specs.Reading.{Gives};
-ghost use Rattle.script_lines.specs.Values.{typed_at, bad_value, if_parted, may_lack, no_value, value_is_over, used_found, used_at, form_found, by_form, result_found, result_at};
+ghost use Rattle.script_lines.specs.Values.{typed_at, bad_value, if_parted, no_value, value_is_over, used_found, used_at, form_found, by_form, result_found, result_at};
 
 use crate::fault::ScriptKind;
 use crate::fields::{is_next, is_parted};
@@ -53,18 +53,11 @@ fn if_parted(front: Front<'_>) -> Result<(Option<Val>, &[u8]), LineFault>
     }
 }
 
-/// Whether a use has no type, or its value may be left out.
-fn may_lack(used: Use) -> bool
-    ensures { result ≡ may_lack used }
-{
-    used.inner.is_none() || used.optional
-}
-
 /// No value, where a use may lack it.
 fn no_value(used: Use, here: &[u8]) -> Result<(Option<Val>, &[u8]), LineFault>
     ensures { Gives (λ x. (x.0, x.1.now)) result (no_value used here.now) }
 {
-    if may_lack(used) {
+    if used.may_lack() {
         Ok((None, here))
     } else {
         Err(LineFault::Kind(bad_value(here)))

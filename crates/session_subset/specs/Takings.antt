@@ -2,6 +2,7 @@
 use Rattle.std.specs.Prelude.{ℕ, nat_eq, nat_le, nat_lt, Bool, true, false, not, ◌&&◌, ◌||◌, if◌then◌else◌, Option, None, Result, Ok, Err}
 use Rattle.osi_base.specs.declared.session_word.SessionWord.{SessionWord}
 use Rattle.osi_base.specs.declared.session_word.SessionWord.TheVariants.{Connect, Accept, Refuse, Finish, Disconnect, Abort, AbortAccept, GiveTokens, PleaseTokens, GiveTokensConfirm, GiveTokensAck, TypedData, Data, Mark, MarkAck, Resynchronize, ResynchronizeAck, ActivityStart, ActivityResume, ActivityInterrupt, ActivityInterruptAck, ActivityDiscard, ActivityDiscardAck, ActivityEnd, ActivityEndAck}
+use Rattle.osi_base.specs.Limits.{most_marks}
 use Rattle.session_subset.specs.declared.fault.SessionFault.{SessionFault}
 use Rattle.session_subset.specs.declared.fault.SessionFault.TheVariants.{OutOfPlace}
 use Rattle.session_subset.specs.declared.session.Taken.{Taken}
@@ -58,10 +59,6 @@ moves_nothing (PleaseTokens None user) = true
 moves_nothing _ = false
 
 -- ---- what may be taken
-
--- no more marks are kept
-abbrev pub most_marks : ℕ
-most_marks = 65536
 
 -- the last mark of the peer's activity, or in direct mode of the association
 abbrev pub peer_last : SessionRole → SessionState → ℕ

@@ -9,7 +9,7 @@ use Rattle.asn1_types.specs.declared.row.Class.TheVariants.{Universal}
 use Rattle.ber_spelling.specs.declared.fault.ReadFault.{ReadFault}
 use Rattle.ber_spelling.specs.declared.fault.ReadFault.TheVariants as faults
 use Rattle.ber_spelling.specs.Reading.{Spot, Opened, Ahead, ended, begun, Reading, ◌>>=◌, within, refuse}
-use Rattle.ber_spelling.specs.Fields.{identifier_at, high_at, digits_at, is_lax, opened_at, is_constructed, announced_at, long_at, definite_at, contents_at, number_from, cut_off, look_at}
+use Rattle.ber_spelling.specs.Fields.{identifier_at, high_at, digits_at, is_lax, opened_at, is_constructed, announced_at, long_at, definite_at, contents_at, cut_off, look_at}
 use Rattle.asn1_types.specs.Tags.{class_of, capped}
 use Rattle.ber_spelling.specs.Rules.{whole_at}
 use Rattle.ber_spelling.proofs.Turns.{whole_no_tag}

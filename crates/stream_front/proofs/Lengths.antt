@@ -3,10 +3,11 @@ use Rattle.std.proofs.Common.{◌≡◌, ℕ, zero, suc, ◌+◌, ◌-◌, ◌*�
 use Rattle.std.proofs.lemmas.Bool.Decides.{nat_tests}
 use Rattle.std.specs.Prelude.{nat_lt, nat_le, nat_eq, min, if◌then◌else◌}
 use Rattle.osi_base.specs.declared.words.Kind.TheVariants.{Tag, Length}
+use Rattle.asn1_types.specs.Whole.{number_256}
 use Rattle.ber_spelling.specs.declared.fault.ReadFault.{ReadFault}
 use Rattle.ber_spelling.specs.declared.fault.ReadFault.TheVariants as faults
 use Rattle.ber_spelling.specs.Reading.{Spot, Reading, ◌>>=◌, within, refuse}
-use Rattle.ber_spelling.specs.Fields.{announced_at, long_at, definite_at, contents_at, number_from, cut_off}
+use Rattle.ber_spelling.specs.Fields.{announced_at, long_at, definite_at, contents_at, cut_off}
 use Rattle.asn1_types.specs.Tags.{capped}
 use Rattle.stream_front.specs.declared.front.Front.{Front}
 use Rattle.stream_front.specs.declared.front.Front.TheVariants.{Short, Whole, Faulty}
@@ -81,14 +82,14 @@ sized_then depth field size number place rest =
     else (if nat_lt 8 size then refuse field Length else announced_then depth field number place rest)
 
 pub size_there : (depth field size left number place : ℕ) (rest : List ℕ) → nat_lt (length rest) left ≡ false
-    → size_left depth field size left number place rest ≡ sized_then depth field size (number_from number (take left rest)) (place + left) (drop left rest)
+    → size_left depth field size left number place rest ≡ sized_then depth field size (number_256 number (take left rest)) (place + left) (drop left rest)
 size_there depth field size left number place rest there =
     elim (bool_is (nat_lt 262144 (place + left))) [
       | inl h ↦ rw (there, h, past depth field (place + left) h) refl
       | inr h ↦
           rw (there, h, within_limit depth field (place + left) h) (elim (bool_is (nat_lt 8 size)) [
             | inl k ↦ rw k refl
-            | inr k ↦ rw k (announced_by depth field (number_from number (take left rest)) (place + left) true (drop left rest))
+            | inr k ↦ rw k (announced_by depth field (number_256 number (take left rest)) (place + left) true (drop left rest))
           ])
     ]
 
@@ -129,7 +130,7 @@ size_last depth field size number place octet rest =
     size_there depth field size 1 number place (octet ∷ rest) there
 
 -- numbers past 32 bits are all too large
-number_grows : (number : ℕ) (octets : List ℕ) → number ≤ number_from number octets
+number_grows : (number : ℕ) (octets : List ℕ) → number ≤ number_256 number octets
 number_grows number [] = omega arith
 number_grows number (octet ∷ octets) = let i = number_grows (256 * number + octet) octets in omega arith
 

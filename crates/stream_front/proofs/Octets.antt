@@ -5,10 +5,11 @@ use Rattle.std.specs.Prelude.{nat_lt, nat_le, nat_eq, slice_index, if◌then◌e
 use Rattle.osi_base.specs.declared.words.Kind.TheVariants.{Tag, Length}
 use Rattle.asn1_types.specs.Rows.{is_no_tag}
 use Rattle.asn1_types.specs.declared.row.Class.TheVariants.{Universal}
+use Rattle.asn1_types.specs.Whole.{number_256}
 use Rattle.ber_spelling.specs.declared.fault.ReadFault.{ReadFault}
 use Rattle.ber_spelling.specs.declared.fault.ReadFault.TheVariants as faults
 use Rattle.ber_spelling.specs.Reading.{Spot, Opened, Ahead, ended, begun, Reading, ◌>>=◌, within, refuse}
-use Rattle.ber_spelling.specs.Fields.{identifier_at, digits_at, opened_at, is_constructed, definite_at, long_at, number_from, cut_off, begin_at, look_at, second_zero_at}
+use Rattle.ber_spelling.specs.Fields.{identifier_at, digits_at, opened_at, is_constructed, definite_at, long_at, cut_off, begin_at, look_at, second_zero_at}
 use Rattle.asn1_types.specs.Tags.{class_of, capped}
 use Rattle.ber_spelling.specs.Rules.{whole_at}
 use Rattle.stream_front.specs.declared.front.Front.{Front}
@@ -102,7 +103,7 @@ long_is depth field size rest =
             | inr k ↦
                 rw (h, within_limit depth field (field + 1 + size) k) (elim (bool_is (nat_lt 8 size)) [
                   | inl l ↦ rw l refl
-                  | inr l ↦ rw l (announced_by depth field (number_from 0 (take size rest)) (field + 1 + size) _ (drop size rest) ∙ sym (announced_by depth field (number_from 0 (take size rest)) (field + 1 + size) true (drop size rest)))
+                  | inr l ↦ rw l (announced_by depth field (number_256 0 (take size rest)) (field + 1 + size) _ (drop size rest) ∙ sym (announced_by depth field (number_256 0 (take size rest)) (field + 1 + size) true (drop size rest)))
                 ])
           ]
     ]

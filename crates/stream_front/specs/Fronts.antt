@@ -1,6 +1,7 @@
 -- What stands first in octets: one whole value of any type (X.690 8.1).
 use Rattle.std.specs.Prelude.{ℕ, Bool, List, Result, Ok, Err}
 use Rattle.asn1_types.specs.Value.{Value}
+use Rattle.asn1_types.specs.Limits.{most_octets}
 use Rattle.ber_spelling.specs.declared.fault.ReadFault.{ReadFault}
 use Rattle.ber_spelling.specs.declared.fault.ReadFault.TheVariants as faults
 use Rattle.ber_spelling.specs.Rules.{read_at}
@@ -22,4 +23,4 @@ front_of (Err fault) = faulty fault
 
 -- What octets begin with, in BER or in DER alone. A value has at most 262,144 octets.
 unfoldable pub front_at : Bool → List ℕ → Front
-front_at strict octets = front_of (read_at head_rows any_row strict 262144 octets)
+front_at strict octets = front_of (read_at head_rows any_row strict most_octets octets)

@@ -1,11 +1,12 @@
 -- Reading that is left somewhere in a value, and goes on there: what the octets that follow make of it.
 use Rattle.std.specs.Prelude.{◌≡◌, ℕ, zero, suc, ◌+◌, ◌-◌, ◌<◌, ◌≤◌, ◌^◌, Bool, true, false, ◌&&◌, ◌||◌, Option, Some, None, List, [], ◌∷◌, ◌++◌, length, take, drop, Ok, Err, nat_lt, nat_eq, slice_index, if◌then◌else◌}
 use Rattle.osi_base.specs.declared.words.Kind.TheVariants.{Tag, Length}
-use Rattle.asn1_types.specs.Whole.{is_marked}
+use Rattle.asn1_types.specs.Whole.{is_marked, number_256}
+use Rattle.asn1_types.specs.Limits.{most_octets}
 use Rattle.ber_spelling.specs.declared.fault.ReadFault.TheVariants as faults
 use Rattle.ber_spelling.specs.declared.spot.Scope.{Scope}
 use Rattle.ber_spelling.specs.Reading.{Spot, Reading, ◌>>=◌, refuse, within}
-use Rattle.ber_spelling.specs.Fields.{identifier_at, digits_at, announced_at, contents_at, number_from, cut_off}
+use Rattle.ber_spelling.specs.Fields.{identifier_at, digits_at, announced_at, contents_at, cut_off}
 use Rattle.ber_spelling.specs.Rules.{all_items_at, whole_at}
 use Rattle.stream_front.specs.declared.front.Front.{Front}
 use Rattle.stream_front.specs.declared.front.Front.TheVariants.{Short, Whole, Faulty}
@@ -28,7 +29,7 @@ is_inside zero = false
 is_inside (suc depth) = true
 
 abbrev pub scope_in : ℕ → Scope
-scope_in depth = record { levels = 32 - depth; limit = 262144; end = None; marked = is_inside depth; strict = false }
+scope_in depth = record { levels = 32 - depth; limit = most_octets; end = None; marked = is_inside depth; strict = false }
 
 -- values up to end-of-contents (X.690 8.1.3.6)
 abbrev pub values_in : ℕ → Spot → Reading End
@@ -87,7 +88,7 @@ size_left depth field size left number place rest =
     else (do
       _ ← within (scope_in depth) field (place + left)
       if nat_lt 8 size then refuse field Length
-          else announced_at (scope_in depth) field (number_from number (take left rest)) true (place + left) (drop left rest) >>= counted depth)
+          else announced_at (scope_in depth) field (number_256 number (take left rest)) true (place + left) (drop left rest) >>= counted depth)
 
 -- ---- where a scanner stands
 
@@ -118,7 +119,7 @@ IsSoundStage stage.Zero seen depth = depth ≤ 32
 IsSoundStage (stage.High constructed) seen depth = depth < 32
 IsSoundStage (stage.Digits constructed padded number) seen depth = (depth < 32) × (number ≤ 2 ^ 32)
 IsSoundStage (stage.Length constructed) seen depth = depth < 32
-IsSoundStage (stage.Size size left number) seen depth = (depth < 32) × (0 < left) × (number ≤ 2 ^ 32) × (seen ≤ 262144)
+IsSoundStage (stage.Size size left number) seen depth = (depth < 32) × (0 < left) × (number ≤ 2 ^ 32) × (seen ≤ most_octets)
 IsSoundStage (stage.Contents left) seen depth = (depth < 32) × (0 < left)
 IsSoundStage stage.Whole seen depth = Unit {0}
 IsSoundStage (stage.Faulty place) seen depth = Unit {0}

@@ -3,6 +3,7 @@ use Rattle.std.specs.Prelude.{ℕ, zero, suc, ◌+◌, ◌-◌, ◌*◌, ◌%◌
 use Rattle.asn1_types.specs.Rows.{is_no_tag}
 use Rattle.ber_spelling.specs.Fields.{is_constructed}
 use Rattle.asn1_types.specs.Tags.{class_of, capped}
+use Rattle.asn1_types.specs.Limits.{most_octets}
 use Rattle.stream_front.specs.declared.scanner.Scanner.{Scanner}
 use Rattle.stream_front.specs.declared.scanner.Stage.{Stage}
 use Rattle.stream_front.specs.declared.scanner.Stage.TheVariants as stage
@@ -25,7 +26,7 @@ in_field s kept = record { seen = s.seen + 1; field = s.seen; depth = s.depth; s
 
 -- within the limit of 262,144 octets
 abbrev pub limited : Scanner → ℕ → Scanner → Scanner
-limited s field further = if nat_lt 262144 (s.seen + 1) then faulty_at s field else further
+limited s field further = if nat_lt most_octets (s.seen + 1) then faulty_at s field else further
 
 -- behind a whole value or an end-of-contents
 abbrev pub behind : Scanner → ℕ → Scanner
@@ -37,7 +38,7 @@ contents s count = if nat_eq count 0 then behind s s.depth else at_field s s.dep
 
 -- a length whose contents end within the limit
 abbrev pub announced : Scanner → ℕ → ℕ → Scanner
-announced s field count = if nat_lt 262144 (s.seen + 1 + count) then faulty_at s field else contents s count
+announced s field count = if nat_lt most_octets (s.seen + 1 + count) then faulty_at s field else contents s count
 
 -- a value begins
 abbrev pub begun : Scanner → ℕ → Scanner

@@ -16,32 +16,42 @@ pub enum Stage {
     Zero,
     /// The first digit of a high tag number (X.690 8.1.2.4).
     High {
+        /// Whether the identifier says that the encoding is constructed.
         constructed: bool,
     },
     /// A further digit; `padded` where the first one was a leading zero.
     Digits {
+        /// Whether the identifier says that the encoding is constructed.
         constructed: bool,
+        /// Whether the first digit was a leading zero.
         padded: bool,
+        /// The tag number of the digits that were seen, at most 2^32.
         number: u64,
     },
     /// A length (X.690 8.1.3).
     Length {
+        /// Whether the identifier says that the encoding is constructed.
         constructed: bool,
     },
     /// So many of the octets of a length in the long form (X.690 8.1.3.5).
     Size {
+        /// How many octets the length has behind its first one.
         size: u8,
+        /// How many of them weren't seen yet.
         left: u8,
+        /// The number of those that were seen, at most 2^32.
         number: u64,
     },
     /// So many octets of contents.
     Contents {
+        /// How many octets of the contents weren't seen yet.
         left: u64,
     },
     /// Anything: one whole value was seen.
     Whole,
     /// Anything: the field at this place breaks the rules.
     Faulty {
+        /// Where the field begins, counted from the first octet that was scanned.
         place: usize,
     },
 }

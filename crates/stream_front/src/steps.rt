@@ -2,6 +2,7 @@
 
 ghost use Rattle.std.specs.Prelude.{◌≡◌, ◌<◌, ◌≤◌, ◌^◌, ◌+◌, nat_lt};
 ghost use Rattle.asn1_types.specs.Tags.{capped};
+ghost use Rattle.asn1_types.specs.Limits.{most_octets};
 ghost use Rattle.stream_front.specs.Resuming.{IsSoundStage};
 ghost use Rattle.stream_front.specs.Steps as steps;
 
@@ -65,7 +66,7 @@ fn in_field(scanner: Scanner, stage: Stage) -> Scanner
 /// Whether the next octet lies past the limit.
 fn is_past(scanner: Scanner) -> bool
     requires seen { scanner.seen < 2 ^ 63 }
-    ensures { result ≡ nat_lt 262144 (scanner.seen + 1) }
+    ensures { result ≡ nat_lt most_octets (scanner.seen + 1) }
 {
     MOST < scanner.seen as u64 + 1
 }

@@ -12,6 +12,7 @@ use Rattle.ber_spelling.specs.declared.fault.ReadFault.TheVariants.{NotSpelled, 
 use Rattle.ber_spelling.specs.Rules.{read_at}
 use Rattle.ber_spelling.specs.Spelling.{Ber}
 use Rattle.asn1_types.specs.Writing.{written}
+use Rattle.asn1_types.specs.Limits.{most_octets}
 use Rattle.stub_tables.specs.declared.tables.Tables.{Tables}
 use Rattle.stub_tables.specs.declared.operation.Code.{Code}
 use Rattle.stub_tables.specs.declared.operation.Use.{Use}
@@ -32,7 +33,7 @@ IsWhole text = Ber head_rows any_row (any text) text
 
 -- They end before a value does.
 unfoldable pub IsShort : List ℕ → Type 0
-IsShort text = read_at head_rows any_row false 262144 text ≡ Err Short
+IsShort text = read_at head_rows any_row false most_octets text ≡ Err Short
 
 abbrev pub place_of : ReadFault → Option ℕ
 place_of (NotSpelled place kind) = Some place
@@ -42,7 +43,7 @@ place_of _ = None
 
 -- Their first field from the left that breaks the rules is at this place, however they go on.
 unfoldable pub IsFaulty : List ℕ → ℕ → Type 0
-IsFaulty text place = (fault : ReadFault) × (read_at head_rows any_row false 262144 text ≡ Err fault) × (place_of fault ≡ Some place)
+IsFaulty text place = (fault : ReadFault) × (read_at head_rows any_row false most_octets text ≡ Err fault) × (place_of fault ≡ Some place)
 
 -- ---- what an operation or an error carries
 
@@ -199,4 +200,4 @@ HasIdentifier (Reject id problem) = ⊥
 pub record IsWritable (tables : Tables) (a : Apdu) : Type 0 where
   pub identifier : HasIdentifier a
   pub values : has_values tables a ≡ true
-  pub short : nat_lt 262144 (length (written_apdu tables syntax.Ber a)) ≡ false
+  pub short : nat_lt most_octets (length (written_apdu tables syntax.Ber a)) ≡ false

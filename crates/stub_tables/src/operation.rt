@@ -100,7 +100,14 @@ impl Operation {
 }
 
 impl Use {
-    ghost use Rattle.stub_tables.specs.Uses.{is_carried};
+    ghost use Rattle.stub_tables.specs.Uses.{may_lack, is_carried};
+
+    /// Whether nothing may be carried there.
+    pub fn may_lack(&self) -> bool
+        ensures { result ≡ may_lack self.now.inner self.now.optional }
+    {
+        self.inner.is_none() || self.optional
+    }
 
     /// Whether the value, or its lack, is one that is carried there.
     pub fn carries(&self, types: &TypeTable, value: &Option<Val>) -> bool

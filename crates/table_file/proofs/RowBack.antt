@@ -22,7 +22,8 @@ use Rattle.table_file.specs.declared.rows.Made.TheVariants as makes
 use Rattle.table_file.specs.Reading.{Spot, Reading, ◌>>=◌}
 use Rattle.table_file.specs.Fields.{octet_at, truth_at, text_at, integer_at}
 use Rattle.table_file.specs.RowParts.{number_32, name_at, id_of, row_number_at, list_at, item_of, item_at, default_if, default_at, part_of, part_at, index_of, index_at}
-use Rattle.table_file.specs.Rows.{kind_of, class_of, range_at, most_at, kind_at, tag_of, tagged_at, enumerated_at, sequence_of_at, set_of_at, of_parts_at, made_row, row_behind, row_at, unless_refused, added, adds}
+use Rattle.asn1_types.specs.Numbered.{kind_numbered, class_numbered}
+use Rattle.table_file.specs.Rows.{range_at, most_at, kind_at, tag_of, tagged_at, enumerated_at, sequence_of_at, set_of_at, of_parts_at, made_row, row_behind, row_at, unless_refused, added, adds}
 use Rattle.table_file.specs.Files.{integer_file, number_file, truth_file, maybe_file, list_file, kind_number, item_file, default_file, part_file, row_file}
 use Rattle.table_file.specs.Sound.{Each, IsNamed, IsNumber, IsShortNumber, IsItem, IsDefault, IsPart, HasRowForm, IsRow, items_in_row, IsPlace}
 use Rattle.table_file.proofs.Spots.{at, Comes, comes_here, then_comes, comes_from, comes_apart}
@@ -100,7 +101,7 @@ part_back version t p l more h =
 
 -- ---- rows
 
-kind_comes : (kind : TextKind) → kind_of (pos (kind_number kind)) ≡ Some kind
+kind_comes : (kind : TextKind) → kind_numbered (pos (kind_number kind)) ≡ Some kind
 kind_comes Utf8 = refl
 kind_comes Ia5 = refl
 kind_comes Visible = refl
@@ -114,7 +115,7 @@ kind_short Visible = omega arith
 kind_short Printable = omega arith
 kind_short Numeric = omega arith
 
-class_comes : (class : Class) → class_of (pos (class_number class)) ≡ Some class
+class_comes : (class : Class) → class_numbered (pos (class_number class)) ≡ Some class
 class_comes Universal = refl
 class_comes Application = refl
 class_comes Context = refl

@@ -24,7 +24,8 @@ use Rattle.table_file.specs.declared.rows.Made.TheVariants as makes
 use Rattle.table_file.specs.Reading.{Spot, Reading, ◌>>=◌}
 use Rattle.table_file.specs.Fields.{octet_at, truth_at, text_at, integer_at}
 use Rattle.table_file.specs.RowParts.{number_32, name_at, id_of, row_number_at, list_at, item_of, item_at, default_if, default_at, part_of, part_at, index_of, index_at}
-use Rattle.table_file.specs.Rows.{kind_of, class_of, range_at, most_at, kind_at, tag_of, tagged_at, enumerated_at, sequence_of_at, set_of_at, of_parts_at, made_row, row_behind, row_at, unless_refused, added, adds}
+use Rattle.asn1_types.specs.Numbered.{kind_numbered, class_numbered}
+use Rattle.table_file.specs.Rows.{range_at, most_at, kind_at, tag_of, tagged_at, enumerated_at, sequence_of_at, set_of_at, of_parts_at, made_row, row_behind, row_at, unless_refused, added, adds}
 use Rattle.table_file.specs.Files.{integer_file, number_file, truth_file, maybe_file, list_file, kind_number, item_file, default_file, part_file, row_file}
 use Rattle.table_file.specs.Sound.{Each, IsNamed, IsNumber, IsShortNumber, IsItem, IsDefault, IsPart, HasRowForm, IsRow, items_in_row, IsPlace}
 use Rattle.table_file.proofs.Spots.{Went, went_then, went_as, went_octets, bind_ok, done, ok_is}
@@ -225,7 +226,7 @@ most_found version row s t are e =
     let f = number_found s b.0.1 b.0.0 m.0 are b.1 m.1 in
     subst (λ (y : Spot). RowWent version 4 row s y) k.1 (subst (λ (y : TypeRow). RowWent version 4 y s b.0.1) m.2 (record { form = f.0; text = number_file m.0; is = refl; went = f.1 }))
 
-kind_is : (z : ℤ) (kind : TextKind) → kind_of z ≡ Some kind → z ≡ pos (kind_number kind)
+kind_is : (z : ℤ) (kind : TextKind) → kind_numbered z ≡ Some kind → z ≡ pos (kind_number kind)
 kind_is (pos zero) kind e = by kind (some_is Utf8 kind e)
   where
     by : (kind : TextKind) → Utf8 ≡ kind → pos zero ≡ pos (kind_number kind)
@@ -241,12 +242,12 @@ kind_found : (version : Version) (row : TypeRow) (s t : Spot) → AreOctets s.re
 unfolding kind_at row_file
 kind_found version row s t are e =
     let b = bind_ok (integer_at s) _ (Some row, t) e in
-    let k = ends_as (option_map rows.Text (kind_of b.0.0)) (Some row) b.0.1 t b.2 in
-    let m = mapped rows.Text (kind_of b.0.0) row k.0 in
+    let k = ends_as (option_map rows.Text (kind_numbered b.0.0)) (Some row) b.0.1 t b.2 in
+    let m = mapped rows.Text (kind_numbered b.0.0) row k.0 in
     let w = went_as (integer_file b.0.0) (number_file (kind_number m.0)) 0 0 s b.0.1 (ap integer_file (kind_is b.0.0 m.0 m.1)) refl (integer_found s b.0.1 b.0.0 are b.1).1 in
     subst (λ (y : Spot). RowWent version 7 row s y) k.1 (subst (λ (y : TypeRow). RowWent version 7 y s b.0.1) m.2 (record { form = tt; text = number_file (kind_number m.0); is = refl; went = w }))
 
-class_is : (z : ℤ) (class : Class) → class_of z ≡ Some class → z ≡ pos (class_number class)
+class_is : (z : ℤ) (class : Class) → class_numbered z ≡ Some class → z ≡ pos (class_number class)
 class_is (pos zero) class e = ap (λ (y : Class). pos (class_number y)) (some_is Universal class e)
 class_is (pos (suc zero)) class e = ap (λ (y : Class). pos (class_number y)) (some_is Application class e)
 class_is (pos (suc (suc zero))) class e = ap (λ (y : Class). pos (class_number y)) (some_is Context class e)
@@ -274,8 +275,8 @@ tagged_found version row s t are e =
     let fd = truth_found c.0.1 d.0.1 d.0.0 d.1 in
     let are_h = went_octets (truth_file d.0.0) 0 c.0.1 d.0.1 fd are_d in
     let h = bind_ok (row_number_at d.0.1) _ (Some row, t) d.2 in
-    let k = ends_as (tag_of (class_of b.0.0) (number_32 c.0.0) d.0.0 h.0.0) (Some row) h.0.1 t h.2 in
-    let is = tag_is (class_of b.0.0) (number_32 c.0.0) d.0.0 h.0.0 row k.0 in
+    let k = ends_as (tag_of (class_numbered b.0.0) (number_32 c.0.0) d.0.0 h.0.0) (Some row) h.0.1 t h.2 in
+    let is = tag_is (class_numbered b.0.0) (number_32 c.0.0) d.0.0 h.0.0 row k.0 in
     let wb = went_as (integer_file b.0.0) (number_file (class_number is.0)) 0 0 s b.0.1 (ap integer_file (class_is b.0.0 is.0 is.3)) refl fb.1 in
     let wc = number_found b.0.1 c.0.1 c.0.0 is.1 are_c c.1 is.4 in
     let wh = row_number_found d.0.1 h.0.1 is.2 are_h (h.1 ∙ ap (λ (y : Option TypeId). Ok (y, h.0.1)) is.5) in

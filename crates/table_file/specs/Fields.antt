@@ -4,6 +4,7 @@ use Rattle.byteorder.specs.Endian.{big_number}
 use Rattle.asn1_types.specs.declared.row.TextKind.TheVariants.{Ia5}
 use Rattle.asn1_types.specs.Fits.{is_text}
 use Rattle.asn1_types.specs.Value.{Value, integer, object_id}
+use Rattle.asn1_types.specs.Limits.{most_spelled}
 use Rattle.packed_codec.specs.declared.fault.PackedFault.{PackedFault}
 use Rattle.packed_codec.specs.declared.fault.PackedFault.TheVariants as packed
 use Rattle.packed_codec.specs.Rules.{read_at}
@@ -78,7 +79,7 @@ shifted s (Err e) = Err (stop_of s.place e)
 
 -- a value in the packed syntax
 unfoldable pub value_at : ℕ → Spot → Reading (Value × Spot)
-value_at of s = shifted s (read_at field_types of 4294967295 s.rest)
+value_at of s = shifted s (read_at field_types of most_spelled s.rest)
 
 abbrev pub number_in : Value → Option ℤ
 number_in (integer z) = Some z

@@ -1,5 +1,7 @@
 -- What table files are, apart from how they are read.
 use Rattle.std.specs.Prelude.{◌≡◌, ℕ, ◌≤◌, List, length, Ok}
+use Rattle.osi_base.specs.Limits.{text_most}
+use Rattle.asn1_types.specs.Limits.{most_items}
 use Rattle.packed_codec.specs.Octets.{AreOctets}
 use Rattle.table_file.specs.declared.row_parts.Version.{Version}
 use Rattle.table_file.specs.declared.row_parts.Version.TheVariants as versions
@@ -13,8 +15,8 @@ pub record IsTableFile (bytes : List ℕ) (c : Contents) : Type 0 where
   pub version : Version
   pub are : bytes ≡ file_of version c
   pub sound : AreSound version c
-  pub size : length bytes ≤ 16777216
-  pub items : items_in c ≤ 131072
+  pub size : length bytes ≤ text_most
+  pub items : items_in c ≤ most_items
 
 -- The octets that are loaded are the table files.
 abbrev pub FilesAreLoaded : Type 0
@@ -25,8 +27,8 @@ LoadedAreFiles = (bytes : List ℕ) (c : Contents) → AreOctets bytes → load_
 
 -- What is stored of sound tables is loaded again, within the limits.
 abbrev pub StoredIsLoaded : Type 0
-StoredIsLoaded = (c : Contents) → AreSound versions.Two c → length (file_of versions.Two c) ≤ 16777216 → items_in c ≤ 131072 → load_of (file_of versions.Two c) ≡ Ok c
+StoredIsLoaded = (c : Contents) → AreSound versions.Two c → length (file_of versions.Two c) ≤ text_most → items_in c ≤ most_items → load_of (file_of versions.Two c) ≡ Ok c
 
 -- A file's migration holds its tables.
 abbrev pub MigratedIsLoaded : Type 0
-MigratedIsLoaded = (bytes : List ℕ) (c : Contents) → AreOctets bytes → load_of bytes ≡ Ok c → length (file_of versions.Two c) ≤ 16777216 → load_of (file_of versions.Two c) ≡ Ok c
+MigratedIsLoaded = (bytes : List ℕ) (c : Contents) → AreOctets bytes → load_of bytes ≡ Ok c → length (file_of versions.Two c) ≤ text_most → load_of (file_of versions.Two c) ≡ Ok c

@@ -1,7 +1,9 @@
 -- What a table file holds, or where it is at fault. Rows are judged once they are whole, before the next is read.
 use Rattle.std.specs.Prelude.{◌≡◌, ℕ, ◌==◌, Bool, true, false, ◌&&◌, ◌||◌, List, [], ◌∷◌, length, take, drop, Result, Ok, Err, nat_lt, nat_eq, if◌then◌else◌}
 use Rattle.osi_base.specs.declared.words.Kind.TheVariants.{Missing, Extra, Content}
+use Rattle.osi_base.specs.Limits.{text_most}
 use Rattle.asn1_types.specs.declared.row.TypeRow.{TypeRow}
+use Rattle.asn1_types.specs.Limits.{most_items}
 use Rattle.notation_tokens.specs.Words.{is_name_of_type}
 use Rattle.stub_tables.specs.declared.tables.Tables.{Tables}
 use Rattle.table_file.specs.declared.fault.Stop.TheVariants.{Cut, Bad, NoMemory}
@@ -47,7 +49,7 @@ contents_at version s = do
 unfoldable pub file_at : List ℕ → Reading (Contents × Spot)
 file_at bytes = do
   version ← version_at bytes
-  contents_at version (record { place = 6; rest = drop 6 bytes; left = 131072 })
+  contents_at version (record { place = 6; rest = drop 6 bytes; left = most_items })
 
 abbrev pub loaded_if : Bool → Contents → LoadFault → Result Contents LoadFault
 loaded_if b c e = if b then Ok c else Err e
@@ -65,7 +67,7 @@ ended is_long size (Err NoMemory) = Err faults.NoMemory
 
 -- a file has at most 16,777,216 octets
 unfoldable pub load_of : List ℕ → Result Contents LoadFault
-load_of bytes = if nat_lt 16777216 (length bytes) then ended true 16777216 (file_at (take 16777216 bytes)) else ended false (length bytes) (file_at bytes)
+load_of bytes = if nat_lt text_most (length bytes) then ended true text_most (file_at (take text_most bytes)) else ended false (length bytes) (file_at bytes)
 
 -- What `load` answers is what the octets hold, or their first fault, unless memory ran out.
 abbrev pub Loads : Result Tables LoadFault → Result Contents LoadFault → Type 0

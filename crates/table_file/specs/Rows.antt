@@ -1,14 +1,12 @@
 -- The rows of types.
-use Rattle.std.specs.Prelude.{ℕ, zero, suc, ℤ, pos, negsuc, Bool, List, [], ◌∷◌, ◌++◌, Result, Ok, Err, Option, Some, None, option_map}
+use Rattle.std.specs.Prelude.{ℕ, zero, suc, Bool, List, [], ◌∷◌, ◌++◌, Result, Ok, Err, Option, Some, None, option_map}
 use Rattle.asn1_types.specs.declared.row.Class.{Class}
-use Rattle.asn1_types.specs.declared.row.Class.TheVariants.{Universal, Application, Context, Private}
-use Rattle.asn1_types.specs.declared.row.TextKind.{TextKind}
-use Rattle.asn1_types.specs.declared.row.TextKind.TheVariants.{Utf8, Ia5, Visible, Printable, Numeric}
 use Rattle.asn1_types.specs.declared.row.Part.{Part}
 use Rattle.asn1_types.specs.declared.row.TypeId.{TypeId}
 use Rattle.asn1_types.specs.declared.row.TypeRow.{TypeRow}
 use Rattle.asn1_types.specs.declared.row.TypeRow.TheVariants as rows
 use Rattle.asn1_types.specs.declared.refusal.RowRefusal.{RowRefusal}
+use Rattle.asn1_types.specs.Numbered.{kind_numbered, class_numbered}
 use Rattle.asn1_types.specs.Table.{refusal}
 use Rattle.table_file.specs.declared.row_parts.Version.{Version}
 use Rattle.table_file.specs.declared.row_parts.Version.TheVariants as versions
@@ -17,23 +15,6 @@ use Rattle.table_file.specs.declared.rows.Made.TheVariants as makes
 use Rattle.table_file.specs.Reading.{Spot, Reading, ◌>>=◌, refuse}
 use Rattle.table_file.specs.Fields.{octet_at, many_at, truth_at, integer_at}
 use Rattle.table_file.specs.RowParts.{number_32, row_number_at, list_at, item_at, part_at}
-
-abbrev pub kind_of : ℤ → Option TextKind
-kind_of (pos zero) = Some Utf8
-kind_of (pos (suc zero)) = Some Ia5
-kind_of (pos (suc (suc zero))) = Some Visible
-kind_of (pos (suc (suc (suc zero)))) = Some Printable
-kind_of (pos (suc (suc (suc (suc zero))))) = Some Numeric
-kind_of (pos (suc (suc (suc (suc (suc n)))))) = None
-kind_of (negsuc n) = None
-
-abbrev pub class_of : ℤ → Option Class
-class_of (pos zero) = Some Universal
-class_of (pos (suc zero)) = Some Application
-class_of (pos (suc (suc zero))) = Some Context
-class_of (pos (suc (suc (suc zero)))) = Some Private
-class_of (pos (suc (suc (suc (suc n))))) = None
-class_of (negsuc n) = None
 
 abbrev pub RowReader : Type 0
 RowReader = Spot → Reading (Option TypeRow × Spot)
@@ -52,7 +33,7 @@ most_at s = do
 unfoldable pub kind_at : RowReader
 kind_at s = do
   z ← integer_at s
-  Ok (option_map rows.Text (kind_of z.0), z.1)
+  Ok (option_map rows.Text (kind_numbered z.0), z.1)
 
 abbrev pub tag_of : Option Class → Option ℕ → Bool → Option TypeId → Option TypeRow
 tag_of (Some class) (Some number) explicit (Some inner) = Some (rows.Tagged class number explicit inner)
@@ -64,7 +45,7 @@ tagged_at s = do
   n ← integer_at c.1
   e ← truth_at n.1
   i ← row_number_at e.1
-  Ok (tag_of (class_of c.0) (number_32 n.0) e.0 i.0, i.1)
+  Ok (tag_of (class_numbered c.0) (number_32 n.0) e.0 i.0, i.1)
 
 unfoldable pub enumerated_at : RowReader
 enumerated_at s = do

@@ -1,6 +1,7 @@
 //! Loading a table file.
 
 ghost use Rattle.std.specs.Prelude.{◌≡◌, ◌≤◌, length, OnOk};
+ghost use Rattle.osi_base.specs.Limits.{text_most};
 ghost use Rattle.table_file.specs.FieldTypes.{field_types};
 ghost use Rattle.table_file.specs.Reading.{Gives, spot_of};
 ghost use Rattle.table_file.specs.Contents.{contents_of};
@@ -101,7 +102,7 @@ fn contents<'a>(
 /// The tables of a file within the limit, and what stands behind them.
 #[tactic(auto, unfolding(crate::specs::Loading::file_at))]
 fn file<'a>(alloc: Global, bytes: &'a [u8]) -> Result<(Tables, Spot<'a>), Stop>
-    requires { length bytes.now ≤ 16777216 }
+    requires { length bytes.now ≤ text_most }
     ensures { Gives (λ x. (contents_of x.0, spot_of x.1)) result (file_at bytes.now) }
 {
     let version = version(bytes)?;
@@ -116,7 +117,7 @@ fn file<'a>(alloc: Global, bytes: &'a [u8]) -> Result<(Tables, Spot<'a>), Stop>
 
 /// Octets within the limit as a file; `is_long` says that more follow.
 fn whole(alloc: Global, bytes: &[u8], is_long: bool) -> Result<Tables, LoadFault>
-    requires { length bytes.now ≤ 16777216 }
+    requires { length bytes.now ≤ text_most }
     ensures { Loads result (ended is_long (length bytes.now) (file_at bytes.now)) }
 {
     match file(alloc, bytes) {

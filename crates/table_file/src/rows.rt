@@ -10,35 +10,10 @@ use crate::fault::Stop;
 use crate::fields::{counted, integer, octet, truth};
 use crate::row_parts::{Version, items, number_32, parts, row_number};
 use crate::spot::Spot;
-use asn1_types::{Class, Parts, RowRefusal, TextKind, TypeId, TypeRow, TypeTable};
+use asn1_types::{
+    Class, Parts, RowRefusal, TypeId, TypeRow, TypeTable, class_numbered, kind_numbered,
+};
 use std::alloc::Global;
-
-/// The kind of text of this number.
-fn kind_of(number: i64) -> Option<TextKind>
-    ensures { result ≡ found.kind_of number }
-{
-    match number {
-        0 => Some(TextKind::Utf8),
-        1 => Some(TextKind::Ia5),
-        2 => Some(TextKind::Visible),
-        3 => Some(TextKind::Printable),
-        4 => Some(TextKind::Numeric),
-        _ => None,
-    }
-}
-
-/// The class of this number.
-fn class_of(number: i64) -> Option<Class>
-    ensures { result ≡ found.class_of number }
-{
-    match number {
-        0 => Some(Class::Universal),
-        1 => Some(Class::Application),
-        2 => Some(Class::Context),
-        3 => Some(Class::Private),
-        _ => None,
-    }
-}
 
 /// The range of an INTEGER.
 #[tactic(auto, unfolding(crate::specs::Rows::range_at))]
@@ -83,7 +58,7 @@ fn text<'a>(
     ensures { Gives (λ x. (x.0, spot_of x.1)) result (found.kind_at (spot_of spot.entry)) }
 {
     let (number, after) = integer(alloc, fields, spot)?;
-    match kind_of(number) {
+    match kind_numbered(number) {
         Some(kind) => Ok((Some(TypeRow::Text(kind)), after)),
         None => Ok((None, after)),
     }
@@ -123,7 +98,7 @@ fn tagged<'a>(
     let (number, behind_number) = integer(alloc, fields, behind_class)?;
     let (explicit, behind_mark) = truth(behind_number)?;
     let (inner, after) = row_number(alloc, fields, behind_mark)?;
-    let row = tag_of(class_of(class), number_32(number), explicit, inner);
+    let row = tag_of(class_numbered(class), number_32(number), explicit, inner);
     Ok((row, after))
 }
 

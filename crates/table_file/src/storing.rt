@@ -1,6 +1,6 @@
 //! Storing tables as a table file.
 
-ghost use Rattle.std.specs.Prelude.{◌≡◌, ◌++◌, ◌≤◌, length, OnOk, IfOk};
+ghost use Rattle.std.specs.Prelude.{◌≡◌, ◌++◌, ◌∷◌, ◌≤◌, length, OnOk, IfOk};
 ghost use Rattle.std.specs.List.{flat_map};
 ghost use Rattle.table_file.specs.Contents.{contents_of};
 ghost use Rattle.table_file.specs.FieldTypes.{field_types};
@@ -96,6 +96,30 @@ fn put_parts(fields: &TypeTable, parts: &[Part], out: &mut Octets) -> Result<(),
     Ok(())
 }
 
+/// Puts the number of a kind of row, and the number that it holds.
+fn put_numbered(fields: &TypeTable, kind: u8, number: u32, out: &mut Octets) -> Result<(), NoMemory>
+    requires { fields.now ≡ field_types }
+    ensures { OnOk result (out.new ≡ out.old ++ kind ∷ number_file number) }
+{
+    out.push(kind)?;
+    put_number(fields, number, out)
+}
+
+/// Puts the number of a kind of row, and the parts that it holds.
+fn put_parted(
+    fields: &TypeTable,
+    kind: u8,
+    parts: &[Part],
+    out: &mut Octets,
+) -> Result<(), NoMemory>
+    requires { fields.now ≡ field_types }
+    ensures { OnOk result (out.new
+        ≡ out.old ++ kind ∷ list_file (part_file versions.Two) parts.now) }
+{
+    out.push(kind)?;
+    put_parts(fields, parts, out)
+}
+
 /// Puts a row of a type.
 #[tactic(auto, unfolding(crate::specs::Files::row_file))]
 fn put_row(fields: &TypeTable, row: &TypeRow, out: &mut Octets) -> Result<(), NoMemory>
@@ -114,32 +138,14 @@ fn put_row(fields: &TypeTable, row: &TypeRow, out: &mut Octets) -> Result<(), No
             put_items(fields, items.as_slice(), out)
         }
         TypeRow::Null => out.push(3),
-        TypeRow::OctetString { most } => {
-            out.push(4)?;
-            put_number(fields, *most, out)
-        }
+        TypeRow::OctetString { most } => put_numbered(fields, 4, *most, out),
         TypeRow::BitString => out.push(5),
         TypeRow::ObjectId => out.push(6),
-        TypeRow::Text(kind) => {
-            out.push(7)?;
-            put_number(fields, kind_number(*kind), out)
-        }
-        TypeRow::Sequence(parts) => {
-            out.push(8)?;
-            put_parts(fields, parts.as_slice(), out)
-        }
-        TypeRow::Set(parts) => {
-            out.push(9)?;
-            put_parts(fields, parts.as_slice(), out)
-        }
-        TypeRow::SequenceOf(inner) => {
-            out.push(10)?;
-            put_number(fields, inner.0, out)
-        }
-        TypeRow::Choice(parts) => {
-            out.push(11)?;
-            put_parts(fields, parts.as_slice(), out)
-        }
+        TypeRow::Text(kind) => put_numbered(fields, 7, kind_number(*kind), out),
+        TypeRow::Sequence(parts) => put_parted(fields, 8, parts.as_slice(), out),
+        TypeRow::Set(parts) => put_parted(fields, 9, parts.as_slice(), out),
+        TypeRow::SequenceOf(inner) => put_numbered(fields, 10, inner.0, out),
+        TypeRow::Choice(parts) => put_parted(fields, 11, parts.as_slice(), out),
         TypeRow::Tagged {
             class,
             number,
@@ -152,10 +158,7 @@ fn put_row(fields: &TypeTable, row: &TypeRow, out: &mut Octets) -> Result<(), No
             put_truth(out, *explicit)?;
             put_number(fields, inner.0, out)
         }
-        TypeRow::SetOf(inner) => {
-            out.push(13)?;
-            put_number(fields, inner.0, out)
-        }
+        TypeRow::SetOf(inner) => put_numbered(fields, 13, inner.0, out),
         TypeRow::Any => Ok(()),
     }
 }

@@ -9,11 +9,12 @@ use Rattle.asn1_types.specs.Value as tree
 use Rattle.value_text.specs.Values.{hex_digit, hex_octet}
 use Rattle.value_reading.specs.Found.{Found, found_before}
 use Rattle.value_reading.specs.Words.{len_to}
-use Rattle.value_reading.specs.Forms.{hex_value, of_digits, then_octet, octets_of, by_letter, quoted_form}
+use Rattle.osi_base.specs.Hexadecimal.{digit_of, by_digits}
+use Rattle.value_reading.specs.Forms.{then_octet, octets_of, by_letter, quoted_form}
 use Rattle.text_laws.proofs.Tests.{both_true, all-append}
 use Rattle.text_laws.proofs.Words.{until_end}
 
-digit_back : (d : ℕ) (low : Bool) → nat_lt d 10 ≡ low → d < 16 → hex_value (hex_digit d) ≡ Some d
+digit_back : (d : ℕ) (low : Bool) → nat_lt d 10 ≡ low → d < 16 → digit_of (hex_digit d) ≡ Some d
 digit_back d true e h =
     let small : d < 10 = grind (arith, nat_tests) in
     let a : nat_le 48 (48 + d) ≡ true = grind (arith, nat_tests) in
@@ -29,13 +30,13 @@ digit_back d false e h =
     let same : (65 + (d - 10)) - 65 + 10 ≡ d = omega arith in
     rw (e, a, b, f, g) (ap (λ n. Some n) same)
 
-pub hex_back : (d : ℕ) → d < 16 → hex_value (hex_digit d) ≡ Some d
+pub hex_back : (d : ℕ) → d < 16 → digit_of (hex_digit d) ≡ Some d
 hex_back d h = digit_back d (nat_lt d 10) refl h
 
 below_octet : (o : ℕ) → is_octet o ≡ true → o < 256
 below_octet o h = grind (arith, nat_tests)
 
-octet_back : (o : ℕ) → o < 256 → of_digits (hex_value (hex_digit (o / 16))) (hex_value (hex_digit (o % 16))) ≡ Some o
+octet_back : (o : ℕ) → o < 256 → by_digits (digit_of (hex_digit (o / 16))) (digit_of (hex_digit (o % 16))) ≡ Some o
 octet_back o h =
     let high : o / 16 < 16 = omega arith in
     let low : o % 16 < 16 = omega arith in

@@ -96,6 +96,18 @@ begun_after begun (Part false octets) = begun ++ octets
 abbrev pub tsdu_limit : ℕ
 tsdu_limit = 1048576
 
+-- the least size of a unit that both ends can agree on (X.224 13.3.4)
+abbrev pub unit_least : ℕ
+unit_least = 128
+
+-- a unit has at most this many octets, so that its packet has at most 65,535 (RFC 1006 5)
+abbrev pub unit_most : ℕ
+unit_most = 65531
+
+-- the greatest size of a unit that a CR or a CC can name (X.224 13.3.4)
+abbrev pub named_most : ℕ
+named_most = 8192
+
 -- the TSDU that a unit goes on with stays within its limit
 abbrev pub IsWithin : List ℕ → Tpdu → Type 0
 IsWithin begun (Whole p) = Unit {0}
@@ -105,7 +117,7 @@ IsWithin begun (Part last octets) = length begun + length octets ≤ tsdu_limit
 pub record IsUnit (begun : List ℕ) (u : Tpdu) (unit : List ℕ) : Type 0 where
   pub spells : Spells u unit
   pub at_least : 3 ≤ length unit
-  pub at_most : length unit ≤ 65531
+  pub at_most : length unit ≤ unit_most
   pub within : IsWithin begun u
 
 -- The stream is the packets of these units, one after the other, and then the rest.

@@ -8,7 +8,7 @@ ghost use Rattle.tpkt.specs.declared.header_stops.Stop.{Stop};
 ghost use Rattle.tpkt.specs.declared.packet.ConnectionFields.{ConnectionFields};
 ghost use Rattle.tpkt.specs.declared.packet.Packet.{Packet};
 ghost use Rattle.tpkt.specs.declared.packet.Packet.TheVariants.{Connect, Confirm, Disconnect, Problem, Tsdu};
-ghost use Rattle.tpkt.specs.Wire.{packet, header, two, tsdu_limit, Tpdu, Whole, IsTwo, IsUnit, Splits, begun_by, handed_for, handed};
+ghost use Rattle.tpkt.specs.Wire.{packet, header, two, tsdu_limit, Tpdu, Whole, IsTwo, IsUnit, Splits, begun_by, handed_for, handed, unit_least, unit_most};
 ghost use Rattle.tpkt.specs.Written.{written_tsdu, connection_fields, control_packet, HasRoom};
 ghost use Rattle.tpkt.specs.Reader.{reading, nothing};
 ghost use Rattle.tpkt.specs.Stream.{IsOctets, unit_at, OneHolds, ReadsAsPackets, HasRead, IsReadAs};
@@ -98,16 +98,16 @@ pub fn one_of_three()
 
 /// A TSDU that is written stands in front of other units, and is handed up as it is.
 pub fn written_tsdu_is_split()
-    ensures { (size : ℕ) (tsdu more : List ℕ) (us : List Tpdu) (rest : List ℕ) → 128 ≤ size
-        → size ≤ 65531 → length tsdu ≤ tsdu_limit → Splits [] more us rest
+    ensures { (size : ℕ) (tsdu more : List ℕ) (us : List Tpdu) (rest : List ℕ) → unit_least ≤ size
+        → size ≤ unit_most → length tsdu ≤ tsdu_limit → Splits [] more us rest
         → (parts : List Tpdu) × Splits [] (written_tsdu size tsdu ++ more) (parts ++ us) rest
         × (handed [] (parts ++ us) ≡ Tsdu tsdu ∷ handed [] us) }
 {}
 
 /// A TSDU that is written is read back by a new reader, with nothing left.
 pub fn written_tsdu_is_read()
-    ensures { (size : ℕ) (tsdu : List ℕ) → 128 ≤ size → size ≤ 65531 → length tsdu ≤ tsdu_limit
-        → IsOctets tsdu
+    ensures { (size : ℕ) (tsdu : List ℕ) → unit_least ≤ size
+        → size ≤ unit_most → length tsdu ≤ tsdu_limit → IsOctets tsdu
         → let f = reading nothing (written_tsdu size tsdu) in (f.packets ≡ Tsdu tsdu ∷ [])
         × (f.held.fault ≡ None) }
 {}

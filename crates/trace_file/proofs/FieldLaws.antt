@@ -3,11 +3,12 @@ use Rattle.std.proofs.Common.{◌≡◌, ℕ, ◌+◌, ◌-◌, ◌*◌, ◌<◌
 use Rattle.std.specs.Prelude.{◌⊎◌, ◌&&◌, nat_le, filter}
 use Rattle.std.proofs.lemmas.Bool.Decides.{nat_tests}
 use Rattle.std.proofs.lemmas.List.{append-nil}
+use Rattle.osi_base.specs.Hexadecimal.{digit_of, by_digits, octet_of}
 use Rattle.osi_base.specs.declared.words.Side.{Side}
 use Rattle.trace_file.specs.declared.reading.Recorded.{Recorded}
 use Rattle.trace_file.specs.Lines.{pieces_of, has_any, fields_of, sender_of}
 use Rattle.trace_file.specs.Grammar.{Digit, Spells, AllSpell, TellsFrom, Tells, IsFaultyField, IsFaultyLine}
-use Rattle.trace_file.specs.Reading.{digit_of, by_digits, octet_of, then_octet, more_octets, LineRead, other, tells, faulty, read_told, begun, gone_on, line_at, line_of}
+use Rattle.trace_file.specs.Reading.{then_octet, more_octets, LineRead, other, tells, faulty, read_told, begun, gone_on, line_at, line_of}
 
 abbrev number : ℕ → Option ℕ
 number n = Some n

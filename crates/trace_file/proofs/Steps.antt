@@ -9,7 +9,8 @@ use Rattle.std.proofs.Common.{Result, Ok, Err, subst}
 use Rattle.trace_file.specs.declared.fault.RecordingFault.{RecordingFault}
 use Rattle.trace_file.specs.declared.fault.RecordingFault.TheVariants as faults
 use Rattle.trace_file.specs.declared.fault.RecordingKind.TheVariants.{BadField}
-use Rattle.trace_file.specs.Reading.{octet_of, more_octets, then_octet, added, LineRead, other, tells, faulty, read_told, begun, gone_on, line_at, line_of, put_behind, at_line, lines_at, line_result, Gives, FailsWith}
+use Rattle.osi_base.specs.Hexadecimal.{octet_of}
+use Rattle.trace_file.specs.Reading.{more_octets, then_octet, added, LineRead, other, tells, faulty, read_told, begun, gone_on, line_at, line_of, put_behind, at_line, lines_at, line_result, Gives, FailsWith}
 
 -- the next of the items that are left
 pub next_is : (all : List (List ℕ)) (n : ℕ) (x : List ℕ) → (n < length all) × (x ≡ get_or all n x) → drop n all ≡ x ∷ drop (n + 1) all

@@ -1,5 +1,6 @@
 -- The reading of a file of a recorded dialogue from its first octet on, as a function.
-use Rattle.std.specs.Prelude.{◌≡◌, ℕ, ◌+◌, ◌-◌, ◌*◌, ◌&&◌, Bool, true, false, List, [], ◌∷◌, ◌++◌, length, Option, Some, None, Result, Ok, Err, nat_le, nat_lt, if◌then◌else◌}
+use Rattle.std.specs.Prelude.{◌≡◌, ℕ, ◌+◌, ◌-◌, ◌*◌, ◌&&◌, Bool, true, false, List, [], ◌∷◌, ◌++◌, length, Option, Some, None, Result, Ok, Err, nat_lt, if◌then◌else◌}
+use Rattle.osi_base.specs.Hexadecimal.{octet_of}
 use Rattle.osi_base.specs.Limits.{text_most}
 use Rattle.osi_base.specs.declared.words.Side.{Side}
 use Rattle.trace_file.specs.declared.fault.RecordingFault.{RecordingFault}
@@ -7,21 +8,6 @@ use Rattle.trace_file.specs.declared.fault.RecordingFault.TheVariants as faults
 use Rattle.trace_file.specs.declared.fault.RecordingKind.TheVariants.{BadField, TooMany}
 use Rattle.trace_file.specs.declared.reading.Recorded.{Recorded}
 use Rattle.trace_file.specs.Lines.{lines_of, pieces_of, has_any, sender_of}
-
--- the number of a hexadecimal digit
-abbrev pub digit_of : ℕ → Option ℕ
-digit_of d =
-    if nat_le 48 d && nat_le d 57 then Some (d - 48)
-    else (if nat_le 65 d && nat_le d 70 then Some (d - 65 + 10)
-    else (if nat_le 97 d && nat_le d 102 then Some (d - 97 + 10) else None))
-
-abbrev pub by_digits : Option ℕ → Option ℕ → Option ℕ
-by_digits None low = None
-by_digits (Some high) None = None
-by_digits (Some high) (Some low) = Some (16 * high + low)
-
-abbrev pub octet_of : ℕ → ℕ → Option ℕ
-octet_of high low = by_digits (digit_of high) (digit_of low)
 
 abbrev pub then_octet : Option ℕ → (ℕ → Option (List ℕ)) → Option (List ℕ)
 then_octet None next = None

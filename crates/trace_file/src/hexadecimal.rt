@@ -1,29 +1,9 @@
 //! Octets as hexadecimal digits.
 
-ghost use Rattle.std.specs.Prelude.{◌≡◌, ◌<◌, ◌∷◌, length, IfOk, IfSome, MatchOption};
-ghost use Rattle.trace_file.specs.Reading.{digit_of, octet_of, more_octets, added};
+ghost use Rattle.std.specs.Prelude.{◌≡◌, ◌<◌, ◌∷◌, length, IfOk, MatchOption};
+ghost use Rattle.trace_file.specs.Reading.{more_octets, added};
 
-use osi_base::{NoMemory, Octets};
-
-fn digit_of(digit: u8) -> Option<u8>
-    ensures value { result ≡ digit_of digit }
-    ensures small { IfSome result (λ n. n < 16) }
-{
-    match digit {
-        b'0'..=b'9' => Some(digit - b'0'),
-        b'A'..=b'F' => Some(digit - b'A' + 10),
-        b'a'..=b'f' => Some(digit - b'a' + 10),
-        _ => None,
-    }
-}
-
-fn octet_of(high: u8, low: u8) -> Option<u8>
-    ensures { result ≡ octet_of high low }
-{
-    let high = digit_of(high)?;
-    let low = digit_of(low)?;
-    Some(16 * high + low)
-}
+use osi_base::{NoMemory, Octets, octet_of_digits};
 
 /// The first two octets and those behind them.
 fn first_pair(field: &[u8]) -> Option<(u8, u8, &[u8])>
@@ -43,7 +23,7 @@ pub(crate) fn push_field(octets: &mut Octets, field: &[u8]) -> Result<bool, NoMe
 {
     let mut rest = field;
     while let Some((high, low, more)) = first_pair(rest) {
-        let Some(octet) = octet_of(high, low) else {
+        let Some(octet) = octet_of_digits(high, low) else {
             return Ok(false);
         };
         octets.push(octet)?;

@@ -10,7 +10,7 @@ use Rattle.trace_units.specs.declared.said.Said.{Said}
 use Rattle.trace_units.specs.declared.said.Said.TheVariants as said
 use Rattle.trace_vectors.specs.Directions.{PacketSaid, stream_fault, Behind, AllSaid}
 use Rattle.trace_vectors.specs.Trace.{line_from}
-use Rattle.trace_vectors.specs.Putting.{PutSaid, PacketPut, StopPut, AllPut}
+use Rattle.trace_vectors.specs.ShownSoFar.{PutSaid, PacketPut, StopPut, AllPut}
 
 abbrev Texts : Type 0
 Texts = List (List ℕ)

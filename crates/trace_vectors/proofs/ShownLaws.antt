@@ -19,7 +19,7 @@ use Rattle.trace_vectors.specs.declared.direction.Directions as boths
 use Rattle.trace_vectors.specs.Directions.{AllSaid, Shows}
 use Rattle.trace_file.specs.declared.reading.Recorded.{Recorded}
 use Rattle.trace_vectors.specs.Trace.{Sent, nothing_sent, line_from, sent_more, ShowsWith, TraceBehind, TraceTextOf}
-use Rattle.trace_vectors.specs.Putting.{AllPut, GoesOn, StandsIf, StandsFor, ShownWith, BothStand, RecordShown}
+use Rattle.trace_vectors.specs.ShownSoFar.{AllPut, GoesOn, StandsIf, StandsFor, ShownWith, BothStand, RecordShown}
 use Rattle.trace_vectors.proofs.SaidLaws.{join, no_fault, stays}
 
 abbrev Texts : Type 0

@@ -1,4 +1,4 @@
 pub mod Directions
 pub mod Trace
-pub mod Putting
+pub mod ShownSoFar
 pub mod Laws

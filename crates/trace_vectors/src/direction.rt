@@ -5,8 +5,8 @@ ghost use Rattle.stub_tables.specs.declared.tables.Tables.{Tables};
 ghost use Rattle.trace_units.specs.declared.said.Said.TheVariants as saids;
 ghost use Rattle.trace_vectors.specs.Directions.{PacketSaid};
 ghost use Rattle.trace_vectors.specs.Trace.{Sent, line_from, nothing_sent};
-ghost use Rattle.trace_vectors.specs.Putting.{PutSaid, PacketPut, StopPut, AllPut, Stands};
-ghost use Rattle.trace_vectors.specs.Putting.{StandsFor, ShownWith, BothStand, RecordShown};
+ghost use Rattle.trace_vectors.specs.ShownSoFar.{PutSaid, PacketPut, StopPut, AllPut, Stands};
+ghost use Rattle.trace_vectors.specs.ShownSoFar.{StandsFor, ShownWith, BothStand, RecordShown};
 
 use osi_base::{NoMemory, Octets, Side};
 use std::alloc::Global;

@@ -10,6 +10,7 @@ ghost use Rattle.dialogue.specs.declared.event.Event.TheVariants as events;
 
 use crate::typed::{put_argument, put_parameter, put_result};
 use crate::words::{peer_of, side_word};
+use asn1_types::Val;
 use dialogue::{Call, CallRefusal, Event};
 use osi_base::{NoMemory, Oid, Proposal, Side, Syntax};
 use script_lines::InvokedOperations;
@@ -119,6 +120,48 @@ fn put_deletions(text: &mut Text, ids: &[u32]) -> Result<(), NoMemory>
     Ok(())
 }
 
+/// An invocation that is asked for.
+fn put_invoke(
+    text: &mut Text,
+    tables: &Tables,
+    context: u32,
+    operation: u32,
+    argument: &Option<Val>,
+    linked: Option<i64>,
+) -> Result<(), NoMemory>
+    ensures { OnOk result (text.new ≡ text.old ++ (codes "invoke " ++ decimal context ++ codes " "
+        ++ operation_name tables.now operation
+        ++ field_by tables.now.types (argument_type tables.now operation) argument.now
+        ++ linked_field linked)) }
+{
+    text.put("invoke ")?;
+    text.put_number(u64::from(context))?;
+    text.put(" ")?;
+    put_operation(text, tables, operation)?;
+    put_argument(text, tables, operation, argument)?;
+    put_linked(text, linked)
+}
+
+/// An error behind the name of what tells it, with its invocation and its parameter.
+pub(crate) fn put_told_error(
+    text: &mut Text,
+    tables: &Tables,
+    name: &str,
+    id: i64,
+    error: u32,
+    parameter: &Option<Val>,
+) -> Result<(), NoMemory>
+    ensures { OnOk result (text.new ≡ text.old ++ (name.now ++ signed_decimal id ++ codes " "
+        ++ error_name tables.now error
+        ++ field_by tables.now.types (parameter_type tables.now error) parameter.now)) }
+{
+    text.put(name)?;
+    text.put_signed(id)?;
+    text.put(" ")?;
+    put_error(text, tables, error)?;
+    put_parameter(text, tables, error, parameter)
+}
+
 /// A call. Values print by their types where they fit them, else by their form; that of an answer
 /// by the operation that the other end's invocation of its number named, of which `named` are all.
 pub fn put_call(
@@ -136,14 +179,7 @@ pub fn put_call(
             operation,
             argument,
             linked,
-        } => {
-            text.put("invoke ")?;
-            text.put_number(u64::from(*context))?;
-            text.put(" ")?;
-            put_operation(text, tables, *operation)?;
-            put_argument(text, tables, *operation, argument)?;
-            put_linked(text, *linked)
-        }
+        } => put_invoke(text, tables, *context, *operation, argument, *linked),
         Call::Answer { id, result } => {
             text.put("answer ")?;
             text.put_signed(*id)?;
@@ -153,13 +189,7 @@ pub fn put_call(
             id,
             error,
             parameter,
-        } => {
-            text.put("refuse ")?;
-            text.put_signed(*id)?;
-            text.put(" ")?;
-            put_error(text, tables, *error)?;
-            put_parameter(text, tables, *error, parameter)
-        }
+        } => put_told_error(text, tables, "refuse ", *id, *error, parameter),
         Call::Alter { add, delete } => {
             text.put("alter")?;
             put_additions(text, tables, add.as_slice())?;
@@ -167,14 +197,8 @@ pub fn put_call(
         }
         Call::Mark => text.put("mark"),
         Call::Give => text.put("give"),
-        Call::Please { priority } => {
-            text.put("please ")?;
-            text.put_number(u64::from(*priority))
-        }
-        Call::Resync { n } => {
-            text.put("resync ")?;
-            text.put_number(u64::from(*n))
-        }
+        Call::Please { priority } => put_named(text, "please ", *priority),
+        Call::Resync { n } => put_named(text, "resync ", *n),
         Call::Interrupt => text.put("interrupt"),
         Call::Resume => text.put("resume"),
         Call::Discard => text.put("discard"),

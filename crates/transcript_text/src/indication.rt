@@ -3,12 +3,15 @@
 ghost use Rattle.std.specs.Prelude.{◌≡◌, ◌++◌, ◌∷◌, ◌<◌, ℕ, [], List, OnOk, decimal, flat_map, codes, slice_get};
 ghost use Rattle.std.specs.Option.{option_copied};
 ghost use Rattle.osi_base.specs.Printed.{problem_text};
+ghost use Rattle.std.specs.Fmt.{signed_decimal};
+ghost use Rattle.transcript_text.specs.Calls.{operation_name, linked_field};
 ghost use Rattle.script_lines.specs.Invoked.{result_type};
 ghost use Rattle.transcript_text.specs.Typed.{field_by, argument_type, parameter_type};
 ghost use Rattle.transcript_text.specs.Indications.{id_text, answered, added_field, deleted_field, added_text, deleted_text, altered_text, own_text, cause_text, aborted_text, indication_text};
 
-use crate::call::{put_error, put_linked, put_named, put_number_field, put_operation};
-use crate::typed::{put_argument, put_parameter, put_result};
+use crate::call::{put_linked, put_named, put_number_field, put_operation, put_told_error};
+use crate::typed::{put_argument, put_result};
+use asn1_types::Val;
 use dialogue::Indication;
 use osi_base::{AddAnswer, Answers, Ids, Layer, NoMemory, Problem};
 use stub_tables::Tables;
@@ -153,6 +156,55 @@ fn put_aborted(
     }
 }
 
+/// An invocation of the peer.
+fn put_invoked(
+    text: &mut Text,
+    tables: &Tables,
+    id: i64,
+    operation: u32,
+    linked: Option<i64>,
+    argument: &Option<Val>,
+) -> Result<(), NoMemory>
+    ensures { OnOk result (text.new ≡ text.old ++ (codes "invoked " ++ signed_decimal id
+        ++ codes " " ++ operation_name tables.now operation
+        ++ field_by tables.now.types (argument_type tables.now operation) argument.now
+        ++ linked_field linked)) }
+{
+    text.put("invoked ")?;
+    text.put_signed(id)?;
+    text.put(" ")?;
+    put_operation(text, tables, operation)?;
+    put_argument(text, tables, operation, argument)?;
+    put_linked(text, linked)
+}
+
+/// A reject behind the name of what became of it, with its invocation and its problem.
+fn put_reject(
+    text: &mut Text,
+    name: &str,
+    id: Option<i64>,
+    problem: Problem,
+) -> Result<(), NoMemory>
+    ensures { OnOk result (text.new ≡ text.old ++ (name.now ++ id_text id ++ codes " "
+        ++ problem_text problem)) }
+{
+    text.put(name)?;
+    put_id(text, id)?;
+    text.put(" ")?;
+    put_problem(text, problem)
+}
+
+/// An invocation that was cut off.
+fn put_cut(text: &mut Text, own: bool, id: i64) -> Result<(), NoMemory>
+    ensures { OnOk result (text.new ≡ text.old ++ (codes "cut " ++ own_text own ++ codes " "
+        ++ signed_decimal id)) }
+{
+    text.put("cut ")?;
+    text.put(own_word(own))?;
+    text.put(" ")?;
+    text.put_signed(id)
+}
+
 /// An indication. Values print by their types where they fit them, else by their form; that of a
 /// result by the operation of this end's own invocation, of which `own` are all that were accepted.
 pub fn put_indication(
@@ -174,14 +226,7 @@ pub fn put_indication(
             operation,
             linked,
             argument,
-        } => {
-            text.put("invoked ")?;
-            text.put_signed(*id)?;
-            text.put(" ")?;
-            put_operation(text, tables, *operation)?;
-            put_argument(text, tables, *operation, argument)?;
-            put_linked(text, *linked)
-        }
+        } => put_invoked(text, tables, *id, *operation, *linked, argument),
         Indication::Result { id, value } => {
             text.put("result ")?;
             text.put_signed(*id)?;
@@ -191,38 +236,12 @@ pub fn put_indication(
             id,
             error,
             parameter,
-        } => {
-            text.put("error ")?;
-            text.put_signed(*id)?;
-            text.put(" ")?;
-            put_error(text, tables, *error)?;
-            put_parameter(text, tables, *error, parameter)
-        }
-        Indication::Rejected { id, problem } => {
-            text.put("rejected ")?;
-            text.put_signed(*id)?;
-            text.put(" ")?;
-            put_problem(text, *problem)
-        }
-        Indication::RejectTaken { id, problem } => {
-            text.put("reject taken ")?;
-            put_id(text, *id)?;
-            text.put(" ")?;
-            put_problem(text, *problem)
-        }
-        Indication::RejectSent { id, problem } => {
-            text.put("reject sent ")?;
-            put_id(text, *id)?;
-            text.put(" ")?;
-            put_problem(text, *problem)
-        }
+        } => put_told_error(text, tables, "error ", *id, *error, parameter),
+        Indication::Rejected { id, problem } => put_reject(text, "rejected ", Some(*id), *problem),
+        Indication::RejectTaken { id, problem } => put_reject(text, "reject taken ", *id, *problem),
+        Indication::RejectSent { id, problem } => put_reject(text, "reject sent ", *id, *problem),
         Indication::BadReject => text.put("bad reject"),
-        Indication::Cut { own: is_own, id } => {
-            text.put("cut ")?;
-            text.put(own_word(*is_own))?;
-            text.put(" ")?;
-            text.put_signed(*id)
-        }
+        Indication::Cut { own: is_own, id } => put_cut(text, *is_own, *id),
         Indication::AlterTaken {
             add,
             delete,

@@ -15,7 +15,7 @@ use Rattle.asn1_types.specs.declared.row.Class.TheVariants.{Universal, Context}
 use Rattle.asn1_types.specs.declared.table.TypeTable.{TypeTable}
 use Rattle.asn1_types.specs.declared.value.Val.{Val}
 use Rattle.asn1_types.specs.Fits.{is_number}
-use Rattle.asn1_types.specs.Limits.{most_items}
+use Rattle.asn1_types.specs.Limits.{most_items, most_octets}
 use Rattle.asn1_types.specs.Writing.{written, writes, integer_octets, definite, base_128, subidentifiers}
 use Rattle.std.specs.List.{flat_map}
 use Rattle.packed_codec.specs.Numbers as packed_numbers
@@ -41,7 +41,7 @@ use Rattle.apdu_spelling.specs.Heads as heads
 use Rattle.apdu_spelling.specs.Rows.{head_rows, apdu_row, packed_apdu_row}
 use Rattle.apdu_spelling.specs.Values.{ber_value, packed_value}
 use Rattle.apdu_spelling.specs.Writing.{written_apdu, written_typed, written_carried, outcome_of, is_identifier, is_identifier_or_none, may_carry, may_return, is_typed, IsWritable}
-use Rattle.end_rules.specs.Base.{Base, most_octets}
+use Rattle.end_rules.specs.Base.{Base}
 use Rattle.end_rules.specs.Invoking.{is_too_long, is_too_long_in}
 use Rattle.end_model.specs.Seen.{number_seen}
 use Rattle.end_model.specs.Opens.{IsNumber, IsNamed, IsProblem, FitsReturned, fits_argument, fits_result, fits_parameter, operation_of_code, error_of_code}

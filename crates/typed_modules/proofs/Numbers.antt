@@ -1,5 +1,5 @@
 -- Walking a type adds typed rows alone.
-use Rattle.std.proofs.Common.{ℕ, zero, suc, ℤ, Bool, List, [], ◌∷◌, ◌++◌, Option, None, Some}
+use Rattle.std.proofs.Common.{ℕ, zero, suc, ℤ, pos, Bool, List, [], ◌∷◌, ◌++◌, Option, None, Some}
 use Rattle.std.specs.Prelude.{slice_get}
 use Rattle.notation_tokens.specs.declared.token.Located.{Located}
 use Rattle.asn1_types.specs.declared.row.Part.{Part}
@@ -13,7 +13,8 @@ use Rattle.operation_notation.specs.declared.module.DfltText.{DfltText}
 use Rattle.operation_notation.specs.declared.module.UseText.{UseText}
 use Rattle.module_faults.specs.Names.{or_none, find, type_at}
 use Rattle.module_compiler.specs.Scope.{Ground, behind}
-use Rattle.module_compiler.specs.Numbering.{Numbered, Walk, after, ◌>>=◌, give, none, add, add_if, range_row, size_of, kind_of, class_of, is_explicit, tag_row, tagged, default_number, with_default, part_of, parts_of, note, known, walk_new, walk_if_new, row_of, row_behind, named_row, plain_row, over, walk, type_row, use_of}
+use Rattle.asn1_types.specs.Numbered.{kind_numbered, class_numbered}
+use Rattle.module_compiler.specs.Numbering.{Numbered, Walk, after, ◌>>=◌, give, none, add, add_if, range_row, size_of, is_explicit, tag_row, tagged, default_number, with_default, part_of, parts_of, note, known, walk_new, walk_if_new, row_of, row_behind, named_row, plain_row, over, walk, type_row, use_of}
 use Rattle.typed_modules.proofs.TypedRows.{IsTyped, AreTyped, one_more}
 
 -- what walking gives has typed rows
@@ -56,7 +57,7 @@ range_typed (Some r) = tt
 keeps_tagged : (scope : Ground) (tag : Option TagText) (inner : TypeId) → Keeps (tagged scope tag inner)
 unfolding tagged
 keeps_tagged scope None inner = record { each = λ s t. t }
-keeps_tagged scope (Some tag) inner = record { each = λ s t. (keeps_add_if (class_of tag.class) (tag_row (is_explicit scope tag inner s) tag inner) (λ class. tt)).each s t }
+keeps_tagged scope (Some tag) inner = record { each = λ s t. (keeps_add_if (class_numbered (pos tag.class)) (tag_row (is_explicit scope tag inner s) tag inner) (λ class. tt)).each s t }
 
 typed_default : (name : List ℕ) (optional : Bool) (of : TypeId) (s : Numbered) (default : Option (Option ℤ)) → AreTyped s.rows → Typed (with_default name optional of s default)
 typed_default name optional of s None t = tt
@@ -108,7 +109,7 @@ module _ (inner : TypeTree → Walk TypeId) (keeps : (of : TypeTree) → Keeps (
   keeps_plain scope (octets size) = keeps_add_if (size_of size) rows.OctetString (λ n. tt)
   keeps_plain scope bits = keeps_add _ tt
   keeps_plain scope object_id = keeps_add _ tt
-  keeps_plain scope (text kind) = keeps_add_if (kind_of kind) rows.Text (λ k. tt)
+  keeps_plain scope (text kind) = keeps_add_if (kind_numbered (pos kind)) rows.Text (λ k. tt)
   keeps_plain scope (sequence_of item) = keeps_then (inner item) (λ of. add (rows.SequenceOf of)) (keeps item) (λ of. keeps_add _ tt)
   keeps_plain scope (set_of item) = keeps_then (inner item) (λ of. add (rows.SetOf of)) (keeps item) (λ of. keeps_add _ tt)
   keeps_plain scope (sequence ps) = keeps_then (parts_of inner [] ps) (λ parts. add (rows.Sequence parts)) (keeps_parts [] ps) (λ parts. keeps_add _ tt)

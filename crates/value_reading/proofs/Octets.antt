@@ -1,7 +1,8 @@
 -- Digits that are read two by two.
 use Rattle.std.proofs.Common.{◌≡◌, ℕ, ◌+◌, ◌-◌, ◌<◌, ◌≤◌, List, [], ◌∷◌, length, drop, get_or, None, Some, refl, arith, drop-cons, add-one}
 use Rattle.std.proofs.Math.ListN.{drop_of_length-le}
-use Rattle.value_reading.specs.Forms.{hex_value, of_digits, then_octet, octets_of}
+use Rattle.osi_base.specs.Hexadecimal.{octet_of}
+use Rattle.value_reading.specs.Forms.{then_octet, octets_of}
 
 pub dropped : (text : List ℕ) (i : ℕ) → i < length text → drop i text ≡ get_or text i 0 ∷ drop (i + 1) text
 dropped text i h = rw (add-one, drop-cons text i 0) refl
@@ -19,5 +20,5 @@ octets_one done digits place h few =
 
 pub octets_more : (done digits : List ℕ) (place : ℕ) → 2 ≤ length digits - place
     → octets_of done (drop place digits)
-    ≡ then_octet (λ read. octets_of read (drop (place + 2) digits)) done (of_digits (hex_value (get_or digits place 0)) (hex_value (get_or digits (place + 1) 0)))
+    ≡ then_octet (λ read. octets_of read (drop (place + 2) digits)) done (octet_of (get_or digits place 0) (get_or digits (place + 1) 0))
 octets_more done digits place h = rw (dropped_two digits place (omega arith)) refl

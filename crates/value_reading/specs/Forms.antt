@@ -1,6 +1,7 @@
 -- Values that are read by their form (the notation of X.680 for values).
-use Rattle.std.specs.Prelude.{ℕ, zero, suc, ◌+◌, ◌*◌, ◌-◌, ◌%◌, ◌==◌, nat_le, Bool, true, false, ◌&&◌, if◌then◌else◌, List, [], ◌∷◌, ◌++◌, length, take, drop, Option, None, Some, option_map, slice_get, codes}
+use Rattle.std.specs.Prelude.{ℕ, zero, suc, ◌+◌, ◌*◌, ◌-◌, ◌%◌, ◌==◌, Bool, true, false, ◌&&◌, if◌then◌else◌, List, [], ◌∷◌, ◌++◌, length, take, drop, Option, None, Some, option_map, slice_get, codes}
 use Rattle.std.specs.Str.{bytes_eq}
+use Rattle.osi_base.specs.Hexadecimal.{by_digits, octet_of}
 use Rattle.osi_base.specs.Oid.{is_oid}
 use Rattle.asn1_types.specs.Value as tree
 use Rattle.asn1_types.specs.Value.{Value}
@@ -9,19 +10,6 @@ use Rattle.value_reading.specs.Found.{Found, found_before}
 use Rattle.value_reading.specs.Words.{len_to, word, behind_word}
 
 -- ---- octets (X.680 23.12)
-
--- a hexadecimal digit, in either case
-abbrev pub hex_value : ℕ → Option ℕ
-hex_value digit =
-    if nat_le 48 digit && nat_le digit 57 then Some (digit - 48)
-    else if nat_le 65 digit && nat_le digit 70 then Some (digit - 65 + 10)
-    else if nat_le 97 digit && nat_le digit 102 then Some (digit - 97 + 10)
-    else None
-
-abbrev pub of_digits : Option ℕ → Option ℕ → Option ℕ
-of_digits None low = None
-of_digits (Some high) None = None
-of_digits (Some high) (Some low) = Some (16 * high + low)
 
 abbrev pub then_octet : (List ℕ → Option (List ℕ)) → List ℕ → Option ℕ → Option (List ℕ)
 then_octet next octets None = None
@@ -32,7 +20,7 @@ abbrev pub octets_of : List ℕ → List ℕ → Option (List ℕ)
 octets_of octets [] = Some octets
 octets_of octets (digit ∷ []) = None
 octets_of octets (high ∷ low ∷ more) =
-    then_octet (λ done. octets_of done more) octets (of_digits (hex_value high) (hex_value low))
+    then_octet (λ done. octets_of done more) octets (octet_of high low)
 
 -- ---- bits (X.680 22.13)
 
@@ -51,7 +39,7 @@ bit_at digits place = bit_of (slice_get digits place)
 -- the octet that up to eight bits begin, the highest first
 abbrev pub octet_of_bits : List ℕ → Option ℕ
 octet_of_bits digits =
-    of_digits (of_bits (bit_at digits 0) (bit_at digits 1) (bit_at digits 2) (bit_at digits 3))
+    by_digits (of_bits (bit_at digits 0) (bit_at digits 1) (bit_at digits 2) (bit_at digits 3))
     (of_bits (bit_at digits 4) (bit_at digits 5) (bit_at digits 6) (bit_at digits 7))
 
 -- octets of eight bits each, the last filled with zeros, behind those that were read

@@ -5,12 +5,12 @@ ghost use Rattle.asn1_types.specs.Value as tree;
 ghost use Rattle.asn1_types.specs.ValueView.{value_of};
 ghost use Rattle.value_reading.specs.Found.{found, found_before};
 ghost use Rattle.value_reading.specs.Words.{len_to, word, behind_word};
-ghost use Rattle.value_reading.specs.Forms.{hex_value, of_digits, octets_of, bit_of, bit_at, of_bits, octet_of_bits, bit_octets, by_letter, quoted_form, characters_at, oid_before, arcs_at, word_form, form_at};
+ghost use Rattle.value_reading.specs.Forms.{octets_of, bit_of, bit_at, of_bits, octet_of_bits, bit_octets, by_letter, quoted_form, characters_at, oid_before, arcs_at, word_form, form_at};
 
 use crate::front::Front;
 use crate::word::{behind_word, from, len_to, up_to, word};
 use asn1_types::{Node, Val};
-use osi_base::{NoMemory, Octets, Oid};
+use osi_base::{NoMemory, Octets, Oid, octet_of_digits};
 use std::alloc::Global;
 use value_text::{integer, number};
 
@@ -105,28 +105,6 @@ fn before(value: Option<Val>, rest: &[u8]) -> Option<Front<'_>>
     })
 }
 
-/// The number of a hexadecimal digit, in either case.
-fn hex_value(digit: u8) -> Option<u8>
-    ensures value { result ≡ hex_value digit }
-    ensures small { IfSome result (λ value. value < 16) }
-{
-    match digit {
-        b'0'..=b'9' => Some(digit - b'0'),
-        b'A'..=b'F' => Some(digit - b'A' + 10),
-        b'a'..=b'f' => Some(digit - b'a' + 10),
-        _ => None,
-    }
-}
-
-/// The octet of two hexadecimal digits.
-fn hex_octet(high: u8, low: u8) -> Option<u8>
-    ensures { result ≡ of_digits (hex_value high) (hex_value low) }
-{
-    let high = hex_value(high)?;
-    let low = hex_value(low)?;
-    Some(16 * high + low)
-}
-
 /// The octets that hexadecimal digits write, two each.
 #[tactic(auto, using(crate::proofs::Octets::octets_end, crate::proofs::Octets::octets_one, crate::proofs::Octets::octets_more))]
 fn read_octets(alloc: Global, digits: &[u8]) -> Result<Option<Octets>, NoMemory>
@@ -138,7 +116,7 @@ fn read_octets(alloc: Global, digits: &[u8]) -> Result<Option<Octets>, NoMemory>
         if digits.len() - place < 2 {
             return Ok(None);
         }
-        let Some(octet) = hex_octet(digits[place], digits[place + 1]) else {
+        let Some(octet) = octet_of_digits(digits[place], digits[place + 1]) else {
             return Ok(None);
         };
         octets.push(octet)?;

@@ -1,7 +1,7 @@
 use Rattle.association_words.specs.Seen.{seen_values}
 use Rattle.end_rules.specs.Hearing.{take_values}
 use Rattle.association_state.specs.Seen.{base_in, seen}
-use Rattle.association_hearing.specs.Took.{TookAs}
+use Rattle.association_hearing.specs.ValuesTaken.{TookAs}
 use Rattle.association_hearing.proofs.values.take_values.Given as goal
 
 abbrev pub invariant-loop-value : goal.invariant-loop-value

@@ -13,8 +13,8 @@ use Rattle.ber_spelling.specs.Reading.{opened_of, spot_of, ahead_of, LiesIn}
 use Rattle.ber_spelling.specs.Rules.{items_at, list_item_at, list_done, set_item_at, set_of_done, reads, slot_at, set_done, is_free, is_filled, plain, bare}
 use Rattle.ber_reading.proofs.Slots.{none_length, set_length, slot_taken, slot_fails, slot_gives, set_full, set_lacks, turns_lack, late_fails}
 use Rattle.ber_reading.proofs.Rows.{reads_at}
-use Rattle.ber_reading.proofs.AtOnce.{reads_it, lower}
-use Rattle.ber_reading.specs.AtOnce.{integer_opened, behind}
+use Rattle.ber_reading.proofs.ShortParts.{reads_it, lower}
+use Rattle.ber_reading.specs.ShortParts.{integer_opened, behind}
 use Rattle.std.specs.Vec.{vec_len}
 use Rattle.std.proofs.lemmas.Int.{to_z-of_z}
 use mir.Syntax.{w64}
@@ -31,13 +31,13 @@ use Rattle.ber_reading.proofs.read.+reading.Goals as goal
 
 pub choice-begins-requires : goal.choice-begins-requires
 choice-begins-requires t c =
-    let lt : c.index-alternatives-which.result.inner.0 < c.args.of.0 = each_part (λ m. m < c.args.of.0) c.args.alternatives.now c.loop-which.which c.index-alternatives-which.result c.requires.below c.loop-which-test.true c.index-alternatives-which.is in
+    let lt : c.index-alternatives-which.result.inner.0 < c.args.of.0 = each_part (λ m. m < c.args.of.0) c.args.alternatives.now c.loop-which.which c.index-alternatives-which.result c.requires.reads.below c.loop-which-test.true c.index-alternatives-which.is in
     omega arith
 
 pub choice-value-requires : goal.choice-value-requires
 choice-value-requires t c =
-    let lt : c.index-alternatives-which.result.inner.0 < c.args.of.0 = each_part (λ m. m < c.args.of.0) c.args.alternatives.now c.loop-which.which c.index-alternatives-which.result c.requires.below c.loop-which-test.true c.index-alternatives-which.is in
-    (omega arith, (omega arith, (c.requires.whole, c.requires.start)))
+    let lt : c.index-alternatives-which.result.inner.0 < c.args.of.0 = each_part (λ m. m < c.args.of.0) c.args.alternatives.now c.loop-which.which c.index-alternatives-which.result c.requires.reads.below c.loop-which-test.true c.index-alternatives-which.is in
+    (omega arith, (omega arith, (c.requires.reads.whole, c.requires.start)))
 
 pub sequence-returns-in_err-found-clause-gives : goal.sequence-returns-in_err-found-clause-gives
 sequence-returns-in_err-found-clause-gives t c =
@@ -50,7 +50,7 @@ sequence-returns-clause-gives t c =
 
 pub tagged_choice-choice-requires : goal.tagged_choice-choice-requires
 tagged_choice-choice-requires t c =
-    (omega arith, (rw c.as_slice.ensures c.requires.below, (c.requires.row, (rw c.as_slice.ensures c.requires.few, (omega (arith, c.in_ok-inside.ensures.onward.whole), c.in_ok-inside.ensures.stops)))))
+    (omega arith, (record { below = rw c.as_slice.ensures c.requires.reads.below; row = c.requires.reads.row; whole = omega (arith, c.in_ok-inside.ensures.onward.whole) }, (rw c.as_slice.ensures c.requires.few, c.in_ok-inside.ensures.stops)))
 
 pub value-returns-clause-gives : goal.value-returns-clause-gives
 value-returns-clause-gives t c =
@@ -60,28 +60,28 @@ pub value_as-sequence-requires : goal.value_as-sequence-requires
 value_as-sequence-requires t c =
     let lt = slice_get_within c.args.table.now c.args.of.0 c.args.row.now c.requires.row in
     let down = down_as c.args.table.now c.args.of.0 c.args.row.now (Sequence c.in-Sequence.parts) c.requires.sound c.requires.row c.in-Sequence.is in
-    (omega arith, (down, (omega arith, c.requires.whole)))
+    (omega arith, record { below = down; row = omega arith; whole = c.requires.whole })
 
 pub value_as-choice-requires : goal.value_as-choice-requires
 value_as-choice-requires t c =
     let lt = slice_get_within c.args.table.now c.args.of.0 c.args.row.now c.requires.row in
     let down = down_as c.args.table.now c.args.of.0 c.args.row.now (Choice c.in-Choice.alternatives) c.requires.sound c.requires.row c.in-Choice.is in
     let few = choice_few c.args.table.now c.args.of.0 c.args.row.now c.in-Choice.alternatives c.requires.sound c.requires.row c.in-Choice.is in
-    (omega arith, (rw c.as_slice-in-None.ensures down, (omega arith, (rw c.as_slice-in-None.ensures (omega arith), (c.requires.whole, c.requires.start)))))
+    (omega arith, (record { below = rw c.as_slice-in-None.ensures down; row = omega arith; whole = c.requires.whole }, (rw c.as_slice-in-None.ensures (omega arith), c.requires.start)))
 
 pub value_as-tagged_choice-requires : goal.value_as-tagged_choice-requires
 value_as-tagged_choice-requires t c =
     let lt = slice_get_within c.args.table.now c.args.of.0 c.args.row.now c.requires.row in
     let down = down_as c.args.table.now c.args.of.0 c.args.row.now (Choice c.in-Choice.alternatives) c.requires.sound c.requires.row c.in-Choice.is in
     let few = choice_few c.args.table.now c.args.of.0 c.args.row.now c.in-Choice.alternatives c.requires.sound c.requires.row c.in-Choice.is in
-    (omega arith, (down, (omega arith, (omega arith, c.requires.whole))))
+    (omega arith, (record { below = down; row = omega arith; whole = c.requires.whole }, omega arith))
 
 pub value_as-tagged-requires : goal.value_as-tagged-requires
 value_as-tagged-requires t c =
     let lt = slice_get_within c.args.table.now c.args.of.0 c.args.row.now c.requires.row in
     let down = down_as c.args.table.now c.args.of.0 c.args.row.now (Tagged c.in-Tagged.class c.in-Tagged.number c.in-Tagged.explicit c.in-Tagged.inner) c.requires.sound c.requires.row c.in-Tagged.is in
     let below : c.in-Tagged.inner.0 < c.args.of.0 = down.0 in
-    (omega arith, (below, (omega arith, c.requires.whole)))
+    (omega arith, record { below = below; row = omega arith; whole = c.requires.whole })
 
 pub value_as-value-requires : goal.value_as-value-requires
 value_as-value-requires t c =
@@ -95,7 +95,7 @@ value_as-list-requires t c =
     let lt = slice_get_within c.args.table.now c.args.of.0 c.args.row.now c.requires.row in
     let down = down_as c.args.table.now c.args.of.0 c.args.row.now (SequenceOf c.in-SequenceOf.inner) c.requires.sound c.requires.row c.in-SequenceOf.is in
     let below : c.in-SequenceOf.inner.0 < c.args.of.0 = down.0 in
-    (omega arith, (below, (omega arith, c.requires.whole)))
+    (omega arith, record { below = below; row = omega arith; whole = c.requires.whole })
 
 pub items-returns-in_err-after-clause-gives : goal.items-returns-in_err-after-clause-gives
 items-returns-in_err-after-clause-gives t c =
@@ -138,7 +138,7 @@ value_as-set_of-requires t c =
     let lt = slice_get_within c.args.table.now c.args.of.0 c.args.row.now c.requires.row in
     let down = down_as c.args.table.now c.args.of.0 c.args.row.now (SetOf c.in-SetOf.inner) c.requires.sound c.requires.row c.in-SetOf.is in
     let below : c.in-SetOf.inner.0 < c.args.of.0 = down.0 in
-    (omega arith, (below, (omega arith, c.requires.whole)))
+    (omega arith, record { below = below; row = omega arith; whole = c.requires.whole })
 
 pub set_items-returns-in_err-after-clause-gives : goal.set_items-returns-in_err-after-clause-gives
 set_items-returns-in_err-after-clause-gives t c =
@@ -180,17 +180,17 @@ pub value_as-set-requires : goal.value_as-set-requires
 value_as-set-requires t c =
     let lt = slice_get_within c.args.table.now c.args.of.0 c.args.row.now c.requires.row in
     let down = down_as c.args.table.now c.args.of.0 c.args.row.now (Set c.in-Set.parts) c.requires.sound c.requires.row c.in-Set.is in
-    (omega arith, (down, (omega arith, c.requires.whole)))
+    (omega arith, record { below = down; row = omega arith; whole = c.requires.whole })
 
 pub slot-begins-requires : goal.slot-begins-requires
 slot-begins-requires t c =
-    let lt : c.index-parts-which.result.inner.0 < c.args.of.0 = each_part (λ m. m < c.args.of.0) c.args.parts.now c.loop-which.which c.index-parts-which.result c.requires.below c.loop-which-test.true c.index-parts-which.is in
+    let lt : c.index-parts-which.result.inner.0 < c.args.of.0 = each_part (λ m. m < c.args.of.0) c.args.parts.now c.loop-which.which c.index-parts-which.result c.requires.reads.below c.loop-which-test.true c.index-parts-which.is in
     omega arith
 
 pub slot-ordered-requires : goal.slot-ordered-requires
 slot-ordered-requires t c =
-    let lt : c.index-parts-which.result.inner.0 < c.args.of.0 = each_part (λ m. m < c.args.of.0) c.args.parts.now c.loop-which.which c.index-parts-which.result c.requires.below c.loop-which-test.true c.index-parts-which.is in
-    (omega arith, (lt, (c.requires.row, (c.requires.whole, c.requires.start))))
+    let lt : c.index-parts-which.result.inner.0 < c.args.of.0 = each_part (λ m. m < c.args.of.0) c.args.parts.now c.loop-which.which c.index-parts-which.result c.requires.reads.below c.loop-which-test.true c.index-parts-which.is in
+    (omega arith, (record { below = lt; row = c.requires.reads.row; whole = c.requires.reads.whole }, c.requires.start))
 
 pub slot-returns-then-not-is_free-clause-gives : goal.slot-returns-then-not-is_free-clause-gives
 slot-returns-then-not-is_free-clause-gives t c =
@@ -292,7 +292,7 @@ items-loop-turn-preserved-in-Some t c =
 pub parts_of-part_of-requires : goal.parts_of-part_of-requires
 parts_of-part_of-requires t c =
     let lt : c.index-parts-len.result.inner.0 < c.args.of.0 = each_part (λ m. m < c.args.of.0) c.args.parts.now c.len-in-loop-alloc.result c.index-parts-len.result c.requires.below (omega arith) c.index-parts-len.is in
-    (omega arith, (lt, (c.requires.row, omega (arith, c.requires.whole, c.loop-alloc.invariant.onward.whole))))
+    (omega arith, record { below = lt; row = c.requires.row; whole = omega (arith, c.requires.whole, c.loop-alloc.invariant.onward.whole) })
 
 pub parts_of-returns-in_err-value-clause-gives : goal.parts_of-returns-in_err-value-clause-gives
 parts_of-returns-in_err-value-clause-gives t c =
@@ -350,5 +350,5 @@ value_as-returns-in-Integer-clause-gives t c =
 
 pub slot-late-requires : goal.slot-late-requires
 slot-late-requires t c =
-    let lt : c.index-parts-which.result.inner.0 < c.args.of.0 = each_part (λ m. m < c.args.of.0) c.args.parts.now c.loop-which.which c.index-parts-which.result c.requires.below c.loop-which-test.true c.index-parts-which.is in
-    (omega arith, (lt, (c.requires.row, c.requires.whole)))
+    let lt : c.index-parts-which.result.inner.0 < c.args.of.0 = each_part (λ m. m < c.args.of.0) c.args.parts.now c.loop-which.which c.index-parts-which.result c.requires.reads.below c.loop-which-test.true c.index-parts-which.is in
+    (omega arith, record { below = lt; row = c.requires.reads.row; whole = c.requires.reads.whole })

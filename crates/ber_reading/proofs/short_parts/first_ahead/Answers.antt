@@ -4,7 +4,7 @@ use mir.Syntax.{w64}
 use mir.Val.{SFits}
 use Rattle.std.specs.Prelude.{Some}
 use Rattle.ber_spelling.specs.Reading.{spot_of}
-use Rattle.ber_reading.proofs.AtOnce.{choice_ahead}
+use Rattle.ber_reading.proofs.ShortParts.{choice_ahead}
 use Rattle.ber_reading.proofs.short_parts.first_ahead.Goals as goal
 
 pub returns-in-Integer-clause-gives : goal.returns-in-Integer-clause-gives

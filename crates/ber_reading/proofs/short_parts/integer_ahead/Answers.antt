@@ -6,7 +6,7 @@ use mir.Val.{SFits}
 use Rattle.std.specs.Prelude.{take, drop, slice_index_or, option_map}
 use Rattle.asn1_types.specs.Value as tree
 use Rattle.ber_spelling.specs.Rules.{integer_rule}
-use Rattle.ber_reading.proofs.AtOnce.{integer_looks, integer_is}
+use Rattle.ber_reading.proofs.ShortParts.{integer_looks, integer_is}
 use Rattle.ber_reading.proofs.short_parts.integer_ahead.Goals as goal
 
 pub returns-clause-looks : goal.returns-clause-looks

@@ -3,7 +3,7 @@ use Rattle.std.specs.Prelude.{slice_index_or}
 use Rattle.std.proofs.lemmas.Bool.{ne_eqb}
 use Rattle.asn1_types.specs.Rows.{begins}
 use Rattle.ber_spelling.specs.Reading.{spot_of}
-use Rattle.ber_reading.proofs.AtOnce.{looks, absent_is}
+use Rattle.ber_reading.proofs.ShortParts.{looks, absent_is}
 use Rattle.ber_reading.proofs.short_parts.is_absent.Goals as goal
 
 falls : (b : Bool) → not b ≡ true → b ≡ false

@@ -11,7 +11,7 @@ use Rattle.asn1_types.proofs.Sound.{each_part, choice_down}
 use Rattle.ber_spelling.specs.Reading.{spot_of}
 use Rattle.ber_spelling.specs.Rules.{reads, is_other}
 use Rattle.ber_spelling.proofs.Loops.{goes_then}
-use Rattle.ber_reading.proofs.AtOnce.{lower, part_is, choice_part, no_choice}
+use Rattle.ber_reading.proofs.ShortParts.{lower, part_is, choice_part, no_choice}
 use Rattle.ber_reading.proofs.PartsFrom.{part_goes_on}
 use Rattle.ber_reading.proofs.short_parts.parts_at_once.Goals.{in-Integer+in-Some+else-not-is_other_number, in-Choice+in-Some-first+in-Ok, in_default+else-not-is_absent}
 use Rattle.ber_reading.proofs.short_parts.parts_at_once.Goals as goal

@@ -1,5 +1,5 @@
 use Rattle.std.proofs.Common.{rules}
-use Rattle.ber_reading.proofs.AtOnce.{begins_by}
+use Rattle.ber_reading.proofs.ShortParts.{begins_by}
 use Rattle.ber_reading.proofs.short_parts.row_begins.Goals as goal
 
 pub returns-then-same_class : goal.returns-then-same_class

@@ -1,5 +1,5 @@
 use Rattle.std.proofs.Common.{◌+◌, ◌∙◌, ap, arith}
-use Rattle.ber_spelling.specs.Fields.{number_from}
+use Rattle.asn1_types.specs.Whole.{number_256}
 use Rattle.ber_spelling.specs.Octets.{AreOctets}
 use Rattle.ber_spelling.proofs.Numbers.{number_high, signed_low, signed_high, again}
 use Rattle.ber_spelling.proofs.primitives.signed_of.Goals as goal
@@ -13,13 +13,13 @@ pub returns-then-octets-lt128 : goal.returns-then-octets-lt128
 returns-then-octets-lt128 c =
     let os = c.args.octets.now in
     let octets : AreOctets os = record { each = λ i. omega (arith, c.type_inv.octets i) } in
-    again c.cast_signed.result c.number_of-number.result (number_from 0 os) c.cast_signed.ensures (omega arith) c.number_of-number.ensures
+    again c.cast_signed.result c.number_256-number.result (number_256 0 os) c.cast_signed.ensures (omega arith) c.number_256-number.ensures
     ∙ signed_low os octets c.requires.some c.requires.few c.if-octets-lt128.true
 
 pub returns-else-octets-lt128 : goal.returns-else-octets-lt128
 returns-else-octets-lt128 c =
     let os = c.args.octets.now in
     let octets : AreOctets os = record { each = λ i. omega (arith, c.type_inv.octets i) } in
-    again c.cast_signed-else-octets-lt128.result (c.number_of-number.result + c.ones_above.result) (number_from 0 os + c.ones_above.result) c.cast_signed-else-octets-lt128.ensures
-    (omega (arith, number_high 0 os octets)) (ap (λ n. n + c.ones_above.result) c.number_of-number.ensures)
+    again c.cast_signed-else-octets-lt128.result (c.number_256-number.result + c.ones_above.result) (number_256 0 os + c.ones_above.result) c.cast_signed-else-octets-lt128.ensures
+    (omega (arith, number_high 0 os octets)) (ap (λ n. n + c.ones_above.result) c.number_256-number.ensures)
     ∙ signed_high os c.ones_above.result octets c.requires.some c.requires.few c.if-octets-lt128.false c.ones_above.ensures

@@ -1,5 +1,5 @@
 use Rattle.std.proofs.Common.{ℕ, Bool, List, length}
-use Rattle.trace_vectors.specs.Putting.{AllPut}
+use Rattle.trace_vectors.specs.ShownSoFar.{AllPut}
 use Rattle.trace_vectors.proofs.direction.put_all.Given as goal
 
 abbrev pub invariant-loop-packet : goal.invariant-loop-packet

@@ -1,6 +1,6 @@
 use Rattle.std.proofs.Common.{ℕ, List, ◌++◌, length}
 use Rattle.trace_vectors.specs.Trace.{Sent, nothing_sent, TraceBehind}
-use Rattle.trace_vectors.specs.Putting.{BothStand}
+use Rattle.trace_vectors.specs.ShownSoFar.{BothStand}
 use Rattle.trace_vectors.proofs.trace.trace_text.Given as goal
 
 abbrev pub invariant-loop-recorded : goal.invariant-loop-recorded

@@ -1,7 +1,7 @@
 use Rattle.std.proofs.Common.{List, subst}
 use Rattle.std.proofs.lemmas.Result.{err_from_is_err_and}
 use Rattle.dialogue.specs.declared.indication.Indication.{Indication}
-use Rattle.association_end.specs.Doing.{ReadAll}
+use Rattle.association_end.specs.Progress.{ReadAll}
 use Rattle.association_end.proofs.Feeds.{fed_all, began_own, began_reading, began_nothing}
 use Rattle.association_end.proofs.end.End.feed_now.Goals as goal
 

@@ -1,5 +1,5 @@
 use Rattle.std.proofs.Common.{Bool, subst}
-use Rattle.association_end.specs.Doing.{OwnGoes}
+use Rattle.association_end.specs.Progress.{OwnGoes}
 use Rattle.association_end.proofs.Dealing.{on_err}
 use Rattle.association_end.proofs.Own.{own_on_start, own_on_more, own_on_end, own_on_kept, less_left}
 use Rattle.association_end.proofs.end.End.pump.Goals as goal

@@ -4,7 +4,7 @@ use Rattle.end_rules.specs.State.{passes_over}
 use Rattle.association_intake.specs.Seen.{seen_front}
 use Rattle.association_state.specs.Seen.{seen}
 use Rattle.association_end.specs.View.{EndView}
-use Rattle.association_end.specs.Doing.{Keeps}
+use Rattle.association_end.specs.Progress.{Keeps}
 use Rattle.association_end.specs.Reacted.{ReactedTo, with_body}
 use Rattle.association_end.proofs.Inside.{view_in}
 use Rattle.association_end.proofs.Sounds.{up_some, sound_body}

@@ -1,5 +1,5 @@
 use Rattle.std.proofs.Common.{Bool, sym, subst, ◌∙◌}
-use Rattle.association_end.specs.Doing.{Goes, DealtWith}
+use Rattle.association_end.specs.Progress.{Goes, DealtWith}
 use Rattle.association_end.proofs.Dealing.{on_err}
 use Rattle.association_end.proofs.Feeds.{reads_on_start, reads_on_more, reads_on_end, reads_on_over, reads_on_kept}
 use Rattle.association_end.proofs.end.End.read_all.Goals as goal

@@ -1,4 +1,4 @@
-use Rattle.association_end.specs.Doing.{ReadsOn, messages_left}
+use Rattle.association_end.specs.Progress.{ReadsOn, messages_left}
 use Rattle.association_end.proofs.end.End.read_all.Given as goal
 
 abbrev pub invariant-reading : goal.invariant-reading

@@ -1,8 +1,7 @@
 use Rattle.std.proofs.Common.{sym, ap, ◌∙◌}
 use Rattle.stub_tables.specs.Uses.{is_carried}
 use Rattle.end_rules.specs.State.{OpenCall}
-use Rattle.end_rules.specs.Invoking.{error_apdu}
-use Rattle.bare_end.specs.Checking.{can_refuse_with}
+use Rattle.end_rules.specs.Invoking.{error_apdu, can_refuse_with}
 use Rattle.bare_end.specs.View.{EndView, base, body}
 use Rattle.bare_end.proofs.Answered.{outcome_checked, refuse_row}
 use Rattle.bare_end.proofs.end.End.check_refuse.Goals as goal

@@ -1,6 +1,6 @@
 use Rattle.std.proofs.Common.{◌≤◌, ◌-◌, ◌≡◌, codes, length}
+use Rattle.osi_base.specs.Limits.{most_32}
 use Rattle.notation_tokens.specs.Lexeme.{goes_on}
-use Rattle.notation_tokens.specs.Words.{most_32}
 use Rattle.operation_notation.specs.Reading.{many_at}
 use Rattle.operation_notation.specs.ReadingTypes.{arc_at}
 use Rattle.operation_notation.proofs.Loops.{with_front}

@@ -4,7 +4,7 @@ use Rattle.stub_tables.specs.Lookup.{operation_at}
 use Rattle.stub_tables.specs.Apdus.{placed, argument_of}
 use Rattle.end_rules.specs.Hearing.{first_problem}
 use Rattle.rose_roles.specs.Heads.{Carries}
-use Rattle.rose_roles.specs.Judging.{argument_problem}
+use Rattle.rose_roles.specs.ApduProblems.{argument_problem}
 use Rattle.rose_roles.proofs.Hearings.{later, is_free_of}
 use Rattle.rose_roles.proofs.performer.Performer.judge.Goals as goal
 

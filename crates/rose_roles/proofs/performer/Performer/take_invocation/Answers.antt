@@ -3,7 +3,7 @@ use Rattle.end_rules.specs.Hearing as rules
 use Rattle.rose_roles.specs.declared.apdu_problems.Judged.{Judged}
 use Rattle.rose_roles.specs.Calls.{Performing, calls_of}
 use Rattle.rose_roles.specs.Hearing.{heard_with}
-use Rattle.rose_roles.specs.Judging.{early_problem, invoke_problem, IsJudged, IsFree}
+use Rattle.rose_roles.specs.ApduProblems.{early_problem, invoke_problem, IsJudged, IsFree}
 use Rattle.rose_roles.proofs.Keys.{apart}
 use Rattle.rose_roles.proofs.Counts.{Once, once_sorted}
 use Rattle.rose_roles.proofs.Hearings.{is_free, link_open, heard_wrong, heard_right}

@@ -1,6 +1,6 @@
 use Rattle.std.proofs.Common.{List, subst}
 use Rattle.tpkt.specs.declared.packet.Packet.{Packet}
-use Rattle.trace_vectors.specs.Putting.{AllPut}
+use Rattle.trace_vectors.specs.ShownSoFar.{AllPut}
 use Rattle.trace_vectors.proofs.ShownLaws.{over_shown, fed_shown}
 use Rattle.trace_vectors.proofs.direction.Direction.show.Goals as goal
 

@@ -1,0 +1,15 @@
+use Rattle.std.proofs.Common.{ap, ◌∙◌, length}
+use Rattle.std.proofs.lemmas.Int.{to_z-of_z}
+use mir.Syntax.{w64}
+use Rattle.asn1_types.specs.Writing.{saturated}
+use Rattle.apdu_spelling.specs.Heads.{or_none}
+use Rattle.apdu_spelling.specs.Writing.{written_carried}
+use Rattle.apdu_codec.proofs.Sizes.{error_told}
+use Rattle.apdu_codec.proofs.lengths.error_len.Goals as goal
+
+pub returns : goal.returns
+returns c =
+    let carried = c.carried_len-carried.ensures ∙ ap (λ used. saturated (length (or_none (written_carried c.args.syntax c.args.tables.now.types used c.args.parameter.now)))) c.parameter_use-used.ensures in
+    let id = rw (to_z-of_z w64 c.args.id c.ranges.id) at c.integer_len.ensures in
+    error_told c.args.syntax c.args.id c.args.code.now _ _ _ _ _ _ _ _ id carried c.code_len.ensures c.marked_len.ensures c.saturating_add-behind.ensures c.saturating_add-contents.ensures
+    c.held_len.ensures
