@@ -133,6 +133,24 @@ end A up
 end B up
 ",
         ),
+        // the events are printed, with one space between fields, and not the lines of the schedule
+        (
+            "mode bare\nA invoke 0 add  5\ncarry A all\nB answer 1   5\ncarry B all\n",
+            "mode bare
+1 A invoke 0 add 5
+  ok 1
+2 carry A all
+  A>B A1 09 02 01 01 02 01 01 02 01 05
+  B: invoked 1 add 5
+3 B answer 1 5
+  ok
+4 carry B all
+  B>A A2 0B 02 01 01 30 06 02 01 01 02 01 05
+  A: result 1 5
+end A up
+end B up
+",
+        ),
         (
             "mode bare\nB answer 1 5\n",
             "mode bare

@@ -93,3 +93,11 @@ given = transferred ++ Calls Initiator the_calls.Give ∷ b_takes ++ a_takes
 -- a break while the turn is given: it is at the initiator again
 abbrev pub broken_giving : List Event
 broken_giving = transferred ++ Calls Initiator the_calls.Give ∷ b_takes ++ Breaks ∷ recovery
+
+-- the responder, which hasn't the turn, has an invocation to send
+abbrev pub without_turn : List Event
+without_turn = opening ++ Calls Responder (the_calls.Invoke 5 0 None None) ∷ []
+
+-- the end of a transfer is sent and not confirmed, and a second invocation waits behind it
+abbrev pub end_unconfirmed : List Event
+end_unconfirmed = two_marks ++ a_takes ++ times 2 a_acts ++ Calls Initiator (the_calls.Invoke 5 0 None None) ∷ []

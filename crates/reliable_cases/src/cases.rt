@@ -5,11 +5,13 @@ ghost use Rattle.std.specs.Prelude.{◌≡◌, pos, [], ◌∷◌, Some, None, t
 ghost use Rattle.dialogue.specs.declared.config.Phase.TheVariants as phases;
 ghost use Rattle.dialogue.specs.declared.indication.Indication.TheVariants as indications;
 ghost use Rattle.end_rules.specs.State.{is_current, is_suspended, is_running, confirmed_of, pieces_of, highest};
-ghost use Rattle.end_rules.specs.ByItself.{next_own};
+ghost use Rattle.end_rules.specs.Messages.{OfActivities, Session, Start};
+ghost use Rattle.end_rules.specs.ByItself.{SendsNow, next_own};
 ghost use Rattle.agreement.specs.Sets.Role.{Initiator, Responder};
 ghost use Rattle.end_model.specs.Pairs.{base_at};
 ghost use Rattle.reliable_cases.specs.Played.{Leads, PlayedIsReached};
-ghost use Rattle.reliable_cases.specs.Events.{calc_pair, opening, begun, transferred, broken, resumed, confirmed_again, interrupted, interrupted_resumed, discarded, next_after_discard, given, broken_giving};
+ghost use Rattle.reliable_cases.specs.Events.{calc_pair, opening, begun, transferred, broken, resumed, confirmed_again, interrupted, interrupted_resumed, discarded, next_after_discard, given, broken_giving, without_turn, end_unconfirmed};
+ghost use Rattle.reliable_cases.specs.Copies.{next_without_turn, next_early};
 
 /// What is played is reached: each event is a step of two ends.
 pub fn played_is_reached()
@@ -131,4 +133,22 @@ pub fn number_of_discarded_is_spent()
         × (place.told_b ≡ indications.Opened ∷ indications.Discarded 1
         ∷ indications.Invoked (pos 1) 0 None None ∷ [])
         × (place.ledger.deeds.b.arrived ≡ 2 ∷ [])) }
+{}
+
+/// An end that has an invocation to send and not the turn does nothing by itself. One that leads
+/// without the turn starts an activity.
+pub fn nothing_starts_without_the_turn()
+    ensures waits { Leads calc_pair without_turn (λ place.
+        (next_own (base_at Responder calc_pair) place.two.b ≡ None)
+        × (next_without_turn (base_at Responder calc_pair) place.two.b
+        ≡ Some (SendsNow (Session (OfActivities (Start 1)))))) }
+{}
+
+/// While the end of a transfer isn't confirmed the invocation behind it waits. An end that starts
+/// the next item before the end is confirmed starts activity 2.
+pub fn next_item_waits_for_the_end()
+    ensures waits { Leads calc_pair end_unconfirmed (λ place.
+        (next_own (base_at Initiator calc_pair) place.two.a ≡ None)
+        × (next_early (base_at Initiator calc_pair) place.two.a
+        ≡ Some (SendsNow (Session (OfActivities (Start 2)))))) }
 {}
