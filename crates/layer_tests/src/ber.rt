@@ -64,9 +64,12 @@ const TABLE: [Row; 13] = [
     Row::Set(&[("a", INTEGER, false, None), ("b", BOOLEAN, true, None)]),
 ];
 
-/// Octets of a type: what they are read as in BER and in DER, and how their value is written. Each
-/// follows from the section of X.690 that is named above it, and its place from counting octets.
-const ROWS: [(u32, &'static [u8], Outcome, Outcome, &'static [u8]); 38] = [
+/// Octets of a type: what they are read as in BER and in DER, and how their value is written.
+type Sample = (u32, &'static [u8], Outcome, Outcome, &'static [u8]);
+
+/// Each row follows from the section of X.690 that is named above it, and its place from counting
+/// octets.
+const ROWS: [Sample; 38] = [
     // 8.3.2: a number has no more octets than it needs; 8.1.3.5, 10.1: DER's length neither.
     (
         INTEGER,
@@ -397,14 +400,19 @@ fn is_rewritten(
     }
 }
 
+/// Whether a row's octets are read in BER and in DER as it says, and its value is written so.
+fn is_so(rt: &impl Abort, alloc: Global, table: &TypeTable, row: &Sample) -> bool {
+    let (of, octets, ber, der, written) = row;
+    used_within(rt, alloc, table, *of, octets, LIMIT) == reading(*ber)
+        && der_used(rt, alloc, table, *of, octets) == reading(*der)
+        && is_rewritten(rt, alloc, table, *of, octets, written)
+}
+
 #[test]
 fn worked_rows(rt: HostRuntime) {
-    let alloc = rt.alloc();
-    let table = table(&rt, alloc, &TABLE);
-    for (of, octets, ber, der, written) in &ROWS {
-        assert!(rt; used_within(&rt, alloc, &table, *of, octets, LIMIT) == reading(*ber));
-        assert!(rt; is_rewritten(&rt, alloc, &table, *of, octets, written));
-        assert!(rt; der_used(&rt, alloc, &table, *of, octets) == reading(*der));
+    let table = table(&rt, rt.alloc(), &TABLE);
+    for row in &ROWS {
+        assert!(rt; is_so(&rt, rt.alloc(), &table, row));
     }
 }
 
@@ -445,9 +453,11 @@ fn rows_are_refused(rt: HostRuntime) {
     }
 }
 
-/// Octets of a type within a limit: too long are they once one lies past it, or a complete length
-/// announces that one does.
-const LIMITED: [(u32, &'static [u8], u32, Outcome); 10] = [
+/// Octets of a type within a limit, and what they are read as.
+type Limited = (u32, &'static [u8], u32, Outcome);
+
+/// Too long are octets once one lies past the limit, or a complete length announces that one does.
+const LIMITED: [Limited; 10] = [
     (OCTETS, &[0x24, 0x80, 4, 1, 7], 5, Short),
     (OCTETS, &[0x24, 0x80, 4, 1, 7, 0], 5, TooLong(5)),
     (OCTETS, &[0x24, 0x80, 4, 1, 7, 0], 6, Short),
@@ -460,34 +470,50 @@ const LIMITED: [(u32, &'static [u8], u32, Outcome); 10] = [
     (SET, &[0x31, 1, 1], 3, TooLong(3)),
 ];
 
+/// Whether octets are read so within a limit.
+fn is_within(rt: &impl Abort, alloc: Global, table: &TypeTable, row: &Limited) -> bool {
+    let (of, octets, most, outcome) = row;
+    used_within(rt, alloc, table, *of, octets, *most) == reading(*outcome)
+}
+
 #[test]
 fn octets_within_a_limit(rt: HostRuntime) {
     let table = table(&rt, rt.alloc(), &TABLE);
-    for (of, octets, most, outcome) in &LIMITED {
-        let used = used_within(&rt, rt.alloc(), &table, *of, octets, *most);
-        assert!(rt; used == reading(*outcome));
+    for row in &LIMITED {
+        assert!(rt; is_within(&rt, rt.alloc(), &table, row));
     }
 }
 
-/// The first octets of a level of a string, and of any value.
-const LEVELS: [(u32, [u8; 2]); 2] = [(OCTETS, [0x24, 0x80]), (ANY, [0x30, 0x80])];
+/// Whether octets of a type are refused for their 33rd level.
+fn is_too_deep(rt: &impl Abort, alloc: Global, table: &TypeTable, of: u32, octets: &[u8]) -> bool {
+    ber_used(rt, alloc, table, of, octets) == Err(ReadFault::TooDeep { place: 64 })
+}
 
 #[test]
-fn too_many_levels(rt: HostRuntime) {
+fn too_many_levels_of_a_string(rt: HostRuntime) {
     let table = table(&rt, rt.alloc(), &TABLE);
-    for (of, level) in &LEVELS {
-        let deep = level.repeat(rt.alloc(), 40).expect(&rt, "memory");
-        let used = ber_used(&rt, rt.alloc(), &table, *of, deep.as_slice());
-        assert!(rt; used == Err(ReadFault::TooDeep { place: 64 }));
-    }
+    let deep = [0x24, 0x80].repeat(rt.alloc(), 40).expect(&rt, "memory");
+    assert!(rt; is_too_deep(&rt, rt.alloc(), &table, OCTETS, deep.as_slice()));
+}
+
+#[test]
+fn too_many_levels_of_any_value(rt: HostRuntime) {
+    let table = table(&rt, rt.alloc(), &TABLE);
+    let deep = [0x30, 0x80].repeat(rt.alloc(), 40).expect(&rt, "memory");
+    assert!(rt; is_too_deep(&rt, rt.alloc(), &table, ANY, deep.as_slice()));
 }
 
 /// The octets of the longest value.
+fn longest(rt: &impl Abort, alloc: Global) -> Octets {
+    let zeros = vec![in alloc; 0; 262_139].expect(rt, "memory");
+    let mut long = Octets::from_slice(alloc, &[4, 0x83, 3, 0xFF, 0xFB]).expect(rt, "memory");
+    long.extend(zeros.as_slice()).expect(rt, "memory");
+    long
+}
+
 #[test]
 fn the_longest_value(rt: HostRuntime) {
     let table = table(&rt, rt.alloc(), &TABLE);
-    let zeros = vec![in rt.alloc(); 0; 262_139].expect(&rt, "memory");
-    let mut long = Octets::from_slice(rt.alloc(), &[4, 0x83, 3, 0xFF, 0xFB]).expect(&rt, "memory");
-    long.extend(zeros.as_slice()).expect(&rt, "memory");
+    let long = longest(&rt, rt.alloc());
     assert!(rt; ber_used(&rt, rt.alloc(), &table, OCTETS, long.as_slice()) == Ok(262_144));
 }

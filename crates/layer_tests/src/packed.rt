@@ -244,26 +244,22 @@ fn octets_of(read: Read) -> usize {
     used
 }
 
-/// Octets of a type within a lower limit.
-const LIMITED: [(u32, &'static [u8], u32, Outcome); 4] = [
+/// Octets of a type, and what they are read as within a limit.
+type Limited = (u32, &'static [u8], u32, Outcome);
+
+/// A lower limit.
+const LIMITED: [Limited; 4] = [
     (FLAGS, &[0x00, 0x00, 0x00, 0x02, 0x00, 0x01], 6, Whole),
     (FLAGS, &[0x00, 0x00, 0x00, 0x02, 0x00, 0x01], 5, TooLong(5)),
     (INTEGER, &[0x09], 5, Content(0)),
     (INTEGER, &[0x08], 5, TooLong(0)),
 ];
 
-/// Whether octets are read so within a limit.
-fn is_read_within(
-    rt: &impl Abort,
-    alloc: Global,
-    table: &TypeTable,
-    of: TypeId,
-    octets: &[u8],
-    most: u32,
-    outcome: &Outcome,
-) -> bool {
-    assert!(rt; table.has(of));
-    match packed_read_within(alloc, table, of, octets, most).map(octets_of) {
+/// Whether a row's octets are read as it says within its limit.
+fn is_read_within(rt: &impl Abort, alloc: Global, table: &TypeTable, row: &Limited) -> bool {
+    let (of, octets, most, outcome) = row;
+    assert!(rt; table.has(TypeId(*of)));
+    match packed_read_within(alloc, table, TypeId(*of), octets, *most).map(octets_of) {
         Ok(used) => matches!(outcome, Whole) && used == octets.len(),
         Err(fault) => is_fault(fault, outcome),
     }
@@ -271,9 +267,8 @@ fn is_read_within(
 
 #[test]
 fn a_lower_limit(rt: HostRuntime) {
-    let alloc = rt.alloc();
-    let table = table(&rt, alloc, &TABLE);
-    for (of, octets, most, outcome) in &LIMITED {
-        assert!(rt; is_read_within(&rt, alloc, &table, TypeId(*of), octets, *most, outcome));
+    let table = table(&rt, rt.alloc(), &TABLE);
+    for row in &LIMITED {
+        assert!(rt; is_read_within(&rt, rt.alloc(), &table, row));
     }
 }
