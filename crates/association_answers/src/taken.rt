@@ -11,7 +11,7 @@ use std::alloc::Global;
 pub type Messages = ListOf<Message>;
 
 /// What the taking of a message answers and shows.
-#[derive(Debug, Drop)]
+#[derive(Drop)]
 pub struct Taken {
     /// The messages that answer it, in the order in which they are sent.
     pub answers: Messages,
@@ -20,7 +20,7 @@ pub struct Taken {
 }
 
 /// What a message leads to.
-#[derive(Debug, Drop)]
+#[derive(Drop)]
 pub enum Reaction {
     /// It is passed over.
     Passes,

@@ -29,7 +29,7 @@ const LAST_ID: u32 = 2_147_483_647;
 const MOST_QUEUED: usize = 64;
 
 /// An invocation that is made: its operation's place, its context, and what it is linked to.
-#[derive(Clone, Copy, Debug)]
+#[derive(Clone, Copy)]
 pub struct Making {
     /// The identifier of the presentation context that the invocation goes on.
     pub context: u32,

@@ -12,7 +12,7 @@ use association_state::{Body, Ground};
 use osi_base::{ConnectionData, Copied, NoMemory, Octets, Rtse};
 
 /// Agreed for transfers: the checkpoint, and the window.
-#[derive(Clone, Copy, Debug, PartialEq, Eq)]
+#[derive(Clone, Copy, PartialEq, Eq)]
 pub(crate) struct Agreed {
     pub checkpoint: u32,
     pub window: u32,

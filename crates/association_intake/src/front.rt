@@ -4,7 +4,7 @@ use association_words::TransportUnit;
 use osi_base::{Layer, SessionWord};
 
 /// What stands first in what came.
-#[derive(Debug, Drop)]
+#[derive(Drop)]
 pub enum Front {
     /// Less than a message.
     Short,

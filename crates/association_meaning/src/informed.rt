@@ -20,7 +20,7 @@ use fixed_tables::PduFault;
 use osi_base::{Acse, Layer, ListOf, Octets, Pair, SetItem};
 
 /// The APDU of association control that a message carries.
-#[derive(Clone, Copy, Debug, PartialEq, Eq)]
+#[derive(Clone, Copy, PartialEq, Eq)]
 pub(crate) enum AcseKind {
     Request,
     Acceptance,

@@ -8,7 +8,7 @@ use dialogue::Phase;
 use osi_base::{Octets, SetList};
 
 /// How far the transport connection is (X.224 6.5).
-#[derive(Clone, Copy, Debug, PartialEq, Eq)]
+#[derive(Clone, Copy, PartialEq, Eq)]
 pub enum Stage {
     /// Nothing went over it.
     Unused,
@@ -21,7 +21,7 @@ pub enum Stage {
 }
 
 /// The own request that isn't answered yet and stops all else (X.225 7.24, 7.31, 7.33).
-#[derive(Clone, Copy, Debug, PartialEq, Eq)]
+#[derive(Clone, Copy, PartialEq, Eq)]
 pub enum Awaited {
     /// No own request waits for its answer.
     NoAnswer,
@@ -36,7 +36,7 @@ pub enum Awaited {
 }
 
 /// The association and its connection.
-#[derive(Debug, Drop)]
+#[derive(Drop)]
 pub struct Link {
     /// The phase of the association.
     pub phase: Phase,

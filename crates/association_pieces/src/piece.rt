@@ -10,14 +10,14 @@ use osi_base::{NoMemory, Octets, SetItem, SetList};
 use std::marker::Model;
 
 /// Octets, or a mark with its set.
-#[derive(Debug, Drop)]
+#[derive(Drop)]
 enum PieceNode {
     Octets(Octets),
     Marked { number: u32, set: SetList },
 }
 
 /// A piece of a transfer: octets, or a mark with its set.
-#[derive(Debug, Drop)]
+#[derive(Drop)]
 pub struct Piece {
     node: PieceNode,
 }

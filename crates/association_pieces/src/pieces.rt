@@ -13,7 +13,7 @@ use std::alloc::Global;
 use std::marker::Model;
 
 /// The pieces of a transfer, newest first, with how many octets they have and their highest mark.
-#[derive(Debug, Drop)]
+#[derive(Drop)]
 pub struct Pieces {
     stack: Stack<Piece>,
     /// How many octets they have.

@@ -3,7 +3,7 @@
 use crate::pieces::Pieces;
 
 /// What an end receives: the record of the peer's last activity.
-#[derive(Debug, Drop)]
+#[derive(Drop)]
 pub struct Receiving {
     /// The number of the peer's last activity.
     pub last: u32,

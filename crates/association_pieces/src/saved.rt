@@ -10,7 +10,7 @@ use std::alloc::Global;
 use std::marker::Model;
 
 /// A set that a mark saved under its number.
-#[derive(Debug, Drop)]
+#[derive(Drop)]
 pub struct SavedSet {
     number: u32,
     set: SetList,
@@ -62,7 +62,7 @@ impl SavedSet {
 }
 
 /// The sets that marks saved, newest first.
-#[derive(Debug, Drop)]
+#[derive(Drop)]
 pub struct SavedSets {
     marks: Stack<SavedSet>,
 }

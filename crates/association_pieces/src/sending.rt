@@ -9,7 +9,7 @@ use osi_base::{Octets, Pair};
 use stub_tables::Apdu;
 
 /// An APDU that waits for its transfer, with the context that was asked for.
-#[derive(Debug, Drop)]
+#[derive(Drop)]
 pub struct Queued {
     /// The identifier of the presentation context that was asked for.
     pub context: u32,
@@ -30,7 +30,7 @@ pub fn take_next(queue: &mut Vec<Queued>) -> Option<Queued>
 }
 
 /// How far the current transfer is.
-#[derive(Clone, Copy, Debug, PartialEq, Eq)]
+#[derive(Clone, Copy, PartialEq, Eq)]
 pub enum Progress {
     /// It is in progress, and its end wasn't sent.
     Running,
@@ -74,7 +74,7 @@ impl Progress {
 
 /// How an item was last encoded: its context and its pair, its octets, and the checkpoint and the
 /// window of its encoding.
-#[derive(Debug, Drop)]
+#[derive(Drop)]
 pub struct Encoded {
     /// The identifier of the presentation context.
     pub id: u32,
@@ -89,7 +89,7 @@ pub struct Encoded {
 }
 
 /// The current transfer: its item, its encoding, the pieces sent, the highest confirmed mark.
-#[derive(Debug, Drop)]
+#[derive(Drop)]
 pub struct Transfer {
     /// The APDU and the context that was asked for.
     pub item: Queued,
@@ -104,7 +104,7 @@ pub struct Transfer {
 }
 
 /// What an end sends: the number of its last started activity, the current transfer, the queue.
-#[derive(Debug, Drop)]
+#[derive(Drop)]
 pub struct Sending {
     /// The number of the activity that this end started last; 0 before the first.
     pub started: u32,

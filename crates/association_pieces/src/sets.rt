@@ -7,7 +7,7 @@ use osi_base::SetList;
 
 /// The held set, the inter-activity set, and the own alterations that aren't answered, oldest
 /// first.
-#[derive(Debug, Drop)]
+#[derive(Drop)]
 pub struct Sets {
     /// The set of contexts that the end holds.
     pub held: SetList,

@@ -10,7 +10,7 @@ use std::marker::Model;
 
 /// A list that grows and shrinks at its front, the newest item. Contracts see it from the newest to
 /// the oldest.
-#[derive(Debug, Drop)]
+#[derive(Drop)]
 pub struct Stack<T> {
     items: Vec<T>,
 }

@@ -3,7 +3,7 @@
 /// Of which layer the presentation data values of a message are (X.226 8.4.2, X.227 9, X.228 9, X.882
 /// 9). A value on a context with their abstract syntax is read as one of them, also where another
 /// layer's has the same name.
-#[derive(Clone, Copy, Debug, PartialEq, Eq)]
+#[derive(Clone, Copy, PartialEq, Eq)]
 pub enum Carriage {
     /// Association control: in openings and releases, and in their answers.
     Association,

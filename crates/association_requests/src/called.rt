@@ -3,7 +3,7 @@
 use association_words::Message;
 
 /// What an accepted call answers, and what it sends.
-#[derive(Debug, Drop)]
+#[derive(Drop)]
 pub struct Called {
     /// The number that the call answers, if any.
     pub answer: Option<i64>,

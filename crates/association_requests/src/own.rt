@@ -20,7 +20,7 @@ const LAST_ACTIVITY: u32 = 999_999;
 
 /// What an end does by itself: it sends a message, or encodes the item of its current transfer on a
 /// context.
-#[derive(Debug, Drop)]
+#[derive(Drop)]
 pub enum Own {
     /// This message is sent.
     Sends(Message),

@@ -55,7 +55,7 @@ fn presentation_accept(
 }
 
 /// What an AARE says: the application context, and the user information.
-#[derive(Debug, Drop)]
+#[derive(Drop)]
 pub struct Response {
     /// The application context name.
     pub context: Oid,

@@ -6,7 +6,7 @@ use osi_base::{Ids, Proposals};
 use std::marker::Model;
 
 /// What an end asks for: contexts to be added, and to be deleted (X.226 8.4.2).
-#[derive(Debug, Drop)]
+#[derive(Drop)]
 pub struct Alteration {
     pub(crate) add: Proposals,
     pub(crate) delete: Ids,

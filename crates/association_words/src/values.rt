@@ -7,7 +7,7 @@ use osi_base::{Acse, ListOf, Octets, Pair, Rtse, Syntax};
 use stub_tables::Apdu;
 
 /// An item of the user information of an APDU of association control (X.227 9, X.228 9).
-#[derive(Debug, Drop)]
+#[derive(Drop)]
 pub enum Information {
     /// An APDU of reliable transfer on the context with this identifier.
     Transferring { id: u32, apdu: Rtse },
@@ -19,7 +19,7 @@ pub enum Information {
 pub type UserInformation = ListOf<Information>;
 
 /// What a presentation data value is.
-#[derive(Debug, Drop)]
+#[derive(Drop)]
 pub enum ValueContent {
     /// An APDU of remote operations.
     Remote(Apdu),
@@ -35,7 +35,7 @@ pub enum ValueContent {
 }
 
 /// A presentation data value (X.226 8.4.2).
-#[derive(Debug, Drop)]
+#[derive(Drop)]
 pub struct Value {
     /// The identifier of its context.
     pub id: u32,
@@ -49,7 +49,7 @@ pub struct Value {
 pub type Values = ListOf<Value>;
 
 /// An APDU on a context, with the pair under which it is written or was read.
-#[derive(Debug, Drop)]
+#[derive(Drop)]
 pub struct Item {
     /// The identifier of the presentation context.
     pub id: u32,
@@ -60,7 +60,7 @@ pub struct Item {
 }
 
 /// What a transfer holds.
-#[derive(Debug, Drop)]
+#[derive(Drop)]
 pub enum Arrived {
     /// An APDU.
     Whole(Item),

@@ -8,7 +8,7 @@ use osi_base::{
 };
 
 /// A transport unit (X.224 13.3 to 13.6, 13.12).
-#[derive(Debug, Drop)]
+#[derive(Drop)]
 pub enum TransportUnit {
     /// CR: the reference of the end that asks, the code of the size of a unit, and selectors.
     ConnectionRequest {
@@ -38,7 +38,7 @@ pub enum TransportUnit {
 }
 
 /// The parameters of an ACCEPT (X.225 8.3.4).
-#[derive(Clone, Copy, Debug, PartialEq, Eq)]
+#[derive(Clone, Copy, PartialEq, Eq)]
 pub struct Accepting {
     /// Protocol options (19).
     pub options: Option<u8>,
@@ -51,7 +51,7 @@ pub struct Accepting {
 }
 
 /// What an ABORT carries (X.225 8.3.9, X.226 8.2.4, 8.2.5).
-#[derive(Debug, Drop)]
+#[derive(Drop)]
 pub enum AbortData {
     /// It carries nothing.
     NoData,
@@ -62,7 +62,7 @@ pub enum AbortData {
 }
 
 /// A word of the association (X.225 8.3.1, 8.3.4 to 8.3.10).
-#[derive(Debug, Drop)]
+#[derive(Drop)]
 pub enum AssociationWord {
     /// CN with CP.
     Connect {
@@ -117,7 +117,7 @@ pub enum AssociationWord {
 }
 
 /// Values, and alterations in typed data (X.225 8.3.11, 8.3.13; X.226 8.4.1 to 8.4.3).
-#[derive(Debug, Drop)]
+#[derive(Drop)]
 pub enum DataWord {
     /// DT.
     Values(Values),
@@ -128,7 +128,7 @@ pub enum DataWord {
 }
 
 /// Marks, restarts and tokens (X.225 8.3.16 to 8.3.25).
-#[derive(Debug, Drop)]
+#[derive(Drop)]
 pub enum MarkWord {
     /// MIP.
     Mark {
@@ -173,7 +173,7 @@ pub enum MarkWord {
 }
 
 /// Activities (X.225 8.3.29 to 8.3.36).
-#[derive(Debug, Drop)]
+#[derive(Drop)]
 pub enum ActivityWord {
     /// AS.
     Start { activity: u32 },
@@ -194,7 +194,7 @@ pub enum ActivityWord {
 }
 
 /// One unit of the session with what it carries.
-#[derive(Debug, Drop)]
+#[derive(Drop)]
 pub enum Word {
     /// A unit that opens, refuses or ends the association.
     OfAssociation(AssociationWord),
@@ -207,7 +207,7 @@ pub enum Word {
 }
 
 /// A message: a transport unit, or one unit of the session.
-#[derive(Debug, Drop)]
+#[derive(Drop)]
 pub enum Message {
     /// A transport unit.
     Transport(TransportUnit),

@@ -151,7 +151,7 @@ fn is_bad(alloc: Global, asked: &Alteration) -> Result<bool, NoMemory>
 }
 
 /// What an end asks over.
-#[derive(Clone, Copy, Debug)]
+#[derive(Clone, Copy)]
 pub(crate) struct Ground<'a> {
     pub initiator: bool,
     pub items: &'a [SetItem],

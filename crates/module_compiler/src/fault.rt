@@ -52,7 +52,7 @@ impl From<NoMemory> for TableFault {
 }
 
 /// Why walking a module stops.
-#[derive(Clone, Copy, Debug, PartialEq, Eq)]
+#[derive(Clone, Copy, PartialEq, Eq)]
 pub(crate) enum Halt {
     /// Memory was refused.
     NoMemory,

@@ -8,7 +8,7 @@ use osi_base::NoMemory;
 use std::alloc::Global;
 
 /// A tag with which a value may begin: its class, and its number.
-#[derive(Clone, Copy, Debug, PartialEq, Eq, Hash)]
+#[derive(Clone, Copy, PartialEq, Eq, Hash)]
 pub(crate) struct Tag {
     pub class: u8,
     pub number: u32,

@@ -16,7 +16,7 @@ pub const MOST_OCTETS: usize = 1_048_576;
 const MOST_TOKENS: usize = 65_536;
 
 /// What stands first in a text.
-#[derive(Clone, Copy, Debug, PartialEq, Eq)]
+#[derive(Clone, Copy, PartialEq, Eq)]
 pub(crate) enum Piece {
     /// So many octets of white space or of a comment.
     Passed(usize),

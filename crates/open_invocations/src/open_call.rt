@@ -6,7 +6,7 @@ ghost use Rattle.end_rules.specs.State.{is_whose, is_key, is_parent_of};
 use std::marker::Model;
 
 /// An open invocation (X.880 8).
-#[derive(Clone, Copy, Debug)]
+#[derive(Clone, Copy)]
 pub struct OpenCall {
     /// Whether this end made it.
     pub(crate) own: bool,

@@ -13,7 +13,7 @@ use osi_base::{ListOf, Oid};
 use std::alloc::Global;
 
 /// What stands before a module's `BEGIN`.
-#[derive(Debug, Drop)]
+#[derive(Drop)]
 pub(crate) struct Heading {
     pub name: Located,
     pub name_oid: Oid,

@@ -13,7 +13,7 @@ use osi_base::ListOf;
 use std::alloc::Global;
 
 /// What an operation takes and gives.
-#[derive(Debug, Drop)]
+#[derive(Drop)]
 pub(crate) struct Signature {
     pub argument: Option<UseText>,
     pub result: Option<UseText>,

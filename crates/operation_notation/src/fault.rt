@@ -8,7 +8,7 @@ use osi_base::NoMemory;
 use std::alloc::{AllocError, AllocFailed};
 
 /// Why the parser stopped: for want of memory, or at the token where its cursor stands.
-#[derive(Clone, Copy, Debug, PartialEq, Eq)]
+#[derive(Clone, Copy, PartialEq, Eq)]
 pub(crate) enum Refusal {
     NoMemory,
     Fault(NotationKind),

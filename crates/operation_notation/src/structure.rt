@@ -14,7 +14,7 @@ use osi_base::ListOf;
 use std::alloc::Global;
 
 /// How a part may be absent.
-#[derive(Debug, Drop)]
+#[derive(Drop)]
 pub(crate) struct Absence {
     pub optional: bool,
     pub dflt: Option<DfltText>,

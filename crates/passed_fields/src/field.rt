@@ -6,7 +6,7 @@ ghost use Rattle.passed_fields.specs.Known.{of_row, anywhere, until_place};
 use asn1_types::{Class, TypeId};
 
 /// What a known field holds.
-#[derive(Clone, Copy, Debug, PartialEq, Eq)]
+#[derive(Clone, Copy, PartialEq, Eq)]
 pub enum Holds {
     /// A value of this row, whose tag is the field's.
     Row(TypeId),
@@ -17,7 +17,7 @@ pub enum Holds {
 }
 
 /// A field that is known by its tag, whose number is below 31.
-#[derive(Clone, Copy, Debug, PartialEq, Eq)]
+#[derive(Clone, Copy, PartialEq, Eq)]
 pub struct Field {
     /// The tag's class.
     pub class: Class,
@@ -30,7 +30,7 @@ pub struct Field {
 }
 
 /// Fields with context tags of these numbers, from `low` to `high` and below 31, are passed over.
-#[derive(Clone, Copy, Debug, PartialEq, Eq)]
+#[derive(Clone, Copy, PartialEq, Eq)]
 pub struct Passed {
     /// The lowest of their numbers.
     pub low: u32,

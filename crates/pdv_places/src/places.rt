@@ -12,7 +12,7 @@ use std::alloc::Global;
 
 /// Of one value: the places of the contents of its transfer syntax name and of its identifier, and
 /// of its form with its identifier.
-#[derive(Clone, Copy, Debug, PartialEq, Eq)]
+#[derive(Clone, Copy, PartialEq, Eq)]
 pub struct PdvPlaces {
     /// The place of the contents of the transfer syntax name; 0 where there is no name.
     pub name: usize,
@@ -23,7 +23,7 @@ pub struct PdvPlaces {
 }
 
 /// A field of a presentation data value.
-#[derive(Clone, Copy, Debug, PartialEq, Eq)]
+#[derive(Clone, Copy, PartialEq, Eq)]
 pub enum PdvField {
     /// The transfer syntax name.
     Name,

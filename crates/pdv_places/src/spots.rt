@@ -9,7 +9,7 @@ use osi_base::NoMemory;
 use std::alloc::Global;
 
 /// The octets from a place on.
-#[derive(Clone, Copy, Debug)]
+#[derive(Clone, Copy)]
 pub(crate) struct Spot<'a> {
     pub place: usize,
     pub rest: &'a [u8],

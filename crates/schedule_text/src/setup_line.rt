@@ -15,7 +15,7 @@ use std::alloc::Global;
 use stub_tables::Tables;
 
 /// A mode with its checkpoint size and its window.
-#[derive(Clone, Copy, Debug, PartialEq, Eq)]
+#[derive(Clone, Copy, PartialEq, Eq)]
 pub(crate) struct ModeLine {
     pub(crate) mode: Mode,
     pub(crate) checkpoint: u32,

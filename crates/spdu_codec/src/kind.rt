@@ -8,7 +8,7 @@ ghost use Rattle.spdu_codec.specs.Tables.{row_of, first_units, second_units, par
 use crate::parameters::Slot;
 
 /// Which unit it is.
-#[derive(Clone, Copy, Debug, PartialEq, Eq)]
+#[derive(Clone, Copy, PartialEq, Eq)]
 pub(crate) enum SpduKind {
     Connect,
     Accept,

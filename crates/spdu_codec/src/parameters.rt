@@ -8,7 +8,7 @@ use osi_base::{NoMemory, Octets};
 use std::alloc::Global;
 
 /// A parameter that is looked at, or a group of parameters.
-#[derive(Clone, Copy, Debug, PartialEq, Eq)]
+#[derive(Clone, Copy, PartialEq, Eq)]
 pub(crate) enum Slot {
     /// Connection identifier (1), a group.
     Identifier,
@@ -48,7 +48,7 @@ pub(crate) enum Slot {
 }
 
 /// What the parameters said so far.
-#[derive(Debug, Drop)]
+#[derive(Drop)]
 pub(crate) struct Parameters {
     pub identifier: bool,
     pub connect_item: bool,

@@ -43,7 +43,7 @@ impl fmt::Display for LoadFault {
 impl Error for LoadFault {}
 
 /// Why reading stops.
-#[derive(Clone, Copy, Debug, PartialEq, Eq)]
+#[derive(Clone, Copy, PartialEq, Eq)]
 pub(crate) enum Stop {
     /// The octets end before the value does.
     Cut,

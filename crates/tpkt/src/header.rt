@@ -15,7 +15,7 @@ use std::alloc::Global;
 pub(crate) const TSDU_LIMIT: usize = 1_048_576;
 
 /// What a header says.
-#[derive(Debug, Drop)]
+#[derive(Drop)]
 pub(crate) enum Header {
     /// A whole unit other than a DT.
     Control(Packet),

@@ -6,7 +6,7 @@ ghost use Rattle.tpkt.specs.declared.header_stops.Halt.TheVariants.{Memory};
 use osi_base::{Kind, NoMemory};
 
 /// Why octets are no whole header.
-#[derive(Clone, Copy, Debug, PartialEq, Eq)]
+#[derive(Clone, Copy, PartialEq, Eq)]
 pub(crate) enum Stop {
     /// They are right so far, and more must come.
     Short,
@@ -15,7 +15,7 @@ pub(crate) enum Stop {
 }
 
 /// Why a header was not read.
-#[derive(Debug, Drop)]
+#[derive(Drop)]
 pub(crate) enum Halt {
     Memory,
     Stop(Stop),

@@ -8,7 +8,7 @@ use osi_base::{Kind, Octets};
 use std::alloc::Global;
 
 /// What the parameters said so far.
-#[derive(Debug, Drop)]
+#[derive(Drop)]
 pub(crate) struct Seen {
     pub size: Option<u8>,
     pub calling: Option<Octets>,

@@ -10,7 +10,7 @@ use std::alloc::Global;
 use value_text::Text;
 
 /// What is counted of the entries of a transcript.
-#[derive(Clone, Copy, Debug, PartialEq, Eq)]
+#[derive(Clone, Copy, PartialEq, Eq)]
 pub(crate) struct Counts {
     events: u64,
     from_a: u64,

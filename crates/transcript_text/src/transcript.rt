@@ -73,7 +73,7 @@ fn put_indication_lines(
 }
 
 /// Which operations the entries so far named: all, and those of calls that were accepted.
-#[derive(Debug, Drop)]
+#[derive(Drop)]
 pub(crate) struct SoFar {
     named: InvokedOperations,
     taken: InvokedOperations,
