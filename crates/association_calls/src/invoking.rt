@@ -125,10 +125,14 @@ fn check_send(
     }
     let apdu = invoke_apdu(basis.alloc, operation, next_id(body), linked, argument)?;
     if is_too_long(basis.tables, &apdu) {
+        drop(apdu);
         return Err(CallRefusal::TooLong);
     }
     match room_refusal(basis, body, operation) {
-        Some(refusal) => Err(refusal),
+        Some(refusal) => {
+            drop(apdu);
+            Err(refusal)
+        }
         None => Ok(apdu),
     }
 }

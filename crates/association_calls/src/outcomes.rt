@@ -51,12 +51,15 @@ fn check_outcome(
         (Some apdu) result }
 {
     if lacks_carrier(basis, body, context) {
+        drop(apdu);
         return Err(CallRefusal::NoContext);
     }
     if is_too_long(basis.tables, &apdu) {
+        drop(apdu);
         return Err(CallRefusal::TooLong);
     }
     if is_queue_full(basis, body) {
+        drop(apdu);
         return Err(CallRefusal::QueueFull);
     }
     Ok(apdu)
