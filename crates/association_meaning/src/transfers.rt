@@ -17,7 +17,7 @@ use association_reading::Carriage;
 use association_sets::pair_of;
 use association_words::{Arrived, Item, ValueContent};
 use fixed_tables::PduFault;
-use osi_base::{Copied, Layer, Pair, Pdv, SetItem};
+use osi_base::{Copied, Layer, NoMemory, Pair, Pdv, SetItem};
 use pdv_places::{PdvField, transfer_place};
 
 /// An invalid unit (6) at the place of a field of the value, counted in the octets of the transfer.
@@ -41,11 +41,13 @@ fn arrived_as(
         pair.now (Ok (seen_content content))) }
 {
     match content {
-        ValueContent::Remote(apdu) => Ok(Arrived::Whole(Item {
-            id,
-            pair: pair.copy(basis.alloc)?,
-            apdu,
-        })),
+        ValueContent::Remote(apdu) => match pair.copy(basis.alloc) {
+            Ok(pair) => Ok(Arrived::Whole(Item { id, pair, apdu })),
+            Err(NoMemory) => {
+                drop(apdu);
+                Err(Halt::NoMemory)
+            }
+        },
         ValueContent::Unread(octets) => Ok(Arrived::Raw {
             id,
             pair: pair.copy(basis.alloc)?,
