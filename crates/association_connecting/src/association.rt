@@ -15,7 +15,7 @@ use crate::accepting::{accept_fault, take_accept};
 use crate::associated::{is_release_request, is_release_response};
 use crate::connecting::connect_fault;
 use crate::refusing::take_connect;
-use association_answers::{Taken, answered, over, push_cuts, quiet, told};
+use association_answers::{Taken, one_message, over, push_cuts, told};
 use association_sends::disconnect_message;
 use association_sets::copy_set;
 use association_state::{Awaited, Body, Ground};
@@ -117,7 +117,10 @@ fn shown_end(basis: &Ground<'_>, body: &Body, last: Indication) -> Result<Indica
     ensures { IfOk result (λ shown. shown ≡ cuts (seen body.now) ++ last ∷ []) }
 {
     let mut shown: Indications = ListOf::new(basis.alloc);
-    push_cuts(basis.alloc, body, &mut shown)?;
+    let Ok(()) = push_cuts(basis.alloc, body, &mut shown) else {
+        drop(last);
+        return Err(NoMemory);
+    };
     shown.push(last)?;
     Ok(shown)
 }
@@ -127,10 +130,12 @@ fn end_quietly(basis: &Ground<'_>, body: &mut Body, last: Indication) -> Result<
     ensures body { OnOk result (seen body.new ≡ over (seen body.old)) }
     ensures taken { IfOk result (TakenAs [] (cuts (seen body.old) ++ last ∷ [])) }
 {
-    let mut taken = quiet(basis.alloc);
-    taken.shown = shown_end(basis, body, last)?;
+    let shown = shown_end(basis, body, last)?;
     over(body);
-    Ok(taken)
+    Ok(Taken {
+        answers: ListOf::new(basis.alloc),
+        shown,
+    })
 }
 
 /// Takes FN.
@@ -140,10 +145,10 @@ fn take_finish(basis: &Ground<'_>, body: &mut Body) -> Result<Taken, NoMemory>
         body.old) ++ indications.Released ∷ [])) }
 {
     let message = disconnect_message(basis.alloc, body)?;
-    let mut taken = answered(basis.alloc, message)?;
-    taken.shown = shown_end(basis, body, Indication::Released)?;
+    let answers = one_message(basis.alloc, message)?;
+    let shown = shown_end(basis, body, Indication::Released)?;
     over(body);
-    Ok(taken)
+    Ok(Taken { answers, shown })
 }
 
 /// Takes DN.
@@ -172,27 +177,27 @@ fn aborted_by_peer() -> Indication
 pub fn take_association(
     basis: &Ground<'_>,
     body: &mut Body,
-    word: AssociationWord,
+    word: &AssociationWord,
 ) -> Result<Taken, NoMemory>
-    requires { association_fault (base_in basis.now) (seen body.old) (seen_association word)
+    requires { association_fault (base_in basis.now) (seen body.old) (seen_association word.now)
         ≡ None }
     ensures body { OnOk result (seen body.new ≡ after_association (base_in basis.now) (seen
-        body.old) (seen_association word)) }
+        body.old) (seen_association word.now)) }
     ensures taken { IfOk result (TakenAs (answers_to_association (base_in basis.now) (seen body.old)
-        (seen_association word)) (shown_of_association (base_in basis.now) (seen body.old)
-        (seen_association word))) }
+        (seen_association word.now)) (shown_of_association (base_in basis.now) (seen body.old)
+        (seen_association word.now))) }
 {
     match word {
         AssociationWord::Connect {
             session,
             presentation,
             values,
-        } => take_connect(basis, body, &session, &presentation, values.as_slice()),
+        } => take_connect(basis, body, session, presentation, values.as_slice()),
         AssociationWord::Accept {
             session,
             presentation,
             values,
-        } => take_accept(basis, body, &session, &presentation, values.as_slice()),
+        } => take_accept(basis, body, session, presentation, values.as_slice()),
         AssociationWord::Refuse {
             transport: _,
             reason: _,

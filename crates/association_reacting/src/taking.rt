@@ -27,7 +27,7 @@ fn take_word(basis: &Ground<'_>, body: &mut Body, word: Word) -> Result<Taken, N
         (seen_word word)) (shown_of_word (base_in basis.now) (seen body.old) (seen_word word))) }
 {
     match word {
-        Word::OfAssociation(word) => take_association(basis, body, word),
+        Word::OfAssociation(word) => take_association(basis, body, &word),
         Word::OfData(word) => take_data(basis, body, word),
         Word::OfMarks(word) => take_mark(basis, body, word),
         Word::OfActivities(word) => take_activity(basis, body, word),
