@@ -12,7 +12,7 @@ ghost use Rattle.association_state.specs.Seen.{base_in, seen};
 ghost use Rattle.association_answers.specs.Reacted.{TakenAs};
 
 use crate::parts::has_associated;
-use association_answers::{Taken, answered, push_cuts, push_losses, quiet, told};
+use association_answers::{Taken, answered, one_message, push_cuts, push_losses, quiet, told};
 use association_sets::{copy_set, listed, same_lists};
 use association_state::{Awaited, Body, Ground};
 use association_words::{Fault, MarkWord, Message, Value, ValueContent, Word};
@@ -222,12 +222,11 @@ fn take_restart(basis: &Ground<'_>, body: &mut Body, n: u32) -> Result<Taken, No
         (seen body.old) n))))) ∷ []) (shown_restarted (seen body.old) n)) }
 {
     let set = restored_set(basis, body, n)?;
-    let message = restart_answer(basis, body, n)?;
     let shown = shown_restarted(basis, body, n)?;
-    let mut taken = answered(basis.alloc, message)?;
-    taken.shown = shown;
+    let message = restart_answer(basis, body, n)?;
+    let answers = one_message(basis.alloc, message)?;
     restart(basis, body, n, set);
-    Ok(taken)
+    Ok(Taken { answers, shown })
 }
 
 /// Takes the answer to a restart.
@@ -236,10 +235,12 @@ fn take_restart_ack(basis: &Ground<'_>, body: &mut Body, n: u32) -> Result<Taken
     ensures taken { IfOk result (TakenAs [] (shown_restarted (seen body.old) n)) }
 {
     let set = restored_set(basis, body, n)?;
-    let mut taken = quiet(basis.alloc);
-    taken.shown = shown_restarted(basis, body, n)?;
+    let shown = shown_restarted(basis, body, n)?;
     restart(basis, body, n, set);
-    Ok(taken)
+    Ok(Taken {
+        answers: ListOf::new(basis.alloc),
+        shown,
+    })
 }
 
 /// Takes a giving: who takes one has none of its own unconfirmed.
