@@ -294,7 +294,10 @@ fn abort_in(
         PresentationWord::UserAbort { user, .. } => {
             user_abort(basis, accepted, carrier, user.as_slice())
         }
-        PresentationWord::ProviderAbort { reason, .. } => Ok(AbortData::ProviderReason { reason }),
+        PresentationWord::ProviderAbort { reason, .. } => {
+            drop(unit);
+            Ok(AbortData::ProviderReason { reason })
+        }
         PresentationWord::Connect(_) => misplaced(basis.alloc, unit),
         PresentationWord::Accept(_) => misplaced(basis.alloc, unit),
         PresentationWord::Reject(_) => misplaced(basis.alloc, unit),

@@ -53,9 +53,18 @@ fn arrived_as(
             pair: pair.copy(basis.alloc)?,
             octets,
         }),
-        ValueContent::Association { .. } => fault_at(basis.alloc, Layer::Acse, 0, 0),
-        ValueContent::Plea { .. } => invalid_at(basis, octets, PdvField::Identifier),
-        ValueContent::Part(_) => invalid_at(basis, octets, PdvField::Identifier),
+        ValueContent::Association { .. } => {
+            drop(content);
+            fault_at(basis.alloc, Layer::Acse, 0, 0)
+        }
+        ValueContent::Plea { .. } => {
+            drop(content);
+            invalid_at(basis, octets, PdvField::Identifier)
+        }
+        ValueContent::Part(_) => {
+            drop(content);
+            invalid_at(basis, octets, PdvField::Identifier)
+        }
     }
 }
 
